@@ -1,0 +1,4 @@
+pub mod Spelling
+pub mod Legal
+pub mod Reading
+pub mod Standing

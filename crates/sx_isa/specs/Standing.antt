@@ -1,0 +1,33 @@
+-- Instructions that stand in memory, a list of 65,536 bytes. Addresses are modulo 65,536.
+use Rattle.std.specs.Prelude.{◌≡◌, ℕ, ◌+◌, ◌*◌, ◌/◌, ◌%◌, List, [], ◌∷◌, ◌++◌, slice_index, length}
+use Rattle.sx_isa.specs.declared.instruction.Instr.{Instr}
+use Rattle.sx_isa.specs.Legal.{IsInstruction}
+use Rattle.sx_isa.specs.Spelling.{spelling}
+
+-- the word at an address, the low byte first; a word access ignores bit 0 of the address
+abbrev pub word_at : List ℕ → ℕ → ℕ
+word_at bytes a =
+    let even = a / 2 % 32768 * 2 in
+    slice_index bytes even + 256 * slice_index bytes (even + 1)
+
+-- words stand one after the other from an address on
+abbrev pub WordsStand : List ℕ → ℕ → List ℕ → Type 0
+WordsStand bytes a [] = Unit {0}
+WordsStand bytes a (w ∷ ws) = (word_at bytes a ≡ w) × WordsStand bytes (a + 2) ws
+
+-- an instruction stands at an address
+abbrev pub Stands : List ℕ → ℕ → Instr → Type 0
+Stands bytes a i = IsInstruction i × WordsStand bytes a (spelling i)
+
+-- instructions stand one after the other
+abbrev pub AllStand : List ℕ → ℕ → List Instr → Type 0
+AllStand bytes a [] = Unit {0}
+AllStand bytes a (i ∷ is) = Stands bytes a i × AllStand bytes (a + 2 * length (spelling i)) is
+
+abbrev pub AreInstructions : List Instr → Type 0
+AreInstructions [] = Unit {0}
+AreInstructions (i ∷ is) = IsInstruction i × AreInstructions is
+
+abbrev pub words_of : List Instr → List ℕ
+words_of [] = []
+words_of (i ∷ is) = spelling i ++ words_of is
