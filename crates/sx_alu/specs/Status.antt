@@ -1,0 +1,16 @@
+-- The flags in the status register (TI, MSP430x2xx Family User's Guide, "Status Register"): C is
+-- bit 0, Z bit 1, N bit 2, V bit 8.
+use Rattle.std.specs.Prelude.{ℕ, ◌+◌, ◌*◌, ◌/◌, ◌%◌, ◌==◌, Bool, if◌then◌else◌}
+use Rattle.sx_alu.specs.declared.flags.Flags.{Flags}
+
+abbrev pub bit : Bool → ℕ
+bit b = if b then 1 else 0
+
+abbrev pub flags_of : ℕ → Flags
+flags_of sr =
+    record { c = sr % 2 == 1; z = sr / 2 % 2 == 1; n = sr / 4 % 2 == 1; v = sr / 256 % 2 == 1 }
+
+-- bits 3 to 7 and those above 8 stay
+abbrev pub with_flags_in : ℕ → Flags → ℕ
+with_flags_in sr f =
+    sr / 512 * 512 + bit f.v * 256 + sr / 8 % 32 * 8 + bit f.n * 4 + bit f.z * 2 + bit f.c

@@ -1,0 +1,125 @@
+// The table of calculations.
+
+ghost use Rattle.std.specs.Prelude.{◌≡◌, ◌%◌, ◌<◌, ◌&&◌, IsTrue};
+ghost use Rattle.sx_alu.specs.Status.{bit};
+ghost use Rattle.sx_alu.specs.Table.{limit, half, is_negative, row, has_width, sum_row, difference_row, carried, differ, tested, shifted, extended, with_flags};
+
+use crate::calculation::Calc;
+use crate::flags::Flags;
+
+fn limit(wide: bool) -> u32
+    ensures { result ≡ limit wide }
+{
+    if wide { 0x10000 } else { 0x100 }
+}
+
+fn cut(wide: bool, x: u16) -> u16
+    ensures { result ≡ x % limit wide }
+{
+    if wide { x } else { x & 0xff }
+}
+
+fn half(wide: bool) -> u16
+    ensures { result ≡ half wide }
+{
+    if wide { 0x8000 } else { 0x80 }
+}
+
+fn is_negative(wide: bool, x: u16) -> bool
+    ensures { result ≡ is_negative wide x }
+{
+    half(wide) <= x
+}
+
+fn with_flags(wide: bool, r: u16, c: bool, v: bool) -> (u16, Flags)
+    ensures { result ≡ with_flags wide r c v }
+{
+    let flags = Flags {
+        c,
+        z: r == 0,
+        n: is_negative(wide, r),
+        v,
+    };
+    (r, flags)
+}
+
+/// A sum cut to its width, with the carry out of it. V is set where the result's sign isn't the
+/// destination's, if the operands' signs let it overflow.
+fn carried(wide: bool, sum: u32, d: u16, can_overflow: bool) -> (u16, Flags)
+    ensures { result
+        ≡ carried wide sum
+        (can_overflow && differ (is_negative wide (sum % limit wide)) (is_negative wide d)) }
+{
+    let r = (sum % limit(wide)) as u16;
+    let v = can_overflow && is_negative(wide, r) != is_negative(wide, d);
+    with_flags(wide, r, limit(wide) <= sum, v)
+}
+
+fn sum(wide: bool, s: u16, d: u16, carry: bool) -> (u16, Flags)
+    requires s { s < limit wide }
+    requires d { d < limit wide }
+    ensures { result ≡ sum_row wide s d (bit carry) }
+{
+    let sum = u32::from(d) + u32::from(s) + u32::from(carry);
+    carried(wide, sum, d, is_negative(wide, d) == is_negative(wide, s))
+}
+
+fn difference(wide: bool, s: u16, d: u16, carry: bool) -> (u16, Flags)
+    requires s { s < limit wide }
+    requires d { d < limit wide }
+    ensures { result ≡ difference_row wide s d (bit carry) }
+{
+    let sum = u32::from(d) + (limit(wide) - 1 - u32::from(s)) + u32::from(carry);
+    carried(wide, sum, d, is_negative(wide, d) != is_negative(wide, s))
+}
+
+fn tested(wide: bool, r: u16, v: bool) -> (u16, Flags)
+    ensures { result ≡ tested wide r v }
+{
+    with_flags(wide, r, r != 0, v)
+}
+
+fn shifted(wide: bool, s: u16, top: bool) -> (u16, Flags)
+    requires { s < limit wide }
+    ensures { result ≡ shifted wide s top }
+{
+    let entered = if top { half(wide) } else { 0 };
+    with_flags(wide, s / 2 + entered, s % 2 == 1, false)
+}
+
+fn extended(s: u16) -> u16
+    ensures { result ≡ extended s }
+{
+    let low = s & 0xff;
+    if is_negative(false, low) {
+        low | 0xff00
+    } else {
+        low
+    }
+}
+
+/// The result of a calculation, and the flags after it. `wide` says that it is on words; on bytes
+/// the high bytes of `src` and `dst` don't matter, and the result is below 256. `Swap` and `Extend`
+/// are on words alone. The calculations on one operand ignore `dst`.
+pub fn calc(kind: Calc, wide: bool, src: u16, dst: u16, flags: Flags) -> (u16, Flags)
+    requires { IsTrue (has_width kind wide) }
+    ensures row { result ≡ row kind wide (src % limit wide) (dst % limit wide) flags }
+    ensures below { result.0 < limit wide }
+{
+    let s = cut(wide, src);
+    let d = cut(wide, dst);
+    match kind {
+        Calc::Add => sum(wide, s, d, false),
+        Calc::AddCarry => sum(wide, s, d, flags.c),
+        Calc::Sub => difference(wide, s, d, true),
+        Calc::SubCarry => difference(wide, s, d, flags.c),
+        Calc::And => tested(wide, d & s, false),
+        Calc::AndNot => (d & cut(wide, !s), flags),
+        Calc::Or => (d | s, flags),
+        Calc::Xor => tested(wide, d ^ s, is_negative(wide, d) && is_negative(wide, s)),
+        Calc::Rrc => shifted(wide, s, flags.c),
+        Calc::Rra => shifted(wide, s, is_negative(wide, s)),
+        Calc::Swap => (s.swap_bytes(), flags),
+        Calc::Extend => tested(wide, extended(s), false),
+    }
+}
