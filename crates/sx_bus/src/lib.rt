@@ -1,0 +1,18 @@
+//! A node's memory and its devices.
+//!
+//! `Bus` is a memory of 65,536 bytes, and `FlatBus` keeps it in one piece. A device is one word of
+//! the memory; `Windows` holds the devices of a node. Contracts see a bus as its list of bytes, and
+//! `Windows` as the list of its devices. Only the two constructors take memory.
+//!
+//! The words of the contracts are defined in `specs/Memory.antt` and `specs/Devices.antt`.
+#![tactic(auto)]
+
+pub use devices::{Kind, Window, Windows};
+pub use flat::FlatBus;
+pub use memory::Bus;
+
+mod devices;
+mod flat;
+mod memory;
+#[cfg(test)]
+mod tests;
