@@ -1,0 +1,3 @@
+pub mod Access
+pub mod Admission
+pub mod Placed

@@ -1,0 +1,190 @@
+//! The table of live sections.
+
+ghost use Rattle.std.specs.Prelude.{◌≡◌, ◌<◌, ◌≤◌, ◌+◌, ◌-◌, [], ◌∷◌, ◌++◌, take, drop, length, is_some, Option, None, IfOk, OnOk, OnErr, MatchOption, IsSome};
+ghost use Rattle.std.specs.Result.{result_err};
+ghost use Rattle.sx_rules.specs.Access.{may, holder, outside_private, in_order, extends, section_of};
+ghost use Rattle.sx_rules.specs.Admission.{refusal, admitted, removed, without};
+
+use crate::access::{self, Access};
+use crate::admission::{self, LIVE_LIMIT, Refusal};
+use crate::section::{Layout, Section};
+use std::marker::Model;
+
+/// The live sections of one boot, at most 8, and the next id.
+#[derive(Drop)]
+pub struct Table {
+    sections: [Section; LIVE_LIMIT],
+    live: usize,
+    next: u32,
+}
+
+impl Model for Table {
+    ghost use Rattle.std.specs.Prelude.{take, ◌≤◌};
+    ghost use Rattle.sx_rules.specs.Access.{Sections};
+
+    ghost Value = { Sections };
+
+    ghost view = { λ t. record { live = take t.live t.sections; next = t.next } };
+
+    ghost invariant = { λ t. (t.live ≤ 8) × (t.next ≤ 65536) };
+}
+
+const UNUSED: Section = Section {
+    layout: Layout {
+        pub_from: 0,
+        pub_to: 0,
+        priv_from: 0,
+        priv_to: 0,
+    },
+    provider: 0,
+    id: 0,
+    key: [0; 16],
+};
+
+impl Table {
+    /// A table with no section, whose next id is 1.
+    pub fn new() -> Table
+        ensures live { result.live ≡ [] }
+        ensures next { result.next ≡ 1 }
+    {
+        Table {
+            sections: [UNUSED; LIVE_LIMIT],
+            live: 0,
+            next: 1,
+        }
+    }
+
+    /// Adds a section under the next id, which it gives back, on a node whose devices stand at
+    /// `places`. After a refusal the table is unchanged.
+    pub fn admit(
+        &mut self,
+        layout: Layout,
+        provider: u16,
+        key: [u8; 16],
+        places: &[u16],
+    ) -> Result<u16, Refusal>
+        ensures refused { result_err result ≡ refusal self.old layout places.now }
+        ensures id { IfOk result (λ id. id ≡ self.old.next) }
+        ensures admitted { OnOk result (self.new ≡ admitted self.old layout provider key) }
+        ensures unchanged { OnErr result (self.new ≡ self.old) }
+    {
+        self.test(layout, places)?;
+        let id = self.next as u16;
+        let section = Section {
+            layout,
+            provider,
+            id,
+            key,
+        };
+        place(&mut self.sections, self.live, section);
+        self.live += 1;
+        self.next += 1;
+        Ok(id)
+    }
+
+    /// Whether `admit` would refuse the section, and why.
+    pub fn test(&self, layout: Layout, places: &[u16]) -> Result<(), Refusal>
+        ensures refused { result_err result ≡ refusal self.now layout places.now }
+        ensures room { OnOk result (length self.now.live < 8) }
+        ensures ids { OnOk result (self.now.next ≤ 65535) }
+    {
+        match admission::first_refusal(&self.sections[..self.live], self.next, &layout, places) {
+            Some(refusal) => Err(refusal),
+            None => Ok(()),
+        }
+    }
+
+    /// Removes the section with the id, and says whether it was there. The others keep their order,
+    /// and no id is given again.
+    pub fn remove(&mut self, id: u16) -> bool
+        ensures there { result ≡ is_some (section_of self.old.live id) }
+        ensures removed { self.new ≡ removed self.old id }
+    {
+        match index_of(&self.sections[..self.live], id) {
+            Some(index) => {
+                remove_at(&mut self.sections[..self.live], index);
+                self.live -= 1;
+                true
+            }
+            None => false,
+        }
+    }
+
+    /// The id of the section whose public part holds the byte, else 0.
+    pub fn holder(&self, at: u16) -> u16
+        ensures { result ≡ holder self.now.live at }
+    {
+        access::holder(&self.sections[..self.live], at)
+    }
+
+    /// The live sections, in the order of their admission.
+    pub fn live(&self) -> &[Section]
+        ensures { result.now ≡ self.now.live }
+    {
+        &self.sections[..self.live]
+    }
+
+    /// The live section with the id.
+    pub fn section(&self, id: u16) -> Option<Section>
+        ensures { result ≡ section_of self.now.live id }
+    {
+        access::section_of(&self.sections[..self.live], id)
+    }
+
+    /// Whether code of the module `cur`, or code outside every module where it is 0, may access the
+    /// byte.
+    pub fn may(&self, cur: u16, access: Access, at: u16) -> bool
+        ensures { result ≡ may self.now.live cur access at }
+    {
+        access::may(&self.sections[..self.live], cur, access, at)
+    }
+
+    /// Whether no private section holds the byte.
+    pub fn outside_private(&self, at: u16) -> bool
+        ensures { result ≡ outside_private self.now.live at }
+    {
+        access::outside_private(&self.sections[..self.live], at)
+    }
+
+    /// Whether PC lies in no public section other than that of `cur`, or at the entry of one.
+    pub fn in_order(&self, cur: u16, pc: u16) -> bool
+        ensures { result ≡ in_order self.now.live cur pc }
+    {
+        access::in_order(&self.sections[..self.live], cur, pc)
+    }
+
+    /// Whether a byte of an extension word of an instruction of the module `own` may stand here: in
+    /// unprotected memory or in the public section of `own`. No section is that of `own` 0.
+    pub fn extends(&self, own: u16, at: u16) -> bool
+        ensures { result ≡ extends self.now.live own at }
+    {
+        access::extends(&self.sections[..self.live], own, at)
+    }
+}
+
+#[tactic(auto, using(std::proofs::lemmas::List::take_more_set))]
+fn place(sections: &mut [Section], at: usize, section: Section)
+    requires { at < length sections.old }
+    ensures { take (at + 1) sections.new ≡ take at sections.old ++ section ∷ [] }
+{
+    sections[at] = section;
+}
+
+fn index_of(live: &[Section], id: u16) -> Option<usize>
+    ensures there { is_some result ≡ is_some (section_of live.now id) }
+    ensures index { MatchOption result (without live.now id ≡ live.now) (λ index. (index < length live.now) × (without live.now id ≡ take index live.now ++ drop (index + 1) live.now)) }
+{
+    for (index, section) in live.iter().enumerate() {
+        if section.id == id {
+            return Some(index);
+        }
+    }
+    None
+}
+
+fn remove_at(live: &mut [Section], index: usize)
+    requires { index < length live.old }
+    ensures { take (length live.old - 1) live.new ≡ take index live.old ++ drop (index + 1) live.old }
+{
+    live[index..].rotate_left(1);
+}
