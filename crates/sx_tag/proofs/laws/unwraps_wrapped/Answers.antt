@@ -1,0 +1,5 @@
+use Rattle.sx_tag.proofs.Xor.{unwraps_wrapped}
+use Rattle.sx_tag.proofs.laws.unwraps_wrapped.Goals as goal
+
+pub returns : goal.returns
+returns c = unwraps_wrapped

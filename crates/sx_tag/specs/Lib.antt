@@ -1,0 +1,5 @@
+pub mod Mac
+pub mod Keys
+pub mod Wrap
+pub mod Stream
+pub mod Widths

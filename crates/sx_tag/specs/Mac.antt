@@ -1,0 +1,30 @@
+-- Tag functions.
+use Rattle.std.specs.Prelude.{◌≡◌, ℕ, ◌+◌, ◌-◌, ◌%◌, List, ◌++◌, length, map, sum, replicate, bit_xor}
+use Rattle.sha2.specs.Sha256.{sha256}
+
+-- a tag function gives 32 bytes for a key and a message
+abbrev pub Mac : Type 0
+Mac = List ℕ → List ℕ → List ℕ
+
+-- each tag has 32 bytes
+abbrev pub GivesTags : Mac → Type 0
+GivesTags mac = (key message : List ℕ) → length (mac key message) ≡ 32
+
+-- the key with zeros behind it up to a block of SHA-256, 64 bytes; a key has at most as many
+abbrev pub padded_key : List ℕ → List ℕ
+padded_key key = key ++ replicate (64 - length key) 0
+
+-- K XOR ipad and K XOR opad of RFC 2104
+abbrev pub inner_key : List ℕ → List ℕ
+inner_key key = map (λ b. bit_xor b 0x36) (padded_key key)
+
+abbrev pub outer_key : List ℕ → List ℕ
+outer_key key = map (λ b. bit_xor b 0x5C) (padded_key key)
+
+-- HMAC-SHA-256 (RFC 2104): H(K XOR opad, H(K XOR ipad, text))
+unfoldable pub hmac_sha256 : Mac
+hmac_sha256 key text = sha256 (outer_key key ++ sha256 (inner_key key ++ text))
+
+-- the tag for tests: 32 times the sum of the key and the message
+unfoldable pub weak : Mac
+weak key message = replicate 32 ((sum key + sum message) % 256)

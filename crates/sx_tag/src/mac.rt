@@ -1,0 +1,29 @@
+//! What a tag is.
+
+ghost use Rattle.std.specs.Prelude.{◌≡◌, ℕ, ◌≤◌, List, [], ◌++◌, length};
+
+/// A function of a key and a message that gives 32 bytes, fed piece by piece.
+pub trait Tag: Drop {
+    /// A run that was begun with a key and takes the message.
+    type Run: Drop;
+
+    ghost mac: { List ℕ → List ℕ → List ℕ };
+
+    // The run was begun with this key, and fed this message.
+    ghost has: { Self.Run → List ℕ → List ℕ → Type 0 };
+
+    /// A run with this key, of at most 64 bytes, and the empty message.
+    fn begin(&self, key: &[u8]) -> Self::Run
+        requires { length key.now ≤ 64 }
+        ensures { has result key.now [] };
+
+    /// Appends a part to the message.
+    fn feed(&self, run: &mut Self::Run, part: &[u8])
+        ensures { (key message : List ℕ) → has run.old key message → has run.new key (message ++ part.now) };
+
+    /// The tag of the key and the whole message.
+    fn finish(&self, run: Self::Run) -> [u8; 32]
+        ensures { (key message : List ℕ) → has run key message → result ≡ mac key message };
+
+    ghost width: { (key message : List ℕ) → length (mac key message) ≡ 32 };
+}

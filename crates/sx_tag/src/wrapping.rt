@@ -1,0 +1,95 @@
+//! Authenticated encryption of a header and a body.
+
+ghost use Rattle.std.specs.Prelude.{◌≡◌, ◌≢◌, ◌≤◌, ◌++◌, ◌↔◌, length, drop, IsNone, IsTrue, bytes_eq};
+ghost use Rattle.sx_tag.specs.Wrap as spec;
+
+use crate::keys::half;
+use crate::mac::Tag;
+
+const STREAM_LABEL: u8 = b'S';
+
+const TAG_LABEL: u8 = b'T';
+
+/// Wraps a header `ad` and a body of at most 32 bytes each. The front of `cipher` then holds the
+/// encrypted body, and the rest of it is unchanged. Gives the tag.
+pub fn wrap<T: Tag>(
+    tag: &T,
+    key: &[u8; 16],
+    ad: &[u8],
+    body: &[u8],
+    cipher: &mut [u8; 32],
+) -> [u8; 16]
+    requires ad { length ad.now ≤ 32 }
+    requires body { length body.now ≤ 32 }
+    ensures cipher { cipher.new ≡ (spec.wrapped T.mac key.now ad.now body.now).cipher ++ drop (length body.now) cipher.old }
+    ensures tag { result ≡ (spec.wrapped T.mac key.now ad.now body.now).tag }
+{
+    crypt(tag, key, ad, body, cipher);
+    wrap_tag(tag, key, ad, &cipher[..body.len()])
+}
+
+/// The body behind a cipher, with zeros behind it; `None` exactly where the tag isn't that of the
+/// header and the cipher, which have at most 32 bytes each.
+#[tactic(auto, unfolding(crate::specs::Wrap::unwrapped))]
+pub fn unwrap<T: Tag>(
+    tag: &T,
+    key: &[u8; 16],
+    ad: &[u8],
+    cipher: &[u8],
+    mac: &[u8; 16],
+) -> Option<[u8; 32]>
+    requires ad { length ad.now ≤ 32 }
+    requires cipher { length cipher.now ≤ 32 }
+    ensures body { result ≡ spec.unwrapped T.mac key.now ad.now cipher.now mac.now }
+    ensures none { IsNone result ↔ (mac.now ≢ spec.wrap_tag T.mac key.now ad.now cipher.now) }
+{
+    let expected = wrap_tag(tag, key, ad, cipher);
+    if !is_same(mac, &expected) {
+        return None;
+    }
+    let mut body = [0; 32];
+    crypt(tag, key, ad, cipher, &mut body);
+    Some(body)
+}
+
+#[tactic(auto, unfolding(crate::specs::Wrap::wrap_tag))]
+fn wrap_tag<T: Tag>(tag: &T, key: &[u8; 16], ad: &[u8], cipher: &[u8]) -> [u8; 16]
+    requires { length ad.now ≤ 32 }
+    ensures { result ≡ spec.wrap_tag T.mac key.now ad.now cipher.now }
+{
+    let mut run = tag.begin(key);
+    tag.feed(&mut run, &[TAG_LABEL, ad.len() as u8]);
+    tag.feed(&mut run, ad);
+    tag.feed(&mut run, cipher);
+    half(&tag.finish(run))
+}
+
+fn is_same(tag: &[u8; 16], expected: &[u8; 16]) -> bool
+    ensures value { result ≡ bytes_eq tag.now expected.now }
+    ensures same { IsTrue result ↔ (tag.now ≡ expected.now) }
+{
+    tag.as_slice() == expected.as_slice()
+}
+
+// Encrypts or decrypts into the front of `into`.
+#[tactic(auto, unfolding(crate::specs::Wrap::crypt))]
+fn crypt<T: Tag>(tag: &T, key: &[u8; 16], ad: &[u8], bytes: &[u8], into: &mut [u8; 32])
+    requires ad { length ad.now ≤ 32 }
+    requires bytes { length bytes.now ≤ 32 }
+    ensures { into.new ≡ spec.crypt T.mac key.now ad.now bytes.now ++ drop (length bytes.now) into.old }
+{
+    let mut run = tag.begin(key);
+    tag.feed(&mut run, &[STREAM_LABEL, ad.len() as u8]);
+    tag.feed(&mut run, ad);
+    tag.feed(&mut run, &[0]);
+    xor_into(into, bytes, &tag.finish(run));
+}
+
+fn xor_into(into: &mut [u8; 32], bytes: &[u8], stream: &[u8; 32])
+    requires { length bytes.now ≤ 32 }
+    ensures { into.new ≡ spec.xor_bytes bytes.now stream.now ++ drop (length bytes.now) into.old }
+{
+    for (i, byte) in bytes.iter().enumerate() {
+        into[i] = *byte ^ stream[i];
+    }
+}
