@@ -1,0 +1,115 @@
+-- Whatever happens to a node, its sections stay placed.
+use Rattle.std.proofs.Common.{◌≡◌, ℕ, Bool, true, false, cond, ◌==◌, List, [], ◌∷◌, refl, Option, Some, None, Result, Ok, Err}
+use Rattle.sx_rules.specs.declared.access.Violation.{Violation}
+use Rattle.sx_rules.specs.declared.access.Violation.TheVariants as bad
+use Rattle.sx_rules.specs.declared.access.Access.TheVariants.{Read, Write}
+use Rattle.sx_rules.specs.declared.section.Layout.{Layout}
+use Rattle.sx_rules.specs.declared.admission.Refusal.{Refusal}
+use Rattle.sx_rules.specs.Access.{Sections, in_order}
+use Rattle.sx_rules.specs.Admission.{refusal}
+use Rattle.sx_rules.specs.Placed.{Placed}
+use Rattle.sx_rules.proofs.Placing.{starts_placed, admit_keeps_placed}
+use Rattle.sx_bus.specs.Devices.{places_of, device_at}
+use Rattle.sx_tag.specs.Mac.{Mac}
+use Rattle.sx_machine.specs.declared.kinds.Refused.{Refused}
+use Rattle.sx_machine.specs.Memory.{word, bytes_from, put_bytes}
+use Rattle.sx_machine.specs.State.{State}
+use Rattle.sx_machine.specs.Plan.{Plan, Done, Tell, Stop, Fetch, Load, Store, Need, Bytes, Put}
+use Rattle.sx_machine.specs.Run.{Moment, Outcome, Finished, Violated, Module, may_range, may_each, load, store, fetch, after_read, after_write, after_fetch, exec}
+use Rattle.sx_machine.specs.Rows.{program}
+use Rattle.sx_machine.specs.Protect.{layout_in, provider_in, key_for, protected_if, protect}
+use Rattle.sx_machine.specs.Step.{Shows, pc_of, own_of, start, is_module_word, module_instruction, instruction, ordered, word_outside, attempt, settled, step}
+use Rattle.sx_machine.specs.Acts.{unless, put_refusal, take_refusal, busy, irq_refusal, interrupt, interrupted}
+use Rattle.sx_machine.specs.Guard.{Act, Step, Restart, Put as PutAct, Set, Take, Sense, Interrupt, acted, acted_all}
+
+abbrev PlacedBy : Outcome → Type 0
+PlacedBy (Finished regs x) = Unit {0}
+PlacedBy (Violated v) = Unit {0}
+PlacedBy (Module regs x t e c) = Placed t
+
+placed_if : (b : Bool) (o : Outcome) (v : Violation) → PlacedBy o → PlacedBy (cond b o (Violated v))
+placed_if true o v h = h
+placed_if false o v h = tt
+
+after_read_placed : (r : Result (ℕ × Moment) Violation) (f : ℕ → Moment → Outcome) → ((v : ℕ) (x : Moment) → PlacedBy (f v x)) → PlacedBy (after_read r f)
+after_read_placed (Ok r) f g = g r.0 r.1
+after_read_placed (Err v) f g = tt
+
+after_write_placed : (r : Result Moment Violation) (f : Moment → Outcome) → ((x : Moment) → PlacedBy (f x)) → PlacedBy (after_write r f)
+after_write_placed (Ok x) f g = g x
+after_write_placed (Err v) f g = tt
+
+after_fetch_placed : (r : Result ℕ Violation) (f : ℕ → Outcome) → ((w : ℕ) → PlacedBy (f w)) → PlacedBy (after_fetch r f)
+after_fetch_placed (Ok w) f g = g w
+after_fetch_placed (Err v) f g = tt
+
+exec_placed : (t : Sections) (own : ℕ) → Placed t → (p : Plan) (x : Moment) → PlacedBy (exec t own p x)
+exec_placed t own h (Done regs) x = tt
+exec_placed t own h (Tell regs e c) x = h
+exec_placed t own h (Stop v) x = tt
+exec_placed t own h (Fetch at k) x = after_fetch_placed (fetch t.live own at x) (λ w. exec t own (k w) x) (λ w. exec_placed t own h (k w) x)
+exec_placed t own h (Load wide at k) x = after_read_placed (load t.live own wide at x) (λ v y. exec t own (k v) y) (λ v y. exec_placed t own h (k v) y)
+exec_placed t own h (Store wide at v k) x = after_write_placed (store t.live own wide at v x) (λ y. exec t own k y) (λ y. exec_placed t own h k y)
+exec_placed t own h (Need b v k) x = placed_if b (exec t own k x) v (exec_placed t own h k x)
+exec_placed t own h (Bytes at n k) x = placed_if (may_range t.live own Read at n) (exec t own (k (bytes_from x.mem at n)) x) bad.Read (exec_placed t own h (k (bytes_from x.mem at n)) x)
+exec_placed t own h (Put at bs k) x =
+    placed_if (may_each t.live own Write at bs) (exec t own k (record x { mem = put_bytes x.mem at bs })) bad.Write (exec_placed t own h k (record x { mem = put_bytes x.mem at bs }))
+
+protected_placed : (mac : Mac) (a : State) (l : Layout) (o : Option Refusal) → Placed a.sections → (o ≡ None → refusal a.sections l (places_of a.devices) ≡ None)
+    → PlacedBy (protected_if mac a l o)
+protected_placed mac a l None h f = admit_keeps_placed a.sections l (provider_in a.regs) (key_for mac a l) (places_of a.devices) h (f refl)
+protected_placed mac a l (Some why) h f = h
+
+protect_placed : (mac : Mac) (a : State) → Placed a.sections → PlacedBy (protect mac a)
+unfolding protect
+protect_placed mac a h = protected_placed mac a (layout_in a.regs) (refusal a.sections (layout_in a.regs) (places_of a.devices)) h (λ e. e)
+
+module_placed : (mac : Mac) (a : State) (w : ℕ) → Placed a.sections → PlacedBy (module_instruction mac w a)
+module_placed mac a w h = placed_if (w == 0x1381) (protect mac a) bad.Unbuilt (protect_placed mac a h)
+
+either_placed : (b : Bool) (o p : Outcome) → PlacedBy o → PlacedBy p → PlacedBy (cond b o p)
+either_placed true o p h g = h
+either_placed false o p h g = g
+
+instruction_placed : (mac : Mac) (a : State) → Placed a.sections → PlacedBy (instruction mac a)
+instruction_placed mac a h =
+    let w = word a.mem (pc_of a) in
+    either_placed (is_module_word w) (module_instruction mac w a) (exec a.sections (own_of a) (program w a.regs) (start a))
+    (module_placed mac a w h) (exec_placed a.sections (own_of a) h (program w a.regs) (start a))
+
+ordered_placed : (mac : Mac) (a : State) (d : Option ℕ) → Placed a.sections → PlacedBy (ordered mac a d)
+ordered_placed mac a (Some d) h = tt
+ordered_placed mac a None h = placed_if (in_order a.sections.live a.cur (pc_of a)) (instruction mac a) bad.Order (instruction_placed mac a h)
+
+settled_placed : (a : State) (o : Outcome) → Placed a.sections → PlacedBy o → Placed (settled a o).state.sections
+settled_placed a (Finished regs x) h g = h
+settled_placed a (Violated v) h g = starts_placed
+settled_placed a (Module regs x t e c) h g = g
+
+step_placed : (mac : Mac) (a : State) → Placed a.sections → Placed (step mac a).state.sections
+step_placed mac a h =
+    settled_placed a (attempt mac a) h
+    (placed_if (word_outside a.sections.live (pc_of a)) (ordered mac a (device_at a.devices (pc_of a))) bad.Fetch (ordered_placed mac a (device_at a.devices (pc_of a)) h))
+
+unless_placed : {T : Type 0} (o : Option Refused) (a : State) (done : Shows T) → Placed a.sections → Placed done.state.sections → Placed (unless o a done).state.sections
+unless_placed None a done h g = g
+unless_placed (Some r) a done h g = h
+
+interrupted_placed : (a : State) (o : Outcome) → Placed a.sections → Placed (interrupted a o).state.sections
+interrupted_placed a (Finished regs x) h = h
+interrupted_placed a (Violated v) h = starts_placed
+interrupted_placed a (Module regs x t e c) h = h
+
+pub acted_placed : (mac : Mac) (act : Act) (a : State) → Placed a.sections → Placed (acted mac act a).state.sections
+acted_placed mac Step a h = step_placed mac a h
+acted_placed mac Restart a h = starts_placed
+acted_placed mac (PutAct at bytes) a h = unless_placed {T = Unit {0}} (put_refusal a at _) a (record { state = record a { mem = put_bytes a.mem at bytes }; shown = tt }) h h
+acted_placed mac (Set r v) a h = unless_placed (busy a) a _ h h
+acted_placed mac (Take at n) a h = unless_placed (take_refusal a at n) a _ h h
+acted_placed mac (Sense device v) a h = unless_placed (busy a) a _ h h
+acted_placed mac (Interrupt line) a h =
+    unless_placed (irq_refusal a) a _ h (interrupted_placed a (exec a.sections 0 (interrupt line a.regs) (start a)) h)
+
+pub acted_all_placed : (mac : Mac) (acts : List Act) (a : State) → Placed a.sections → Placed (acted_all mac acts a).state.sections
+acted_all_placed mac [] a h = h
+acted_all_placed mac (act ∷ acts) a h = acted_all_placed mac acts (acted mac act a).state (acted_placed mac act a h)

@@ -1,0 +1,12 @@
+pub mod Memory
+pub mod State
+pub mod Plan
+pub mod Run
+pub mod Registers
+pub mod Rows
+pub mod Protect
+pub mod Step
+pub mod Acts
+pub mod Guard
+pub mod Answers
+pub mod Laws

@@ -1,0 +1,103 @@
+-- One step of a node.
+use Rattle.std.specs.Prelude.{ℕ, ◌+◌, ◌==◌, nat_lt, nat_le, Bool, ◌&&◌, ◌||◌, not, if◌then◌else◌, List, slice_index, Option, Some, None, is_some}
+use Rattle.sx_rules.specs.declared.access.Violation.TheVariants as bad
+use Rattle.sx_rules.specs.declared.section.Section.{Section}
+use Rattle.sx_rules.specs.Access.{Sections, holder, outside_private, in_order, section_of}
+use Rattle.sx_tag.specs.Mac.{Mac}
+use Rattle.sx_bus.specs.Devices.{device_at}
+use Rattle.sx_machine.specs.declared.kinds.Event.{Event}
+use Rattle.sx_machine.specs.declared.kinds.Event.TheVariants.{Quiet, Reset, Left}
+use Rattle.sx_machine.specs.declared.kinds.Exchange.{Exchange}
+use Rattle.sx_machine.specs.declared.kinds.Seen.{Seen}
+use Rattle.sx_machine.specs.Memory.{even, word}
+use Rattle.sx_machine.specs.State.{State, reset}
+use Rattle.sx_machine.specs.Run.{Moment, untouched, Outcome, Finished, Violated, Module, exec}
+use Rattle.sx_machine.specs.Rows.{program}
+use Rattle.sx_machine.specs.Protect.{protect}
+
+-- a state, and what was shown on the way to it
+pub record Shows (T : Type 0) : Type 0 where
+  pub state : State
+  pub shown : T
+
+abbrev pub pc_of : State → ℕ
+pc_of s = slice_index s.regs 0
+
+-- the module whose public section holds PC, else 0: the instruction is an instruction of its code
+abbrev pub own_of : State → ℕ
+own_of s = holder s.sections.live (pc_of s)
+
+-- memory and devices as an instruction begins
+abbrev pub start : State → Moment
+start s = record { mem = s.mem; devices = s.devices; touches = untouched }
+
+-- the first words of the module instructions (own encodings)
+abbrev pub is_module_word : ℕ → Bool
+is_module_word w = nat_le 0x1380 w && (nat_lt w 0x1388 && not (w == 0x1383))
+
+-- the module instructions that are built so far: protect
+abbrev pub module_instruction : Mac → ℕ → State → Outcome
+module_instruction mac w s = if w == 0x1381 then protect mac s else Violated bad.Unbuilt
+
+-- the instruction at PC
+abbrev pub instruction : Mac → State → Outcome
+instruction mac s =
+    let w = word s.mem (pc_of s) in
+    if is_module_word w then module_instruction mac w s else exec s.sections (own_of s) (program w s.regs) (start s)
+
+-- where PC lies on no device: in no public section but that of the module that runs, or at an entry
+abbrev pub ordered : Mac → State → Option ℕ → Outcome
+ordered mac s (Some device) = Violated bad.Device
+ordered mac s None = if in_order s.sections.live s.cur (pc_of s) then instruction mac s else Violated bad.Order
+
+-- the word at an address lies in no private section
+abbrev pub word_outside : List Section → ℕ → Bool
+word_outside live at = outside_private live (even at) && outside_private live (even at + 1)
+
+-- what a step does, up to its first violation: the tests of PC, and then the instruction
+abbrev pub attempt : Mac → State → Outcome
+attempt mac s =
+    if word_outside s.sections.live (pc_of s) then ordered mac s (device_at s.devices (pc_of s))
+    else Violated bad.Fetch
+
+-- a live section has the id
+abbrev pub is_live : List Section → ℕ → Bool
+is_live live id = is_some (section_of live id)
+
+-- the module that entered `own`: one that begins to run was entered from that of the last instruction, if it still stands
+abbrev pub entered_from : State → ℕ → ℕ
+entered_from s own = if own == s.cur then s.caller else if is_live s.sections.live s.last then s.last else 0
+
+-- The state after an instruction of `own`. The module still runs where PC is in its public section.
+abbrev pub moved : State → ℕ → List ℕ → Moment → Sections → Exchange → State
+moved s own regs x sections exchange = record {
+  regs = regs;
+  mem = x.mem;
+  devices = x.devices;
+  sections = sections;
+  cur = if holder sections.live (slice_index regs 0) == own then own else 0;
+  last = own;
+  caller = entered_from s own;
+  boot = s.boot;
+  key = s.key;
+  exchange = exchange;
+}
+
+-- a plain instruction shows that its module left its public section
+abbrev pub left : State → ℕ → List ℕ → Event
+left s own regs = if (own == 0) || (holder s.sections.live (slice_index regs 0) == own) then Quiet else Left own
+
+-- a violation resets the node, and nothing else of the step is seen
+abbrev pub settled : State → Outcome → Shows Seen
+settled s (Violated v) = record { state = reset s; shown = record { touch = untouched; event = Reset v } }
+settled s (Finished regs x) = record {
+  state = moved s (own_of s) regs x s.sections s.exchange;
+  shown = record { touch = x.touches; event = left s (own_of s) regs };
+}
+settled s (Module regs x sections event exchange) = record {
+  state = moved s (own_of s) regs x sections exchange;
+  shown = record { touch = x.touches; event = event };
+}
+
+abbrev pub step : Mac → State → Shows Seen
+step mac s = settled s (attempt mac s)
