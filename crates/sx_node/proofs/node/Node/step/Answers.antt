@@ -1,0 +1,8 @@
+use Rattle.sx_machine.proofs.StepGuard.{step_guarded}
+use Rattle.sx_node.proofs.node.Node.step.Goals as goal
+
+pub returns-in-Ok-clause-guarded : goal.returns-in-Ok-clause-guarded
+returns-in-Ok-clause-guarded g c = λ s l f. step_guarded g.T.Tag.mac s c.args.self.now l f
+
+pub returns-in-Err-clause-guarded : goal.returns-in-Err-clause-guarded
+returns-in-Err-clause-guarded g c = λ s l f. step_guarded g.T.Tag.mac s c.args.self.now l f

@@ -1,0 +1,19 @@
+//! One node: registers, memory, devices and protected sections, driven by its own code and by acts
+//! from outside.
+//!
+//! A node's value is the plain record `State` of `sx_machine`; each call of `Node` is the function
+//! of the same name there, whatever the bus and the tag. Guarding stands there too, as laws of these
+//! functions, and here as clauses of the calls.
+#![tactic(auto)]
+
+mod acts;
+mod memory;
+mod node;
+mod protect;
+mod range;
+mod step;
+#[cfg(test)]
+mod tests;
+
+pub use node::Node;
+pub use sx_machine::{Event, Exchange, Refused, Seen, Touch};

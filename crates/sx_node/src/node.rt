@@ -1,0 +1,126 @@
+//! The state of a node, and its parts.
+
+ghost use Rattle.std.specs.Prelude.{◌≡◌, ◌<◌, slice_index};
+ghost use Rattle.sx_bus.specs.Memory.{blank};
+ghost use Rattle.sx_rules.specs.Access.{section_of};
+ghost use Rattle.sx_machine.specs.State.{power_on, no_exchange};
+
+use std::marker::Model;
+use sx_bus::{Bus, Windows};
+use sx_core::Core;
+use sx_machine::Exchange;
+use sx_rules::{Section, Table};
+use sx_tag::Tag;
+
+/// A node over any memory and any tag.
+#[derive(Drop)]
+pub struct Node<B: Bus, T: Tag> {
+    pub(crate) core: Core<B>,
+    pub(crate) windows: Windows,
+    pub(crate) table: Table,
+    pub(crate) cur: u16,
+    pub(crate) last: u16,
+    pub(crate) caller: u16,
+    pub(crate) boot: u32,
+    pub(crate) key: [u8; 16],
+    pub(crate) exchange: Exchange,
+    pub(crate) tag: T,
+}
+
+impl<B: Bus, T: Tag> Model for Node<B, T> {
+    ghost use Rattle.sx_machine.specs.State.{State};
+
+    ghost Value = { State };
+
+    ghost view = { λ n. record {
+      regs = n.core.regs;
+      mem = B.bytes n.core.bus;
+      devices = n.windows;
+      sections = n.table;
+      cur = n.cur;
+      last = n.last;
+      caller = n.caller;
+      boot = n.boot;
+      key = n.key;
+      exchange = n.exchange;
+    } };
+}
+
+/// No header and no body yet.
+pub(crate) fn no_exchange() -> Exchange
+    ensures { result ≡ no_exchange }
+{
+    Exchange {
+        ad: [0; 32],
+        ad_len: 0,
+        body: [0; 32],
+        body_len: 0,
+        own_key: false,
+    }
+}
+
+impl<B: Bus, T: Tag> Node<B, T> {
+    /// A node when its power is switched on: all registers and, as the condition says, all bytes are
+    /// 0, no section stands, and the boot count is 0. `key` is the node's own key.
+    pub fn new(bus: B, tag: T, key: [u8; 16], windows: Windows) -> Node<B, T>
+        requires { B.bytes bus ≡ blank 65536 }
+        ensures { result ≡ power_on key windows }
+    {
+        Node {
+            core: Core { regs: [0; 16], bus },
+            windows,
+            table: Table::new(),
+            cur: 0,
+            last: 0,
+            caller: 0,
+            boot: 0,
+            key,
+            exchange: no_exchange(),
+            tag,
+        }
+    }
+
+    /// The id of the module that runs, or 0: the module of the last instruction runs where PC was in
+    /// its public section afterwards.
+    pub fn running(&self) -> u16
+        ensures { result ≡ self.now.cur }
+    {
+        self.cur
+    }
+
+    /// The value of a register.
+    pub fn reg(&self, reg: u8) -> u16
+        requires { reg < 16 }
+        ensures { result ≡ slice_index self.now.regs reg }
+    {
+        self.core.regs[reg as usize]
+    }
+
+    /// The byte at an address.
+    pub fn byte(&self, at: u16) -> u8
+        ensures { result ≡ slice_index self.now.mem at }
+    {
+        self.core.bus.get(at)
+    }
+
+    /// How many resets the node has had.
+    pub fn boot(&self) -> u32
+        ensures { result ≡ self.now.boot }
+    {
+        self.boot
+    }
+
+    /// The live section with this id; None exactly where there is none.
+    pub fn section(&self, id: u16) -> Option<Section>
+        ensures { result ≡ section_of self.now.sections.live id }
+    {
+        self.table.section(id)
+    }
+
+    /// The header and the body of the last `Wrapped` or `Unwrapped`.
+    pub fn exchange(&self) -> &Exchange
+        ensures { result.now ≡ self.now.exchange }
+    {
+        &self.exchange
+    }
+}

@@ -1,0 +1,146 @@
+//! One step of a node: the tests of PC, and then the instruction.
+
+ghost use Rattle.std.specs.Prelude.{◌≡◌, ◌==◌, ◌<◌, ℕ, if◌then◌else◌};
+ghost use Rattle.sx_rules.specs.Access.{Lives, holder};
+ghost use Rattle.sx_rules.specs.declared.section.Section.{Section};
+ghost use Rattle.sx_machine.specs.declared.kinds.Seen.{Seen};
+ghost use Rattle.sx_machine.specs.declared.kinds.Event.TheVariants.{Reset};
+ghost use Rattle.sx_machine.specs.Memory.{word};
+ghost use Rattle.sx_machine.specs.Run.{exec, untouched};
+ghost use Rattle.sx_machine.specs.Rows.{program};
+ghost use Rattle.sx_machine.specs.Step.{step, attempt, instruction, module_instruction, is_module_word, ordered, word_outside, pc_of, own_of, start, entered_from, left};
+ghost use Rattle.sx_machine.specs.Answers.{Attempts};
+ghost use Rattle.sx_machine.specs.Guard.{Guarded, Foreign};
+
+use crate::node::Node;
+use sx_bus::Bus;
+use sx_core::word;
+use sx_machine::{Event, Seen, Touch};
+use sx_rules::Violation;
+use sx_tag::Tag;
+
+const PC: usize = 0;
+
+/// The first word of protect.
+const PROTECT: u16 = 0x1381;
+
+/// What a step shows that a violation ended.
+pub(crate) fn reset_by(violation: Violation) -> Seen
+    ensures { result ≡ record { touch = untouched; event = Reset violation } }
+{
+    Seen {
+        touch: [Touch::Quiet; 2],
+        event: Event::Reset(violation),
+    }
+}
+
+/// Whether it is the first word of a module instruction.
+fn is_module_word(word: u16) -> bool
+    ensures { result ≡ is_module_word word }
+{
+    0x1380 <= word && word < 0x1388 && word != 0x1383
+}
+
+impl<B: Bus, T: Tag> Node<B, T> {
+    /// Executes one instruction. A violation resets the node; its cause is then the event, both
+    /// touches are quiet, and nothing else of the step is seen.
+    pub fn step(&mut self) -> Seen
+        requires { self.old.boot < 4294967295 }
+        ensures state { self.new ≡ (step T.mac self.old).state }
+        ensures seen { result ≡ (step T.mac self.old).shown }
+        ensures guarded { (s : Section) → Lives self.old.sections.live s → Foreign s self.old → Guarded Seen (step T.mac) s self.old }
+    {
+        match self.attempt() {
+            Ok(seen) => seen,
+            Err(violation) => {
+                self.reset();
+                reset_by(violation)
+            }
+        }
+    }
+
+    /// The instruction at PC, up to its first violation.
+    fn attempt(&mut self) -> Result<Seen, Violation>
+        ensures { Attempts self.old (attempt T.mac self.old) result self.new }
+    {
+        let pc = self.core.regs[PC];
+        if !self.word_outside(pc) {
+            return Err(Violation::Fetch);
+        }
+        if self.windows.at(pc).is_some() {
+            return Err(Violation::Device);
+        }
+        if !self.table.in_order(self.cur, pc) {
+            return Err(Violation::Order);
+        }
+        self.instruction()
+    }
+
+    /// Whether the word at an address lies in no private section.
+    fn word_outside(&self, at: u16) -> bool
+        ensures { result ≡ word_outside self.now.sections.live at }
+    {
+        let even = at - at % 2;
+        self.table.outside_private(even) && self.table.outside_private(even + 1)
+    }
+
+    /// The instruction at PC, where it may be run.
+    fn instruction(&mut self) -> Result<Seen, Violation>
+        ensures { Attempts self.old (instruction T.mac self.old) result self.new }
+    {
+        let pc = self.core.regs[PC];
+        let own = self.table.holder(pc);
+        let word = word(&self.core.bus, pc);
+        if !is_module_word(word) {
+            return self.plain_instruction(own);
+        }
+        if word == PROTECT {
+            Ok(self.protect(own))
+        } else {
+            Err(Violation::Unbuilt)
+        }
+    }
+
+    fn plain_instruction(&mut self, own: u16) -> Result<Seen, Violation>
+        requires { own ≡ own_of self.old }
+        ensures { Attempts self.old (exec self.old.sections own (program (word self.old.mem (pc_of self.old)) self.old.regs) (start self.old)) result self.new }
+    {
+        let caller = self.entered_from(own);
+        let touch = self.core.step_plain(&self.table, own, &mut self.windows)?;
+        self.settle(own, caller);
+        let stays = own == 0 || self.cur == own;
+        let event = if stays {
+            Event::Quiet
+        } else {
+            Event::Left(own)
+        };
+        Ok(Seen { touch, event })
+    }
+
+    /// The module that entered that of the instruction, or 0.
+    pub(crate) fn entered_from(&self, own: u16) -> u16
+        ensures { result ≡ entered_from self.now own }
+    {
+        if own == self.cur {
+            self.caller
+        } else if self.table.section(self.last).is_some() {
+            self.last
+        } else {
+            0
+        }
+    }
+
+    /// Keeps which module runs after an instruction of `own`.
+    pub(crate) fn settle(&mut self, own: u16, caller: u16)
+        ensures { self.new ≡ record self.old {
+          cur = if holder self.old.sections.live (pc_of self.old) == own then own else 0;
+          last = own;
+          caller = caller;
+        } }
+    {
+        let holder = self.table.holder(self.core.regs[PC]);
+        self.cur = if holder == own { own } else { 0 };
+        self.last = own;
+        self.caller = caller;
+    }
+}
