@@ -1,0 +1,4 @@
+pub mod Stored
+pub mod Rows
+pub mod Nodes
+pub mod Cost

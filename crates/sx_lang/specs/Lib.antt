@@ -1,0 +1,4 @@
+pub mod Padded
+pub mod Tree
+pub mod View
+pub mod Sizes

@@ -1,0 +1,16 @@
+//! The handler language's syntax tree, its names and the sizes that its formulas give.
+//!
+//! A module is a list of declarations and a list of handlers; `tree` has its types, `names` the names in
+//! it and `sizes` the four sizes of a module. Each size is promised for every tree that can be made,
+//! whether or not a checker accepts it.
+//!
+//! `specs/Tree.antt` has the same tree as plain data, `specs/View.antt` what contracts see of a tree, and
+//! `specs/Sizes.antt` the sizes' formulas.
+#![tactic(auto)]
+
+pub mod names;
+pub mod sides;
+pub mod sizes;
+#[cfg(test)]
+mod tests;
+pub mod tree;

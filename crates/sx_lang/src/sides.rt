@@ -1,0 +1,8 @@
+/// The side of a connection that a module holds.
+#[derive(Clone, Copy, PartialEq, Eq, Debug)]
+pub enum Side {
+    /// The sending side.
+    From,
+    /// The receiving side.
+    To,
+}

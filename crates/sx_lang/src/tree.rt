@@ -1,0 +1,96 @@
+use crate::names::Name;
+
+/// The kind of device that a driver module has.
+#[derive(Clone, Copy, PartialEq, Eq, Debug)]
+pub enum DeviceKind {
+    Sensor,
+    Actuator,
+}
+
+/// An operator with one operand.
+#[derive(Clone, Copy, PartialEq, Eq, Debug)]
+pub enum UnOp {
+    /// `-`, the negative modulo 65,536.
+    Neg,
+    /// `~`, each of the 16 bits inverted.
+    Inv,
+    /// `!`, 1 where the operand is 0, else 0.
+    Not,
+}
+
+/// An operator with two operands.
+#[derive(Clone, Copy, PartialEq, Eq, Debug)]
+pub enum BinOp {
+    Add,
+    Sub,
+    Or,
+    Xor,
+    Mul,
+    And,
+    Eq,
+    Ne,
+    Lt,
+    Le,
+    Gt,
+    Ge,
+}
+
+/// An expression, which is worth a 16-bit word.
+#[derive(Drop)]
+pub enum Expr {
+    Number(u16),
+    /// A local or a variable.
+    Read(Name),
+    /// An element of an array.
+    At(Name, Box<Expr>),
+    Unary(UnOp, Box<Expr>),
+    Binary(BinOp, Box<Expr>, Box<Expr>),
+}
+
+/// A statement of a handler.
+#[derive(Drop)]
+pub enum Stmt {
+    /// A new local and its first value.
+    Let(Name, Expr),
+    /// A value for a local or a variable.
+    Assign(Name, Expr),
+    /// A value for the array's element at the first expression.
+    Element(Name, Expr, Expr),
+    /// The first block where the condition isn't 0, else the second.
+    If(Expr, Vec<Stmt>, Vec<Stmt>),
+    /// The block, so many times.
+    Repeat(u16, Vec<Stmt>),
+    /// A value for an output.
+    Send(Name, Expr),
+    /// A value for the module's actuator.
+    Emit(Expr),
+}
+
+/// What a module declares.
+#[derive(Drop)]
+pub enum Decl {
+    Device(DeviceKind),
+    Input(Name),
+    Output(Name),
+    /// A variable and its first value.
+    Var(Name, u16),
+    /// An array and its length.
+    Array(Name, u16),
+}
+
+/// What a module does at an event.
+#[derive(Drop)]
+pub struct Handler {
+    /// The input whose events it handles; none where it handles the sensor's samples.
+    pub input: Option<Name>,
+    /// The local that holds the event's value.
+    pub param: Name,
+    pub body: Vec<Stmt>,
+}
+
+/// A module: its declarations and its handlers, in order.
+#[derive(Drop)]
+pub struct Module {
+    pub decls: Vec<Decl>,
+    pub handlers: Vec<Handler>,
+}
