@@ -1,0 +1,114 @@
+-- How high, how deep and how long a handler's code is.
+use Rattle.std.specs.Prelude.{ℕ, ◌+◌, ◌*◌, Bool, true, false, ◌||◌, not, List, [], ◌∷◌, ◌++◌, max, nat_le}
+use Rattle.sx_lang.specs.declared.tree.Decl.{Decl}
+use Rattle.sx_lang.specs.declared.tree.Decl.TheVariants.{Device, Input, Output, Var, Array}
+use Rattle.sx_lang.specs.Tree.{Expression, Constant, Variable, Indexed, Applied, Combined, Statement, Defines, Assigns, Stores, Chooses, Repeats, Sends, Emits, Block, Done, Then}
+
+-- a number or a name has height 1
+abbrev pub height : Expression → ℕ
+height (Constant n) = 1
+height (Variable x) = 1
+height (Indexed x e) = 1 + height e
+height (Applied op e) = 1 + height e
+height (Combined op a b) = 1 + max (height a) (height b)
+
+-- the height of the highest expression in it, 0 where there is none
+abbrev mutual
+  pub statement_height : Statement → ℕ
+  statement_height (Defines x e) = height e
+  statement_height (Assigns x e) = height e
+  statement_height (Stores x i e) = max (height i) (height e)
+  statement_height (Chooses e a b) = max (height e) (max (block_height a) (block_height b))
+  statement_height (Repeats n a) = block_height a
+  statement_height (Sends x e) = height e
+  statement_height (Emits e) = height e
+
+  pub block_height : Block → ℕ
+  block_height Done = 0
+  block_height (Then s b) = max (statement_height s) (block_height b)
+
+-- the most blocks that stand in one another, the block itself among them
+abbrev mutual
+  pub statement_depth : Statement → ℕ
+  statement_depth (Defines x e) = 0
+  statement_depth (Assigns x e) = 0
+  statement_depth (Stores x i e) = 0
+  statement_depth (Chooses e a b) = max (1 + inner_depth a) (1 + inner_depth b)
+  statement_depth (Repeats n a) = 1 + inner_depth a
+  statement_depth (Sends x e) = 0
+  statement_depth (Emits e) = 0
+
+  -- the depth of the blocks in a block
+  pub inner_depth : Block → ℕ
+  inner_depth Done = 0
+  inner_depth (Then s b) = max (statement_depth s) (inner_depth b)
+
+-- the counts of its `repeat`s
+abbrev mutual
+  pub statement_counts : Statement → List ℕ
+  statement_counts (Defines x e) = []
+  statement_counts (Assigns x e) = []
+  statement_counts (Stores x i e) = []
+  statement_counts (Chooses e a b) = block_counts a ++ block_counts b
+  statement_counts (Repeats n a) = n ∷ block_counts a
+  statement_counts (Sends x e) = []
+  statement_counts (Emits e) = []
+
+  pub block_counts : Block → List ℕ
+  block_counts Done = []
+  block_counts (Then s b) = statement_counts s ++ block_counts b
+
+abbrev pub is_miscounted : ℕ → Bool
+is_miscounted n = not (nat_le 1 n) || not (nat_le n 256)
+
+-- how often it can send: the greater branch of an `if`, and a `repeat`'s block so many times
+abbrev mutual
+  pub statement_sends : Statement → ℕ
+  statement_sends (Defines x e) = 0
+  statement_sends (Assigns x e) = 0
+  statement_sends (Stores x i e) = 0
+  statement_sends (Chooses e a b) = max (block_sends a) (block_sends b)
+  statement_sends (Repeats n a) = n * block_sends a
+  statement_sends (Sends x e) = 1
+  statement_sends (Emits e) = 0
+
+  pub block_sends : Block → ℕ
+  block_sends Done = 0
+  block_sends (Then s b) = statement_sends s + block_sends b
+
+-- an `emit` stands in it
+abbrev mutual
+  pub statement_emits : Statement → Bool
+  statement_emits (Defines x e) = false
+  statement_emits (Assigns x e) = false
+  statement_emits (Stores x i e) = false
+  statement_emits (Chooses e a b) = block_emits a || block_emits b
+  statement_emits (Repeats n a) = block_emits a
+  statement_emits (Sends x e) = false
+  statement_emits (Emits e) = true
+
+  pub block_emits : Block → Bool
+  block_emits Done = false
+  block_emits (Then s b) = statement_emits s || block_emits b
+
+abbrev pub is_input : Decl → Bool
+is_input (Device kind) = false
+is_input (Input x) = true
+is_input (Output x) = false
+is_input (Var x n) = false
+is_input (Array x n) = false
+
+abbrev pub is_output : Decl → Bool
+is_output (Device kind) = false
+is_output (Input x) = false
+is_output (Output x) = true
+is_output (Var x n) = false
+is_output (Array x n) = false
+
+-- an array's length isn't 1 to 1,024
+abbrev pub is_misfit : Decl → Bool
+is_misfit (Device kind) = false
+is_misfit (Input x) = false
+is_misfit (Output x) = false
+is_misfit (Var x n) = false
+is_misfit (Array x n) = not (nat_le 1 n) || not (nat_le n 1024)

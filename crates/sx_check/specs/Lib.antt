@@ -1,0 +1,6 @@
+pub mod Names
+pub mod Uses
+pub mod Scopes
+pub mod Bounds
+pub mod Rules
+pub mod Source

@@ -1,0 +1,71 @@
+-- The ten rules of the language, each by when it is broken.
+use Rattle.std.specs.Prelude.{Bool, ◌||◌, ◌&&◌, not, List, [], ◌∷◌, Option, nat_lt, count_by, length}
+use Rattle.std.specs.List.{list_any, find}
+use Rattle.sx_lang.specs.Sizes.{module_cost, module_nodes, declared_cells}
+use Rattle.sx_lang.specs.Tree.{HandlerTree, ModuleTree}
+use Rattle.sx_check.specs.declared.rules.Rule.{Rule}
+use Rattle.sx_check.specs.declared.rules.Rule.TheVariants.{Duplicate, Unknown, Kind, Depth, Locals, Repeat, Packets, Cost, Nodes, Cells}
+use Rattle.sx_check.specs.Names.{is_repeated, has_taken, is_handled_twice, is_sample, is_sensor, is_actuator, locals}
+use Rattle.sx_check.specs.Uses.{handlers_uses, is_unknown, is_misused}
+use Rattle.sx_check.specs.Bounds.{block_height, inner_depth, block_counts, is_miscounted, block_sends, block_emits, is_input, is_output, is_misfit}
+
+unfoldable pub breaks_duplicate : ModuleTree → Bool
+breaks_duplicate m = list_any (is_repeated m.decls) m.decls || (list_any (has_taken m.decls) m.handlers || list_any (is_handled_twice m.handlers) m.handlers)
+
+unfoldable pub breaks_unknown : ModuleTree → Bool
+breaks_unknown m = list_any (is_unknown m.decls) (handlers_uses m.handlers)
+
+-- a handler of the samples, and no sensor
+unfoldable pub samples_blindly : ModuleTree → Bool
+samples_blindly m = list_any is_sample m.handlers && not (list_any is_sensor m.decls)
+
+-- an `emit`, and no actuator
+unfoldable pub emits_nowhere : ModuleTree → Bool
+emits_nowhere m = list_any (λ h. block_emits h.body) m.handlers && not (list_any is_actuator m.decls)
+
+unfoldable pub breaks_kind : ModuleTree → Bool
+breaks_kind m = list_any (is_misused m.decls) (handlers_uses m.handlers) || (samples_blindly m || emits_nowhere m)
+
+-- a handler's body stands in no other block
+abbrev pub is_too_deep : HandlerTree → Bool
+is_too_deep h = nat_lt 32 (block_height h.body) || nat_lt 15 (inner_depth h.body)
+
+unfoldable pub breaks_depth : ModuleTree → Bool
+breaks_depth m = list_any is_too_deep m.handlers
+
+unfoldable pub breaks_locals : ModuleTree → Bool
+breaks_locals m = list_any (λ h. nat_lt 16 (length (locals h))) m.handlers
+
+unfoldable pub breaks_repeat : ModuleTree → Bool
+breaks_repeat m = list_any (λ h. list_any is_miscounted (block_counts h.body)) m.handlers
+
+unfoldable pub breaks_packets : ModuleTree → Bool
+breaks_packets m = list_any (λ h. nat_lt 16 (block_sends h.body)) m.handlers
+
+unfoldable pub breaks_cost : ModuleTree → Bool
+breaks_cost m = nat_lt 262144 (module_cost m)
+
+unfoldable pub breaks_nodes : ModuleTree → Bool
+breaks_nodes m = nat_lt 512 (module_nodes m) || (nat_lt 255 (count_by is_input m.decls) || nat_lt 255 (count_by is_output m.decls))
+
+unfoldable pub breaks_cells : ModuleTree → Bool
+breaks_cells m = list_any is_misfit m.decls || nat_lt 1024 (declared_cells m.decls)
+
+unfoldable pub breaks : ModuleTree → Rule → Bool
+breaks m Duplicate = breaks_duplicate m
+breaks m Unknown = breaks_unknown m
+breaks m Kind = breaks_kind m
+breaks m Depth = breaks_depth m
+breaks m Locals = breaks_locals m
+breaks m Repeat = breaks_repeat m
+breaks m Packets = breaks_packets m
+breaks m Cost = breaks_cost m
+breaks m Nodes = breaks_nodes m
+breaks m Cells = breaks_cells m
+
+abbrev pub rules : List Rule
+rules = Duplicate ∷ Unknown ∷ Kind ∷ Depth ∷ Locals ∷ Repeat ∷ Packets ∷ Cost ∷ Nodes ∷ Cells ∷ []
+
+-- the first of the rules that is broken
+abbrev pub first_broken : ModuleTree → Option Rule
+first_broken m = find (breaks m) rules

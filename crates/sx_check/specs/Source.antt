@@ -1,0 +1,11 @@
+-- What contracts see of a checked module.
+use Rattle.sx_lang.specs.declared.tree.Module.{Module}
+use Rattle.sx_lang.specs.Tree.{ModuleTree}
+use Rattle.sx_lang.specs.View.{module_of}
+use Rattle.sx_check.specs.declared.checked.Checked.{Checked}
+
+abbrev pub source : Checked → Module
+source c = c.tree
+
+abbrev pub source_tree : Checked → ModuleTree
+source_tree c = module_of c.tree

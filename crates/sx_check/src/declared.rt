@@ -1,0 +1,212 @@
+//! Looking names up in the declarations.
+
+ghost use Rattle.std.specs.Prelude.{◌≡◌, ℕ, ◌≤◌, count_by, length};
+ghost use Rattle.std.specs.List.{list_any};
+ghost use Rattle.sx_check.specs.Names.{declares, is_actuator, is_declared, is_device, is_repeated, is_sensor};
+ghost use Rattle.sx_check.specs.Uses.{declares_as};
+ghost use Rattle.sx_check.specs.Bounds.{is_input, is_misfit, is_output};
+
+use sx_lang::names::Name;
+use sx_lang::tree::{Decl, DeviceKind};
+
+/// What a name is used as.
+#[derive(Clone, Copy)]
+pub enum Role {
+    /// A word that is read or assigned.
+    Word,
+    /// An array of which an element is read or assigned.
+    Element,
+    /// An output that is sent to.
+    Sending,
+    /// An input that is handled.
+    Handling,
+}
+
+pub fn is_of(d: &Decl, x: &Name) -> bool
+    ensures { result ≡ declares x.now d.now }
+{
+    match d {
+        Decl::Device(_) => false,
+        Decl::Input(y) | Decl::Output(y) | Decl::Var(y, _) | Decl::Array(y, _) => x == y,
+    }
+}
+
+fn is_of_role(d: &Decl, role: Role, x: &Name) -> bool
+    ensures { result ≡ declares_as role x.now d.now }
+{
+    match (role, d) {
+        (Role::Word, Decl::Var(y, _)) => x == y,
+        (Role::Element, Decl::Array(y, _)) => x == y,
+        (Role::Sending, Decl::Output(y)) => x == y,
+        (Role::Handling, Decl::Input(y)) => x == y,
+        _ => false,
+    }
+}
+
+pub fn has_name(decls: &[Decl], x: &Name) -> bool
+    ensures { result ≡ is_declared decls.now x.now }
+{
+    for d in decls {
+        if is_of(d, x) {
+            return true;
+        }
+    }
+    false
+}
+
+pub fn has_role(decls: &[Decl], role: Role, x: &Name) -> bool
+    ensures { result ≡ list_any (declares_as role x.now) decls.now }
+{
+    for d in decls {
+        if is_of_role(d, role, x) {
+            return true;
+        }
+    }
+    false
+}
+
+fn times_named(decls: &[Decl], x: &Name) -> usize
+    ensures { result ≡ count_by (declares x.now) decls.now }
+{
+    let mut times = 0;
+    for d in decls {
+        if is_of(d, x) {
+            times += 1;
+        }
+    }
+    times
+}
+
+fn is_a_device(d: &Decl) -> bool
+    ensures { result ≡ is_device d.now }
+{
+    matches!(d, Decl::Device(_))
+}
+
+fn devices(decls: &[Decl]) -> usize
+    ensures { result ≡ count_by is_device decls.now }
+{
+    let mut times = 0;
+    for d in decls {
+        if is_a_device(d) {
+            times += 1;
+        }
+    }
+    times
+}
+
+fn is_there_twice(decls: &[Decl], d: &Decl) -> bool
+    ensures { result ≡ is_repeated decls.now d.now }
+{
+    match d {
+        Decl::Device(_) => devices(decls) > 1,
+        Decl::Input(x) | Decl::Output(x) | Decl::Var(x, _) | Decl::Array(x, _) => {
+            times_named(decls, x) > 1
+        }
+    }
+}
+
+/// A name, or a device, is declared twice.
+pub fn has_repeated(decls: &[Decl]) -> bool
+    ensures { result ≡ list_any (is_repeated decls.now) decls.now }
+{
+    for d in decls {
+        if is_there_twice(decls, d) {
+            return true;
+        }
+    }
+    false
+}
+
+fn is_a_sensor(d: &Decl) -> bool
+    ensures { result ≡ is_sensor d.now }
+{
+    matches!(d, Decl::Device(DeviceKind::Sensor))
+}
+
+pub fn has_sensor(decls: &[Decl]) -> bool
+    ensures { result ≡ list_any is_sensor decls.now }
+{
+    for d in decls {
+        if is_a_sensor(d) {
+            return true;
+        }
+    }
+    false
+}
+
+fn is_an_actuator(d: &Decl) -> bool
+    ensures { result ≡ is_actuator d.now }
+{
+    matches!(d, Decl::Device(DeviceKind::Actuator))
+}
+
+pub fn has_actuator(decls: &[Decl]) -> bool
+    ensures { result ≡ list_any is_actuator decls.now }
+{
+    for d in decls {
+        if is_an_actuator(d) {
+            return true;
+        }
+    }
+    false
+}
+
+fn is_an_input(d: &Decl) -> bool
+    ensures { result ≡ is_input d.now }
+{
+    matches!(d, Decl::Input(_))
+}
+
+/// The number of inputs.
+pub fn inputs(decls: &[Decl]) -> usize
+    ensures { result ≡ count_by is_input decls.now }
+{
+    let mut times = 0;
+    for d in decls {
+        if is_an_input(d) {
+            times += 1;
+        }
+    }
+    times
+}
+
+fn is_an_output(d: &Decl) -> bool
+    ensures { result ≡ is_output d.now }
+{
+    matches!(d, Decl::Output(_))
+}
+
+/// The number of outputs.
+pub fn outputs(decls: &[Decl]) -> usize
+    ensures { result ≡ count_by is_output decls.now }
+{
+    let mut times = 0;
+    for d in decls {
+        if is_an_output(d) {
+            times += 1;
+        }
+    }
+    times
+}
+
+fn is_a_misfit(d: &Decl) -> bool
+    ensures { result ≡ is_misfit d.now }
+{
+    match d {
+        Decl::Device(_) | Decl::Input(_) | Decl::Output(_) | Decl::Var(_, _) => false,
+        Decl::Array(_, length) => *length < 1 || *length > 1024,
+    }
+}
+
+/// An array has no length that an array can have.
+pub fn has_misfit(decls: &[Decl]) -> bool
+    ensures { result ≡ list_any is_misfit decls.now }
+{
+    for d in decls {
+        if is_a_misfit(d) {
+            return true;
+        }
+    }
+    false
+}

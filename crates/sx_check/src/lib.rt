@@ -1,0 +1,18 @@
+//! The ten rules that a module must keep, and the module that keeps them.
+//!
+//! `check` answers a `Checked` module, or the first of the rules that is broken, with the module handed
+//! back. It takes no memory. Each rule is a definition of its own in `specs/Rules.antt`, on the tree
+//! that `sx_lang` has as plain data; `specs/Names.antt` says which names a handler defines and uses and
+//! `specs/Bounds.antt` how high, how deep and how long its code is.
+#![tactic(auto)]
+
+mod bounds;
+pub mod checked;
+pub mod checks;
+mod declared;
+mod locals;
+pub mod rules;
+mod scopes;
+#[cfg(test)]
+mod tests;
+mod uses;

@@ -1,0 +1,181 @@
+//! The rules on how names are used.
+
+ghost use Rattle.std.specs.Prelude.{◌≡◌, ℕ, ◌∷◌, map};
+ghost use Rattle.std.specs.List.{list_any};
+ghost use Rattle.sx_lang.specs.View.{block_of, expression_of, handler_of, module_of, statement_of};
+ghost use Rattle.sx_check.specs.Names.{is_sample};
+ghost use Rattle.sx_check.specs.Rules.{breaks_kind, breaks_unknown, emits_nowhere, samples_blindly};
+ghost use Rattle.sx_check.specs.Scopes.{is_flawed, seen_in};
+ghost use Rattle.sx_check.specs.Uses.{block_uses, expression_uses, handler_uses, handlers_uses, input_uses, is_local, is_misused, is_unknown, statement_uses, used};
+
+use crate::bounds::has_emit;
+use crate::declared::{Role, has_actuator, has_name, has_role, has_sensor};
+use crate::scopes::{Scope, sees};
+use sx_lang::names::Name;
+use sx_lang::tree::{Decl, Expr, Handler, Module, Stmt};
+
+/// What can be wrong with the use of a name.
+#[derive(Clone, Copy)]
+pub enum Flaw {
+    /// Nothing in sight has the name.
+    Unknown,
+    /// What has the name is of another kind.
+    Misused,
+}
+
+fn is_word(role: Role, x: &Name, scope: &Scope<'_>) -> bool
+    ensures { result ≡ is_local role x.now (seen_in scope.now) }
+{
+    match role {
+        Role::Word => sees(scope, x),
+        _ => false,
+    }
+}
+
+#[tactic(auto, unfolding(crate::specs::Scopes::is_flawed))]
+fn has_flaw(flaw: Flaw, decls: &[Decl], role: Role, x: &Name, scope: &Scope<'_>) -> bool
+    ensures { result ≡ is_flawed flaw decls.now (used role x.now (seen_in scope.now)) }
+{
+    let known = has_name(decls, x) || sees(scope, x);
+    match flaw {
+        Flaw::Unknown => !known,
+        Flaw::Misused => known && !(has_role(decls, role, x) || is_word(role, x, scope)),
+    }
+}
+
+fn in_expression(flaw: Flaw, decls: &[Decl], e: &Expr, scope: &Scope<'_>) -> bool
+    ensures { result ≡ list_any (is_flawed flaw decls.now) (expression_uses (seen_in scope.now) (expression_of e.now)) }
+{
+    match e {
+        Expr::Number(_) => false,
+        Expr::Read(x) => has_flaw(flaw, decls, Role::Word, x, scope),
+        Expr::At(x, index) => {
+            has_flaw(flaw, decls, Role::Element, x, scope)
+                || in_expression(flaw, decls, index, scope)
+        }
+        Expr::Unary(_, operand) => in_expression(flaw, decls, operand, scope),
+        Expr::Binary(_, left, right) => {
+            in_expression(flaw, decls, left, scope) || in_expression(flaw, decls, right, scope)
+        }
+    }
+}
+
+#[cycle(uses)]
+fn in_statement<'a>(flaw: Flaw, decls: &[Decl], s: &'a Stmt, scope: &'a Scope<'a>) -> bool
+    ensures { result ≡ list_any (is_flawed flaw decls.now) (statement_uses (seen_in scope.now) (statement_of s.now)) }
+{
+    match s {
+        Stmt::Let(_, e) | Stmt::Emit(e) => in_expression(flaw, decls, e, scope),
+        Stmt::Assign(x, e) => {
+            has_flaw(flaw, decls, Role::Word, x, scope) || in_expression(flaw, decls, e, scope)
+        }
+        Stmt::Element(x, index, e) => {
+            has_flaw(flaw, decls, Role::Element, x, scope)
+                || in_expression(flaw, decls, index, scope)
+                || in_expression(flaw, decls, e, scope)
+        }
+        Stmt::If(e, then, otherwise) => {
+            in_expression(flaw, decls, e, scope)
+                || in_block(flaw, decls, then, scope)
+                || in_block(flaw, decls, otherwise, scope)
+        }
+        Stmt::Repeat(_, body) => in_block(flaw, decls, body, scope),
+        Stmt::Send(x, e) => {
+            has_flaw(flaw, decls, Role::Sending, x, scope) || in_expression(flaw, decls, e, scope)
+        }
+    }
+}
+
+#[cycle(uses)]
+fn in_block<'a>(flaw: Flaw, decls: &[Decl], block: &'a Vec<Stmt>, scope: &'a Scope<'a>) -> bool
+    ensures { result ≡ list_any (is_flawed flaw decls.now) (block_uses (seen_in scope.now) (block_of block.now.items)) }
+{
+    for (i, s) in block.iter().enumerate() {
+        let (earlier, _) = block.split_at(i);
+        if in_statement(flaw, decls, s, &Scope::Block(scope, earlier)) {
+            return true;
+        }
+    }
+    false
+}
+
+fn in_input(flaw: Flaw, decls: &[Decl], input: &Option<Name>) -> bool
+    ensures { result ≡ list_any (is_flawed flaw decls.now) (input_uses input.now) }
+{
+    match input {
+        None => false,
+        Some(x) => has_flaw(flaw, decls, Role::Handling, x, &Scope::Module),
+    }
+}
+
+fn in_handler(flaw: Flaw, decls: &[Decl], h: &Handler) -> bool
+    ensures { result ≡ list_any (is_flawed flaw decls.now) (handler_uses (handler_of h.now)) }
+{
+    in_input(flaw, decls, &h.input) || in_block(flaw, decls, &h.body, &Scope::Handler(&h.param))
+}
+
+fn in_handlers(flaw: Flaw, decls: &[Decl], handlers: &[Handler]) -> bool
+    ensures { result ≡ list_any (is_flawed flaw decls.now) (handlers_uses (map handler_of handlers.now)) }
+{
+    for h in handlers {
+        if in_handler(flaw, decls, h) {
+            return true;
+        }
+    }
+    false
+}
+
+#[tactic(auto, unfolding(crate::specs::Scopes::is_flawed))]
+fn has_unknown(m: &Module) -> bool
+    ensures { result ≡ list_any (is_unknown (module_of m.now).decls) (handlers_uses (module_of m.now).handlers) }
+{
+    in_handlers(Flaw::Unknown, &m.decls, &m.handlers)
+}
+
+#[tactic(auto, unfolding(crate::specs::Scopes::is_flawed))]
+fn has_misused(m: &Module) -> bool
+    ensures { result ≡ list_any (is_misused (module_of m.now).decls) (handlers_uses (module_of m.now).handlers) }
+{
+    in_handlers(Flaw::Misused, &m.decls, &m.handlers)
+}
+
+/// A name that is used isn't known where it is used.
+#[tactic(auto, unfolding(crate::specs::Rules::breaks_unknown))]
+pub fn breaks_unknown(m: &Module) -> bool
+    ensures { result ≡ breaks_unknown (module_of m.now) }
+{
+    has_unknown(m)
+}
+
+fn has_sample(handlers: &[Handler]) -> bool
+    ensures { result ≡ list_any is_sample (map handler_of handlers.now) }
+{
+    for h in handlers {
+        if h.input.is_none() {
+            return true;
+        }
+    }
+    false
+}
+
+#[tactic(auto, unfolding(crate::specs::Rules::samples_blindly))]
+fn samples_blindly(m: &Module) -> bool
+    ensures { result ≡ samples_blindly (module_of m.now) }
+{
+    has_sample(&m.handlers) && !has_sensor(&m.decls)
+}
+
+#[tactic(auto, unfolding(crate::specs::Rules::emits_nowhere))]
+fn emits_nowhere(m: &Module) -> bool
+    ensures { result ≡ emits_nowhere (module_of m.now) }
+{
+    has_emit(&m.handlers) && !has_actuator(&m.decls)
+}
+
+/// A name is used as another kind, or the module samples or emits without a device for it.
+#[tactic(auto, unfolding(crate::specs::Rules::breaks_kind))]
+pub fn breaks_kind(m: &Module) -> bool
+    ensures { result ≡ breaks_kind (module_of m.now) }
+{
+    has_misused(m) || samples_blindly(m) || emits_nowhere(m)
+}
