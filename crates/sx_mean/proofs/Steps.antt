@@ -1,0 +1,39 @@
+-- What the statements that hold blocks do.
+use Rattle.std.proofs.Common.{◌≡◌, ℕ, zero, suc, ◌+◌, ◌-◌, ◌<◌, ◌==◌, true, false, Vec, Global, refl, sym, ap, ◌∙◌, arith, subst}
+use Rattle.std.proofs.lemmas.Bool.Decides.{nat_tests}
+use Rattle.sx_lang.specs.declared.tree.Decl.{Decl}
+use Rattle.sx_lang.specs.declared.tree.Expr.{Expr}
+use Rattle.sx_lang.specs.declared.tree.Stmt.{Stmt}
+use Rattle.sx_lang.specs.declared.tree.Stmt.TheViews.{If, Repeat}
+use Rattle.sx_lang.specs.View.{statement_of, block_of, expression_of}
+use Rattle.sx_lang.proofs.Rows.{if_is, repeat_is}
+use Rattle.std.proofs.Common.{List}
+use Rattle.sx_mean.specs.Meaning.{State, after_statement, in_block, times, value}
+
+not_zero : (n : ℕ) → (n ≡ 0 → ⊥) → (n == 0) ≡ false
+not_zero n h = grind (arith, nat_tests)
+
+is_zero : (n : ℕ) → n ≡ 0 → (n == 0) ≡ true
+is_zero n h = grind (arith, nat_tests)
+
+pub takes_then : (ds : List Decl) (s : Stmt) (e : Expr) (v w : Vec Stmt Global) (st r : State) (t : ℕ) → s ≡ If e v w → t ≡ value ds st (expression_of e) → (t ≡ 0 → ⊥) → r ≡ in_block ds (block_of v.items) st → r ≡ after_statement ds (statement_of s) st
+takes_then ds s e v w st r t i a n h =
+    let z : (value ds st (expression_of e) == 0) ≡ false = not_zero (value ds st (expression_of e)) (λ q. n (a ∙ q)) in
+    h ∙ sym (ap (λ s. after_statement ds s st) (ap statement_of i ∙ if_is e v w) ∙ rw z refl)
+
+pub takes_else : (ds : List Decl) (s : Stmt) (e : Expr) (v w : Vec Stmt Global) (st r : State) (t : ℕ) → s ≡ If e v w → t ≡ value ds st (expression_of e) → t ≡ 0 → r ≡ in_block ds (block_of w.items) st → r ≡ after_statement ds (statement_of s) st
+takes_else ds s e v w st r t i a n h =
+    let z : (value ds st (expression_of e) == 0) ≡ true = is_zero (value ds st (expression_of e)) (sym a ∙ n) in
+    h ∙ sym (ap (λ s. after_statement ds s st) (ap statement_of i ∙ if_is e v w) ∙ rw z refl)
+
+pub repeats : (ds : List Decl) (s : Stmt) (n : ℕ) (v : Vec Stmt Global) (st r : State) (k : ℕ) → s ≡ Repeat n v → k ≡ 0 → times k (λ st. in_block ds (block_of v.items) st) r ≡ times n (λ st. in_block ds (block_of v.items) st) st → r ≡ after_statement ds (statement_of s) st
+repeats ds s n v st r k i z h =
+    let h2 : r ≡ times n (λ st. in_block ds (block_of v.items) st) st = subst (λ k. times k (λ st. in_block ds (block_of v.items) st) r ≡ times n (λ st. in_block ds (block_of v.items) st) st) z h in
+    h2 ∙ sym (ap (λ s. after_statement ds s st) (ap statement_of i ∙ repeat_is n v))
+
+pub one_more : (n i : ℕ) (f : State → State) (st r : State) → i < n → r ≡ f st → times (n - i) f st ≡ times (n - (i + 1)) f r
+one_more n i f st r h e = go (n - i) (n - (i + 1)) (omega arith)
+  where
+    go : (a b : ℕ) → a ≡ b + 1 → times a f st ≡ times b f r
+    go zero b q = absurd (omega (arith, q))
+    go (suc a) b q = let s : a ≡ b = omega (arith, q) in rw (s, e) refl

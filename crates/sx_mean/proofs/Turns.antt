@@ -1,0 +1,63 @@
+-- Going through the devices and the parts of an application.
+use Rattle.std.proofs.Common.{◌≡◌, ℕ, zero, suc, ◌+◌, ◌-◌, ◌*◌, ◌≤◌, ◌==◌, Bool, true, false, nat_le, nat_lt, count_by, List, ◌∷◌, Vec, Global, ◌<◌, length, get_or, drop, min, ap, add-one, sym, refl, ◌∙◌, arith}
+use Rattle.std.proofs.Math.Seq.{drop-cons}
+use Rattle.std.proofs.Math.Nat.{suc-mul}
+use Rattle.std.proofs.lemmas.Bool.Decides.{nat_tests}
+use Rattle.sx_lang.specs.declared.tree.Expr.{Expr}
+use Rattle.sx_lang.specs.declared.tree.Stmt.{Stmt}
+use Rattle.sx_lang.specs.declared.tree.Stmt.TheViews.{If, Repeat}
+use Rattle.sx_lang.specs.declared.tree.DeviceKind.{DeviceKind}
+use Rattle.sx_lang.specs.declared.tree.Decl.{Decl}
+use Rattle.sx_lang.specs.Tree.{Chooses, Repeats}
+use Rattle.sx_lang.specs.View.{statement_of, block_of, expression_of}
+use Rattle.sx_lang.proofs.Rows.{if_is, repeat_is}
+use Rattle.sx_mean.specs.declared.apps.AppDevice.{AppDevice}
+use Rattle.sx_mean.specs.declared.apps.Part.{Part}
+use Rattle.sx_check.specs.Source.{source_tree}
+use Rattle.sx_mean.specs.Application.{is_at, has_port}
+
+not_zero : (n : ℕ) → (n ≡ 0 → ⊥) → (n == 0) ≡ false
+not_zero n h = grind (arith, nat_tests)
+
+pub at_next : (e : AppDevice) (es : List AppDevice) (d node : ℕ) (kind : DeviceKind) → (d ≡ 0 → ⊥) → is_at (e ∷ es) d node kind ≡ is_at es (d - 1) node kind
+at_next e es d node kind h = rw (not_zero d h) refl
+
+pub at_further : (es : List AppDevice) (i d node : ℕ) (kind : DeviceKind) (x : Bool) → i < length es → (d ≡ 0 → ⊥) → is_at (drop i es) d node kind ≡ x → is_at (drop (i + 1) es) (d - 1) node kind ≡ x
+at_further es i d node kind x h n all =
+    let e : AppDevice = record { node = 0; kind = kind } in
+    ap (λ k. is_at (drop k es) (d - 1) node kind) (add-one i)
+    ∙ sym (at_next (get_or es i e) (drop (suc i) es) d node kind n)
+    ∙ ap (λ xs. is_at xs d node kind) (sym (drop-cons es i e h))
+    ∙ all
+
+pub port_next : (is_port : Decl → Bool) (part : Part) (parts : List Part) (p port : ℕ) → (p ≡ 0 → ⊥) → has_port is_port (part ∷ parts) p port ≡ has_port is_port parts (p - 1) port
+port_next is_port part parts p port h = rw (not_zero p h) refl
+
+pub if_seen : (s : Stmt) (e : Expr) (v w : Vec Stmt Global) → s ≡ If e v w → statement_of s ≡ Chooses (expression_of e) (block_of v.items) (block_of w.items)
+if_seen s e v w i = ap statement_of i ∙ if_is e v w
+
+pub repeat_seen : (s : Stmt) (n : ℕ) (v : Vec Stmt Global) → s ≡ Repeat n v → statement_of s ≡ Repeats n (block_of v.items)
+repeat_seen s n v i = ap statement_of i ∙ repeat_is n v
+
+within : (b : ℕ) → nat_le b 65536 ≡ true → min b 65536 ≡ b
+within b h = grind (arith, nat_tests)
+
+above : (b : ℕ) → nat_le b 65536 ≡ false → 65536 ≤ b
+above b h = grind (arith, nat_tests)
+
+-- what a block sends may be cut before its turns are counted
+pub turns_cut : (n b : ℕ) → min (n * min b 65536) 65536 ≡ min (n * b) 65536
+turns_cut zero b = omega arith
+turns_cut (suc n) b = go (nat_le b 65536) refl
+  where
+    go : (t : Bool) → nat_le b 65536 ≡ t → min (suc n * min b 65536) 65536 ≡ min (suc n * b) 65536
+    go true h = rw (within b h) refl
+    go false h = omega (arith, suc-mul n (min b 65536), suc-mul n b, above b h)
+
+pub port_here : (is_port : Decl → Bool) (parts : List Part) (i p port : ℕ) (q : Part) (r x : Bool) → i < length parts → q ≡ get_or parts i q → p ≡ 0 → r ≡ nat_lt port (count_by is_port (source_tree q.code).decls) → has_port is_port (drop i parts) p port ≡ x → r ≡ x
+port_here is_port parts i p port q r x h e z given all =
+    let rest : drop i parts ≡ q ∷ drop (suc i) parts = drop-cons parts i q h ∙ ap (λ z. z ∷ drop (suc i) parts) (sym e) in
+    given
+    ∙ ap (λ xs. has_port is_port xs 0 port) (sym rest)
+    ∙ ap (λ n. has_port is_port (drop i parts) n port) (sym z)
+    ∙ all

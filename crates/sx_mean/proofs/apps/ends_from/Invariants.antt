@@ -1,0 +1,6 @@
+use Rattle.std.proofs.Common.{◌≡◌, ◌+◌, ◌≤◌, drop}
+use Rattle.sx_mean.specs.Application.{ends_from}
+use Rattle.sx_mean.proofs.apps.ends_from.Given as goal
+
+abbrev pub invariant-loop-l : goal.invariant-loop-l
+invariant-loop-l l = (l.times ≤ l.l-index) × (l.times + ends_from (drop l.l-index l.links) l.part ≡ ends_from l.links l.part)

@@ -1,0 +1,126 @@
+-- When modules make an application.
+use Rattle.std.specs.Prelude.{ℕ, ◌+◌, ◌-◌, ◌*◌, if◌then◌else◌, Bool, true, false, ◌||◌, ◌&&◌, not, List, [], ◌∷◌, Option, Some, None, ◌==◌, nat_lt, count_by, length, max}
+use Rattle.std.specs.List.{list_any}
+use Rattle.sx_lang.specs.declared.tree.Decl.{Decl}
+use Rattle.sx_lang.specs.declared.tree.Decl.TheVariants.{Device, Input, Output, Var, Array}
+use Rattle.sx_lang.specs.declared.tree.DeviceKind.{DeviceKind}
+use Rattle.sx_lang.specs.declared.tree.DeviceKind.TheVariants.{Sensor, Actuator}
+use Rattle.sx_lang.specs.Tree.{Statement, Defines, Assigns, Stores, Chooses, Repeats, Sends, Emits, Block, Done, Then, ModuleTree}
+use Rattle.sx_check.specs.Bounds.{is_input, is_output}
+use Rattle.sx_check.specs.Source.{source_tree}
+use Rattle.sx_mean.specs.declared.apps.App.{App}
+use Rattle.sx_mean.specs.declared.apps.AppDevice.{AppDevice}
+use Rattle.sx_mean.specs.declared.apps.Part.{Part}
+use Rattle.sx_mean.specs.declared.apps.Link.{Link}
+use Rattle.sx_mean.specs.Places.{output_number}
+
+-- the kind of the device that a module declares first, none where it declares none
+abbrev pub declared_kind : List Decl → Option DeviceKind
+declared_kind [] = None
+declared_kind (Device kind ∷ ds) = Some kind
+declared_kind (Input x ∷ ds) = declared_kind ds
+declared_kind (Output x ∷ ds) = declared_kind ds
+declared_kind (Var x n ∷ ds) = declared_kind ds
+declared_kind (Array x n ∷ ds) = declared_kind ds
+
+abbrev pub same_kind : DeviceKind → DeviceKind → Bool
+same_kind Sensor Sensor = true
+same_kind Sensor Actuator = false
+same_kind Actuator Sensor = false
+same_kind Actuator Actuator = true
+
+-- the device of a place among the devices is at this node, and of this kind
+abbrev pub is_at : List AppDevice → ℕ → ℕ → DeviceKind → Bool
+is_at [] d node kind = false
+is_at (e ∷ es) d node kind = if d == 0 then (e.node == node) && same_kind e.kind kind else is_at es (d - 1) node kind
+
+-- a part has a device exactly where its module declares one, at its node and of the declared kind
+abbrev pub is_driven : List AppDevice → ℕ → Option ℕ → Option DeviceKind → Bool
+is_driven es node None None = true
+is_driven es node None (Some kind) = false
+is_driven es node (Some d) None = false
+is_driven es node (Some d) (Some kind) = is_at es d node kind
+
+abbrev pub same_device : Option ℕ → Option ℕ → Bool
+same_device None d = false
+same_device (Some a) None = false
+same_device (Some a) (Some b) = a == b
+
+-- what a handler sends, each send times the connections from its output
+abbrev mutual
+  pub statement_packets : (ℕ → ℕ) → List Decl → Statement → ℕ
+  statement_packets links ds (Defines x e) = 0
+  statement_packets links ds (Assigns x e) = 0
+  statement_packets links ds (Stores x i e) = 0
+  statement_packets links ds (Chooses e a b) = max (block_packets links ds a) (block_packets links ds b)
+  statement_packets links ds (Repeats n a) = n * block_packets links ds a
+  statement_packets links ds (Sends x e) = links (output_number ds x)
+  statement_packets links ds (Emits e) = 0
+
+  pub block_packets : (ℕ → ℕ) → List Decl → Block → ℕ
+  block_packets links ds Done = 0
+  block_packets links ds (Then s b) = statement_packets links ds s + block_packets links ds b
+
+abbrev pub leaves : ℕ → ℕ → Link → Bool
+leaves p output l = (l.from == p) && (l.output == output)
+
+-- the connections from an output of the part of this place
+abbrev pub links_from : List Link → ℕ → ℕ → ℕ
+links_from ls p output = count_by (leaves p output) ls
+
+-- the ends of connections that the part of this place holds
+abbrev pub ends_from : List Link → ℕ → ℕ
+ends_from ls p = count_by (λ l. l.from == p) ls
+
+abbrev pub ends_to : List Link → ℕ → ℕ
+ends_to ls p = count_by (λ l. l.to == p) ls
+
+abbrev pub sends_too_much : List Link → ℕ → ModuleTree → Bool
+sends_too_much ls p m = list_any (λ h. nat_lt 16 (block_packets (links_from ls p) m.decls h.body)) m.handlers
+
+abbrev pub parts_at : List Part → ℕ → ℕ
+parts_at parts node = count_by (λ q. q.node == node) parts
+
+abbrev pub parts_with : List Part → Option ℕ → ℕ
+parts_with parts device = count_by (λ q. same_device device q.device) parts
+
+-- what is wrong with the part of this place
+unfoldable pub is_misplaced : App → Part → Bool
+is_misplaced a part = not (nat_lt part.node a.nodes) || not (is_driven a.devices.items part.node part.device (declared_kind (source_tree part.code).decls))
+
+unfoldable pub is_crowded : App → Part → Bool
+is_crowded a part = nat_lt 8 (parts_at a.parts.items part.node) || nat_lt 1 (parts_with a.parts.items part.device)
+
+unfoldable pub is_overloaded : App → ℕ → Part → Bool
+is_overloaded a p part = nat_lt 16 (ends_from a.links.items p + ends_to a.links.items p) || sends_too_much a.links.items p (source_tree part.code)
+
+unfoldable pub is_wrong : App → ℕ → Part → Bool
+is_wrong a p part = is_misplaced a part || (is_crowded a part || is_overloaded a p part)
+
+-- some part, with its place, is so
+abbrev pub any_part : (ℕ → Part → Bool) → ℕ → List Part → Bool
+any_part test p [] = false
+any_part test p (part ∷ parts) = test p part || any_part test (p + 1) parts
+
+-- the declaration is of an output, or of an input
+abbrev pub is_port : Bool → Decl → Bool
+is_port output d = if output then is_output d else is_input d
+
+-- the part of this place has so many ports of a kind that the number names one
+abbrev pub has_port : (Decl → Bool) → List Part → ℕ → ℕ → Bool
+has_port is_port [] p port = false
+has_port is_port (part ∷ parts) p port = if p == 0 then nat_lt port (count_by is_port (source_tree part.code).decls) else has_port is_port parts (p - 1) port
+
+unfoldable pub is_loose : App → Link → Bool
+is_loose a l = not (has_port (is_port true) a.parts.items l.from l.output) || not (has_port (is_port false) a.parts.items l.to l.input)
+
+abbrev pub is_stray : App → AppDevice → Bool
+is_stray a d = not (nat_lt d.node a.nodes)
+
+unfoldable pub is_too_large : App → Bool
+is_too_large a = nat_lt 16 a.nodes || (nat_lt 32 (length a.devices.items) || (nat_lt 32 (length a.parts.items) || nat_lt 64 (length a.links.items)))
+
+-- The counts keep the limits; each device is at a node; each part is at a node, with its device and within
+-- the limits; and each connection goes from an output to an input.
+unfoldable pub is_valid : App → Bool
+is_valid a = not (is_too_large a || (list_any (is_stray a) a.devices.items || (any_part (is_wrong a) 0 a.parts.items || list_any (is_loose a) a.links.items)))

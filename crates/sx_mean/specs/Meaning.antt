@@ -1,0 +1,113 @@
+-- What expressions and statements mean, by cases on the source.
+use Rattle.std.specs.Prelude.{ℕ, zero, suc, ◌+◌, ◌*◌, ◌-◌, ◌%◌, Bool, List, [], ◌∷◌, ◌++◌, Option, Some, None, ◌==◌, nat_lt, nat_le, if◌then◌else◌, length, take, slice_index, slice_set, bit_and, bit_or, bit_xor}
+use Rattle.std.specs.List.{position_or_len}
+use Rattle.sx_lang.specs.declared.tree.Decl.{Decl}
+use Rattle.sx_lang.specs.declared.tree.UnOp.{UnOp}
+use Rattle.sx_lang.specs.declared.tree.UnOp.TheVariants.{Neg, Inv, Not}
+use Rattle.sx_lang.specs.declared.tree.BinOp.{BinOp}
+use Rattle.sx_lang.specs.declared.tree.BinOp.TheVariants.{Add, Sub, Or, Xor, Mul, And, Eq, Ne, Lt, Le, Gt, Ge}
+use Rattle.sx_lang.specs.Tree.{Expression, Constant, Variable, Indexed, Applied, Combined, Statement, Defines, Assigns, Stores, Chooses, Repeats, Sends, Emits, Block, Done, Then}
+use Rattle.sx_check.specs.Names.{same}
+use Rattle.sx_mean.specs.declared.events.Act.{Act}
+use Rattle.sx_mean.specs.declared.events.Act.TheVariants.{Send, Emit}
+use Rattle.sx_mean.specs.declared.moments.Local.{Local}
+use Rattle.sx_mean.specs.Places.{place, array_length, output_number}
+
+-- where a handler stands: the locals in the order of their lets, the cells, and the acts so far
+pub record State : Type 0 where
+  pub locals : List Local
+  pub cells : List ℕ
+  pub acts : List Act
+
+abbrev pub truth : Bool → ℕ
+truth b = if b then 1 else 0
+
+abbrev pub apply : UnOp → ℕ → ℕ
+apply Neg a = (65536 - a) % 65536
+apply Inv a = 65535 - a
+apply Not a = truth (a == 0)
+
+-- words modulo 65,536; comparisons are unsigned
+abbrev pub combine : BinOp → ℕ → ℕ → ℕ
+combine Add a b = (a + b) % 65536
+combine Sub a b = (a + (65536 - b)) % 65536
+combine Or a b = bit_or a b
+combine Xor a b = bit_xor a b
+combine Mul a b = (a * b) % 65536
+combine And a b = bit_and a b
+combine Eq a b = truth (a == b)
+combine Ne a b = truth (nat_lt a b) + truth (nat_lt b a)
+combine Lt a b = truth (nat_lt a b)
+combine Le a b = truth (nat_le a b)
+combine Gt a b = truth (nat_lt b a)
+combine Ge a b = truth (nat_le b a)
+
+abbrev pub look_up : List Local → List ℕ → Option ℕ
+look_up [] x = None
+look_up (l ∷ ls) x = if same x l.name then Some l.value else look_up ls x
+
+abbrev pub or_cell : Option ℕ → ℕ → ℕ
+or_cell None cell = cell
+or_cell (Some value) cell = value
+
+-- a local, else a variable's cell
+abbrev pub word : List Decl → State → List ℕ → ℕ
+word ds st x = or_cell (look_up st.locals x) (slice_index st.cells (place ds x))
+
+-- past the array's end 0
+abbrev pub element : List Decl → State → List ℕ → ℕ → ℕ
+element ds st x i = if nat_lt i (array_length ds x) then slice_index st.cells (place ds x + i) else 0
+
+abbrev pub value : List Decl → State → Expression → ℕ
+value ds st (Constant n) = n
+value ds st (Variable x) = word ds st x
+value ds st (Indexed x e) = element ds st x (value ds st e)
+value ds st (Applied op e) = apply op (value ds st e)
+value ds st (Combined op a b) = combine op (value ds st a) (value ds st b)
+
+abbrev pub local_place : List Local → List ℕ → ℕ
+local_place ls x = position_or_len (λ l. same x l.name) ls
+
+abbrev pub new_local : List ℕ → ℕ → Local
+new_local x v = record { name = x; value = v }
+
+abbrev pub define : List ℕ → ℕ → State → State
+define x v st = record st { locals = st.locals ++ new_local x v ∷ [] }
+
+abbrev pub assign : List Decl → List ℕ → ℕ → State → State
+assign ds x v st =
+    if nat_lt (local_place st.locals x) (length st.locals)
+    then record st { locals = slice_set st.locals (local_place st.locals x) (new_local x v) }
+    else record st { cells = slice_set st.cells (place ds x) v }
+
+-- past the array's end nothing
+abbrev pub assign_element : List Decl → List ℕ → ℕ → ℕ → State → State
+assign_element ds x i v st = if nat_lt i (array_length ds x) then record st { cells = slice_set st.cells (place ds x + i) v } else st
+
+abbrev pub act : Act → State → State
+act a st = record st { acts = st.acts ++ a ∷ [] }
+
+-- a block's locals end with it
+abbrev pub forget : ℕ → State → State
+forget n st = record st { locals = take n st.locals }
+
+abbrev pub times : ℕ → (State → State) → State → State
+times zero f st = st
+times (suc n) f st = times n f (f st)
+
+abbrev mutual
+  pub after_statement : List Decl → Statement → State → State
+  after_statement ds (Defines x e) st = define x (value ds st e) st
+  after_statement ds (Assigns x e) st = assign ds x (value ds st e) st
+  after_statement ds (Stores x i e) st = assign_element ds x (value ds st i) (value ds st e) st
+  after_statement ds (Chooses e a b) st = if value ds st e == 0 then forget (length st.locals) (after_block ds b st) else forget (length st.locals) (after_block ds a st)
+  after_statement ds (Repeats n a) st = times n (λ st. forget (length st.locals) (after_block ds a st)) st
+  after_statement ds (Sends x e) st = act (Send (output_number ds x) (value ds st e)) st
+  after_statement ds (Emits e) st = act (Emit (value ds st e)) st
+
+  pub after_block : List Decl → Block → State → State
+  after_block ds Done st = st
+  after_block ds (Then s b) st = after_block ds b (after_statement ds s st)
+
+abbrev pub in_block : List Decl → Block → State → State
+in_block ds b st = forget (length st.locals) (after_block ds b st)

@@ -1,0 +1,28 @@
+use sx_lang::sides::Side;
+
+/// What a module reacts to.
+#[derive(Clone, Copy, PartialEq, Eq, Debug)]
+pub enum SourceEvent {
+    /// A value for the input of this number. Inputs are numbered from 0 in order of declaration.
+    Input(u8, u16),
+    /// A reading of the module's sensor.
+    Sample(u16),
+}
+
+/// What a module does at an event.
+#[derive(Clone, Copy, PartialEq, Eq, Debug)]
+pub enum Act {
+    /// A value sent to the output of this number. Outputs are numbered from 0 in order of declaration.
+    Send(u8, u16),
+    /// A value for the module's actuator.
+    Emit(u16),
+}
+
+/// One end of a connection in a module. A module's ends stand in connection order, `From` before `To`.
+#[derive(Clone, Copy, PartialEq, Eq, Debug)]
+pub struct End {
+    pub link: u8,
+    pub side: Side,
+    /// The number of the output on the side `From`, of the input on the side `To`.
+    pub port: u8,
+}

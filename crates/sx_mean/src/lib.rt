@@ -1,0 +1,21 @@
+//! What a module's handlers mean, and the application that modules make together.
+//!
+//! `Store::initial` gives a module's cells their first values, `react` runs the handler of an event: it
+//! gives the acts in order and changes the cells. `App::valid` tells whether connected modules make an
+//! application. No definition knows an address, a key or a machine.
+//!
+//! `specs/Meaning.antt` has the meaning of expressions and statements by cases on the source, with words
+//! modulo 65,536, `specs/React.antt` the meaning of an event, `specs/Places.antt` the order of cells and
+//! outputs, and `specs/Application.antt` what makes an application valid.
+#![tactic(auto)]
+
+pub mod apps;
+pub mod events;
+mod expressions;
+mod moments;
+mod places;
+pub mod reactions;
+mod statements;
+pub mod stores;
+#[cfg(test)]
+mod tests;

@@ -1,0 +1,138 @@
+ghost use Rattle.std.specs.Prelude.{◌≡◌, ℕ, ◌-◌, ◌∷◌, List, [], IfOk, None, OnErr, OnOk, Some, map};
+ghost use Rattle.std.specs.List.{find};
+ghost use Rattle.sx_check.specs.Names.{same_input};
+ghost use Rattle.sx_check.specs.Source.{source_tree};
+ghost use Rattle.sx_lang.specs.View.{block_of, handler_of, module_of};
+ghost use Rattle.sx_mean.specs.Places.{IsSized};
+ghost use Rattle.sx_mean.specs.React.{handler_at, handler_of_input, handler_of_name, input_names, nth, react, run, start};
+ghost use Rattle.sx_mean.specs.View.{state_of};
+
+use crate::events::{Act, SourceEvent};
+use crate::moments::{Local, Moment};
+use crate::statements::run_block;
+use crate::stores::Store;
+use std::alloc::{AllocError, Global};
+use sx_check::checked::Checked;
+use sx_lang::names::Name;
+use sx_lang::tree::{Decl, Handler, Module};
+
+fn input_name(decls: &[Decl], number: u8) -> Option<Name>
+    ensures { result ≡ nth (input_names decls.now) number }
+{
+    let mut left = number;
+    for d in decls {
+        if let Decl::Input(x) = d {
+            if left == 0 {
+                return Some(*x);
+            }
+            left -= 1;
+        }
+    }
+    None
+}
+
+fn handles(h: &Handler, input: &Option<Name>) -> bool
+    ensures { result ≡ same_input input.now h.now.input }
+{
+    match (input, &h.input) {
+        (None, None) => true,
+        (Some(x), Some(y)) => x == y,
+        _ => false,
+    }
+}
+
+fn start(alloc: Global, h: &Handler, value: u16, cells: &[u16]) -> Result<Moment, AllocError>
+    ensures { IfOk result (λ m. state_of m ≡ start (handler_of h.now) value cells.now) }
+{
+    let mut locals = Vec::new(alloc);
+    locals.push(Local {
+        name: h.param,
+        value,
+    })?;
+    let cells = Vec::from_slice(alloc, cells)?;
+    Ok(Moment {
+        locals,
+        cells,
+        acts: Vec::new(alloc),
+    })
+}
+
+fn run_handler(
+    alloc: Global,
+    decls: &[Decl],
+    h: &Handler,
+    value: u16,
+    cells: &[u16],
+) -> Result<Moment, AllocError>
+    requires { IsSized decls.now }
+    ensures { IfOk result (λ m. state_of m ≡ run decls.now (Some (handler_of h.now)) value cells.now) }
+{
+    let mut moment = start(alloc, h, value, cells)?;
+    run_block(decls, &h.body, &mut moment)?;
+    Ok(moment)
+}
+
+fn idle(alloc: Global, decls: &[Decl], value: u16, cells: &[u16]) -> Result<Moment, AllocError>
+    ensures { IfOk result (λ m. state_of m ≡ run decls.now None value cells.now) }
+{
+    let cells = Vec::from_slice(alloc, cells)?;
+    Ok(Moment {
+        locals: Vec::new(alloc),
+        cells,
+        acts: Vec::new(alloc),
+    })
+}
+
+fn run_first(
+    alloc: Global,
+    m: &Module,
+    input: &Option<Name>,
+    value: u16,
+    cells: &[u16],
+) -> Result<Moment, AllocError>
+    requires { IsSized m.now.decls.items }
+    ensures { IfOk result (λ n. state_of n ≡ run m.now.decls.items (handler_of_input input.now (map handler_of m.now.handlers.items)) value cells.now) }
+{
+    for h in &m.handlers {
+        if handles(h, input) {
+            return run_handler(alloc, &m.decls, h, value, cells);
+        }
+    }
+    idle(alloc, &m.decls, value, cells)
+}
+
+fn outcome(
+    alloc: Global,
+    m: &Module,
+    event: SourceEvent,
+    cells: &[u16],
+) -> Result<Moment, AllocError>
+    requires { IsSized m.now.decls.items }
+    ensures { IfOk result (λ n. state_of n ≡ react (module_of m.now) event cells.now) }
+{
+    match event {
+        SourceEvent::Input(number, value) => match input_name(&m.decls, number) {
+            None => idle(alloc, &m.decls, value, cells),
+            Some(x) => run_first(alloc, m, &Some(x), value, cells),
+        },
+        SourceEvent::Sample(value) => run_first(alloc, m, &None, value, cells),
+    }
+}
+
+/// The acts of the event's handler, in order; the store's cells are then as the handler leaves them.
+/// An event without a handler, or of an input that the module doesn't have, changes nothing and gives no
+/// acts. The handler runs on a copy of the cells, so after an `Err` the store is unchanged.
+pub fn react(
+    alloc: Global,
+    m: &Checked,
+    store: &mut Store,
+    event: SourceEvent,
+) -> Result<Vec<Act>, AllocError>
+    ensures acts { IfOk result (λ acts. acts.items ≡ (react (source_tree m.now) event store.old.cells.items).acts) }
+    ensures cells { OnOk result (store.new.cells.items ≡ (react (source_tree m.now) event store.old.cells.items).cells) }
+    ensures unchanged { OnErr result (store.new ≡ store.old) }
+{
+    let moment = outcome(alloc, m.module(), event, &store.cells)?;
+    store.cells = moment.cells;
+    Ok(moment.acts)
+}
