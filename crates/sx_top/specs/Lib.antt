@@ -1,0 +1,6 @@
+pub mod Words
+pub mod Orders
+pub mod Items
+pub mod Ran
+pub mod Output
+pub mod Good

@@ -1,0 +1,36 @@
+-- The words of a schedule line.
+use Rattle.std.specs.Prelude.{ℕ, ◌==◌, Bool, ◌||◌, if◌then◌else◌, List, [], ◌∷◌, ◌++◌, Option, Some, None}
+
+-- spaces and tabs part words
+abbrev pub is_blank : ℕ → Bool
+is_blank b = b == 32 || b == 9
+
+-- a word that has begun, in front of the words behind it
+abbrev pub closed : List ℕ → List (List ℕ) → List (List ℕ)
+closed [] rest = rest
+closed (b ∷ bs) rest = (b ∷ bs) ∷ rest
+
+-- the words of a text behind a word that has begun
+abbrev pub words_behind : List ℕ → List ℕ → List (List ℕ)
+words_behind begun [] = closed begun []
+words_behind begun (b ∷ bs) = if is_blank b then closed begun (words_behind [] bs) else words_behind (begun ++ b ∷ []) bs
+
+-- the longest runs of bytes that aren't blanks, in order
+unfoldable pub words_of : List ℕ → List (List ℕ)
+words_of text = words_behind [] text
+
+-- no word, one word, two words
+abbrev pub no_word : List (List ℕ) → Option (Unit {0})
+no_word [] = Some tt
+no_word (a ∷ rest) = None
+
+abbrev pub one_word : List (List ℕ) → Option (List ℕ)
+one_word [] = None
+one_word (a ∷ []) = Some a
+one_word (a ∷ b ∷ rest) = None
+
+abbrev pub two_words : List (List ℕ) → Option (List ℕ × List ℕ)
+two_words [] = None
+two_words (a ∷ []) = None
+two_words (a ∷ b ∷ []) = Some (a, b)
+two_words (a ∷ b ∷ c ∷ rest) = None
