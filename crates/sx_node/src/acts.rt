@@ -31,7 +31,8 @@ impl<B: Bus, T: Tag> Node<B, T> {
     /// boot count by one. The sensors keep their values.
     pub fn reset(&mut self)
         requires { self.old.boot < 4294967295 }
-        ensures { self.new ≡ reset self.old }
+        ensures state { self.new ≡ reset self.old }
+        ensures guarded { (s : Section) → Guarded (Unit {0}) (λ a. record { state = reset a; shown = tt }) s self.old }
     {
         self.core.bus.wipe();
         self.core.regs = [0; 16];
