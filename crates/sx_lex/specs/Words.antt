@@ -1,0 +1,124 @@
+-- What whole words are tokens.
+use Rattle.std.specs.Prelude.{◌≡◌, ℕ, zero, suc, ◌+◌, ◌-◌, ◌*◌, ◌<◌, ◌≤◌, Bool, false, ◌&&◌, ◌||◌, List, [], ◌∷◌, length, take, drop, Option, Some, None, nat_eq, nat_le, if◌then◌else◌, codes, ◌==◌}
+use Rattle.std.specs.Cmp.Lexicographic.{pointwise}
+use Rattle.std.specs.List.{list_all}
+use Rattle.sx_lex.specs.declared.tokens.Kind.{Kind}
+use Rattle.sx_lex.specs.declared.tokens.Kind.TheVariants.{Number, Name, Sensor, Actuator, Input, Output, Var, Array, On, Sample, Let, If, Else, Repeat, Send, Emit, Semicolon, Equals, Open, Close, OpenSquare, CloseSquare, OpenBrace, CloseBrace, EqualsEquals, NotEquals, Less, LessEquals, Greater, GreaterEquals, Plus, Minus, Bar, Caret, Star, Ampersand, Tilde, Bang}
+
+-- the language's own words
+abbrev pub keywords : List (List ℕ × Kind)
+keywords =
+    (codes "sensor", Sensor) ∷ (codes "actuator", Actuator) ∷ (codes "input", Input) ∷ (codes "output", Output) ∷ (codes "var", Var) ∷ (codes "array", Array)
+    ∷ (codes "on", On) ∷ (codes "sample", Sample) ∷ (codes "let", Let) ∷ (codes "if", If) ∷ (codes "else", Else) ∷ (codes "repeat", Repeat) ∷ (codes "send", Send) ∷ (codes "emit", Emit) ∷ []
+
+-- its signs
+abbrev pub signs : List (List ℕ × Kind)
+signs =
+    (codes ";", Semicolon) ∷ (codes "=", Equals) ∷ (codes "(", Open) ∷ (codes ")", Close) ∷ (codes "[", OpenSquare) ∷ (codes "]", CloseSquare) ∷ (codes "{", OpenBrace) ∷ (codes "}", CloseBrace)
+    ∷ (codes "==", EqualsEquals) ∷ (codes "!=", NotEquals) ∷ (codes "<", Less) ∷ (codes "<=", LessEquals) ∷ (codes ">", Greater) ∷ (codes ">=", GreaterEquals)
+    ∷ (codes "+", Plus) ∷ (codes "-", Minus) ∷ (codes "|", Bar) ∷ (codes "^", Caret) ∷ (codes "*", Star) ∷ (codes "&", Ampersand) ∷ (codes "~", Tilde) ∷ (codes "!", Bang) ∷ []
+
+abbrev pub found_in : List (List ℕ × Kind) → List ℕ → Option Kind
+found_in [] w = None
+found_in (q ∷ qs) w = if pointwise nat_eq w q.0 then Some q.1 else found_in qs w
+
+abbrev pub is_lower : ℕ → Bool
+is_lower b = nat_le 97 b && nat_le b 122
+
+abbrev pub is_decimal_digit : ℕ → Bool
+is_decimal_digit b = nat_le 48 b && nat_le b 57
+
+abbrev pub is_name_byte : ℕ → Bool
+is_name_byte b = is_lower b || is_decimal_digit b || b == 95
+
+-- what a byte counts as a digit; 16 where it is none in any base up to 16
+abbrev pub digit_value : ℕ → ℕ
+digit_value b =
+    if is_decimal_digit b then b - 48 else
+    (if nat_le 97 b && nat_le b 102 then b - 87 else
+    (if nat_le 65 b && nat_le b 70 then b - 55 else 16))
+
+abbrev pub is_digit : ℕ → ℕ → Bool
+is_digit base b = nat_le (suc (digit_value b)) base
+
+-- the number that digits stand for behind a number
+abbrev pub value : ℕ → ℕ → List ℕ → ℕ
+value base v [] = v
+value base v (b ∷ bs) = value base (v * base + digit_value b) bs
+
+-- one digit or more, of a value that a word holds
+abbrev pub is_number : ℕ → List ℕ → Bool
+is_number base [] = false
+is_number base (b ∷ bs) = list_all (is_digit base) (b ∷ bs) && nat_le (value base 0 (b ∷ bs)) 65535
+
+-- `0x` before a number in base 16
+abbrev pub is_hexadecimal : List ℕ → Bool
+is_hexadecimal (a ∷ b ∷ bs) = (a == 48 && b == 120) && is_number 16 bs
+is_hexadecimal _ = false
+
+-- a lower-case letter and up to 15 lower-case letters, digits or `_`
+abbrev pub is_name : List ℕ → Bool
+is_name [] = false
+is_name (b ∷ bs) = is_lower b && (list_all is_name_byte bs && nat_le (length bs) 15)
+
+abbrev pub or_else : Option Kind → Kind → Kind
+or_else None k = k
+or_else (Some j) k = j
+
+-- the token that a whole word is
+abbrev pub kind_of : List ℕ → Option Kind
+kind_of w =
+    if is_name w then Some (or_else (found_in keywords w) (Name w)) else
+    (if is_number 10 w then Some (Number (value 10 0 w)) else
+    (if is_hexadecimal w then Some (Number (value 16 0 (drop 2 w))) else
+    found_in signs w))
+
+-- the first n bytes are a token, and no longer front is one
+pub record IsLongest (text : List ℕ) (n : ℕ) (k : Kind) : Type 0 where
+  pub here : kind_of (take n text) ≡ Some k
+  pub inside : n ≤ length text
+  pub longest : (m : ℕ) → n < m → m ≤ length text → kind_of (take m text) ≡ None
+
+-- no front is a token
+pub record NoToken (text : List ℕ) : Type 0 where
+  pub none : (m : ℕ) → m ≤ length text → kind_of (take m text) ≡ None
+
+-- the first byte is of this sort
+abbrev pub first_is : (ℕ → Bool) → List ℕ → Bool
+first_is sort [] = false
+first_is sort (b ∷ bs) = sort b
+
+-- no front is a number in base 16
+pub record NoHexadecimal (text : List ℕ) : Type 0 where
+  pub none : (m : ℕ) → m ≤ length text → is_hexadecimal (take m text) ≡ false
+
+-- no sign of two bytes stands at the front
+pub record NoPair (text : List ℕ) : Type 0 where
+  pub none : 2 ≤ length text → found_in signs (take 2 text) ≡ None
+
+-- how many bytes at the front are name bytes, at most so many
+abbrev pub name_front : ℕ → List ℕ → ℕ
+name_front zero bs = 0
+name_front (suc k) [] = 0
+name_front (suc k) (b ∷ bs) = if is_name_byte b then suc (name_front k bs) else 0
+
+-- how many digits at the front can go on a number
+abbrev pub number_front : ℕ → ℕ → List ℕ → ℕ
+number_front base v [] = 0
+number_front base v (b ∷ bs) = if is_digit base b && nat_le (v * base + digit_value b) 65535 then suc (number_front base (v * base + digit_value b) bs) else 0
+
+-- so many digits were read, of this value, and the rest is still to be read
+pub record Counted (text : List ℕ) (base count v : ℕ) (rest : List ℕ) : Type 0 where
+  pub fronts : number_front base 0 text ≡ count + number_front base v rest
+  pub values : value base 0 (take (number_front base 0 text) text) ≡ value base v (take (number_front base v rest) rest)
+  pub inside : count + length rest ≡ length text
+
+-- how many bytes stand before the first newline
+abbrev pub line_length : List ℕ → ℕ
+line_length [] = 0
+line_length (b ∷ bs) = if b == 10 then 0 else suc (line_length bs)
+
+-- so many bytes of a line were passed, and the rest is still to be read
+pub record Passed (text : List ℕ) (count : ℕ) (rest : List ℕ) : Type 0 where
+  pub passed : line_length text ≡ count + line_length rest
+  pub inside : count + length rest ≡ length text

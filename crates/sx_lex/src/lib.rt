@@ -1,0 +1,14 @@
+//! The tokens of a module's text: each the longest possible, with the place of its first byte.
+//!
+//! `reading::tokens_of` reads a whole text. Its clause is the relation `Lexed` of `specs/Lexed.antt`,
+//! which stands on `kind_of`, the token that a whole word is, in `specs/Words.antt`. That a text has
+//! no two readings is promised by `laws::one_reading`.
+#![tactic(auto)]
+
+pub mod laws;
+mod quoted;
+pub mod reading;
+mod scan;
+#[cfg(test)]
+mod tests;
+pub mod tokens;
