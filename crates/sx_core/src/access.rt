@@ -6,8 +6,7 @@ ghost use Rattle.sx_bus.specs.Devices.{all_stale};
 ghost use Rattle.sx_machine.specs.declared.kinds.Touch.{Touch};
 ghost use Rattle.sx_machine.specs.Memory.{even, word, read_at, write_at};
 ghost use Rattle.sx_machine.specs.Run.{Moment, Outcome, after_read, after_write, may_at, noted, device_of, load, store, fetch, sampled};
-ghost use Rattle.sx_machine.specs.Answers.{moment};
-ghost use Rattle.sx_core.specs.Follow.{followed};
+ghost use Rattle.sx_machine.specs.Answers.{moment, followed};
 
 use sx_bus::{Bus, Kind, Window, Windows};
 use sx_machine::Touch;

@@ -6,8 +6,7 @@ ghost use Rattle.sx_bus.specs.Devices.{all_stale};
 ghost use Rattle.sx_machine.specs.Plan.{Plan};
 ghost use Rattle.sx_machine.specs.Run.{exec};
 ghost use Rattle.sx_machine.specs.Rows.{from_source};
-ghost use Rattle.sx_machine.specs.Answers.{moment};
-ghost use Rattle.sx_core.specs.Follow.{followed};
+ghost use Rattle.sx_machine.specs.Answers.{moment, followed};
 
 use crate::Core;
 use crate::access::Rights;

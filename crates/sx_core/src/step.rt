@@ -9,8 +9,7 @@ ghost use Rattle.sx_machine.specs.Registers.{onward};
 ghost use Rattle.sx_machine.specs.Run.{exec, untouched};
 ghost use Rattle.sx_machine.specs.Rows.{row, with_words, program};
 ghost use Rattle.sx_machine.specs.Acts.{interrupt};
-ghost use Rattle.sx_machine.specs.Answers.{moment, Ends, Touches};
-ghost use Rattle.sx_core.specs.Follow.{followed};
+ghost use Rattle.sx_machine.specs.Answers.{moment, Ends, Touches, followed};
 
 use crate::Core;
 use crate::access::{Rights, word};

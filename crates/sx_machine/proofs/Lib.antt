@@ -1,5 +1,7 @@
 pub mod PlanGuard
 pub mod ProtectGuard
+pub mod UnprotectGuard
+pub mod ModuleGuard
 pub mod StepGuard
 pub mod ActGuard
 pub mod Sections

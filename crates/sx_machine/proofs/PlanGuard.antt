@@ -15,7 +15,7 @@ use Rattle.sx_bus.specs.declared.devices.Window.{Window}
 use Rattle.sx_bus.specs.Devices.{cleared}
 use Rattle.sx_machine.specs.declared.kinds.Touch.TheVariants.{DeviceRead}
 use Rattle.sx_machine.specs.Memory.{even, word, read_at, write_at, bytes_from, put_bytes}
-use Rattle.sx_machine.specs.Plan.{Plan, Done, Tell, Stop, Fetch, Load, Store, Need, Bytes, Put}
+use Rattle.sx_machine.specs.Plan.{Plan, Done, Tell, Stop, Fetch, Load, Store, Need, Writable, Bytes, Put}
 use Rattle.sx_machine.specs.Run.{Moment, noted, Outcome, Finished, Violated, Module, may_at, may_range, may_each, sampled, device_of, read_device, read_place, load, write_device, write_place, store, fetch_place, fetch, after_read, after_write, after_fetch, exec}
 use Rattle.sx_machine.specs.Guard.{Alike, Kept}
 
@@ -277,6 +277,7 @@ exec_alike t own s l ne (Store wide at v k) x n h =
     after_write_alike s (store t.live own wide at v x) (store t.live own wide at v (with_mem x n)) (λ y. exec t own k y) (store_alike t.live own s wide at v x n h)
     (exec_alike t own s l ne k)
 exec_alike t own s l ne (Need b v k) x n h = same_if s b (exec t own k x) (exec t own k (with_mem x n)) v (λ _. exec_alike t own s l ne k x n h)
+exec_alike t own s l ne (Writable at len k) x n h = same_if s (may_range t.live own Write at len) (exec t own k x) (exec t own k (with_mem x n)) bad.Write (λ _. exec_alike t own s l ne k x n h)
 exec_alike t own s l ne (Bytes at len k) x n h =
     same_if s (may_range t.live own Read at len) (exec t own (k (bytes_from x.mem at len)) x) (exec t own (k (bytes_from n at len)) (with_mem x n)) bad.Read (λ e.
     subst (λ (bs : List ℕ). SameOutcome s (exec t own (k (bytes_from x.mem at len)) x) (exec t own (k bs) (with_mem x n)))
@@ -363,6 +364,7 @@ exec_kept t own s l ne (Load wide at k) m x h =
 exec_kept t own s l ne (Store wide at v k) m x h =
     after_write_kept s m (store t.live own wide at v x) (λ y. exec t own k y) (store_kept s m t.live own l ne wide at v x h) (λ y g. exec_kept t own s l ne k m y g)
 exec_kept t own s l ne (Need b v k) m x h = kept_if s m b (exec t own k x) v (λ _. exec_kept t own s l ne k m x h)
+exec_kept t own s l ne (Writable at len k) m x h = kept_if s m (may_range t.live own Write at len) (exec t own k x) bad.Write (λ _. exec_kept t own s l ne k m x h)
 exec_kept t own s l ne (Bytes at len k) m x h =
     kept_if s m (may_range t.live own Read at len) (exec t own (k (bytes_from x.mem at len)) x) bad.Read (λ _. exec_kept t own s l ne (k (bytes_from x.mem at len)) m x h)
 exec_kept t own s l ne (Put at bs k) m x h =

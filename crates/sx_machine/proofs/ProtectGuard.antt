@@ -9,10 +9,10 @@ use Rattle.sx_rules.specs.declared.admission.Refusal.TheVariants.{Bounds, Overla
 use Rattle.sx_rules.specs.Access.{Sections, in_private, Lives}
 use Rattle.sx_rules.specs.Admission.{apart, good_bounds, parts_apart, clear_of, no_overlap, no_device, is_full, ids_used, refusal, admitted}
 use Rattle.sx_tag.specs.Mac.{Mac}
-use Rattle.sx_tag.specs.Keys.{module_key, identity}
+use Rattle.sx_tag.specs.Keys.{section_key, identity}
 use Rattle.sx_bus.specs.Devices.{places_of}
 use Rattle.sx_machine.specs.Memory.{zeroed}
-use Rattle.sx_machine.specs.State.{State}
+use Rattle.sx_machine.specs.Given.{Given}
 use Rattle.sx_machine.specs.Protect.{identity_at, layout_in, provider_in, protected_if, protect}
 use Rattle.sx_machine.specs.Guard.{Alike, Kept}
 use Rattle.sx_machine.proofs.PlanGuard.{passes, set_alike, set_kept, bytes_alike, SameOutcome, KeptBy}
@@ -37,7 +37,7 @@ clear_here t l places s v h =
     let p3 = and_parts (apart l.priv_from l.priv_to s.layout.pub_from s.layout.pub_to) _ p2.1 in
     (p2.0, p3.1)
 
-outside : (s : Section) (from to k : ℕ) → apart from to s.layout.priv_from s.layout.priv_to ≡ true → from ≤ k → k < from + (to - from) → in_private s k ≡ false
+pub outside : (s : Section) (from to k : ℕ) → apart from to s.layout.priv_from s.layout.priv_to ≡ true → from ≤ k → k < from + (to - from) → in_private s k ≡ false
 outside s from to k h a b =
     elim (or_cases (leb to s.layout.priv_from) (leb s.layout.priv_to from) h) [
       | inl e ↦ let le = leb-true to s.layout.priv_from e in
@@ -46,12 +46,12 @@ outside s from to k h a b =
           and_right (leb s.layout.priv_from k) (ltb k s.layout.priv_to) (le-ltb k s.layout.priv_to (omega (arith, le, a)))
     ]
 
-zeroed_alike : (s : Section) (m n : List ℕ) (at len : ℕ) → Alike s m n → Alike s (zeroed m at len) (zeroed n at len)
+pub zeroed_alike : (s : Section) (m n : List ℕ) (at len : ℕ) → Alike s m n → Alike s (zeroed m at len) (zeroed n at len)
 unfolding zeroed
 zeroed_alike s m n at zero h = h
 zeroed_alike s m n at (suc len) h = set_alike s (zeroed m at len) (zeroed n at len) (at + len) 0 (zeroed_alike s m n at len h)
 
-zeroed_kept : (s : Section) (m : List ℕ) (at len : ℕ) → ((k : ℕ) → at ≤ k → k < at + len → in_private s k ≡ false) → Kept s m (zeroed m at len)
+pub zeroed_kept : (s : Section) (m : List ℕ) (at len : ℕ) → ((k : ℕ) → at ≤ k → k < at + len → in_private s k ≡ false) → Kept s m (zeroed m at len)
 unfolding zeroed
 zeroed_kept s m at zero f = λ k p. refl
 zeroed_kept s m at (suc len) f =
@@ -61,34 +61,34 @@ lives_on : (live : List Section) (s new : Section) → Lives live s → Lives (l
 lives_on [] s new l = absurd l
 lives_on (x ∷ xs) s new l = elim l [ inl e ↦ inl e | inr r ↦ inr (lives_on xs s new r) ]
 
-protected_kept : (mac : Mac) (s : Section) (a : State) (l : Layout) (o : Option Refusal) → Lives a.sections.live s
-    → (o ≡ None → refusal a.sections l (places_of a.devices) ≡ None) → KeptBy s a.mem (protected_if mac a l o)
-protected_kept mac s a l None v f =
-    let c = clear_here a.sections l (places_of a.devices) s v (f refl) in
-    (zeroed_kept s a.mem l.priv_from (l.priv_to - l.priv_from) (λ k p q. outside s l.priv_from l.priv_to k c.1 p q), lives_on a.sections.live s _ v)
-protected_kept mac s a l (Some why) v f = (λ k p. refl, v)
+protected_kept : (mac : Mac) (s : Section) (g : Given) (m : List ℕ) (l : Layout) (o : Option Refusal) → Lives g.sections.live s
+    → (o ≡ None → refusal g.sections l (places_of g.devices) ≡ None) → KeptBy s m (protected_if mac g m l o)
+protected_kept mac s g m l None v f =
+    let c = clear_here g.sections l (places_of g.devices) s v (f refl) in
+    (zeroed_kept s m l.priv_from (l.priv_to - l.priv_from) (λ k p q. outside s l.priv_from l.priv_to k c.1 p q), lives_on g.sections.live s _ v)
+protected_kept mac s g m l (Some why) v f = (λ k p. refl, v)
 
-pub protect_kept : (mac : Mac) (s : Section) (a : State) → Lives a.sections.live s → KeptBy s a.mem (protect mac a)
+pub protect_kept : (mac : Mac) (s : Section) (g : Given) (m : List ℕ) → Lives g.sections.live s → KeptBy s m (protect mac g m)
 unfolding protect
-protect_kept mac s a v =
-    protected_kept mac s a (layout_in a.regs) (refusal a.sections (layout_in a.regs) (places_of a.devices)) v (λ e. e)
+protect_kept mac s g m v =
+    protected_kept mac s g m (layout_in g.regs) (refusal g.sections (layout_in g.regs) (places_of g.devices)) v (λ e. e)
 
-protected_alike : (mac : Mac) (s : Section) (a : State) (n : List ℕ) (l : Layout) (o : Option Refusal) → Lives a.sections.live s → Alike s a.mem n
-    → (o ≡ None → refusal a.sections l (places_of a.devices) ≡ None) → SameOutcome s (protected_if mac a l o) (protected_if mac (record a { mem = n }) l o)
-protected_alike mac s a n l None v h f =
-    let c = clear_here a.sections l (places_of a.devices) s v (f refl) in
-    let i : identity_at a.mem l ≡ identity_at n l =
-    ap (λ (bs : List ℕ). identity bs l.pub_from l.pub_to l.priv_from l.priv_to) (bytes_alike s a.mem n l.pub_from (l.pub_to - l.pub_from) h (λ k p q. outside s l.pub_from l.pub_to k c.0 p q)) in (
+protected_alike : (mac : Mac) (s : Section) (g : Given) (m n : List ℕ) (l : Layout) (o : Option Refusal) → Lives g.sections.live s → Alike s m n
+    → (o ≡ None → refusal g.sections l (places_of g.devices) ≡ None) → SameOutcome s (protected_if mac g m l o) (protected_if mac g n l o)
+protected_alike mac s g m n l None v h f =
+    let c = clear_here g.sections l (places_of g.devices) s v (f refl) in
+    let i : identity_at m l ≡ identity_at n l =
+    ap (λ (bs : List ℕ). identity bs l.pub_from l.pub_to l.priv_from l.priv_to) (bytes_alike s m n l.pub_from (l.pub_to - l.pub_from) h (λ k p q. outside s l.pub_from l.pub_to k c.0 p q)) in (
       refl,
-      record { rest = refl; mem = zeroed_alike s a.mem n l.priv_from (l.priv_to - l.priv_from) h },
-      ap (λ (bs : List ℕ). admitted a.sections l (provider_in a.regs) (module_key mac a.key a.boot (provider_in a.regs) bs)) i,
+      record { rest = refl; mem = zeroed_alike s m n l.priv_from (l.priv_to - l.priv_from) h },
+      ap (λ (bs : List ℕ). admitted g.sections l (provider_in g.regs) (section_key mac g.base (provider_in g.regs) bs)) i,
       refl,
       refl,
     )
-protected_alike mac s a n l (Some why) v h f = (refl, record { rest = refl; mem = h }, refl, refl, refl)
+protected_alike mac s g m n l (Some why) v h f = (refl, record { rest = refl; mem = h }, refl, refl, refl)
 
-pub protect_alike : (mac : Mac) (s : Section) (a : State) (n : List ℕ) → Lives a.sections.live s → Alike s a.mem n
-    → SameOutcome s (protect mac a) (protect mac (record a { mem = n }))
+pub protect_alike : (mac : Mac) (s : Section) (g : Given) (m n : List ℕ) → Lives g.sections.live s → Alike s m n
+    → SameOutcome s (protect mac g m) (protect mac g n)
 unfolding protect
-protect_alike mac s a n v h =
-    protected_alike mac s a n (layout_in a.regs) (refusal a.sections (layout_in a.regs) (places_of a.devices)) v h (λ e. e)
+protect_alike mac s g m n v h =
+    protected_alike mac s g m n (layout_in g.regs) (refusal g.sections (layout_in g.regs) (places_of g.devices)) v h (λ e. e)

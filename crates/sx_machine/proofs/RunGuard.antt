@@ -28,7 +28,7 @@ viewed view f s a g = record {
 }
 
 pub act_guarded : (mac : Mac) (s : Section) (act : Act) (a : State) → Placed a.sections → Lives a.sections.live s → FromOutside s act a → Guarded Sight (acted mac act) s a
-act_guarded mac s Step a p l f = viewed Stepped (step mac) s a (step_guarded mac s a l f)
+act_guarded mac s Step a p l f = viewed Stepped (step mac) s a (step_guarded mac s a p l f)
 act_guarded mac s Restart a p l f = viewed (λ (u : Unit {0}). Restarted) (λ x. record { state = reset x; shown = tt }) s a (reset_guarded s a)
 act_guarded mac s (Put at bytes) a p l f = viewed Answered (λ x. put x at bytes) s a (put_guarded s a at bytes l)
 act_guarded mac s (Set r v) a p l f = viewed Answered (λ x. set x r v) s a (set_guarded s a r v l)

@@ -1,24 +1,28 @@
 -- Whatever happens to a node, its sections stay placed.
-use Rattle.std.proofs.Common.{◌≡◌, ℕ, Bool, true, false, cond, ◌==◌, List, [], ◌∷◌, refl, Option, Some, None, Result, Ok, Err}
+use Rattle.std.proofs.Common.{◌≡◌, ℕ, ◌-◌, Bool, true, false, cond, ◌==◌, List, [], ◌∷◌, refl, Option, Some, None, Result, Ok, Err}
 use Rattle.sx_rules.specs.declared.access.Violation.{Violation}
 use Rattle.sx_rules.specs.declared.access.Violation.TheVariants as bad
 use Rattle.sx_rules.specs.declared.access.Access.TheVariants.{Read, Write}
 use Rattle.sx_rules.specs.declared.section.Layout.{Layout}
+use Rattle.sx_rules.specs.declared.section.Section.{Section}
 use Rattle.sx_rules.specs.declared.admission.Refusal.{Refusal}
 use Rattle.sx_rules.specs.Access.{Sections, in_order}
 use Rattle.sx_rules.specs.Admission.{refusal}
 use Rattle.sx_rules.specs.Placed.{Placed}
-use Rattle.sx_rules.proofs.Placing.{starts_placed, admit_keeps_placed}
+use Rattle.sx_rules.proofs.Placing.{starts_placed, admit_keeps_placed, remove_keeps_placed}
 use Rattle.sx_bus.specs.Devices.{places_of, device_at}
 use Rattle.sx_tag.specs.Mac.{Mac}
 use Rattle.sx_machine.specs.declared.kinds.Refused.{Refused}
 use Rattle.sx_machine.specs.Memory.{word, bytes_from, put_bytes}
 use Rattle.sx_machine.specs.State.{State}
-use Rattle.sx_machine.specs.Plan.{Plan, Done, Tell, Stop, Fetch, Load, Store, Need, Bytes, Put}
+use Rattle.sx_machine.specs.Plan.{Plan, Done, Tell, Stop, Fetch, Load, Store, Need, Writable, Bytes, Put}
 use Rattle.sx_machine.specs.Run.{Moment, Outcome, Finished, Violated, Module, may_range, may_each, load, store, fetch, after_read, after_write, after_fetch, exec}
 use Rattle.sx_machine.specs.Rows.{program}
-use Rattle.sx_machine.specs.Protect.{layout_in, provider_in, key_for, protected_if, protect}
-use Rattle.sx_machine.specs.Step.{Shows, pc_of, own_of, start, is_module_word, module_instruction, instruction, ordered, word_outside, attempt, settled, step}
+use Rattle.sx_machine.specs.Given.{Given, own_section, untouched_with}
+use Rattle.sx_machine.specs.Protect.{layout_in, provider_in, key_for, protected_if, protect, removed_if, unprotect}
+use Rattle.sx_machine.specs.ModuleRows.{module_row}
+use Rattle.sx_machine.specs.Modules.{module_instruction}
+use Rattle.sx_machine.specs.Step.{Shows, pc_of, own_of, start, is_module_word, given, instruction, ordered, word_outside, attempt, settled, step}
 use Rattle.sx_machine.specs.Acts.{unless, put_refusal, take_refusal, busy, irq_refusal, interrupt, interrupted}
 use Rattle.sx_machine.specs.Guard.{Act, Step, Restart, Put as PutAct, Set, Take, Sense, Interrupt, acted, acted_all}
 
@@ -51,31 +55,43 @@ exec_placed t own h (Fetch at k) x = after_fetch_placed (fetch t.live own at x) 
 exec_placed t own h (Load wide at k) x = after_read_placed (load t.live own wide at x) (λ v y. exec t own (k v) y) (λ v y. exec_placed t own h (k v) y)
 exec_placed t own h (Store wide at v k) x = after_write_placed (store t.live own wide at v x) (λ y. exec t own k y) (λ y. exec_placed t own h k y)
 exec_placed t own h (Need b v k) x = placed_if b (exec t own k x) v (exec_placed t own h k x)
+exec_placed t own h (Writable at n k) x = placed_if (may_range t.live own Write at n) (exec t own k x) bad.Write (exec_placed t own h k x)
 exec_placed t own h (Bytes at n k) x = placed_if (may_range t.live own Read at n) (exec t own (k (bytes_from x.mem at n)) x) bad.Read (exec_placed t own h (k (bytes_from x.mem at n)) x)
 exec_placed t own h (Put at bs k) x =
     placed_if (may_each t.live own Write at bs) (exec t own k (record x { mem = put_bytes x.mem at bs })) bad.Write (exec_placed t own h k (record x { mem = put_bytes x.mem at bs }))
 
-protected_placed : (mac : Mac) (a : State) (l : Layout) (o : Option Refusal) → Placed a.sections → (o ≡ None → refusal a.sections l (places_of a.devices) ≡ None)
-    → PlacedBy (protected_if mac a l o)
-protected_placed mac a l None h f = admit_keeps_placed a.sections l (provider_in a.regs) (key_for mac a l) (places_of a.devices) h (f refl)
-protected_placed mac a l (Some why) h f = h
+protected_placed : (mac : Mac) (g : Given) (m : List ℕ) (l : Layout) (o : Option Refusal) → Placed g.sections → (o ≡ None → refusal g.sections l (places_of g.devices) ≡ None)
+    → PlacedBy (protected_if mac g m l o)
+protected_placed mac g m l None h f = admit_keeps_placed g.sections l (provider_in g.regs) (key_for mac g m l) (places_of g.devices) h (f refl)
+protected_placed mac g m l (Some why) h f = h
 
-protect_placed : (mac : Mac) (a : State) → Placed a.sections → PlacedBy (protect mac a)
+protect_placed : (mac : Mac) (g : Given) (m : List ℕ) → Placed g.sections → PlacedBy (protect mac g m)
 unfolding protect
-protect_placed mac a h = protected_placed mac a (layout_in a.regs) (refusal a.sections (layout_in a.regs) (places_of a.devices)) h (λ e. e)
+protect_placed mac g m h = protected_placed mac g m (layout_in g.regs) (refusal g.sections (layout_in g.regs) (places_of g.devices)) h (λ e. e)
 
-module_placed : (mac : Mac) (a : State) (w : ℕ) → Placed a.sections → PlacedBy (module_instruction mac w a)
-module_placed mac a w h = placed_if (w == 0x1381) (protect mac a) bad.Unbuilt (protect_placed mac a h)
+removed_placed : (g : Given) (m : List ℕ) (o : Option Section) → Placed g.sections → PlacedBy (removed_if g m o)
+removed_placed g m None h = h
+removed_placed g m (Some own) h = remove_keeps_placed g.sections g.own h
+
+unprotect_placed : (g : Given) (m : List ℕ) → Placed g.sections → PlacedBy (unprotect g m)
+unfolding unprotect
+unprotect_placed g m h = removed_placed g m (own_section g) h
 
 either_placed : (b : Bool) (o p : Outcome) → PlacedBy o → PlacedBy p → PlacedBy (cond b o p)
 either_placed true o p h g = h
 either_placed false o p h g = g
 
+module_placed : (mac : Mac) (code : ℕ) (g : Given) (m : List ℕ) → Placed g.sections → PlacedBy (module_instruction mac code g m)
+module_placed mac code g m h =
+    either_placed (code == 0) (unprotect g m) (cond (code == 1) (protect mac g m) (exec g.sections g.own (module_row mac code g) (untouched_with g m))) (unprotect_placed g m h)
+    (either_placed (code == 1) (protect mac g m) (exec g.sections g.own (module_row mac code g) (untouched_with g m)) (protect_placed mac g m h)
+    (exec_placed g.sections g.own h (module_row mac code g) (untouched_with g m)))
+
 instruction_placed : (mac : Mac) (a : State) → Placed a.sections → PlacedBy (instruction mac a)
 instruction_placed mac a h =
     let w = word a.mem (pc_of a) in
-    either_placed (is_module_word w) (module_instruction mac w a) (exec a.sections (own_of a) (program w a.regs) (start a))
-    (module_placed mac a w h) (exec_placed a.sections (own_of a) h (program w a.regs) (start a))
+    either_placed (is_module_word w) (module_instruction mac (w - 0x1380) (given mac a) a.mem) (exec a.sections (own_of a) (program w a.regs) (start a))
+    (module_placed mac (w - 0x1380) (given mac a) a.mem h) (exec_placed a.sections (own_of a) h (program w a.regs) (start a))
 
 ordered_placed : (mac : Mac) (a : State) (d : Option ℕ) → Placed a.sections → PlacedBy (ordered mac a d)
 ordered_placed mac a (Some d) h = tt

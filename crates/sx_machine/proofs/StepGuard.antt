@@ -1,9 +1,10 @@
 -- A step of other code than s's is guarded.
-use Rattle.std.proofs.Common.{◌≡◌, ℕ, ◌+◌, true, false, cond, not, ◌==◌, inl, inr, List, refl, sym, ap, subst, Option, Some, None}
+use Rattle.std.proofs.Common.{◌≡◌, ℕ, ◌+◌, ◌-◌, true, false, cond, not, inl, inr, List, refl, sym, ap, subst, Option, Some, None}
 use Rattle.std.proofs.lemmas.Bool.{and_parts, not-true}
 use Rattle.sx_rules.specs.declared.access.Violation.TheVariants as bad
 use Rattle.sx_rules.specs.declared.section.Section.{Section}
 use Rattle.sx_rules.specs.Access.{Sections, in_private, outside_private, in_order, Lives}
+use Rattle.sx_rules.specs.Placed.{Placed}
 use Rattle.sx_bus.specs.Devices.{device_at}
 use Rattle.sx_tag.specs.Mac.{Mac}
 use Rattle.sx_machine.specs.declared.kinds.Event.{Event}
@@ -14,11 +15,11 @@ use Rattle.sx_machine.specs.Memory.{even, word}
 use Rattle.sx_machine.specs.State.{State}
 use Rattle.sx_machine.specs.Run.{Moment, untouched, Outcome, Finished, Violated, Module, exec}
 use Rattle.sx_machine.specs.Rows.{program}
-use Rattle.sx_machine.specs.Protect.{protect}
-use Rattle.sx_machine.specs.Step.{Shows, pc_of, own_of, start, is_module_word, module_instruction, instruction, word_outside, ordered, attempt, settled, step}
+use Rattle.sx_machine.specs.Modules.{module_instruction}
+use Rattle.sx_machine.specs.Step.{Shows, pc_of, own_of, start, is_module_word, given, instruction, word_outside, ordered, attempt, settled, step}
 use Rattle.sx_machine.specs.Guard.{Alike, Twins, Untouched, Guarded, Foreign}
 use Rattle.sx_machine.proofs.PlanGuard.{passes, word_alike, Moments, SameOutcome, KeptBy, same_if, kept_if, exec_alike, exec_kept}
-use Rattle.sx_machine.proofs.ProtectGuard.{protect_kept, protect_alike}
+use Rattle.sx_machine.proofs.ModuleGuard.{module_kept, module_alike}
 
 -- the same node with other memory
 abbrev pub with_mem : State → List ℕ → State
@@ -36,34 +37,24 @@ not_private s live at l h = not-true (in_private s at) (passes (λ x. not (in_pr
 
 -- the instruction whose first word is w
 abbrev at_word : Mac → ℕ → State → Outcome
-at_word mac w a = cond (is_module_word w) (module_instruction mac w a) (exec a.sections (own_of a) (program w a.regs) (start a))
+at_word mac w a = cond (is_module_word w) (module_instruction mac (w - 0x1380) (given mac a) a.mem) (exec a.sections (own_of a) (program w a.regs) (start a))
 
-module_kept : (mac : Mac) (s : Section) (a : State) (w : ℕ) → Lives a.sections.live s → KeptBy s a.mem (module_instruction mac w a)
-module_kept mac s a w l =
-    elim (w == 0x1381) as (λ b. KeptBy s a.mem (cond b (protect mac a) (Violated bad.Unbuilt))) [ true ↦ protect_kept mac s a l | false ↦ tt ]
-
-module_alike : (mac : Mac) (s : Section) (a : State) (n : List ℕ) (w : ℕ) → Lives a.sections.live s → Alike s a.mem n
-    → SameOutcome s (module_instruction mac w a) (module_instruction mac w (with_mem a n))
-module_alike mac s a n w l h =
-    elim (w == 0x1381) as (λ b. SameOutcome s (cond b (protect mac a) (Violated bad.Unbuilt)) (cond b (protect mac (with_mem a n)) (Violated bad.Unbuilt)))
-    [ true ↦ protect_alike mac s a n l h | false ↦ refl ]
-
-at_word_kept : (mac : Mac) (s : Section) (a : State) (w : ℕ) → Lives a.sections.live s → Foreign s a → KeptBy s a.mem (at_word mac w a)
-at_word_kept mac s a w l ne =
-    elim (is_module_word w) as (λ b. KeptBy s a.mem (cond b (module_instruction mac w a) (exec a.sections (own_of a) (program w a.regs) (start a))))
-    [ true ↦ module_kept mac s a w l | false ↦ exec_kept a.sections (own_of a) s l ne (program w a.regs) a.mem (start a) (λ k p. refl) ]
+at_word_kept : (mac : Mac) (s : Section) (a : State) (w : ℕ) → Placed a.sections → Lives a.sections.live s → Foreign s a → KeptBy s a.mem (at_word mac w a)
+at_word_kept mac s a w p l ne =
+    elim (is_module_word w) as (λ b. KeptBy s a.mem (cond b (module_instruction mac (w - 0x1380) (given mac a) a.mem) (exec a.sections (own_of a) (program w a.regs) (start a))))
+    [ true ↦ module_kept mac s (given mac a) a.mem (w - 0x1380) p l ne | false ↦ exec_kept a.sections (own_of a) s l ne (program w a.regs) a.mem (start a) (λ k p. refl) ]
 
 at_word_alike : (mac : Mac) (s : Section) (a : State) (n : List ℕ) (w : ℕ) → Lives a.sections.live s → Foreign s a → Alike s a.mem n
     → SameOutcome s (at_word mac w a) (at_word mac w (with_mem a n))
 at_word_alike mac s a n w l ne h =
-    elim (is_module_word w) as (λ b. SameOutcome s (cond b (module_instruction mac w a) (exec a.sections (own_of a) (program w a.regs) (start a)))
-    (cond b (module_instruction mac w (with_mem a n)) (exec a.sections (own_of a) (program w a.regs) (start (with_mem a n)))))
-    [ true ↦ module_alike mac s a n w l h | false ↦ exec_alike a.sections (own_of a) s l ne (program w a.regs) (start a) n h ]
+    elim (is_module_word w) as (λ b. SameOutcome s (cond b (module_instruction mac (w - 0x1380) (given mac a) a.mem) (exec a.sections (own_of a) (program w a.regs) (start a)))
+    (cond b (module_instruction mac (w - 0x1380) (given mac a) n) (exec a.sections (own_of a) (program w a.regs) (start (with_mem a n)))))
+    [ true ↦ module_alike mac s (given mac a) a.mem n (w - 0x1380) l ne h | false ↦ exec_alike a.sections (own_of a) s l ne (program w a.regs) (start a) n h ]
 
-ordered_kept : (mac : Mac) (s : Section) (a : State) (d : Option ℕ) → Lives a.sections.live s → Foreign s a → KeptBy s a.mem (ordered mac a d)
-ordered_kept mac s a (Some d) l ne = tt
-ordered_kept mac s a None l ne =
-    kept_if s a.mem (in_order a.sections.live a.cur (pc_of a)) (instruction mac a) bad.Order (λ _. at_word_kept mac s a (word a.mem (pc_of a)) l ne)
+ordered_kept : (mac : Mac) (s : Section) (a : State) (d : Option ℕ) → Placed a.sections → Lives a.sections.live s → Foreign s a → KeptBy s a.mem (ordered mac a d)
+ordered_kept mac s a (Some d) p l ne = tt
+ordered_kept mac s a None p l ne =
+    kept_if s a.mem (in_order a.sections.live a.cur (pc_of a)) (instruction mac a) bad.Order (λ _. at_word_kept mac s a (word a.mem (pc_of a)) p l ne)
 
 ordered_alike : (mac : Mac) (s : Section) (a : State) (n : List ℕ) (d : Option ℕ) → Lives a.sections.live s → Foreign s a → Alike s a.mem n
     → (word a.mem (pc_of a) ≡ word n (pc_of a)) → SameOutcome s (ordered mac a d) (ordered mac (with_mem a n) d)
@@ -73,10 +64,10 @@ ordered_alike mac s a n None l ne h w =
     subst (λ (y : ℕ). SameOutcome s (at_word mac (word a.mem (pc_of a)) a) (at_word mac y (with_mem a n))) w
     (at_word_alike mac s a n (word a.mem (pc_of a)) l ne h))
 
-attempt_kept : (mac : Mac) (s : Section) (a : State) → Lives a.sections.live s → Foreign s a → KeptBy s a.mem (attempt mac a)
-attempt_kept mac s a l ne =
+attempt_kept : (mac : Mac) (s : Section) (a : State) → Placed a.sections → Lives a.sections.live s → Foreign s a → KeptBy s a.mem (attempt mac a)
+attempt_kept mac s a p l ne =
     kept_if s a.mem (word_outside a.sections.live (pc_of a)) (ordered mac a (device_at a.devices (pc_of a))) bad.Fetch
-    (λ _. ordered_kept mac s a (device_at a.devices (pc_of a)) l ne)
+    (λ _. ordered_kept mac s a (device_at a.devices (pc_of a)) p l ne)
 
 attempt_alike : (mac : Mac) (s : Section) (a : State) (n : List ℕ) → Lives a.sections.live s → Foreign s a → Alike s a.mem n
     → SameOutcome s (attempt mac a) (attempt mac (with_mem a n))
@@ -125,9 +116,9 @@ settled_alike s a n (Violated v) (Module q y u f d) h = absurd h
 settled_alike s a n (Module r x t e c) (Finished q y) h = absurd h
 settled_alike s a n (Module r x t e c) (Violated w) h = absurd h
 
-pub step_guarded : (mac : Mac) (s : Section) (a : State) → Lives a.sections.live s → Foreign s a → Guarded Seen (step mac) s a
-step_guarded mac s a l ne = record {
-  kept = settled_kept s a (attempt mac a) l (attempt_kept mac s a l ne);
+pub step_guarded : (mac : Mac) (s : Section) (a : State) → Placed a.sections → Lives a.sections.live s → Foreign s a → Guarded Seen (step mac) s a
+step_guarded mac s a p l ne = record {
+  kept = settled_kept s a (attempt mac a) l (attempt_kept mac s a p l ne);
   blind = λ b t.
       subst (λ (z : State). SameEnd s (step mac a) (step mac z)) (sym t.rest)
       (settled_alike s a b.mem (attempt mac a) (attempt mac (with_mem a b.mem)) (attempt_alike mac s a b.mem l ne t.mem));

@@ -1,36 +1,17 @@
 -- What others than the node's code may do to it: an act is done or refused, and a refused act changes nothing.
 use Rattle.std.specs.Prelude.{ℕ, ◌+◌, ◌*◌, ◌==◌, nat_lt, Bool, true, ◌&&◌, ◌||◌, not, if◌then◌else◌, List, length, slice_index, slice_set, ◌/◌, ◌%◌, Option, Some, None, Result, Ok, Err}
-use Rattle.std.specs.List.{list_any}
-use Rattle.sx_rules.specs.declared.section.Section.{Section}
 use Rattle.sx_bus.specs.Devices.{sensed, places_of}
 use Rattle.sx_machine.specs.declared.kinds.Refused.{Refused}
 use Rattle.sx_machine.specs.declared.kinds.Refused.TheVariants.{Busy, Guarded, Masked}
 use Rattle.sx_machine.specs.declared.kinds.Event.TheVariants.{Quiet, Reset}
 use Rattle.sx_machine.specs.declared.kinds.Seen.{Seen}
 use Rattle.sx_machine.specs.Memory.{bytes_from, put_bytes}
+use Rattle.sx_machine.specs.Ranges.{passes_end, meets_private, meets_public, meets_device}
 use Rattle.sx_machine.specs.State.{State, reset}
 use Rattle.sx_machine.specs.Plan.{Plan, Done, Load, Store}
 use Rattle.sx_machine.specs.Run.{untouched, Outcome, Finished, Violated, Module, exec}
 use Rattle.sx_machine.specs.Registers.{onward, set_reg}
 use Rattle.sx_machine.specs.Step.{Shows, start}
-
--- n bytes from an address on meet the bytes from..to; no byte meets nothing
-abbrev pub meets : ℕ → ℕ → ℕ → ℕ → Bool
-meets at n from to = nat_lt 0 n && (nat_lt at to && nat_lt from (at + n))
-
--- they pass the end of memory
-abbrev pub passes_end : ℕ → ℕ → Bool
-passes_end at n = nat_lt 65536 (at + n)
-
-abbrev pub meets_private : List Section → ℕ → ℕ → Bool
-meets_private live at n = list_any (λ s. meets at n s.layout.priv_from s.layout.priv_to) live
-
-abbrev pub meets_public : List Section → ℕ → ℕ → Bool
-meets_public live at n = list_any (λ s. meets at n s.layout.pub_from s.layout.pub_to) live
-
--- a device is the word at its place
-abbrev pub meets_device : List ℕ → ℕ → ℕ → Bool
-meets_device places at n = list_any (λ place. meets at n place (place + 2)) places
 
 -- why bytes may not be written: a module runs, or a section or a device is in the way
 abbrev pub put_refusal : State → ℕ → ℕ → Option Refused

@@ -7,7 +7,10 @@ use Rattle.sx_machine.specs.declared.kinds.Seen.{Seen}
 use Rattle.sx_machine.specs.State.{State, reset}
 use Rattle.sx_machine.specs.Step.{settled}
 use Rattle.sx_machine.specs.Acts.{interrupted}
-use Rattle.sx_machine.specs.Run.{Moment, Outcome, Finished, Violated, Module}
+use Rattle.sx_rules.specs.Access.{Sections}
+use Rattle.sx_machine.specs.declared.kinds.Event.{Event}
+use Rattle.sx_machine.specs.declared.kinds.Exchange.{Exchange}
+use Rattle.sx_machine.specs.Run.{Moment, untouched, Outcome, Finished, Violated, Module}
 
 abbrev pub moment : List ℕ → List Window → List Touch → Moment
 moment mem devices touches = record { mem = mem; devices = devices; touches = touches }
@@ -28,6 +31,14 @@ Touches (Finished r x) (Err w) regs mem devices = ⊥
 Touches (Violated v) (Ok touches) regs mem devices = ⊥
 Touches (Module r x t e c) u regs mem devices = ⊥
 
+-- a module instruction: its answer, and the registers, memory, sections and exchange that it leaves; it touches no device
+abbrev pub Tells : List Window → Outcome → Result Event Violation → List ℕ → List ℕ → Sections → Exchange → Type 0
+Tells devices (Module r x t e c) (Ok event) regs mem sections exchange = (event ≡ e) × (regs ≡ r) × (moment mem devices untouched ≡ x) × (sections ≡ t) × (exchange ≡ c)
+Tells devices (Violated v) (Err w) regs mem sections exchange = w ≡ v
+Tells devices (Module r x t e c) (Err w) regs mem sections exchange = ⊥
+Tells devices (Violated v) (Ok event) regs mem sections exchange = ⊥
+Tells devices (Finished r x) answer regs mem sections exchange = ⊥
+
 -- an attempt at a step: its answer and the node that it leaves; a reset makes the same of that as of the node before
 abbrev pub Attempts : State → Outcome → Result Seen Violation → State → Type 0
 Attempts s (Finished r x) (Ok seen) t = (t ≡ (settled s (Finished r x)).state) × (seen ≡ (settled s (Finished r x)).shown)
@@ -44,3 +55,8 @@ Interrupts s (Violated v) (Err w) t = (w ≡ v) × (reset t ≡ reset s) × (t.b
 Interrupts s (Violated v) (Ok seen) t = ⊥
 Interrupts s (Finished r x) (Err w) t = ⊥
 Interrupts s (Module r x u e c) a t = ⊥
+
+-- the rest of an instruction after a part's value, or the part's violation
+abbrev pub followed : {T : Type 0} → Result T Violation → (T → Outcome) → Outcome
+followed (Ok v) rest = rest v
+followed (Err w) rest = Violated w

@@ -4,7 +4,11 @@ pub mod Plan
 pub mod Run
 pub mod Registers
 pub mod Rows
+pub mod Ranges
+pub mod Given
 pub mod Protect
+pub mod ModuleRows
+pub mod Modules
 pub mod Step
 pub mod Acts
 pub mod Guard

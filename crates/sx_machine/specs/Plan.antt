@@ -19,6 +19,8 @@ pub data Plan : Type 0 where
   Store : Bool → ℕ → ℕ → Plan → Plan
   -- a test, and the violation where it fails
   Need : Bool → Violation → Plan → Plan
+  -- so many bytes from an address on must be open to writes
+  Writable : ℕ → ℕ → Plan → Plan
   -- so many bytes from an address on are read, or these bytes are written there
   Bytes : ℕ → ℕ → (List ℕ → Plan) → Plan
   Put : ℕ → List ℕ → Plan → Plan

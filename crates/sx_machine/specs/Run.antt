@@ -15,7 +15,7 @@ use Rattle.sx_machine.specs.declared.kinds.Touch.TheVariants.{Quiet, DeviceRead,
 use Rattle.sx_machine.specs.declared.kinds.Event.{Event}
 use Rattle.sx_machine.specs.declared.kinds.Exchange.{Exchange}
 use Rattle.sx_machine.specs.Memory.{even, word, read_at, write_at, bytes_from, put_bytes}
-use Rattle.sx_machine.specs.Plan.{Plan, Done, Tell, Stop, Fetch, Load, Store, Need, Bytes, Put}
+use Rattle.sx_machine.specs.Plan.{Plan, Done, Tell, Stop, Fetch, Load, Store, Need, Writable, Bytes, Put}
 
 -- what a plan works on, and the touches so far
 pub record Moment : Type 0 where
@@ -133,5 +133,6 @@ exec t own (Fetch at k) x = after_fetch (fetch t.live own at x) (λ w. exec t ow
 exec t own (Load wide at k) x = after_read (load t.live own wide at x) (λ v y. exec t own (k v) y)
 exec t own (Store wide at v k) x = after_write (store t.live own wide at v x) (λ y. exec t own k y)
 exec t own (Need b v k) x = if b then exec t own k x else Violated v
+exec t own (Writable at n k) x = if may_range t.live own Write at n then exec t own k x else Violated bad.Write
 exec t own (Bytes at n k) x = if may_range t.live own Read at n then exec t own (k (bytes_from x.mem at n)) x else Violated bad.Read
 exec t own (Put at bs k) x = if may_each t.live own Write at bs then exec t own k (record x { mem = put_bytes x.mem at bs }) else Violated bad.Write

@@ -1,9 +1,10 @@
 -- One step of a node.
-use Rattle.std.specs.Prelude.{ℕ, ◌+◌, ◌==◌, nat_lt, nat_le, Bool, ◌&&◌, ◌||◌, not, if◌then◌else◌, List, slice_index, Option, Some, None, is_some}
+use Rattle.std.specs.Prelude.{ℕ, ◌+◌, ◌-◌, ◌==◌, nat_le, Bool, ◌&&◌, ◌||◌, not, if◌then◌else◌, List, slice_index, Option, Some, None, is_some}
 use Rattle.sx_rules.specs.declared.access.Violation.TheVariants as bad
 use Rattle.sx_rules.specs.declared.section.Section.{Section}
 use Rattle.sx_rules.specs.Access.{Sections, holder, outside_private, in_order, section_of}
 use Rattle.sx_tag.specs.Mac.{Mac}
+use Rattle.sx_tag.specs.Keys.{boot_key}
 use Rattle.sx_bus.specs.Devices.{device_at}
 use Rattle.sx_machine.specs.declared.kinds.Event.{Event}
 use Rattle.sx_machine.specs.declared.kinds.Event.TheVariants.{Quiet, Reset, Left}
@@ -13,7 +14,8 @@ use Rattle.sx_machine.specs.Memory.{even, word}
 use Rattle.sx_machine.specs.State.{State, reset}
 use Rattle.sx_machine.specs.Run.{Moment, untouched, Outcome, Finished, Violated, Module, exec}
 use Rattle.sx_machine.specs.Rows.{program}
-use Rattle.sx_machine.specs.Protect.{protect}
+use Rattle.sx_machine.specs.Given.{Given}
+use Rattle.sx_machine.specs.Modules.{is_code, module_instruction}
 
 -- a state, and what was shown on the way to it
 pub record Shows (T : Type 0) : Type 0 where
@@ -31,19 +33,36 @@ own_of s = holder s.sections.live (pc_of s)
 abbrev pub start : State → Moment
 start s = record { mem = s.mem; devices = s.devices; touches = untouched }
 
--- the first words of the module instructions (own encodings)
+-- the first words of the module instructions
 abbrev pub is_module_word : ℕ → Bool
-is_module_word w = nat_le 0x1380 w && (nat_lt w 0x1388 && not (w == 0x1383))
+is_module_word w = nat_le 0x1380 w && is_code (w - 0x1380)
 
--- the module instructions that are built so far: protect
-abbrev pub module_instruction : Mac → ℕ → State → Outcome
-module_instruction mac w s = if w == 0x1381 then protect mac s else Violated bad.Unbuilt
+-- a live section has the id
+abbrev pub is_live : List Section → ℕ → Bool
+is_live live id = is_some (section_of live id)
+
+-- the module that entered `own`: one that begins to run was entered from that of the last instruction, if it still stands
+abbrev pub entered_from : State → ℕ → ℕ
+entered_from s own = if own == s.cur then s.caller else if is_live s.sections.live s.last then s.last else 0
+
+-- what a module instruction at PC is given beside the memory
+abbrev pub given : Mac → State → Given
+given mac s = record {
+  regs = s.regs;
+  devices = s.devices;
+  sections = s.sections;
+  own = own_of s;
+  caller = entered_from s (own_of s);
+  base = boot_key mac s.key s.boot;
+  exchange = s.exchange;
+}
 
 -- the instruction at PC
 abbrev pub instruction : Mac → State → Outcome
 instruction mac s =
     let w = word s.mem (pc_of s) in
-    if is_module_word w then module_instruction mac w s else exec s.sections (own_of s) (program w s.regs) (start s)
+    if is_module_word w then module_instruction mac (w - 0x1380) (given mac s) s.mem
+    else exec s.sections (own_of s) (program w s.regs) (start s)
 
 -- where PC lies on no device: in no public section but that of the module that runs, or at an entry
 abbrev pub ordered : Mac → State → Option ℕ → Outcome
@@ -59,14 +78,6 @@ abbrev pub attempt : Mac → State → Outcome
 attempt mac s =
     if word_outside s.sections.live (pc_of s) then ordered mac s (device_at s.devices (pc_of s))
     else Violated bad.Fetch
-
--- a live section has the id
-abbrev pub is_live : List Section → ℕ → Bool
-is_live live id = is_some (section_of live id)
-
--- the module that entered `own`: one that begins to run was entered from that of the last instruction, if it still stands
-abbrev pub entered_from : State → ℕ → ℕ
-entered_from s own = if own == s.cur then s.caller else if is_live s.sections.live s.last then s.last else 0
 
 -- The state after an instruction of `own`. The module still runs where PC is in its public section.
 abbrev pub moved : State → ℕ → List ℕ → Moment → Sections → Exchange → State

@@ -14,14 +14,14 @@ ghost use Rattle.sx_machine.specs.Step.{start};
 ghost use Rattle.sx_machine.specs.Answers.{Interrupts};
 ghost use Rattle.sx_machine.specs.Guard.{Guarded};
 
-use crate::memory::{put_bytes, take_bytes};
 use crate::node::{Node, no_exchange};
-use crate::range::Range;
 use crate::step::reset_by;
 use sx_bus::Bus;
 use sx_core::set_register;
 use sx_machine::{Event, Refused, Seen};
 use sx_rules::{Table, Violation};
+use sx_sancus::memory::{put_bytes, take_bytes};
+use sx_sancus::range::Range;
 use sx_tag::Tag;
 
 const PC: u8 = 0;

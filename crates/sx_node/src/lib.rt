@@ -7,10 +7,7 @@
 #![tactic(auto)]
 
 mod acts;
-mod memory;
 mod node;
-mod protect;
-mod range;
 mod step;
 #[cfg(test)]
 mod tests;

@@ -1,28 +1,34 @@
 //! One step of a node: the tests of PC, and then the instruction.
 
-ghost use Rattle.std.specs.Prelude.{◌≡◌, ◌==◌, ◌<◌, ℕ, if◌then◌else◌};
+ghost use Rattle.std.specs.Prelude.{◌≡◌, ◌==◌, ◌-◌, ◌<◌, ℕ, if◌then◌else◌, MatchOption, true, false};
 ghost use Rattle.sx_rules.specs.Access.{Lives, holder};
+ghost use Rattle.sx_rules.specs.Placed.{Placed};
 ghost use Rattle.sx_rules.specs.declared.section.Section.{Section};
 ghost use Rattle.sx_machine.specs.declared.kinds.Seen.{Seen};
 ghost use Rattle.sx_machine.specs.declared.kinds.Event.TheVariants.{Reset};
 ghost use Rattle.sx_machine.specs.Memory.{word};
 ghost use Rattle.sx_machine.specs.Run.{exec, untouched};
 ghost use Rattle.sx_machine.specs.Rows.{program};
-ghost use Rattle.sx_machine.specs.Step.{step, attempt, instruction, module_instruction, is_module_word, ordered, word_outside, pc_of, own_of, start, entered_from, left};
+ghost use Rattle.sx_machine.specs.Modules.{is_code, module_instruction};
+ghost use Rattle.sx_machine.specs.Step.{step, attempt, instruction, given, is_module_word, ordered, word_outside, pc_of, own_of, start, entered_from, left};
 ghost use Rattle.sx_machine.specs.Answers.{Attempts};
 ghost use Rattle.sx_machine.specs.Guard.{Guarded, Foreign};
+ghost use Rattle.sx_sancus.specs.Told.{event_of};
 
 use crate::node::Node;
 use sx_bus::Bus;
 use sx_core::word;
 use sx_machine::{Event, Seen, Touch};
 use sx_rules::Violation;
-use sx_tag::Tag;
+use sx_sancus::{SancusEvent, step_sancus};
+use sx_tag::{Tag, boot_key};
 
 const PC: usize = 0;
 
-/// The first word of protect.
-const PROTECT: u16 = 0x1381;
+/// The module instructions are the eight words from here on, but one.
+const FIRST_MODULE_WORD: u16 = 0x1380;
+
+const NO_MODULE_WORD: u16 = 0x1383;
 
 /// What a step shows that a violation ended.
 pub(crate) fn reset_by(violation: Violation) -> Seen
@@ -34,11 +40,27 @@ pub(crate) fn reset_by(violation: Violation) -> Seen
     }
 }
 
-/// Whether it is the first word of a module instruction.
-fn is_module_word(word: u16) -> bool
-    ensures { result ≡ is_module_word word }
+/// The code of the module instruction whose word it is, or None.
+fn code_of(word: u16) -> Option<u8>
+    ensures { MatchOption result (is_module_word word ≡ false) (λ code. (is_module_word word ≡ true) × (code ≡ word - 0x1380) × (is_code code ≡ true)) }
 {
-    0x1380 <= word && word < 0x1388 && word != 0x1383
+    if word < FIRST_MODULE_WORD || word >= FIRST_MODULE_WORD + 8 || word == NO_MODULE_WORD {
+        return None;
+    }
+    Some((word - FIRST_MODULE_WORD) as u8)
+}
+
+/// What a step shows of a module instruction of `own`.
+fn event_of(own: u16, event: SancusEvent) -> Event
+    ensures { result ≡ event_of own event }
+{
+    match event {
+        SancusEvent::Quiet => Event::Quiet,
+        SancusEvent::Protected(id) => Event::Protected(id),
+        SancusEvent::Removed(id) => Event::Removed(id),
+        SancusEvent::Wrapped => Event::Wrapped(own),
+        SancusEvent::Unwrapped => Event::Unwrapped(own),
+    }
 }
 
 impl<B: Bus, T: Tag> Node<B, T> {
@@ -48,7 +70,7 @@ impl<B: Bus, T: Tag> Node<B, T> {
         requires { self.old.boot < 4294967295 }
         ensures state { self.new ≡ (step T.mac self.old).state }
         ensures seen { result ≡ (step T.mac self.old).shown }
-        ensures guarded { (s : Section) → Lives self.old.sections.live s → Foreign s self.old → Guarded Seen (step T.mac) s self.old }
+        ensures guarded { (s : Section) → Placed self.old.sections → Lives self.old.sections.live s → Foreign s self.old → Guarded Seen (step T.mac) s self.old }
     {
         match self.attempt() {
             Ok(seen) => seen,
@@ -90,15 +112,36 @@ impl<B: Bus, T: Tag> Node<B, T> {
     {
         let pc = self.core.regs[PC];
         let own = self.table.holder(pc);
-        let word = word(&self.core.bus, pc);
-        if !is_module_word(word) {
-            return self.plain_instruction(own);
+        match code_of(word(&self.core.bus, pc)) {
+            Some(code) => self.module_instruction(own, code),
+            None => self.plain_instruction(own),
         }
-        if word == PROTECT {
-            Ok(self.protect(own))
-        } else {
-            Err(Violation::Unbuilt)
-        }
+    }
+
+    fn module_instruction(&mut self, own: u16, code: u8) -> Result<Seen, Violation>
+        requires own { own ≡ own_of self.old }
+        requires code { is_code code ≡ true }
+        ensures { Attempts self.old (module_instruction T.mac code (given T.mac self.old) self.old.mem) result self.new }
+    {
+        let caller = self.entered_from(own);
+        let base = boot_key(&self.tag, &self.key, self.boot);
+        let event = step_sancus(
+            code,
+            &mut self.core.regs,
+            own,
+            caller,
+            &mut self.table,
+            &self.windows,
+            &mut self.core.bus,
+            &self.tag,
+            &base,
+            &mut self.exchange,
+        )?;
+        self.settle(own, caller);
+        Ok(Seen {
+            touch: [Touch::Quiet; 2],
+            event: event_of(own, event),
+        })
     }
 
     fn plain_instruction(&mut self, own: u16) -> Result<Seen, Violation>

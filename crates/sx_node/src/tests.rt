@@ -127,3 +127,26 @@ fn protect_and_acts(rt: HostRuntime) -> Result<(), Fail> {
     assert_eq!(rt; interrupted(&rt, &mut node), Err(Refused::Busy));
     Ok(())
 }
+
+/// The events of unprotect: by the module itself, and outside every module.
+#[test]
+fn unprotects(rt: HostRuntime) -> Result<(), Fail> {
+    let mut node = node(rt.alloc())?;
+    // unprotect, and a jump to itself
+    assert!(rt; node.put(0x5000, &[0x80, 0x13, 0xFF, 0x3F]).is_ok());
+    let layout = [0x5000, 0x5010, 0x5080, 0x5090];
+    let first = protected(&rt, &mut node, layout);
+    assert_eq!(rt; first, (Event::Protected(1), [1, 0]));
+    assert!(rt; node.set(0, 0x5000).is_ok());
+    let seen = stepped(&rt, &mut node);
+    assert_eq!(rt; seen.event, Event::Removed(1));
+    assert_eq!(rt; [node.reg(0), node.reg(15), node.running()], [0x5002, 1, 0]);
+    assert!(rt; node.put(0x5080, &[1]).is_ok());
+    assert!(rt; node.set(0, 0x5000).is_ok());
+    let seen = stepped(&rt, &mut node);
+    assert_eq!(rt; seen.event, Event::Quiet);
+    assert_eq!(rt; [node.reg(0), node.reg(15)], [0x5002, 0]);
+    let second = protected(&rt, &mut node, layout);
+    assert_eq!(rt; second, (Event::Protected(2), [2, 0]));
+    Ok(())
+}

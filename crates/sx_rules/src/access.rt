@@ -33,8 +33,6 @@ pub enum Violation {
     Illegal,
     /// A buffer of a module instruction passes the end of memory, or has more bytes than it may.
     Range,
-    /// The instruction is legal and not built yet.
-    Unbuilt,
 }
 
 impl Section {

@@ -14,7 +14,6 @@ cause_text (cause.Violated bad.Write) = codes "write"
 cause_text (cause.Violated bad.Device) = codes "device"
 cause_text (cause.Violated bad.Illegal) = codes "illegal"
 cause_text (cause.Violated bad.Range) = codes "range"
-cause_text (cause.Violated bad.Unbuilt) = codes "unbuilt"
 cause_text cause.Asked = codes "asked"
 
 abbrev pub item_text : Item → List ℕ

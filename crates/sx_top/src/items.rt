@@ -43,7 +43,6 @@ impl Cause {
             Cause::Violated(Violation::Device) => b"reset n device\n",
             Cause::Violated(Violation::Illegal) => b"reset n illegal\n",
             Cause::Violated(Violation::Range) => b"reset n range\n",
-            Cause::Violated(Violation::Unbuilt) => b"reset n unbuilt\n",
             Cause::Asked => b"reset n asked\n",
         }
     }

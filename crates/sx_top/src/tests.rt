@@ -43,7 +43,7 @@ fn writes(
 
 #[test]
 fn runs(rt: HostRuntime) -> Result<(), Fail> {
-    let rows: [(&[u8], u8, &[u8]); 9] = [
+    let rows: [(&[u8], u8, &[u8]); 10] = [
         (b"%%\n", 0, b"trace\nend\n"),
         (b"", 7, b"fault unbuilt\n"),
         // MOV @R5,R6
@@ -85,6 +85,12 @@ fn runs(rt: HostRuntime) -> Result<(), Fail> {
             b"%%\nput n 0x600 2645ff3f\nput n 0x400 8113\nset n r9 1\nset n r10 0x600\nset n r11 0x608\nset n r12 0x700\nset n r13 0x710\nset n pc 0x400\nrun n 1\nset n r5 0x700\nset n pc 0x600\nrun n 2\nput n 0x300 00\nreset n\n",
             0,
             b"trace\nprotect n -\nbusy n\nreset n asked\nend\n",
+        ),
+        // the module removes itself, so that nothing is busy, and the same section is protected again
+        (
+            b"%%\nput n 0x600 8013ff3f\nput n 0x400 8113\nset n r9 1\nset n r10 0x600\nset n r11 0x608\nset n r12 0x700\nset n r13 0x710\nset n pc 0x400\nrun n 1\nset n pc 0x600\nrun n 1\nput n 0x700 01\nset n pc 0x400\nrun n 1\n",
+            0,
+            b"trace\nprotect n -\nprotect n -\nend\n",
         ),
     ];
     for (input, status, text) in rows {

@@ -1,0 +1,214 @@
+//! Instructions worked by hand, over a tag that is the sum of all bytes.
+
+ghost use Rattle.std.specs.Prelude.{◌≡◌, true};
+ghost use Rattle.sx_machine.specs.Modules.{is_code};
+
+use super::{SancusEvent, step_sancus};
+use std::alloc::Global;
+use std::process::Abort;
+use std::test::Fail;
+use sx_bus::{Bus, FlatBus, Kind, Windows};
+use sx_machine::Exchange;
+use sx_rules::{Layout, Table, Violation};
+use sx_tag::Weak;
+
+const OWN: Layout = Layout {
+    pub_from: 0x600,
+    pub_to: 0x608,
+    priv_from: 0x700,
+    priv_to: 0x740,
+};
+
+const OTHER: Layout = Layout {
+    pub_from: 0x800,
+    pub_to: 0x808,
+    priv_from: 0x900,
+    priv_to: 0x940,
+};
+
+const NO_EXCHANGE: Exchange = Exchange {
+    ad: [0; 32],
+    ad_len: 0,
+    body: [0; 32],
+    body_len: 0,
+    own_key: false,
+};
+
+const CALLER: u16 = 9;
+
+/// The parts of a node with a sensor at 0x1000.
+#[derive(Drop)]
+struct Parts {
+    regs: [u16; 16],
+    table: Table,
+    windows: Windows,
+    bus: FlatBus,
+    exchange: Exchange,
+}
+
+impl Parts {
+    /// With the modules 1 at OWN, whose key is sixteen ones, and 2 at OTHER.
+    fn new(rt: &impl Abort, alloc: Global) -> Result<Parts, Fail> {
+        let mut table = Table::new();
+        assert!(rt; table.admit(OWN, 7, [1; 16], &[]) == Ok(1));
+        assert!(rt; table.admit(OTHER, 7, [2; 16], &[]) == Ok(2));
+        Ok(Parts {
+            regs: [0; 16],
+            table,
+            windows: Windows::new(alloc, &[(0x1000, Kind::Sensor)])?,
+            bus: FlatBus::new(alloc)?,
+            exchange: NO_EXCHANGE,
+        })
+    }
+
+    /// Runs an instruction of the module `own`, with R9 to R15 as given.
+    fn run(&mut self, own: u16, code: u8, operands: [u16; 7]) -> Result<SancusEvent, Violation>
+        requires { is_code code ≡ true }
+    {
+        let [a, b, c, d, e, f, g] = operands;
+        self.regs = [0x600, 0, 0, 0, 0, 0, 0, 0, 0, a, b, c, d, e, f, g];
+        let (table, bus, exchange) = (&mut self.table, &mut self.bus, &mut self.exchange);
+        step_sancus(
+            code,
+            &mut self.regs,
+            own,
+            CALLER,
+            table,
+            &self.windows,
+            bus,
+            &Weak,
+            &[0; 16],
+            exchange,
+        )
+    }
+
+    fn put(&mut self, mut at: u16, bytes: &[u8]) {
+        for byte in bytes {
+            self.bus.put(at, *byte);
+            at = at.wrapping_add(1);
+        }
+    }
+
+    fn holds(&self, mut at: u16, bytes: &[u8]) -> bool {
+        for byte in bytes {
+            if self.bus.get(at) != *byte {
+                return false;
+            }
+            at = at.wrapping_add(1);
+        }
+        true
+    }
+}
+
+fn is_code(code: u8) -> bool
+    ensures { result ≡ is_code code }
+{
+    code < 8 && code != 3
+}
+
+#[test]
+fn violations(rt: HostRuntime) -> Result<(), Fail> {
+    let mut parts = Parts::new(&rt, rt.alloc())?;
+    for (operands, violation) in [
+        // the body passes the end of memory, also beside a header on the device
+        ([0, 0x710, 6, 0xFFFF, 2, 0x720, 0x730], Violation::Range),
+        ([0, 0x1000, 6, 0xFFFF, 2, 0x720, 0x730], Violation::Range),
+        // 33 bytes of header, and of body
+        ([0, 0x710, 33, 0x710, 2, 0x720, 0x730], Violation::Range),
+        ([0, 0x710, 6, 0x710, 33, 0x720, 0x730], Violation::Range),
+        // the header meets the device, also beside a body in another's private section
+        ([0, 0xFFB, 6, 0x900, 2, 0x720, 0x730], Violation::Device),
+        ([0, 0x710, 6, 0x900, 2, 0x720, 0x730], Violation::Read),
+        // the cipher's place is the module's code
+        ([0, 0x710, 6, 0x710, 2, 0x600, 0x730], Violation::Write),
+    ] {
+        assert!(rt; parts.run(1, 4, operands) == Err(violation));
+    }
+    // also with a wrong tag
+    let closed = [0, 0x710, 6, 0x710, 2, 0x600, 0x730];
+    assert!(rt; parts.run(1, 5, closed) == Err(Violation::Write));
+    let last = [0, 0x710, 0, 0xFFFE, 2, 0x720, 0x730];
+    assert!(rt; parts.run(1, 4, last) == Ok(SancusEvent::Wrapped));
+    assert!(rt; parts.exchange.own_key);
+    Ok(())
+}
+
+#[test]
+fn wrap_and_unwrap(rt: HostRuntime) -> Result<(), Fail> {
+    let mut parts = Parts::new(&rt, rt.alloc())?;
+    parts.put(0x200, &[0xC4; 16]);
+    parts.put(0x210, &[3, 0, 1, 0, 1, 0]);
+    parts.put(0x220, &[7, 0]);
+    let wrapped = parts.run(1, 4, [0x200, 0x210, 6, 0x220, 2, 0x230, 0x240]);
+    assert!(rt; wrapped == Ok(SancusEvent::Wrapped));
+    assert!(rt; parts.holds(0x230, &[0x99, 0x9E, 0]));
+    assert!(rt; parts.holds(0x240, &[0xD6; 16]));
+    assert_eq!(rt; [parts.regs[0], parts.regs[15]], [0x602, 1]);
+    let made = parts.exchange;
+    assert_eq!(rt;
+        [made.ad_len, made.ad[0], made.body_len, made.body[0]],
+        [6, 3, 2, 7]
+    );
+    assert!(rt; !made.own_key);
+    let unwrap = [0x200, 0x210, 6, 0x230, 2, 0x250, 0x240];
+    assert!(rt; parts.run(1, 5, unwrap) == Ok(SancusEvent::Unwrapped));
+    assert!(rt; parts.holds(0x250, &[7, 0]));
+    assert_eq!(rt; parts.regs[15], 1);
+    parts.put(0x24F, &[0xD7]);
+    parts.put(0x250, &[5]);
+    parts.exchange = NO_EXCHANGE;
+    assert!(rt; parts.run(1, 5, unwrap) == Ok(SancusEvent::Quiet));
+    assert!(rt; parts.holds(0x250, &[5, 0]));
+    assert_eq!(rt; [parts.regs[0], parts.regs[15]], [0x602, 0]);
+    assert_eq!(rt; parts.exchange, NO_EXCHANGE);
+    Ok(())
+}
+
+#[test]
+fn attest_and_ids(rt: HostRuntime) -> Result<(), Fail> {
+    let mut parts = Parts::new(&rt, rt.alloc())?;
+    // the key's sum is 0x10, the label 0x41, and the sum of the layout of OTHER 0x6A
+    parts.put(0x200, &[0xBB; 16]);
+    for (own, code, at, answer) in [
+        (1, 2, 0x807, 2),
+        (1, 2, 0x607, 0),
+        (1, 2, 0x808, 0),
+        (0, 2, 0x807, 0),
+        (0, 6, 0x807, 2),
+        (1, 6, 0x808, 0),
+        (1, 7, 0, CALLER),
+        (0, 7, 0, 0),
+    ] {
+        assert!(rt; is_code(code));
+        let ended = parts.run(own, code, [at, 0x200, 0, 0, 0, 0, 0]);
+        assert!(rt; ended == Ok(SancusEvent::Quiet));
+        assert_eq!(rt; [parts.regs[0], parts.regs[15]], [0x602, answer]);
+    }
+    Ok(())
+}
+
+#[test]
+fn protect_and_unprotect(rt: HostRuntime) -> Result<(), Fail> {
+    let mut parts = Parts::new(&rt, rt.alloc())?;
+    parts.put(0x73F, &[5, 6]);
+    assert!(rt; parts.run(0, 0, [0; 7]) == Ok(SancusEvent::Quiet));
+    assert_eq!(rt; parts.regs[15], 0);
+    assert!(rt; parts.run(1, 0, [0; 7]) == Ok(SancusEvent::Removed(1)));
+    assert_eq!(rt; parts.regs[15], 1);
+    assert!(rt; parts.holds(0x73F, &[0, 6]));
+    assert!(rt; parts.table.section(1).is_none());
+    let protect = [7, 0x600, 0x608, 0x700, 0x742, 0, 0];
+    assert!(rt; parts.run(0, 1, protect) == Ok(SancusEvent::Protected(3)));
+    assert_eq!(rt; [parts.regs[14], parts.regs[15]], [0, 3]);
+    assert!(rt; parts.holds(0x740, &[0]));
+    // the provider's key is sixteen times 0x4B + 7; its sum 0x20, 0x4B and the layout's sum 0x64
+    assert!(rt;
+        parts
+            .table
+            .section(3)
+            .is_some_and(|section| section.key == [0xCF; 16])
+    );
+    assert!(rt; parts.run(0, 1, protect) == Ok(SancusEvent::Quiet));
+    assert_eq!(rt; [parts.regs[14], parts.regs[15]], [2, 0]);
+    Ok(())
+}

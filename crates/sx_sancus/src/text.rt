@@ -1,0 +1,77 @@
+//! Short texts.
+
+ghost use Rattle.std.specs.Prelude.{◌≡◌, ◌≤◌, length, take};
+ghost use Rattle.sx_machine.specs.Memory.{bytes_from};
+ghost use Rattle.sx_tag.specs.Wrap.{padded};
+
+use crate::buffer::Buffer;
+use crate::memory::take_bytes;
+use std::marker::Model;
+use sx_bus::Bus;
+
+/// At most 32 bytes: a header, a body or a cipher.
+#[derive(Drop)]
+pub struct Text {
+    bytes: [u8; 32],
+    count: usize,
+}
+
+impl Model for Text {
+    ghost use Rattle.std.specs.Prelude.{◌≡◌, ◌≤◌, List, ℕ, take};
+    ghost use Rattle.sx_tag.specs.Wrap.{padded};
+
+    ghost Value = { List ℕ };
+
+    ghost view = { λ t. take t.count t.bytes };
+
+    ghost invariant = { λ t. (t.count ≤ 32) × (t.bytes ≡ padded (take t.count t.bytes)) };
+}
+
+impl Text {
+    /// The first bytes of some.
+    pub fn front(bytes: &[u8], count: usize) -> Text
+        requires within { count ≤ length bytes.now }
+        requires short { count ≤ 32 }
+        ensures { result ≡ take count bytes.now }
+    {
+        let mut front = [0; 32];
+        front[..count].copy_from_slice(&bytes[..count]);
+        Text {
+            bytes: front,
+            count,
+        }
+    }
+
+    /// The bytes of a buffer.
+    pub fn read<B: Bus>(bus: &B, buffer: Buffer) -> Text
+        requires { buffer.count ≤ 32 }
+        ensures bytes { result ≡ bytes_from (B.bytes bus.now) buffer.at buffer.count }
+        ensures count { length result ≡ buffer.count }
+    {
+        let mut bytes = [0; 32];
+        let count = usize::from(buffer.count);
+        take_bytes(bus, buffer.at, &mut bytes[..count]);
+        Text::front(&bytes, count)
+    }
+
+    /// How many bytes they are.
+    pub fn count(&self) -> u8
+        ensures { result ≡ length self.now }
+    {
+        self.count as u8
+    }
+
+    /// The bytes alone.
+    pub fn as_slice(&self) -> &[u8]
+        ensures { result.now ≡ self.now }
+    {
+        &self.bytes[..self.count]
+    }
+
+    /// The bytes with zeros behind them.
+    pub fn padded(&self) -> [u8; 32]
+        ensures { result ≡ padded self.now }
+    {
+        self.bytes
+    }
+}
