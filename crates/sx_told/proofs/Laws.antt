@@ -81,7 +81,7 @@ does-same tells k0 k1 f g after (Stop status) h w = (w.0, λ more. ends-same tel
 
 -- ---- how the input goes on
 
-may-at : (s t : ReaderState) (e : Ending) (more : List ℕ) → s ≡ t → MayGoOn t e more → MayGoOn s e more
+pub may-at : (s t : ReaderState) (e : Ending) (more : List ℕ) → s ≡ t → MayGoOn t e more → MayGoOn s e more
 may-at s t e more h m = let P : ReaderState → Type 0 = λ v. MayGoOn v e more in subst P (sym h) m
 
 -- how the input may go on, between two lines
@@ -93,14 +93,14 @@ goes-on reader.TooLong rest tells b f = absurd b
 goes-on reader.Failed rest tells b f = absurd b
 
 -- a reader at the end of the input gets nothing more
-got-none : (got : List ℕ) → (Ended ≡ Ended) × (got ++ [] ≡ []) → got ≡ []
+pub got-none : (got : List ℕ) → (Ended ≡ Ended) × (got ++ [] ≡ []) → got ≡ []
 got-none got m = sym (append-nil got) ∙ m.1
 
-input-behind : (r0 r1 r2 g0 got : List ℕ) → r0 ≡ g0 ++ r1 → r1 ≡ got ++ r2 → r0 ≡ (g0 ++ got) ++ r2
+pub input-behind : (r0 r1 r2 g0 got : List ℕ) → r0 ≡ g0 ++ r1 → r1 ≡ got ++ r2 → r0 ≡ (g0 ++ got) ++ r2
 input-behind r0 r1 r2 g0 got a b = a ∙ ap (λ (t : List ℕ). g0 ++ t) b ∙ sym (append_assoc g0 got r2)
 
 -- after a call for a line, nothing is left of an input at its end
-end-after : (old new : ReaderState) (got r1 r2 : List ℕ) → IsBetween old → new ≡ reader.AtEnd → (MayGoOn new Ended [] → MayGoOn old Ended (got ++ []))
+pub end-after : (old new : ReaderState) (got r1 r2 : List ℕ) → IsBetween old → new ≡ reader.AtEnd → (MayGoOn new Ended [] → MayGoOn old Ended (got ++ []))
     → r1 ≡ got ++ r2 → (old ≡ reader.AtEnd → r1 ≡ []) → (old ≡ reader.Open → r2 ≡ []) → r2 ≡ []
 end-after reader.Open new got r1 r2 b n m e was is = is refl
 end-after reader.AtEnd new got r1 r2 b n m e was is =
@@ -109,7 +109,7 @@ end-after reader.AtEnd new got r1 r2 b n m e was is =
 end-after reader.TooLong new got r1 r2 b n m e was is = absurd b
 end-after reader.Failed new got r1 r2 b n m e was is = absurd b
 
-may-start : (start now : ReaderState) (got more : List ℕ) (e : Ending) → MayGoOn start e (got ++ more) → more ≡ [] → MayGoOn start e got
+pub may-start : (start now : ReaderState) (got more : List ℕ) (e : Ending) → MayGoOn start e (got ++ more) → more ≡ [] → MayGoOn start e got
 may-start start now got more e m none =
     let P : List ℕ → Type 0 = λ t. MayGoOn start e t in subst P (ap (λ (t : List ℕ). got ++ t) none ∙ append-nil got) m
 
@@ -145,7 +145,7 @@ begun-same {start} {now} {tells} {to_tell} {s0} {s1} {k0} {k1} {d} {f} {g} b h =
   writes_kept = b.writes_kept;
 }
 
-coming-new : (a : Ahead) → a ≡ record { held = []; state = reader.Open } → (e : Ending) (bytes : List ℕ) → coming a e bytes ≡ scan e [] bytes
+pub coming-new : (a : Ahead) → a ≡ record { held = []; state = reader.Open } → (e : Ending) (bytes : List ℕ) → coming a e bytes ≡ scan e [] bytes
 coming-new a h e bytes = rw h refl
 
 new-open : (a : Ahead) → a ≡ record { held = []; state = reader.Open } → a.state ≡ reader.Open
@@ -272,7 +272,7 @@ told-too-long {start} {tells} {to_tell} {s0} {s1} {s2} {k0} {k1} {k2} {d} {old} 
     }
 
 -- a read fails only where the reader may read
-broken-open : (s : ReaderState) (got : List ℕ) → IsBetween s → MayGoOn s Broken got → s ≡ reader.Open
+pub broken-open : (s : ReaderState) (got : List ℕ) → IsBetween s → MayGoOn s Broken got → s ≡ reader.Open
 broken-open reader.Open got b m = refl
 broken-open reader.AtEnd got b m = absurd (cc m.0)
 broken-open reader.TooLong got b m = absurd b
