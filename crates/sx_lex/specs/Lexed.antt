@@ -44,6 +44,10 @@ pub data Lexed : Place → List ℕ → List Placed → Place → Type 0 where
 abbrev pub OneReading : Type 0
 OneReading = (at end last : Place) (bs : List ℕ) (ts us : List Placed) → Lexed at bs ts end → Lexed at bs us last → (ts ≡ us) × (end ≡ last)
 
+-- each text has a reading
+abbrev pub HasReading : Type 0
+HasReading = (at : Place) (bs : List ℕ) → (ts : List Placed) × (end : Place) × Lexed at bs ts end
+
 -- in any way that the rest is read, the whole is these tokens and then the rest's
 pub record Begun (text : List ℕ) (out : List Placed) (at : Place) (rest : List ℕ) : Type 0 where
   pub begun : (ts : List Placed) → (end : Place) → Lexed at rest ts end → Lexed start text (out ++ ts) end

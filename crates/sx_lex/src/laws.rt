@@ -1,9 +1,14 @@
-//! What holds of every text. The law is a function that does nothing: its contract is the law.
+//! What holds of every text. Each law is a function that does nothing: its contract is the law.
 
-ghost use Rattle.sx_lex.specs.Lexed.{OneReading};
+ghost use Rattle.sx_lex.specs.Lexed.{HasReading, OneReading};
 
-/// A text has one list of tokens, with one place for each and one end.
+/// A text has at most one list of tokens, with one place for each and one end.
 #[tactic(auto, using(crate::proofs::Same::one_reading))]
 pub fn one_reading()
     ensures { OneReading }
+{}
+
+/// Each text has a list of tokens, and an end.
+pub fn has_reading()
+    ensures { HasReading }
 {}

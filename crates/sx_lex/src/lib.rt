@@ -2,11 +2,11 @@
 //!
 //! `reading::tokens_of` reads a whole text. Its clause is the relation `Lexed` of `specs/Lexed.antt`,
 //! which stands on `kind_of`, the token that a whole word is, in `specs/Words.antt`. That a text has
-//! no two readings is promised by `laws::one_reading`.
+//! a reading and no two is promised by `laws`.
 #![tactic(auto)]
 
 pub mod laws;
-mod quoted;
+pub mod quoted;
 pub mod reading;
 mod scan;
 #[cfg(test)]

@@ -46,7 +46,8 @@ pub struct App {
 /// Where packets are counted no further.
 const CUT: u64 = 65_536;
 
-fn declared_kind(decls: &[Decl]) -> Option<DeviceKind>
+/// The kind of the device that is declared first.
+pub fn declared_kind(decls: &[Decl]) -> Option<DeviceKind>
     ensures { result ≡ declared_kind decls.now }
 {
     for d in decls {
@@ -81,7 +82,13 @@ fn is_at(devices: &[AppDevice], device: u8, node: u8, kind: DeviceKind) -> bool
     false
 }
 
-fn is_driven(devices: &[AppDevice], node: u8, device: Option<u8>, kind: Option<DeviceKind>) -> bool
+/// Whether a part has a device exactly where its module declares one, at its node and of that kind.
+pub fn is_driven(
+    devices: &[AppDevice],
+    node: u8,
+    device: Option<u8>,
+    kind: Option<DeviceKind>,
+) -> bool
     ensures { result ≡ is_driven devices.now node device kind }
 {
     match (device, kind) {
@@ -142,7 +149,8 @@ fn links_from(links: &[Link], part: usize, output: u8) -> usize
     times
 }
 
-fn ends_from(links: &[Link], part: usize) -> usize
+/// The connections from a part, by its place.
+pub fn ends_from(links: &[Link], part: usize) -> usize
     ensures { result ≡ ends_from links.now part }
 {
     let mut times = 0;
@@ -154,7 +162,8 @@ fn ends_from(links: &[Link], part: usize) -> usize
     times
 }
 
-fn ends_to(links: &[Link], part: usize) -> usize
+/// The connections to a part, by its place.
+pub fn ends_to(links: &[Link], part: usize) -> usize
     ensures { result ≡ ends_to links.now part }
 {
     let mut times = 0;
@@ -217,7 +226,9 @@ fn packets_of_block(links: &[Link], part: usize, decls: &[Decl], block: &Vec<Stm
     total
 }
 
-fn sends_too_much(links: &[Link], part: usize, m: &Module) -> bool
+/// Whether a handler of the part can make more than 16 packets: each send counts once for each
+/// connection from its output.
+pub fn sends_too_much(links: &[Link], part: usize, m: &Module) -> bool
     requires { IsSized m.now.decls.items }
     ensures { result ≡ sends_too_much links.now part (module_of m.now) }
 {

@@ -1,0 +1,5 @@
+use Rattle.sx_grammar.proofs.CompleteModules as modules
+use Rattle.sx_grammar.proofs.laws.one_module.Goals as goal
+
+pub returns : goal.returns
+returns c = modules.one_module

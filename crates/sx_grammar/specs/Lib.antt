@@ -1,0 +1,4 @@
+pub mod Tokens
+pub mod Grammar
+pub mod Text
+pub mod Machine

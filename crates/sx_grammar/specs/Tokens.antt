@@ -1,0 +1,57 @@
+-- Tokens as the grammar sees them: what their kinds are for, and which bounds are asked of them.
+use Rattle.std.specs.Prelude.{ℕ, List, [], ◌∷◌, Bool, true, false, Option, Some, None, nat_lt}
+use Rattle.sx_lang.specs.declared.tree.UnOp.{UnOp}
+use Rattle.sx_lang.specs.declared.tree.BinOp.{BinOp}
+use Rattle.sx_lang.specs.declared.tree.UnOp.TheVariants.{Neg, Inv, Not}
+use Rattle.sx_lang.specs.declared.tree.BinOp.TheVariants.{Add, Sub, Or, Xor, Mul, And, Eq, Ne, Lt, Le, Gt, Ge}
+use Rattle.sx_lex.specs.declared.tokens.Kind.{Kind}
+use Rattle.sx_lex.specs.declared.tokens.Kind.TheVariants.{EqualsEquals, NotEquals, Less, LessEquals, Greater, GreaterEquals, Plus, Minus, Bar, Caret, Star, Ampersand, Tilde, Bang}
+use Rattle.sx_lex.specs.declared.tokens.Placed.{Placed}
+
+abbrev pub unary_operator : Kind → Option UnOp
+unary_operator Minus = Some Neg
+unary_operator Tilde = Some Inv
+unary_operator Bang = Some Not
+unary_operator _ = None
+
+-- of a term
+abbrev pub factor_operator : Kind → Option BinOp
+factor_operator Star = Some Mul
+factor_operator Ampersand = Some And
+factor_operator _ = None
+
+-- of a sum
+abbrev pub addend_operator : Kind → Option BinOp
+addend_operator Plus = Some Add
+addend_operator Minus = Some Sub
+addend_operator Bar = Some Or
+addend_operator Caret = Some Xor
+addend_operator _ = None
+
+abbrev pub comparison_operator : Kind → Option BinOp
+comparison_operator EqualsEquals = Some Eq
+comparison_operator NotEquals = Some Ne
+comparison_operator Less = Some Lt
+comparison_operator LessEquals = Some Le
+comparison_operator Greater = Some Gt
+comparison_operator GreaterEquals = Some Ge
+comparison_operator _ = None
+
+-- A token and whether the bounds are asked of it: they are asked of a text's own tokens, and not of those that are added
+-- in thought to tell whether a text's front can go on. (Which names and numbers those are makes no difference to the grammar.)
+pub data Token : Type 0 where
+  token : Kind → Bool → Token
+
+abbrev pub given : List Placed → List Token
+given [] = []
+given (t ∷ ts) = token t.kind true ∷ given ts
+
+abbrev pub added : List Kind → List Token
+added [] = []
+added (k ∷ ks) = token k false ∷ added ks
+
+-- The bound: where it is asked, one more of these may stand where n stand already only if n is below 48. It is the same
+-- for brackets and unary operators that are open at a time, and for operators in one sum and in one term.
+abbrev pub fits : Bool → ℕ → Bool
+fits true n = nat_lt n 48
+fits false n = true
