@@ -1,0 +1,22 @@
+-- What reading a statement of a block does to the machine of the grammar.
+use Rattle.std.specs.Prelude.{◌≡◌, ℕ, List, ◌∷◌, Option}
+use Rattle.sx_lang.specs.Tree.{Statement, Block}
+use Rattle.sx_lex.specs.declared.tokens.Placed.{Placed}
+use Rattle.sx_grammar.specs.Machine.{Symbol, Value, opens, read, Refused, Of_block, Statements, snoc}
+use Rattle.sx_parse.specs.declared.stop.Stop.{Stop}
+use Rattle.sx_parse.specs.declared.stop.Stop.TheVariants.{Fault, Memory}
+
+-- With so many brackets open, the block's among them, what is wanted in the block is read in front of rest and is this statement.
+pub record Adds (want : List Symbol → List Symbol) (depth : ℕ) (ts : List Placed) (s : Statement) (rest : List Placed) : Type 0 where
+  pub adds : (st : List Symbol) (vs : List Value) (front : Block) → opens (Statements ∷ st) ≡ depth → read (want (Statements ∷ st)) (Of_block front ∷ vs) ts ≡ read (Statements ∷ st) (Of_block (snoc front s) ∷ vs) rest
+
+pub record Fails (want : List Symbol → List Symbol) (depth : ℕ) (ts : List Placed) (t : Option Placed) : Type 0 where
+  pub fails : (st : List Symbol) (vs : List Value) → opens (Statements ∷ st) ≡ depth → read (want (Statements ∷ st)) vs ts ≡ Refused t
+
+abbrev pub FailsAs : (List Symbol → List Symbol) → ℕ → List Placed → Stop → Type 0
+FailsAs want depth ts (Fault t) = Fails want depth ts t
+FailsAs want depth ts Memory = Unit {0}
+
+-- the brace that ends the block
+pub record Closes (ts rest : List Placed) : Type 0 where
+  pub closes : (st : List Symbol) (vs : List Value) → read (Statements ∷ st) vs ts ≡ read st vs rest

@@ -1,0 +1,52 @@
+-- What reading the declarations and the handlers does to the machine of the grammar.
+use Rattle.std.specs.Prelude.{◌≡◌, List, [], ◌∷◌, Option}
+use Rattle.sx_lang.specs.Tree.{HandlerTree}
+use Rattle.sx_lang.specs.View.{module_of}
+use Rattle.sx_lang.specs.declared.tree.Decl.{Decl}
+use Rattle.sx_lang.specs.declared.tree.Module.{Module}
+use Rattle.sx_lex.specs.declared.tokens.Placed.{Placed}
+use Rattle.sx_grammar.specs.Machine.{Symbol, Value, read, Outcome, Read, Refused, Of_module, Declarations, Handlers, begun, nothing}
+use Rattle.sx_parse.specs.declared.stop.Stop.{Stop}
+use Rattle.sx_parse.specs.declared.stop.Stop.TheVariants.{Fault, Memory}
+
+abbrev pub holding : List Decl → List HandlerTree → List Value
+holding ds hs = Of_module (record { decls = ds; handlers = hs }) ∷ []
+
+-- what is wanted is read in front of rest, and the declarations ds become us; then `to` is wanted
+pub record Declares (want : List Symbol → List Symbol) (ds : List Decl) (ts : List Placed) (us : List Decl) (to : List Symbol → List Symbol) (rest : List Placed) : Type 0 where
+  pub declares : (st : List Symbol) → read (want st) (holding ds []) ts ≡ read (to st) (holding us []) rest
+
+-- no declaration stands in front of these tokens
+pub record Passes (ds : List Decl) (ts : List Placed) (us : List Decl) : Type 0 where
+  pub passes : (st : List Symbol) (vs : List Value) → read (Declarations ∷ st) vs ts ≡ read (Handlers ∷ st) vs ts
+  pub same : us ≡ ds
+
+-- from the module's first token to these declarations, what is wanted next being a declaration or a handler
+pub record Declared (ts : List Placed) (ds : List Decl) (next : Symbol) (rest : List Placed) : Type 0 where
+  pub declared : read begun nothing ts ≡ read (next ∷ []) (holding ds []) rest
+
+-- whatever was declared, what is wanted in front of the handlers is read in front of rest, and the handlers hs become gs
+pub record Handles (want : List Symbol → List Symbol) (hs : List HandlerTree) (ts : List Placed) (gs : List HandlerTree) (rest : List Placed) : Type 0 where
+  pub handles : (ds : List Decl) → read (want (Handlers ∷ [])) (holding ds hs) ts ≡ read (Handlers ∷ []) (holding ds gs) rest
+
+-- the handlers to the text's end
+pub record Ends (ts : List Placed) (hs : List HandlerTree) : Type 0 where
+  pub ends : (ds : List Decl) → read (Handlers ∷ []) (holding ds []) ts ≡ Read (holding ds hs)
+
+pub record Breaks (ts : List Placed) (t : Option Placed) : Type 0 where
+  pub breaks : (ds : List Decl) → read (Handlers ∷ []) (holding ds []) ts ≡ Refused t
+
+abbrev pub BreaksAs : List Placed → Stop → Type 0
+BreaksAs ts (Fault t) = Breaks ts t
+BreaksAs ts Memory = Unit {0}
+
+-- the machine's answer to a whole text
+pub record Answers (ts : List Placed) (o : Outcome) : Type 0 where
+  pub answers : read begun nothing ts ≡ o
+
+abbrev pub Reaches : List Placed → Module → Type 0
+Reaches ts m = Answers ts (Read (Of_module (module_of m) ∷ []))
+
+abbrev pub Refuses : List Placed → Stop → Type 0
+Refuses ts (Fault t) = Answers ts (Refused t)
+Refuses ts Memory = Unit {0}

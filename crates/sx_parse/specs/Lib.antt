@@ -1,0 +1,4 @@
+pub mod Parsed
+pub mod Reading
+pub mod Adding
+pub mod Declaring

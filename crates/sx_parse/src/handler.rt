@@ -1,0 +1,80 @@
+ghost use Rattle.std.specs.Prelude.{◌≡◌, ◌<◌, [], ◌∷◌, length, map, MatchResult, IfOk, IfSome, MatchOption};
+ghost use Rattle.sx_lang.specs.View.{handler_of};
+ghost use Rattle.sx_grammar.specs.Machine.{Want, An_open, A_name, After_open, Handlers};
+ghost use Rattle.sx_parse.specs.Reading.{StopsAs, done};
+ghost use Rattle.sx_parse.specs.Declaring.{Handles, Ends, BreaksAs};
+
+use crate::sign::{Sign, identifier, take};
+use crate::statement::block;
+use crate::stop::Stop;
+use std::alloc::Global;
+use sx_lang::names::Name;
+use sx_lang::tree::Handler;
+use sx_lex::tokens::{Kind, Placed};
+
+/// Adds the handler of this input, or of samples, from its parameter on.
+#[tactic(auto, using(crate::proofs::Handlers::reads))]
+fn body<'a>(
+    alloc: Global,
+    all: &mut Vec<Handler>,
+    input: Option<Name>,
+    tokens: &'a [Placed],
+) -> Result<&'a [Placed], Stop>
+    ensures handles { MatchResult result (λ rest. Handles (λ st. Want An_open ∷ A_name (After_open input) ∷ st) (map handler_of all.old.items) tokens.now (map handler_of all.new.items) rest.now) (λ e. StopsAs (λ st. Want An_open ∷ A_name (After_open input) ∷ st) 0 tokens.now e) }
+    ensures shorter { IfOk result (λ rest. length rest.now < length tokens.now) }
+{
+    let rest = take(tokens, Sign::Open)?;
+    let (param, rest) = identifier(rest)?;
+    let rest = take(rest, Sign::Close)?;
+    let (body, rest) = block(alloc, rest, 0)?;
+    all.push(Handler {
+        input,
+        param: *param,
+        body,
+    })?;
+    Ok(rest)
+}
+
+/// Adds the handler that stands here, and gives what follows it; none at the text's end.
+#[tactic(auto, using(crate::proofs::Handlers::on_input, crate::proofs::Handlers::on_sample))]
+fn handler<'a>(
+    alloc: Global,
+    all: &mut Vec<Handler>,
+    tokens: &'a [Placed],
+) -> Result<Option<&'a [Placed]>, Stop>
+    ensures handles { MatchResult result (λ p. MatchOption p ((tokens.now ≡ []) × (all.new.items ≡ all.old.items)) (λ rest. Handles done (map handler_of all.old.items) tokens.now (map handler_of all.new.items) rest.now)) (λ e. StopsAs (λ st. Handlers ∷ st) 0 tokens.now e) }
+    ensures shorter { IfOk result (λ p. IfSome p (λ rest. length rest.now < length tokens.now)) }
+{
+    let Some((first, rest)) = tokens.split_first() else {
+        return Ok(None);
+    };
+    match first.kind {
+        Kind::On => {
+            let (input, rest) = identifier(rest)?;
+            let rest = body(alloc, all, Some(*input), rest)?;
+            Ok(Some(rest))
+        }
+        Kind::Sample => {
+            let rest = body(alloc, all, None, rest)?;
+            Ok(Some(rest))
+        }
+        _ => Err(Stop::Fault(Some(*first))),
+    }
+}
+
+/// The handlers, up to the text's end.
+#[tactic(auto, using(crate::proofs::Handlers::begins, crate::proofs::Handlers::goes_on, crate::proofs::Handlers::ends, crate::proofs::Handlers::breaks))]
+pub fn handlers(alloc: Global, tokens: &[Placed]) -> Result<Vec<Handler>, Stop>
+    ensures { MatchResult result (λ hs. Ends tokens.now (map handler_of hs.items)) (λ e. BreaksAs tokens.now e) }
+{
+    let mut all = Vec::new(alloc);
+    let mut rest = tokens;
+    loop {
+        let found = handler(alloc, &mut all, rest)?;
+        let Some(more) = found else {
+            break;
+        };
+        rest = more;
+    }
+    Ok(all)
+}
