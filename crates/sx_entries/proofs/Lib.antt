@@ -1,0 +1,5 @@
+pub mod FieldLemmas
+pub mod Texts
+pub mod RowForms
+pub mod Kept
+pub mod Made

@@ -1,0 +1,11 @@
+use Rattle.std.proofs.Common.{◌∙◌, ap}
+use Rattle.sx_entries.specs.Documents.{document_of}
+use Rattle.sx_entries.proofs.Texts.{table_of-text, table_of-no_text}
+use Rattle.sx_entries.proofs.documents.table_of.Goals as goal
+
+pub returns-in-Err : goal.returns-in-Err
+returns-in-Err c = table_of-no_text c.args.text.now c.in-Err.ensures.cases.0
+
+pub returns-in-Ok-table_from_str : goal.returns-in-Ok-table_from_str
+returns-in-Ok-table_from_str c =
+    table_of-text c.args.text.now c.in-Ok.ensures.cases.1 ∙ ap document_of (rw c.in-Ok.ensures.cases.0 at c.in-Ok-table_from_str.ensures.ok)

@@ -1,0 +1,5 @@
+use Rattle.sx_entries.proofs.Made.{entries_keep}
+use Rattle.sx_entries.proofs.laws.entries_keep.Goals as goal
+
+pub returns : goal.returns
+returns c = entries_keep

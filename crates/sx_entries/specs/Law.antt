@@ -1,0 +1,33 @@
+-- What holds of the entries of every document that keeps the rules 4 and 5.
+use Rattle.std.specs.Prelude.{◌≡◌, ℕ, ◌<◌, true, false, List, length, map, All, Ok}
+use Rattle.std.specs.List.{list_all}
+use Rattle.toml.specs.Data.{Members}
+use Rattle.sx_trace.specs.Names.{has_form, has_name, no_repeat, deployer}
+use Rattle.sx_entries.specs.Arrays.{RowLists, rows_of}
+use Rattle.sx_entries.specs.Entries.{EntryLists, entries_of}
+use Rattle.sx_entries.specs.declared.entries.Start.{Start}
+use Rattle.sx_entries.specs.declared.entries.Start.TheVariants as start
+
+-- each name is in form, and none stands twice
+pub record AreNamed (names : List (List ℕ)) : Type 0 where
+  pub form : list_all has_form names ≡ true
+  pub apart : no_repeat names ≡ true
+
+-- where a module drives a device, it is one of so many
+abbrev pub IsThere : Start → ℕ → Type 0
+IsThere (start.At at) devices = Unit {0}
+IsThere (start.Device n) devices = n < devices
+
+pub record AreEntries (e : EntryLists) : Type 0 where
+  pub nodes : AreNamed (map (λ n. n.name) e.nodes)
+  pub devices : AreNamed (map (λ d. d.name) e.devices)
+  pub modules : AreNamed (map (λ m. m.name) e.modules)
+  pub links : AreNamed (map (λ l. l.name) e.links)
+  pub no_deployer : has_name (map (λ m. m.name) e.modules) deployer ≡ false
+  pub device_nodes : All (λ d. d.node < length e.nodes) e.devices
+  pub module_nodes : All (λ m. m.node < length e.nodes) e.modules
+  pub module_devices : All (λ m. IsThere m.start (length e.devices)) e.modules
+
+-- what is read keeps this
+abbrev pub EntriesKeep : Type 0
+EntriesKeep = (t : Members) (rows : RowLists) (e : EntryLists) → rows_of t ≡ Ok rows → entries_of rows ≡ Ok e → AreEntries e

@@ -1,0 +1,34 @@
+//! Rule 3: the text is a document.
+ghost use Rattle.std.specs.Prelude.{◌≡◌};
+ghost use Rattle.toml.specs.View.{table_view};
+ghost use Rattle.sx_stage.specs.Fault.{Gives};
+ghost use Rattle.sx_entries.specs.Documents.{table_of};
+
+use std::alloc::Global;
+use sx_stage::fault::{DeployError, DeployFault, Place};
+use toml::Table;
+
+const NO_DOCUMENT: DeployFault = DeployFault {
+    rule: 3,
+    place: Place::Nowhere,
+};
+
+/// The table that the document holds.
+pub fn table_of(alloc: Global, text: &[u8]) -> Result<Table, DeployError>
+    ensures { Gives table_view result (table_of text.now) }
+{
+    let text = match std::str::from_utf8(text) {
+        Ok(text) => text,
+        Err(_) => return Err(DeployError::Fault(NO_DOCUMENT)),
+    };
+    match toml::table_from_str(alloc, text) {
+        Ok(table) => Ok(table),
+        Err(error) => {
+            if error.is_memory() {
+                Err(DeployError::OutOfMemory)
+            } else {
+                Err(DeployError::Fault(NO_DOCUMENT))
+            }
+        }
+    }
+}

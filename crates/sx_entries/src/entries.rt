@@ -1,0 +1,365 @@
+//! Rule 5: names are in form, new in their array, and name an entry where they should.
+ghost use Rattle.std.specs.Prelude.{◌≡◌, ℕ, List, Result, position};
+ghost use Rattle.std.specs.Str.{bytes_eq};
+ghost use Rattle.toml.specs.View.{table_view};
+ghost use Rattle.sx_stage.specs.Fault.{Gives};
+ghost use Rattle.sx_entries.specs.Entries.{device_made, device_named, entries_of, fresh, has_entry, link_made, link_named, module_made, module_named, node_made, node_named, not_reserved, place_among, start_named};
+
+use crate::arrays::Rows;
+use crate::fields::Source;
+use crate::rows::{DeviceRow, EndRow, LinkRow, ModuleRow, NodeRow, StartRow};
+use std::alloc::Global;
+use std::marker::Model;
+use sx_lang::names::Name;
+use sx_lang::tree::DeviceKind;
+use sx_stage::fault::{DeployError, Sort};
+use sx_stage::stages::{Make, in_entry, made};
+use sx_trace::names::DEPLOYER;
+
+#[derive(Drop)]
+pub struct NodeEntry {
+    pub name: Name,
+    pub key: [u8; 16],
+}
+
+#[derive(Drop)]
+pub struct DeviceEntry {
+    pub name: Name,
+    pub node: usize,
+    pub kind: DeviceKind,
+    pub at: u16,
+}
+
+/// Where a module's private section begins: at a number, or at the place of a device.
+#[derive(Clone, Copy, Drop)]
+pub enum Start {
+    At(u16),
+    Device(usize),
+}
+
+#[derive(Drop)]
+pub struct ModuleEntry<'a> {
+    pub name: Name,
+    pub node: usize,
+    pub provider: u16,
+    pub text: u16,
+    pub start: Start,
+    pub source: Source<'a>,
+}
+
+#[derive(Drop)]
+pub struct LinkEntry {
+    pub name: Name,
+    pub from: EndRow,
+    pub to: EndRow,
+}
+
+#[derive(Drop)]
+pub struct Entries<'a> {
+    pub secret: [u8; 16],
+    pub nodes: Vec<NodeEntry>,
+    pub devices: Vec<DeviceEntry>,
+    pub modules: Vec<ModuleEntry<'a>>,
+    pub links: Vec<LinkEntry>,
+}
+
+impl<'a> Model for Entries<'a> {
+    ghost use Rattle.sx_entries.specs.Entries.{EntryLists};
+
+    ghost Value = { EntryLists };
+
+    ghost view = { λ d. record {
+      secret = d.secret;
+      nodes = d.nodes.items;
+      devices = d.devices.items;
+      modules = d.modules.items;
+      links = d.links.items;
+    } };
+}
+
+/// A type of entry with a name.
+pub trait HasName {
+    ghost name_of: { Self → List ℕ };
+
+    fn name(&self) -> &Name
+        ensures { result.now ≡ name_of self.now };
+}
+
+fn is_called<T: HasName>(entry: &T, name: &Name) -> bool
+    ensures { result ≡ bytes_eq (T.name_of entry.now) name.now }
+{
+    entry.name().bytes() == name.bytes()
+}
+
+pub fn has_entry<T: HasName>(entries: &[T], name: &Name) -> bool
+    ensures { result ≡ has_entry T.name_of entries.now name.now }
+{
+    entries.iter().any(|e| is_called(e, name))
+}
+
+fn index_named<T: HasName>(entries: &[T], name: &Name) -> Option<usize>
+    ensures { result ≡ position (λ e. bytes_eq (T.name_of e) name.now) entries.now }
+{
+    entries.iter().position(|e| is_called(e, name))
+}
+
+/// The name, where it is in form and new.
+fn fresh<T: HasName>(entries: &[T], name: Option<Name>) -> Option<Name>
+    ensures { result ≡ fresh T.name_of entries.now name }
+{
+    match name {
+        Some(name) => {
+            if has_entry(entries, &name) {
+                None
+            } else {
+                Some(name)
+            }
+        }
+        None => None,
+    }
+}
+
+/// The place of the entry of this name.
+pub fn place_among<T: HasName>(entries: &[T], name: &Option<Name>) -> Option<usize>
+    ensures { result ≡ place_among T.name_of entries.now name.now }
+{
+    match name {
+        Some(name) => index_named(entries, name),
+        None => None,
+    }
+}
+
+impl HasName for NodeEntry {
+    ghost name_of = { λ e. e.name };
+
+    fn name(&self) -> &Name {
+        &self.name
+    }
+}
+
+impl HasName for DeviceEntry {
+    ghost name_of = { λ e. e.name };
+
+    fn name(&self) -> &Name {
+        &self.name
+    }
+}
+
+impl HasName for ModuleEntry<'_> {
+    ghost name_of = { λ e. e.name };
+
+    fn name(&self) -> &Name {
+        &self.name
+    }
+}
+
+impl HasName for LinkEntry {
+    ghost name_of = { λ e. e.name };
+
+    fn name(&self) -> &Name {
+        &self.name
+    }
+}
+
+fn node_named(done: &[NodeEntry], row: NodeRow) -> Option<NodeEntry>
+    ensures { result ≡ node_named done.now row }
+{
+    let NodeRow { name, key } = row;
+    let name = fresh(done, name)?;
+    Some(NodeEntry { name, key })
+}
+
+fn device_named(nodes: &[NodeEntry], done: &[DeviceEntry], row: DeviceRow) -> Option<DeviceEntry>
+    ensures { result ≡ device_named nodes.now done.now row }
+{
+    let DeviceRow {
+        name,
+        node,
+        kind,
+        at,
+    } = row;
+    let name = fresh(done, name)?;
+    let node = place_among(nodes, &node)?;
+    Some(DeviceEntry {
+        name,
+        node,
+        kind,
+        at,
+    })
+}
+
+fn start_named(devices: &[DeviceEntry], start: StartRow) -> Option<Start>
+    ensures { result ≡ start_named devices.now start }
+{
+    match start {
+        StartRow::At(at) => Some(Start::At(at)),
+        StartRow::Device(name) => match place_among(devices, &name) {
+            Some(index) => Some(Start::Device(index)),
+            None => None,
+        },
+    }
+}
+
+fn not_reserved(name: Name) -> Option<Name>
+    ensures { result ≡ not_reserved name }
+{
+    if name.bytes() == DEPLOYER.as_slice() {
+        None
+    } else {
+        Some(name)
+    }
+}
+
+fn module_named<'a>(
+    nodes: &[NodeEntry],
+    devices: &[DeviceEntry],
+    done: &[ModuleEntry],
+    row: ModuleRow<'a>,
+) -> Option<ModuleEntry<'a>>
+    ensures { result ≡ module_named nodes.now devices.now done.now row.entry }
+{
+    let ModuleRow {
+        name,
+        node,
+        provider,
+        text,
+        start,
+        source,
+    } = row;
+    let name = fresh(done, name)?;
+    let name = not_reserved(name)?;
+    let node = place_among(nodes, &node)?;
+    let start = start_named(devices, start)?;
+    Some(ModuleEntry {
+        name,
+        node,
+        provider,
+        text,
+        start,
+        source,
+    })
+}
+
+fn link_named(done: &[LinkEntry], row: LinkRow) -> Option<LinkEntry>
+    ensures { result ≡ link_named done.now row }
+{
+    let LinkRow { name, from, to } = row;
+    let name = fresh(done, name)?;
+    Some(LinkEntry { name, from, to })
+}
+
+#[derive(Drop)]
+struct Nodes;
+
+impl Make<NodeRow, NodeEntry> for Nodes {
+    ghost makes = { λ _. node_made };
+
+    fn make(
+        &self,
+        alloc: Global,
+        done: &[NodeEntry],
+        row: NodeRow,
+    ) -> Result<NodeEntry, DeployError> {
+        in_entry(5, Sort::Node, done.len(), node_named(done, row))
+    }
+}
+
+#[derive(Drop)]
+struct Devices<'a> {
+    nodes: &'a [NodeEntry],
+}
+
+impl Make<DeviceRow, DeviceEntry> for Devices<'_> {
+    ghost makes = { λ s. device_made s.nodes.now };
+
+    fn make(
+        &self,
+        alloc: Global,
+        done: &[DeviceEntry],
+        row: DeviceRow,
+    ) -> Result<DeviceEntry, DeployError> {
+        in_entry(
+            5,
+            Sort::Device,
+            done.len(),
+            device_named(self.nodes, done, row),
+        )
+    }
+}
+
+#[derive(Drop)]
+struct Modules<'a> {
+    nodes: &'a [NodeEntry],
+    devices: &'a [DeviceEntry],
+}
+
+impl<'a> Make<ModuleRow<'a>, ModuleEntry<'a>> for Modules<'_> {
+    ghost makes = { λ s. module_made s.nodes.now s.devices.now };
+
+    fn make(
+        &self,
+        alloc: Global,
+        done: &[ModuleEntry<'a>],
+        row: ModuleRow<'a>,
+    ) -> Result<ModuleEntry<'a>, DeployError> {
+        in_entry(
+            5,
+            Sort::Module,
+            done.len(),
+            module_named(self.nodes, self.devices, done, row),
+        )
+    }
+}
+
+#[derive(Drop)]
+struct Links;
+
+impl Make<LinkRow, LinkEntry> for Links {
+    ghost makes = { λ _. link_made };
+
+    fn make(
+        &self,
+        alloc: Global,
+        done: &[LinkEntry],
+        row: LinkRow,
+    ) -> Result<LinkEntry, DeployError> {
+        in_entry(5, Sort::Connection, done.len(), link_named(done, row))
+    }
+}
+
+/// The entries of a document.
+pub fn entries_of<'a>(alloc: Global, rows: Rows<'a>) -> Result<Entries<'a>, DeployError>
+    ensures { Gives (λ d. d) result (entries_of rows.entry) }
+{
+    let Rows {
+        secret,
+        nodes,
+        devices,
+        modules,
+        links,
+    } = rows;
+    let nodes = made(alloc, &Nodes, nodes)?;
+    let devices = made(
+        alloc,
+        &Devices {
+            nodes: nodes.as_slice(),
+        },
+        devices,
+    )?;
+    let modules = made(
+        alloc,
+        &Modules {
+            nodes: nodes.as_slice(),
+            devices: devices.as_slice(),
+        },
+        modules,
+    )?;
+    let links = made(alloc, &Links, links)?;
+    Ok(Entries {
+        secret,
+        nodes,
+        devices,
+        modules,
+        links,
+    })
+}

@@ -1,0 +1,4 @@
+pub mod Fault
+pub mod Stage
+pub mod Lines
+pub mod Text

@@ -1,0 +1,88 @@
+//! Stages: entries become entries of another type.
+ghost use Rattle.std.specs.Prelude.{◌≡◌, [], List, Result};
+ghost use Rattle.sx_stage.specs.declared.fault.DeployFault.{DeployFault as FaultSeen};
+ghost use Rattle.sx_stage.specs.Fault.{Gives, passes};
+ghost use Rattle.sx_stage.specs.Stage.{in_entry, made_after};
+
+use crate::fault::{DeployError, DeployFault, Sort, nth};
+use std::alloc::Global;
+
+/// What an entry becomes, after those before it.
+pub trait Make<A, B> {
+    ghost makes: { Self → List B → A → Result B FaultSeen };
+
+    fn make(&self, alloc: Global, done: &[B], row: A) -> Result<B, DeployError>
+        ensures { Gives (λ b. b) result (makes self.now done.now row) };
+}
+
+/// What the entries become, in order, or the first fault.
+pub fn made<A: Drop, B: Drop, M: Make<A, B>>(
+    alloc: Global,
+    maker: &M,
+    rows: Vec<A>,
+) -> Result<Vec<B>, DeployError>
+    ensures { Gives (λ v. v.items) result (made_after (M.makes maker.now) [] rows.items) }
+{
+    let mut done = Vec::new(alloc);
+    for row in rows {
+        let one = maker.make(alloc, done.as_slice(), row)?;
+        if done.push(one).is_err() {
+            return Err(DeployError::OutOfMemory);
+        }
+    }
+    Ok(done)
+}
+
+/// What an entry that stays gives, after what those before it gave.
+pub trait Derive<A, B> {
+    ghost derives: { Self → List B → A → Result B FaultSeen };
+
+    fn derive(&self, alloc: Global, done: &[B], row: &A) -> Result<B, DeployError>
+        ensures { Gives (λ b. b) result (derives self.now done.now row.now) };
+}
+
+/// What the entries give, in order, or the first fault.
+pub fn derived<A, B: Drop, D: Derive<A, B>>(
+    alloc: Global,
+    deriver: &D,
+    rows: &[A],
+) -> Result<Vec<B>, DeployError>
+    ensures { Gives (λ v. v.items) result (made_after (D.derives deriver.now) [] rows.now) }
+{
+    let mut done = Vec::new(alloc);
+    for row in rows {
+        let one = deriver.derive(alloc, done.as_slice(), row)?;
+        if done.push(one).is_err() {
+            return Err(DeployError::OutOfMemory);
+        }
+    }
+    Ok(done)
+}
+
+/// Nothing, where there is no fault.
+pub fn passes(fault: Option<DeployFault>) -> Result<(), DeployError>
+    ensures { Gives (λ x. x) result (passes fault) }
+{
+    match fault {
+        Some(fault) => Err(DeployError::Fault(fault)),
+        None => Ok(()),
+    }
+}
+
+/// The value, or that the entry breaks the rule.
+pub fn in_entry<T: Drop>(
+    rule: u8,
+    sort: Sort,
+    index: usize,
+    one: Option<T>,
+) -> Result<T, DeployError>
+    ensures { Gives (λ x. x) result (in_entry rule sort index one) }
+{
+    match one {
+        Some(x) => Ok(x),
+        None => Err(DeployError::Fault(DeployFault {
+            rule,
+            place: nth(sort, index),
+        })),
+    }
+}

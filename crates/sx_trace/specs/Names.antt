@@ -1,0 +1,57 @@
+-- The names of a deployment: their form, when lists of them are valid, and where a name stands.
+use Rattle.std.specs.Prelude.{ℕ, Bool, true, false, ◌&&◌, ◌||◌, ◌==◌, not, nat_le, codes, slice_index, if◌then◌else◌, List, [], ◌∷◌, length, position, Option, Some, None, option_and_then, unwrap_or, slice_get}
+use Rattle.std.specs.List.{list_all, list_any}
+use Rattle.std.specs.Str.{bytes_eq}
+
+-- the names of the nodes, devices, modules and connections, and whether each device is a sensor
+pub record NameLists : Type 0 where
+  pub nodes : List (List ℕ)
+  pub devices : List (List ℕ)
+  pub sensors : List Bool
+  pub modules : List (List ℕ)
+  pub links : List (List ℕ)
+
+abbrev pub is_lower : ℕ → Bool
+is_lower b = nat_le 97 b && nat_le b 122
+
+-- a lower-case letter, a digit or `_`
+abbrev pub is_name_byte : ℕ → Bool
+is_name_byte b = (is_lower b || (nat_le 48 b && nat_le b 57)) || b == 95
+
+-- a lower-case letter and up to 15 lower-case letters, digits or `_`; a word of the handler language too
+abbrev pub has_form : List ℕ → Bool
+has_form text = (nat_le 1 (length text) && nat_le (length text) 16) && (is_lower (slice_index text 0) && list_all is_name_byte text)
+
+-- the name stands in the list
+abbrev pub has_name : List (List ℕ) → List ℕ → Bool
+has_name names text = list_any (λ name. bytes_eq name text) names
+
+abbrev pub no_repeat : List (List ℕ) → Bool
+no_repeat [] = true
+no_repeat (x ∷ xs) = not (has_name xs x) && no_repeat xs
+
+-- so many names at most, each in form, and none twice
+abbrev pub are_names : ℕ → List (List ℕ) → Bool
+are_names most names = nat_le (length names) most && (list_all has_form names && no_repeat names)
+
+-- the deployer's own name, which no module has
+abbrev pub deployer : List ℕ
+deployer = codes "deployer"
+
+unfoldable pub are_valid : NameLists → Bool
+are_valid n =
+    (are_names 16 n.nodes && are_names 32 n.devices)
+    && ((are_names 32 n.modules && are_names 64 n.links)
+    && (not (has_name n.modules deployer) && length n.sensors == length n.devices))
+
+-- the place of a name in its list
+abbrev pub place_of : List (List ℕ) → List ℕ → Option ℕ
+place_of names text = position (λ name. bytes_eq name text) names
+
+-- the device of this place, where it is a sensor
+abbrev pub if_sensor : List Bool → ℕ → Option ℕ
+if_sensor sensors device = if unwrap_or (slice_get sensors device) false then Some device else None
+
+-- the place of a sensor's name among the devices
+abbrev pub sensor_place : NameLists → List ℕ → Option ℕ
+sensor_place n text = option_and_then (if_sensor n.sensors) (place_of n.devices text)

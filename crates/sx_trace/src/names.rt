@@ -1,0 +1,189 @@
+ghost use Rattle.std.specs.Prelude.{◌≡◌, ◌≤◌, ◌<◌, length, IsTrue, IfSome};
+ghost use Rattle.std.specs.List.{list_all};
+ghost use Rattle.std.specs.Str.{bytes_eq};
+ghost use Rattle.sx_trace.specs.Names.{are_names, are_valid, deployer, has_form, has_name, if_sensor, is_lower, is_name_byte, no_repeat, place_of, sensor_place};
+
+use std::marker::Model;
+use sx_lang::names::Name;
+
+/// The name of the deployer, which no module has.
+pub const DEPLOYER: [u8; 8] = *b"deployer";
+
+/// The names of nodes, devices, modules and connections, each list in the deployment's order.
+#[derive(Drop)]
+pub struct Names {
+    pub nodes: Vec<Name>,
+    pub devices: Vec<Name>,
+    /// Whether each device is a sensor.
+    pub sensors: Vec<bool>,
+    pub modules: Vec<Name>,
+    pub links: Vec<Name>,
+}
+
+impl Model for Names {
+    ghost use Rattle.sx_trace.specs.Names.{NameLists};
+
+    ghost Value = { NameLists };
+
+    ghost view = { λ n. record {
+      nodes = n.nodes.items;
+      devices = n.devices.items;
+      sensors = n.sensors.items;
+      modules = n.modules.items;
+      links = n.links.items;
+    } };
+}
+
+fn is_lower(byte: u8) -> bool
+    ensures { result ≡ is_lower byte }
+{
+    97 <= byte && byte <= 122
+}
+
+fn is_name_byte(byte: u8) -> bool
+    ensures { result ≡ is_name_byte byte }
+{
+    is_lower(byte) || (48 <= byte && byte <= 57) || byte == 95
+}
+
+fn are_name_bytes(text: &[u8]) -> bool
+    ensures { result ≡ list_all is_name_byte text.now }
+{
+    text.iter().all(|b| is_name_byte(*b))
+}
+
+/// Whether a text has the form of a name: a lower-case letter and up to 15 lower-case letters,
+/// digits or `_`.
+pub fn has_form(text: &[u8]) -> bool
+    ensures { result ≡ has_form text.now }
+{
+    1 <= text.len() && text.len() <= 16 && is_lower(text[0]) && are_name_bytes(text)
+}
+
+fn have_form(names: &[Name]) -> bool
+    ensures { result ≡ list_all has_form names.now }
+{
+    names.iter().all(|name| has_form(name.bytes()))
+}
+
+/// Whether a name stands in the list.
+pub fn has_name(names: &[Name], text: &[u8]) -> bool
+    ensures { result ≡ has_name names.now text.now }
+{
+    names.iter().any(|name| is_called(name, text))
+}
+
+fn no_repeat(names: &[Name]) -> bool
+    ensures { result ≡ no_repeat names.now }
+{
+    let mut rest = names;
+    while let Some((first, after)) = rest.split_first() {
+        if has_name(after, first.bytes()) {
+            return false;
+        }
+        rest = after;
+    }
+    true
+}
+
+fn are_names(names: &[Name], most: usize) -> bool
+    ensures { result ≡ are_names most names.now }
+{
+    names.len() <= most && have_form(names) && no_repeat(names)
+}
+
+fn is_called(name: &Name, text: &[u8]) -> bool
+    ensures { result ≡ bytes_eq name.now text.now }
+{
+    name.bytes() == text
+}
+
+fn index_of(names: &[Name], text: &[u8]) -> Option<usize>
+    ensures place { result ≡ place_of names.now text.now }
+    ensures within { IfSome result (λ place. place < length names.now) }
+{
+    names.iter().position(|name| is_called(name, text))
+}
+
+fn place_of(names: &[Name], text: &[u8]) -> Option<u8>
+    requires { length names.now ≤ 64 }
+    ensures place { result ≡ place_of names.now text.now }
+    ensures within { IfSome result (λ place. place < length names.now) }
+{
+    match index_of(names, text) {
+        Some(place) => Some(place as u8),
+        None => None,
+    }
+}
+
+fn if_sensor(sensors: &[bool], device: u8) -> Option<u8>
+    ensures { result ≡ if_sensor sensors.now device }
+{
+    match sensors.get(usize::from(device)) {
+        Some(true) => Some(device),
+        _ => None,
+    }
+}
+
+impl Names {
+    /// Whether these are names that a deployment may have: each has the form of a name, no list
+    /// repeats one, no module is named `deployer`, each device has an entry in `sensors`, and there
+    /// are at most 16 nodes, 32 devices, 32 modules and 64 connections.
+    #[tactic(auto, unfolding(crate::specs::Names::are_valid))]
+    pub fn valid(&self) -> bool
+        ensures { result ≡ are_valid self.now }
+    {
+        are_names(&self.nodes, 16)
+            && are_names(&self.devices, 32)
+            && are_names(&self.modules, 32)
+            && are_names(&self.links, 64)
+            && !has_name(&self.modules, &DEPLOYER)
+            && self.sensors.len() == self.devices.len()
+    }
+
+    /// The place of the node of this name.
+    pub fn node(&self, text: &[u8]) -> Option<u8>
+        requires { IsTrue (are_valid self.now) }
+        ensures place { result ≡ place_of self.now.nodes text.now }
+        ensures within { IfSome result (λ place. place < length self.now.nodes) }
+    {
+        place_of(&self.nodes, text)
+    }
+
+    /// The place of the device of this name.
+    pub fn device(&self, text: &[u8]) -> Option<u8>
+        requires { IsTrue (are_valid self.now) }
+        ensures place { result ≡ place_of self.now.devices text.now }
+        ensures within { IfSome result (λ place. place < length self.now.devices) }
+    {
+        place_of(&self.devices, text)
+    }
+
+    /// The place among the devices of the sensor of this name.
+    pub fn sensor(&self, text: &[u8]) -> Option<u8>
+        requires { IsTrue (are_valid self.now) }
+        ensures place { result ≡ sensor_place self.now text.now }
+        ensures within { IfSome result (λ place. place < length self.now.devices) }
+    {
+        let device = place_of(&self.devices, text)?;
+        if_sensor(&self.sensors, device)
+    }
+
+    /// The place of the module of this name.
+    pub fn module(&self, text: &[u8]) -> Option<u8>
+        requires { IsTrue (are_valid self.now) }
+        ensures place { result ≡ place_of self.now.modules text.now }
+        ensures within { IfSome result (λ place. place < length self.now.modules) }
+    {
+        place_of(&self.modules, text)
+    }
+
+    /// The place of the connection of this name.
+    pub fn link(&self, text: &[u8]) -> Option<u8>
+        requires { IsTrue (are_valid self.now) }
+        ensures place { result ≡ place_of self.now.links text.now }
+        ensures within { IfSome result (λ place. place < length self.now.links) }
+    {
+        place_of(&self.links, text)
+    }
+}
