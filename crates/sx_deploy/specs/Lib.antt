@@ -1,0 +1,12 @@
+pub mod Counts
+pub mod Sources
+pub mod Checks
+pub mod Seen
+pub mod Ties
+pub mod SeenPort
+pub mod Places
+pub mod SeenSections
+pub mod Ends
+pub mod Deployment
+pub mod SeenDeployment
+pub mod Law

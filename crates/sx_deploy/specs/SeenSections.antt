@@ -1,0 +1,10 @@
+-- What contracts see of sections in memory.
+use Rattle.sx_deploy.specs.Places as places
+use Rattle.sx_deploy.specs.declared.placing.Span.{Span}
+use Rattle.sx_deploy.specs.declared.placing.Sections.{Sections}
+
+abbrev pub span_as : Span → places.Span
+span_as s = record { from = s.from; to = s.to }
+
+abbrev pub sections_as : Sections → places.Sections
+sections_as s = record { node = s.node; drives = s.drives; text = span_as s.text; data_part = span_as s.«data» }

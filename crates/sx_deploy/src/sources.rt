@@ -1,0 +1,64 @@
+//! Rule 7: each source is in the grammar.
+ghost use Rattle.std.specs.Prelude.{map};
+ghost use Rattle.sx_lang.specs.View.{module_of};
+ghost use Rattle.sx_stage.specs.Fault.{GivesOne};
+ghost use Rattle.sx_deploy.specs.Seen.{parsed_as};
+ghost use Rattle.sx_deploy.specs.Sources.{AreCoded, IsCoded};
+
+use std::alloc::Global;
+use sx_entries::entries::{ModuleEntry, Start};
+use sx_lang::names::Name;
+use sx_lang::tree::Module;
+use sx_parse::error::ParseError;
+use sx_parse::parse::parse;
+use sx_stage::fault::{DeployError, DeployFault, Place, cut};
+
+/// A module whose source is in the grammar.
+#[derive(Drop)]
+pub struct ParsedModule {
+    pub name: Name,
+    pub node: usize,
+    pub provider: u16,
+    pub text: u16,
+    pub start: Start,
+    pub tree: Module,
+}
+
+/// The module of this number with the tree of its source.
+fn coded(alloc: Global, number: usize, entry: &ModuleEntry) -> Result<ParsedModule, DeployError>
+    ensures { GivesOne parsed_as result (IsCoded number entry.now) }
+{
+    match parse(alloc, entry.source.text()) {
+        Ok(tree) => Ok(ParsedModule {
+            name: entry.name,
+            node: entry.node,
+            provider: entry.provider,
+            text: entry.text,
+            start: entry.start,
+            tree,
+        }),
+        Err(ParseError::Fault(fault)) => Err(DeployError::Fault(DeployFault {
+            rule: 7,
+            place: Place::Source(cut(number), fault.line, fault.column),
+        })),
+        Err(ParseError::OutOfMemory) => Err(DeployError::OutOfMemory),
+    }
+}
+
+/// The modules with the trees of their sources.
+#[tactic(auto, using(crate::proofs::Begun::begins, crate::proofs::Begun::goes_on, crate::proofs::Begun::ends))]
+pub fn coded_all(alloc: Global, modules: &[ModuleEntry]) -> Result<Vec<ParsedModule>, DeployError>
+    ensures { GivesOne (λ v. map parsed_as v.items) result (AreCoded 0 modules.now) }
+{
+    let mut done = Vec::new(alloc);
+    for entry in modules {
+        let one = match coded(alloc, done.len(), entry) {
+            Ok(one) => one,
+            Err(error) => return Err(error),
+        };
+        if done.push(one).is_err() {
+            return Err(DeployError::OutOfMemory);
+        }
+    }
+    Ok(done)
+}

@@ -1,0 +1,238 @@
+//! Rule 9: modules fit their devices, connections their modules, and nothing is overloaded.
+ghost use Rattle.std.specs.Prelude.{◌≡◌, ◌+◌, map, nat_lt, option_map, slice_get};
+ghost use Rattle.std.specs.Option.{option_copied};
+ghost use Rattle.sx_mean.specs.Application.{ends_from, ends_to, sends_too_much};
+ghost use Rattle.sx_check.specs.Source.{source_tree};
+ghost use Rattle.sx_stage.specs.Fault.{Gives};
+ghost use Rattle.sx_stage.specs.Lines.{entries};
+ghost use Rattle.sx_stage.specs.declared.fault.Sort.TheVariants.{Module};
+ghost use Rattle.sx_entries.specs.Entries.{place_among};
+ghost use Rattle.sx_trace.specs.Names.{place_of};
+ghost use Rattle.sx_deploy.specs.Seen.{checked_as};
+ghost use Rattle.sx_deploy.specs.SeenPort.{port_as};
+ghost use Rattle.sx_deploy.specs.Ties.{byte, device_of, has_many_ends, is_mistied, link_of, links_of, makes_many_packets, port_in, port_names, port_of, port_place, tied};
+
+use crate::checks::CheckedModule;
+use std::alloc::Global;
+use sx_check::checked::Checked;
+use sx_entries::entries::{HasName, LinkEntry, Start, place_among};
+use sx_entries::rows::EndRow;
+use sx_lang::names::Name;
+use sx_lang::tree::Decl;
+use sx_mean::apps::{
+    AppDevice, Link, declared_kind, ends_from, ends_to, is_driven, sends_too_much,
+};
+use sx_stage::fault::{DeployError, DeployFault, Sort};
+use sx_stage::lines::{Line, entries};
+use sx_stage::stages::{Derive, derived, in_entry, passes};
+
+/// A number as a byte, cut at 255.
+pub fn byte(number: usize) -> u8
+    ensures { result ≡ byte number }
+{
+    number.min(255) as u8
+}
+
+/// The device that a module drives.
+pub fn device_of(start: Start) -> Option<u8>
+    ensures { result ≡ device_of start }
+{
+    match start {
+        Start::At(_) => None,
+        Start::Device(number) => Some(byte(number)),
+    }
+}
+
+#[derive(Drop)]
+struct Misties<'a> {
+    devices: &'a [AppDevice],
+}
+
+impl Line<CheckedModule> for Misties<'_> {
+    ghost bad = { λ s earlier m. is_mistied s.devices.now (map checked_as earlier) (checked_as m) };
+
+    fn is_bad(&self, earlier: &[CheckedModule], row: &CheckedModule) -> bool {
+        let kind = declared_kind(&row.code.module().decls);
+        !is_driven(self.devices, byte(row.node), device_of(row.start), kind)
+    }
+}
+
+fn mistied(devices: &[AppDevice], modules: &[CheckedModule]) -> Option<DeployFault>
+    ensures { result ≡ entries 9 Module (is_mistied devices.now) (map checked_as modules.now) }
+{
+    entries(9, Sort::Module, &Misties { devices }, modules)
+}
+
+impl HasName for CheckedModule {
+    ghost name_of = { λ m. m.name };
+
+    fn name(&self) -> &Name {
+        &self.name
+    }
+}
+
+fn owner_place(modules: &[CheckedModule], name: &Option<Name>) -> Option<usize>
+    ensures { result ≡ place_among (λ m. m.name) (map checked_as modules.now) name.now }
+{
+    place_among(modules, name)
+}
+
+fn module_at(modules: &[CheckedModule], place: usize) -> Option<&CheckedModule>
+    ensures { option_map (λ m. checked_as m.now) result ≡ slice_get (map checked_as modules.now) place }
+{
+    modules.get(place)
+}
+
+fn port_in(output: bool, d: &Decl) -> Option<&Name>
+    ensures { option_copied result ≡ port_in output d.now }
+{
+    match d {
+        Decl::Input(x) => { if output { None } else { Some(x) } }
+        Decl::Output(x) => { if output { Some(x) } else { None } }
+        Decl::Device(_) | Decl::Var(_, _) | Decl::Array(_, _) => None,
+    }
+}
+
+fn port_named(output: bool, decls: &[Decl], name: &Name) -> Option<usize>
+    ensures { result ≡ place_of (port_names output decls.now) name.now }
+{
+    let mut before: usize = 0;
+    for d in decls {
+        let Some(port) = port_in(output, d) else {
+            continue;
+        };
+        if port.bytes() == name.bytes() {
+            return Some(before);
+        }
+        before += 1;
+    }
+    None
+}
+
+fn port_place(output: bool, code: &Checked, name: &Option<Name>) -> Option<usize>
+    ensures { result ≡ port_place output (source_tree code.now).decls name.now }
+{
+    match name {
+        Some(name) => port_named(output, &code.module().decls, name),
+        None => None,
+    }
+}
+
+/// A module and one of its ports, by their numbers.
+#[derive(Clone, Copy)]
+struct Port {
+    owner: u8,
+    port: u8,
+}
+
+fn port_of(output: bool, modules: &[CheckedModule], row: &EndRow) -> Option<Port>
+    ensures { option_map port_as result ≡ port_of output (map checked_as modules.now) row.now }
+{
+    let owner = owner_place(modules, &row.owner)?;
+    let module = module_at(modules, owner)?;
+    let port = port_place(output, &module.code, &row.port)?;
+    Some(Port {
+        owner: byte(owner),
+        port: byte(port),
+    })
+}
+
+fn link_of(modules: &[CheckedModule], row: &LinkEntry) -> Option<Link>
+    ensures { result ≡ link_of (map checked_as modules.now) row.now }
+{
+    let from = port_of(true, modules, &row.from)?;
+    let to = port_of(false, modules, &row.to)?;
+    Some(Link {
+        from: from.owner,
+        output: from.port,
+        to: to.owner,
+        input: to.port,
+    })
+}
+
+#[derive(Drop)]
+struct Tier<'a> {
+    modules: &'a [CheckedModule],
+}
+
+impl Derive<LinkEntry, Link> for Tier<'_> {
+    ghost derives = { λ s. tied (map checked_as s.modules.now) };
+
+    fn derive(&self, _alloc: Global, done: &[Link], row: &LinkEntry) -> Result<Link, DeployError> {
+        in_entry(9, Sort::Connection, done.len(), link_of(self.modules, row))
+    }
+}
+
+/// The ends that a module of this number holds, cut at 255.
+pub fn ends_at(links: &[Link], place: usize) -> u8
+    ensures { result ≡ byte (ends_from links.now place + ends_to links.now place) }
+{
+    byte(ends_from(links, place).min(255) + ends_to(links, place).min(255))
+}
+
+#[tactic(auto, using(crate::proofs::Bytes::many_cut))]
+fn has_many(links: &[Link], place: usize) -> bool
+    ensures { result ≡ nat_lt 16 (ends_from links.now place + ends_to links.now place) }
+{
+    16 < ends_at(links, place)
+}
+
+#[derive(Drop)]
+struct ManyEnds<'a> {
+    links: &'a [Link],
+}
+
+impl Line<CheckedModule> for ManyEnds<'_> {
+    ghost bad = { λ s earlier m. has_many_ends s.links.now (map checked_as earlier) (checked_as m) };
+
+    fn is_bad(&self, earlier: &[CheckedModule], _row: &CheckedModule) -> bool {
+        has_many(self.links, earlier.len())
+    }
+}
+
+fn many_ends(links: &[Link], modules: &[CheckedModule]) -> Option<DeployFault>
+    ensures { result ≡ entries 9 Module (has_many_ends links.now) (map checked_as modules.now) }
+{
+    entries(9, Sort::Module, &ManyEnds { links }, modules)
+}
+
+fn makes_many(links: &[Link], place: usize, code: &Checked) -> bool
+    ensures { result ≡ sends_too_much links.now place (source_tree code.now) }
+{
+    sends_too_much(links, place, code.module())
+}
+
+#[derive(Drop)]
+struct ManyPackets<'a> {
+    links: &'a [Link],
+}
+
+impl Line<CheckedModule> for ManyPackets<'_> {
+    ghost bad = { λ s earlier m. makes_many_packets s.links.now (map checked_as earlier) (checked_as m) };
+
+    fn is_bad(&self, earlier: &[CheckedModule], row: &CheckedModule) -> bool {
+        makes_many(self.links, earlier.len(), &row.code)
+    }
+}
+
+fn many_packets(links: &[Link], modules: &[CheckedModule]) -> Option<DeployFault>
+    ensures { result ≡ entries 9 Module (makes_many_packets links.now) (map checked_as modules.now) }
+{
+    entries(9, Sort::Module, &ManyPackets { links }, modules)
+}
+
+/// The connections, by the places of modules and ports.
+pub fn links_of(
+    alloc: Global,
+    devices: &[AppDevice],
+    modules: &[CheckedModule],
+    rows: &[LinkEntry],
+) -> Result<Vec<Link>, DeployError>
+    ensures { Gives (λ v. v.items) result (links_of devices.now (map checked_as modules.now) rows.now) }
+{
+    passes(mistied(devices, modules))?;
+    let links = derived(alloc, &Tier { modules }, rows)?;
+    passes(many_ends(&links, modules))?;
+    passes(many_packets(&links, modules))?;
+    Ok(links)
+}
