@@ -4,3 +4,4 @@ pub mod Going
 pub mod Sent
 pub mod Tells
 pub mod Statuses
+pub mod Heads

@@ -2,7 +2,8 @@
 use Rattle.std.specs.Prelude.{ℕ, ◌+◌, List, [], ◌∷◌, Option, Some, None, IsTrue}
 use Rattle.sx_io.specs.Reading.{Answer, Line, End, Long, Fault}
 use Rattle.sx_top.specs.Orders.{Order}
-use Rattle.sx_top.specs.Output.{numbered, is_mark}
+use Rattle.sx_head.specs.Head.{is_mark}
+use Rattle.sx_top.specs.Output.{numbered}
 
 abbrev pub IsOrder : Option Order → Type 0
 IsOrder (Some order) = Unit {0}

@@ -4,3 +4,5 @@ pub mod Items
 pub mod Ran
 pub mod Output
 pub mod Good
+pub mod Check
+pub mod Commands

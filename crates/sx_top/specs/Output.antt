@@ -1,7 +1,7 @@
--- What a command writes, and its exit status: a function of the words, of the input's bytes and of how they end.
+-- What the command `run` writes, and its exit status: a function of the answers that the lines of its input give.
 use Rattle.std.specs.Prelude.{ℕ, ◌+◌, Bool, false, List, [], ◌∷◌, ◌++◌, Option, Some, None, codes, nat_lt, replicate, if◌then◌else◌}
-use Rattle.std.specs.Str.{bytes_eq}
-use Rattle.sx_io.specs.Reading.{Ending, Answer, Line, End, Long, Fault, scan}
+use Rattle.sx_io.specs.Reading.{Answer, Line, End, Long, Fault}
+use Rattle.sx_head.specs.Head.{is_mark}
 use Rattle.sx_told.specs.Told.{Output, behind, read_failed}
 use Rattle.sx_tag.specs.Mac.{Mac}
 use Rattle.sx_machine.specs.State.{State, power_on}
@@ -61,28 +61,14 @@ run_from mac s number (Long ∷ more) = unbuilt
 run_from mac s number (Fault ∷ more) = unread
 run_from mac s number (Line text ∷ more) = on_order mac s (numbered number text) (λ left. run_from mac left (number + 1) more)
 
--- the line that ends the deployment, which is empty so far
-abbrev pub is_mark : List ℕ → Bool
-is_mark text = bytes_eq text (codes "%%")
-
 -- the node `n`: a key of sixteen zero bytes, and no device
 unfoldable pub first_node : State
 first_node = power_on (replicate 16 0) []
 
--- the command `run`
+-- the command `run`: its deployment is empty so far
 abbrev pub run_all : Mac → List Answer → Output
 run_all mac [] = unbuilt
 run_all mac (End ∷ more) = unbuilt
 run_all mac (Long ∷ more) = unbuilt
 run_all mac (Fault ∷ more) = unread
 run_all mac (Line text ∷ more) = if is_mark text then behind trace_line (run_from mac first_node 1 more) else unbuilt
-
--- the words are the one word `run`
-abbrev pub is_run : List (List ℕ) → Bool
-is_run [] = false
-is_run (word ∷ []) = bytes_eq word (codes "run")
-is_run (word ∷ next ∷ rest) = false
-
--- what is written for these words and these bytes, which end so
-unfoldable pub output_of : Mac → List (List ℕ) → Ending → List ℕ → Output
-output_of mac words e bytes = if is_run words then run_all mac (scan e [] bytes) else misused

@@ -6,6 +6,7 @@
 //! over the node's definitions in sx_machine), and the items that tell of it (specs/Items.antt).
 #![tactic(auto)]
 
+mod check;
 mod command;
 mod items;
 mod obey;

@@ -9,13 +9,14 @@ ghost use Rattle.sx_machine.specs.State.{State};
 ghost use Rattle.sx_top.specs.Orders.{meant, IsFit};
 ghost use Rattle.sx_top.specs.Ran.{ordered};
 ghost use Rattle.sx_top.specs.Items.{items_text};
-ghost use Rattle.sx_top.specs.Output.{numbered, told_by, run_from, run_all, is_mark, first_node, trace_line, end_line, read_line, unbuilt_line, unbuilt};
+ghost use Rattle.sx_top.specs.Output.{numbered, told_by, run_from, run_all, first_node, trace_line, end_line, read_line, unbuilt_line, unbuilt};
 
 use crate::items::{Item, put_items};
 use crate::obey::obey;
 use crate::order::{LineError, Order, order_of};
 use std::alloc::{AllocError, Global};
 use sx_bus::{Bus, FlatBus, Windows};
+use sx_head::is_mark;
 use sx_io::{LineRead, Lines, ReaderState, Sink, Source};
 use sx_node::Node;
 use sx_tag::Tag;
@@ -131,12 +132,6 @@ fn first_node<T: Tag>(alloc: Global, tag: T) -> Result<Node<FlatBus, T>, AllocEr
     let bus = FlatBus::new(alloc)?;
     let windows = Windows::new(alloc, &[])?;
     Ok(Node::new(bus, tag, [0; 16], windows))
-}
-
-fn is_mark(text: &[u8]) -> bool
-    ensures { result ≡ is_mark text.now }
-{
-    text == b"%%".as_slice()
 }
 
 /// The schedule, on the node `n`.

@@ -25,17 +25,18 @@ fn source(alloc: Global, text: &[u8], piece: usize, failing: u64) -> Result<MemS
     Ok(MemSource::new(bytes, piece, calls))
 }
 
-/// Whether `run` writes this text for the input, and ends with this status.
+/// Whether the command writes this text for the input, and ends with this status.
 fn writes(
     rt: &impl Abort,
     alloc: Global,
+    word: &str,
     input: &[u8],
     status: u8,
     text: &[u8],
 ) -> Result<(), Fail> {
     let mut input = source(alloc, input, 4096, 0)?;
     let mut output = MemSink::new(alloc, 400, Vec::new(alloc))?;
-    let answer = top(alloc, &words(alloc, "run")?, &mut input, &mut output);
+    let answer = top(alloc, &words(alloc, word)?, &mut input, &mut output);
     assert_eq!(rt; answer, status);
     assert_eq!(rt; output.written(), text);
     Ok(())
@@ -94,7 +95,89 @@ fn runs(rt: HostRuntime) -> Result<(), Fail> {
         ),
     ];
     for (input, status, text) in rows {
-        writes(&rt, rt.alloc(), input, status, text)?;
+        writes(&rt, rt.alloc(), "run", input, status, text)?;
+    }
+    Ok(())
+}
+
+/// A sensor's driver, a module, and what lights the bulb on another node.
+const LIGHTING: &[u8] = br#"secret = "000102030405060708090a0b0c0d0e0f"
+node = [ { name = "a", key = "101112131415161718191a1b1c1d1e1f" },
+         { name = "b", key = "202122232425262728292a2b2c2d2e2f" } ]
+device = [ { name = "light", node = "a", kind = "sensor", at = 0x1000 },
+           { name = "bulb", node = "b", kind = "actuator", at = 0x1000 } ]
+connection = [ { name = "up", from = "eye.level", to = "logic.level" },
+               { name = "down", from = "logic.bright", to = "lamp.show" } ]
+[[module]]
+name = "eye"
+node = "a"
+provider = 7
+text = 0x4000
+device = "light"
+source = """
+sensor;
+output level;
+sample(v) { send level(v); }
+"""
+[[module]]
+name = "logic"
+node = "a"
+provider = 7
+text = 0x6000
+data = 0x2000
+source = """
+input level;
+output bright;
+var limit = 100;
+on level(v) { if v > limit { send bright(1); } else { send bright(0); } }
+"""
+[[module]]
+name = "lamp"
+node = "b"
+provider = 7
+text = 0x4000
+device = "bulb"
+source = """
+actuator;
+input show;
+on show(v) { emit v; }
+"""
+%%
+fly
+"#;
+
+#[test]
+fn checks(rt: HostRuntime) -> Result<(), Fail> {
+    let long = [b'#'; 4097];
+    let rows: [(&[u8], u8, &[u8]); 9] = [
+        (
+            LIGHTING,
+            0,
+            b"module eye text 0x4000 0x4980 data 0x1000 0x1218\nmodule logic text 0x6000 0x6c00 data 0x2000 0x2232\nmodule lamp text 0x4000 0x4980 data 0x1000 0x1218\nend\n",
+        ),
+        (b"%%\n", 0, b"end\n"),
+        (&long, 1, b"fault deployment D1 -\n"),
+        (b"", 1, b"fault deployment D2 -\n"),
+        (b"x = \n%%\n", 1, b"fault deployment D3 -\n"),
+        (b"x = 1\n%%\n", 1, b"fault deployment D4 top\n"),
+        (
+            b"node = [ { name = \"a\" } ]\n%%\n",
+            1,
+            b"fault deployment D4 node 0\n",
+        ),
+        (
+            b"[[module]]\nname = \"m\"\nnode = \"n\"\nprovider = 1\ntext = 0x4000\ndata = 0x2000\nsource = \"sensor\"\n%%\n",
+            1,
+            b"fault deployment D7 module 0 1 7\n",
+        ),
+        (
+            b"[[module]]\nname = \"m\"\nnode = \"n\"\nprovider = 1\ntext = 0x4000\ndata = 0x2000\nsource = \"on a(v) { }\"\n%%\n",
+            1,
+            b"fault deployment D8 module 0 2\n",
+        ),
+    ];
+    for (input, status, text) in rows {
+        writes(&rt, rt.alloc(), "check", input, status, text)?;
     }
     Ok(())
 }
@@ -109,7 +192,13 @@ fn other_words(rt: HostRuntime) -> Result<(), Fail> {
         2
     );
     assert_eq!(rt; top(alloc, &[], &mut input, &mut output), 2);
-    assert_eq!(rt; output.written(), b"fault usage\nfault usage\n".as_slice());
+    let mut more = words(alloc, "check")?;
+    more.push(format!(in alloc; "x")?)?;
+    assert_eq!(rt; top(alloc, &more, &mut input, &mut output), 2);
+    assert_eq!(rt;
+        output.written(),
+        b"fault usage\nfault usage\nfault usage\n".as_slice()
+    );
     assert_eq!(rt; input.left(), 3);
     Ok(())
 }

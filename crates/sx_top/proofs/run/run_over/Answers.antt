@@ -4,7 +4,8 @@ use Rattle.sx_io.specs.Next.{coming}
 use Rattle.sx_told.specs.Told.{behind}
 use Rattle.sx_told.proofs.Laws.{begun-new, begun-line, begun-put, begun-same, ends-same, told-does, told-then, told-stop, told-too-long, told-failed}
 use Rattle.sx_tag.specs.Mac.{Mac}
-use Rattle.sx_top.specs.Output.{run_from, run_all, is_mark, first_node, unbuilt, trace_line, unbuilt_line, read_line}
+use Rattle.sx_head.specs.Head.{is_mark}
+use Rattle.sx_top.specs.Output.{run_from, run_all, first_node, unbuilt, trace_line, unbuilt_line, read_line}
 use Rattle.sx_top.proofs.run.run_over.Goals as goal
 
 marked : (mac : Mac) (text : List ℕ) (more : List Answer) → is_mark text ≡ true → run_all mac (Line text ∷ more) ≡ behind trace_line (run_from mac first_node 1 more)

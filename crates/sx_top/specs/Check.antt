@@ -1,0 +1,54 @@
+-- What the command `check` writes: a function of the head of the input, and of what a deployment's text means.
+use Rattle.std.specs.Prelude.{◌≡◌, ℕ, ◌/◌, ◌%◌, List, [], ◌∷◌, ◌++◌, slice_index, codes, Result, Ok, Err}
+use Rattle.sx_told.specs.Told.{Output}
+use Rattle.sx_rules.specs.declared.section.Layout.{Layout}
+use Rattle.sx_stage.specs.declared.fault.Place.TheVariants.{Nowhere}
+use Rattle.sx_stage.specs.declared.fault.DeployFault.{DeployFault}
+use Rattle.sx_stage.specs.Fault.{fault}
+use Rattle.sx_stage.specs.Text.{fault_text}
+use Rattle.sx_head.specs.Head.{Head, Found, TooLong, NoMark, Unread}
+use Rattle.sx_deploy.specs.Deployment.{Deployed, IsRead}
+use Rattle.sx_top.specs.Output.{line, end_line, unread}
+
+-- what a deployment's text means
+abbrev pub Meaning : Type 0
+Meaning = List ℕ → Result Deployed DeployFault
+
+-- it is the deployment of the text, or the first rule that the text breaks; no text has two such meanings
+abbrev pub IsMeaning : Meaning → Type 0
+IsMeaning meaning = (text : List ℕ) → IsRead text (meaning text)
+
+-- a lower-case hexadecimal digit
+abbrev pub digit : ℕ → ℕ
+digit n = slice_index (codes "0123456789abcdef") (n % 16)
+
+abbrev pub address : ℕ → List ℕ
+address at = codes "0x" ++ digit (at / 4096) ∷ digit (at / 256) ∷ digit (at / 16) ∷ digit at ∷ []
+
+-- a module and the bounds of its sections; an end is the address behind the last byte
+unfoldable pub module_line : List ℕ → Layout → List ℕ
+module_line name l =
+    line (codes "module " ++ name ++ codes " text " ++ address l.pub_from ++ codes " " ++ address l.pub_to
+    ++ codes " data " ++ address l.priv_from ++ codes " " ++ address l.priv_to)
+
+abbrev pub module_lines : List (List ℕ) → List Layout → List ℕ
+module_lines (name ∷ names) (l ∷ layouts) = module_line name l ++ module_lines names layouts
+module_lines [] layouts = []
+module_lines (name ∷ names) [] = []
+
+unfoldable pub fault_line : DeployFault → List ℕ
+fault_line f = line (codes "fault deployment " ++ fault_text f)
+
+-- status 1: a rule is broken
+abbrev pub refused : DeployFault → Output
+refused f = record { text = fault_line f; status = 1 }
+
+abbrev pub checked : Result Deployed DeployFault → Output
+checked (Ok d) = record { text = module_lines d.names.modules d.layouts ++ end_line; status = 0 }
+checked (Err f) = refused f
+
+abbrev pub check_all : Meaning → Head → Output
+check_all meaning (Found text more) = checked (meaning text)
+check_all meaning TooLong = refused (fault 1 Nowhere)
+check_all meaning NoMark = refused (fault 2 Nowhere)
+check_all meaning Unread = unread

@@ -1,0 +1,157 @@
+//! The command `check`: it reads a deployment and says where its modules stand, or which rule it breaks.
+
+ghost use Rattle.std.specs.Prelude.{◌≡◌, ◌≤◌, ◌++◌, ◌∷◌, [], IfOk, OnOk, Ok, string_bytes};
+ghost use Rattle.sx_io.specs.Reading.{scan};
+ghost use Rattle.sx_told.specs.Told.{Told, Ends, source_at, sink_at, read_failed};
+ghost use Rattle.sx_head.specs.Head.{head};
+ghost use Rattle.sx_stage.specs.Fault.{fault};
+ghost use Rattle.sx_deploy.specs.SeenDeployment.{deployed_as};
+ghost use Rattle.sx_top.specs.Output.{end_line};
+ghost use Rattle.sx_top.specs.Check.{Meaning, IsMeaning, digit, address, module_line, module_lines, fault_line, refused, checked, check_all};
+
+use std::alloc::{AllocError, Global};
+use sx_deploy::deployment::{Deployment, read_deployment};
+use sx_deploy::{DeployError, DeployFault, Place};
+use sx_head::{HeadFault, read_head};
+use sx_io::{Lines, ReaderState, Sink, Source};
+use sx_lang::names::Name;
+use sx_rules::Layout;
+use sx_told::{OUT_OF_MEMORY, READ_FAILED, finish};
+
+/// The exit status for a deployment that breaks a rule.
+const REFUSED: u8 = 1;
+
+const DIGITS: [u8; 16] = *b"0123456789abcdef";
+
+fn digit(number: u16) -> u8
+    ensures { result ≡ digit number }
+{
+    DIGITS[(number % 16) as usize]
+}
+
+/// An address as `0x` and four digits.
+fn address(at: u16) -> [u8; 6]
+    ensures { result ≡ address at }
+{
+    [
+        b'0',
+        b'x',
+        digit(at / 4096),
+        digit(at / 256),
+        digit(at / 16),
+        digit(at),
+    ]
+}
+
+/// Appends a module's line.
+#[tactic(auto, unfolding(crate::specs::Check::module_line))]
+fn push_module(text: &mut Vec<u8>, name: &Name, layout: &Layout) -> Result<(), AllocError>
+    ensures { OnOk result (text.new.items ≡ text.old.items ++ module_line name.now layout.now) }
+{
+    text.extend_from_slice(b"module ")?;
+    text.extend_from_slice(name.bytes())?;
+    text.extend_from_slice(b" text ")?;
+    text.extend_from_slice(&address(layout.pub_from))?;
+    text.extend_from_slice(b" ")?;
+    text.extend_from_slice(&address(layout.pub_to))?;
+    text.extend_from_slice(b" data ")?;
+    text.extend_from_slice(&address(layout.priv_from))?;
+    text.extend_from_slice(b" ")?;
+    text.extend_from_slice(&address(layout.priv_to))?;
+    text.extend_from_slice(b"\n")
+}
+
+/// The lines of all modules.
+fn module_lines(alloc: Global, names: &[Name], layouts: &[Layout]) -> Result<Vec<u8>, AllocError>
+    ensures { IfOk result (λ text. text.items ≡ module_lines names.now layouts.now) }
+{
+    let mut text = Vec::new(alloc);
+    let mut i = 0;
+    'modules: while i < names.len() && i < layouts.len() {
+        push_module(&mut text, &names[i], &layouts[i])?;
+        i += 1;
+    }
+    Ok(text)
+}
+
+/// The line of a broken rule.
+#[tactic(auto, unfolding(crate::specs::Check::fault_line))]
+fn fault_line(alloc: Global, fault: DeployFault) -> Result<String, AllocError>
+    ensures { IfOk result (λ text. string_bytes text ≡ fault_line fault) }
+{
+    format!(in alloc; "fault deployment {fault}\n")
+}
+
+/// The lines of a deployment that keeps the rules.
+#[tactic(auto, unfolding(crate::specs::Output::end_line))]
+fn accepted(alloc: Global, deployment: &Deployment) -> Result<Vec<u8>, AllocError>
+    ensures { IfOk result (λ text. text.items ≡ module_lines (deployed_as deployment.now).names.modules (deployed_as deployment.now).layouts ++ end_line) }
+{
+    let mut text = module_lines(alloc, &deployment.names.modules, &deployment.layouts)?;
+    text.extend_from_slice(b"end\n")?;
+    Ok(text)
+}
+
+/// Writes where the modules stand.
+fn accept<K: Sink>(alloc: Global, deployment: &Deployment, output: &mut K) -> u8
+    ensures ends { Ends K.tells (sink_at (K.written output.old) (K.faults output.old)) (sink_at (K.written output.new) (K.faults output.new)) result (checked (Ok (deployed_as deployment.now))) }
+    ensures read { result ≡ read_failed → ⊥ }
+{
+    match accepted(alloc, deployment) {
+        Ok(text) => finish(output, &text, 0),
+        Err(_) => OUT_OF_MEMORY,
+    }
+}
+
+/// Writes which rule is broken, and where.
+fn refuse<K: Sink>(alloc: Global, fault: DeployFault, output: &mut K) -> u8
+    ensures ends { Ends K.tells (sink_at (K.written output.old) (K.faults output.old)) (sink_at (K.written output.new) (K.faults output.new)) result (refused fault) }
+    ensures read { result ≡ read_failed → ⊥ }
+{
+    match fault_line(alloc, fault) {
+        Ok(text) => finish(output, text.as_bytes(), REFUSED),
+        Err(_) => OUT_OF_MEMORY,
+    }
+}
+
+/// Writes what is said of a deployment's text.
+fn judge<K: Sink>(alloc: Global, text: &[u8], output: &mut K) -> u8
+    ensures ends { (meaning : Meaning) → IsMeaning meaning
+        → Ends K.tells (sink_at (K.written output.old) (K.faults output.old)) (sink_at (K.written output.new) (K.faults output.new)) result (checked (meaning text.now)) }
+    ensures read { result ≡ read_failed → ⊥ }
+{
+    match read_deployment(alloc, text) {
+        Ok(deployment) => accept(alloc, &deployment, output),
+        Err(DeployError::Fault(fault)) => refuse(alloc, fault, output),
+        Err(DeployError::OutOfMemory) => OUT_OF_MEMORY,
+    }
+}
+
+/// A rule that the text as a whole breaks.
+fn whole(rule: u8) -> DeployFault
+    ensures { result ≡ fault rule Place.Nowhere }
+{
+    DeployFault {
+        rule,
+        place: Place::Nowhere,
+    }
+}
+
+/// The command `check`: a deployment, and the line `%%`. Gives the exit status, as `top` does for this
+/// command. What stands behind that line isn't judged.
+#[tactic(auto, unfolding(crate::specs::Output::read_line))]
+pub fn check_over<S: Source, K: Sink>(alloc: Global, input: &mut S, output: &mut K) -> u8
+    ensures { (meaning : Meaning) → IsMeaning meaning
+        → Told ReaderState.Open S.tells K.tells (source_at (S.rest input.old) (S.faults input.old)) (source_at (S.rest input.new) (S.faults input.new))
+        (sink_at (K.written output.old) (K.faults output.old)) (sink_at (K.written output.new) (K.faults output.new))
+        result (λ e bytes. check_all meaning (head (scan e [] bytes))) }
+{
+    let mut lines = Lines::new();
+    match read_head(alloc, &mut lines, input) {
+        Ok(text) => judge(alloc, &text, output),
+        Err(HeadFault::TooLong) => refuse(alloc, whole(1), output),
+        Err(HeadFault::NoMark) => refuse(alloc, whole(2), output),
+        Err(HeadFault::Failed) => finish(output, b"fault read\n", READ_FAILED),
+        Err(HeadFault::OutOfMemory) => OUT_OF_MEMORY,
+    }
+}
