@@ -1,13 +1,13 @@
 //! What a memory is.
 
-ghost use Rattle.std.specs.Prelude.{◌≡◌, ℕ, List, length, slice_index, slice_set};
-ghost use Rattle.sx_bus.specs.Memory.{blank};
+ghost use Rattle.std.specs.Prelude.{◌≡◌, ℕ, List, slice_index, slice_set};
+ghost use Rattle.sx_bus.specs.Memory.{blank, AreBytes};
 
 /// A memory of 65,536 bytes. Its meaning is the list of these bytes.
 pub trait Bus: Drop {
     ghost bytes: { Self → List ℕ };
 
-    /// The byte at a place.
+    /// The byte at an address.
     fn get(&self, at: u16) -> u8
         ensures { result ≡ slice_index (bytes self.now) at };
 
@@ -19,5 +19,8 @@ pub trait Bus: Drop {
     fn wipe(&mut self)
         ensures { bytes self.new ≡ blank 65536 };
 
-    ghost full: { (bus : Self) → length (bytes bus) ≡ 65536 };
+    /// Does nothing. Its clause is the law that whatever was written, there are 65,536 bytes, each
+    /// below 256; as a call, it can be met by what a memory of several parts keeps of them.
+    fn stays_in_range(&self)
+        ensures { AreBytes (bytes self.now) };
 }

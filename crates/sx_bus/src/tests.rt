@@ -10,6 +10,7 @@ fn writes_and_wipes<B: Bus>(rt: &impl Abort, bus: &mut B) {
     assert_eq!(rt; bus.get(0xFFFF), 7);
     assert_eq!(rt; bus.get(0), 8);
     assert_eq!(rt; bus.get(1), 0);
+    bus.stays_in_range();
     bus.wipe();
     assert_eq!(rt; bus.get(0xFFFF), 0);
 }

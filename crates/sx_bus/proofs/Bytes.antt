@@ -1,0 +1,31 @@
+-- What keeps the bytes of a memory in range.
+use Rattle.std.proofs.Common.{◌≡◌, ℕ, zero, suc, ◌<◌, inl, inr, List, length, replicate, refl, sym, ◌∙◌, subst, arith}
+use Rattle.std.specs.Prelude.{slice_index, slice_set}
+use Rattle.std.proofs.lemmas.Bool.{cases_eq, cases_lt}
+use Rattle.std.proofs.lemmas.List.{length-set, get_or-set_same, get_or-set_other, set_past, length-replicate}
+use Rattle.sx_bus.specs.Memory.{blank, AreBytes}
+
+pub AreBytes-set : (mem : List ℕ) (i v : ℕ) → AreBytes mem → v < 256 → AreBytes (slice_set mem i v)
+AreBytes-set mem i v h p = record {
+  size = length-set mem i v ∙ h.size;
+  bytes = λ r. elim (cases_eq r i) [
+    | inl e ↦ elim (cases_lt i (length mem)) [
+      | inl lt ↦ subst (λ j. slice_index (slice_set mem i v) j < 256) (sym e) (subst (λ z. z < 256) (sym (get_or-set_same mem i v 0 lt)) p)
+      | inr ge ↦ subst (λ (xs : List ℕ). slice_index xs r < 256) (sym (set_past mem i v ge)) (h.bytes r)
+    ]
+    | inr ne ↦ subst (λ z. z < 256) (sym (get_or-set_other mem i r v 0 ne)) (h.bytes r)
+  ];
+}
+
+zero_at : (n k : ℕ) → slice_index (replicate n 0) k ≡ 0
+zero_at zero k = refl
+zero_at (suc n) zero = refl
+zero_at (suc n) (suc k) = zero_at n k
+
+-- The count is a variable, since a proof must never compute a list of 65,536 numbers.
+pub AreBytes-blank : (n : ℕ) → n ≡ 65536 → AreBytes (blank n)
+unfolding blank
+AreBytes-blank n e = record {
+  size = length-replicate n 0 ∙ e;
+  bytes = λ k. subst (λ z. z < 256) (sym (zero_at n k)) (omega arith);
+}
