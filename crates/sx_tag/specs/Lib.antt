@@ -2,4 +2,4 @@ pub mod Mac
 pub mod Keys
 pub mod Wrap
 pub mod Stream
-pub mod Widths
+pub mod Tags

@@ -1,5 +1,5 @@
 -- Tag functions.
-use Rattle.std.specs.Prelude.{◌≡◌, ℕ, ◌+◌, ◌-◌, ◌%◌, List, ◌++◌, length, map, sum, replicate, bit_xor}
+use Rattle.std.specs.Prelude.{◌≡◌, ℕ, ◌+◌, ◌-◌, ◌%◌, ◌<◌, List, ◌++◌, length, map, sum, replicate, bit_xor, All}
 use Rattle.sha2.specs.Sha256.{sha256}
 
 -- a tag function gives 32 bytes for a key and a message
@@ -9,6 +9,11 @@ Mac = List ℕ → List ℕ → List ℕ
 -- each tag has 32 bytes
 abbrev pub GivesTags : Mac → Type 0
 GivesTags mac = (key message : List ℕ) → length (mac key message) ≡ 32
+
+-- a lawful tag function: each tag has 32 bytes, each below 256
+pub record IsTag (mac : Mac) : Type 0 where
+  pub width : GivesTags mac
+  pub bytes : (key message : List ℕ) → All (λ b. b < 256) (mac key message)
 
 -- the key with zeros behind it up to a block of SHA-256, 64 bytes; a key has at most as many
 abbrev pub padded_key : List ℕ → List ℕ

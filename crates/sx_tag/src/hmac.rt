@@ -25,7 +25,7 @@ impl Tag for Hmac {
     ghost use Rattle.std.specs.Prelude.{◌++◌};
     ghost use Rattle.sha2.specs.Hashers.{Holds256};
     ghost use Rattle.sx_tag.specs.Mac.{hmac_sha256, inner_key, outer_key};
-    ghost use Rattle.sx_tag.specs.Widths.{length-hmac_sha256};
+    ghost use Rattle.sx_tag.specs.Tags.{hmac_sha256-is_tag};
 
     type Run = HmacRun;
 
@@ -52,7 +52,7 @@ impl Tag for Hmac {
         outer.finalize()
     }
 
-    ghost width = { length-hmac_sha256 };
+    ghost is_tag = { hmac_sha256-is_tag };
 }
 
 // A hash that holds the key, padded with zeros to a block, with the pad XORed into each byte.

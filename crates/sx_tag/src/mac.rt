@@ -1,6 +1,7 @@
 //! What a tag is.
 
 ghost use Rattle.std.specs.Prelude.{◌≡◌, ℕ, ◌≤◌, List, [], ◌++◌, length};
+ghost use Rattle.sx_tag.specs.Mac.{IsTag};
 
 /// A function of a key and a message that gives 32 bytes, fed piece by piece.
 pub trait Tag: Drop {
@@ -25,5 +26,6 @@ pub trait Tag: Drop {
     fn finish(&self, run: Self::Run) -> [u8; 32]
         ensures { (key message : List ℕ) → has run key message → result ≡ mac key message };
 
-    ghost width: { (key message : List ℕ) → length (mac key message) ≡ 32 };
+    // Each tag has 32 bytes, each below 256.
+    ghost is_tag: { IsTag mac };
 }

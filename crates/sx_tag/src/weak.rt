@@ -18,7 +18,7 @@ pub struct WeakRun {
 impl Tag for Weak {
     ghost use Rattle.std.specs.Prelude.{◌≡◌, ◌+◌, ◌%◌, sum};
     ghost use Rattle.sx_tag.specs.Mac.{weak};
-    ghost use Rattle.sx_tag.specs.Widths.{length-weak};
+    ghost use Rattle.sx_tag.specs.Tags.{weak-is_tag};
 
     type Run = WeakRun;
 
@@ -41,7 +41,7 @@ impl Tag for Weak {
         [run.total; 32]
     }
 
-    ghost width = { length-weak };
+    ghost is_tag = { weak-is_tag };
 }
 
 fn add_all(start: u8, bytes: &[u8]) -> u8

@@ -10,5 +10,5 @@ returns-clause-body g c =
     let mac = g.T.Tag.mac in
     let same : bytes_eq c.args.mac.now (wrap_tag mac c.args.key.now c.args.ad.now c.args.cipher.now) ≡ true = cc in
     ap (λ (body : List ℕ). Some body)
-    (c.crypt.ensures ∙ padded-crypt mac c.args.key.now c.args.ad.now c.args.cipher.now g.met.T.Tag.width c.requires.cipher)
+    (c.crypt.ensures ∙ padded-crypt mac c.args.key.now c.args.ad.now c.args.cipher.now g.met.T.Tag.is_tag.width c.requires.cipher)
     ∙ sym (cond-true _ _ None same)
