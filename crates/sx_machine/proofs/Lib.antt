@@ -7,3 +7,9 @@ pub mod ActGuard
 pub mod Sections
 pub mod RunGuard
 pub mod Boots
+pub mod Registers
+pub mod Devices
+pub mod Ranged
+pub mod Events
+pub mod Apart
+pub mod Stays

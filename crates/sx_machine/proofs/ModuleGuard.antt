@@ -1,5 +1,5 @@
 -- A module instruction of other code than s's is guarded.
-use Rattle.std.proofs.Common.{◌≡◌, ◌≢◌, ℕ, true, false, cond, ◌==◌, List, refl}
+use Rattle.std.proofs.Common.{◌≢◌, ℕ, true, false, cond, ◌==◌, List, refl}
 use Rattle.sx_rules.specs.declared.section.Section.{Section}
 use Rattle.sx_rules.specs.Access.{Lives}
 use Rattle.sx_rules.specs.Placed.{Placed}

@@ -1,14 +1,14 @@
 -- Ending a module, by its own code, leaves the others alone, where the sections are placed.
-use Rattle.std.proofs.Common.{◌≡◌, ◌≢◌, ℕ, ◌-◌, Bool, true, false, cond, ◌==◌, inl, inr, List, [], ◌∷◌, refl, sym, ◌∙◌, ap, subst, Option, Some, None}
+use Rattle.std.proofs.Common.{◌≡◌, ◌≢◌, ℕ, ◌-◌, true, false, cond, ◌==◌, inl, inr, List, [], ◌∷◌, refl, sym, ◌∙◌, ap, Option, Some, None}
 use Rattle.std.proofs.lemmas.Bool.{and_parts, eqb-true}
 use Rattle.sx_rules.specs.declared.section.Section.{Section}
-use Rattle.sx_rules.specs.Access.{Sections, Lives, section_of}
+use Rattle.sx_rules.specs.Access.{Lives, section_of}
 use Rattle.sx_rules.specs.Admission.{apart, without}
 use Rattle.sx_rules.specs.Placed.{Placed, Beside}
 use Rattle.sx_rules.proofs.Placing.{placed_beside}
 use Rattle.sx_machine.specs.Given.{Given, own_section}
-use Rattle.sx_machine.specs.Protect.{wiped, removed_if, unprotect}
-use Rattle.sx_machine.specs.Guard.{Alike, Kept}
+use Rattle.sx_machine.specs.Protect.{removed_if, unprotect}
+use Rattle.sx_machine.specs.Guard.{Alike}
 use Rattle.sx_machine.proofs.PlanGuard.{SameOutcome, KeptBy}
 use Rattle.sx_machine.proofs.ProtectGuard.{outside, zeroed_alike, zeroed_kept}
 

@@ -12,5 +12,7 @@ pub mod Modules
 pub mod Step
 pub mod Acts
 pub mod Guard
+pub mod Node
+pub mod NodeLaws
 pub mod Answers
 pub mod Laws

@@ -1,5 +1,5 @@
 -- The rows of the other module instructions: the plan of each (Sancus 2.0; registers and order of the tests are own).
-use Rattle.std.specs.Prelude.{ℕ, ◌+◌, ◌-◌, ◌==◌, nat_le, Bool, ◌&&◌, not, if◌then◌else◌, List, [], ◌∷◌, length, slice_index, take, bytes_eq, Option, Some, None}
+use Rattle.std.specs.Prelude.{ℕ, ◌-◌, ◌==◌, nat_le, Bool, ◌&&◌, not, if◌then◌else◌, List, [], ◌∷◌, length, slice_index, take, bytes_eq, Option, Some, None}
 use Rattle.std.specs.List.{list_any}
 use Rattle.sx_tag.specs.Mac.{Mac}
 use Rattle.sx_tag.specs.Keys.{identity, attest_tag}

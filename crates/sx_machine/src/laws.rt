@@ -2,6 +2,7 @@
 //! contract is the law, for all states of a node.
 
 ghost use Rattle.sx_machine.specs.Laws.{PowerOnPlaced, StaysPlaced, ActsGuarded, RunsBlind, RunsKeep, BootsCount};
+ghost use Rattle.sx_machine.specs.NodeLaws.{PowerOnIsNode, StaysNode, KeepsDevices, KeepsKey};
 
 /// The sections of a node that is switched on are placed.
 pub fn power_on_placed()
@@ -31,4 +32,24 @@ pub fn runs_keep()
 /// An act raises the boot count by at most one.
 pub fn boots_count()
     ensures { BootsCount }
+{}
+
+/// A node that is switched on is one.
+pub fn power_on_is_node()
+    ensures { PowerOnIsNode }
+{}
+
+/// Whatever happens to a node, it stays one.
+pub fn stays_node()
+    ensures { StaysNode }
+{}
+
+/// A node's devices keep their places and kinds.
+pub fn keeps_devices()
+    ensures { KeepsDevices }
+{}
+
+/// A node keeps its key.
+pub fn keeps_key()
+    ensures { KeepsKey }
 {}
