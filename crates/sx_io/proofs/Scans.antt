@@ -4,9 +4,11 @@ use Rattle.std.specs.Prelude.{slice_index, Contains}
 use Rattle.std.proofs.lemmas.List.{append-nil, take-append-le, take-append-drop, drop-take, length-take-le}
 use Rattle.std.proofs.Math.Seq.{drop-cons, take-length, drop-length}
 use Rattle.sx_io.proofs.Fronts.{drop-drop}
-use Rattle.sx_io.specs.Reading.{Ending, Ended, Broken, Answer, Line, End, Long, newline, longest, scan, IsPlain, IsTooLong, without_return}
-use Rattle.sx_io.specs.Next.{Ahead, coming, MayGoOn, Gives, Took, IsBetween}
-use Rattle.sx_io.specs.Parts.{Moves}
+use Rattle.sx_io.specs.Reading.{Ending, Ended, Broken, Answer, Line, End, Long, Fault, Limit, behind_line, newline, longest, scan, IsPlain, IsTooLong, without_return}
+use Rattle.sx_io.specs.Next.{Ahead, Took, Faults, AskedInLine}
+use Rattle.sx_io.specs.Counts.{counted}
+use Rattle.sx_io.specs.Streams.{SourceAt, NoFault, OneFault, OneEnd}
+use Rattle.sx_io.specs.Parts.{Moves, AskedInTurn}
 use Rattle.sx_io.specs.declared.lines.LineRead.{LineRead}
 use Rattle.sx_io.specs.declared.lines.LineRead.TheVariants as read
 use Rattle.sx_io.specs.declared.lines.ReaderState.{ReaderState}
@@ -65,11 +67,11 @@ around chunk count h ten =
     sym (take-append-drop count chunk)
     ∙ ap (λ (t : List ℕ). take count chunk ++ t) (drop-cons chunk count 0 h ∙ rw (ten, add-one) refl)
 
-pub moves-whole : (begun chunk : List ℕ) (count n : ℕ) (into : List ℕ) → IsPlain begun → IsPlain (take count chunk) → length begun + count ≤ longest
-    → count < length chunk → slice_index chunk count ≡ newline → n ≤ longest → take n into ≡ without_return (begun ++ take count chunk)
-    → Moves begun chunk (part.Whole n) into (drop (count + 1) chunk)
-moves-whole begun chunk count n into b p fits h ten small text =
-    let l : length (begun ++ take count chunk) ≤ longest = omega (arith, length-append begun (take count chunk), length-take-le count chunk (omega arith)) in (
+pub moves-whole : (limit : ℕ) (begun chunk : List ℕ) (count n : ℕ) (into : List ℕ) → IsPlain begun → IsPlain (take count chunk) → length begun + count ≤ limit
+    → count < length chunk → slice_index chunk count ≡ newline → n ≤ limit → take n into ≡ without_return (begun ++ take count chunk)
+    → Moves limit begun chunk (part.Whole n) into (drop (count + 1) chunk)
+moves-whole limit begun chunk count n into b p fits h ten small text =
+    let l : length (begun ++ take count chunk) ≤ limit = omega (arith, length-append begun (take count chunk), length-take-le count chunk (omega arith)) in (
       small,
       begun ++ take count chunk,
       plain-append begun (take count chunk) b p,
@@ -78,10 +80,10 @@ moves-whole begun chunk count n into b p fits h ten small text =
       text,
     )
 
-pub moves-more : (begun chunk : List ℕ) (count n : ℕ) (into : List ℕ) → IsPlain begun → IsPlain (take count chunk) → count ≡ length chunk
-    → n ≡ length begun + count → n ≤ longest → take n into ≡ begun ++ take count chunk
-    → Moves begun chunk (part.More n) into (drop count chunk)
-moves-more begun chunk count n into b p whole same small text =
+pub moves-more : (limit : ℕ) (begun chunk : List ℕ) (count n : ℕ) (into : List ℕ) → IsPlain begun → IsPlain (take count chunk) → count ≡ length chunk
+    → n ≡ length begun + count → n ≤ limit → take n into ≡ begun ++ take count chunk
+    → Moves limit begun chunk (part.More n) into (drop count chunk)
+moves-more limit begun chunk count n into b p whole same small text =
     let e : take n into ≡ begun ++ chunk = text ∙ ap (λ (t : List ℕ). begun ++ t) (all-of count chunk whole) in (
       small,
       omega arith,
@@ -90,16 +92,16 @@ moves-more begun chunk count n into b p whole same small text =
       plain-at _ _ (sym text) (plain-append begun (take count chunk) b p),
     )
 
-pub moves-too-long : (begun chunk : List ℕ) (count : ℕ) (into held : List ℕ) → IsPlain begun → IsPlain (take count chunk)
-    → count ≤ length chunk → longest < length begun + count
-    → Moves begun chunk part.TooLong into held
-moves-too-long begun chunk count into held b p h l =
+pub moves-too-long : (limit : ℕ) (begun chunk : List ℕ) (count : ℕ) (into held : List ℕ) → IsPlain begun → IsPlain (take count chunk)
+    → count ≤ length chunk → limit < length begun + count
+    → Moves limit begun chunk part.TooLong into held
+moves-too-long limit begun chunk count into held b p h l =
     let front : List ℕ = begun ++ take count chunk in
     let all : front ++ drop count chunk ≡ begun ++ chunk = append_assoc begun (take count chunk) (drop count chunk) ∙ ap (λ (t : List ℕ). begun ++ t) (take-append-drop count chunk) in
-    let wide : longest < length front = omega (arith, length-append begun (take count chunk), length-take-le count chunk h) in (
+    let wide : limit < length front = omega (arith, length-append begun (take count chunk), length-take-le count chunk h) in (
       omega (arith, length-append begun chunk),
-      plain-at _ _ (sym (take-append-le (longest + 1) front (drop count chunk) (omega arith)) ∙ ap (take (longest + 1)) all)
-          (plain-take (longest + 1) front (plain-append begun (take count chunk) b p)),
+      plain-at _ _ (sym (take-append-le (limit + 1) front (drop count chunk) (omega arith)) ∙ ap (take (limit + 1)) all)
+          (plain-take (limit + 1) front (plain-append begun (take count chunk) b p)),
     )
 
 take-take-le : (n m : ℕ) (xs : List ℕ) → n ≤ length (take m xs) → take n (take m xs) ≡ take n xs
@@ -122,13 +124,13 @@ left-part held from to used h =
     rw e (rw f (sym (drop-take used (to - (from + used)) (drop from held))))
 
 -- moving a front of what is held leaves the rest of it
-pub moves-view : (begun held old : List ℕ) (from to used : ℕ) (p : Part) (into : List ℕ) → from + used ≤ to
+pub moves-view : (limit : ℕ) (begun held old : List ℕ) (from to used : ℕ) (p : Part) (into : List ℕ) → from + used ≤ to
     → take (to - from) (drop from held) ≡ old
-    → Moves begun (take (to - from) (drop from held)) p into (drop used (take (to - from) (drop from held)))
-    → Moves begun old p into (take (to - (from + used)) (drop (from + used) held))
-moves-view begun held old from to used p into h e m =
-    let P : List ℕ → Type 0 = λ t. Moves begun t p into (take (to - (from + used)) (drop (from + used) held)) in
-    let Q : List ℕ → Type 0 = λ t. Moves begun (take (to - from) (drop from held)) p into t in
+    → Moves limit begun (take (to - from) (drop from held)) p into (drop used (take (to - from) (drop from held)))
+    → Moves limit begun old p into (take (to - (from + used)) (drop (from + used) held))
+moves-view limit begun held old from to used p into h e m =
+    let P : List ℕ → Type 0 = λ t. Moves limit begun t p into (take (to - (from + used)) (drop (from + used) held)) in
+    let Q : List ℕ → Type 0 = λ t. Moves limit begun (take (to - from) (drop from held)) p into t in
     subst P e (subst Q (sym (left-part held from to used h)) m)
 
 -- ---- the answers to come
@@ -136,124 +138,71 @@ moves-view begun held old from to used p into h e m =
 eqb-false : (b : ℕ) → (b ≡ newline → ⊥) → (b == newline) ≡ false
 eqb-false b n = grind arith
 
-full-false : (n : ℕ) → n < longest → (n == longest) ≡ false
-full-false n h = grind arith
+full-false : (limit n : ℕ) → n < limit → (n == limit) ≡ false
+full-false limit n h = grind arith
 
-full-true : (n : ℕ) → n ≡ longest → (n == longest) ≡ true
-full-true n h = grind arith
+full-true : (limit n : ℕ) → n ≡ limit → (n == limit) ≡ true
+full-true limit n h = grind arith
 
 le-split : (a b : ℕ) → a ≤ b → (a < b) ⊎ (a ≡ b)
 le-split a b h = grind arith
 
 -- one more byte of a line
-scan-byte : (e : Ending) (begun : List ℕ) (b : ℕ) (more : List ℕ) → (b ≡ newline → ⊥) → length begun < longest
-    → scan e begun (b ∷ more) ≡ scan e (begun ++ b ∷ []) more
-scan-byte e begun b more n h = rw (eqb-false b n, full-false (length begun) h) refl
+scan-byte : (limit : Limit) (e : Ending) (begun : List ℕ) (b : ℕ) (more : List ℕ) → (b ≡ newline → ⊥) → length begun < limit []
+    → scan limit e begun (b ∷ more) ≡ scan limit e (begun ++ b ∷ []) more
+scan-byte limit e begun b more n h = rw (eqb-false b n, full-false (limit []) (length begun) h) refl
 
 -- a part of a line joins the line
-scan-plain : (e : Ending) (begun part more : List ℕ) → IsPlain part → length begun + length part ≤ longest
-    → scan e begun (part ++ more) ≡ scan e (begun ++ part) more
-scan-plain e begun [] more p h = ap (λ (t : List ℕ). scan e t more) (sym (append-nil begun))
-scan-plain e begun (b ∷ part) more p h =
-    scan-byte e begun b (part ++ more) p.0 (omega arith)
-    ∙ scan-plain e (begun ++ b ∷ []) part more p.1 (omega (arith, length-append begun (b ∷ [])))
-    ∙ ap (λ (t : List ℕ). scan e t more) (append_assoc begun (b ∷ []) part)
+scan-plain : (limit : Limit) (e : Ending) (begun part more : List ℕ) → IsPlain part → length begun + length part ≤ limit []
+    → scan limit e begun (part ++ more) ≡ scan limit e (begun ++ part) more
+scan-plain limit e begun [] more p h = ap (λ (t : List ℕ). scan limit e t more) (sym (append-nil begun))
+scan-plain limit e begun (b ∷ part) more p h =
+    scan-byte limit e begun b (part ++ more) p.0 (omega arith)
+    ∙ scan-plain limit e (begun ++ b ∷ []) part more p.1 (omega (arith, length-append begun (b ∷ [])))
+    ∙ ap (λ (t : List ℕ). scan limit e t more) (append_assoc begun (b ∷ []) part)
 
 -- a part that makes the line too long
-scan-long : (e : Ending) (begun part more : List ℕ) → IsPlain part → length begun ≤ longest → longest < length begun + length part
-    → scan e begun (part ++ more) ≡ Long ∷ []
-scan-long e begun [] more p h l = absurd (omega arith)
-scan-long e begun (b ∷ part) more p h l =
-    let either : (length begun < longest) ⊎ (length begun ≡ longest) = le-split (length begun) longest h in
+scan-long : (limit : Limit) (e : Ending) (begun part more : List ℕ) → IsPlain part → length begun ≤ limit [] → limit [] < length begun + length part
+    → scan limit e begun (part ++ more) ≡ Long ∷ []
+scan-long limit e begun [] more p h l = absurd (omega arith)
+scan-long limit e begun (b ∷ part) more p h l =
+    let either : (length begun < limit []) ⊎ (length begun ≡ limit []) = le-split (length begun) (limit []) h in
     elim either [
       | inl lt ↦
-          scan-byte e begun b (part ++ more) p.0 lt
-          ∙ scan-long e (begun ++ b ∷ []) part more p.1 (omega (arith, length-append begun (b ∷ []))) (omega (arith, length-append begun (b ∷ [])))
-      | inr eq ↦ rw (eqb-false b p.0, full-true (length begun) eq) refl
+          scan-byte limit e begun b (part ++ more) p.0 lt
+          ∙ scan-long limit e (begun ++ b ∷ []) part more p.1 (omega (arith, length-append begun (b ∷ []))) (omega (arith, length-append begun (b ∷ [])))
+      | inr eq ↦ rw (eqb-false b p.0, full-true (limit []) (length begun) eq) refl
     ]
 
 -- a line that a newline ends
-scan-ended : (e : Ending) (line more : List ℕ) → IsPlain line → length line ≤ longest
-    → scan e [] (line ++ newline ∷ more) ≡ Line (without_return line) ∷ scan e [] more
-scan-ended e line more p h = scan-plain e [] line (newline ∷ more) p (omega arith)
+pub scan-ended : (limit : Limit) (e : Ending) (line more : List ℕ) → IsPlain line → length line ≤ limit []
+    → scan limit e [] ((line ++ newline ∷ []) ++ more) ≡ Line (without_return line) ∷ scan (behind_line (without_return line) limit) e [] more
+scan-ended limit e line more p h = ap (scan limit e []) (append_assoc line (newline ∷ []) more) ∙ scan-plain limit e [] line (newline ∷ more) p (omega arith)
 
-scan-too-long : (e : Ending) (bytes more : List ℕ) → IsTooLong bytes → scan e [] (bytes ++ more) ≡ Long ∷ []
-scan-too-long e bytes more (wide, p) =
-    let l : length (take (longest + 1) bytes) ≡ longest + 1 = length-take-le (longest + 1) bytes (omega arith) in
-    ap (λ (t : List ℕ). scan e [] (t ++ more)) (sym (take-append-drop (longest + 1) bytes))
-    ∙ ap (scan e []) (append_assoc (take (longest + 1) bytes) (drop (longest + 1) bytes) more)
-    ∙ scan-long e [] (take (longest + 1) bytes) (drop (longest + 1) bytes ++ more) p (omega arith) (omega arith)
+pub scan-too-long : (limit : Limit) (e : Ending) (bytes more : List ℕ) → IsTooLong (limit []) bytes → scan limit e [] (bytes ++ more) ≡ Long ∷ []
+scan-too-long limit e bytes more (wide, p) =
+    let l : length (take (limit [] + 1) bytes) ≡ limit [] + 1 = length-take-le (limit [] + 1) bytes (omega arith) in
+    ap (λ (t : List ℕ). scan limit e [] (t ++ more)) (sym (take-append-drop (limit [] + 1) bytes))
+    ∙ ap (scan limit e []) (append_assoc (take (limit [] + 1) bytes) (drop (limit [] + 1) bytes) more)
+    ∙ scan-long limit e [] (take (limit [] + 1) bytes) (drop (limit [] + 1) bytes ++ more) p (omega arith) (omega arith)
 
-scan-all : (e : Ending) (line : List ℕ) → IsPlain line → length line ≤ longest → scan e [] line ≡ scan e line []
-scan-all e line p h = ap (scan e []) (sym (append-nil line)) ∙ scan-plain e [] line [] p (omega arith)
+scan-all : (limit : Limit) (e : Ending) (line : List ℕ) → IsPlain line → length line ≤ limit [] → scan limit e [] line ≡ scan limit e line []
+scan-all limit e line p h = ap (scan limit e []) (sym (append-nil line)) ∙ scan-plain limit e [] line [] p (omega arith)
 
-scan-rest : (line : List ℕ) → IsPlain line → length line ≤ longest → 0 < length line → scan Ended [] line ≡ Line line ∷ End ∷ []
-scan-rest [] p h some = absurd (omega arith)
-scan-rest (b ∷ bs) p h some = scan-all Ended (b ∷ bs) p h
+-- a line that the end of the input ends
+pub scan-rest : (limit : Limit) (line : List ℕ) → IsPlain line → length line ≤ limit [] → 0 < length line → scan limit Ended [] line ≡ Line line ∷ End ∷ []
+scan-rest limit [] p h some = absurd (omega arith)
+scan-rest limit (b ∷ bs) p h some = scan-all limit Ended (b ∷ bs) p h
 
-coming-open : (a : Ahead) → a.state ≡ reader.Open → (e : Ending) (bytes : List ℕ) → coming a e bytes ≡ scan e [] (a.held ++ bytes)
-coming-open a s e bytes = rw s refl
-
-coming-at-end : (a : Ahead) → a.state ≡ reader.AtEnd → (e : Ending) (bytes : List ℕ) → coming a e bytes ≡ End ∷ []
-coming-at-end a s e bytes = rw s refl
-
--- what is to come from bytes that are there and bytes behind them
-ahead : (old : Ahead) → old.state ≡ reader.Open → (e : Ending) (got more bytes : List ℕ) → old.held ++ got ≡ bytes → coming old e (got ++ more) ≡ scan e [] (bytes ++ more)
-ahead old o e got more bytes h =
-    coming-open old o e (got ++ more) ∙ ap (scan e []) (sym (append_assoc old.held got more) ∙ ap (λ (t : List ℕ). t ++ more) h)
-
-ahead-all : (old : Ahead) → old.state ≡ reader.Open → (e : Ending) (got bytes : List ℕ) → old.held ++ got ≡ bytes → coming old e got ≡ scan e [] bytes
-ahead-all old o e got bytes h = coming-open old o e got ∙ ap (scan e []) h
-
-between-open : (s : ReaderState) → s ≡ reader.Open → IsBetween s
-between-open s e = let P : ReaderState → Type 0 = λ t. IsBetween t in subst P (sym e) tt
-
-between-end : (s : ReaderState) → s ≡ reader.AtEnd → IsBetween s
-between-end s e = let P : ReaderState → Type 0 = λ t. IsBetween t in subst P (sym e) tt
-
-end-may : (s : ReaderState) (e : Ending) (more : List ℕ) → s ≡ reader.AtEnd → MayGoOn s e more → (e ≡ Ended) × (more ≡ [])
-end-may s e more h m = let P : ReaderState → Type 0 = λ t. MayGoOn t e more in subst P h m
-
-gives-ended : (old new : Ahead) (got line raw text : List ℕ) (e : Ending) (more : List ℕ) → old.state ≡ reader.Open → IsPlain line → length line ≤ longest
-    → old.held ++ got ≡ raw ++ new.held → raw ≡ line ++ newline ∷ [] → text ≡ without_return line → new.state ≡ reader.Open
-    → coming old e (got ++ more) ≡ Line text ∷ coming new e more
-gives-ended old new got line raw text e more o p h bytes whole same s =
-    let b : old.held ++ got ≡ line ++ newline ∷ new.held = bytes ∙ ap (λ (t : List ℕ). t ++ new.held) whole ∙ append_assoc line (newline ∷ []) new.held in
-    ahead old o e got more (line ++ newline ∷ new.held) b
-    ∙ ap (scan e []) (append_assoc line (newline ∷ new.held) more)
-    ∙ scan-ended e line (new.held ++ more) p h
-    ∙ rw (← same) (ap (λ (t : List Answer). Line text ∷ t) (sym (coming-open new s e more)))
-
-gives-rest : (old new : Ahead) (got line raw text : List ℕ) (e : Ending) (more : List ℕ) → old.state ≡ reader.Open → IsPlain line → length line ≤ longest
-    → old.held ++ got ≡ raw ++ new.held → raw ≡ line → text ≡ line → 0 < length line → new.held ≡ [] → new.state ≡ reader.AtEnd → (e ≡ Ended) × (more ≡ [])
-    → coming old e (got ++ more) ≡ Line text ∷ coming new e more
-gives-rest old new got line raw text e more o p h bytes whole same some none s may =
-    let b : old.held ++ got ≡ line = bytes ∙ rw (whole, none) (append-nil line) in
-    rw (may.0, may.1, append-nil)
-    (ahead-all old o Ended got line b ∙ scan-rest line p h some
-    ∙ rw same (ap (λ (t : List Answer). Line line ∷ t) (sym (coming-at-end new s Ended []))))
-
--- what an answer takes makes it the first of those to come
-pub gives-took : (old new : Ahead) (got into : List ℕ) (answer : LineRead) → old.state ≡ reader.Open → Took (old.held ++ got) answer into new → Gives (coming old) got answer into new
-gives-took old new got into (read.Text n) o (small, raw, bytes, (line, p, h, how)) =
-    elim how [
-      | inl ended ↦ (small, between-open new.state ended.2, λ e more may. gives-ended old new got line raw (take n into) e more o p h bytes ended.0 ended.1 ended.2)
-      | inr rest ↦ (
-        small,
-        between-end new.state rest.4,
-        λ e more may.
-            gives-rest old new got line raw (take n into) e more o p h bytes rest.0 rest.1 rest.2 rest.3 rest.4 (end-may new.state e more rest.4 may),
-      )
-    ]
-gives-took old new got into read.End o (none, held, s) = (s, ahead-all old o Ended got [] none)
-gives-took old new got into read.TooLong o (long, s) = (s, λ e more. ahead old o e got more (old.held ++ got) refl ∙ scan-too-long e (old.held ++ got) more long)
-gives-took old new got into read.Failed o (p, h, s) = (s, ahead-all old o Broken got (old.held ++ got) refl ∙ scan-all Broken (old.held ++ got) p h)
+-- a line that no newline ended before a read failed
+pub scan-fault : (limit : Limit) (line : List ℕ) → IsPlain line → length line ≤ limit [] → scan limit Broken [] line ≡ Fault ∷ []
+scan-fault limit line p h = scan-all limit Broken line p h
 
 -- ---- what one turn after another takes
 
-pub took-whole : (bytes into line : List ℕ) (n : ℕ) (new : Ahead) → new.state ≡ reader.Open → n ≤ longest → IsPlain line → length line ≤ longest
-    → bytes ≡ line ++ newline ∷ new.held → take n into ≡ without_return line → Took bytes (read.Text n) into new
-took-whole bytes into line n new s small p h b text =
+pub took-whole : (limit : ℕ) (bytes into line : List ℕ) (n : ℕ) (new : Ahead) → new.state ≡ reader.Open → n ≤ limit → IsPlain line → length line ≤ limit
+    → bytes ≡ line ++ newline ∷ new.held → take n into ≡ without_return line → Took limit bytes (read.Text n) into new
+took-whole limit bytes into line n new s small p h b text =
     (small, line ++ newline ∷ [], b ∙ sym (append_assoc line (newline ∷ []) new.held), (line, p, h, inl (refl, text, s)))
 
 -- two reads, one after the other
@@ -263,10 +212,10 @@ read-on r0 got r1 next r2 a b = a ∙ ap (λ (t : List ℕ). got ++ t) b ∙ sym
 got-on : (held got begun left next : List ℕ) → held ++ got ≡ begun ++ left → (begun ++ left) ++ next ≡ held ++ (got ++ next)
 got-on held got begun left next e = ap (λ (t : List ℕ). t ++ next) (sym e) ∙ append_assoc held got next
 
-pub took-on : (held got begun left next into : List ℕ) (answer : LineRead) (new : Ahead) → held ++ got ≡ begun ++ left
-    → Took ((begun ++ left) ++ next) answer into new → Took (held ++ (got ++ next)) answer into new
-took-on held got begun left next into answer new e t =
-    let P : List ℕ → Type 0 = λ b. Took b answer into new in subst P (got-on held got begun left next e) t
+pub took-on : (limit : ℕ) (held got begun left next into : List ℕ) (answer : LineRead) (new : Ahead) → held ++ got ≡ begun ++ left
+    → Took limit ((begun ++ left) ++ next) answer into new → Took limit (held ++ (got ++ next)) answer into new
+took-on limit held got begun left next into answer new e t =
+    let P : List ℕ → Type 0 = λ b. Took limit b answer into new in subst P (got-on held got begun left next e) t
 
 pub more-on : (held got begun left next line left' : List ℕ) → held ++ got ≡ begun ++ left → line ≡ (begun ++ left) ++ next → left' ≡ []
     → held ++ (got ++ next) ≡ line ++ left'
@@ -281,5 +230,35 @@ some-left held got begun (x ∷ left) e p has = omega arith
 pub none-held : (held got line left : List ℕ) → held ++ got ≡ line ++ left → left ≡ [] → IsPlain line → Contains held newline → ⊥
 none-held held got line left e n p has = plain-none held got (plain-at line (held ++ got) (sym (e ∙ rw n (append-nil line))) p) has
 
-pub open-may : (s : ReaderState) (e : Ending) (more : List ℕ) → s ≡ reader.Open → MayGoOn s e more
-open-may s e more h = let P : ReaderState → Type 0 = λ t. MayGoOn t e more in subst P (sym h) tt
+-- no fault, and then none or one
+pub quiet-on : (s0 s1 s2 : SourceAt) → NoFault s0 s1 → NoFault s1 s2 → NoFault s0 s2
+quiet-on s0 s1 s2 a b = record { faults = b.faults ∙ a.faults; left = b.left ∙ a.left }
+
+pub fault-on : (s0 s1 s2 : SourceAt) → NoFault s0 s1 → OneFault s1 s2 → OneFault s0 s2
+fault-on s0 s1 s2 a b = record { faults = b.faults ∙ ap counted a.faults; left = b.left }
+
+pub faults-on : (answer : LineRead) (s0 s1 s2 : SourceAt) → NoFault s0 s1 → Faults answer s1 s2 → Faults answer s0 s2
+faults-on (read.Text n) s0 s1 s2 a b = quiet-on s0 s1 s2 a b
+faults-on read.End s0 s1 s2 a b = quiet-on s0 s1 s2 a b
+faults-on read.TooLong s0 s1 s2 a b = quiet-on s0 s1 s2 a b
+faults-on read.Failed s0 s1 s2 a b = fault-on s0 s1 s2 a b
+
+pub took-within : (limit limit' : ℕ) (bytes into : List ℕ) (answer : LineRead) (new : Ahead) → limit ≡ limit' → Took limit bytes answer into new → Took limit' bytes answer into new
+took-within limit limit' bytes into answer new e t = let P : ℕ → Type 0 = λ l. Took l bytes answer into new in subst P e t
+
+-- a turn behind others: a newline that is there isn't read past
+pub asked-on : (held got begun left : List ℕ) (s0 s1 s2 : SourceAt) → s0.rest ≡ got ++ s1.rest → held ++ got ≡ begun ++ left → IsPlain begun
+    → AskedInLine held s0 s1 → AskedInTurn left s1 s2 → AskedInLine held s0 s2
+asked-on held got begun left s0 s1 s2 r e p a t =
+    elim t [
+      | inl same ↦ elim a [
+          | inl before ↦ inl (same ∙ before)
+          | inr (earlier, r0, q) ↦ inr (earlier, r0 ∙ ap (λ (v : List ℕ). earlier ++ v) (sym same), q)
+        ]
+      | inr (none, now) ↦
+          inr (got, r ∙ ap (λ (v : List ℕ). got ++ v) (sym now), plain-at begun (held ++ got) (sym (e ∙ ap (λ (v : List ℕ). begun ++ v) none ∙ append-nil begun)) p)
+    ]
+
+-- no end, and then one
+pub end-on : (s0 s1 s2 : SourceAt) → s1.ends ≡ s0.ends → OneEnd s1 s2 → OneEnd s0 s2
+end-on s0 s1 s2 a b = record { rest = b.rest; ends = b.ends ∙ ap counted a }

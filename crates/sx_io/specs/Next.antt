@@ -1,6 +1,7 @@
 -- What a call for the next line answers.
-use Rattle.std.specs.Prelude.{ℕ, ◌<◌, ◌≤◌, ◌≡◌, Bool, ◌⊎◌, List, [], ◌∷◌, ◌++◌, IsTrue, length, take}
-use Rattle.sx_io.specs.Reading.{Ending, Ended, Broken, Answer, Line, End, Long, Fault, newline, longest, without_return, scan, IsPlain, IsTooLong}
+use Rattle.std.specs.Prelude.{ℕ, ◌+◌, ◌<◌, ◌≤◌, ◌≡◌, Bool, ◌⊎◌, List, [], ◌∷◌, ◌++◌, IsTrue, length, take}
+use Rattle.sx_io.specs.Reading.{newline, longest, without_return, IsPlain, IsTooLong}
+use Rattle.sx_io.specs.Streams.{SourceAt, NoFault, OneFault, OneEnd}
 use Rattle.sx_io.specs.declared.lines.ReaderState.{ReaderState}
 use Rattle.sx_io.specs.declared.lines.ReaderState.TheVariants as reader
 use Rattle.sx_io.specs.declared.lines.LineRead.{LineRead}
@@ -11,39 +12,6 @@ pub record Ahead : Type 0 where
   pub held : List ℕ
   pub state : ReaderState
 
-abbrev pub coming_in : ReaderState → List ℕ → Ending → List ℕ → List Answer
-coming_in reader.Open held e more = scan e [] (held ++ more)
-coming_in reader.AtEnd held e more = End ∷ []
-coming_in reader.TooLong held e more = Long ∷ []
-coming_in reader.Failed held e more = Fault ∷ []
-
--- the answers to come, where these bytes and then this ending are to be read
-abbrev pub coming : Ahead → Ending → List ℕ → List Answer
-coming a e more = coming_in a.state a.held e more
-
--- the input may still go on so
-abbrev pub MayGoOn : ReaderState → Ending → List ℕ → Type 0
-MayGoOn reader.Open e more = Unit {0}
-MayGoOn reader.TooLong e more = Unit {0}
-MayGoOn reader.AtEnd e more = (e ≡ Ended) × (more ≡ [])
-MayGoOn reader.Failed e more = (e ≡ Broken) × (more ≡ [])
-
--- the reader of lines stands between two lines, or behind the last
-abbrev pub IsBetween : ReaderState → Type 0
-IsBetween reader.Open = Unit {0}
-IsBetween reader.AtEnd = Unit {0}
-IsBetween reader.TooLong = ⊥
-IsBetween reader.Failed = ⊥
-
--- The answer is the first of those that were to come, where got was read in this call. The answers that were
--- to come are a function of the ending and the bytes to be read.
-abbrev pub Gives : (Ending → List ℕ → List Answer) → List ℕ → LineRead → List ℕ → Ahead → Type 0
-Gives before got (read.Text n) into new =
-    (n ≤ longest) × IsBetween new.state × ((e : Ending) (more : List ℕ) → MayGoOn new.state e more → before e (got ++ more) ≡ Line (take n into) ∷ coming new e more)
-Gives before got read.End into new = (new.state ≡ reader.AtEnd) × (before Ended got ≡ End ∷ [])
-Gives before got read.TooLong into new = (new.state ≡ reader.TooLong) × ((e : Ending) (more : List ℕ) → before e (got ++ more) ≡ Long ∷ [])
-Gives before got read.Failed into new = (new.state ≡ reader.Failed) × (before Broken got ≡ Fault ∷ [])
-
 -- a newline ended the line
 abbrev pub IsEnded : List ℕ → List ℕ → List ℕ → Ahead → Type 0
 IsEnded line raw text new = (raw ≡ line ++ newline ∷ []) × (text ≡ without_return line) × (new.state ≡ reader.Open)
@@ -53,24 +21,16 @@ abbrev pub IsRest : List ℕ → List ℕ → List ℕ → Ahead → Type 0
 IsRest line raw text new = (raw ≡ line) × (text ≡ line) × (0 < length line) × (new.held ≡ []) × (new.state ≡ reader.AtEnd)
 
 -- these bytes stood in the input as one line, a newline behind it among them, and this is its text
-abbrev pub IsLine : List ℕ → List ℕ → Ahead → Type 0
-IsLine raw text new = (line : List ℕ) × IsPlain line × (length line ≤ longest) × (IsEnded line raw text new ⊎ IsRest line raw text new)
+abbrev pub IsLine : ℕ → List ℕ → List ℕ → Ahead → Type 0
+IsLine limit raw text new = (line : List ℕ) × IsPlain line × (length line ≤ limit) × (IsEnded line raw text new ⊎ IsRest line raw text new)
 
 -- What the answer took of the bytes that were there for it: those of a line, and what is behind them is held; none at
 -- the end of the input. A line is too long by these bytes, and a read fails only where none of them ends a line.
-abbrev pub Took : List ℕ → LineRead → List ℕ → Ahead → Type 0
-Took bytes (read.Text n) into new = (n ≤ longest) × (raw : List ℕ) × (bytes ≡ raw ++ new.held) × IsLine raw (take n into) new
-Took bytes read.End into new = (bytes ≡ []) × (new.held ≡ []) × (new.state ≡ reader.AtEnd)
-Took bytes read.TooLong into new = IsTooLong bytes × (new.state ≡ reader.TooLong)
-Took bytes read.Failed into new = IsPlain bytes × (length bytes ≤ longest) × (new.state ≡ reader.Failed)
-
--- what a call for the next line gets from the source, and what it answers
-pub record Takes (tells : Bool) (rest rest' : List ℕ) (old new : Ahead) (into : List ℕ) (answer : LineRead) : Type 0 where
-  pub got : List ℕ
-  pub from_source : IsTrue tells → rest ≡ got ++ rest'
-  pub took : old.state ≡ reader.Open → Took (old.held ++ got) answer into new
-  pub gives : Gives (coming old) got answer into new
-  pub goes_on : (e : Ending) (more : List ℕ) → MayGoOn new.state e more → MayGoOn old.state e (got ++ more)
+abbrev pub Took : ℕ → List ℕ → LineRead → List ℕ → Ahead → Type 0
+Took limit bytes (read.Text n) into new = (n ≤ limit) × (raw : List ℕ) × (bytes ≡ raw ++ new.held) × IsLine limit raw (take n into) new
+Took limit bytes read.End into new = (bytes ≡ []) × (new.held ≡ []) × (new.state ≡ reader.AtEnd)
+Took limit bytes read.TooLong into new = IsTooLong limit bytes × (length bytes ≤ limit + longest) × (new.state ≡ reader.TooLong)
+Took limit bytes read.Failed into new = IsPlain bytes × (length bytes ≤ limit) × (new.state ≡ reader.Failed)
 
 -- a reader that has given its last answer gives it again
 abbrev pub Repeats : ReaderState → LineRead → Type 0
@@ -78,3 +38,31 @@ Repeats reader.Open answer = Unit {0}
 Repeats reader.AtEnd answer = answer ≡ read.End
 Repeats reader.TooLong answer = answer ≡ read.TooLong
 Repeats reader.Failed answer = answer ≡ read.Failed
+
+-- a read fails exactly where the answer says so, and nothing is read after it
+abbrev pub Faults : LineRead → SourceAt → SourceAt → Type 0
+Faults (read.Text n) s0 s1 = NoFault s0 s1
+Faults read.End s0 s1 = NoFault s0 s1
+Faults read.TooLong s0 s1 = NoFault s0 s1
+Faults read.Failed s0 s1 = OneFault s0 s1
+
+-- Nothing was read once a newline was there: it wasn't read at all, or at its last read what was held and had come by then
+-- had none.
+abbrev pub AskedInLine : List ℕ → SourceAt → SourceAt → Type 0
+AskedInLine held s0 s1 = (s1.asked ≡ s0.asked) ⊎ ((earlier : List ℕ) × (s0.rest ≡ earlier ++ s1.asked) × IsPlain (held ++ earlier))
+
+-- what a call for the next line gets from the source, and what it answers
+pub record Takes (limit : ℕ) (tells : Bool) (s0 s1 : SourceAt) (old new : Ahead) (into : List ℕ) (answer : LineRead) : Type 0 where
+  pub got : List ℕ
+  pub from_source : IsTrue tells → s0.rest ≡ got ++ s1.rest
+  pub took : Took limit (old.held ++ got) answer into new
+  pub faults : Faults answer s0 s1
+  pub at_end : new.state ≡ reader.AtEnd → IsTrue tells → OneEnd s0 s1
+  pub no_end : (new.state ≡ reader.AtEnd → ⊥) → IsTrue tells → s1.ends ≡ s0.ends
+  pub asked : IsTrue tells → AskedInLine old.held s0 s1
+  pub few : length new.held ≤ longest
+
+-- a call for the next line: it takes what stands there, or gives its last answer again and leaves all as it is
+pub record Next (limit : ℕ) (tells : Bool) (s0 s1 : SourceAt) (old new : Ahead) (into : List ℕ) (answer : LineRead) : Type 0 where
+  pub takes : old.state ≡ reader.Open → Takes limit tells s0 s1 old new into answer
+  pub again : (old.state ≡ reader.Open → ⊥) → (s1 ≡ s0) × (new ≡ old) × Repeats old.state answer

@@ -1,8 +1,8 @@
 ghost use Rattle.std.specs.Prelude.{◌≡◌, ℕ, ◌-◌, ◌<◌, ◌≤◌, [], List, ◌++◌, length, take, drop, Contains, IsTrue, false};
-ghost use Rattle.sx_io.specs.Counts.{Rose};
 ghost use Rattle.sx_io.specs.Reading.{newline, longest, IsPlain};
-ghost use Rattle.sx_io.specs.Next.{Repeats, Takes, Took};
-ghost use Rattle.sx_io.specs.Parts.{Moves, Turns};
+ghost use Rattle.sx_io.specs.Streams.{SourceAt, NoFault, OneFault, OneEnd};
+ghost use Rattle.sx_io.specs.Next.{Next, Takes};
+ghost use Rattle.sx_io.specs.Parts.{Moves, Turns, TurnFaults, AskedInTurn};
 
 use crate::line_parts::{Part, move_chunk};
 use crate::outside::Source;
@@ -84,19 +84,21 @@ impl Lines {
     /// The next line, without its newline and one carriage return before it: its text stands at the front of `into`.
     /// It reads only where it holds no newline, and never behind the end of the input or a failed read.
     pub fn next<S: Source>(&mut self, source: &mut S, into: &mut [u8; LONGEST]) -> LineRead
-        // The answer is the first of those to come, and what isn't given stays held.
-        ensures takes { Takes S.tells (S.rest source.old) (S.rest source.new) self.old self.new into.new result }
-        ensures bound { length self.new.held ≤ longest }
+        // The answer is what stands next in the input, and what isn't given stays held.
+        ensures next { Next longest S.tells (S.at source.old) (S.at source.new) self.old self.new into.new result }
 
-        // It reads only where it must, and never once it has given its last answer, which it gives again.
+        // It reads only where it must, and never once it has given its last answer.
         ensures unread { Contains self.old.held newline → source.new ≡ source.old }
-        ensures untouched { (self.old.state ≡ ReaderState.Open → ⊥) → (source.new ≡ source.old) × (self.new ≡ self.old) }
-        ensures repeats { Repeats self.old.state result }
+        ensures untouched { (self.old.state ≡ ReaderState.Open → ⊥) → source.new ≡ source.old }
+    {
+        self.next_within(source, into)
+    }
 
-        // At the end of the input nothing is left of it, and a read fails only where the source's count rises.
-        ensures end { self.old.state ≡ ReaderState.Open → self.new.state ≡ ReaderState.AtEnd → IsTrue S.tells → S.rest source.new ≡ [] }
-        ensures failed { self.old.state ≡ ReaderState.Open → result ≡ LineRead.Failed → Rose (S.faults source.old) (S.faults source.new) }
-        ensures kept { S.faults source.old ≤ S.faults source.new }
+    /// The next line, as `next`, where a line may have as many bytes as `into` has room for.
+    pub fn next_within<S: Source>(&mut self, source: &mut S, into: &mut [u8]) -> LineRead
+        ensures next { Next (length into.old) S.tells (S.at source.old) (S.at source.new) self.old self.new into.new result }
+        ensures unread { Contains self.old.held newline → source.new ≡ source.old }
+        ensures untouched { (self.old.state ≡ ReaderState.Open → ⊥) → source.new ≡ source.old }
     {
         match self.state() {
             ReaderState::Open => self.next_open(source, into),
@@ -107,15 +109,10 @@ impl Lines {
     }
 
     /// The next line, where no last answer was given.
-    fn next_open<S: Source>(&mut self, source: &mut S, into: &mut [u8; LONGEST]) -> LineRead
+    fn next_open<S: Source>(&mut self, source: &mut S, into: &mut [u8]) -> LineRead
         requires { self.old.state ≡ ReaderState.Open }
-        ensures took { (got : List ℕ) × (IsTrue S.tells → S.rest source.old ≡ got ++ S.rest source.new)
-            × Took (self.old.held ++ got) result into.new self.new }
-        ensures bound { length self.new.held ≤ longest }
+        ensures takes { Takes (length into.old) S.tells (S.at source.old) (S.at source.new) self.old self.new into.new result }
         ensures unread { Contains self.old.held newline → source.new ≡ source.old }
-        ensures end { self.new.state ≡ ReaderState.AtEnd → IsTrue S.tells → S.rest source.new ≡ [] }
-        ensures failed { result ≡ LineRead.Failed → Rose (S.faults source.old) (S.faults source.new) }
-        ensures kept { S.faults source.old ≤ S.faults source.new }
     {
         let mut filled = 0;
         'turns: loop {
@@ -130,16 +127,19 @@ impl Lines {
     }
 
     /// One turn: reads where nothing is held, and moves a part of the line.
-    fn turn<S: Source>(&mut self, source: &mut S, into: &mut [u8; LONGEST], filled: usize) -> Turn
+    fn turn<S: Source>(&mut self, source: &mut S, into: &mut [u8], filled: usize) -> Turn
         requires open { self.old.state ≡ ReaderState.Open }
-        requires filled { filled ≤ longest }
+        requires filled { filled ≤ length into.old }
         requires plain { IsPlain (take filled into.old) }
-        ensures turns { (got : List ℕ) × (IsTrue S.tells → S.rest source.old ≡ got ++ S.rest source.new)
-            × Turns ((take filled into.old ++ self.old.held) ++ got) filled result into.new self.new }
+        ensures turns { (got : List ℕ) × (IsTrue S.tells → (S.at source.old).rest ≡ got ++ (S.at source.new).rest)
+            × Turns (length into.old) ((take filled into.old ++ self.old.held) ++ got) filled result into.new self.new }
         ensures unread { 0 < length self.old.held → source.new ≡ source.old }
-        ensures end { self.new.state ≡ ReaderState.AtEnd → IsTrue S.tells → S.rest source.new ≡ [] }
-        ensures failed { result ≡ Turn.Done LineRead.Failed → Rose (S.faults source.old) (S.faults source.new) }
-        ensures kept { S.faults source.old ≤ S.faults source.new }
+        ensures end { self.new.state ≡ ReaderState.AtEnd → IsTrue S.tells → OneEnd (S.at source.old) (S.at source.new) }
+        ensures no_end { (self.new.state ≡ ReaderState.AtEnd → ⊥) → IsTrue S.tells → (S.at source.new).ends ≡ (S.at source.old).ends }
+        ensures asked { IsTrue S.tells → AskedInTurn self.old.held (S.at source.old) (S.at source.new) }
+        ensures faults { TurnFaults result (S.at source.old) (S.at source.new) }
+        ensures few { length self.new.held ≤ longest }
+        ensures room { length into.new ≡ length into.old }
     {
         if !self.is_empty() {
             return self.turn_held(into, filled);
@@ -157,14 +157,16 @@ impl Lines {
     }
 
     /// One turn over what is held.
-    fn turn_held(&mut self, into: &mut [u8; LONGEST], filled: usize) -> Turn
+    fn turn_held(&mut self, into: &mut [u8], filled: usize) -> Turn
         requires open { self.old.state ≡ ReaderState.Open }
         requires some { 0 < length self.old.held }
-        requires filled { filled ≤ longest }
+        requires filled { filled ≤ length into.old }
         requires plain { IsPlain (take filled into.old) }
-        ensures turns { Turns (take filled into.old ++ self.old.held) filled result into.new self.new }
+        ensures turns { Turns (length into.old) (take filled into.old ++ self.old.held) filled result into.new self.new }
         ensures not_at_end { self.new.state ≡ ReaderState.AtEnd → ⊥ }
-        ensures not_failed { result ≡ Turn.Done LineRead.Failed → ⊥ }
+        ensures faults { (s0 s1 : SourceAt) → NoFault s0 s1 → TurnFaults result s0 s1 }
+        ensures few { length self.new.held ≤ longest }
+        ensures room { length into.new ≡ length into.old }
     {
         match self.move_part(into, filled) {
             Part::Whole(count) => Turn::Done(LineRead::Text(count)),
@@ -180,11 +182,14 @@ impl Lines {
     fn fill<S: Source>(&mut self, source: &mut S) -> Filled
         requires nothing { self.old.held ≡ [] }
         requires open { self.old.state ≡ ReaderState.Open }
-        ensures read { IsTrue S.tells → S.rest source.old ≡ self.new.held ++ S.rest source.new }
+        ensures read { IsTrue S.tells → (S.at source.old).rest ≡ self.new.held ++ (S.at source.new).rest }
         ensures some { result ≡ Filled.Some → (0 < length self.new.held) × (self.new.state ≡ ReaderState.Open) }
-        ensures end { result ≡ Filled.AtEnd → (self.new ≡ record self.old { state = ReaderState.AtEnd }) × (IsTrue S.tells → S.rest source.new ≡ []) }
-        ensures failed { result ≡ Filled.Failed → (self.new ≡ record self.old { state = ReaderState.Failed }) × Rose (S.faults source.old) (S.faults source.new) }
-        ensures kept { S.faults source.old ≤ S.faults source.new }
+        ensures end { result ≡ Filled.AtEnd → (self.new ≡ record self.old { state = ReaderState.AtEnd }) × (IsTrue S.tells → OneEnd (S.at source.old) (S.at source.new)) }
+        ensures no_end { (result ≡ Filled.AtEnd → ⊥) → IsTrue S.tells → (S.at source.new).ends ≡ (S.at source.old).ends }
+        ensures asked { IsTrue S.tells → (S.at source.new).asked ≡ (S.at source.old).rest }
+        ensures failed { result ≡ Filled.Failed → (self.new ≡ record self.old { state = ReaderState.Failed }) × OneFault (S.at source.old) (S.at source.new) }
+        ensures quiet { (result ≡ Filled.Failed → ⊥) → NoFault (S.at source.old) (S.at source.new) }
+        ensures few { length self.new.held ≤ longest }
     {
         match source.read(&mut self.held) {
             Ok(0) => {
@@ -208,11 +213,13 @@ impl Lines {
     }
 
     /// Moves what is held of the line behind the bytes that have come of it.
-    fn move_part(&mut self, into: &mut [u8; LONGEST], filled: usize) -> Part
-        requires filled { filled ≤ longest }
+    fn move_part(&mut self, into: &mut [u8], filled: usize) -> Part
+        requires filled { filled ≤ length into.old }
         requires plain { IsPlain (take filled into.old) }
-        ensures moves { Moves (take filled into.old) self.old.held result into.new self.new.held }
+        ensures moves { Moves (length into.old) (take filled into.old) self.old.held result into.new self.new.held }
         ensures state { self.new.state ≡ self.old.state }
+        ensures few { (length self.old.held ≤ longest) × (length self.new.held ≤ longest) }
+        ensures room { length into.new ≡ length into.old }
     {
         let (part, used) = move_chunk(into, filled, &self.held[self.from..self.to]);
         self.from += used;

@@ -56,6 +56,9 @@ pub struct MemSource {
     at: usize,
     piece: usize,
     plan: Plan,
+    failed_at: usize,
+    asked_at: usize,
+    ends: u64,
 }
 
 impl Model for MemSource {
@@ -70,6 +73,9 @@ impl Model for MemSource {
       failing = s.plan.failing.items;
       calls = s.plan.calls;
       faults = s.plan.faults;
+      left = drop s.failed_at s.bytes.items;
+      asked = drop s.asked_at s.bytes.items;
+      ends = s.ends;
     } };
 
     ghost invariant = { λ s. (s.at ≤ length s.bytes.items) × (0 < s.piece) };
@@ -80,13 +86,16 @@ impl MemSource {
     /// from 1, stand in `failing`.
     pub fn new(bytes: Vec<u8>, piece: usize, failing: Vec<u64>) -> MemSource
         requires { 0 < piece }
-        ensures { result ≡ record { rest = bytes.items; piece = piece; failing = failing.items; calls = 0; faults = 0 } }
+        ensures { result ≡ record { rest = bytes.items; piece = piece; failing = failing.items; calls = 0; faults = 0; left = bytes.items; asked = bytes.items; ends = 0 } }
     {
         MemSource {
             bytes,
             at: 0,
             piece,
             plan: Plan::new(failing),
+            failed_at: 0,
+            asked_at: 0,
+            ends: 0,
         }
     }
 
@@ -101,9 +110,7 @@ impl MemSource {
 impl Source for MemSource {
     ghost tells = { true };
 
-    ghost rest = { λ s. s.rest };
-
-    ghost faults = { λ s. s.faults };
+    ghost at = { λ s. record { rest = s.rest; faults = s.faults; left = s.left; asked = s.asked; ends = s.ends } };
 
     fn read(&mut self, into: &mut [u8]) -> Result<usize, Failed>
         requires { 0 < length into.old }
@@ -115,21 +122,32 @@ impl Source for MemSource {
         ensures within { IfOk result (λ n. n ≤ length into.old) }
         ensures taken { IfOk result (λ n. self.old.rest ≡ take n into.new ++ self.new.rest) }
         ensures end { IfOk result (λ n. n ≡ 0 → self.new.rest ≡ []) }
+        ensures one_end { IfOk result (λ n. n ≡ 0 → self.new.ends ≡ counted self.old.ends) }
+        ensures more { IfOk result (λ n. 0 < n → self.new.ends ≡ self.old.ends) }
+        ensures asked { self.new.asked ≡ self.old.rest }
         ensures unchanged { OnErr result (self.new.rest ≡ self.old.rest) }
 
-        ensures faultless { OnOk result (self.new.faults ≡ self.old.faults) }
-        ensures rose { OnErr result (self.new.faults ≡ counted self.old.faults) }
+        ensures same_faults { OnOk result (self.new.faults ≡ self.old.faults) }
+        ensures same_left { OnOk result (self.new.left ≡ self.old.left) }
+        ensures one_more { OnErr result (self.new.faults ≡ counted self.old.faults) }
+        ensures left { OnErr result (self.new.left ≡ self.old.rest) }
+        ensures no_end { OnErr result (self.new.ends ≡ self.old.ends) }
         ensures kept { self.old.faults ≤ self.new.faults }
         ensures calls { self.new.calls ≡ counted self.old.calls }
         ensures plan { (self.new.piece ≡ self.old.piece) × (self.new.failing ≡ self.old.failing) }
     {
+        self.asked_at = self.at;
         if self.plan.fails() {
+            self.failed_at = self.at;
             return Err(Failed);
         }
         let rest = &self.bytes[self.at..];
         let count = rest.len().min(self.piece).min(into.len());
         copy_front(into, &rest[..count]);
         self.at += count;
+        if count == 0 {
+            self.ends = self.ends.saturating_add(1);
+        }
         Ok(count)
     }
 }
@@ -148,6 +166,7 @@ pub struct MemSink {
     bytes: Vec<u8>,
     capacity: usize,
     plan: Plan,
+    idle: u64,
 }
 
 impl Model for MemSink {
@@ -162,6 +181,7 @@ impl Model for MemSink {
       failing = s.plan.failing.items;
       calls = s.plan.calls;
       faults = s.plan.faults;
+      idle = s.idle;
     } };
 
     ghost invariant = { λ s. (length s.bytes.items ≤ s.capacity) × (s.capacity ≤ vec_capacity s.bytes) };
@@ -171,13 +191,14 @@ impl MemSink {
     /// A sink with room for `capacity` bytes, all of which is taken here. It fails at the calls whose numbers, from 1,
     /// stand in `failing`.
     pub fn new(alloc: Global, capacity: usize, failing: Vec<u64>) -> Result<MemSink, AllocError>
-        ensures { IfOk result (λ sink. sink ≡ record { written = []; capacity = capacity; failing = failing.items; calls = 0; faults = 0 }) }
+        ensures { IfOk result (λ sink. sink ≡ record { written = []; capacity = capacity; failing = failing.items; calls = 0; faults = 0; idle = 0 }) }
     {
         let bytes = Vec::with_capacity(alloc, capacity)?;
         Ok(MemSink {
             bytes,
             capacity,
             plan: Plan::new(failing),
+            idle: 0,
         })
     }
 
@@ -192,9 +213,7 @@ impl MemSink {
 impl Sink for MemSink {
     ghost tells = { true };
 
-    ghost written = { λ s. s.written };
-
-    ghost faults = { λ s. s.faults };
+    ghost at = { λ s. record { written = s.written; faults = s.faults; idle = s.idle } };
 
     fn write(&mut self, from: &[u8]) -> Result<usize, Failed>
         // It fails exactly at the listed calls, and else takes what it has room for.
@@ -207,13 +226,18 @@ impl Sink for MemSink {
 
         // A listed call is a fault, and so is a call that finds no room for a piece that isn't empty.
         ensures stuck { IfOk result (λ n. n ≡ 0 → 0 < length from.now → self.new.faults ≡ counted self.old.faults) }
-        ensures rose { OnErr result (self.new.faults ≡ counted self.old.faults) }
+        ensures fault { OnErr result (self.new.faults ≡ counted self.old.faults) }
         ensures faultless { IfOk result (λ n. (n ≡ 0 → length from.now ≡ 0) → self.new.faults ≡ self.old.faults) }
+        ensures idle { length from.now ≡ 0 → self.new.idle ≡ counted self.old.idle }
+        ensures busy { 0 < length from.now → self.new.idle ≡ self.old.idle }
         ensures kept { self.old.faults ≤ self.new.faults }
 
         ensures calls { self.new.calls ≡ counted self.old.calls }
         ensures plan { (self.new.capacity ≡ self.old.capacity) × (self.new.failing ≡ self.old.failing) }
     {
+        if from.is_empty() {
+            self.idle = self.idle.saturating_add(1);
+        }
         if self.plan.fails() {
             return Err(Failed);
         }

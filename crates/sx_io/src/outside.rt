@@ -1,5 +1,6 @@
-ghost use Rattle.std.specs.Prelude.{◌≡◌, ℕ, ◌<◌, ◌≤◌, Bool, List, [], ◌++◌, length, take, IfOk, OnOk, OnErr, IsTrue};
-ghost use Rattle.sx_io.specs.Counts.{Rose};
+ghost use Rattle.std.specs.Prelude.{◌≡◌, ◌<◌, ◌≤◌, Bool, [], ◌++◌, length, take, IfOk, OnOk, OnErr, IsTrue};
+ghost use Rattle.sx_io.specs.Counts.{counted};
+ghost use Rattle.sx_io.specs.Streams.{SourceAt, SinkAt, NoFault, OneFault, OneEnd};
 ghost use Rattle.sx_io.specs.Fronts.{AppendsFront};
 
 /// A read or a write failed.
@@ -11,21 +12,23 @@ pub trait Source {
     /// Whether the source tells the bytes that are not yet read.
     ghost tells: { Bool };
 
-    /// The bytes that are not yet read, where it tells them.
-    ghost rest: { Self → List ℕ };
-
-    /// How often it failed: a count that never falls, and stops at the last value of 64 bits.
-    ghost faults: { Self → ℕ };
+    /// What it is now: the bytes that are not yet read, its count of faults, which never falls and stops at the last
+    /// value of 64 bits, what was left at the last fault and at the last read, and how many reads found the end.
+    ghost at: { Self → SourceAt };
 
     /// Takes bytes from the front of the rest, and writes them at the front of `into`. `Ok(0)` is the end of the input.
     fn read(&mut self, into: &mut [u8]) -> Result<usize, Failed>
         requires { 0 < length into.old }
         ensures within { IfOk result (λ n. n ≤ length into.old) }
-        ensures taken { IfOk result (λ n. IsTrue tells → rest self.old ≡ take n into.new ++ rest self.new) }
-        ensures end { IfOk result (λ n. n ≡ 0 → IsTrue tells → rest self.new ≡ []) }
-        ensures unchanged { OnErr result (IsTrue tells → rest self.new ≡ rest self.old) }
-        ensures kept { faults self.old ≤ faults self.new }
-        ensures rose { OnErr result (Rose (faults self.old) (faults self.new)) };
+        ensures taken { IfOk result (λ n. IsTrue tells → (at self.old).rest ≡ take n into.new ++ (at self.new).rest) }
+        ensures end { IfOk result (λ n. n ≡ 0 → IsTrue tells → OneEnd (at self.old) (at self.new)) }
+        ensures more { IfOk result (λ n. 0 < n → IsTrue tells → (at self.new).ends ≡ (at self.old).ends) }
+        ensures asked { IsTrue tells → (at self.new).asked ≡ (at self.old).rest }
+        ensures faultless { OnOk result (NoFault (at self.old) (at self.new)) }
+        ensures unchanged { OnErr result (IsTrue tells → (at self.new).rest ≡ (at self.old).rest) }
+        ensures fault { OnErr result (OneFault (at self.old) (at self.new)) }
+        ensures no_end { OnErr result (IsTrue tells → (at self.new).ends ≡ (at self.old).ends) }
+        ensures kept { (at self.old).faults ≤ (at self.new).faults };
 }
 
 /// Where bytes go.
@@ -33,28 +36,31 @@ pub trait Sink {
     /// Whether the sink tells the bytes that it took.
     ghost tells: { Bool };
 
-    /// The bytes that it took, where it tells them.
-    ghost written: { Self → List ℕ };
-
-    /// How often it failed: a count that never falls, and stops at the last value of 64 bits.
-    ghost faults: { Self → ℕ };
+    /// What it is now: the bytes that it took, its count of faults, as a source's, and how many writes of no bytes
+    /// it was given.
+    ghost at: { Self → SinkAt };
 
     /// Takes a front of the bytes, and says how many. It takes none of some only where it fails.
     fn write(&mut self, from: &[u8]) -> Result<usize, Failed>
         ensures within { IfOk result (λ n. n ≤ length from.now) }
-        ensures taken { IfOk result (λ n. IsTrue tells → written self.new ≡ written self.old ++ take n from.now) }
-        ensures stuck { IfOk result (λ n. n ≡ 0 → 0 < length from.now → Rose (faults self.old) (faults self.new)) }
-        ensures unchanged { OnErr result (IsTrue tells → written self.new ≡ written self.old) }
-        ensures kept { faults self.old ≤ faults self.new }
-        ensures rose { OnErr result (Rose (faults self.old) (faults self.new)) };
+        ensures taken { IfOk result (λ n. IsTrue tells → (at self.new).written ≡ (at self.old).written ++ take n from.now) }
+        ensures faultless { IfOk result (λ n. (n ≡ 0 → length from.now ≡ 0) → (at self.new).faults ≡ (at self.old).faults) }
+        ensures stuck { IfOk result (λ n. n ≡ 0 → 0 < length from.now → (at self.new).faults ≡ counted (at self.old).faults) }
+        ensures unchanged { OnErr result (IsTrue tells → (at self.new).written ≡ (at self.old).written) }
+        ensures fault { OnErr result ((at self.new).faults ≡ counted (at self.old).faults) }
+        ensures idle { IsTrue tells → length from.now ≡ 0 → (at self.new).idle ≡ counted (at self.old).idle }
+        ensures busy { IsTrue tells → 0 < length from.now → (at self.new).idle ≡ (at self.old).idle }
+        ensures kept { (at self.old).faults ≤ (at self.new).faults };
 }
 
-/// Writes all of the bytes. After `Failed` a front of them was written.
+/// Writes all of the bytes, and never a piece without any. After `Failed`, which is one fault, a prefix of them was
+/// written; without it none came.
 pub fn put_all<K: Sink>(sink: &mut K, bytes: &[u8]) -> Result<(), Failed>
-    ensures ok { OnOk result (IsTrue K.tells → K.written sink.new ≡ K.written sink.old ++ bytes.now) }
-    ensures failed { OnErr result (IsTrue K.tells → AppendsFront (K.written sink.old) (K.written sink.new) bytes.now) }
-    ensures kept { K.faults sink.old ≤ K.faults sink.new }
-    ensures rose { OnErr result (Rose (K.faults sink.old) (K.faults sink.new)) }
+    ensures ok { OnOk result (IsTrue K.tells → (K.at sink.new).written ≡ (K.at sink.old).written ++ bytes.now) }
+    ensures failed { OnErr result (IsTrue K.tells → AppendsFront (K.at sink.old).written (K.at sink.new).written bytes.now) }
+    ensures faultless { OnOk result ((K.at sink.new).faults ≡ (K.at sink.old).faults) }
+    ensures fault { OnErr result ((K.at sink.new).faults ≡ counted (K.at sink.old).faults) }
+    ensures busy { IsTrue K.tells → (K.at sink.new).idle ≡ (K.at sink.old).idle }
 {
     let mut at = 0;
     while at < bytes.len() {

@@ -32,9 +32,7 @@ impl<R: Read + Drop> StdSource<R> {
 impl<R: Read + Drop> Source for StdSource<R> {
     ghost tells = { false };
 
-    ghost rest = { λ _. [] };
-
-    ghost faults = { λ faults. faults };
+    ghost at = { λ faults. record { rest = []; faults = faults; left = []; asked = []; ends = 0 } };
 
     fn read(&mut self, into: &mut [u8]) -> Result<usize, Failed>
         ensures within { IfOk result (λ n. n ≤ length into.old) }
@@ -79,9 +77,7 @@ impl<W: Write + Drop> StdSink<W> {
 impl<W: Write + Drop> Sink for StdSink<W> {
     ghost tells = { false };
 
-    ghost written = { λ _. [] };
-
-    ghost faults = { λ faults. faults };
+    ghost at = { λ faults. record { written = []; faults = faults; idle = 0 } };
 
     fn write(&mut self, from: &[u8]) -> Result<usize, Failed>
         ensures within { IfOk result (λ n. n ≤ length from.now) }

@@ -16,5 +16,7 @@ pub loop-at-preserved : goal.loop-at-preserved
 loop-at-preserved g c = record {
   within = omega (arith, c.in_ok-count.ensures.within, length-take (length c.args.bytes.now - c.loop-at.at) (drop c.loop-at.at c.args.bytes.now), length-drop c.loop-at.at c.args.bytes.now);
   written = λ t. piece-written _ _ _ _ _ _ (omega arith) (c.loop-at.invariant.written t) (c.in_ok-count.ensures.taken t);
-  kept = omega arith;
+  busy = λ t. c.write.ensures.busy t
+      (omega (arith, length-take (length c.args.bytes.now - c.loop-at.at) (drop c.loop-at.at c.args.bytes.now), length-drop c.loop-at.at c.args.bytes.now)) ∙ c.loop-at.invariant.busy t;
+  faultless = c.in_ok-count.ensures.faultless (λ z. absurd (c.if-count-eq0.false z)) ∙ c.loop-at.invariant.faultless;
 }
