@@ -28,6 +28,10 @@ pub record OneFault (old new : SourceAt) : Type 0 where
   pub faults : new.faults ≡ counted old.faults
   pub left : new.left ≡ new.rest
 
+-- no read found the end of the input
+abbrev pub NoEnd : SourceAt → SourceAt → Type 0
+NoEnd old new = new.ends ≡ old.ends
+
 -- one read found the end of the input, where the source tells its bytes
 pub record OneEnd (old new : SourceAt) : Type 0 where
   pub rest : new.rest ≡ []
