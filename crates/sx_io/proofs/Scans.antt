@@ -3,7 +3,7 @@ use Rattle.std.proofs.Common.{ℕ, zero, suc, ◌+◌, ◌-◌, ◌<◌, ◌≤�
 use Rattle.std.specs.Prelude.{slice_index, Contains}
 use Rattle.std.proofs.lemmas.List.{append-nil, take-append-le, take-append-drop, drop-take, length-take-le}
 use Rattle.std.proofs.Math.Seq.{drop-cons, take-length, drop-length}
-use Rattle.sx_io.proofs.Fronts.{drop-drop}
+use Rattle.sx_io.proofs.Prefixes.{drop-drop}
 use Rattle.sx_io.specs.Reading.{Ending, Ended, Broken, Answer, Line, End, Long, Fault, Limit, behind_line, newline, longest, scan, IsPlain, IsTooLong, without_return}
 use Rattle.sx_io.specs.Next.{Ahead, Took, Faults, AskedInLine}
 use Rattle.sx_io.specs.Counts.{counted}
@@ -96,12 +96,12 @@ pub moves-too-long : (limit : ℕ) (begun chunk : List ℕ) (count : ℕ) (into 
     → count ≤ length chunk → limit < length begun + count
     → Moves limit begun chunk part.TooLong into held
 moves-too-long limit begun chunk count into held b p h l =
-    let front : List ℕ = begun ++ take count chunk in
-    let all : front ++ drop count chunk ≡ begun ++ chunk = append_assoc begun (take count chunk) (drop count chunk) ∙ ap (λ (t : List ℕ). begun ++ t) (take-append-drop count chunk) in
-    let wide : limit < length front = omega (arith, length-append begun (take count chunk), length-take-le count chunk h) in (
+    let prefix : List ℕ = begun ++ take count chunk in
+    let all : prefix ++ drop count chunk ≡ begun ++ chunk = append_assoc begun (take count chunk) (drop count chunk) ∙ ap (λ (t : List ℕ). begun ++ t) (take-append-drop count chunk) in
+    let wide : limit < length prefix = omega (arith, length-append begun (take count chunk), length-take-le count chunk h) in (
       omega (arith, length-append begun chunk),
-      plain-at _ _ (sym (take-append-le (limit + 1) front (drop count chunk) (omega arith)) ∙ ap (take (limit + 1)) all)
-          (plain-take (limit + 1) front (plain-append begun (take count chunk) b p)),
+      plain-at _ _ (sym (take-append-le (limit + 1) prefix (drop count chunk) (omega arith)) ∙ ap (take (limit + 1)) all)
+          (plain-take (limit + 1) prefix (plain-append begun (take count chunk) b p)),
     )
 
 take-take-le : (n m : ℕ) (xs : List ℕ) → n ≤ length (take m xs) → take n (take m xs) ≡ take n xs
@@ -109,9 +109,9 @@ take-take-le n m xs h =
     sym (take-append-le n (take m xs) (drop m xs) h) ∙ ap (λ (t : List ℕ). take n t) (take-append-drop m xs)
 
 -- what is trimmed is a line of its own
-pub trim-front : (new line : List ℕ) (n end : ℕ) → n ≤ length (take end new) → take n (take end new) ≡ without_return (take end new)
+pub trim-prefix : (new line : List ℕ) (n end : ℕ) → n ≤ length (take end new) → take n (take end new) ≡ without_return (take end new)
     → take end new ≡ line → take n new ≡ without_return line
-trim-front new line n end h e same =
+trim-prefix new line n end h e same =
     let P : List ℕ → Type 0 = λ t. take n new ≡ without_return t in
     subst P same (sym (take-take-le n end new h) ∙ e)
 
@@ -123,7 +123,7 @@ left-part held from to used h =
     let f : drop (from + used) held ≡ drop used (drop from held) = drop-drop from used held in
     rw e (rw f (sym (drop-take used (to - (from + used)) (drop from held))))
 
--- moving a front of what is held leaves the rest of it
+-- moving a prefix of what is held leaves the rest of it
 pub moves-view : (limit : ℕ) (begun held old : List ℕ) (from to used : ℕ) (p : Part) (into : List ℕ) → from + used ≤ to
     → take (to - from) (drop from held) ≡ old
     → Moves limit begun (take (to - from) (drop from held)) p into (drop used (take (to - from) (drop from held)))
@@ -252,9 +252,9 @@ pub asked-on : (held got begun left : List ℕ) (s0 s1 s2 : SourceAt) → s0.res
 asked-on held got begun left s0 s1 s2 r e p a t =
     elim t [
       | inl same ↦ elim a [
-          | inl before ↦ inl (same ∙ before)
-          | inr (earlier, r0, q) ↦ inr (earlier, r0 ∙ ap (λ (v : List ℕ). earlier ++ v) (sym same), q)
-        ]
+        | inl before ↦ inl (same ∙ before)
+        | inr (earlier, r0, q) ↦ inr (earlier, r0 ∙ ap (λ (v : List ℕ). earlier ++ v) (sym same), q)
+      ]
       | inr (none, now) ↦
           inr (got, r ∙ ap (λ (v : List ℕ). got ++ v) (sym now), plain-at begun (held ++ got) (sym (e ∙ ap (λ (v : List ℕ). begun ++ v) none ∙ append-nil begun)) p)
     ]

@@ -1,3 +1,5 @@
+//! The lines of a source, one after another.
+
 ghost use Rattle.std.specs.Prelude.{◌≡◌, ℕ, ◌-◌, ◌<◌, ◌≤◌, [], List, ◌++◌, length, take, drop, Contains, IsTrue, false};
 ghost use Rattle.sx_io.specs.Reading.{newline, longest, IsPlain};
 ghost use Rattle.sx_io.specs.Streams.{SourceAt, NoFault, OneFault, OneEnd};

@@ -1,3 +1,5 @@
+//! Sources and sinks in memory, whose calls fail by a plan.
+
 ghost use Rattle.std.specs.Prelude.{◌≡◌, ◌-◌, ◌<◌, ◌≤◌, ◌↔◌, min, true, [], ◌++◌, length, take, IfOk, OnOk, OnErr, IsErr, IsTrue, IsFalse, Contains};
 ghost use Rattle.sx_io.specs.Counts.{counted};
 

@@ -1,7 +1,9 @@
+//! Where bytes come from and go to: a source, a sink, and writing all of a text.
+
 ghost use Rattle.std.specs.Prelude.{◌≡◌, ◌<◌, ◌≤◌, Bool, [], ◌++◌, length, take, IfOk, OnOk, OnErr, IsTrue};
 ghost use Rattle.sx_io.specs.Counts.{counted};
 ghost use Rattle.sx_io.specs.Streams.{SourceAt, SinkAt, NoFault, OneFault, OneEnd};
-ghost use Rattle.sx_io.specs.Fronts.{AppendsFront};
+ghost use Rattle.sx_io.specs.Prefixes.{AppendsPrefix};
 
 /// A read or a write failed.
 #[derive(Clone, Copy, Debug, PartialEq, Eq)]
@@ -40,7 +42,7 @@ pub trait Sink {
     /// it was given.
     ghost at: { Self → SinkAt };
 
-    /// Takes a front of the bytes, and says how many. It takes none of some only where it fails.
+    /// Takes a prefix of the bytes, and says how many. It takes none of some only where it fails.
     fn write(&mut self, from: &[u8]) -> Result<usize, Failed>
         ensures within { IfOk result (λ n. n ≤ length from.now) }
         ensures taken { IfOk result (λ n. IsTrue tells → (at self.new).written ≡ (at self.old).written ++ take n from.now) }
@@ -57,7 +59,7 @@ pub trait Sink {
 /// written; without it none came.
 pub fn put_all<K: Sink>(sink: &mut K, bytes: &[u8]) -> Result<(), Failed>
     ensures ok { OnOk result (IsTrue K.tells → (K.at sink.new).written ≡ (K.at sink.old).written ++ bytes.now) }
-    ensures failed { OnErr result (IsTrue K.tells → AppendsFront (K.at sink.old).written (K.at sink.new).written bytes.now) }
+    ensures failed { OnErr result (IsTrue K.tells → AppendsPrefix (K.at sink.old).written (K.at sink.new).written bytes.now) }
     ensures faultless { OnOk result ((K.at sink.new).faults ≡ (K.at sink.old).faults) }
     ensures fault { OnErr result ((K.at sink.new).faults ≡ counted (K.at sink.old).faults) }
     ensures busy { IsTrue K.tells → (K.at sink.new).idle ≡ (K.at sink.old).idle }

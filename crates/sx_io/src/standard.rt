@@ -1,3 +1,5 @@
+//! The streams of the process as a source and a sink: the trusted edge.
+
 ghost use Rattle.std.specs.Prelude.{◌≡◌, ℕ, ◌<◌, ◌≤◌, false, [], length, IfOk, OnOk, OnErr};
 ghost use Rattle.sx_io.specs.Counts.{counted};
 
