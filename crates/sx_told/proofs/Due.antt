@@ -1,0 +1,111 @@
+-- What is due of some lines is due of more of them too.
+use Rattle.std.proofs.Common.{ℕ, ◌≤◌, ◌+◌, ◌≡◌, ◌∙◌, ◌⊎◌, inl, inr, Bool, true, false, List, [], ◌∷◌, ◌++◌, length, refl, sym, ap, arith, append_assoc}
+use Rattle.std.specs.Prelude.{◌==◌, if◌then◌else◌, IsTrue}
+use Rattle.std.proofs.lemmas.List.{append-nil, append_cancel_right}
+use Rattle.sx_io.specs.Reading.{Ending, Broken, Answer, Line, Long, Fault, always, scan, newline, without_return}
+use Rattle.sx_told.specs.Told.{Output, Moment, Told, behind, unread, read_line, read_failed}
+use Rattle.sx_told.specs.Further.{HasEnd, Streams}
+use Rattle.sx_told.proofs.Further.{no-further}
+
+-- ---- whole lines
+
+abbrev pub lines_then : List (List ℕ) → List Answer → List Answer
+lines_then [] more = more
+lines_then (l ∷ ls) more = Line l ∷ lines_then ls more
+
+-- the answers of whole lines, or of those before one that is too long
+abbrev pub Whole : ℕ → List ℕ → List ℕ → Type 0
+Whole n begun bytes = ((ls : List (List ℕ)) × ((e : Ending) (more : List ℕ) → scan (always n) e begun (bytes ++ more) ≡ lines_then ls (scan (always n) e [] more)))
+    ⊎ ((ls : List (List ℕ)) × ((e : Ending) (more : List ℕ) → scan (always n) e begun (bytes ++ more) ≡ lines_then ls (Long ∷ [])))
+
+scan-step : (n : ℕ) (e : Ending) (begun : List ℕ) (b : ℕ) (more : List ℕ) (p q : Bool) → (b == newline) ≡ p → (length begun == n) ≡ q
+    → scan (always n) e begun (b ∷ more) ≡ (if p then Line (without_return begun) ∷ scan (always n) e [] more else if q then Long ∷ [] else scan (always n) e (begun ++ b ∷ []) more)
+scan-step n e begun b more p q x y = rw (x, y) refl
+
+whole-line : (n : ℕ) (begun bytes : List ℕ) (b : ℕ) (q : Bool) → (b == newline) ≡ true → (length begun == n) ≡ q → Whole n [] bytes → Whole n begun (b ∷ bytes)
+whole-line n begun bytes b q x y (inl w) =
+    inl (without_return begun ∷ w.0, λ e more. scan-step n e begun b (bytes ++ more) true q x y ∙ ap (λ (t : List Answer). Line (without_return begun) ∷ t) (w.1 e more))
+whole-line n begun bytes b q x y (inr w) =
+    inr (without_return begun ∷ w.0, λ e more. scan-step n e begun b (bytes ++ more) true q x y ∙ ap (λ (t : List Answer). Line (without_return begun) ∷ t) (w.1 e more))
+
+whole-byte : (n : ℕ) (begun bytes : List ℕ) (b : ℕ) → (b == newline) ≡ false → (length begun == n) ≡ false → Whole n (begun ++ b ∷ []) bytes → Whole n begun (b ∷ bytes)
+whole-byte n begun bytes b x y (inl w) = inl (w.0, λ e more. scan-step n e begun b (bytes ++ more) false false x y ∙ w.1 e more)
+whole-byte n begun bytes b x y (inr w) = inr (w.0, λ e more. scan-step n e begun b (bytes ++ more) false false x y ∙ w.1 e more)
+
+whole-long : (n : ℕ) (begun bytes : List ℕ) (b : ℕ) → (b == newline) ≡ false → (length begun == n) ≡ true → Whole n begun (b ∷ bytes)
+whole-long n begun bytes b x y = inr ([], λ e more. scan-step n e begun b (bytes ++ more) false true x y)
+
+eqb-true : (b : ℕ) → b ≡ newline → (b == newline) ≡ true
+eqb-true b e = grind arith
+
+whole-by : (n : ℕ) (begun bytes : List ℕ) (b : ℕ) (p q : Bool) → (b == newline) ≡ p → (length begun == n) ≡ q → Whole n [] bytes → Whole n (begun ++ b ∷ []) bytes → Whole n begun (b ∷ bytes)
+whole-by n begun bytes b true q x y w v = whole-line n begun bytes b q x y w
+whole-by n begun bytes b false true x y w v = whole-long n begun bytes b x y
+whole-by n begun bytes b false false x y w v = whole-byte n begun bytes b x y v
+
+pub whole : (n : ℕ) (begun bytes : List ℕ) → HasEnd bytes → Whole n begun bytes
+whole n begun [] h = absurd h
+whole n begun (b ∷ []) h = whole-line n begun [] b (length begun == n) (eqb-true b h) refl (inl ([], λ e more. refl))
+whole n begun (b ∷ c ∷ rest) h = whole-by n begun (c ∷ rest) b (b == newline) (length begun == n) refl refl (whole n [] (c ∷ rest) h) (whole n (begun ++ b ∷ []) (c ∷ rest) h)
+
+-- ---- what is written of them
+
+-- where a read failed, its line is the last
+abbrev pub EndsUnread : Output → Type 0
+EndsUnread o = o.status ≡ read_failed → (w : List ℕ) × (o.text ≡ w ++ read_line)
+
+-- it is settled, and not by a read; or this text is due, and what follows is g of what is to come
+abbrev pub Due : (List Answer → Output) → Type 0
+Due G = ((o : Output) × (o.status ≡ read_failed → ⊥) × ((more : List Answer) → G more ≡ o))
+    ⊎ ((t : List ℕ) × (g : List Answer → Output) × ((more : List Answer) → G more ≡ behind t (g more)) × (g (Fault ∷ []) ≡ unread)
+    × ((g (Long ∷ [])).status ≡ read_failed → ⊥) × ((more : List Answer) → EndsUnread (g more)))
+
+pub due-behind : (G H : List Answer → Output) (x : List ℕ) → ((more : List Answer) → G more ≡ behind x (H more)) → Due H → Due G
+due-behind G H x e (inl (o, n, c)) = inl (behind x o, n, λ more. e more ∙ ap (behind x) (c more))
+due-behind G H x e (inr (t, g, c, u, l, f)) =
+    inr (x ++ t, g, λ more. e more ∙ ap (behind x) (c more) ∙ ap (λ (v : List ℕ). record { text = v; status = (g more).status }) (sym (append_assoc x t (g more).text)), u, l, f)
+
+pub behind-ends : (x : List ℕ) (o : Output) → EndsUnread o → EndsUnread (behind x o)
+behind-ends x o f e = let r = f e in (x ++ r.0, ap (λ (v : List ℕ). x ++ v) r.1 ∙ sym (append_assoc x r.0 read_line))
+
+-- ---- more of the input
+
+status-of : (o : Output) (said : List ℕ) → o ≡ behind said unread → o.status ≡ read_failed
+status-of o said e = ap (λ (p : Output). p.status) e
+
+text-of : (o : Output) (said : List ℕ) → o ≡ behind said unread → o.text ≡ said ++ read_line
+text-of o said e = ap (λ (p : Output). p.text) e
+
+-- this is due of the lines, and that of more
+pub due-more : (G : List Answer → Output) (said said' : List ℕ) (more : List Answer) → Due G → G (Fault ∷ []) ≡ behind said unread → G more ≡ behind said' unread → (w : List ℕ) × (said' ≡ said ++ w)
+due-more G said said' more (inl (o, n, c)) a b = absurd (n (status-of o said (sym (c (Fault ∷ [])) ∙ a)))
+due-more G said said' more (inr (t, g, c, u, l, f)) a b =
+    let one : t ++ read_line ≡ said ++ read_line = ap (λ (o : Output). t ++ o.text) (sym u) ∙ text-of (behind t (g (Fault ∷ []))) said (sym (c (Fault ∷ [])) ∙ a) in
+    let r = f more (status-of (behind t (g more)) said' (sym (c more) ∙ b)) in
+    let two : said' ++ read_line ≡ (t ++ r.0) ++ read_line =
+    sym (text-of (behind t (g more)) said' (sym (c more) ∙ b)) ∙ ap (λ (v : List ℕ). t ++ v) r.1 ∙ sym (append_assoc t r.0 read_line) in
+    (r.0, append_cancel_right said' (t ++ r.0) read_line two ∙ ap (λ (v : List ℕ). v ++ r.0) (append_cancel_right t said read_line one))
+
+pub due-long : (G : List Answer → Output) (said : List ℕ) → Due G → G (Long ∷ []) ≡ behind said unread → ⊥
+due-long G said (inl (o, n, c)) a = n (status-of o said (sym (c (Long ∷ [])) ∙ a))
+due-long G said (inr (t, g, c, u, l, f)) a = l (status-of (behind t (g (Long ∷ []))) said (sym (c (Long ∷ [])) ∙ a))
+
+due-whole : (n : ℕ) (F : List Answer → Output) (bytes y said said' : List ℕ) → ((ls : List (List ℕ)) → Due (λ more. F (lines_then ls more))) → Whole n [] bytes
+    → F (scan (always n) Broken [] bytes) ≡ behind said unread → F (scan (always n) Broken [] (bytes ++ y)) ≡ behind said' unread → (w : List ℕ) × (said' ≡ said ++ w)
+due-whole n F bytes y said said' due (inl (ls, c)) a b =
+    due-more (λ more. F (lines_then ls more)) said said' (scan (always n) Broken [] y) (due ls)
+    (ap F (sym (c Broken [])) ∙ ap (λ (t : List ℕ). F (scan (always n) Broken [] t)) (append-nil bytes) ∙ a)
+    (ap F (sym (c Broken y)) ∙ b)
+due-whole n F bytes y said said' due (inr (ls, c)) a b =
+    absurd (due-long (λ more. F (lines_then ls more)) said (due ls)
+    (ap F (sym (c Broken [])) ∙ ap (λ (t : List ℕ). F (scan (always n) Broken [] t)) (append-nil bytes) ∙ a))
+
+-- a command of which more is due of more lines reads no further than it must
+pub streams-by : {tells to_tell : Bool} {m0 m1 : Moment} {status : ℕ} {also : List Answer → Type 0} (n : ℕ) (F : List Answer → Output) → ((ls : List (List ℕ)) → Due (λ more. F (lines_then ls more)))
+    → Told tells to_tell (always n) m0 m1 status F also → Streams tells to_tell (always n) m0 m1 F
+streams-by {tells} {to_tell} {m0} {m1} {status} {also} n F due told bytes rest said t k e h d none =
+    no-further bytes rest told.reads t e h
+    (λ y q.
+    let w = due-whole n F bytes y said told.said due (whole n [] bytes h) d q in
+    none (w.0 ++ told.part)
+    (told.wrote k ∙ ap (λ (v : List ℕ). m0.sink.written ++ v) (ap (λ (v : List ℕ). v ++ told.part) w.1 ∙ append_assoc said w.0 told.part)))
