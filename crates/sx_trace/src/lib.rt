@@ -1,10 +1,15 @@
-//! The names of a deployment.
+//! The names of a deployment, and the items of a trace.
 //!
 //! `names::Names` keeps the names of nodes, devices, modules and connections. `Names::valid` tells
 //! whether they are names that a deployment may have, and the look-ups give the place of a name in
-//! its list, `None` exactly where it isn't there.
+//! its list, `None` exactly where it isn't there. `items::Item` is what a run tells of one event.
+//! `writing::write_item` writes its line, and `reading::read_item` gives the item of a line, `None`
+//! exactly where no item has that line. No two items have one line.
 //!
 //! `specs/Names.antt` has the form of a name, when lists of names are valid, and where a name stands.
+//! `specs/Items.antt` has the lines of items.
 #![tactic(auto)]
 
+pub mod items;
 pub mod names;
+pub mod writing;

@@ -1,0 +1,285 @@
+//! The lines of items are written.
+
+ghost use Rattle.std.specs.Prelude.{◌≡◌, ℕ, ◌+◌, ◌<◌, ◌≤◌, List, [], ◌∷◌, ◌++◌, length, take, drop, codes, decimal};
+ghost use Rattle.std.specs.List.{join_with_byte};
+ghost use Rattle.sx_trace.specs.Items.{name_at, name_or, cause_word, side_word, epoch_words, item_text, IsPlaceOrNone, IsNamed, IsWritten};
+
+use crate::items::{Cause, Item};
+use crate::names::{DEPLOYER, Names};
+use itoa::{Buffer, Integer};
+use sx_lang::names::Name;
+use sx_lang::sides::Side;
+
+/// The name at a place of its list.
+fn name_at(names: &[Name], place: u8) -> &[u8]
+    requires { place < length names.now }
+    ensures name { result.now ≡ name_at names.now place }
+    ensures short { length result.now ≤ 16 }
+{
+    names[usize::from(place)].bytes()
+}
+
+/// The name at a place of its list, or another word where there is no place.
+fn name_or<'a>(other: &'a [u8], names: &'a [Name], place: Option<u8>) -> &'a [u8]
+    requires named { IsPlaceOrNone names.now place }
+    requires small { length other.now ≤ 16 }
+    ensures word { result.now ≡ name_or other.now names.now place }
+    ensures short { length result.now ≤ 16 }
+{
+    match place {
+        Some(place) => name_at(names, place),
+        None => other,
+    }
+}
+
+impl Cause {
+    /// The word of a cause.
+    fn word(self) -> &'static [u8]
+        ensures word { result.now ≡ cause_word self }
+        ensures short { length result.now ≤ 7 }
+    {
+        match self {
+            Cause::Order => b"order",
+            Cause::Fetch => b"fetch",
+            Cause::Read => b"read",
+            Cause::Write => b"write",
+            Cause::Device => b"device",
+            Cause::Illegal => b"illegal",
+            Cause::Range => b"range",
+            Cause::Asked => b"asked",
+        }
+    }
+}
+
+/// The word of a side.
+fn side_word(side: Side) -> &'static [u8]
+    ensures word { result.now ≡ side_word side }
+    ensures short { length result.now ≤ 4 }
+{
+    match side {
+        Side::From => b"from",
+        Side::To => b"to",
+    }
+}
+
+/// Writes bytes from an offset on.
+fn write_at(into: &mut [u8; 128], at: usize, part: &[u8])
+    requires { at + length part.now ≤ 128 }
+    ensures { into.new ≡ take at into.old ++ (part.now ++ drop (at + length part.now) into.old) }
+{
+    into[at..at + part.len()].copy_from_slice(part);
+}
+
+/// Writes a space and one more word behind what is written, and answers how many bytes that makes.
+fn write_next(into: &mut [u8; 128], written: usize, word: &[u8]) -> usize
+    requires { written + 1 + length word.now ≤ 128 }
+    ensures { (text first : List ℕ) → IsWritten text first written into.old
+        → IsWritten (text ++ 32 ∷ word.now) first result into.new }
+{
+    write_at(into, written, b" ");
+    write_at(into, written + 1, word);
+    written + 1 + word.len()
+}
+
+/// Writes two words with a space between them, and answers how many bytes they take.
+fn write_two(into: &mut [u8; 128], a: &[u8], b: &[u8]) -> usize
+    requires { length a.now + length b.now ≤ 127 }
+    ensures { IsWritten (join_with_byte 32 (a.now ∷ b.now ∷ [])) into.old result into.new }
+{
+    write_at(into, 0, a);
+    write_next(into, a.len(), b)
+}
+
+/// Writes three words as `write_two` does.
+fn write_three(into: &mut [u8; 128], a: &[u8], b: &[u8], c: &[u8]) -> usize
+    requires { length a.now + length b.now + length c.now ≤ 126 }
+    ensures { IsWritten (join_with_byte 32 (a.now ∷ b.now ∷ c.now ∷ [])) into.old result into.new }
+{
+    let written = write_two(into, a, b);
+    write_next(into, written, c)
+}
+
+/// Writes four words as `write_two` does.
+fn write_four(into: &mut [u8; 128], a: &[u8], b: &[u8], c: &[u8], d: &[u8]) -> usize
+    requires { length a.now + length b.now + length c.now + length d.now ≤ 125 }
+    ensures { IsWritten (join_with_byte 32 (a.now ∷ b.now ∷ c.now ∷ d.now ∷ [])) into.old result into.new }
+{
+    let written = write_three(into, a, b, c);
+    write_next(into, written, d)
+}
+
+/// Writes five words as `write_two` does.
+fn write_five(into: &mut [u8; 128], a: &[u8], b: &[u8], c: &[u8], d: &[u8], e: &[u8]) -> usize
+    requires { length a.now + length b.now + length c.now + length d.now + length e.now ≤ 124 }
+    ensures { IsWritten (join_with_byte 32 (a.now ∷ b.now ∷ c.now ∷ d.now ∷ e.now ∷ [])) into.old result into.new }
+{
+    let written = write_four(into, a, b, c, d);
+    write_next(into, written, e)
+}
+
+/// Writes a kind, a name and a number.
+fn write_numbered<N: Integer>(
+    into: &mut [u8; 128],
+    kind: &[u8],
+    names: &[Name],
+    place: u8,
+    number: N,
+) -> usize
+    requires kind { length kind.now ≤ 16 }
+    requires named { place < length names.now }
+    ensures { IsWritten (join_with_byte 32 (kind.now ∷ name_at names.now place ∷ N.text number ∷ [])) into.old result into.new }
+{
+    let mut digits = Buffer::new();
+    write_three(
+        into,
+        kind,
+        name_at(names, place),
+        digits.format(number).as_bytes(),
+    )
+}
+
+/// Writes `open M c SIDE EPOCH`, of an epoch 0 without it.
+fn write_open(into: &mut [u8; 128], holder: &[u8], link: &[u8], side: Side, epoch: u8) -> usize
+    requires holder { length holder.now ≤ 16 }
+    requires link { length link.now ≤ 16 }
+    ensures { IsWritten (join_with_byte 32 (codes "open" ∷ holder.now ∷ link.now ∷ side_word side ∷ epoch_words epoch))
+        into.old result into.new }
+{
+    if epoch == 0 {
+        return write_four(into, b"open", holder, link, side_word(side));
+    }
+    let mut digits = Buffer::new();
+    write_five(
+        into,
+        b"open",
+        holder,
+        link,
+        side_word(side),
+        digits.format(epoch).as_bytes(),
+    )
+}
+
+/// Writes `take M c NUMBER VALUE`.
+fn write_take(into: &mut [u8; 128], holder: &[u8], link: &[u8], number: u32, value: u16) -> usize
+    requires holder { length holder.now ≤ 16 }
+    requires link { length link.now ≤ 16 }
+    ensures { IsWritten (join_with_byte 32 (codes "take" ∷ holder.now ∷ link.now ∷ decimal number ∷ decimal value ∷ []))
+        into.old result into.new }
+{
+    let mut first = Buffer::new();
+    let mut second = Buffer::new();
+    let number = first.format(number).as_bytes();
+    write_five(
+        into,
+        b"take",
+        holder,
+        link,
+        number,
+        second.format(value).as_bytes(),
+    )
+}
+
+/// Writes `done M STATUS PIECES`.
+fn write_done(into: &mut [u8; 128], holder: &[u8], status: u16, pieces: u16) -> usize
+    requires { length holder.now ≤ 16 }
+    ensures { IsWritten (join_with_byte 32 (codes "done" ∷ holder.now ∷ decimal status ∷ decimal pieces ∷ [])) into.old result into.new }
+{
+    let mut first = Buffer::new();
+    let mut second = Buffer::new();
+    let status = first.format(status).as_bytes();
+    write_four(
+        into,
+        b"done",
+        holder,
+        status,
+        second.format(pieces).as_bytes(),
+    )
+}
+
+/// Writes `packet NUMBER LENGTH`.
+fn write_packet(into: &mut [u8; 128], number: u32, len: u16) -> usize
+    ensures { IsWritten (join_with_byte 32 (codes "packet" ∷ decimal number ∷ decimal len ∷ [])) into.old result into.new }
+{
+    let mut first = Buffer::new();
+    let mut second = Buffer::new();
+    let number = first.format(number).as_bytes();
+    write_three(into, b"packet", number, second.format(len).as_bytes())
+}
+
+/// Writes an item's line, without a newline, at the start of the buffer, and answers how many bytes
+/// the line has. The bytes behind it stay. The item's places are below the lengths of the lists.
+#[tactic(auto, unfolding(crate::specs::Items::item_text))]
+pub fn write_item(names: &Names, item: &Item, into: &mut [u8; 128]) -> usize
+    requires { IsNamed names.now item.now }
+    ensures { IsWritten (item_text names.now item.now) into.old result into.new }
+{
+    let nodes = &names.nodes;
+    let devices = &names.devices;
+    let modules = &names.modules;
+    let links = &names.links;
+    match *item {
+        Item::Reset { node, cause } => write_three(
+            into,
+            b"reset",
+            name_at(nodes, node),
+            cause.word(),
+        ),
+        Item::Protect { node, module } => {
+            write_three(
+                into,
+                b"protect",
+                name_at(nodes, node),
+                name_or(b"-", modules, module),
+            )
+        }
+        Item::Sense { device, value } => write_numbered(into, b"sense", devices, device, value),
+        Item::Read { module, value } => write_numbered(into, b"read", modules, module, value),
+        Item::Drain { device } => write_two(into, b"drain", name_at(devices, device)),
+        Item::Ask { module, challenge } => write_numbered(into, b"ask", modules, module, challenge),
+        Item::Attested { module, boot } => write_numbered(into, b"attested", modules, module, boot),
+        Item::Denied { module } => write_two(into, b"denied", name_at(modules, module)),
+        Item::Vouch { module, challenge } => write_numbered(
+            into, b"vouch", modules, module, challenge,
+        ),
+        Item::Open {
+            module,
+            link,
+            side,
+            epoch,
+        } => {
+            write_open(
+                into,
+                name_at(modules, module),
+                name_at(links, link),
+                side,
+                epoch,
+            )
+        }
+        Item::Take {
+            module,
+            link,
+            number,
+            value,
+        } => {
+            write_take(
+                into,
+                name_at(modules, module),
+                name_at(links, link),
+                number,
+                value,
+            )
+        }
+        Item::Out { module, value } => write_numbered(into, b"out", modules, module, value),
+        Item::Raw { device, value } => write_numbered(into, b"raw", devices, device, value),
+        Item::Done {
+            module,
+            status,
+            pieces,
+        } => write_done(into, name_at(modules, module), status, pieces),
+        Item::Packet { number, len } => write_packet(into, number, len),
+        Item::Forged { module } => write_two(into, b"forged", name_or(&DEPLOYER, modules, module)),
+        Item::Busy { node } => write_two(into, b"busy", name_at(nodes, node)),
+        Item::Skip { node } => write_two(into, b"skip", name_at(nodes, node)),
+        Item::Budget { node } => write_two(into, b"budget", name_at(nodes, node)),
+    }
+}
