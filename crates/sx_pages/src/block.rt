@@ -1,0 +1,127 @@
+//! The block of memory behind a raw pointer. Everything that touches the pointer is in this file.
+
+ghost use Rattle.std.specs.Prelude.{◌≡◌, ◌<◌, List, All, length, get_or, slice_set, IfSome, Some, []};
+ghost use denote.RawPtr.{Ptr};
+ghost use Rattle.sx_pages.specs.Arena.{IsWritten, slot_of, with_slot, zeroed, AllLinked, CanCopy, AreCopied};
+ghost use Rattle.sx_pages.specs.Ownership.{Slot, IsBlock, unwritten, block_owns, block_lends, block_type};
+ghost use base.Fml.{ftrue};
+
+use std::alloc::Allocator;
+use std::marker::{Model, PhantomData};
+
+/// The bytes of a block.
+const BYTES: usize = 65536;
+
+/// A block of 256 pages of 256 bytes. Each byte is unwritten until it is put.
+pub(crate) struct Block {
+    start: *mut u8,
+    pub(crate) ghost pages: { List (List Slot) },
+    pub(crate) ghost shaped: { IsBlock pages },
+}
+
+impl Model for Block {
+    ghost also_owns = { λ b. block_owns b.start b.pages };
+
+    ghost also_shares = { λ b _ κ. block_lends b.start b.pages κ };
+}
+
+/// The right to give a block back to its allocator. It takes no room.
+pub(crate) struct Lease<A: Allocator> {
+    mark: PhantomData<*const A>,
+    pub(crate) ghost alloc: { A },
+    pub(crate) ghost start: { Ptr },
+}
+
+impl<A: Allocator> Model for Lease<A> {
+    ghost also_owns = { λ l. A.dealloc_token l.alloc block_type l.start };
+
+    ghost also_shares = { λ _ _ _. ftrue };
+}
+
+impl Block {
+    /// A block of which nothing is written, and its lease. None where memory is wanting.
+    pub(crate) fn new<A: Allocator>(alloc: &A) -> Option<(Block, Lease<A>)>
+        ensures { IfSome result (λ made. (made.0.pages ≡ unwritten 256)
+            × (made.1.alloc ≡ alloc.now) × (made.1.start ≡ made.0.start)) }
+    {
+        match alloc.allocate(BYTES, 1) {
+            Ok(start) => {
+                let mark = PhantomData;
+                Some((Block { start }, Lease { mark }))
+            }
+            Err(_) => None,
+        }
+    }
+
+    /// Gives the block back to the allocator that it came from.
+    pub(crate) fn free<A: Allocator>(self, lease: Lease<A>, alloc: &A)
+        requires { (lease.alloc ≡ alloc.now) × (lease.start ≡ self.start) }
+    {
+        let Block { start } = self;
+        let Lease { mark: _ } = lease;
+        unsafe { alloc.deallocate(start, BYTES, 1) }
+    }
+
+    /// A byte that was written.
+    pub(crate) fn byte(&self, page: u8, at: u8) -> &u8
+        requires { IsWritten (slot_of self.now.pages page at) }
+        ensures { slot_of self.now.pages page at ≡ Some result.now }
+    {
+        unsafe { &*self.start.add(page as usize * 256 + at as usize) }
+    }
+
+    /// Writes one byte.
+    pub(crate) fn put(&mut self, page: u8, at: u8, byte: u8)
+        ensures { (self.new.start ≡ self.old.start)
+            × (self.new.pages ≡ with_slot self.old.pages page at byte) }
+    {
+        unsafe {
+            *self.start.add(page as usize * 256 + at as usize) = byte;
+        }
+    }
+
+    /// Makes each page a free one that is linked to the next.
+    pub(crate) fn link(&mut self)
+        ensures start { self.new.start ≡ self.old.start }
+        ensures linked { AllLinked self.new.pages 256 }
+    {
+        for page in 0..256u16 {
+            self.put(page as u8, 0, ((page + 1) % 256) as u8);
+        }
+    }
+
+    /// Makes a page zeros.
+    pub(crate) fn clear(&mut self, page: u8)
+        ensures { (self.new.start ≡ self.old.start)
+            × (self.new.pages ≡ slice_set self.old.pages page zeroed) }
+    {
+        for at in 0..256u16 {
+            self.put(page, at as u8, 0);
+        }
+    }
+
+    /// Copies the live pages, and the links of the others.
+    pub(crate) fn copy_from(&mut self, from: &Block, lives: &[bool; 256])
+        requires { CanCopy lives.now from.now.pages }
+        ensures start { self.new.start ≡ self.old.start }
+        ensures copied { AreCopied lives.now from.now.pages self.new.pages 256 }
+    {
+        for page in 0..256u16 {
+            if lives[page as usize] {
+                self.copy_page(from, page as u8);
+            } else {
+                self.put(page as u8, 0, *from.byte(page as u8, 0));
+            }
+        }
+    }
+
+    fn copy_page(&mut self, from: &Block, page: u8)
+        requires { All IsWritten (get_or from.now.pages page []) }
+        ensures { (self.new.start ≡ self.old.start)
+            × (self.new.pages ≡ slice_set self.old.pages page (get_or from.now.pages page [])) }
+    {
+        for at in 0..256u16 {
+            self.put(page, at as u8, *from.byte(page, at as u8));
+        }
+    }
+}

@@ -1,0 +1,61 @@
+//! Each call once. What no clause says is that `new` and `copy` can succeed, which page is taken, and
+//! that an arena and its copy share no byte.
+
+use super::Arena;
+use std::test::Fail;
+
+#[test]
+fn every_page_is_taken_once(rt: HostRuntime) -> Result<(), Fail> {
+    let mut arena = Arena::new(rt.alloc())?;
+    let mut taken = [false; 256];
+    for _ in 0..256 {
+        if let Some(page) = arena.take() {
+            assert!(rt; !taken[page as usize]);
+            taken[page as usize] = true;
+        }
+    }
+    assert!(rt; taken.iter().all(|t| *t));
+    assert!(rt; arena.take() == None);
+    assert_eq!(rt; arena.free(), 0);
+    Ok(())
+}
+
+#[test]
+fn a_released_page_is_taken_again_as_zeros(rt: HostRuntime) -> Result<(), Fail> {
+    let mut arena = Arena::new(rt.alloc())?;
+    for _ in 0..256 {
+        let _page = arena.take();
+    }
+    assert!(rt; arena.live(5));
+    if arena.live(5) {
+        arena.write(5, 0, 9);
+        arena.release(5);
+        assert!(rt; !arena.live(5));
+        assert_eq!(rt; arena.free(), 1);
+        assert!(rt; arena.take() == Some(5));
+    }
+    assert!(rt; arena.live(5));
+    if arena.live(5) {
+        assert_eq!(rt; arena.read(5, 0), 0);
+    }
+    Ok(())
+}
+
+#[test]
+fn a_copy_shares_no_page(rt: HostRuntime) -> Result<(), Fail> {
+    let mut arena = Arena::new(rt.alloc())?;
+    let page = arena.take().unwrap_or(0);
+    if arena.live(page) {
+        arena.write(page, 255, 3);
+    }
+    let mut copy = arena.copy(rt.alloc())?;
+    assert!(rt; arena.live(page) && copy.live(page));
+    if arena.live(page) && copy.live(page) {
+        copy.write(page, 255, 4);
+        assert_eq!(rt; arena.read(page, 255), 3);
+        assert_eq!(rt; copy.read(page, 255), 4);
+    }
+    let next = arena.take();
+    assert!(rt; next.is_some() && copy.take() == next);
+    Ok(())
+}
