@@ -1,0 +1,59 @@
+//! From bytes to packets.
+
+ghost use Rattle.std.specs.Prelude.{◌≡◌, ◌↔◌, IfSome, IsSome, IsTrue};
+ghost use Rattle.sx_wire.specs.Packets.{ask_packet, event_packet, is_ask, is_event, is_set_key, set_key_packet};
+
+use crate::packets::{EventPacket, SetKeyPacket};
+use crate::writing::{ASK, EVENT, SET_KEY};
+use byteorder::{ByteOrder, LittleEndian};
+
+/// The event packet of these bytes; `None` exactly where there aren't 24 or the first two aren't 03 00.
+pub fn read_event(bytes: &[u8]) -> Option<EventPacket>
+    ensures packet { IfSome result (λ p. event_packet p ≡ bytes.now) }
+    ensures some { IsSome result ↔ IsTrue (is_event bytes.now) }
+{
+    if bytes.len() != 24 || LittleEndian::read_u16(bytes) != EVENT {
+        return None;
+    }
+    let mut p = EventPacket {
+        link: LittleEndian::read_u16(&bytes[2..]),
+        number: LittleEndian::read_u16(&bytes[4..]),
+        cipher: [0; 2],
+        mac: [0; 16],
+    };
+    p.cipher.copy_from_slice(&bytes[6..8]);
+    p.mac.copy_from_slice(&bytes[8..]);
+    Some(p)
+}
+
+/// The set-key packet of these bytes; `None` exactly where there aren't 38 or the first two aren't 01 00.
+pub fn read_set_key(bytes: &[u8]) -> Option<SetKeyPacket>
+    ensures packet { IfSome result (λ p. set_key_packet p ≡ bytes.now) }
+    ensures some { IsSome result ↔ IsTrue (is_set_key bytes.now) }
+{
+    if bytes.len() != 38 || LittleEndian::read_u16(bytes) != SET_KEY {
+        return None;
+    }
+    let mut p = SetKeyPacket {
+        link: LittleEndian::read_u16(&bytes[2..]),
+        end: LittleEndian::read_u16(&bytes[4..]),
+        cipher: [0; 16],
+        mac: [0; 16],
+    };
+    p.cipher.copy_from_slice(&bytes[6..22]);
+    p.mac.copy_from_slice(&bytes[22..]);
+    Some(p)
+}
+
+/// The challenge of an ask packet; `None` exactly where there aren't 18 bytes or the first two aren't 02 00.
+pub fn read_ask(bytes: &[u8]) -> Option<[u8; 16]>
+    ensures packet { IfSome result (λ challenge. ask_packet challenge ≡ bytes.now) }
+    ensures some { IsSome result ↔ IsTrue (is_ask bytes.now) }
+{
+    if bytes.len() != 18 || LittleEndian::read_u16(bytes) != ASK {
+        return None;
+    }
+    let mut challenge = [0; 16];
+    challenge.copy_from_slice(&bytes[2..]);
+    Some(challenge)
+}
