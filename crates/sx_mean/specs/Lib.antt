@@ -1,4 +1,5 @@
 pub mod Places
+pub mod Offsets
 pub mod Meaning
 pub mod React
 pub mod View

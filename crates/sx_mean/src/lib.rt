@@ -6,14 +6,16 @@
 //!
 //! `specs/Meaning.antt` has the meaning of expressions and statements by cases on the source, with words
 //! modulo 65,536, `specs/React.antt` the meaning of an event, `specs/Places.antt` the order of cells and
-//! outputs, and `specs/Application.antt` what makes an application valid.
+//! outputs, `specs/Application.antt` what makes an application valid, and `specs/Offsets.antt` where things
+//! lie in the private section of a compiled module.
 #![tactic(auto)]
 
 pub mod apps;
 pub mod events;
 mod expressions;
 mod moments;
-mod places;
+pub mod offsets;
+pub mod places;
 pub mod reactions;
 mod statements;
 pub mod stores;

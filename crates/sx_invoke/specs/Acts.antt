@@ -1,0 +1,85 @@
+-- What the acts of a handler do: packets to the out-window, and writes to the actuator.
+use Rattle.std.specs.Prelude.{ℕ, ◌+◌, ◌*◌, ◌==◌, nat_lt, Bool, true, false, ◌&&◌, if◌then◌else◌, List, [], ◌∷◌, ◌++◌, length, Option, Some, None, Result, Ok, Err}
+use Rattle.sx_lang.specs.declared.sides.Side.{Side}
+use Rattle.sx_lang.specs.declared.sides.Side.TheVariants.{From, To}
+use Rattle.sx_mean.specs.declared.events.End.{End}
+use Rattle.sx_mean.specs.declared.events.Act.{Act}
+use Rattle.sx_mean.specs.declared.events.Act.TheVariants.{Send, Emit}
+use Rattle.sx_mean.specs.declared.events.SourceEvent.{SourceEvent}
+use Rattle.sx_mean.specs.React.{react}
+use Rattle.sx_rules.specs.declared.access.Violation.{Violation}
+use Rattle.sx_bus.specs.declared.devices.Window.{Window}
+use Rattle.sx_tag.specs.Wrap.{wrapped}
+use Rattle.sx_machine.specs.Run.{device_of}
+use Rattle.sx_invoke.specs.Setup.{Setup, Call}
+use Rattle.sx_invoke.specs.ModuleState.{EndState, end_of, with_end}
+use Rattle.sx_invoke.specs.Marks.{Wrapped, Actuated}
+use Rattle.sx_invoke.specs.Windows.{two, write_bytes}
+use Rattle.sx_invoke.specs.Progress.{Progress, Course, Going, Broken, and_on}
+
+-- Pieces. The k-th packet stands at offset 24 k of the out-window.
+
+abbrev pub copied_to : Result (List ℕ) Violation → Progress → Course
+copied_to (Ok mem) p = Going (record p { mem = mem })
+copied_to (Err v) p = Broken v p
+
+-- a piece is made, and then copied to its place
+abbrev pub with_piece : Setup → Call → List ℕ → Progress → Course
+with_piece s c piece p =
+    copied_to (write_bytes s p.devices p.mem (c.output + 24 * length p.pieces) piece) (record p { pieces = p.pieces ++ piece ∷ [] })
+
+abbrev pub event_header : EndState → List ℕ
+event_header e = 3 ∷ 0 ∷ two e.field ++ two e.number
+
+-- the number rises, and the mark of the wrap comes before the copy
+abbrev pub counted : ℕ → EndState → ℕ → Progress → Progress
+counted k e v p = record p {
+  state = record p.state { ends = with_end p.state.ends k (record e { number = e.number + 1 }) };
+  marks = p.marks ++ Wrapped (event_header e) (two v) false ∷ [];
+}
+
+abbrev pub event_packet : Setup → EndState → ℕ → List ℕ
+event_packet s e v =
+    let w = wrapped s.mac e.key (event_header e) (two v) in
+    event_header e ++ w.cipher ++ w.tag
+
+-- an event packet for the k-th end, where it is open and its number is below 65,535
+unfoldable pub with_packet : Setup → Call → ℕ → ℕ → Progress → Course
+with_packet s c v k p =
+    let e = end_of p.state.ends k in
+    if e.is_open && nat_lt e.number 65535 then with_piece s c (event_packet s e v) (counted k e v p) else Going p
+
+-- Acts of a handler, in order.
+
+abbrev pub is_sending : ℕ → Side → ℕ → Bool
+is_sending output From port = port == output
+is_sending output To port = false
+
+-- a packet for each sending end of the output, from the k-th end on
+abbrev pub with_packets : Setup → Call → ℕ → ℕ → ℕ → List End → Progress → Course
+with_packets s c output v k [] p = Going p
+with_packets s c output v k (e ∷ es) p =
+    if is_sending output e.side e.port then and_on (with_packet s c v k p) (with_packets s c output v (k + 1) es)
+    else with_packets s c output v (k + 1) es p
+
+-- the module's device: the one whose word stands at the start of its private section
+abbrev pub own_window : Setup → List Window → Option (ℕ × Window)
+own_window s devices = device_of devices s.section.layout.priv_from
+
+abbrev pub actuated : ℕ → Option (ℕ × Window) → Progress → Progress
+actuated v None p = p
+actuated v (Some d) p = record p { marks = p.marks ++ Actuated d.0 v ∷ [] }
+
+abbrev pub with_act : Setup → Call → Act → Progress → Course
+with_act s c (Send output v) p = with_packets s c output v 0 s.ends p
+with_act s c (Emit v) p = Going (actuated v (own_window s p.devices) p)
+
+abbrev pub with_acts : Setup → Call → List Act → Progress → Course
+with_acts s c [] p = Going p
+with_acts s c (a ∷ acts) p = and_on (with_act s c a p) (with_acts s c acts)
+
+-- the handler of an event runs: the new cells, and its acts
+unfoldable pub handled : Setup → Call → SourceEvent → Progress → Course
+handled s c e p =
+    let done = react s.tree e p.state.cells in
+    with_acts s c done.acts (record p { state = record p.state { cells = done.cells } })

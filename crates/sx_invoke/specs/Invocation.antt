@@ -1,0 +1,44 @@
+-- One invocation of a module, by the entry protocol (own): its steps in order, each as a definition.
+use Rattle.std.specs.Prelude.{ℕ, ◌==◌, nat_lt, Bool, true, false, ◌&&◌, ◌||◌, not, if◌then◌else◌, Option, Some, None}
+use Rattle.sx_lang.specs.declared.tree.DeviceKind.{DeviceKind}
+use Rattle.sx_lang.specs.declared.tree.DeviceKind.TheVariants.{Sensor, Actuator}
+use Rattle.sx_mean.specs.Application.{declared_kind}
+use Rattle.sx_rules.specs.declared.access.Violation.TheVariants as bad
+use Rattle.sx_rules.specs.Access.{in_public}
+use Rattle.sx_machine.specs.Memory.{even}
+use Rattle.sx_invoke.specs.Setup.{Setup, Call}
+use Rattle.sx_invoke.specs.Windows.{in_window_size, out_window_size, is_bad_window}
+use Rattle.sx_invoke.specs.Progress.{Progress, Invoked, Returns, Violates}
+use Rattle.sx_invoke.specs.Entries.{with_received, set_key, attest, input, sample}
+
+-- 1, 2 and 3: the return address, the entry, and the windows
+
+abbrev pub returns_inside : Setup → Call → Bool
+returns_inside s c = in_public s.section (even c.back)
+
+abbrev pub is_sensor_driver : Option DeviceKind → Bool
+is_sensor_driver None = false
+is_sensor_driver (Some Sensor) = true
+is_sensor_driver (Some Actuator) = false
+
+abbrev pub is_no_entry : Setup → Call → Bool
+is_no_entry s c = nat_lt 3 c.entry || ((c.entry == 3) && not (is_sensor_driver (declared_kind s.tree.decls)))
+
+abbrev pub has_bad_windows : Setup → Call → Bool
+has_bad_windows s c = is_bad_window s c.input in_window_size || is_bad_window s c.output out_window_size
+
+-- the four entries
+unfoldable pub entered : Setup → Call → Progress → Invoked
+entered s c p =
+    if c.entry == 0 then with_received s c 38 1 p (λ packet. set_key s packet p)
+    else if c.entry == 1 then with_received s c 18 2 p (λ packet. attest s c packet p)
+    else if c.entry == 2 then with_received s c 24 3 p (λ packet. input s c packet p)
+    else sample s c p
+
+-- an invocation
+unfoldable pub invoke : Setup → Call → Progress → Invoked
+invoke s c p =
+    if returns_inside s c then Violates bad.Illegal p
+    else if is_no_entry s c then Returns 2 p
+    else if has_bad_windows s c then Returns 3 p
+    else entered s c p

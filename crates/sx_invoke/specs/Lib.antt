@@ -1,0 +1,9 @@
+pub mod Setup
+pub mod ModuleState
+pub mod Marks
+pub mod Windows
+pub mod Devices
+pub mod Progress
+pub mod Acts
+pub mod Entries
+pub mod Invocation

@@ -1,0 +1,65 @@
+-- How configurations of stack code stand for an invocation's progress.
+use Rattle.std.specs.Prelude.{◌≡◌, ℕ, ◌+◌, ◌<◌, false, List, [], length, All, slice_get, Option, Some, None}
+use Rattle.sx_lang.specs.Sizes.{module_data_size}
+use Rattle.sx_mean.specs.declared.events.SourceEvent.{SourceEvent}
+use Rattle.sx_mean.specs.Application.{declared_kind}
+use Rattle.sx_mean.specs.React.{value_of}
+use Rattle.sx_rules.specs.declared.access.Violation.{Violation}
+use Rattle.sx_machine.specs.Memory.{word}
+use Rattle.sx_mean.specs.Offsets.{event_at}
+use Rattle.sx_invoke.specs.ModuleState.{state_of}
+use Rattle.sx_invoke.specs.Marks.{Mark}
+use Rattle.sx_invoke.specs.Setup.{Setup, Call}
+use Rattle.sx_invoke.specs.Windows.{out_window_size, is_bad_window}
+use Rattle.sx_invoke.specs.Devices.{HasDevices}
+use Rattle.sx_invoke.specs.Progress.{Progress, Course, Going, Broken}
+use Rattle.sx_invoke.specs.Acts.{handled}
+use Rattle.sx_ir.specs.declared.ir.Ir.{Ir}
+use Rattle.sx_ir.specs.declared.ir.Ir.TheVariants as ir
+use Rattle.sx_ir.specs.Conf.{Conf}
+use Rattle.sx_ir.specs.Meaning.{After, saved, pieces, Reaches}
+
+-- the configuration stands for this progress of this call
+pub record Represents (s : Setup) (call : Call) (p : Progress) (c : Conf) : Type 0 where
+  pub size : length c.priv ≡ module_data_size s.tree (length s.ends)
+  pub bytes : All (λ b. b < 256) c.priv
+  pub state : state_of s.tree s.ends c.priv ≡ p.state
+  pub mem : c.mem ≡ p.mem
+  pub devices : c.devices ≡ p.devices
+  pub marks : c.marks ≡ p.marks
+  pub count : pieces c ≡ length p.pieces
+  pub entry : saved c 12 ≡ call.entry
+  pub input : saved c 13 ≡ call.input
+  pub output : saved c 14 ≡ call.output
+  pub back : saved c 15 ≡ call.back
+
+-- the course breaks with this violation, after these marks
+abbrev pub Breaks : Course → Violation → List Mark → Type 0
+Breaks (Going p) v marks = ⊥
+Breaks (Broken w p) v marks = (w ≡ v) × (p.marks ≡ marks)
+
+-- the course goes on, with this
+abbrev pub GoesOn : Course → (Progress → Type 0) → Type 0
+GoesOn (Going p) Q = Q p
+GoesOn (Broken v p) Q = ⊥
+
+-- The code does this course within so many instructions: where it goes on, it comes to a configuration that stands for it
+-- and of which `at` holds; where it breaks, it ends with that violation, after the course's marks.
+abbrev pub Does : Setup → Call → (ℕ → Conf → After) → (ℕ → ℕ) → List Ir → Course → (Conf → Type 0) → ℕ → Conf → Type 0
+Does s call handle given code course at n c =
+    Reaches s handle given code (Breaks course) (λ t. GoesOn course (λ p. Represents s call p t × at t)) n c
+
+-- where a handler may begin: the event's value is in its place, no piece was made, the stack is empty, the out-window is one
+-- that a caller may give, and the module's devices are there
+pub record Begins (s : Setup) (call : Call) (e : SourceEvent) (p : Progress) (c : Conf) : Type 0 where
+  pub represents : Represents s call p c
+  pub value : word c.priv event_at ≡ value_of e
+  pub pieces : p.pieces ≡ []
+  pub stack : c.stack ≡ []
+  pub window : is_bad_window s call.output out_window_size ≡ false
+  pub devices : HasDevices p.devices (declared_kind s.tree.decls) s.section.layout
+
+-- a handler's part from this place on, up to `Stop`, does the handler of this event
+abbrev pub PartDoes : Setup → (ℕ → Conf → After) → (ℕ → ℕ) → List Ir → ℕ → SourceEvent → ℕ → Type 0
+PartDoes s handle given code place e n = (call : Call) (p : Progress) (c : Conf) → c.place ≡ place → Begins s call e p c →
+    Does s call handle given code (handled s call e p) (λ t. (slice_get code t.place ≡ Some ir.Stop) × (t.stack ≡ []) × (t.back ≡ c.back)) n c

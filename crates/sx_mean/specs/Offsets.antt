@@ -1,0 +1,73 @@
+-- Where things lie in the private section of a compiled module: offsets in bytes from its start (own).
+--     0        the word of the module's device, where it declares one; no data
+--     2        the event's value
+--     4        the count of pieces made
+--     6        the caller's R12 to R15
+--     14       free
+--     16       the copied packet of 40 bytes
+--     56       the plain body of a copied packet, 16 bytes
+--     72       sixteen locals
+--     104      what only templates use
+--     152      the stack, which grows down from 512
+--     512      a slot of 24 bytes for each end, and behind the slots the cells
+use Rattle.std.specs.Prelude.{ℕ, ◌+◌, ◌-◌, ◌*◌}
+
+-- the event's value
+abbrev pub event_at : ℕ
+event_at = 2
+
+-- the count of pieces made
+abbrev pub pieces_at : ℕ
+pieces_at = 4
+
+-- the caller's R12 to R15
+abbrev pub saved_at : ℕ → ℕ
+saved_at r = 2 * r - 18
+
+-- the copied packet, 40 bytes, and behind an ask its cipher and tag
+abbrev pub packet_at : ℕ
+packet_at = 16
+
+-- the plain body of a copied packet: a key or a value
+abbrev pub plain_at : ℕ
+plain_at = 56
+
+-- sixteen locals
+abbrev pub locals_at : ℕ
+locals_at = 72
+
+abbrev pub local_at : ℕ → ℕ
+local_at i = locals_at + 2 * i
+
+-- what only templates use, such as the packet that is being made: up to the stack
+abbrev pub scratch_at : ℕ
+scratch_at = 104
+
+-- The stack grows down from its end. It holds at most 160 words; below them is room for the return addresses of
+-- routines.
+abbrev pub stack_from : ℕ
+stack_from = 152
+
+abbrev pub stack_to : ℕ
+stack_to = 512
+
+abbrev pub stack_words : ℕ
+stack_words = 160
+
+-- the slot of the k-th end, 24 bytes: the connection field, the number, whether it is open (0 or not), two free bytes
+-- and the key
+abbrev pub end_at : ℕ → ℕ
+end_at k = 512 + 24 * k
+
+abbrev pub end_number_at : ℕ → ℕ
+end_number_at k = end_at k + 2
+
+abbrev pub end_open_at : ℕ → ℕ
+end_open_at k = end_at k + 4
+
+abbrev pub end_key_at : ℕ → ℕ
+end_key_at k = end_at k + 8
+
+-- the i-th cell, behind the slots of so many ends
+abbrev pub cell_at : ℕ → ℕ → ℕ
+cell_at ends i = 512 + 24 * ends + 2 * i
