@@ -1,3 +1,4 @@
+pub mod Words
 pub mod Padded
 pub mod Tree
 pub mod View
