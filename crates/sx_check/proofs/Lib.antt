@@ -1,3 +1,6 @@
 pub mod Seen
 pub mod Turns
 pub mod Places
+pub mod Keeps
+pub mod Distinct
+pub mod Accepted

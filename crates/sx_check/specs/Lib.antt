@@ -4,3 +4,4 @@ pub mod Scopes
 pub mod Bounds
 pub mod Rules
 pub mod Source
+pub mod Accepted
