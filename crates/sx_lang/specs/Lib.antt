@@ -1,3 +1,4 @@
+pub mod Form
 pub mod Words
 pub mod Padded
 pub mod Tree

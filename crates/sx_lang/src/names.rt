@@ -1,11 +1,42 @@
 ghost use Rattle.std.specs.Prelude.{◌≡◌, ℕ, ◌<◌, ◌≤◌, length, nat_eq, SomeIff};
+ghost use Rattle.std.specs.List.{list_all};
 ghost use Rattle.std.specs.Cmp.{partial_equiv_from_equiv};
 ghost use Rattle.std.specs.Cmp.Lexicographic.{nat_list_eq_equiv, pointwise};
+ghost use Rattle.sx_lang.specs.Form.{is_name, is_name_byte};
 
 use std::marker::Model;
 
 /// The most bytes that a name has.
 pub const LONGEST: usize = 16;
+
+/// Whether a byte can stand in a name: a lower-case letter, a digit or `_`.
+pub fn is_name_byte(byte: u8) -> bool
+    ensures { result ≡ is_name_byte byte }
+{
+    byte.is_ascii_lowercase() || byte.is_ascii_digit() || byte == b'_'
+}
+
+fn are_name_bytes(bytes: &[u8]) -> bool
+    ensures { result ≡ list_all is_name_byte bytes.now }
+{
+    for byte in bytes {
+        if !is_name_byte(*byte) {
+            return false;
+        }
+    }
+    true
+}
+
+/// Whether a text has the form of a name: a lower-case letter and up to 15 lower-case letters, digits
+/// or `_`.
+pub fn has_form(text: &[u8]) -> bool
+    ensures { result ≡ is_name text.now }
+{
+    let Some((first, rest)) = text.split_first() else {
+        return false;
+    };
+    first.is_ascii_lowercase() && are_name_bytes(rest) && rest.len() <= 15
+}
 
 /// A name: 1 to 16 bytes. Contracts see it as the list of its bytes.
 #[derive(Clone, Copy)]
