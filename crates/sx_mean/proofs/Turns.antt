@@ -1,5 +1,5 @@
 -- Going through the devices and the parts of an application.
-use Rattle.std.proofs.Common.{◌≡◌, ℕ, zero, suc, ◌+◌, ◌-◌, ◌*◌, ◌≤◌, ◌==◌, Bool, true, false, nat_le, nat_lt, count_by, List, ◌∷◌, Vec, Global, ◌<◌, length, get_or, drop, min, ap, add-one, sym, refl, ◌∙◌, arith}
+use Rattle.std.proofs.Common.{◌≡◌, ℕ, zero, suc, ◌+◌, ◌-◌, ◌*◌, ◌≤◌, ◌==◌, Bool, true, false, nat_le, nat_lt, count_by, List, ◌∷◌, map, Vec, Global, ◌<◌, length, get_or, drop, min, ap, add-one, sym, refl, ◌∙◌, arith}
 use Rattle.std.proofs.Math.Seq.{drop-cons}
 use Rattle.std.proofs.Math.Nat.{suc-mul}
 use Rattle.std.proofs.lemmas.Bool.Decides.{nat_tests}
@@ -14,7 +14,8 @@ use Rattle.sx_lang.proofs.Rows.{if_is, repeat_is}
 use Rattle.sx_mean.specs.declared.apps.AppDevice.{AppDevice}
 use Rattle.sx_mean.specs.declared.apps.Part.{Part}
 use Rattle.sx_check.specs.Source.{source_tree}
-use Rattle.sx_mean.specs.Application.{is_at, has_port}
+use Rattle.sx_mean.specs.Application.{PartTree, is_at, has_port}
+use Rattle.sx_mean.specs.View.{part_as}
 
 not_zero : (n : ℕ) → (n ≡ 0 → ⊥) → (n == 0) ≡ false
 not_zero n h = grind (arith, nat_tests)
@@ -30,7 +31,7 @@ at_further es i d node kind x h n all =
     ∙ ap (λ xs. is_at xs d node kind) (sym (drop-cons es i e h))
     ∙ all
 
-pub port_next : (is_port : Decl → Bool) (part : Part) (parts : List Part) (p port : ℕ) → (p ≡ 0 → ⊥) → has_port is_port (part ∷ parts) p port ≡ has_port is_port parts (p - 1) port
+pub port_next : (is_port : Decl → Bool) (part : PartTree) (parts : List PartTree) (p port : ℕ) → (p ≡ 0 → ⊥) → has_port is_port (part ∷ parts) p port ≡ has_port is_port parts (p - 1) port
 port_next is_port part parts p port h = rw (not_zero p h) refl
 
 pub if_seen : (s : Stmt) (e : Expr) (v w : Vec Stmt Global) → s ≡ If e v w → statement_of s ≡ Chooses (expression_of e) (block_of v.items) (block_of w.items)
@@ -54,10 +55,10 @@ turns_cut (suc n) b = go (nat_le b 65536) refl
     go true h = rw (within b h) refl
     go false h = omega (arith, suc-mul n (min b 65536), suc-mul n b, above b h)
 
-pub port_here : (is_port : Decl → Bool) (parts : List Part) (i p port : ℕ) (q : Part) (r x : Bool) → i < length parts → q ≡ get_or parts i q → p ≡ 0 → r ≡ nat_lt port (count_by is_port (source_tree q.code).decls) → has_port is_port (drop i parts) p port ≡ x → r ≡ x
+pub port_here : (is_port : Decl → Bool) (parts : List Part) (i p port : ℕ) (q : Part) (r x : Bool) → i < length parts → q ≡ get_or parts i q → p ≡ 0 → r ≡ nat_lt port (count_by is_port (source_tree q.code).decls) → has_port is_port (map part_as (drop i parts)) p port ≡ x → r ≡ x
 port_here is_port parts i p port q r x h e z given all =
     let rest : drop i parts ≡ q ∷ drop (suc i) parts = drop-cons parts i q h ∙ ap (λ z. z ∷ drop (suc i) parts) (sym e) in
     given
-    ∙ ap (λ xs. has_port is_port xs 0 port) (sym rest)
-    ∙ ap (λ n. has_port is_port (drop i parts) n port) (sym z)
+    ∙ ap (λ xs. has_port is_port (map part_as xs) 0 port) (sym rest)
+    ∙ ap (λ n. has_port is_port (map part_as (drop i parts)) n port) (sym z)
     ∙ all

@@ -7,12 +7,22 @@ use Rattle.sx_lang.specs.declared.tree.DeviceKind.{DeviceKind}
 use Rattle.sx_lang.specs.declared.tree.DeviceKind.TheVariants.{Sensor, Actuator}
 use Rattle.sx_lang.specs.Tree.{Statement, Defines, Assigns, Stores, Chooses, Repeats, Sends, Emits, Block, Done, Then, ModuleTree}
 use Rattle.sx_check.specs.Bounds.{is_input, is_output}
-use Rattle.sx_check.specs.Source.{source_tree}
-use Rattle.sx_mean.specs.declared.apps.App.{App}
 use Rattle.sx_mean.specs.declared.apps.AppDevice.{AppDevice}
-use Rattle.sx_mean.specs.declared.apps.Part.{Part}
 use Rattle.sx_mean.specs.declared.apps.Link.{Link}
 use Rattle.sx_mean.specs.Places.{output_number}
+
+-- a module at its node, and the device that it drives by its place among the application's devices
+pub record PartTree : Type 0 where
+  pub node : ℕ
+  pub device : Option ℕ
+  pub tree : ModuleTree
+
+-- modules that are connected, without addresses or keys
+pub record AppTree : Type 0 where
+  pub nodes : ℕ
+  pub devices : List AppDevice
+  pub parts : List PartTree
+  pub links : List Link
 
 -- the kind of the device that a module declares first, none where it declares none
 abbrev pub declared_kind : List Decl → Option DeviceKind
@@ -78,27 +88,27 @@ ends_to ls p = count_by (λ l. l.to == p) ls
 abbrev pub sends_too_much : List Link → ℕ → ModuleTree → Bool
 sends_too_much ls p m = list_any (λ h. nat_lt 16 (block_packets (links_from ls p) m.decls h.body)) m.handlers
 
-abbrev pub parts_at : List Part → ℕ → ℕ
+abbrev pub parts_at : List PartTree → ℕ → ℕ
 parts_at parts node = count_by (λ q. q.node == node) parts
 
-abbrev pub parts_with : List Part → Option ℕ → ℕ
+abbrev pub parts_with : List PartTree → Option ℕ → ℕ
 parts_with parts device = count_by (λ q. same_device device q.device) parts
 
 -- what is wrong with the part of this place
-unfoldable pub is_misplaced : App → Part → Bool
-is_misplaced a part = not (nat_lt part.node a.nodes) || not (is_driven a.devices.items part.node part.device (declared_kind (source_tree part.code).decls))
+unfoldable pub is_misplaced : AppTree → PartTree → Bool
+is_misplaced a part = not (nat_lt part.node a.nodes) || not (is_driven a.devices part.node part.device (declared_kind part.tree.decls))
 
-unfoldable pub is_crowded : App → Part → Bool
-is_crowded a part = nat_lt 8 (parts_at a.parts.items part.node) || nat_lt 1 (parts_with a.parts.items part.device)
+unfoldable pub is_crowded : AppTree → PartTree → Bool
+is_crowded a part = nat_lt 8 (parts_at a.parts part.node) || nat_lt 1 (parts_with a.parts part.device)
 
-unfoldable pub is_overloaded : App → ℕ → Part → Bool
-is_overloaded a p part = nat_lt 16 (ends_from a.links.items p + ends_to a.links.items p) || sends_too_much a.links.items p (source_tree part.code)
+unfoldable pub is_overloaded : AppTree → ℕ → PartTree → Bool
+is_overloaded a p part = nat_lt 16 (ends_from a.links p + ends_to a.links p) || sends_too_much a.links p part.tree
 
-unfoldable pub is_wrong : App → ℕ → Part → Bool
+unfoldable pub is_wrong : AppTree → ℕ → PartTree → Bool
 is_wrong a p part = is_misplaced a part || (is_crowded a part || is_overloaded a p part)
 
 -- some part, with its place, is so
-abbrev pub any_part : (ℕ → Part → Bool) → ℕ → List Part → Bool
+abbrev pub any_part : (ℕ → PartTree → Bool) → ℕ → List PartTree → Bool
 any_part test p [] = false
 any_part test p (part ∷ parts) = test p part || any_part test (p + 1) parts
 
@@ -107,20 +117,20 @@ abbrev pub is_port : Bool → Decl → Bool
 is_port output d = if output then is_output d else is_input d
 
 -- the part of this place has so many ports of a kind that the number names one
-abbrev pub has_port : (Decl → Bool) → List Part → ℕ → ℕ → Bool
+abbrev pub has_port : (Decl → Bool) → List PartTree → ℕ → ℕ → Bool
 has_port is_port [] p port = false
-has_port is_port (part ∷ parts) p port = if p == 0 then nat_lt port (count_by is_port (source_tree part.code).decls) else has_port is_port parts (p - 1) port
+has_port is_port (part ∷ parts) p port = if p == 0 then nat_lt port (count_by is_port part.tree.decls) else has_port is_port parts (p - 1) port
 
-unfoldable pub is_loose : App → Link → Bool
-is_loose a l = not (has_port (is_port true) a.parts.items l.from l.output) || not (has_port (is_port false) a.parts.items l.to l.input)
+unfoldable pub is_loose : AppTree → Link → Bool
+is_loose a l = not (has_port (is_port true) a.parts l.from l.output) || not (has_port (is_port false) a.parts l.to l.input)
 
-abbrev pub is_stray : App → AppDevice → Bool
+abbrev pub is_stray : AppTree → AppDevice → Bool
 is_stray a d = not (nat_lt d.node a.nodes)
 
-unfoldable pub is_too_large : App → Bool
-is_too_large a = nat_lt 16 a.nodes || (nat_lt 32 (length a.devices.items) || (nat_lt 32 (length a.parts.items) || nat_lt 64 (length a.links.items)))
+unfoldable pub is_too_large : AppTree → Bool
+is_too_large a = nat_lt 16 a.nodes || (nat_lt 32 (length a.devices) || (nat_lt 32 (length a.parts) || nat_lt 64 (length a.links)))
 
 -- The counts keep the limits; each device is at a node; each part is at a node, with its device and within
 -- the limits; and each connection goes from an output to an input.
-unfoldable pub is_valid : App → Bool
-is_valid a = not (is_too_large a || (list_any (is_stray a) a.devices.items || (any_part (is_wrong a) 0 a.parts.items || list_any (is_loose a) a.links.items)))
+unfoldable pub is_valid : AppTree → Bool
+is_valid a = not (is_too_large a || (list_any (is_stray a) a.devices || (any_part (is_wrong a) 0 a.parts || list_any (is_loose a) a.links)))

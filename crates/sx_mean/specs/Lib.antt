@@ -4,3 +4,10 @@ pub mod Meaning
 pub mod React
 pub mod View
 pub mod Application
+pub mod Valid
+pub mod Ends
+pub mod Handlers
+pub mod Scope
+pub mod Acts
+pub mod Words
+pub mod Variables

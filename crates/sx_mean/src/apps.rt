@@ -4,6 +4,7 @@ ghost use Rattle.sx_check.specs.Source.{source_tree};
 ghost use Rattle.sx_lang.specs.View.{block_of, handler_of, module_of, statement_of};
 ghost use Rattle.sx_mean.specs.Application.{any_part, block_packets, declared_kind, ends_from, ends_to, has_port, is_at, is_crowded, is_driven, is_loose, is_misplaced, is_overloaded, is_port, is_stray, is_too_large, is_valid, is_wrong, leaves, links_from, parts_at, parts_with, same_device, same_kind, sends_too_much, statement_packets};
 ghost use Rattle.sx_mean.specs.Places.{IsSized};
+ghost use Rattle.sx_mean.specs.View.{app_as, part_as};
 
 use crate::places::output_number;
 use sx_check::checked::Checked;
@@ -108,7 +109,7 @@ fn is_same_device(left: Option<u8>, right: Option<u8>) -> bool
 }
 
 fn parts_at(parts: &[Part], node: u8) -> usize
-    ensures { result ≡ parts_at parts.now node }
+    ensures { result ≡ parts_at (map part_as parts.now) node }
 {
     let mut times = 0;
     for q in parts {
@@ -120,7 +121,7 @@ fn parts_at(parts: &[Part], node: u8) -> usize
 }
 
 fn parts_with(parts: &[Part], device: Option<u8>) -> usize
-    ensures { result ≡ parts_with parts.now device }
+    ensures { result ≡ parts_with (map part_as parts.now) device }
 {
     let mut times = 0;
     for q in parts {
@@ -260,7 +261,7 @@ fn is_port_of(part: &Part, output: bool, port: u8) -> bool
 
 #[tactic(auto, using(crate::proofs::Turns::port_next))]
 fn has_port(parts: &[Part], output: bool, part: u8, port: u8) -> bool
-    ensures { result ≡ has_port (is_port output) parts.now part port }
+    ensures { result ≡ has_port (is_port output) (map part_as parts.now) part port }
 {
     let mut left = part;
     for q in parts {
@@ -275,7 +276,7 @@ fn has_port(parts: &[Part], output: bool, part: u8, port: u8) -> bool
 impl App {
     #[tactic(auto, unfolding(crate::specs::Application::is_misplaced))]
     fn is_misplaced(&self, part: &Part) -> bool
-        ensures { result ≡ is_misplaced self.now part.now }
+        ensures { result ≡ is_misplaced (app_as self.now) (part_as part.now) }
     {
         let kind = declared_kind(&part.code.module().decls);
         part.node >= self.nodes || !is_driven(&self.devices, part.node, part.device, kind)
@@ -283,27 +284,27 @@ impl App {
 
     #[tactic(auto, unfolding(crate::specs::Application::is_crowded))]
     fn is_crowded(&self, part: &Part) -> bool
-        ensures { result ≡ is_crowded self.now part.now }
+        ensures { result ≡ is_crowded (app_as self.now) (part_as part.now) }
     {
         parts_at(&self.parts, part.node) > 8 || parts_with(&self.parts, part.device) > 1
     }
 
     #[tactic(auto, unfolding(crate::specs::Application::is_overloaded))]
     fn is_overloaded(&self, place: usize, part: &Part) -> bool
-        ensures { result ≡ is_overloaded self.now place part.now }
+        ensures { result ≡ is_overloaded (app_as self.now) place (part_as part.now) }
     {
         has_many_ends(&self.links, place) || sends_too_much(&self.links, place, part.code.module())
     }
 
     #[tactic(auto, unfolding(crate::specs::Application::is_wrong))]
     fn is_wrong(&self, place: usize, part: &Part) -> bool
-        ensures { result ≡ is_wrong self.now place part.now }
+        ensures { result ≡ is_wrong (app_as self.now) place (part_as part.now) }
     {
         self.is_misplaced(part) || self.is_crowded(part) || self.is_overloaded(place, part)
     }
 
     fn has_wrong_part(&self) -> bool
-        ensures { result ≡ any_part (is_wrong self.now) 0 self.now.parts.items }
+        ensures { result ≡ any_part (is_wrong (app_as self.now)) 0 (app_as self.now).parts }
     {
         for (place, part) in self.parts.iter().enumerate() {
             if self.is_wrong(place, part) {
@@ -315,14 +316,14 @@ impl App {
 
     #[tactic(auto, unfolding(crate::specs::Application::is_loose))]
     fn is_loose(&self, l: &Link) -> bool
-        ensures { result ≡ is_loose self.now l.now }
+        ensures { result ≡ is_loose (app_as self.now) l.now }
     {
         !has_port(&self.parts, true, l.from, l.output)
             || !has_port(&self.parts, false, l.to, l.input)
     }
 
     fn has_loose_link(&self) -> bool
-        ensures { result ≡ list_any (is_loose self.now) self.now.links.items }
+        ensures { result ≡ list_any (is_loose (app_as self.now)) self.now.links.items }
     {
         for l in &self.links {
             if self.is_loose(l) {
@@ -333,13 +334,13 @@ impl App {
     }
 
     fn is_stray(&self, d: &AppDevice) -> bool
-        ensures { result ≡ is_stray self.now d.now }
+        ensures { result ≡ is_stray (app_as self.now) d.now }
     {
         d.node >= self.nodes
     }
 
     fn has_stray_device(&self) -> bool
-        ensures { result ≡ list_any (is_stray self.now) self.now.devices.items }
+        ensures { result ≡ list_any (is_stray (app_as self.now)) self.now.devices.items }
     {
         for d in &self.devices {
             if self.is_stray(d) {
@@ -351,7 +352,7 @@ impl App {
 
     #[tactic(auto, unfolding(crate::specs::Application::is_too_large))]
     fn is_too_large(&self) -> bool
-        ensures { result ≡ is_too_large self.now }
+        ensures { result ≡ is_too_large (app_as self.now) }
     {
         self.nodes > 16 || self.devices.len() > 32 || self.parts.len() > 32 || self.links.len() > 64
     }
@@ -361,7 +362,7 @@ impl App {
     /// exactly where its module declares one, at its node, of that kind and of no other part.
     #[tactic(auto, unfolding(crate::specs::Application::is_valid))]
     pub fn valid(&self) -> bool
-        ensures { result ≡ is_valid self.now }
+        ensures { result ≡ is_valid (app_as self.now) }
     {
         !(self.is_too_large()
             || self.has_stray_device()

@@ -13,6 +13,7 @@
 pub mod apps;
 pub mod events;
 mod expressions;
+pub mod laws;
 mod moments;
 pub mod offsets;
 pub mod places;

@@ -1,6 +1,7 @@
-use Rattle.std.proofs.Common.{◌≡◌, ◌+◌, ◌≤◌, drop}
+use Rattle.std.proofs.Common.{◌≡◌, ◌+◌, ◌≤◌, drop, map}
 use Rattle.sx_mean.specs.Application.{parts_at}
+use Rattle.sx_mean.specs.View.{part_as}
 use Rattle.sx_mean.proofs.apps.parts_at.Given as goal
 
 abbrev pub invariant-loop-q : goal.invariant-loop-q
-invariant-loop-q l = (l.times ≤ l.q-index) × (l.times + parts_at (drop l.q-index l.parts) l.node ≡ parts_at l.parts l.node)
+invariant-loop-q l = (l.times ≤ l.q-index) × (l.times + parts_at (map part_as (drop l.q-index l.parts)) l.node ≡ parts_at (map part_as l.parts) l.node)

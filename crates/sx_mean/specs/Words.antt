@@ -1,0 +1,46 @@
+-- Values, cells and acts are 16-bit words where the source's numbers are, and a module keeps its number of cells.
+use Rattle.std.specs.Prelude.{◌≡◌, ℕ, List, All, length}
+use Rattle.sx_lang.specs.declared.tree.Decl.{Decl}
+use Rattle.sx_lang.specs.Sizes.{declared_cells}
+use Rattle.sx_lang.specs.Tree.{Expression, ModuleTree}
+use Rattle.sx_lang.specs.Words.{AreWords, DeclsHaveWords, IsWord, TreeHasWords}
+use Rattle.sx_mean.specs.declared.events.Act.{Act}
+use Rattle.sx_mean.specs.declared.events.Act.TheVariants.{Send, Emit}
+use Rattle.sx_mean.specs.declared.events.SourceEvent.{SourceEvent}
+use Rattle.sx_mean.specs.declared.moments.Local.{Local}
+use Rattle.sx_mean.specs.Meaning.{State, value}
+use Rattle.sx_mean.specs.Places.{initial_cells}
+use Rattle.sx_mean.specs.React.{react, value_of}
+
+abbrev pub IsLocalWord : Local → Type 0
+IsLocalWord l = IsWord l.value
+
+abbrev pub ActsOnWord : Act → Type 0
+ActsOnWord (Send output v) = IsWord v
+ActsOnWord (Emit v) = IsWord v
+
+-- each local, cell and act has a word
+pub record StateHasWords (st : State) : Type 0 where
+  pub locals : All IsLocalWord st.locals
+  pub cells : All IsWord st.cells
+  pub acts : All ActsOnWord st.acts
+
+-- what an expression is worth is a word
+abbrev pub ValuesAreWords : Type 0
+ValuesAreWords = (ds : List Decl) (st : State) (e : Expression) → StateHasWords st → AreWords e → IsWord (value ds st e)
+
+-- as many cells as are declared, each a word
+pub record AreCells (ds : List Decl) (cells : List ℕ) : Type 0 where
+  pub count : length cells ≡ declared_cells ds
+  pub words : All IsWord cells
+
+abbrev pub CellsBegin : Type 0
+CellsBegin = (ds : List Decl) → DeclsHaveWords ds → AreCells ds (initial_cells ds)
+
+-- what a reaction leaves
+pub record ReactsInWords (m : ModuleTree) (e : SourceEvent) (cells : List ℕ) : Type 0 where
+  pub cells_stay : AreCells m.decls (react m e cells).cells
+  pub acts : All ActsOnWord (react m e cells).acts
+
+abbrev pub ReactionsKeepWords : Type 0
+ReactionsKeepWords = (m : ModuleTree) (e : SourceEvent) (cells : List ℕ) → TreeHasWords m → IsWord (value_of e) → AreCells m.decls cells → ReactsInWords m e cells
