@@ -1,15 +1,14 @@
 -- Images, and what it is that a call enters a module.
-use Rattle.std.specs.Prelude.{◌≡◌, ℕ, ◌-◌, ◌≤◌, ◌<◌, ◌%◌, All, length, List, [], slice_index, None}
+use Rattle.std.specs.Prelude.{◌≡◌, ℕ, ◌-◌, List, [], slice_index}
 use Rattle.sx_lang.specs.Tree.{ModuleTree}
 use Rattle.sx_mean.specs.Application.{declared_kind}
 use Rattle.sx_mean.specs.declared.events.End.{End}
 use Rattle.sx_rules.specs.declared.section.Layout.{Layout}
 use Rattle.sx_rules.specs.declared.section.Section.{Section}
 use Rattle.sx_rules.specs.Access.{Lives}
-use Rattle.sx_rules.specs.Placed.{Placed}
-use Rattle.sx_bus.specs.Devices.{ArePlaces, HaveSamples, places_of, device_at}
 use Rattle.sx_tag.specs.Mac.{Mac}
 use Rattle.sx_machine.specs.Memory.{bytes_from}
+use Rattle.sx_machine.specs.Node.{IsNode}
 use Rattle.sx_machine.specs.State.{State}
 use Rattle.sx_machine.specs.Step.{pc_of}
 use Rattle.sx_invoke.specs.Setup.{Setup, Call}
@@ -30,18 +29,6 @@ private_bytes l mem = bytes_from mem l.priv_from (l.priv_to - l.priv_from)
 abbrev pub public_bytes : Layout → List ℕ → List ℕ
 public_bytes l mem = bytes_from mem l.pub_from (l.pub_to - l.pub_from)
 
--- what holds of each node: sixteen registers and 65,536 bytes in range, an even SP, devices at places of their own with
--- values of a sensor, and sections that are placed
-pub record IsNode (n : State) : Type 0 where
-  pub sixteen : length n.regs ≡ 16
-  pub words : All (λ v. v < 65536) n.regs
-  pub stack_even : slice_index n.regs 1 % 2 ≡ 0
-  pub size : length n.mem ≡ 65536
-  pub bytes : All (λ b. b < 256) n.mem
-  pub places : ArePlaces (places_of n.devices)
-  pub samples : HaveSamples n.devices
-  pub placed : Placed n.sections
-
 -- the module stands protected as this section, with the image's text, layout and provider
 pub record Stands (image : Image) (section : Section) (n : State) : Type 0 where
   pub lives : Lives n.sections.live section
@@ -55,7 +42,6 @@ pub record Enters (tree : ModuleTree) (image : Image) (section : Section) (n : S
   pub idle : n.cur ≡ 0
   pub entry : pc_of n ≡ image.layout.pub_from
   pub stands : Stands image section n
-  pub public_free : (at : ℕ) → image.layout.pub_from ≤ at → at < image.layout.pub_to → device_at n.devices at ≡ None
   pub devices : HasDevices n.devices (declared_kind tree.decls) image.layout
 
 abbrev pub setup_at : Mac → ModuleTree → List End → Section → State → Setup

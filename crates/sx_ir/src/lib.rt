@@ -11,5 +11,9 @@
 #![tactic(auto)]
 
 mod ir;
+mod sizes;
+mod soundness;
 
 pub use ir::{Code, Ir, IrOp};
+pub use sizes::{bytes, offset};
+pub use soundness::sound;

@@ -1,0 +1,111 @@
+//! The bytes of a module's text.
+
+ghost use Rattle.std.specs.Prelude.{◌≡◌, ℕ, ◌+◌, ◌*◌, ◌<◌, ◌≤◌, length, take};
+ghost use Rattle.sx_ir.specs.Sizes.{all_routines, bytes, has_routine, is_packet, offset, op_bytes, operator_bytes, ops_bytes, routines};
+
+use crate::ir::{Code, Ir, IrOp};
+
+const ENTRY: u64 = 24;
+const EXIT: u64 = 34;
+const SLOT: u64 = 64;
+const PACKET: u64 = 112;
+const LAST: u64 = 2;
+
+fn operator_bytes(op: IrOp) -> u64
+    ensures { result ≡ operator_bytes op }
+{
+    match op {
+        IrOp::Add | IrOp::Sub | IrOp::And | IrOp::Or | IrOp::Xor => 4,
+        IrOp::Mul => 24,
+        IrOp::Eq | IrOp::Lt => 16,
+        IrOp::Neg | IrOp::Inv => 8,
+        IrOp::Not => 14,
+    }
+}
+
+fn op_bytes(op: &Ir) -> u64
+    ensures size { result ≡ op_bytes op.now }
+    ensures small { result ≤ 32 }
+{
+    match op {
+        Ir::Drop => 2,
+        Ir::Push(_)
+        | Ir::Load(_)
+        | Ir::Store(_)
+        | Ir::Jump(_)
+        | Ir::Packet(_)
+        | Ir::Emit
+        | Ir::Stop
+        | Ir::Saved(_)
+        | Ir::Sense
+        | Ir::Leave => 4,
+        Ir::SetEnd(_) => 8,
+        Ir::JumpZero(_) => 10,
+        Ir::Handler(_) => 14,
+        Ir::StoreAt(_, _) => 16,
+        Ir::LoadAt(_, _) | Ir::Inside => 18,
+        Ir::CopyIn(_, _) => 22,
+        Ir::CopyOut(_, _) => 24,
+        Ir::Meets(_, _) => 28,
+        Ir::Seal(_, _, _, _, _) | Ir::Open(_, _, _, _, _) => 32,
+        Ir::Op(op) => operator_bytes(*op),
+    }
+}
+
+fn ops_bytes(ops: &[Ir]) -> u64
+    requires { length ops.now < 65536 }
+    ensures size { result ≡ ops_bytes ops.now }
+    ensures small { result ≤ 32 * length ops.now }
+{
+    let mut total: u64 = 0;
+    for op in ops {
+        total += op_bytes(op);
+    }
+    total
+}
+
+fn is_packet(op: &Ir, end: u64) -> bool
+    ensures { result ≡ is_packet end op.now }
+{
+    match op {
+        Ir::Packet(k) => u64::from(*k) == end,
+        _ => false,
+    }
+}
+
+fn has_routine(ops: &[Ir], end: u64) -> bool
+    ensures { result ≡ has_routine ops.now end }
+{
+    ops.iter().any(|op| is_packet(op, end))
+}
+
+#[tactic(auto, unfolding(crate::specs::Sizes::routines))]
+fn all_routines(ops: &[Ir]) -> u64
+    ensures count { result ≡ all_routines ops.now }
+    ensures few { result ≤ 256 }
+{
+    let mut count: u64 = 0;
+    for end in 0..256 {
+        if has_routine(ops, end) {
+            count += 1;
+        }
+    }
+    count
+}
+
+/// The length in bytes of the text that is made of code: the entry, each operation's template, the exit and
+/// the routines, of which one stands for each end that some operation makes a packet of.
+pub fn bytes(code: &Code) -> u64
+    requires { length code.now.ops.items < 65536 }
+    ensures { result ≡ bytes code.now.ops.items }
+{
+    ENTRY + ops_bytes(&code.ops) + EXIT + SLOT + PACKET * all_routines(&code.ops) + LAST
+}
+
+/// Where in that text the instructions of the operation at this place begin.
+pub fn offset(code: &Code, place: u16) -> u64
+    requires { place < length code.now.ops.items }
+    ensures { result ≡ offset code.now.ops.items place }
+{
+    ENTRY + ops_bytes(&code.ops[..usize::from(place)])
+}
