@@ -30,3 +30,7 @@ written_more text first part old new count h e =
 -- the same text, put otherwise
 pub written_as : (text text' first : List ℕ) (count : ℕ) (new : List ℕ) → text ≡ text' → IsWritten text first count new → IsWritten text' first count new
 written_as text text' first count new e h = let P : List ℕ → Type 0 = λ t. IsWritten t first count new in subst P e h
+
+-- what is written is the text
+pub written_text : (text first : List ℕ) (count : ℕ) (new : List ℕ) → IsWritten text first count new → take count new ≡ text
+written_text text first count new h = ap (λ (xs : List ℕ). take count xs) h.bytes ∙ take_at text (drop (length text) first) count (sym h.count_is)

@@ -1,9 +1,9 @@
 -- The lines of items, and the items that a deployment can have.
-use Rattle.std.specs.Prelude.{◌≡◌, ℕ, ◌^◌, ◌<◌, ◌==◌, if◌then◌else◌, List, [], ◌∷◌, ◌++◌, length, drop, codes, decimal, Option, Some, None, unwrap_or, slice_get}
+use Rattle.std.specs.Prelude.{◌≡◌, ◌≢◌, IsTrue, ℕ, ◌^◌, ◌<◌, ◌==◌, if◌then◌else◌, List, [], ◌∷◌, ◌++◌, length, drop, codes, decimal, Option, Some, None, unwrap_or, slice_get}
 use Rattle.std.specs.List.{join_with_byte}
 use Rattle.sx_lang.specs.declared.sides.Side.{Side}
 use Rattle.sx_lang.specs.declared.sides.Side.TheVariants.{From, To}
-use Rattle.sx_trace.specs.Names.{NameLists, deployer}
+use Rattle.sx_trace.specs.Names.{NameLists, are_valid, deployer}
 use Rattle.sx_trace.specs.declared.items.Cause.{Cause}
 use Rattle.sx_trace.specs.declared.items.Cause.TheVariants as cause
 use Rattle.sx_trace.specs.declared.items.Item.{Item}
@@ -60,9 +60,13 @@ item_words n (Busy node) = codes "busy" ∷ name_at n.nodes node ∷ []
 item_words n (Skip node) = codes "skip" ∷ name_at n.nodes node ∷ []
 item_words n (Budget node) = codes "budget" ∷ name_at n.nodes node ∷ []
 
--- an item's line, without its newline: its words, with a space between each and the next
+-- words with a space between each and the next
+abbrev pub spaced : List (List ℕ) → List ℕ
+spaced words = join_with_byte 32 words
+
+-- an item's line, without its newline
 unfoldable pub item_text : NameLists → Item → List ℕ
-item_text n item = join_with_byte 32 (item_words n item)
+item_text n item = spaced (item_words n item)
 
 -- a place of the list, or none
 abbrev pub IsPlaceOrNone : List (List ℕ) → Option ℕ → Type 0
@@ -121,3 +125,11 @@ IsItem n item = IsNamed n item × IsSized item
 pub record IsWritten (text old : List ℕ) (count : ℕ) (new : List ℕ) : Type 0 where
   pub bytes : new ≡ text ++ drop (length text) old
   pub count_is : count ≡ length text
+
+-- the line is that of no item
+abbrev pub IsNoItem : NameLists → List ℕ → Type 0
+IsNoItem n line = (item : Item) → IsItem n item → item_text n item ≢ line
+
+-- no two items have one line
+abbrev pub ItemsDiffer : Type 0
+ItemsDiffer = (n : NameLists) (a b : Item) → IsTrue (are_valid n) → IsItem n a → IsItem n b → item_text n a ≡ item_text n b → a ≡ b

@@ -11,5 +11,10 @@
 #![tactic(auto)]
 
 pub mod items;
+pub mod laws;
 pub mod names;
+pub mod reading;
 pub mod writing;
+
+#[cfg(test)]
+mod tests;

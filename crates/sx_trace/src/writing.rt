@@ -1,8 +1,7 @@
 //! The lines of items are written.
 
 ghost use Rattle.std.specs.Prelude.{◌≡◌, ℕ, ◌+◌, ◌<◌, ◌≤◌, List, [], ◌∷◌, ◌++◌, length, take, drop, codes, decimal};
-ghost use Rattle.std.specs.List.{join_with_byte};
-ghost use Rattle.sx_trace.specs.Items.{name_at, name_or, cause_word, side_word, epoch_words, item_text, IsPlaceOrNone, IsNamed, IsWritten};
+ghost use Rattle.sx_trace.specs.Items.{name_at, name_or, cause_word, side_word, epoch_words, spaced, item_text, IsPlaceOrNone, IsNamed, IsWritten};
 
 use crate::items::{Cause, Item};
 use crate::names::{DEPLOYER, Names};
@@ -84,7 +83,7 @@ fn write_next(into: &mut [u8; 128], written: usize, word: &[u8]) -> usize
 /// Writes two words with a space between them, and answers how many bytes they take.
 fn write_two(into: &mut [u8; 128], a: &[u8], b: &[u8]) -> usize
     requires { length a.now + length b.now ≤ 127 }
-    ensures { IsWritten (join_with_byte 32 (a.now ∷ b.now ∷ [])) into.old result into.new }
+    ensures { IsWritten (spaced (a.now ∷ b.now ∷ [])) into.old result into.new }
 {
     write_at(into, 0, a);
     write_next(into, a.len(), b)
@@ -93,7 +92,7 @@ fn write_two(into: &mut [u8; 128], a: &[u8], b: &[u8]) -> usize
 /// Writes three words as `write_two` does.
 fn write_three(into: &mut [u8; 128], a: &[u8], b: &[u8], c: &[u8]) -> usize
     requires { length a.now + length b.now + length c.now ≤ 126 }
-    ensures { IsWritten (join_with_byte 32 (a.now ∷ b.now ∷ c.now ∷ [])) into.old result into.new }
+    ensures { IsWritten (spaced (a.now ∷ b.now ∷ c.now ∷ [])) into.old result into.new }
 {
     let written = write_two(into, a, b);
     write_next(into, written, c)
@@ -102,7 +101,7 @@ fn write_three(into: &mut [u8; 128], a: &[u8], b: &[u8], c: &[u8]) -> usize
 /// Writes four words as `write_two` does.
 fn write_four(into: &mut [u8; 128], a: &[u8], b: &[u8], c: &[u8], d: &[u8]) -> usize
     requires { length a.now + length b.now + length c.now + length d.now ≤ 125 }
-    ensures { IsWritten (join_with_byte 32 (a.now ∷ b.now ∷ c.now ∷ d.now ∷ [])) into.old result into.new }
+    ensures { IsWritten (spaced (a.now ∷ b.now ∷ c.now ∷ d.now ∷ [])) into.old result into.new }
 {
     let written = write_three(into, a, b, c);
     write_next(into, written, d)
@@ -111,7 +110,7 @@ fn write_four(into: &mut [u8; 128], a: &[u8], b: &[u8], c: &[u8], d: &[u8]) -> u
 /// Writes five words as `write_two` does.
 fn write_five(into: &mut [u8; 128], a: &[u8], b: &[u8], c: &[u8], d: &[u8], e: &[u8]) -> usize
     requires { length a.now + length b.now + length c.now + length d.now + length e.now ≤ 124 }
-    ensures { IsWritten (join_with_byte 32 (a.now ∷ b.now ∷ c.now ∷ d.now ∷ e.now ∷ [])) into.old result into.new }
+    ensures { IsWritten (spaced (a.now ∷ b.now ∷ c.now ∷ d.now ∷ e.now ∷ [])) into.old result into.new }
 {
     let written = write_four(into, a, b, c, d);
     write_next(into, written, e)
@@ -127,7 +126,7 @@ fn write_numbered<N: Integer>(
 ) -> usize
     requires kind { length kind.now ≤ 16 }
     requires named { place < length names.now }
-    ensures { IsWritten (join_with_byte 32 (kind.now ∷ name_at names.now place ∷ N.text number ∷ [])) into.old result into.new }
+    ensures { IsWritten (spaced (kind.now ∷ name_at names.now place ∷ N.text number ∷ [])) into.old result into.new }
 {
     let mut digits = Buffer::new();
     write_three(
@@ -142,7 +141,7 @@ fn write_numbered<N: Integer>(
 fn write_open(into: &mut [u8; 128], holder: &[u8], link: &[u8], side: Side, epoch: u8) -> usize
     requires holder { length holder.now ≤ 16 }
     requires link { length link.now ≤ 16 }
-    ensures { IsWritten (join_with_byte 32 (codes "open" ∷ holder.now ∷ link.now ∷ side_word side ∷ epoch_words epoch))
+    ensures { IsWritten (spaced (codes "open" ∷ holder.now ∷ link.now ∷ side_word side ∷ epoch_words epoch))
         into.old result into.new }
 {
     if epoch == 0 {
@@ -163,7 +162,7 @@ fn write_open(into: &mut [u8; 128], holder: &[u8], link: &[u8], side: Side, epoc
 fn write_take(into: &mut [u8; 128], holder: &[u8], link: &[u8], number: u32, value: u16) -> usize
     requires holder { length holder.now ≤ 16 }
     requires link { length link.now ≤ 16 }
-    ensures { IsWritten (join_with_byte 32 (codes "take" ∷ holder.now ∷ link.now ∷ decimal number ∷ decimal value ∷ []))
+    ensures { IsWritten (spaced (codes "take" ∷ holder.now ∷ link.now ∷ decimal number ∷ decimal value ∷ []))
         into.old result into.new }
 {
     let mut first = Buffer::new();
@@ -182,7 +181,7 @@ fn write_take(into: &mut [u8; 128], holder: &[u8], link: &[u8], number: u32, val
 /// Writes `done M STATUS PIECES`.
 fn write_done(into: &mut [u8; 128], holder: &[u8], status: u16, pieces: u16) -> usize
     requires { length holder.now ≤ 16 }
-    ensures { IsWritten (join_with_byte 32 (codes "done" ∷ holder.now ∷ decimal status ∷ decimal pieces ∷ [])) into.old result into.new }
+    ensures { IsWritten (spaced (codes "done" ∷ holder.now ∷ decimal status ∷ decimal pieces ∷ [])) into.old result into.new }
 {
     let mut first = Buffer::new();
     let mut second = Buffer::new();
@@ -198,7 +197,7 @@ fn write_done(into: &mut [u8; 128], holder: &[u8], status: u16, pieces: u16) -> 
 
 /// Writes `packet NUMBER LENGTH`.
 fn write_packet(into: &mut [u8; 128], number: u32, len: u16) -> usize
-    ensures { IsWritten (join_with_byte 32 (codes "packet" ∷ decimal number ∷ decimal len ∷ [])) into.old result into.new }
+    ensures { IsWritten (spaced (codes "packet" ∷ decimal number ∷ decimal len ∷ [])) into.old result into.new }
 {
     let mut first = Buffer::new();
     let mut second = Buffer::new();

@@ -1,0 +1,116 @@
+-- What is known of a name at its place in a list of names.
+use Rattle.std.proofs.Common.{◌≡◌, ℕ, zero, suc, ◌+◌, ◌<◌, ◌≤◌, Bool, true, false, ◌&&◌, ◌||◌, ◌==◌, not, nat_le, nat_lt, List, [], ◌∷◌, length, codes, Some, refl, sym, ap, subst, ◌∙◌, arith, IsTrue}
+use Rattle.std.specs.Bool.{one_answer}
+use Rattle.std.specs.List.{list_all, list_any, position_or_len}
+use Rattle.std.specs.Str.{bytes_eq}
+use Rattle.std.proofs.lemmas.Bool.Decides.{nat_tests}
+use Rattle.std.proofs.lemmas.Slice.Eq.{bytes_eq-Decides}
+use Rattle.sx_trace.specs.Names.{NameLists, are_valid, are_names, deployer, has_form, has_name, is_lower, is_name_byte, no_repeat, place_of}
+use Rattle.sx_trace.specs.Items.{name_at}
+use Rattle.sx_trace.specs.Finding.{is_space}
+use Rattle.sx_trace.proofs.Cut.{and_true, is_plain, is_word}
+
+bytes_eq-sym : (a b : List ℕ) → bytes_eq a b ≡ bytes_eq b a
+bytes_eq-sym a b = one_answer {P = a ≡ b} (bytes_eq a b) (bytes_eq b a) (bytes_eq-Decides a b) (λ h. sym ((bytes_eq-Decides b a).0 h), λ e. (bytes_eq-Decides b a).1 (sym e))
+
+bytes_eq-same : (a : List ℕ) → bytes_eq a a ≡ true
+bytes_eq-same a = (bytes_eq-Decides a a).1 refl
+
+or_false : (a b : Bool) → (a || b) ≡ false → (a ≡ false) × (b ≡ false)
+or_false true b h = absurd (cc)
+or_false false b h = (refl, h)
+
+not_true : (a : Bool) → not a ≡ true → a ≡ false
+not_true true h = absurd (cc)
+not_true false h = refl
+
+-- a name in a list that has another name nowhere is another one
+pub others : (names : List (List ℕ)) (name : List ℕ) (i : ℕ) → has_name names name ≡ false → i < length names → bytes_eq (name_at names i) name ≡ false
+others [] name i h lt = absurd (omega arith)
+others (x ∷ xs) name zero h lt = (or_false (bytes_eq x name) (has_name xs name) h).0
+others (x ∷ xs) name (suc i) h lt = others xs name i (or_false (bytes_eq x name) (has_name xs name) h).1 (omega arith)
+
+place : (names : List (List ℕ)) (i : ℕ) → no_repeat names ≡ true → i < length names → position_or_len (λ x. bytes_eq x (name_at names i)) names ≡ i
+place [] i h lt = absurd (omega arith)
+place (x ∷ xs) zero h lt = rw (bytes_eq-same x) refl
+place (x ∷ xs) (suc i) h lt =
+    let both = and_true (not (has_name xs x)) (no_repeat xs) h in
+    let differs : bytes_eq x (name_at xs i) ≡ false =
+        bytes_eq-sym x (name_at xs i) ∙ others xs x i (not_true (has_name xs x) both.0) (omega arith) in
+    let later = place xs i both.1 (omega arith) in
+    let more : 1 + position_or_len (λ x. bytes_eq x (name_at xs i)) xs ≡ suc i = omega (arith, later) in
+    rw differs more
+
+form : (names : List (List ℕ)) (i : ℕ) → list_all has_form names ≡ true → i < length names → has_form (name_at names i) ≡ true
+form [] i h lt = absurd (omega arith)
+form (x ∷ xs) zero h lt = (and_true (has_form x) (list_all has_form xs) h).0
+form (x ∷ xs) (suc i) h lt = form xs i (and_true (has_form x) (list_all has_form xs) h).1 (omega arith)
+
+plain : (b : ℕ) → is_name_byte b ≡ true → is_plain b ≡ true
+plain b h = by_test (b == 32) refl
+  where
+  by_test : (t : Bool) → (b == 32) ≡ t → is_plain b ≡ true
+  by_test false e = rw e refl
+  by_test true e =
+      let same : b ≡ 32 = grind (arith, nat_tests, e) in
+      let no : is_name_byte 32 ≡ true = subst (λ c. is_name_byte c ≡ true) same h in
+      absurd (cc no)
+
+all_plain : (w : List ℕ) → list_all is_name_byte w ≡ true → is_word w ≡ true
+all_plain [] h = refl
+all_plain (b ∷ bs) h =
+    let both = and_true (is_name_byte b) (list_all is_name_byte bs) h in
+    rw (plain b both.0) (all_plain bs both.1)
+
+-- a name has no space
+form_word : (w : List ℕ) → has_form w ≡ true → is_word w ≡ true
+form_word w h = all_plain w (and_true _ _ (and_true (nat_le 1 (length w) && nat_le (length w) 16) _ h).1).1
+
+-- the name at a place stands there first, is a word, and isn't `-`
+pub record Known (names : List (List ℕ)) (i : ℕ) : Type 0 where
+  pub found : place_of names (name_at names i) ≡ Some i
+  pub word : is_word (name_at names i) ≡ true
+  pub no_dash : bytes_eq (name_at names i) (codes "-") ≡ false
+
+dash : (w : List ℕ) → has_form w ≡ true → bytes_eq w (codes "-") ≡ false
+dash w h = by_test (bytes_eq w (codes "-")) refl
+  where
+  by_test : (t : Bool) → bytes_eq w (codes "-") ≡ t → bytes_eq w (codes "-") ≡ false
+  by_test false e = e
+  by_test true e =
+      let same : w ≡ codes "-" = (bytes_eq-Decides w (codes "-")).0 e in
+      let no : has_form (codes "-") ≡ true = subst (λ v. has_form v ≡ true) same h in
+      absurd (cc no)
+
+known : (most : ℕ) (names : List (List ℕ)) (i : ℕ) → are_names most names ≡ true → i < length names → Known names i
+known most names i h lt =
+    let all = and_true (nat_le (length names) most) _ h in
+    let rest = and_true (list_all has_form names) (no_repeat names) all.1 in
+    let at = place names i rest.1 lt in
+    let within : nat_lt i (length names) ≡ true = grind (arith, nat_tests) in
+    let formed = form names i rest.0 lt in
+    record { found = rw (at, within) refl; word = form_word (name_at names i) formed; no_dash = dash (name_at names i) formed }
+
+pub known_node : (n : NameLists) (i : ℕ) → IsTrue (are_valid n) → i < length n.nodes → Known n.nodes i
+unfolding are_valid
+known_node n i h lt = known 16 n.nodes i (and_true _ _ (and_true (are_names 16 n.nodes && are_names 32 n.devices) _ h).0).0 lt
+
+pub known_device : (n : NameLists) (i : ℕ) → IsTrue (are_valid n) → i < length n.devices → Known n.devices i
+unfolding are_valid
+known_device n i h lt = known 32 n.devices i (and_true (are_names 16 n.nodes) _ (and_true (are_names 16 n.nodes && are_names 32 n.devices) _ h).0).1 lt
+
+behind : (n : NameLists) → IsTrue (are_valid n) → ((are_names 32 n.modules && are_names 64 n.links) ≡ true) × (not (has_name n.modules deployer) ≡ true)
+unfolding are_valid
+behind n h =
+    let rest = and_true (are_names 32 n.modules && are_names 64 n.links) _ (and_true (are_names 16 n.nodes && are_names 32 n.devices) _ h).1 in
+    (rest.0, (and_true (not (has_name n.modules deployer)) _ rest.1).0)
+
+pub known_module : (n : NameLists) (i : ℕ) → IsTrue (are_valid n) → i < length n.modules → Known n.modules i
+known_module n i h lt = known 32 n.modules i (and_true (are_names 32 n.modules) _ (behind n h).0).0 lt
+
+pub known_link : (n : NameLists) (i : ℕ) → IsTrue (are_valid n) → i < length n.links → Known n.links i
+known_link n i h lt = known 64 n.links i (and_true (are_names 32 n.modules) _ (behind n h).0).1 lt
+
+-- no module is the deployer
+pub no_deployer : (n : NameLists) (i : ℕ) → IsTrue (are_valid n) → i < length n.modules → bytes_eq (name_at n.modules i) deployer ≡ false
+no_deployer n i h lt = others n.modules deployer i (not_true _ (behind n h).1) lt

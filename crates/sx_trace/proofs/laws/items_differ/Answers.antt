@@ -1,0 +1,5 @@
+use Rattle.sx_trace.proofs.Found.{items_differ}
+use Rattle.sx_trace.proofs.laws.items_differ.Goals as goal
+
+pub returns : goal.returns
+returns c = items_differ
