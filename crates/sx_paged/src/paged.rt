@@ -1,0 +1,103 @@
+//! The pages, and where they are in the arena.
+
+ghost use Rattle.std.specs.Prelude.{◌≡◌, ℕ, ◌/◌, length, replicate, get_or, IfOk, None};
+ghost use Rattle.sx_pages.specs.Pages.{no_pages, size};
+ghost use Rattle.sx_paged.specs.Memory.{byte_at, after_put};
+ghost use Rattle.sx_paged.specs.Paged.{paged, IsPaged};
+
+use std::alloc::{AllocError as OutOfMemory, Global};
+use std::marker::Model;
+use sx_pages::Arena;
+
+/// The 256 pages of a memory, each of which has a page of the arena or none. Every live page of the
+/// arena is the page of one index alone.
+#[derive(Drop)]
+pub(crate) struct Paged {
+    arena: Arena,
+    /// At the index of a page, its number in the arena.
+    numbers: [Option<u8>; 256],
+}
+
+impl Model for Paged {
+    ghost use Rattle.std.specs.Prelude.{List, ℕ, Option};
+
+    ghost Value = { List (Option (List ℕ)) };
+
+    ghost use Rattle.sx_paged.specs.Paged.{paged, IsPaged};
+
+    ghost view = { λ b. paged b.arena b.numbers };
+
+    ghost invariant = { λ b. IsPaged b.arena b.numbers };
+}
+
+impl Paged {
+    /// Absent pages, with memory for all of them.
+    pub(crate) fn new(alloc: Global) -> Result<Paged, OutOfMemory>
+        ensures { IfOk result (λ pages. pages ≡ no_pages) }
+    {
+        let arena = Arena::new(alloc)?;
+        Ok(Paged {
+            arena,
+            numbers: [None; 256],
+        })
+    }
+
+    /// The byte at an address; 0 where the page is absent.
+    pub(crate) fn get(&self, at: u16) -> u8
+        ensures { result ≡ byte_at self.now at }
+    {
+        match self.numbers[(at / 256) as usize] {
+            Some(page) => self.arena.read(page, (at % 256) as u8),
+            None => 0,
+        }
+    }
+
+    /// Writes one byte, and makes the page where it is absent.
+    pub(crate) fn put(&mut self, at: u16, byte: u8)
+        ensures { self.new ≡ after_put self.old at byte }
+    {
+        match self.numbers[(at / 256) as usize] {
+            Some(page) => self.arena.write(page, (at % 256) as u8, byte),
+            None => put_new(&mut self.arena, &mut self.numbers, at, byte),
+        }
+    }
+
+    /// Makes all pages absent.
+    pub(crate) fn wipe(&mut self)
+        ensures { self.new ≡ no_pages }
+    {
+        release_all(&mut self.arena, &mut self.numbers);
+    }
+
+    /// How many pages are present.
+    pub(crate) fn present(&self) -> u16
+        ensures { result ≡ size self.now }
+    {
+        256 - self.arena.free()
+    }
+}
+
+// Writes a byte of a page that was absent. A page is free for it, since each live one has an index.
+fn put_new(arena: &mut Arena, numbers: &mut [Option<u8>], at: u16, byte: u8)
+    requires { IsPaged arena.old numbers.old × (get_or numbers.old (at / 256) None ≡ None) }
+    ensures value { paged arena.new numbers.new ≡ after_put (paged arena.old numbers.old) at byte }
+    ensures kept { IsPaged arena.new numbers.new }
+{
+    if let Some(page) = arena.take() {
+        arena.write(page, (at % 256) as u8, byte);
+        numbers[(at / 256) as usize] = Some(page);
+    }
+}
+
+fn release_all(arena: &mut Arena, numbers: &mut [Option<u8>])
+    requires { IsPaged arena.old numbers.old }
+    ensures none { numbers.new ≡ replicate 256 None }
+    ensures kept { IsPaged arena.new numbers.new }
+{
+    for index in 0..numbers.len() {
+        if let Some(page) = numbers[index] {
+            arena.release(page);
+            numbers[index] = None;
+        }
+    }
+}
