@@ -7,13 +7,15 @@ use Rattle.sx_rules.specs.Placed.{Placed}
 use Rattle.sx_tag.specs.Mac.{Mac}
 use Rattle.sx_machine.specs.declared.kinds.Refused.{Refused}
 use Rattle.sx_machine.specs.declared.kinds.Event.TheVariants.{Reset}
-use Rattle.sx_machine.specs.State.{State}
+use Rattle.sx_machine.specs.State.{State, power_on}
 use Rattle.sx_machine.specs.Run.{Outcome, Finished, Violated, Module, exec}
 use Rattle.sx_machine.specs.Step.{Shows, start, attempt, settled, step}
 use Rattle.sx_machine.specs.Acts.{unless, put_refusal, take_refusal, busy, irq_refusal, interrupt, interrupted}
-use Rattle.sx_machine.specs.Guard.{Act, Step, Restart, Put, Set, Take, Sense, Interrupt, acted, acted_all, Kept, AllFromOutside}
-use Rattle.sx_machine.proofs.Sections.{acted_placed}
-use Rattle.sx_machine.proofs.RunGuard.{act_guarded}
+use Rattle.sx_machine.specs.Guard.{Act, Step, Restart, Put, Set, Take, Sense, Interrupt, acted, acted_all, Kept, AllFromOutside, AreGuarded, GuardedRun}
+use Rattle.sx_rules.proofs.Placing.{starts_placed}
+use Rattle.sx_machine.proofs.Sections.{acted_placed, acted_all_placed}
+use Rattle.sx_machine.specs.Laws.{RunsGuarded}
+use Rattle.sx_machine.proofs.RunGuard.{act_guarded, runs_same}
 
 -- the count is as before, or one higher
 abbrev pub Counts : State → State → Type 0
@@ -80,3 +82,20 @@ runs_kept mac s (act ∷ acts) a p l f =
       ]
       | inr r ↦ let e : x.boot ≡ a.boot + 1 = ap (λ (z : State). z.boot) r in inr (omega (arith, e, high))
     ]
+
+-- Every list of acts from a placed state on is guarded.
+
+acts_each : (mac : Mac) (acts : List Act) (a : State) → Placed a.sections → AreGuarded mac acts a
+acts_each mac [] a p = tt
+acts_each mac (act ∷ acts) a p = (λ s l f. act_guarded mac s act a p l f, acts_each mac acts (acted mac act a).state (acted_placed mac act a p))
+
+run_guarded : (mac : Mac) (acts : List Act) (a : State) → Placed a.sections → GuardedRun mac acts a
+run_guarded mac acts a p = record {
+  each = acts_each mac acts a p;
+  blind = λ s b f h. runs_same mac s acts a b p f h;
+  kept = λ s l f. runs_kept mac s acts a p l f;
+}
+
+pub runs_guarded : RunsGuarded
+runs_guarded mac key devices before acts =
+    run_guarded mac acts (acted_all mac before (power_on key devices)).state (acted_all_placed mac before (power_on key devices) starts_placed)

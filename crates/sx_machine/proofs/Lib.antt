@@ -13,3 +13,11 @@ pub mod Ranged
 pub mod Events
 pub mod Apart
 pub mod Stays
+pub mod Touches
+pub mod Sparse
+pub mod Attribution
+pub mod Meanings
+pub mod Frame
+pub mod Public
+pub mod Keys
+pub mod Runs

@@ -1,5 +1,5 @@
--- A step of other code than s's is guarded.
-use Rattle.std.proofs.Common.{◌≡◌, ℕ, ◌+◌, ◌-◌, true, false, cond, not, inl, inr, List, refl, sym, ap, subst, Option, Some, None}
+-- A step of other code than s's, or of s's code that isn't let run, is guarded.
+use Rattle.std.proofs.Common.{◌≡◌, ◌≢◌, ℕ, ◌+◌, ◌-◌, Bool, true, false, cond, not, ◌&&◌, is_some, inl, inr, List, refl, sym, ap, subst, Option, Some, None}
 use Rattle.std.proofs.lemmas.Bool.{and_parts, not-true}
 use Rattle.sx_rules.specs.declared.access.Violation.TheVariants as bad
 use Rattle.sx_rules.specs.declared.section.Section.{Section}
@@ -16,7 +16,7 @@ use Rattle.sx_machine.specs.State.{State}
 use Rattle.sx_machine.specs.Run.{Moment, untouched, Outcome, Finished, Violated, Module, exec}
 use Rattle.sx_machine.specs.Rows.{program}
 use Rattle.sx_machine.specs.Modules.{module_instruction}
-use Rattle.sx_machine.specs.Step.{Shows, pc_of, own_of, start, is_module_word, given, instruction, word_outside, ordered, attempt, settled, step}
+use Rattle.sx_machine.specs.Step.{Shows, pc_of, own_of, start, is_module_word, given, instruction, word_outside, ordered, is_let_run, attempt, settled, step}
 use Rattle.sx_machine.specs.Guard.{Alike, Twins, Untouched, Guarded, Foreign}
 use Rattle.sx_machine.proofs.PlanGuard.{passes, word_alike, Moments, SameOutcome, KeptBy, same_if, kept_if, exec_alike, exec_kept}
 use Rattle.sx_machine.proofs.ModuleGuard.{module_kept, module_alike}
@@ -39,24 +39,24 @@ not_private s live at l h = not-true (in_private s at) (passes (λ x. not (in_pr
 abbrev at_word : Mac → ℕ → State → Outcome
 at_word mac w a = cond (is_module_word w) (module_instruction mac (w - 0x1380) (given mac a) a.mem) (exec a.sections (own_of a) (program w a.regs) (start a))
 
-at_word_kept : (mac : Mac) (s : Section) (a : State) (w : ℕ) → Placed a.sections → Lives a.sections.live s → Foreign s a → KeptBy s a.mem (at_word mac w a)
+at_word_kept : (mac : Mac) (s : Section) (a : State) (w : ℕ) → Placed a.sections → Lives a.sections.live s → own_of a ≢ s.id → KeptBy s a.mem (at_word mac w a)
 at_word_kept mac s a w p l ne =
     elim (is_module_word w) as (λ b. KeptBy s a.mem (cond b (module_instruction mac (w - 0x1380) (given mac a) a.mem) (exec a.sections (own_of a) (program w a.regs) (start a))))
     [ true ↦ module_kept mac s (given mac a) a.mem (w - 0x1380) p l ne | false ↦ exec_kept a.sections (own_of a) s l ne (program w a.regs) a.mem (start a) (λ k p. refl) ]
 
-at_word_alike : (mac : Mac) (s : Section) (a : State) (n : List ℕ) (w : ℕ) → Lives a.sections.live s → Foreign s a → Alike s a.mem n
+at_word_alike : (mac : Mac) (s : Section) (a : State) (n : List ℕ) (w : ℕ) → Lives a.sections.live s → own_of a ≢ s.id → Alike s a.mem n
     → SameOutcome s (at_word mac w a) (at_word mac w (with_mem a n))
 at_word_alike mac s a n w l ne h =
     elim (is_module_word w) as (λ b. SameOutcome s (cond b (module_instruction mac (w - 0x1380) (given mac a) a.mem) (exec a.sections (own_of a) (program w a.regs) (start a)))
     (cond b (module_instruction mac (w - 0x1380) (given mac a) n) (exec a.sections (own_of a) (program w a.regs) (start (with_mem a n)))))
     [ true ↦ module_alike mac s (given mac a) a.mem n (w - 0x1380) l ne h | false ↦ exec_alike a.sections (own_of a) s l ne (program w a.regs) (start a) n h ]
 
-ordered_kept : (mac : Mac) (s : Section) (a : State) (d : Option ℕ) → Placed a.sections → Lives a.sections.live s → Foreign s a → KeptBy s a.mem (ordered mac a d)
+ordered_kept : (mac : Mac) (s : Section) (a : State) (d : Option ℕ) → Placed a.sections → Lives a.sections.live s → own_of a ≢ s.id → KeptBy s a.mem (ordered mac a d)
 ordered_kept mac s a (Some d) p l ne = tt
 ordered_kept mac s a None p l ne =
     kept_if s a.mem (in_order a.sections.live a.cur (pc_of a)) (instruction mac a) bad.Order (λ _. at_word_kept mac s a (word a.mem (pc_of a)) p l ne)
 
-ordered_alike : (mac : Mac) (s : Section) (a : State) (n : List ℕ) (d : Option ℕ) → Lives a.sections.live s → Foreign s a → Alike s a.mem n
+ordered_alike : (mac : Mac) (s : Section) (a : State) (n : List ℕ) (d : Option ℕ) → Lives a.sections.live s → own_of a ≢ s.id → Alike s a.mem n
     → (word a.mem (pc_of a) ≡ word n (pc_of a)) → SameOutcome s (ordered mac a d) (ordered mac (with_mem a n) d)
 ordered_alike mac s a n (Some d) l ne h w = refl
 ordered_alike mac s a n None l ne h w =
@@ -64,12 +64,12 @@ ordered_alike mac s a n None l ne h w =
     subst (λ (y : ℕ). SameOutcome s (at_word mac (word a.mem (pc_of a)) a) (at_word mac y (with_mem a n))) w
     (at_word_alike mac s a n (word a.mem (pc_of a)) l ne h))
 
-attempt_kept : (mac : Mac) (s : Section) (a : State) → Placed a.sections → Lives a.sections.live s → Foreign s a → KeptBy s a.mem (attempt mac a)
+attempt_kept : (mac : Mac) (s : Section) (a : State) → Placed a.sections → Lives a.sections.live s → own_of a ≢ s.id → KeptBy s a.mem (attempt mac a)
 attempt_kept mac s a p l ne =
     kept_if s a.mem (word_outside a.sections.live (pc_of a)) (ordered mac a (device_at a.devices (pc_of a))) bad.Fetch
     (λ _. ordered_kept mac s a (device_at a.devices (pc_of a)) p l ne)
 
-attempt_alike : (mac : Mac) (s : Section) (a : State) (n : List ℕ) → Lives a.sections.live s → Foreign s a → Alike s a.mem n
+attempt_alike : (mac : Mac) (s : Section) (a : State) (n : List ℕ) → Lives a.sections.live s → own_of a ≢ s.id → Alike s a.mem n
     → SameOutcome s (attempt mac a) (attempt mac (with_mem a n))
 attempt_alike mac s a n l ne h =
     let live = a.sections.live in
@@ -116,10 +116,45 @@ settled_alike s a n (Violated v) (Module q y u f d) h = absurd h
 settled_alike s a n (Module r x t e c) (Finished q y) h = absurd h
 settled_alike s a n (Module r x t e c) (Violated w) h = absurd h
 
+-- A step whose instruction isn't let run ends in a violation, which the memory doesn't decide.
+
+stopped_kept : (mac : Mac) (s : Section) (a : State) → is_let_run a ≡ false → KeptBy s a.mem (attempt mac a)
+stopped_kept mac s a stopped = outer (word_outside a.sections.live (pc_of a)) (device_at a.devices (pc_of a)) stopped
+  where
+    ordered_stopped : (b : Bool) → b ≡ false → KeptBy s a.mem (cond b (instruction mac a) (Violated bad.Order))
+    ordered_stopped true e = absurd cc
+    ordered_stopped false e = tt
+
+    outer : (b : Bool) (d : Option ℕ) → (b && (not (is_some d) && in_order a.sections.live a.cur (pc_of a))) ≡ false → KeptBy s a.mem (cond b (ordered mac a d) (Violated bad.Fetch))
+    outer true (Some d) e = tt
+    outer true None e = ordered_stopped (in_order a.sections.live a.cur (pc_of a)) e
+    outer false d e = tt
+
+stopped_alike : (mac : Mac) (s : Section) (a : State) (n : List ℕ) → is_let_run a ≡ false → SameOutcome s (attempt mac a) (attempt mac (with_mem a n))
+stopped_alike mac s a n stopped = outer (word_outside a.sections.live (pc_of a)) (device_at a.devices (pc_of a)) stopped
+  where
+    ordered_stopped : (b : Bool) → b ≡ false → SameOutcome s (cond b (instruction mac a) (Violated bad.Order)) (cond b (instruction mac (with_mem a n)) (Violated bad.Order))
+    ordered_stopped true e = absurd cc
+    ordered_stopped false e = refl
+
+    outer : (b : Bool) (d : Option ℕ) → (b && (not (is_some d) && in_order a.sections.live a.cur (pc_of a))) ≡ false
+        → SameOutcome s (cond b (ordered mac a d) (Violated bad.Fetch)) (cond b (ordered mac (with_mem a n) d) (Violated bad.Fetch))
+    outer true (Some d) e = refl
+    outer true None e = ordered_stopped (in_order a.sections.live a.cur (pc_of a)) e
+    outer false d e = refl
+
+foreign_kept : (mac : Mac) (s : Section) (a : State) → Placed a.sections → Lives a.sections.live s → Foreign s a → KeptBy s a.mem (attempt mac a)
+foreign_kept mac s a p l (inl ne) = attempt_kept mac s a p l ne
+foreign_kept mac s a p l (inr stopped) = stopped_kept mac s a stopped
+
+foreign_alike : (mac : Mac) (s : Section) (a : State) (n : List ℕ) → Lives a.sections.live s → Foreign s a → Alike s a.mem n → SameOutcome s (attempt mac a) (attempt mac (with_mem a n))
+foreign_alike mac s a n l (inl ne) h = attempt_alike mac s a n l ne h
+foreign_alike mac s a n l (inr stopped) h = stopped_alike mac s a n stopped
+
 pub step_guarded : (mac : Mac) (s : Section) (a : State) → Placed a.sections → Lives a.sections.live s → Foreign s a → Guarded Seen (step mac) s a
-step_guarded mac s a p l ne = record {
-  kept = settled_kept s a (attempt mac a) l (attempt_kept mac s a p l ne);
+step_guarded mac s a p l f = record {
+  kept = settled_kept s a (attempt mac a) l (foreign_kept mac s a p l f);
   blind = λ b t.
       subst (λ (z : State). SameEnd s (step mac a) (step mac z)) (sym t.rest)
-      (settled_alike s a b.mem (attempt mac a) (attempt mac (with_mem a b.mem)) (attempt_alike mac s a b.mem l ne t.mem));
+      (settled_alike s a b.mem (attempt mac a) (attempt mac (with_mem a b.mem)) (foreign_alike mac s a b.mem l f t.mem));
 }

@@ -1,12 +1,12 @@
 -- What it is that a private section is guarded.
-use Rattle.std.specs.Prelude.{◌≡◌, ◌≢◌, ℕ, true, false, ◌⊎◌, List, [], ◌∷◌, length, slice_index, Result}
+use Rattle.std.specs.Prelude.{◌≡◌, ◌≢◌, ℕ, ◌<◌, true, false, ◌⊎◌, List, [], ◌∷◌, length, slice_index, Result}
 use Rattle.sx_rules.specs.declared.section.Section.{Section}
 use Rattle.sx_rules.specs.Access.{in_private, Lives}
 use Rattle.sx_tag.specs.Mac.{Mac}
 use Rattle.sx_machine.specs.declared.kinds.Seen.{Seen}
 use Rattle.sx_machine.specs.declared.kinds.Refused.{Refused}
 use Rattle.sx_machine.specs.State.{State, reset}
-use Rattle.sx_machine.specs.Step.{Shows, step, own_of}
+use Rattle.sx_machine.specs.Step.{Shows, step, own_of, is_let_run}
 use Rattle.sx_machine.specs.Acts.{put, set, take, sense, irq}
 
 -- two memories agree outside the private part of s
@@ -34,9 +34,9 @@ pub record Guarded (T : Type 0) (act : State → Shows T) (s : Section) (a : Sta
   -- it reads none of them: nodes that differ in them alone show the same and differ in them alone afterwards
   pub blind : (b : State) → Twins s a b → ((act a).shown ≡ (act b).shown) × Twins s (act a).state (act b).state
 
--- the instruction at PC is no instruction of s
+-- the step is no instruction of s that is let run: PC stands elsewhere, or where s may not be entered
 abbrev pub Foreign : Section → State → Type 0
-Foreign s a = own_of a ≢ s.id
+Foreign s a = (own_of a ≢ s.id) ⊎ (is_let_run a ≡ false)
 
 -- all that can happen to a node
 pub data Act : Type 0 where
@@ -76,7 +76,7 @@ acted_all mac (act ∷ acts) a =
     let y = acted_all mac acts x.state in
     record { state = y.state; shown = x.shown ∷ y.shown }
 
--- an act that isn't a step of code of s
+-- an act that isn't a step of code of s that is let run
 abbrev pub FromOutside : Section → Act → State → Type 0
 FromOutside s Step a = Foreign s a
 FromOutside s Restart a = Unit {0}
@@ -86,7 +86,7 @@ FromOutside s (Take at n) a = Unit {0}
 FromOutside s (Sense device v) a = Unit {0}
 FromOutside s (Interrupt line) a = Unit {0}
 
--- none of the acts is a step of code of s while s stands
+-- none of the acts is a step of code of s that is let run, while s stands
 abbrev pub AllFromOutside : Mac → Section → List Act → State → Type 0
 AllFromOutside mac s [] a = Unit {0}
 AllFromOutside mac s (act ∷ acts) a =
@@ -95,3 +95,23 @@ AllFromOutside mac s (act ∷ acts) a =
 -- s stands and the nodes differ at most in its private bytes, or they don't differ
 abbrev pub Same : Section → State → State → Type 0
 Same s a b = (Lives a.sections.live s × Twins s a b) ⊎ (a ≡ b)
+
+-- each act of a list is guarded, for each section that stands before it, unless it is a step of the section's own code
+abbrev pub AreGuarded : Mac → List Act → State → Type 0
+AreGuarded mac [] a = Unit {0}
+AreGuarded mac (act ∷ acts) a =
+    ((s : Section) → Lives a.sections.live s → FromOutside s act a → Guarded Sight (acted mac act) s a)
+    × AreGuarded mac acts (acted mac act a).state
+
+-- a list of acts from a state on is guarded
+pub record GuardedRun (mac : Mac) (acts : List Act) (a : State) : Type 0 where
+  -- each of its acts is
+  pub each : AreGuarded mac acts a
+  -- where none is a step of s's own code, nodes that differ in the private bytes of s alone show the same all along, and
+  -- at the end still differ in them alone, or not at all
+  pub blind : (s : Section) (b : State) → AllFromOutside mac s acts a → Same s a b
+      → ((acted_all mac acts a).shown ≡ (acted_all mac acts b).shown) × Same s (acted_all mac acts a).state (acted_all mac acts b).state
+  -- and s stands with its private bytes as before, or the node was reset
+  pub kept : (s : Section) → Lives a.sections.live s → AllFromOutside mac s acts a
+      → (Kept s a.mem (acted_all mac acts a).state.mem × Lives (acted_all mac acts a).state.sections.live s)
+      ⊎ (a.boot < (acted_all mac acts a).state.boot)

@@ -6,7 +6,7 @@ use Rattle.sx_rules.specs.Placed.{Placed}
 use Rattle.sx_bus.specs.declared.devices.Window.{Window}
 use Rattle.sx_tag.specs.Mac.{Mac}
 use Rattle.sx_machine.specs.State.{State, power_on}
-use Rattle.sx_machine.specs.Guard.{Kept, Guarded, Act, Sight, acted, acted_all, FromOutside, AllFromOutside, Same}
+use Rattle.sx_machine.specs.Guard.{Kept, Guarded, Act, Sight, acted, acted_all, FromOutside, AllFromOutside, Same, GuardedRun}
 
 -- the sections of a node that is switched on are placed, and stay placed whatever happens
 abbrev pub PowerOnPlaced : Type 0
@@ -15,7 +15,7 @@ PowerOnPlaced = (key : List ℕ) (devices : List Window) → Placed (power_on ke
 abbrev pub StaysPlaced : Type 0
 StaysPlaced = (mac : Mac) (acts : List Act) (a : State) → Placed a.sections → Placed (acted_all mac acts a).state.sections
 
--- each thing that can happen to a node, but a step of s's own code, is guarded
+-- each thing that can happen to a node, but a step of s's own code that is let run, is guarded
 abbrev pub ActsGuarded : Type 0
 ActsGuarded = (mac : Mac) (s : Section) (act : Act) (a : State) → Placed a.sections → Lives a.sections.live s → FromOutside s act a → Guarded Sight (acted mac act) s a
 
@@ -33,3 +33,8 @@ RunsKeep = (mac : Mac) (s : Section) (acts : List Act) (a : State) → Placed a.
 -- an act raises the boot count by at most one
 abbrev pub BootsCount : Type 0
 BootsCount = (mac : Mac) (act : Act) (a : State) → (a.boot ≤ (acted mac act a).state.boot) × ((acted mac act a).state.boot ≤ a.boot + 1)
+
+-- whatever happened to a node since it was switched on, every list of acts from there on is guarded
+abbrev pub RunsGuarded : Type 0
+RunsGuarded = (mac : Mac) (key : List ℕ) (devices : List Window) (before acts : List Act)
+    → GuardedRun mac acts (acted_all mac before (power_on key devices)).state

@@ -14,5 +14,8 @@ pub mod Acts
 pub mod Guard
 pub mod Node
 pub mod NodeLaws
+pub mod Touches
+pub mod Events
+pub mod Frame
 pub mod Answers
 pub mod Laws

@@ -6,7 +6,7 @@ use Rattle.sx_rules.specs.Admission.{no_device}
 use Rattle.sx_rules.specs.Placed.{Placed}
 use Rattle.sx_bus.specs.declared.devices.Kind.{Kind}
 use Rattle.sx_bus.specs.declared.devices.Window.{Window}
-use Rattle.sx_bus.specs.Memory.{AreBytes}
+pub use Rattle.sx_bus.specs.Memory.{AreBytes}
 use Rattle.sx_bus.specs.Devices.{ArePlaces, HaveSamples, places_of}
 use Rattle.sx_machine.specs.Registers.{kept_in}
 use Rattle.sx_machine.specs.State.{State}

@@ -1,5 +1,5 @@
 -- One step of a node.
-use Rattle.std.specs.Prelude.{ℕ, ◌+◌, ◌-◌, ◌==◌, nat_le, Bool, ◌&&◌, ◌||◌, if◌then◌else◌, List, slice_index, Option, Some, None, is_some}
+use Rattle.std.specs.Prelude.{ℕ, ◌+◌, ◌-◌, ◌==◌, nat_le, Bool, ◌&&◌, ◌||◌, not, if◌then◌else◌, List, slice_index, Option, Some, None, is_some}
 use Rattle.sx_rules.specs.declared.access.Violation.TheVariants as bad
 use Rattle.sx_rules.specs.declared.section.Section.{Section}
 use Rattle.sx_rules.specs.Access.{Sections, holder, outside_private, in_order, section_of}
@@ -72,6 +72,11 @@ ordered mac s None = if in_order s.sections.live s.cur (pc_of s) then instructio
 -- the word at an address lies in no private section
 abbrev pub word_outside : List Section → ℕ → Bool
 word_outside live at = outside_private live (even at) && outside_private live (even at + 1)
+
+-- PC passes the tests, so that the instruction there is let run
+abbrev pub is_let_run : State → Bool
+is_let_run s =
+    word_outside s.sections.live (pc_of s) && (not (is_some (device_at s.devices (pc_of s))) && in_order s.sections.live s.cur (pc_of s))
 
 -- what a step does, up to its first violation: the tests of PC, and then the instruction
 abbrev pub attempt : Mac → State → Outcome

@@ -1,7 +1,10 @@
 //! What holds of every node and every run of one. Each law is a function that does nothing: its
 //! contract is the law, for all states of a node.
 
-ghost use Rattle.sx_machine.specs.Laws.{PowerOnPlaced, StaysPlaced, ActsGuarded, RunsBlind, RunsKeep, BootsCount};
+ghost use Rattle.sx_machine.specs.Laws.{PowerOnPlaced, StaysPlaced, ActsGuarded, RunsBlind, RunsKeep, RunsGuarded, BootsCount};
+ghost use Rattle.sx_machine.specs.Events.{StepsSay, OthersKeepSections, FreshSections};
+ghost use Rattle.sx_machine.specs.Frame.{StepsFramed, InterruptsFramed, PublicKept, RunsByTable, KeepsKeys, PowerOnHasKeys};
+ghost use Rattle.sx_machine.specs.Touches.{ShowsTouches, ShowsInterrupt, Attributes, AttributesInterrupt};
 ghost use Rattle.sx_machine.specs.NodeLaws.{PowerOnIsNode, StaysNode, KeepsDevices, KeepsKey};
 
 /// The sections of a node that is switched on are placed.
@@ -14,7 +17,7 @@ pub fn stays_placed()
     ensures { StaysPlaced }
 {}
 
-/// Each thing that can happen to a node, but a step of a section's own code, is guarded.
+/// Each thing that can happen to a node, but a step of a section's own code that is let run, is guarded.
 pub fn acts_guarded()
     ensures { ActsGuarded }
 {}
@@ -52,4 +55,74 @@ pub fn keeps_devices()
 /// A node keeps its key.
 pub fn keeps_key()
     ensures { KeepsKey }
+{}
+
+/// Whatever happened to a node since it was switched on, every list of acts from there on is guarded.
+pub fn runs_guarded()
+    ensures { RunsGuarded }
+{}
+
+/// A step shows all that it did at devices, and did only what the access table lets its code do.
+pub fn shows_touches()
+    ensures { ShowsTouches }
+{}
+
+/// So does an interrupt, as code of no module.
+pub fn shows_interrupt()
+    ensures { ShowsInterrupt }
+{}
+
+/// Code outside a section touches no device in its private section.
+pub fn attributes()
+    ensures { Attributes }
+{}
+
+/// Nor does an interrupt.
+pub fn attributes_interrupt()
+    ensures { AttributesInterrupt }
+{}
+
+/// The event of a step says what became of the sections, and names the module whose code it was.
+pub fn steps_say()
+    ensures { StepsSay }
+{}
+
+/// Every other act keeps the sections, unless it resets the node.
+pub fn others_keep_sections()
+    ensures { OthersKeepSections }
+{}
+
+/// A section that was just protected has private bytes of 0.
+pub fn fresh_sections()
+    ensures { FreshSections }
+{}
+
+/// A step changes only bytes that the access table lets its code write, unless it resets the node.
+pub fn steps_framed()
+    ensures { StepsFramed }
+{}
+
+/// So does an interrupt, as code of no module.
+pub fn interrupts_framed()
+    ensures { InterruptsFramed }
+{}
+
+/// No act, of whatever code, changes a live section's public bytes, unless it resets the node.
+pub fn public_kept()
+    ensures { PublicKept }
+{}
+
+/// A step that ends in neither `fetch` nor `order` had the right to run its word.
+pub fn runs_by_table()
+    ensures { RunsByTable }
+{}
+
+/// The key of each live section stays the chain's for its present bytes.
+pub fn keeps_keys()
+    ensures { KeepsKeys }
+{}
+
+/// And is so from power-on.
+pub fn power_on_has_keys()
+    ensures { PowerOnHasKeys }
 {}

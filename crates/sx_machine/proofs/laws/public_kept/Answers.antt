@@ -1,0 +1,5 @@
+use Rattle.sx_machine.proofs.Public.{public_kept}
+use Rattle.sx_machine.proofs.laws.public_kept.Goals as goal
+
+pub returns : goal.returns
+returns c = public_kept
