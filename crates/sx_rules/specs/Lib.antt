@@ -1,3 +1,4 @@
 pub mod Access
 pub mod Admission
 pub mod Placed
+pub mod Unused

@@ -4,6 +4,7 @@ ghost use Rattle.std.specs.Prelude.{◌≡◌, ◌<◌, ◌≤◌, ◌+◌, ◌-
 ghost use Rattle.std.specs.Result.{result_err};
 ghost use Rattle.sx_rules.specs.Access.{may, holder, outside_private, in_order, extends, section_of};
 ghost use Rattle.sx_rules.specs.Admission.{refusal, admitted, removed, without};
+ghost use Rattle.sx_rules.specs.Unused.{AreUnused};
 
 use crate::access::{self, Access};
 use crate::admission::{self, LIVE_LIMIT, Refusal};
@@ -21,12 +22,13 @@ pub struct Table {
 impl Model for Table {
     ghost use Rattle.std.specs.Prelude.{take, ◌≤◌};
     ghost use Rattle.sx_rules.specs.Access.{Sections};
+    ghost use Rattle.sx_rules.specs.Unused.{AreUnused};
 
     ghost Value = { Sections };
 
     ghost view = { λ t. record { live = take t.live t.sections; next = t.next } };
 
-    ghost invariant = { λ t. (t.live ≤ 8) × (t.next ≤ 65536) };
+    ghost invariant = { λ t. (t.live ≤ 8) × (t.next ≤ 65536) × AreUnused t.live t.sections };
 }
 
 const UNUSED: Section = Section {
@@ -69,6 +71,16 @@ impl Table {
         ensures unchanged { OnErr result (self.new ≡ self.old) }
     {
         self.test(layout, places)?;
+        Ok(self.add(layout, provider, key))
+    }
+
+    /// Adds a section that `test` doesn't refuse under the next id, which it gives back.
+    pub fn add(&mut self, layout: Layout, provider: u16, key: [u8; 16]) -> u16
+        requires room { length self.old.live < 8 }
+        requires ids { self.old.next ≤ 65535 }
+        ensures id { result ≡ self.old.next }
+        ensures admitted { self.new ≡ admitted self.old layout provider key }
+    {
         let id = self.next as u16;
         let section = Section {
             layout,
@@ -79,7 +91,7 @@ impl Table {
         place(&mut self.sections, self.live, section);
         self.live += 1;
         self.next += 1;
-        Ok(id)
+        id
     }
 
     /// Whether `admit` would refuse the section, and why.
@@ -165,7 +177,8 @@ impl Table {
 #[tactic(auto, using(std::proofs::lemmas::List::take_more_set))]
 fn place(sections: &mut [Section], at: usize, section: Section)
     requires { at < length sections.old }
-    ensures { take (at + 1) sections.new ≡ take at sections.old ++ section ∷ [] }
+    ensures placed { take (at + 1) sections.new ≡ take at sections.old ++ section ∷ [] }
+    ensures unused { AreUnused at sections.old → AreUnused (at + 1) sections.new }
 {
     sections[at] = section;
 }
@@ -182,7 +195,18 @@ fn index_of(live: &[Section], id: u16) -> Option<usize>
     None
 }
 
+/// Takes the section at the index out, so that the last slot is unused.
 fn remove_at(live: &mut [Section], index: usize)
+    requires { index < length live.old }
+    ensures removed { take (length live.old - 1) live.new ≡ take index live.old ++ drop (index + 1) live.old }
+    ensures unused { AreUnused (length live.old - 1) live.new }
+{
+    close_gap(live, index);
+    let last = live.len() - 1;
+    live[last] = UNUSED;
+}
+
+fn close_gap(live: &mut [Section], index: usize)
     requires { index < length live.old }
     ensures { take (length live.old - 1) live.new ≡ take index live.old ++ drop (index + 1) live.old }
 {

@@ -4,7 +4,7 @@ use Rattle.std.proofs.lemmas.List.{take_at, length-take-le}
 use Rattle.std.proofs.lemmas.Slice.{put_mid-rotated}
 use borrow.Rule.Slice.PartMut.{put_mid}
 use Rattle.sx_rules.specs.declared.section.Section.{Section}
-use Rattle.sx_rules.proofs.table.remove_at.Goals as goal
+use Rattle.sx_rules.proofs.table.close_gap.Goals as goal
 
 -- The section at the index goes to the end, behind the others.
 pub returns : goal.returns
