@@ -1,6 +1,7 @@
 //! Identities of modules, as a run of the tag takes them.
 
-ghost use Rattle.std.specs.Prelude.{◌≡◌, ◌++◌, ℕ, List};
+ghost use Rattle.std.specs.Prelude.{◌≡◌, ◌++◌, ℕ, List, None};
+ghost use Rattle.sx_rules.specs.Admission.{refusal};
 ghost use Rattle.sx_tag.specs.Keys.{section_key, attest_tag};
 ghost use Rattle.sx_tag.specs.Stream.{Leads};
 ghost use Rattle.sx_machine.specs.Memory.{bytes_from};
@@ -8,7 +9,7 @@ ghost use Rattle.sx_machine.specs.Protect.{identity_at};
 
 use crate::buffer::Buffer;
 use sx_bus::Bus;
-use sx_rules::Layout;
+use sx_rules::{Layout, Table};
 use sx_tag::{Tag, begin_attest_tag, begin_module_key, feed_answer, finish_answer, layout_bytes};
 
 /// Feeds the bytes of a buffer.
@@ -35,14 +36,18 @@ fn feed_identity<B: Bus, T: Tag>(tag: &T, run: &mut T::Run, bus: &B, layout: &La
     feed_answer(tag, run, &bounds);
 }
 
-/// The key of a module with this layout, from the bytes as they are.
+/// The key of a module with this layout, from the bytes as they are. `table` and `places` say that no
+/// rule refuses it, so that no other module's private bytes are read.
 pub fn key_for<B: Bus, T: Tag>(
     tag: &T,
     base: &[u8; 16],
     bus: &B,
     provider: u16,
     layout: &Layout,
+    table: &Table,
+    places: &[u16],
 ) -> [u8; 16]
+    requires tested { refusal table.now layout.now places.now ≡ None }
     ensures { result ≡ section_key T.mac base.now provider (identity_at (B.bytes bus.now) layout.now) }
 {
     let mut run = begin_module_key(tag, base, provider);

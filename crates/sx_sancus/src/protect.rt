@@ -60,7 +60,8 @@ fn wipe<B: Bus>(bus: &mut B, layout: &Layout)
     zero(bus, Buffer::between(layout.priv_from, layout.priv_to));
 }
 
-/// Admits the module that the registers name, with its key, and zeroes its private section.
+/// Admits the module that the registers name, with its key, and zeroes its private section. A module
+/// that is refused costs no key.
 fn admit<B: Bus, T: Tag>(
     regs: &[u16; 16],
     table: &mut Table,
@@ -78,8 +79,10 @@ fn admit<B: Bus, T: Tag>(
 {
     let layout = layout_in(regs);
     let provider = regs[9];
-    let key = key_for(tag, base, bus, provider, &layout);
-    let id = table.admit(layout, provider, key, windows.places())?;
+    let places = windows.places();
+    table.test(layout, places)?;
+    let key = key_for(tag, base, bus, provider, &layout, table, places);
+    let id = table.add(layout, provider, key);
     wipe(bus, &layout);
     Ok(id)
 }
