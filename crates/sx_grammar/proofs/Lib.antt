@@ -5,3 +5,4 @@ pub mod Sound
 pub mod Faults
 pub mod Texts
 pub mod OneFault
+pub mod Words

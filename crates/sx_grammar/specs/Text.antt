@@ -1,6 +1,7 @@
 -- The grammar of a text's bytes.
 use Rattle.std.specs.Prelude.{◌≡◌, ◌⊎◌, ℕ, List, Option, Some, None}
 use Rattle.sx_lang.specs.Tree.{ModuleTree}
+use Rattle.sx_lang.specs.Words.{TreeHasWords}
 use Rattle.sx_lex.specs.declared.tokens.Place.{Place}
 use Rattle.sx_lex.specs.declared.tokens.Placed.{Placed}
 use Rattle.sx_lex.specs.Lexed.{Lexed, start}
@@ -43,3 +44,7 @@ NoFault = (text : List ℕ) (m : ModuleTree) (at : Place) → Spells text m → 
 -- each text spells a module or has a first fault
 abbrev pub ModuleOrFault : Type 0
 ModuleOrFault = (text : List ℕ) → ((m : ModuleTree) × Spells text m) ⊎ ((at : Place) × IsFault text at)
+
+-- the numbers of the module that a text spells are words
+abbrev pub SpelledWords : Type 0
+SpelledWords = (text : List ℕ) (m : ModuleTree) → Spells text m → TreeHasWords m

@@ -1,7 +1,7 @@
 //! What holds of every text. Each law is a function that does nothing: its contract is the law.
 
 ghost use Rattle.sx_grammar.specs.Grammar.{Decided, OneModule};
-ghost use Rattle.sx_grammar.specs.Text.{ModuleOrFault, NoFault, OneFault, OneModuleOfText};
+ghost use Rattle.sx_grammar.specs.Text.{ModuleOrFault, NoFault, OneFault, OneModuleOfText, SpelledWords};
 
 /// No tokens are two modules'.
 pub fn one_module()
@@ -31,4 +31,9 @@ pub fn no_fault()
 /// Each text spells a module or has a first fault.
 pub fn module_or_fault()
     ensures { ModuleOrFault }
+{}
+
+/// The numbers of the module that a text spells are 16-bit words.
+pub fn spelled_words()
+    ensures { SpelledWords }
 {}

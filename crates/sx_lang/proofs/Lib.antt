@@ -1,3 +1,4 @@
+pub mod Form
 pub mod Stored
 pub mod Rows
 pub mod Nodes

@@ -2,6 +2,7 @@
 use Rattle.std.specs.Prelude.{◌≡◌, ℕ, zero, suc, ◌+◌, ◌-◌, ◌*◌, ◌<◌, ◌≤◌, Bool, false, ◌&&◌, ◌||◌, List, [], ◌∷◌, length, take, drop, Option, Some, None, nat_eq, nat_le, if◌then◌else◌, codes, ◌==◌}
 use Rattle.std.specs.Cmp.Lexicographic.{pointwise}
 use Rattle.std.specs.List.{list_all}
+pub use Rattle.sx_lang.specs.Form.{is_lower, is_decimal_digit, is_name_byte, is_name}
 use Rattle.sx_lex.specs.declared.tokens.Kind.{Kind}
 use Rattle.sx_lex.specs.declared.tokens.Kind.TheVariants.{Number, Name, Sensor, Actuator, Input, Output, Var, Array, On, Sample, Let, If, Else, Repeat, Send, Emit, Semicolon, Equals, Open, Close, OpenSquare, CloseSquare, OpenBrace, CloseBrace, EqualsEquals, NotEquals, Less, LessEquals, Greater, GreaterEquals, Plus, Minus, Bar, Caret, Star, Ampersand, Tilde, Bang}
 
@@ -21,15 +22,6 @@ signs =
 abbrev pub found_in : List (List ℕ × Kind) → List ℕ → Option Kind
 found_in [] w = None
 found_in (q ∷ qs) w = if pointwise nat_eq w q.0 then Some q.1 else found_in qs w
-
-abbrev pub is_lower : ℕ → Bool
-is_lower b = nat_le 97 b && nat_le b 122
-
-abbrev pub is_decimal_digit : ℕ → Bool
-is_decimal_digit b = nat_le 48 b && nat_le b 57
-
-abbrev pub is_name_byte : ℕ → Bool
-is_name_byte b = is_lower b || is_decimal_digit b || b == 95
 
 -- what a byte counts as a digit; 16 where it is none in any base up to 16
 abbrev pub digit_value : ℕ → ℕ
@@ -55,11 +47,6 @@ is_number base (b ∷ bs) = list_all (is_digit base) (b ∷ bs) && nat_le (value
 abbrev pub is_hexadecimal : List ℕ → Bool
 is_hexadecimal (a ∷ b ∷ bs) = (a == 48 && b == 120) && is_number 16 bs
 is_hexadecimal _ = false
-
--- a lower-case letter and up to 15 lower-case letters, digits or `_`
-abbrev pub is_name : List ℕ → Bool
-is_name [] = false
-is_name (b ∷ bs) = is_lower b && (list_all is_name_byte bs && nat_le (length bs) 15)
 
 abbrev pub or_else : Option Kind → Kind → Kind
 or_else None k = k

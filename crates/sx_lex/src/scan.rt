@@ -1,9 +1,9 @@
 ghost use Rattle.std.specs.Prelude.{◌≡◌, ℕ, ◌+◌, ◌*◌, ◌<◌, ◌≤◌, ◌&&◌, true, false, List, length, take, IfSome, IfNone, nat_le};
-ghost use Rattle.sx_lex.specs.Words.{is_lower, is_name_byte, digit_value, is_digit, value, name_front, number_front, found_in, keywords, or_else, first_is, NoHexadecimal, NoPair, IsLongest, NoToken};
+ghost use Rattle.sx_lex.specs.Words.{is_lower, digit_value, is_digit, value, name_front, number_front, found_in, keywords, or_else, first_is, NoHexadecimal, NoPair, IsLongest, NoToken};
 
 use crate::quoted::{keyword, sign, sign_of_two};
 use crate::tokens::Kind;
-use sx_lang::names::Name;
+use sx_lang::names::{Name, is_name_byte};
 
 /// A token at the front of a text, and how many bytes it has.
 #[derive(Clone, Copy)]
@@ -19,12 +19,6 @@ struct Digits {
     number: u16,
 }
 
-fn is_of_name(byte: u8) -> bool
-    ensures { result ≡ is_name_byte byte }
-{
-    byte.is_ascii_lowercase() || byte.is_ascii_digit() || byte == b'_'
-}
-
 /// How many bytes at the front may belong to a name, at most so many.
 fn name_run(text: &[u8], most: u8) -> u8
     ensures front { result ≡ name_front most text.now }
@@ -34,7 +28,7 @@ fn name_run(text: &[u8], most: u8) -> u8
     let Some((first, rest)) = text.split_first() else {
         return 0;
     };
-    if most == 0 || !is_of_name(*first) {
+    if most == 0 || !is_name_byte(*first) {
         return 0;
     }
     let more = name_run(rest, most - 1);

@@ -1,7 +1,8 @@
--- The names of a deployment: their form, when lists of them are valid, and where a name stands.
-use Rattle.std.specs.Prelude.{ℕ, Bool, true, false, ◌&&◌, ◌||◌, ◌==◌, not, nat_le, codes, slice_index, if◌then◌else◌, List, [], ◌∷◌, length, position, Option, Some, None, option_and_then, unwrap_or, slice_get}
+-- The names of a deployment: when lists of them are valid, and where a name stands. A word of the handler language is in form too.
+use Rattle.std.specs.Prelude.{ℕ, Bool, true, false, ◌&&◌, ◌==◌, not, nat_le, codes, if◌then◌else◌, List, [], ◌∷◌, length, position, Option, Some, None, option_and_then, unwrap_or, slice_get}
 use Rattle.std.specs.List.{list_all, list_any}
 use Rattle.std.specs.Str.{bytes_eq}
+use Rattle.sx_lang.specs.Form.{is_name}
 
 -- the names of the nodes, devices, modules and connections, and whether each device is a sensor
 pub record NameLists : Type 0 where
@@ -10,17 +11,6 @@ pub record NameLists : Type 0 where
   pub sensors : List Bool
   pub modules : List (List ℕ)
   pub links : List (List ℕ)
-
-abbrev pub is_lower : ℕ → Bool
-is_lower b = nat_le 97 b && nat_le b 122
-
--- a lower-case letter, a digit or `_`
-abbrev pub is_name_byte : ℕ → Bool
-is_name_byte b = (is_lower b || (nat_le 48 b && nat_le b 57)) || b == 95
-
--- a lower-case letter and up to 15 lower-case letters, digits or `_`; a word of the handler language too
-abbrev pub has_form : List ℕ → Bool
-has_form text = (nat_le 1 (length text) && nat_le (length text) 16) && (is_lower (slice_index text 0) && list_all is_name_byte text)
 
 -- the name stands in the list
 abbrev pub has_name : List (List ℕ) → List ℕ → Bool
@@ -32,7 +22,7 @@ no_repeat (x ∷ xs) = not (has_name xs x) && no_repeat xs
 
 -- so many names at most, each in form, and none twice
 abbrev pub are_names : ℕ → List (List ℕ) → Bool
-are_names most names = nat_le (length names) most && (list_all has_form names && no_repeat names)
+are_names most names = nat_le (length names) most && (list_all is_name names && no_repeat names)
 
 -- the deployer's own name, which no module has
 abbrev pub deployer : List ℕ

@@ -6,8 +6,8 @@
 //! `writing::write_item` writes its line, and `reading::read_item` gives the item of a line, `None`
 //! exactly where no item has that line. No two items have one line.
 //!
-//! `specs/Names.antt` has the form of a name, when lists of names are valid, and where a name stands.
-//! `specs/Items.antt` has the lines of items.
+//! `specs/Names.antt` has when lists of names are valid and where a name stands; the form of a name is
+//! `sx_lang`'s. `specs/Items.antt` has the lines of items.
 #![tactic(auto)]
 
 pub mod items;

@@ -1,10 +1,11 @@
 ghost use Rattle.std.specs.Prelude.{◌≡◌, ◌≤◌, ◌<◌, length, IsTrue, IfSome};
 ghost use Rattle.std.specs.List.{list_all};
 ghost use Rattle.std.specs.Str.{bytes_eq};
-ghost use Rattle.sx_trace.specs.Names.{are_names, are_valid, deployer, has_form, has_name, if_sensor, is_lower, is_name_byte, no_repeat, place_of, sensor_place};
+ghost use Rattle.sx_lang.specs.Form.{is_name};
+ghost use Rattle.sx_trace.specs.Names.{are_names, are_valid, deployer, has_name, if_sensor, no_repeat, place_of, sensor_place};
 
 use std::marker::Model;
-use sx_lang::names::Name;
+use sx_lang::names::{Name, has_form};
 
 /// The name of the deployer, which no module has.
 pub const DEPLOYER: [u8; 8] = *b"deployer";
@@ -21,6 +22,7 @@ pub struct Names {
 }
 
 impl Model for Names {
+    ghost use Rattle.sx_lang.specs.Form.{is_name};
     ghost use Rattle.sx_trace.specs.Names.{NameLists};
 
     ghost Value = { NameLists };
@@ -34,34 +36,8 @@ impl Model for Names {
     } };
 }
 
-fn is_lower(byte: u8) -> bool
-    ensures { result ≡ is_lower byte }
-{
-    97 <= byte && byte <= 122
-}
-
-fn is_name_byte(byte: u8) -> bool
-    ensures { result ≡ is_name_byte byte }
-{
-    is_lower(byte) || (48 <= byte && byte <= 57) || byte == 95
-}
-
-fn are_name_bytes(text: &[u8]) -> bool
-    ensures { result ≡ list_all is_name_byte text.now }
-{
-    text.iter().all(|b| is_name_byte(*b))
-}
-
-/// Whether a text has the form of a name: a lower-case letter and up to 15 lower-case letters,
-/// digits or `_`.
-pub fn has_form(text: &[u8]) -> bool
-    ensures { result ≡ has_form text.now }
-{
-    1 <= text.len() && text.len() <= 16 && is_lower(text[0]) && are_name_bytes(text)
-}
-
 fn have_form(names: &[Name]) -> bool
-    ensures { result ≡ list_all has_form names.now }
+    ensures { result ≡ list_all is_name names.now }
 {
     names.iter().all(|name| has_form(name.bytes()))
 }

@@ -1,0 +1,5 @@
+use Rattle.sx_grammar.proofs.Words as words
+use Rattle.sx_grammar.proofs.laws.spelled_words.Goals as goal
+
+pub returns : goal.returns
+returns c = words.spelled_words
