@@ -5,7 +5,8 @@ use Rattle.std.specs.List.{list_all, list_any, position_or_len}
 use Rattle.std.specs.Str.{bytes_eq}
 use Rattle.std.proofs.lemmas.Bool.Decides.{nat_tests}
 use Rattle.std.proofs.lemmas.Slice.Eq.{bytes_eq-Decides}
-use Rattle.sx_trace.specs.Names.{NameLists, are_valid, are_names, deployer, has_form, has_name, is_lower, is_name_byte, no_repeat, place_of}
+use Rattle.sx_trace.specs.Names.{NameLists, are_valid, are_names, deployer, has_name, no_repeat, place_of}
+use Rattle.sx_lang.specs.Form.{is_lower, is_name, is_name_byte}
 use Rattle.sx_trace.specs.Items.{name_at}
 use Rattle.sx_trace.specs.Finding.{is_space}
 use Rattle.sx_trace.proofs.Cut.{and_true, is_plain, is_word}
@@ -41,10 +42,10 @@ place (x ∷ xs) (suc i) h lt =
     let more : 1 + position_or_len (λ x. bytes_eq x (name_at xs i)) xs ≡ suc i = omega (arith, later) in
     rw differs more
 
-form : (names : List (List ℕ)) (i : ℕ) → list_all has_form names ≡ true → i < length names → has_form (name_at names i) ≡ true
+form : (names : List (List ℕ)) (i : ℕ) → list_all is_name names ≡ true → i < length names → is_name (name_at names i) ≡ true
 form [] i h lt = absurd (omega arith)
-form (x ∷ xs) zero h lt = (and_true (has_form x) (list_all has_form xs) h).0
-form (x ∷ xs) (suc i) h lt = form xs i (and_true (has_form x) (list_all has_form xs) h).1 (omega arith)
+form (x ∷ xs) zero h lt = (and_true (is_name x) (list_all is_name xs) h).0
+form (x ∷ xs) (suc i) h lt = form xs i (and_true (is_name x) (list_all is_name xs) h).1 (omega arith)
 
 plain : (b : ℕ) → is_name_byte b ≡ true → is_plain b ≡ true
 plain b h = by_test (b == 32) refl
@@ -62,9 +63,16 @@ all_plain (b ∷ bs) h =
     let both = and_true (is_name_byte b) (list_all is_name_byte bs) h in
     rw (plain b both.0) (all_plain bs both.1)
 
+lower_byte : (b : ℕ) → is_lower b ≡ true → is_name_byte b ≡ true
+lower_byte b h = rw h refl
+
 -- a name has no space
-form_word : (w : List ℕ) → has_form w ≡ true → is_word w ≡ true
-form_word w h = all_plain w (and_true _ _ (and_true (nat_le 1 (length w) && nat_le (length w) 16) _ h).1).1
+form_word : (w : List ℕ) → is_name w ≡ true → is_word w ≡ true
+form_word [] h = absurd (cc)
+form_word (b ∷ bs) h =
+    let first = and_true (is_lower b) (list_all is_name_byte bs && nat_le (length bs) 15) h in
+    let rest = and_true (list_all is_name_byte bs) (nat_le (length bs) 15) first.1 in
+    rw (plain b (lower_byte b first.0)) (all_plain bs rest.0)
 
 -- the name at a place stands there first, is a word, and isn't `-`
 pub record Known (names : List (List ℕ)) (i : ℕ) : Type 0 where
@@ -72,20 +80,20 @@ pub record Known (names : List (List ℕ)) (i : ℕ) : Type 0 where
   pub word : is_word (name_at names i) ≡ true
   pub no_dash : bytes_eq (name_at names i) (codes "-") ≡ false
 
-dash : (w : List ℕ) → has_form w ≡ true → bytes_eq w (codes "-") ≡ false
+dash : (w : List ℕ) → is_name w ≡ true → bytes_eq w (codes "-") ≡ false
 dash w h = by_test (bytes_eq w (codes "-")) refl
   where
   by_test : (t : Bool) → bytes_eq w (codes "-") ≡ t → bytes_eq w (codes "-") ≡ false
   by_test false e = e
   by_test true e =
       let same : w ≡ codes "-" = (bytes_eq-Decides w (codes "-")).0 e in
-      let no : has_form (codes "-") ≡ true = subst (λ v. has_form v ≡ true) same h in
+      let no : is_name (codes "-") ≡ true = subst (λ v. is_name v ≡ true) same h in
       absurd (cc no)
 
 known : (most : ℕ) (names : List (List ℕ)) (i : ℕ) → are_names most names ≡ true → i < length names → Known names i
 known most names i h lt =
     let all = and_true (nat_le (length names) most) _ h in
-    let rest = and_true (list_all has_form names) (no_repeat names) all.1 in
+    let rest = and_true (list_all is_name names) (no_repeat names) all.1 in
     let at = place names i rest.1 lt in
     let within : nat_lt i (length names) ≡ true = grind (arith, nat_tests) in
     let formed = form names i rest.0 lt in
