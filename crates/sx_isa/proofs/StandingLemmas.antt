@@ -1,15 +1,16 @@
 -- Instructions in memory: how they read, how they are put together, and when they stay.
-use Rattle.std.proofs.Common.{◌≡◌, ℕ, suc, ◌+◌, ◌*◌, ◌/◌, ◌%◌, ◌<◌, ◌≤◌, List, [], ◌∷◌, ◌++◌, length, take, refl, ap, sym, ◌∙◌, arith, length-append, Some, ◌↔◌}
+use Rattle.std.proofs.Common.{◌≡◌, ℕ, suc, ◌+◌, ◌*◌, ◌%◌, ◌<◌, ◌≤◌, List, [], ◌∷◌, ◌++◌, length, take, refl, ap, sym, ◌∙◌, arith, length-append, Some, ◌↔◌}
 use Rattle.sx_isa.specs.declared.instruction.Instr.{Instr}
 use Rattle.sx_isa.specs.Spelling.{spelling}
 use Rattle.sx_isa.specs.Legal.{Begins}
 use Rattle.sx_isa.specs.Reading.{instruction_at}
+use Rattle.sx_isa.specs.Memory.{word}
 use Rattle.sx_isa.specs.Standing.{word_at, WordsStand, Stands, AllStand, AreInstructions, words_of}
 use Rattle.sx_isa.proofs.Spelled.{reads, spelling_short}
 
 -- an address counts modulo 65,536
 word_same : (bytes : List ℕ) (a b : ℕ) → a % 65536 ≡ b % 65536 → word_at bytes a ≡ word_at bytes b
-word_same bytes a b e = let same : a / 2 % 32768 ≡ b / 2 % 32768 = omega arith in rw same refl
+word_same bytes a b e = ap (λ (i : ℕ). word bytes i) e
 
 words_same : (bytes : List ℕ) (ws : List ℕ) (a b : ℕ) → a % 65536 ≡ b % 65536 → WordsStand bytes a ws →
     WordsStand bytes b ws

@@ -1,4 +1,5 @@
 pub mod Spelling
 pub mod Legal
 pub mod Reading
+pub mod Memory
 pub mod Standing

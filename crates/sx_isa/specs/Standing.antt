@@ -1,14 +1,13 @@
 -- Instructions that stand in memory, a list of 65,536 bytes. Addresses are modulo 65,536.
-use Rattle.std.specs.Prelude.{◌≡◌, ℕ, ◌+◌, ◌*◌, ◌/◌, ◌%◌, List, [], ◌∷◌, ◌++◌, slice_index, length}
+use Rattle.std.specs.Prelude.{◌≡◌, ℕ, ◌+◌, ◌*◌, ◌%◌, List, [], ◌∷◌, ◌++◌, length}
 use Rattle.sx_isa.specs.declared.instruction.Instr.{Instr}
 use Rattle.sx_isa.specs.Legal.{IsInstruction}
 use Rattle.sx_isa.specs.Spelling.{spelling}
+use Rattle.sx_isa.specs.Memory.{word}
 
--- the word at an address, the low byte first; a word access ignores bit 0 of the address
+-- the word at an address modulo 65,536
 abbrev pub word_at : List ℕ → ℕ → ℕ
-word_at bytes a =
-    let even = a / 2 % 32768 * 2 in
-    slice_index bytes even + 256 * slice_index bytes (even + 1)
+word_at bytes a = word bytes (a % 65536)
 
 -- words stand one after the other from an address on
 abbrev pub WordsStand : List ℕ → ℕ → List ℕ → Type 0

@@ -1,13 +1,6 @@
 -- Bytes and words of a memory.
 use Rattle.std.specs.Prelude.{ℕ, zero, suc, ◌+◌, ◌-◌, ◌*◌, ◌/◌, ◌%◌, Bool, if◌then◌else◌, List, [], ◌∷◌, ◌++◌, slice_index, slice_set}
-
--- a word access ignores bit 0 of its address
-abbrev pub even : ℕ → ℕ
-even at = at - at % 2
-
--- the word at an address, the low byte first
-abbrev pub word : List ℕ → ℕ → ℕ
-word mem at = slice_index mem (even at) + 256 * slice_index mem (even at + 1)
+pub use Rattle.sx_isa.specs.Memory.{even, word}
 
 abbrev pub put_word : List ℕ → ℕ → ℕ → List ℕ
 put_word mem at v = slice_set (slice_set mem (even at) (v % 256)) (even at + 1) (v / 256)
