@@ -1,9 +1,9 @@
 -- The devices after a change of one of them: an entry written, no place changed, and the values those of samples.
-use Rattle.std.proofs.Common.{◌≡◌, ℕ, zero, suc, ◌<◌, true, List, [], ◌∷◌, length, map, get_or, set, ap, refl, arith, lit<}
+use Rattle.std.proofs.Common.{◌≡◌, ℕ, zero, suc, ◌<◌, true, false, List, [], ◌∷◌, length, map, get_or, set, ap, refl, arith, lit<}
 use Rattle.std.proofs.lemmas.List.Elements.{All-nil, All-cons, All-head, All-tail}
 use Rattle.sx_bus.specs.declared.devices.Kind.{Kind}
 use Rattle.sx_bus.specs.declared.devices.Window.{Window}
-use Rattle.sx_bus.specs.Devices.{HaveSamples, changed, powered_on, places_of, stale, sensed, cleared, all_stale}
+use Rattle.sx_bus.specs.Devices.{AreNew, HaveSamples, changed, powered_on, places_of, stale, sensed, cleared, all_stale}
 
 pub set_changed : (change : Window → Window) (windows : List Window) (device : ℕ) (d w : Window) →
     device < length windows → w ≡ change (get_or windows device d) → set windows device w ≡ changed change windows device
@@ -70,3 +70,10 @@ pub all_stale_cleared : (windows : List Window) (device : ℕ) → all_stale (cl
 all_stale_cleared [] device = refl
 all_stale_cleared (w ∷ rest) zero = refl
 all_stale_cleared (w ∷ rest) (suc device) = ap (λ (ws : List Window). stale w ∷ ws) (all_stale_cleared rest device)
+
+abbrev IsNew : Window → Type 0
+IsNew w = (w.value ≡ 0) × (w.fresh ≡ false)
+
+pub AreNew-powered_on : (devices : List (ℕ × Kind)) → AreNew (powered_on devices)
+AreNew-powered_on [] = All-nil IsNew
+AreNew-powered_on (d ∷ rest) = All-cons IsNew _ (powered_on rest) (refl, refl) (AreNew-powered_on rest)

@@ -1,7 +1,7 @@
 -- The devices of a node, each of which is one word of its memory (own profile).
 --     ArePlaces      where devices may stand
 --     HaveSamples      what values devices have
---     powered_on, places_of, device_at      a list of devices, its places, and the device at a byte
+--     powered_on, AreNew, places_of, device_at      a list of devices, that none was used, its places, and the device at a byte
 --     sensed, cleared, all_stale      the devices after a sample, after a sensor was read, and after a reset
 use Rattle.std.specs.Prelude.{◌≡◌, ◌≢◌, ℕ, zero, suc, ◌+◌, ◌%◌, ◌<◌, ◌≤◌, nat_lt, nat_le, Bool, true, false, ◌&&◌, List, [], ◌∷◌, length, map, All, AllPairs, Option}
 use Rattle.std.specs.List.{position_from}
@@ -18,6 +18,10 @@ pub record ArePlaces (places : List ℕ) : Type 0 where
 -- the devices as the node is switched on: each has the value 0 and isn't fresh
 abbrev pub powered_on : List (ℕ × Kind) → List Window
 powered_on devices = map (λ d. record { at = d.0; kind = d.1; value = 0; fresh = false }) devices
+
+-- each device has the value 0 and isn't fresh
+abbrev pub AreNew : List Window → Type 0
+AreNew windows = All (λ w. (w.value ≡ 0) × (w.fresh ≡ false)) windows
 
 abbrev pub places_of : List Window → List ℕ
 places_of windows = map (λ w. w.at) windows

@@ -2,7 +2,7 @@
 
 ghost use Rattle.std.specs.Prelude.{◌≡◌, ℕ, ◌<◌, ◌≤◌, true, length, map, IfOk, IfSome, slice_get, Option, Some};
 ghost use Rattle.sx_bus.specs.declared.devices.Kind.TheVariants.{Sensor};
-ghost use Rattle.sx_bus.specs.Devices.{ArePlaces, on_word, powered_on, places_of, device_at, sensed, cleared, all_stale};
+ghost use Rattle.sx_bus.specs.Devices.{ArePlaces, AreNew, on_word, powered_on, places_of, device_at, sensed, cleared, all_stale};
 
 use std::alloc::{AllocError as OutOfMemory, Global};
 use std::marker::Model;
@@ -63,7 +63,8 @@ impl Windows {
     /// The devices at these places, with value 0 and not fresh.
     pub fn new(alloc: Global, devices: &[(u16, Kind)]) -> Result<Windows, OutOfMemory>
         requires { ArePlaces (map (λ d. d.0) devices.now) }
-        ensures { IfOk result (λ windows. windows ≡ powered_on devices.now) }
+        ensures devices { IfOk result (λ windows. windows ≡ powered_on devices.now) }
+        ensures new { IfOk result (λ windows. AreNew windows) }
     {
         let windows = switched_on(alloc, devices)?;
         let places = places(alloc, devices)?;

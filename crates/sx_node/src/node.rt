@@ -2,6 +2,7 @@
 
 ghost use Rattle.std.specs.Prelude.{◌≡◌, ◌<◌, slice_index};
 ghost use Rattle.sx_bus.specs.Memory.{blank};
+ghost use Rattle.sx_bus.specs.Devices.{AreNew};
 ghost use Rattle.sx_rules.specs.Access.{section_of};
 ghost use Rattle.sx_machine.specs.State.{power_on, no_exchange};
 
@@ -60,10 +61,12 @@ pub(crate) fn no_exchange() -> Exchange
 }
 
 impl<B: Bus, T: Tag> Node<B, T> {
-    /// A node when its power is switched on: all registers and, as the condition says, all bytes are
-    /// 0, no section stands, and the boot count is 0. `key` is the node's own key.
+    /// A node when its power is switched on: all registers are 0, no section stands, and the boot
+    /// count is 0. As the conditions say, all bytes are 0, and no device was used. `key` is the node's
+    /// own key.
     pub fn new(bus: B, tag: T, key: [u8; 16], windows: Windows) -> Node<B, T>
-        requires { B.bytes bus ≡ blank 65536 }
+        requires blank { B.bytes bus ≡ blank 65536 }
+        requires new { AreNew windows }
         ensures { result ≡ power_on key windows }
     {
         Node {
