@@ -21,3 +21,4 @@ pub mod Frame
 pub mod Public
 pub mod Keys
 pub mod Runs
+pub mod Doing

@@ -17,5 +17,6 @@ pub mod NodeLaws
 pub mod Touches
 pub mod Events
 pub mod Frame
+pub mod Doing
 pub mod Answers
 pub mod Laws

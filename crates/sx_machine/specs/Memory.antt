@@ -1,5 +1,5 @@
 -- Bytes and words of a memory.
-use Rattle.std.specs.Prelude.{ℕ, zero, suc, ◌+◌, ◌-◌, ◌*◌, ◌/◌, ◌%◌, Bool, if◌then◌else◌, List, [], ◌∷◌, ◌++◌, slice_index, slice_set}
+use Rattle.std.specs.Prelude.{ℕ, zero, suc, ◌+◌, ◌/◌, ◌%◌, Bool, if◌then◌else◌, List, [], ◌∷◌, ◌++◌, slice_index, slice_set}
 pub use Rattle.sx_isa.specs.Memory.{even, word}
 
 abbrev pub put_word : List ℕ → ℕ → ℕ → List ℕ

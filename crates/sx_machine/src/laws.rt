@@ -4,6 +4,7 @@
 ghost use Rattle.sx_machine.specs.Laws.{PowerOnPlaced, StaysPlaced, ActsGuarded, RunsBlind, RunsKeep, RunsGuarded, BootsCount};
 ghost use Rattle.sx_machine.specs.Events.{StepsSay, OthersKeepSections, FreshSections};
 ghost use Rattle.sx_machine.specs.Frame.{StepsFramed, InterruptsFramed, PublicKept, RunsByTable, KeepsKeys, PowerOnHasKeys};
+ghost use Rattle.sx_machine.specs.Doing.{DoesWhatStands};
 ghost use Rattle.sx_machine.specs.Touches.{ShowsTouches, ShowsInterrupt, Attributes, AttributesInterrupt};
 ghost use Rattle.sx_machine.specs.NodeLaws.{PowerOnIsNode, StaysNode, KeepsDevices, KeepsKey};
 
@@ -125,4 +126,9 @@ pub fn keeps_keys()
 /// And is so from power-on.
 pub fn power_on_has_keys()
     ensures { PowerOnHasKeys }
+{}
+
+/// A step that is let run does the instruction that stands at PC.
+pub fn does_what_stands()
+    ensures { DoesWhatStands }
 {}
