@@ -120,6 +120,15 @@ impl Windows {
     {
         clear_all(&mut self.windows);
     }
+
+    /// Equal devices of their own. `OutOfMemory` where there is none for them.
+    pub fn copy(&self, alloc: Global) -> Result<Windows, OutOfMemory>
+        ensures { IfOk result (λ copy. copy ≡ self.now) }
+    {
+        let windows = self.windows.to_vec(alloc)?;
+        let places = self.places.to_vec(alloc)?;
+        Ok(Windows { windows, places })
+    }
 }
 
 fn switched_on(alloc: Global, devices: &[(u16, Kind)]) -> Result<Vec<Window>, OutOfMemory>

@@ -3,6 +3,7 @@
 ghost use Rattle.std.specs.Prelude.{◌≡◌, ℕ, length, IfOk};
 ghost use Rattle.sx_bus.specs.Memory.{blank, AreBytes};
 
+use crate::copied::Copied;
 use crate::memory::Bus;
 use std::alloc::{AllocError as OutOfMemory, Global};
 
@@ -43,6 +44,19 @@ impl Bus for FlatBus {
     }
 
     fn stays_in_range(&self) {}
+}
+
+impl Copied for FlatBus {
+    fn copy(&self, alloc: Global) -> Result<FlatBus, OutOfMemory> {
+        let memory = copied(&self.memory, alloc)?;
+        Ok(FlatBus { memory })
+    }
+}
+
+fn copied(bytes: &[u8], alloc: Global) -> Result<Vec<u8>, OutOfMemory>
+    ensures { IfOk result (λ copy. copy.items ≡ bytes.now) }
+{
+    bytes.to_vec(alloc)
 }
 
 // The count is a variable, since a proof must never compute a list of 65,536 numbers.

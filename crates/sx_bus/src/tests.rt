@@ -1,6 +1,6 @@
 //! Each call once: what no clause says is that the constructors can succeed.
 
-use super::{Bus, FlatBus, Kind, Windows};
+use super::{Bus, Copied, FlatBus, Kind, Windows};
 use std::process::Abort;
 use std::test::Fail;
 
@@ -48,5 +48,21 @@ fn devices(rt: HostRuntime) -> Result<(), Fail> {
     windows.reset();
     assert!(rt; !windows.get(0).fresh);
     assert_eq!(rt; windows.get(0).value, 9);
+    Ok(())
+}
+
+#[test]
+fn copies(rt: HostRuntime) -> Result<(), Fail> {
+    let mut bus = FlatBus::new(rt.alloc())?;
+    bus.put(0xFFFF, 7);
+    let mut copy = bus.copy(rt.alloc())?;
+    copy.put(0, 1);
+    assert_eq!(rt; [bus.get(0), bus.get(0xFFFF)], [0, 7]);
+    assert_eq!(rt; [copy.get(0), copy.get(0xFFFF)], [1, 7]);
+    let windows = Windows::new(rt.alloc(), &[(0x1000, Kind::Sensor)])?;
+    let mut copy = windows.copy(rt.alloc())?;
+    copy.sense(0, 7);
+    assert!(rt; !windows.get(0).fresh);
+    assert!(rt; copy.get(0).fresh);
     Ok(())
 }

@@ -7,6 +7,7 @@
 #![tactic(auto)]
 
 mod acts;
+mod copied;
 mod node;
 mod step;
 #[cfg(test)]

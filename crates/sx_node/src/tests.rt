@@ -31,6 +31,13 @@ fn sampled(rt: &impl Abort, node: &mut Node<FlatBus, Weak>) -> Result<(), Refuse
     node.sense(device, 7)
 }
 
+fn is_fresh(rt: &impl Abort, node: &Node<FlatBus, Weak>) -> bool {
+    let Some(device) = node.windows.at(SENSOR) else {
+        panic!(rt; "no device");
+    };
+    node.windows.get(device).fresh
+}
+
 fn interrupted(rt: &impl Abort, node: &mut Node<FlatBus, Weak>) -> Result<Seen, Refused> {
     assert!(rt; node.boot() < u32::MAX);
     node.irq(3)
@@ -148,5 +155,21 @@ fn unprotects(rt: HostRuntime) -> Result<(), Fail> {
     assert_eq!(rt; [node.reg(0), node.reg(15)], [0x5002, 0]);
     let second = protected(&rt, &mut node, layout);
     assert_eq!(rt; second, (Event::Protected(2), [2, 0]));
+    Ok(())
+}
+
+#[test]
+fn a_copy_is_a_node_of_its_own(rt: HostRuntime) -> Result<(), Fail> {
+    let mut node = node(rt.alloc())?;
+    assert!(rt; node.put(0x4002, &[7]).is_ok());
+    assert!(rt; node.set(5, 9).is_ok());
+    let mut copy = node.copy(rt.alloc())?;
+    assert!(rt; copy.put(0x4000, &[1]).is_ok());
+    assert!(rt; copy.set(5, 8).is_ok());
+    assert!(rt; sampled(&rt, &mut copy).is_ok());
+    assert_eq!(rt; [node.byte(0x4000), node.byte(0x4002)], [0, 7]);
+    assert_eq!(rt; [copy.byte(0x4000), copy.byte(0x4002)], [1, 7]);
+    assert_eq!(rt; [node.reg(5), copy.reg(5)], [9, 8]);
+    assert_eq!(rt; [is_fresh(&rt, &node), is_fresh(&rt, &copy)], [false, true]);
     Ok(())
 }

@@ -7,7 +7,7 @@ ghost use Rattle.sx_paged.specs.Memory.{IsMemory, joined, after_put};
 
 use crate::paged::Paged;
 use std::alloc::{AllocError as OutOfMemory, Global};
-use sx_bus::Bus;
+use sx_bus::{Bus, Copied};
 
 /// A memory of 65,536 bytes. A page is present where one of its bytes was written since the last wipe.
 #[derive(Drop)]
@@ -58,4 +58,14 @@ impl Bus for PagedBus {
     }
 
     fn stays_in_range(&self) {}
+}
+
+impl Copied for PagedBus {
+    fn copy(&self, alloc: Global) -> Result<PagedBus, OutOfMemory>
+        ensures bytes { IfOk result (λ copy. joined copy.pages ≡ joined self.now.pages) }
+        ensures pages { IfOk result (λ copy. copy.pages ≡ self.now.pages) }
+    {
+        let pages = self.pages.copy(alloc)?;
+        Ok(PagedBus { pages })
+    }
 }

@@ -69,6 +69,17 @@ impl Paged {
         release_all(&mut self.arena, &mut self.numbers);
     }
 
+    /// Equal pages of their own.
+    pub(crate) fn copy(&self, alloc: Global) -> Result<Paged, OutOfMemory>
+        ensures { IfOk result (λ copy. copy ≡ self.now) }
+    {
+        let arena = self.arena.copy(alloc)?;
+        Ok(Paged {
+            arena,
+            numbers: self.numbers,
+        })
+    }
+
     /// How many pages are present.
     pub(crate) fn present(&self) -> u16
         ensures { result ≡ size self.now }

@@ -1,8 +1,8 @@
-//! Each call once. What no clause says is that `new` can succeed.
+//! Each call once. What no clause says is that `new` and `copy` can succeed.
 
 use super::PagedBus;
 use std::test::Fail;
-use sx_bus::{Bus, FlatBus};
+use sx_bus::{Bus, Copied, FlatBus};
 
 #[test]
 fn pages_are_present_where_written(rt: HostRuntime) -> Result<(), Fail> {
@@ -47,5 +47,17 @@ fn reads_as_the_flat_memory(rt: HostRuntime) -> Result<(), Fail> {
         paged.wipe();
         flat.wipe();
     }
+    Ok(())
+}
+
+#[test]
+fn a_copy_has_pages_of_its_own(rt: HostRuntime) -> Result<(), Fail> {
+    let mut bus = PagedBus::new(rt.alloc())?;
+    bus.put(0x4000, 7);
+    let mut copy = bus.copy(rt.alloc())?;
+    copy.put(0x4000, 1);
+    copy.put(0x5000, 1);
+    assert_eq!(rt; [bus.get(0x4000), bus.get(0x5000)], [7, 0]);
+    assert_eq!(rt; [bus.present(), copy.present()], [1, 2]);
     Ok(())
 }
