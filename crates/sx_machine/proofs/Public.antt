@@ -35,7 +35,7 @@ unwritten live own k s l p = false_from_ne_true (list_all (allows own Write k) l
         by true e p = absurd cc
         by false e p = cc
 
-framed_public : (live : List Section) (own : ℕ) (s : Section) (m n : List ℕ) → Lives live s → Framed live own m n → KeptPublic s m n
+pub framed_public : (live : List Section) (own : ℕ) (s : Section) (m n : List ℕ) → Lives live s → Framed live own m n → KeptPublic s m n
 framed_public live own s m n l f k p = f k (unwritten live own k s l p)
 
 abbrev KeepsIt : Section → State → State → Type 0
