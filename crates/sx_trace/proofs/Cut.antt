@@ -42,7 +42,7 @@ cut_word w rest h =
     let found : position is_space (w ++ 32 ∷ rest) ≡ Some (length w) = rw (before_space w rest h, within) refl in
     let front : take (length w) (w ++ 32 ∷ rest) ≡ w = take_at w (32 ∷ rest) (length w) refl in
     let behind : drop (length w + 1) (w ++ 32 ∷ rest) ≡ rest =
-        sym (drop-drop 1 (length w) (w ++ 32 ∷ rest)) ∙ ap (λ (xs : List ℕ). drop 1 xs) (drop_at w (32 ∷ rest) (length w) refl) in
+    sym (drop-drop 1 (length w) (w ++ 32 ∷ rest)) ∙ ap (λ (xs : List ℕ). drop 1 xs) (drop_at w (32 ∷ rest) (length w) refl) in
     ap (cut_at (w ++ 32 ∷ rest)) found ∙ (rw (front, behind) refl)
 
 pub cut_all : (w : List ℕ) → is_word w ≡ true → cut w ≡ (w, [])
@@ -67,12 +67,13 @@ GoesThrough n ds = n < 2 ^ 128 → (rest : List ℕ) → with_digits 0 (ds ++ re
 goes_through : (n : ℕ) → n < 10 ^ 64 → GoesThrough n (decimal n)
 goes_through = decimal_by_steps_wide GoesThrough one more
   where
-  one : (n : ℕ) → n < 10 → GoesThrough n ((48 + n) ∷ [])
-  one n h small rest = ap (λ (o : Option ℕ). o >>= (λ v. with_digits v rest)) (one_digit 0 n n h (omega arith) small)
-  more : (n : ℕ) (ds : List ℕ) → 10 ≤ n → GoesThrough (n / 10) ds → GoesThrough n (ds ++ ((48 + n % 10) ∷ []))
-  more n ds h front small rest =
-      ap (with_digits 0) (append_assoc ds ((48 + n % 10) ∷ []) rest) ∙ front (omega arith) ((48 + n % 10) ∷ rest)
-      ∙ ap (λ (o : Option ℕ). o >>= (λ v. with_digits v rest)) (one_digit (n / 10) (n % 10) n (omega arith) (omega arith) small)
+    one : (n : ℕ) → n < 10 → GoesThrough n ((48 + n) ∷ [])
+    one n h small rest = ap (λ (o : Option ℕ). o >>= (λ v. with_digits v rest)) (one_digit 0 n n h (omega arith) small)
+
+    more : (n : ℕ) (ds : List ℕ) → 10 ≤ n → GoesThrough (n / 10) ds → GoesThrough n (ds ++ ((48 + n % 10) ∷ []))
+    more n ds h front small rest =
+        ap (with_digits 0) (append_assoc ds ((48 + n % 10) ∷ []) rest) ∙ front (omega arith) ((48 + n % 10) ∷ rest)
+        ∙ ap (λ (o : Option ℕ). o >>= (λ v. with_digits v rest)) (one_digit (n / 10) (n % 10) n (omega arith) (omega arith) small)
 
 -- a decimal number is read
 pub number_read : (n : ℕ) → n < 2 ^ 128 → number_of (decimal n) ≡ Some n
@@ -90,9 +91,11 @@ up_to_read most n within h =
 pub decimal_word : (n : ℕ) → n < 2 ^ 128 → is_word (decimal n) ≡ true
 decimal_word n h = decimal_by_steps_wide (λ n ds. is_word ds ≡ true) one more n (omega arith)
   where
-  digit : (d : ℕ) → is_plain (48 + d) ≡ true
-  digit d = let n : ((48 + d) == 32) ≡ false = grind (arith, nat_tests) in rw n refl
-  one : (n : ℕ) → n < 10 → is_word ((48 + n) ∷ []) ≡ true
-  one n h = rw (digit n) refl
-  more : (n : ℕ) (ds : List ℕ) → 10 ≤ n → is_word ds ≡ true → is_word (ds ++ ((48 + n % 10) ∷ [])) ≡ true
-  more n ds h front = list_all-append is_plain ds ((48 + n % 10) ∷ []) ∙ rw (front, digit (n % 10)) refl
+    digit : (d : ℕ) → is_plain (48 + d) ≡ true
+    digit d = let n : ((48 + d) == 32) ≡ false = grind (arith, nat_tests) in rw n refl
+
+    one : (n : ℕ) → n < 10 → is_word ((48 + n) ∷ []) ≡ true
+    one n h = rw (digit n) refl
+
+    more : (n : ℕ) (ds : List ℕ) → 10 ≤ n → is_word ds ≡ true → is_word (ds ++ ((48 + n % 10) ∷ [])) ≡ true
+    more n ds h front = list_all-append is_plain ds ((48 + n % 10) ∷ []) ∙ rw (front, digit (n % 10)) refl

@@ -8,8 +8,8 @@ use Rattle.sx_trace.specs.declared.items.Cause.{Cause}
 use Rattle.sx_trace.specs.declared.items.Cause.TheVariants as cause
 use Rattle.sx_trace.specs.declared.items.Item.{Item}
 use Rattle.sx_trace.specs.declared.items.Item.TheVariants.{Reset, Protect, Sense, Read, Drain, Ask, Attested, Denied, Vouch, Open, Take, Out, Raw, Done, Packet, Forged, Busy, Skip, Budget}
-use Rattle.sx_trace.specs.Items.{name_at, name_or, cause_word, side_word, epoch_words, spaced, item_text, IsItem, IsPlaceOrNone, ItemsDiffer}
-use Rattle.sx_trace.specs.Finding.{cut, number_of, up_to, place_or_none, cause_of, side_of, open_in, kind_in, item_in, ◌>>=◌}
+use Rattle.sx_trace.specs.Items.{name_at, name_or, cause_word, side_word, epoch_words, spaced, item_text, IsItem, IsIndexOrNone, ItemsDiffer}
+use Rattle.sx_trace.specs.Finding.{cut, number_of, up_to, index_or_none, cause_of, side_of, open_in, kind_in, item_in, ◌>>=◌}
 use Rattle.sx_trace.proofs.Cut.{is_word, cut_word, cut_all, number_read, up_to_read, decimal_word}
 use Rattle.sx_trace.proofs.Known.{Known, known_node, known_device, known_module, known_link, no_deployer}
 
@@ -32,13 +32,13 @@ side_found : (side : Side) → (side_of (side_word side) ≡ Some side) × (is_w
 side_found From = (refl, refl)
 side_found To = (refl, refl)
 
-dash_found : (n : NameLists) (m : Option ℕ) → IsTrue (are_valid n) → IsPlaceOrNone n.modules m
-    → place_or_none (codes "-") n.modules (name_or (codes "-") n.modules m) ≡ Some m
+dash_found : (n : NameLists) (m : Option ℕ) → IsTrue (are_valid n) → IsIndexOrNone n.modules m
+    → index_or_none (codes "-") n.modules (name_or (codes "-") n.modules m) ≡ Some m
 dash_found n None v h = refl
 dash_found n (Some m) v h = let k = known_module n m v h in rw (k.no_dash, k.found) refl
 
-deployer_found : (n : NameLists) (m : Option ℕ) → IsTrue (are_valid n) → IsPlaceOrNone n.modules m
-    → place_or_none deployer n.modules (name_or deployer n.modules m) ≡ Some m
+deployer_found : (n : NameLists) (m : Option ℕ) → IsTrue (are_valid n) → IsIndexOrNone n.modules m
+    → index_or_none deployer n.modules (name_or deployer n.modules m) ≡ Some m
 deployer_found n None v h = refl
 deployer_found n (Some m) v h = let k = known_module n m v h in rw (no_deployer n m v h, k.found) refl
 
@@ -49,13 +49,13 @@ epoch_found : (side : Side) (epoch : ℕ) → epoch < 2 ^ 8
 unfolding number_of
 epoch_found side epoch small = by_test (epoch == 0) refl
   where
-  by_test : (t : Bool) → (epoch == 0) ≡ t
-      → (cut (spaced (side_word side ∷ epoch_words epoch))).0 ≡ side_word side
-      × up_to 255 (cut (spaced (side_word side ∷ epoch_words epoch))).1 ≡ Some epoch
-  by_test true e =
-      let zero_epoch : epoch ≡ 0 = grind (arith, nat_tests, e) in
-      rw (zero_epoch, cut_all (side_word side) (side_found side).1) (refl, refl)
-  by_test false e = rw (e, cut_word (side_word side) (decimal epoch) (side_found side).1, up_to_read 255 epoch (omega arith) (omega arith)) (refl, refl)
+    by_test : (t : Bool) → (epoch == 0) ≡ t
+        → (cut (spaced (side_word side ∷ epoch_words epoch))).0 ≡ side_word side
+        × up_to 255 (cut (spaced (side_word side ∷ epoch_words epoch))).1 ≡ Some epoch
+    by_test true e =
+        let zero_epoch : epoch ≡ 0 = grind (arith, nat_tests, e) in
+        rw (zero_epoch, cut_all (side_word side) (side_found side).1) (refl, refl)
+    by_test false e = rw (e, cut_word (side_word side) (decimal epoch) (side_found side).1, up_to_read 255 epoch (omega arith) (omega arith)) (refl, refl)
 
 pub found : (n : NameLists) (item : Item) → IsTrue (are_valid n) → IsItem n item → item_in n (item_text n item) ≡ Some item
 unfolding item_text
@@ -101,18 +101,23 @@ found n (Open m link side epoch) v h =
     of_kind n (codes "open") (name_at n.modules m ++ 32 ∷ (name_at n.links link ++ 32 ∷ rest)) refl
     ∙ rw (cut_word (name_at n.modules m) (name_at n.links link ++ 32 ∷ rest) k.word, k.found) (opened m link side epoch rest k.word l e)
   where
-  opened : (m link : ℕ) (side : Side) (epoch : ℕ) (rest : List ℕ) → is_word (name_at n.modules m) ≡ true → Known n.links link
-      → ((cut rest).0 ≡ side_word side × up_to 255 (cut rest).1 ≡ Some epoch)
-      → open_in n m (name_at n.links link ++ 32 ∷ rest) ≡ Some (Open m link side epoch)
-  opened m link side epoch rest w l e = rw (cut_word (name_at n.links link) rest l.word, l.found, e.0, (side_found side).0, e.1) refl
+    opened : (m link : ℕ) (side : Side) (epoch : ℕ) (rest : List ℕ) → is_word (name_at n.modules m) ≡ true → Known n.links link
+        → ((cut rest).0 ≡ side_word side × up_to 255 (cut rest).1 ≡ Some epoch)
+        → open_in n m (name_at n.links link ++ 32 ∷ rest) ≡ Some (Open m link side epoch)
+    opened m link side epoch rest w l e = rw (cut_word (name_at n.links link) rest l.word, l.found, e.0, (side_found side).0, e.1) refl
 found n (Take m link number value) v h =
     let k = known_module n m v h.0.0 in
     let l = known_link n link v h.0.1 in
     of_kind n (codes "take") (name_at n.modules m ++ 32 ∷ (name_at n.links link ++ 32 ∷ (decimal number ++ 32 ∷ decimal value))) refl
-    ∙ rw (cut_word (name_at n.modules m) (name_at n.links link ++ 32 ∷ (decimal number ++ 32 ∷ decimal value)) k.word, k.found,
-          cut_word (name_at n.links link) (decimal number ++ 32 ∷ decimal value) l.word, l.found,
-          cut_word (decimal number) (decimal value) (decimal_word number (omega arith)),
-          up_to_read 4294967295 number (omega arith) (omega arith), up_to_read 65535 value (omega arith) (omega arith)) refl
+    ∙ rw (
+      cut_word (name_at n.modules m) (name_at n.links link ++ 32 ∷ (decimal number ++ 32 ∷ decimal value)) k.word,
+      k.found,
+      cut_word (name_at n.links link) (decimal number ++ 32 ∷ decimal value) l.word,
+      l.found,
+      cut_word (decimal number) (decimal value) (decimal_word number (omega arith)),
+      up_to_read 4294967295 number (omega arith) (omega arith),
+      up_to_read 65535 value (omega arith) (omega arith),
+    ) refl
 found n (Out m value) v h =
     let k = known_module n m v h.0 in
     of_kind n (codes "out") (name_at n.modules m ++ 32 ∷ decimal value) refl
@@ -124,13 +129,20 @@ found n (Raw d value) v h =
 found n (Done m status pieces) v h =
     let k = known_module n m v h.0 in
     of_kind n (codes "done") (name_at n.modules m ++ 32 ∷ (decimal status ++ 32 ∷ decimal pieces)) refl
-    ∙ rw (cut_word (name_at n.modules m) (decimal status ++ 32 ∷ decimal pieces) k.word, k.found,
-          cut_word (decimal status) (decimal pieces) (decimal_word status (omega arith)),
-          up_to_read 65535 status (omega arith) (omega arith), up_to_read 65535 pieces (omega arith) (omega arith)) refl
+    ∙ rw (
+      cut_word (name_at n.modules m) (decimal status ++ 32 ∷ decimal pieces) k.word,
+      k.found,
+      cut_word (decimal status) (decimal pieces) (decimal_word status (omega arith)),
+      up_to_read 65535 status (omega arith) (omega arith),
+      up_to_read 65535 pieces (omega arith) (omega arith),
+    ) refl
 found n (Packet number len) v h =
     of_kind n (codes "packet") (decimal number ++ 32 ∷ decimal len) refl
-    ∙ rw (cut_word (decimal number) (decimal len) (decimal_word number (omega arith)),
-          up_to_read 4294967295 number (omega arith) (omega arith), up_to_read 65535 len (omega arith) (omega arith)) refl
+    ∙ rw (
+      cut_word (decimal number) (decimal len) (decimal_word number (omega arith)),
+      up_to_read 4294967295 number (omega arith) (omega arith),
+      up_to_read 65535 len (omega arith) (omega arith),
+    ) refl
 found n (Forged m) v h =
     of_kind n (codes "forged") (name_or deployer n.modules m) refl ∙ rw (deployer_found n m v h.0) refl
 found n (Busy node) v h =

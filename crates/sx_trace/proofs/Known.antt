@@ -1,4 +1,4 @@
--- What is known of a name at its place in a list of names.
+-- What is known of a name at its index in a list of names.
 use Rattle.std.proofs.Common.{◌≡◌, ℕ, zero, suc, ◌+◌, ◌<◌, ◌≤◌, Bool, true, false, ◌&&◌, ◌||◌, ◌==◌, not, nat_le, nat_lt, List, [], ◌∷◌, length, codes, Some, refl, sym, ap, subst, ◌∙◌, arith, IsTrue}
 use Rattle.std.specs.Bool.{one_answer}
 use Rattle.std.specs.List.{list_all, list_any, position_or_len}
@@ -37,7 +37,7 @@ place (x ∷ xs) zero h lt = rw (bytes_eq-same x) refl
 place (x ∷ xs) (suc i) h lt =
     let both = and_true (not (has_name xs x)) (no_repeat xs) h in
     let differs : bytes_eq x (name_at xs i) ≡ false =
-        bytes_eq-sym x (name_at xs i) ∙ others xs x i (not_true (has_name xs x) both.0) (omega arith) in
+    bytes_eq-sym x (name_at xs i) ∙ others xs x i (not_true (has_name xs x) both.0) (omega arith) in
     let later = place xs i both.1 (omega arith) in
     let more : 1 + position_or_len (λ x. bytes_eq x (name_at xs i)) xs ≡ suc i = omega (arith, later) in
     rw differs more
@@ -50,12 +50,12 @@ form (x ∷ xs) (suc i) h lt = form xs i (and_true (is_name x) (list_all is_name
 plain : (b : ℕ) → is_name_byte b ≡ true → is_plain b ≡ true
 plain b h = by_test (b == 32) refl
   where
-  by_test : (t : Bool) → (b == 32) ≡ t → is_plain b ≡ true
-  by_test false e = rw e refl
-  by_test true e =
-      let same : b ≡ 32 = grind (arith, nat_tests, e) in
-      let no : is_name_byte 32 ≡ true = subst (λ c. is_name_byte c ≡ true) same h in
-      absurd (cc no)
+    by_test : (t : Bool) → (b == 32) ≡ t → is_plain b ≡ true
+    by_test false e = rw e refl
+    by_test true e =
+        let same : b ≡ 32 = grind (arith, nat_tests, e) in
+        let no : is_name_byte 32 ≡ true = subst (λ c. is_name_byte c ≡ true) same h in
+        absurd (cc no)
 
 all_plain : (w : List ℕ) → list_all is_name_byte w ≡ true → is_word w ≡ true
 all_plain [] h = refl
@@ -74,7 +74,7 @@ form_word (b ∷ bs) h =
     let rest = and_true (list_all is_name_byte bs) (nat_le (length bs) 15) first.1 in
     rw (plain b (lower_byte b first.0)) (all_plain bs rest.0)
 
--- the name at a place stands there first, is a word, and isn't `-`
+-- the name at an index stands there first, is a word, and isn't `-`
 pub record Known (names : List (List ℕ)) (i : ℕ) : Type 0 where
   pub found : place_of names (name_at names i) ≡ Some i
   pub word : is_word (name_at names i) ≡ true
@@ -83,12 +83,12 @@ pub record Known (names : List (List ℕ)) (i : ℕ) : Type 0 where
 dash : (w : List ℕ) → is_name w ≡ true → bytes_eq w (codes "-") ≡ false
 dash w h = by_test (bytes_eq w (codes "-")) refl
   where
-  by_test : (t : Bool) → bytes_eq w (codes "-") ≡ t → bytes_eq w (codes "-") ≡ false
-  by_test false e = e
-  by_test true e =
-      let same : w ≡ codes "-" = (bytes_eq-Decides w (codes "-")).0 e in
-      let no : is_name (codes "-") ≡ true = subst (λ v. is_name v ≡ true) same h in
-      absurd (cc no)
+    by_test : (t : Bool) → bytes_eq w (codes "-") ≡ t → bytes_eq w (codes "-") ≡ false
+    by_test false e = e
+    by_test true e =
+        let same : w ≡ codes "-" = (bytes_eq-Decides w (codes "-")).0 e in
+        let no : is_name (codes "-") ≡ true = subst (λ v. is_name v ≡ true) same h in
+        absurd (cc no)
 
 known : (most : ℕ) (names : List (List ℕ)) (i : ℕ) → are_names most names ≡ true → i < length names → Known names i
 known most names i h lt =

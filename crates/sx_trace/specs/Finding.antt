@@ -45,12 +45,12 @@ up_to most text = do
   n ← number_of text
   if nat_le n most then Some n else None
 
-abbrev pub place_or_none : List ℕ → List (List ℕ) → List ℕ → Option (Option ℕ)
-place_or_none other names word =
+abbrev pub index_or_none : List ℕ → List (List ℕ) → List ℕ → Option (Option ℕ)
+index_or_none other names word =
     if bytes_eq word other then Some None
     else do
-      place ← place_of names word
-      Some (Some place)
+      i ← place_of names word
+      Some (Some i)
 
 abbrev pub cause_of : List ℕ → Option Cause
 cause_of word =
@@ -128,7 +128,7 @@ device_in kind d fields =
 abbrev pub node_in : NameLists → List ℕ → ℕ → List ℕ → Option Item
 node_in n kind node fields =
     if bytes_eq kind (codes "reset") then cause_of fields >>= (λ why. Some (Reset node why))
-    else if bytes_eq kind (codes "protect") then place_or_none (codes "-") n.modules fields >>= (λ m. Some (Protect node m))
+    else if bytes_eq kind (codes "protect") then index_or_none (codes "-") n.modules fields >>= (λ m. Some (Protect node m))
     else if bytes_eq kind (codes "busy") then Some (Busy node)
     else if bytes_eq kind (codes "skip") then Some (Skip node)
     else if bytes_eq kind (codes "budget") then Some (Budget node)
@@ -152,7 +152,7 @@ is_of_device kind =
 abbrev pub kind_in : NameLists → List ℕ → List ℕ → Option Item
 kind_in n kind fields =
     if bytes_eq kind (codes "packet") then packet_in fields
-    else if bytes_eq kind (codes "forged") then place_or_none deployer n.modules fields >>= (λ m. Some (Forged m))
+    else if bytes_eq kind (codes "forged") then index_or_none deployer n.modules fields >>= (λ m. Some (Forged m))
     else if is_of_node kind then place_of n.nodes (cut fields).0 >>= (λ node. node_in n kind node (cut fields).1)
     else if is_of_device kind then place_of n.devices (cut fields).0 >>= (λ d. device_in kind d (cut fields).1)
     else place_of n.modules (cut fields).0 >>= (λ m. module_in n kind m (cut fields).1)

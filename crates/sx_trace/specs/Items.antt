@@ -9,11 +9,11 @@ use Rattle.sx_trace.specs.declared.items.Cause.TheVariants as cause
 use Rattle.sx_trace.specs.declared.items.Item.{Item}
 use Rattle.sx_trace.specs.declared.items.Item.TheVariants.{Reset, Protect, Sense, Read, Drain, Ask, Attested, Denied, Vouch, Open, Take, Out, Raw, Done, Packet, Forged, Busy, Skip, Budget}
 
--- the name at a place of its list
+-- the name at an index of its list
 abbrev pub name_at : List (List ℕ) → ℕ → List ℕ
 name_at names i = unwrap_or (slice_get names i) []
 
--- the name at a place of its list, or another word where there is no place
+-- the name at an index of its list, or another word where there is no index
 abbrev pub name_or : List ℕ → List (List ℕ) → Option ℕ → List ℕ
 name_or other names None = other
 name_or other names (Some i) = name_at names i
@@ -68,15 +68,15 @@ spaced words = join_with_byte 32 words
 unfoldable pub item_text : NameLists → Item → List ℕ
 item_text n item = spaced (item_words n item)
 
--- a place of the list, or none
-abbrev pub IsPlaceOrNone : List (List ℕ) → Option ℕ → Type 0
-IsPlaceOrNone names None = Unit {0}
-IsPlaceOrNone names (Some i) = i < length names
+-- an index of the list, or none
+abbrev pub IsIndexOrNone : List (List ℕ) → Option ℕ → Type 0
+IsIndexOrNone names None = Unit {0}
+IsIndexOrNone names (Some i) = i < length names
 
--- the item's places are below the lengths of their lists
+-- the item's indices are below the lengths of their lists
 abbrev pub IsNamed : NameLists → Item → Type 0
 IsNamed n (Reset node why) = node < length n.nodes
-IsNamed n (Protect node m) = (node < length n.nodes) × IsPlaceOrNone n.modules m
+IsNamed n (Protect node m) = (node < length n.nodes) × IsIndexOrNone n.modules m
 IsNamed n (Sense d value) = d < length n.devices
 IsNamed n (Read m value) = m < length n.modules
 IsNamed n (Drain d) = d < length n.devices
@@ -90,7 +90,7 @@ IsNamed n (Out m value) = m < length n.modules
 IsNamed n (Raw d value) = d < length n.devices
 IsNamed n (Done m status pieces) = m < length n.modules
 IsNamed n (Packet number len) = Unit {0}
-IsNamed n (Forged m) = IsPlaceOrNone n.modules m
+IsNamed n (Forged m) = IsIndexOrNone n.modules m
 IsNamed n (Busy node) = node < length n.nodes
 IsNamed n (Skip node) = node < length n.nodes
 IsNamed n (Budget node) = node < length n.nodes

@@ -15,8 +15,8 @@ pub enum Cause {
     Asked,
 }
 
-/// One item of a trace. Nodes, devices, modules and connections are given by their places in the
-/// lists of names; a module is one of deployed identity, whose node, layout, provider and public
+/// One item of a trace. Nodes, devices, modules and connections are given by their indices in
+/// the lists of names; a module is one of deployed identity, whose node, layout, provider and public
 /// bytes are those of the deployed module.
 #[derive(Clone, Copy, PartialEq, Eq, Debug)]
 pub enum Item {

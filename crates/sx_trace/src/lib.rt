@@ -14,7 +14,6 @@ pub mod items;
 pub mod laws;
 pub mod names;
 pub mod reading;
-pub mod writing;
-
 #[cfg(test)]
 mod tests;
+pub mod writing;

@@ -3,8 +3,8 @@
 
 ghost use Rattle.std.specs.Prelude.{◌≡◌, ℕ, ◌<◌, ◌≤◌, length, position, IsTrue, IfSome, MatchOption};
 ghost use Rattle.sx_trace.specs.Names.{are_valid};
-ghost use Rattle.sx_trace.specs.Items.{item_text, IsItem, IsSized, IsNoItem, IsPlaceOrNone};
-ghost use Rattle.sx_trace.specs.Finding.{is_space, cut, with_digit, number_of, up_to, place_or_none, cause_of, side_of, open_in, take_in, done_in, packet_in, numbered_in, module_in, device_in, node_in, is_of_node, is_of_device, kind_in, item_in};
+ghost use Rattle.sx_trace.specs.Items.{item_text, IsItem, IsSized, IsNoItem, IsIndexOrNone};
+ghost use Rattle.sx_trace.specs.Finding.{is_space, cut, with_digit, number_of, up_to, index_or_none, cause_of, side_of, open_in, take_in, done_in, packet_in, numbered_in, module_in, device_in, node_in, is_of_node, is_of_device, kind_in, item_in};
 
 use crate::items::{Cause, Item};
 use crate::names::{DEPLOYER, Names};
@@ -13,7 +13,7 @@ use sx_lang::sides::Side;
 
 /// The offset of the first space.
 fn first_space(text: &[u8]) -> Option<usize>
-    ensures place { result ≡ position is_space text.now }
+    ensures offset { result ≡ position is_space text.now }
     ensures within { IfSome result (λ i. i < length text.now) }
 {
     text.iter().position(|byte| *byte == b' ')
@@ -63,7 +63,7 @@ fn up_to(most: u128, text: &[u8]) -> Option<u128>
 }
 
 /// A number of 16 bits.
-fn half(text: &[u8]) -> Option<u16>
+fn number16(text: &[u8]) -> Option<u16>
     ensures { result ≡ up_to 65535 text.now }
 {
     let number = up_to(65535, text)?;
@@ -71,24 +71,24 @@ fn half(text: &[u8]) -> Option<u16>
 }
 
 /// A number of 32 bits.
-fn whole(text: &[u8]) -> Option<u32>
+fn number32(text: &[u8]) -> Option<u32>
     ensures { result ≡ up_to 4294967295 text.now }
 {
     let number = up_to(4294967295, text)?;
     Some(number as u32)
 }
 
-/// The place of a module, or None for the other word.
-fn place_or_none(other: &[u8], names: &Names, word: &[u8]) -> Option<Option<u8>>
+/// The index of a module, or None for the other word.
+fn index_or_none(other: &[u8], names: &Names, word: &[u8]) -> Option<Option<u8>>
     requires { IsTrue (are_valid names.now) }
-    ensures place { result ≡ place_or_none other.now names.now.modules word.now }
-    ensures named { IfSome result (λ m. IsPlaceOrNone names.now.modules m) }
+    ensures index { result ≡ index_or_none other.now names.now.modules word.now }
+    ensures named { IfSome result (λ m. IsIndexOrNone names.now.modules m) }
 {
     if word == other {
         return Some(None);
     }
-    let place = names.module(word)?;
-    Some(Some(place))
+    let module = names.module(word)?;
+    Some(Some(module))
 }
 
 fn cause_of(word: &[u8]) -> Option<Cause>
@@ -155,8 +155,8 @@ fn take_in(names: &Names, module: u8, fields: &[u8]) -> Option<Item>
     let (link, fields) = cut(fields);
     let (number, value) = cut(fields);
     let link = names.link(link)?;
-    let number = whole(number)?;
-    let value = half(value)?;
+    let number = number32(number)?;
+    let value = number16(value)?;
     Some(Item::Take {
         module,
         link,
@@ -171,8 +171,8 @@ fn done_in(names: &Names, module: u8, fields: &[u8]) -> Option<Item>
     ensures fit { IfSome result (λ item. IsItem names.now item) }
 {
     let (status, pieces) = cut(fields);
-    let status = half(status)?;
-    let pieces = half(pieces)?;
+    let status = number16(status)?;
+    let pieces = number16(pieces)?;
     Some(Item::Done {
         module,
         status,
@@ -185,8 +185,8 @@ fn packet_in(fields: &[u8]) -> Option<Item>
     ensures fit { IfSome result IsSized }
 {
     let (number, len) = cut(fields);
-    let number = whole(number)?;
-    let len = half(len)?;
+    let number = number32(number)?;
+    let len = number16(len)?;
     Some(Item::Packet { number, len })
 }
 
@@ -197,11 +197,11 @@ fn numbered_in(names: &Names, kind: &[u8], module: u8, fields: &[u8]) -> Option<
     ensures fit { IfSome result (λ item. IsItem names.now item) }
 {
     if kind == b"read".as_slice() {
-        let value = half(fields)?;
+        let value = number16(fields)?;
         return Some(Item::Read { module, value });
     }
     if kind == b"out".as_slice() {
-        let value = half(fields)?;
+        let value = number16(fields)?;
         return Some(Item::Out { module, value });
     }
     if kind == b"ask".as_slice() {
@@ -213,7 +213,7 @@ fn numbered_in(names: &Names, kind: &[u8], module: u8, fields: &[u8]) -> Option<
         return Some(Item::Vouch { module, challenge });
     }
     if kind == b"attested".as_slice() {
-        let boot = whole(fields)?;
+        let boot = number32(fields)?;
         return Some(Item::Attested { module, boot });
     }
     None
@@ -248,11 +248,11 @@ fn device_in(names: &Names, kind: &[u8], device: u8, fields: &[u8]) -> Option<It
     ensures fit { IfSome result (λ item. IsItem names.now item) }
 {
     if kind == b"sense".as_slice() {
-        let value = half(fields)?;
+        let value = number16(fields)?;
         return Some(Item::Sense { device, value });
     }
     if kind == b"raw".as_slice() {
-        let value = half(fields)?;
+        let value = number16(fields)?;
         return Some(Item::Raw { device, value });
     }
     if kind == b"drain".as_slice() {
@@ -273,7 +273,7 @@ fn node_in(names: &Names, kind: &[u8], node: u8, fields: &[u8]) -> Option<Item>
         return Some(Item::Reset { node, cause });
     }
     if kind == b"protect".as_slice() {
-        let module = place_or_none(b"-", names, fields)?;
+        let module = index_or_none(b"-", names, fields)?;
         return Some(Item::Protect { node, module });
     }
     if kind == b"busy".as_slice() {
@@ -314,7 +314,7 @@ fn kind_in(names: &Names, kind: &[u8], fields: &[u8]) -> Option<Item>
         return packet_in(fields);
     }
     if kind == b"forged".as_slice() {
-        let module = place_or_none(&DEPLOYER, names, fields)?;
+        let module = index_or_none(&DEPLOYER, names, fields)?;
         return Some(Item::Forged { module });
     }
     let (name, fields) = cut(fields);

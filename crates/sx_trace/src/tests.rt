@@ -66,12 +66,42 @@ fn items_of_nodes(rt: HostRuntime) -> Result<(), Fail> {
         reads(&rt, &names, line, Item::Reset { node: 1, cause });
     }
     let lines: [(&[u8], Item); 9] = [
-        (b"protect a -", Item::Protect { node: 0, module: None }),
-        (b"protect b lamp", Item::Protect { node: 1, module: Some(2) }),
-        (b"sense light 120", Item::Sense { device: 0, value: 120 }),
+        (
+            b"protect a -",
+            Item::Protect {
+                node: 0,
+                module: None,
+            },
+        ),
+        (
+            b"protect b lamp",
+            Item::Protect {
+                node: 1,
+                module: Some(2),
+            },
+        ),
+        (
+            b"sense light 120",
+            Item::Sense {
+                device: 0,
+                value: 120,
+            },
+        ),
         (b"drain light", Item::Drain { device: 0 }),
-        (b"raw bulb 65535", Item::Raw { device: 1, value: 65535 }),
-        (b"packet 10 24", Item::Packet { number: 10, len: 24 }),
+        (
+            b"raw bulb 65535",
+            Item::Raw {
+                device: 1,
+                value: 65535,
+            },
+        ),
+        (
+            b"packet 10 24",
+            Item::Packet {
+                number: 10,
+                len: 24,
+            },
+        ),
         (b"busy a", Item::Busy { node: 0 }),
         (b"skip b", Item::Skip { node: 1 }),
         (b"budget a", Item::Budget { node: 0 }),
@@ -87,18 +117,89 @@ fn items_of_modules(rt: HostRuntime) -> Result<(), Fail> {
     let names = lighting(rt.alloc())?;
     let most: u128 = u128::MAX;
     let lines: [(&[u8], Item); 14] = [
-        (b"read eye 120", Item::Read { module: 0, value: 120 }),
-        (b"ask lamp 2", Item::Ask { module: 2, challenge: 2 }),
+        (
+            b"read eye 120",
+            Item::Read {
+                module: 0,
+                value: 120,
+            },
+        ),
+        (
+            b"ask lamp 2",
+            Item::Ask {
+                module: 2,
+                challenge: 2,
+            },
+        ),
         (b"attested eye 0", Item::Attested { module: 0, boot: 0 }),
         (b"denied logic", Item::Denied { module: 1 }),
-        (b"vouch eye 340282366920938463463374607431768211455", Item::Vouch { module: 0, challenge: most }),
-        (b"open eye up from", Item::Open { module: 0, link: 0, side: Side::From, epoch: 0 }),
-        (b"open lamp down to", Item::Open { module: 2, link: 1, side: Side::To, epoch: 0 }),
-        (b"open lamp down to 255", Item::Open { module: 2, link: 1, side: Side::To, epoch: 255 }),
-        (b"take logic up 0 120", Item::Take { module: 1, link: 0, number: 0, value: 120 }),
-        (b"take lamp down 65536 1", Item::Take { module: 2, link: 1, number: 65536, value: 1 }),
-        (b"out lamp 1", Item::Out { module: 2, value: 1 }),
-        (b"done logic 1 0", Item::Done { module: 1, status: 1, pieces: 0 }),
+        (
+            b"vouch eye 340282366920938463463374607431768211455",
+            Item::Vouch {
+                module: 0,
+                challenge: most,
+            },
+        ),
+        (
+            b"open eye up from",
+            Item::Open {
+                module: 0,
+                link: 0,
+                side: Side::From,
+                epoch: 0,
+            },
+        ),
+        (
+            b"open lamp down to",
+            Item::Open {
+                module: 2,
+                link: 1,
+                side: Side::To,
+                epoch: 0,
+            },
+        ),
+        (
+            b"open lamp down to 255",
+            Item::Open {
+                module: 2,
+                link: 1,
+                side: Side::To,
+                epoch: 255,
+            },
+        ),
+        (
+            b"take logic up 0 120",
+            Item::Take {
+                module: 1,
+                link: 0,
+                number: 0,
+                value: 120,
+            },
+        ),
+        (
+            b"take lamp down 65536 1",
+            Item::Take {
+                module: 2,
+                link: 1,
+                number: 65536,
+                value: 1,
+            },
+        ),
+        (
+            b"out lamp 1",
+            Item::Out {
+                module: 2,
+                value: 1,
+            },
+        ),
+        (
+            b"done logic 1 0",
+            Item::Done {
+                module: 1,
+                status: 1,
+                pieces: 0,
+            },
+        ),
         (b"forged lamp", Item::Forged { module: Some(2) }),
         (b"forged deployer", Item::Forged { module: None }),
     ];

@@ -1,7 +1,7 @@
 //! The lines of items are written.
 
 ghost use Rattle.std.specs.Prelude.{◌≡◌, ℕ, ◌+◌, ◌<◌, ◌≤◌, List, [], ◌∷◌, ◌++◌, length, take, drop, codes, decimal};
-ghost use Rattle.sx_trace.specs.Items.{name_at, name_or, cause_word, side_word, epoch_words, spaced, item_text, IsPlaceOrNone, IsNamed, IsWritten};
+ghost use Rattle.sx_trace.specs.Items.{name_at, name_or, cause_word, side_word, epoch_words, spaced, item_text, IsIndexOrNone, IsNamed, IsWritten};
 
 use crate::items::{Cause, Item};
 use crate::names::{DEPLOYER, Names};
@@ -9,24 +9,24 @@ use itoa::{Buffer, Integer};
 use sx_lang::names::Name;
 use sx_lang::sides::Side;
 
-/// The name at a place of its list.
-fn name_at(names: &[Name], place: u8) -> &[u8]
-    requires { place < length names.now }
-    ensures name { result.now ≡ name_at names.now place }
+/// The name at an index of its list.
+fn name_at(names: &[Name], index: u8) -> &[u8]
+    requires { index < length names.now }
+    ensures name { result.now ≡ name_at names.now index }
     ensures short { length result.now ≤ 16 }
 {
-    names[usize::from(place)].bytes()
+    names[usize::from(index)].bytes()
 }
 
-/// The name at a place of its list, or another word where there is no place.
-fn name_or<'a>(other: &'a [u8], names: &'a [Name], place: Option<u8>) -> &'a [u8]
-    requires named { IsPlaceOrNone names.now place }
+/// The name at an index of its list, or another word where there is no index.
+fn name_or<'a>(other: &'a [u8], names: &'a [Name], index: Option<u8>) -> &'a [u8]
+    requires named { IsIndexOrNone names.now index }
     requires small { length other.now ≤ 16 }
-    ensures word { result.now ≡ name_or other.now names.now place }
+    ensures word { result.now ≡ name_or other.now names.now index }
     ensures short { length result.now ≤ 16 }
 {
-    match place {
-        Some(place) => name_at(names, place),
+    match index {
+        Some(index) => name_at(names, index),
         None => other,
     }
 }
@@ -121,78 +121,61 @@ fn write_numbered<N: Integer>(
     into: &mut [u8; 128],
     kind: &[u8],
     names: &[Name],
-    place: u8,
+    index: u8,
     number: N,
 ) -> usize
     requires kind { length kind.now ≤ 16 }
-    requires named { place < length names.now }
-    ensures { IsWritten (spaced (kind.now ∷ name_at names.now place ∷ N.text number ∷ [])) into.old result into.new }
+    requires named { index < length names.now }
+    ensures { IsWritten (spaced (kind.now ∷ name_at names.now index ∷ N.text number ∷ [])) into.old result into.new }
 {
     let mut digits = Buffer::new();
     write_three(
         into,
         kind,
-        name_at(names, place),
+        name_at(names, index),
         digits.format(number).as_bytes(),
     )
 }
 
 /// Writes `open M c SIDE EPOCH`, of an epoch 0 without it.
-fn write_open(into: &mut [u8; 128], holder: &[u8], link: &[u8], side: Side, epoch: u8) -> usize
-    requires holder { length holder.now ≤ 16 }
+fn write_open(into: &mut [u8; 128], module: &[u8], link: &[u8], side: Side, epoch: u8) -> usize
+    requires named { length «module».now ≤ 16 }
     requires link { length link.now ≤ 16 }
-    ensures { IsWritten (spaced (codes "open" ∷ holder.now ∷ link.now ∷ side_word side ∷ epoch_words epoch))
+    ensures { IsWritten (spaced (codes "open" ∷ «module».now ∷ link.now ∷ side_word side ∷ epoch_words epoch))
         into.old result into.new }
 {
     if epoch == 0 {
-        return write_four(into, b"open", holder, link, side_word(side));
+        return write_four(into, b"open", module, link, side_word(side));
     }
     let mut digits = Buffer::new();
-    write_five(
-        into,
-        b"open",
-        holder,
-        link,
-        side_word(side),
-        digits.format(epoch).as_bytes(),
-    )
+    let epoch = digits.format(epoch).as_bytes();
+    write_five(into, b"open", module, link, side_word(side), epoch)
 }
 
 /// Writes `take M c NUMBER VALUE`.
-fn write_take(into: &mut [u8; 128], holder: &[u8], link: &[u8], number: u32, value: u16) -> usize
-    requires holder { length holder.now ≤ 16 }
+fn write_take(into: &mut [u8; 128], module: &[u8], link: &[u8], number: u32, value: u16) -> usize
+    requires named { length «module».now ≤ 16 }
     requires link { length link.now ≤ 16 }
-    ensures { IsWritten (spaced (codes "take" ∷ holder.now ∷ link.now ∷ decimal number ∷ decimal value ∷ []))
+    ensures { IsWritten (spaced (codes "take" ∷ «module».now ∷ link.now ∷ decimal number ∷ decimal value ∷ []))
         into.old result into.new }
 {
     let mut first = Buffer::new();
     let mut second = Buffer::new();
     let number = first.format(number).as_bytes();
-    write_five(
-        into,
-        b"take",
-        holder,
-        link,
-        number,
-        second.format(value).as_bytes(),
-    )
+    let value = second.format(value).as_bytes();
+    write_five(into, b"take", module, link, number, value)
 }
 
 /// Writes `done M STATUS PIECES`.
-fn write_done(into: &mut [u8; 128], holder: &[u8], status: u16, pieces: u16) -> usize
-    requires { length holder.now ≤ 16 }
-    ensures { IsWritten (spaced (codes "done" ∷ holder.now ∷ decimal status ∷ decimal pieces ∷ [])) into.old result into.new }
+fn write_done(into: &mut [u8; 128], module: &[u8], status: u16, pieces: u16) -> usize
+    requires { length «module».now ≤ 16 }
+    ensures { IsWritten (spaced (codes "done" ∷ «module».now ∷ decimal status ∷ decimal pieces ∷ [])) into.old result into.new }
 {
     let mut first = Buffer::new();
     let mut second = Buffer::new();
     let status = first.format(status).as_bytes();
-    write_four(
-        into,
-        b"done",
-        holder,
-        status,
-        second.format(pieces).as_bytes(),
-    )
+    let pieces = second.format(pieces).as_bytes();
+    write_four(into, b"done", module, status, pieces)
 }
 
 /// Writes `packet NUMBER LENGTH`.
@@ -202,11 +185,12 @@ fn write_packet(into: &mut [u8; 128], number: u32, len: u16) -> usize
     let mut first = Buffer::new();
     let mut second = Buffer::new();
     let number = first.format(number).as_bytes();
-    write_three(into, b"packet", number, second.format(len).as_bytes())
+    let len = second.format(len).as_bytes();
+    write_three(into, b"packet", number, len)
 }
 
 /// Writes an item's line, without a newline, at the start of the buffer, and answers how many bytes
-/// the line has. The bytes behind it stay. The item's places are below the lengths of the lists.
+/// the line has. The bytes behind it stay. The item's indices are below the lengths of the lists.
 #[tactic(auto, unfolding(crate::specs::Items::item_text))]
 pub fn write_item(names: &Names, item: &Item, into: &mut [u8; 128]) -> usize
     requires { IsNamed names.now item.now }

@@ -1,0 +1,233 @@
+-- What a text says as a line of a schedule: a line, or the first rule that it breaks.
+use Rattle.std.specs.Prelude.{◌≡◌, ℕ, ◌==◌, nat_le, Bool, false, ◌&&◌, if◌then◌else◌, List, [], ◌∷◌, length, codes, Option, Some, None, Result, Ok, Err, IsOkAnd, ok_or}
+use Rattle.std.specs.Borrow.{Bor}
+use Rattle.std.specs.Str.{bytes_eq}
+use Rattle.hex.specs.Hex.{decode_of}
+use Rattle.hex.specs.declared.error.FromHexError.{FromHexError}
+use Rattle.sx_io.specs.Numbers.{number_of}
+use Rattle.sx_trace.specs.Names.{NameLists, place_of, sensor_place}
+use Rattle.sx_sched.specs.declared.lines.Line.{Line as Read}
+use Rattle.sx_sched.specs.declared.lines.LineError.{LineError}
+use Rattle.sx_sched.specs.declared.lines.LineError.TheVariants.{Fault, OutOfMemory}
+use Rattle.sx_sched.specs.Lines.{line_of, IsLine, Line, Blank, Run, Finish, Put, Set, Take, Give, Forge, Sense, Irq, Reset, Ask, Answer, Load, Call}
+use Rattle.sx_sched.specs.Words.{words_of}
+
+-- the rules that a line may break: an unknown first word, an unknown name, no number or one that is out of range,
+-- no hexadecimal text of as many bytes as are allowed, a wrong number of words
+abbrev pub no_kind : LineError
+no_kind = Fault 3
+
+abbrev pub no_name : LineError
+no_name = Fault 4
+
+abbrev pub no_number : LineError
+no_number = Fault 5
+
+abbrev pub no_bytes : LineError
+no_bytes = Fault 6
+
+abbrev pub wrong_count : LineError
+wrong_count = Fault 7
+
+-- a broken rule, and no want of memory
+abbrev pub IsFault : LineError → Type 0
+IsFault (Fault rule) = Unit {0}
+IsFault OutOfMemory = ⊥
+
+-- the first answer, and what is made of it
+infixl 10 ◌>>=◌
+abbrev pub ◌>>=◌ : {A B : Type 0} → Result A LineError → (A → Result B LineError) → Result B LineError
+Ok x >>= f = f x
+Err e >>= f = Err e
+
+-- What one word says.
+
+-- the index of a node
+abbrev pub node_of : NameLists → List ℕ → Result ℕ LineError
+node_of n word = ok_or (place_of n.nodes word) no_name
+
+-- the index of a device that is a sensor
+abbrev pub sensor_of : NameLists → List ℕ → Result ℕ LineError
+sensor_of n word = ok_or (sensor_place n word) no_name
+
+-- the index of a module
+abbrev pub module_of : NameLists → List ℕ → Result ℕ LineError
+module_of n word = ok_or (place_of n.modules word) no_name
+
+-- the names of the registers; R3, which keeps no value, isn't set
+abbrev pub registers : List (List ℕ × ℕ)
+registers =
+    (codes "pc", 0) ∷ (codes "sp", 1) ∷ (codes "sr", 2) ∷ (codes "r0", 0) ∷ (codes "r1", 1) ∷ (codes "r2", 2) ∷ (codes "r4", 4) ∷ (codes "r5", 5)
+    ∷ (codes "r6", 6) ∷ (codes "r7", 7) ∷ (codes "r8", 8) ∷ (codes "r9", 9) ∷ (codes "r10", 10) ∷ (codes "r11", 11) ∷ (codes "r12", 12)
+    ∷ (codes "r13", 13) ∷ (codes "r14", 14) ∷ (codes "r15", 15) ∷ []
+
+-- an entry of a table as code has it
+abbrev pub entry_of : Bor (List ℕ) × ℕ → List ℕ × ℕ
+entry_of entry = (entry.0.now, entry.1)
+
+-- the number of the first entry with this name
+abbrev pub register_in : List (List ℕ × ℕ) → List ℕ → Option ℕ
+register_in [] word = None
+register_in (entry ∷ more) word = if bytes_eq word entry.0 then Some entry.1 else register_in more word
+
+-- the number of a register that can be set
+unfoldable pub register_of : List ℕ → Result ℕ LineError
+register_of word = ok_or (register_in registers word) no_name
+
+-- a number that is low or more
+abbrev pub at_least : ℕ → Option ℕ → Option ℕ
+at_least low None = None
+at_least low (Some k) = if nat_le low k then Some k else None
+
+-- a number from low to high
+abbrev pub number_in : ℕ → ℕ → List ℕ → Result ℕ LineError
+number_in low high word = ok_or (at_least low (number_of word high)) no_number
+
+abbrev pub number16 : List ℕ → Result ℕ LineError
+number16 word = number_in 0 65535 word
+
+abbrev pub number32 : List ℕ → Result ℕ LineError
+number32 word = number_in 0 4294967295 word
+
+-- 1 to so many of the bytes that were decoded
+abbrev pub decoded : ℕ → Result (List ℕ) FromHexError → Result (List ℕ) LineError
+decoded most (Err e) = Err no_bytes
+decoded most (Ok bytes) = if nat_le 1 (length bytes) && nat_le (length bytes) most then Ok bytes else Err no_bytes
+
+-- 1 to so many bytes as hexadecimal text
+abbrev pub bytes_of : ℕ → List ℕ → Result (List ℕ) LineError
+bytes_of most word = decoded most (decode_of word)
+
+-- So many words, and what they say in order.
+
+abbrev pub no_word : List (List ℕ) → Result (Unit {0}) LineError
+no_word [] = Ok tt
+no_word (a ∷ rest) = Err wrong_count
+
+abbrev pub one_word : List (List ℕ) → Result (List ℕ) LineError
+one_word [] = Err wrong_count
+one_word (a ∷ rest) = no_word rest >>= (λ none. Ok a)
+
+abbrev pub two_words : List (List ℕ) → Result (List ℕ × List ℕ) LineError
+two_words [] = Err wrong_count
+two_words (a ∷ rest) = one_word rest >>= (λ b. Ok (a, b))
+
+abbrev pub three_words : List (List ℕ) → Result (List ℕ × List ℕ × List ℕ) LineError
+three_words [] = Err wrong_count
+three_words (a ∷ rest) = two_words rest >>= (λ w. Ok (a, w.0, w.1))
+
+abbrev pub four_words : List (List ℕ) → Result (List ℕ × List ℕ × List ℕ × List ℕ) LineError
+four_words [] = Err wrong_count
+four_words (a ∷ rest) = three_words rest >>= (λ w. Ok (a, w.0, w.1, w.2))
+
+abbrev pub one : {A : Type 0} → (List ℕ → Result A LineError) → (A → Line) → List (List ℕ) → Result Line LineError
+one f make fields = do
+  word ← one_word fields
+  a ← f word
+  Ok (make a)
+
+abbrev pub two : {A B : Type 0} → (List ℕ → Result A LineError) → (List ℕ → Result B LineError)
+    → (A → B → Line) → List (List ℕ) → Result Line LineError
+two f g make fields = do
+  word ← two_words fields
+  a ← f word.0
+  b ← g word.1
+  Ok (make a b)
+
+abbrev pub three : {A B C : Type 0} → (List ℕ → Result A LineError) → (List ℕ → Result B LineError) → (List ℕ → Result C LineError)
+    → (A → B → C → Line) → List (List ℕ) → Result Line LineError
+three f g h make fields = do
+  word ← three_words fields
+  a ← f word.0
+  b ← g word.1
+  c ← h word.2
+  Ok (make a b c)
+
+abbrev pub four : {A B C D : Type 0} → (List ℕ → Result A LineError) → (List ℕ → Result B LineError) → (List ℕ → Result C LineError)
+    → (List ℕ → Result D LineError) → (A → B → C → D → Line) → List (List ℕ) → Result Line LineError
+four f g h i make fields = do
+  word ← four_words fields
+  a ← f word.0
+  b ← g word.1
+  c ← h word.2
+  d ← i word.3
+  Ok (make a b c d)
+
+-- The kinds of line: the first word, and what the words behind it say.
+
+abbrev pub Kind : Type 0
+Kind = List ℕ × (List (List ℕ) → Result Line LineError)
+
+abbrev pub plain_kinds : NameLists → List Kind
+plain_kinds n =
+    (codes "run", two (node_of n) (number_in 1 65535) Run)
+    ∷ (codes "finish", one (node_of n) Finish)
+    ∷ (codes "set", three (node_of n) register_of number16 Set)
+    ∷ (codes "take", three (node_of n) number16 (number_in 1 384) Take)
+    ∷ (codes "give", three number32 (node_of n) number16 Give)
+    ∷ (codes "sense", two (sensor_of n) (number_in 0 32767) Sense)
+    ∷ (codes "irq", two (node_of n) (number_in 0 14) Irq)
+    ∷ (codes "reset", one (node_of n) Reset)
+    ∷ (codes "ask", one (module_of n) Ask)
+    ∷ (codes "answer", three (module_of n) number32 number32 Answer)
+    ∷ (codes "load", one (module_of n) Load)
+    ∷ (codes "call", four (module_of n) number16 number16 number16 Call)
+    ∷ []
+
+abbrev pub kinds : NameLists → List Kind
+kinds n =
+    (codes "put", three (node_of n) number16 (bytes_of 1024) Put)
+    ∷ (codes "forge", one (bytes_of 384) Forge)
+    ∷ plain_kinds n
+
+-- what the kind of this first word says of the words behind it
+abbrev pub said_by : List Kind → List ℕ → List (List ℕ) → Result Line LineError
+said_by [] first fields = Err no_kind
+said_by (kind ∷ more) first fields = if bytes_eq first kind.0 then kind.1 fields else said_by more first fields
+
+-- a word that begins with `#` begins a comment
+abbrev pub is_comment : List ℕ → Bool
+is_comment [] = false
+is_comment (c ∷ cs) = c == 35
+
+-- what words say; none say nothing, as a comment does
+abbrev pub said_in : NameLists → List (List ℕ) → Result Line LineError
+said_in n [] = Ok Blank
+said_in n (first ∷ fields) = if is_comment first then Ok Blank else said_by (kinds n) first fields
+
+-- what a text says: one line, or one broken rule
+unfoldable pub said : NameLists → List ℕ → Result Line LineError
+said n text = said_in n (words_of text)
+
+-- what is said is in form
+abbrev pub SaidInForm : Type 0
+SaidInForm = (n : NameLists) (text : List ℕ) (line : Line) → said n text ≡ Ok line → IsLine n line
+
+-- an answer of the code, its line seen as such
+abbrev pub seen : Result Read LineError → Result Line LineError
+seen (Ok line) = Ok (line_of line)
+seen (Err e) = Err e
+
+-- lines whose bytes take memory
+abbrev pub TakesMemory : Line → Type 0
+TakesMemory Blank = ⊥
+TakesMemory (Run node steps) = ⊥
+TakesMemory (Finish node) = ⊥
+TakesMemory (Put node at bytes) = Unit {0}
+TakesMemory (Set node reg value) = ⊥
+TakesMemory (Take node at len) = ⊥
+TakesMemory (Give packet node at) = ⊥
+TakesMemory (Forge bytes) = Unit {0}
+TakesMemory (Sense device value) = ⊥
+TakesMemory (Irq node line) = ⊥
+TakesMemory (Reset node) = ⊥
+TakesMemory (Ask m) = ⊥
+TakesMemory (Answer m boot packet) = ⊥
+TakesMemory (Load m) = ⊥
+TakesMemory (Call m entry input output) = ⊥
+
+-- the answer is the one that is meant; memory may run out only for a value that takes some
+abbrev pub Answers : {T V : Type 0} → (T → V) → (V → Type 0) → Result V LineError → Result T LineError → Type 0
+Answers view Takes meant (Ok x) = meant ≡ Ok (view x)
+Answers view Takes meant (Err (Fault rule)) = meant ≡ Err (Fault rule)
+Answers view Takes meant (Err OutOfMemory) = IsOkAnd meant Takes

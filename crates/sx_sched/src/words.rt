@@ -1,0 +1,132 @@
+//! The words of a schedule line: the longest runs of bytes other than spaces and tabs.
+
+ghost use Rattle.std.specs.Prelude.{◌≡◌, ◌<◌, ◌≤◌, ℕ, true, false, [], ◌∷◌, length, slice_index, None, Some, MatchOption, Ok, Err, MatchResult, IfErr};
+ghost use Rattle.sx_sched.specs.Words.{is_blank, words_of};
+ghost use Rattle.sx_sched.specs.Reading.{IsFault, no_word, one_word, two_words, three_words, four_words};
+
+use crate::lines::{LineError, WRONG_COUNT};
+
+/// Whether a byte parts words.
+fn is_blank(byte: u8) -> bool
+    ensures { result ≡ is_blank byte }
+{
+    byte == b' ' || byte == b'\t'
+}
+
+/// How many blanks a text begins with.
+fn blanks_before(text: &[u8]) -> usize
+    ensures within { result ≤ length text.now }
+    ensures before { (k : ℕ) → k < result → is_blank (slice_index text.now k) ≡ true }
+    ensures first { result < length text.now → is_blank (slice_index text.now result) ≡ false }
+{
+    for (i, byte) in text.iter().enumerate() {
+        if !is_blank(*byte) {
+            return i;
+        }
+    }
+    text.len()
+}
+
+/// What follows the blanks that a text begins with.
+fn past_blanks(text: &[u8]) -> &[u8]
+    ensures words { words_of result.now ≡ words_of text.now }
+    ensures first { 0 < length result.now → is_blank (slice_index result.now 0) ≡ false }
+{
+    &text[blanks_before(text)..]
+}
+
+/// How many bytes stand before the first blank.
+fn word_length(text: &[u8]) -> usize
+    ensures within { result ≤ length text.now }
+    ensures before { (k : ℕ) → k < result → is_blank (slice_index text.now k) ≡ false }
+    ensures first { result < length text.now → is_blank (slice_index text.now result) ≡ true }
+{
+    for (i, byte) in text.iter().enumerate() {
+        if is_blank(*byte) {
+            return i;
+        }
+    }
+    text.len()
+}
+
+/// The first word and what follows it; None exactly where there is no word.
+pub fn split_word(text: &[u8]) -> Option<(&[u8], &[u8])>
+    ensures { MatchOption result (words_of text.now ≡ []) (λ split. words_of text.now ≡ split.0.now ∷ words_of split.1.now) }
+{
+    let begun = past_blanks(text);
+    if begun.is_empty() {
+        return None;
+    }
+    Some(begun.split_at(word_length(begun)))
+}
+
+/// Nothing, where there is no word left.
+fn no_word(text: &[u8]) -> Result<(), LineError>
+    ensures words { result ≡ no_word (words_of text.now) }
+    ensures fault { IfErr result IsFault }
+{
+    match split_word(text) {
+        None => Ok(()),
+        Some(_) => Err(WRONG_COUNT),
+    }
+}
+
+/// The one word.
+pub fn one_word(text: &[u8]) -> Result<&[u8], LineError>
+    ensures word { MatchResult result (λ a. one_word (words_of text.now) ≡ Ok a.now)
+        (λ e. one_word (words_of text.now) ≡ Err e) }
+    ensures fault { IfErr result IsFault }
+{
+    match split_word(text) {
+        None => Err(WRONG_COUNT),
+        Some((a, rest)) => {
+            no_word(rest)?;
+            Ok(a)
+        }
+    }
+}
+
+/// The two words.
+pub fn two_words(text: &[u8]) -> Result<(&[u8], &[u8]), LineError>
+    ensures words { MatchResult result (λ w. two_words (words_of text.now) ≡ Ok (w.0.now, w.1.now))
+        (λ e. two_words (words_of text.now) ≡ Err e) }
+    ensures fault { IfErr result IsFault }
+{
+    match split_word(text) {
+        None => Err(WRONG_COUNT),
+        Some((a, rest)) => {
+            let b = one_word(rest)?;
+            Ok((a, b))
+        }
+    }
+}
+
+/// The three words.
+pub fn three_words(text: &[u8]) -> Result<(&[u8], &[u8], &[u8]), LineError>
+    ensures words { MatchResult result (λ w. three_words (words_of text.now) ≡ Ok (w.0.now, w.1.now, w.2.now))
+        (λ e. three_words (words_of text.now) ≡ Err e) }
+    ensures fault { IfErr result IsFault }
+{
+    match split_word(text) {
+        None => Err(WRONG_COUNT),
+        Some((a, rest)) => {
+            let (b, c) = two_words(rest)?;
+            Ok((a, b, c))
+        }
+    }
+}
+
+/// The four words.
+pub fn four_words(text: &[u8]) -> Result<(&[u8], &[u8], &[u8], &[u8]), LineError>
+    ensures words { MatchResult result (λ w. four_words (words_of text.now) ≡ Ok (w.0.now, w.1.now, w.2.now, w.3.now))
+        (λ e. four_words (words_of text.now) ≡ Err e) }
+    ensures fault { IfErr result IsFault }
+{
+    match split_word(text) {
+        None => Err(WRONG_COUNT),
+        Some((a, rest)) => {
+            let (b, c, d) = three_words(rest)?;
+            Ok((a, b, c, d))
+        }
+    }
+}
