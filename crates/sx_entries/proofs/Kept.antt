@@ -6,7 +6,8 @@ use Rattle.std.proofs.lemmas.List.Folds.{list_all-append, list_any-append}
 use Rattle.std.proofs.lemmas.List.{map-append}
 use Rattle.std.proofs.lemmas.List.Quantifiers.{position-Some}
 use Rattle.std.proofs.lemmas.Slice.Eq.{bytes_eq-Decides}
-use Rattle.sx_trace.specs.Names.{has_form, has_name, no_repeat, deployer}
+use Rattle.sx_lang.specs.Form.{is_name}
+use Rattle.sx_trace.specs.Names.{has_name, no_repeat, deployer}
 use Rattle.sx_stage.specs.Stage.{in_entry}
 use Rattle.sx_stage.specs.declared.fault.Sort.{Sort}
 use Rattle.sx_entries.specs.Entries.{has_entry, fresh, place_among, not_reserved}
@@ -41,9 +42,9 @@ apart-snoc (y ∷ ys) x h n =
     let rest : no_repeat (ys ++ x ∷ []) ≡ true = apart-snoc ys x parts.1 new.1 in
     rw (first, rest) refl
 
-pub named-snoc : (names : List (List ℕ)) (x : List ℕ) → AreNamed names → has_form x ≡ true → has_name names x ≡ false → AreNamed (names ++ x ∷ [])
+pub named-snoc : (names : List (List ℕ)) (x : List ℕ) → AreNamed names → is_name x ≡ true → has_name names x ≡ false → AreNamed (names ++ x ∷ [])
 named-snoc names x h f n = record {
-  form = rw (list_all-append has_form names (x ∷ []), h.form, f) refl;
+  form = rw (list_all-append is_name names (x ∷ []), h.form, f) refl;
   apart = apart-snoc names x h.apart n;
 }
 
@@ -56,15 +57,15 @@ module _ {B : Type 0} (name_of : B → List ℕ) where
   has_entry-map (e ∷ es) name = ap (λ b. bytes_eq (name_of e) name || b) (has_entry-map es name)
 
   -- a name that is taken as new is in form, and new
-  pub fresh-new : (done : List B) (o : Option (List ℕ)) (name : List ℕ) → IsForm o → fresh name_of done o ≡ Some name → (has_form name ≡ true) × (has_name (map name_of done) name ≡ false)
+  pub fresh-new : (done : List B) (o : Option (List ℕ)) (name : List ℕ) → IsForm o → fresh name_of done o ≡ Some name → (is_name name ≡ true) × (has_name (map name_of done) name ≡ false)
   fresh-new done None name f h = absurd (cc)
   fresh-new done (Some given) name f h = by_case (has_entry name_of done given) refl h
     where
-      by_case : (b : Bool) → has_entry name_of done given ≡ b → (if b then None else Some given) ≡ Some name → (has_form name ≡ true) × (has_name (map name_of done) name ≡ false)
+      by_case : (b : Bool) → has_entry name_of done given ≡ b → (if b then None else Some given) ≡ Some name → (is_name name ≡ true) × (has_name (map name_of done) name ≡ false)
       by_case true e i = absurd (cc)
       by_case false e i =
           let same : given ≡ name = cc in
-          (subst (λ n. has_form n ≡ true) same f, subst (λ n. has_name (map name_of done) n ≡ false) same (sym (has_entry-map done given) ∙ e))
+          (subst (λ n. is_name n ≡ true) same f, subst (λ n. has_name (map name_of done) n ≡ false) same (sym (has_entry-map done given) ∙ e))
 
   -- an entry under a new name keeps the names apart
   pub entry-named : (done : List B) (o : Option (List ℕ)) (b : B) → IsForm o → fresh name_of done o ≡ Some (name_of b) → AreNamed (map name_of done) → AreNamed (map name_of (done ++ b ∷ []))

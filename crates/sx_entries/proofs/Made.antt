@@ -22,8 +22,9 @@ use Rattle.sx_entries.specs.declared.entries.ModuleEntry.{ModuleEntry}
 use Rattle.sx_entries.specs.declared.entries.LinkEntry.{LinkEntry}
 use Rattle.sx_entries.specs.declared.entries.Start.{Start}
 use Rattle.sx_entries.specs.declared.entries.Start.TheVariants as start
+use Rattle.sx_lang.specs.Words.{IsWord}
 use Rattle.sx_lang.specs.declared.tree.DeviceKind.TheVariants.{Sensor}
-use Rattle.sx_entries.proofs.RowForms.{IsForm, through, node_form, device_form, module_form, link_form, rows_each}
+use Rattle.sx_entries.proofs.RowForms.{IsForm, IsModuleRow, through, node_form, device_form, module_form, link_form, rows_each}
 use Rattle.sx_entries.proofs.Kept.{entry-named, has_name-snoc, in_entry-Ok, none_named, not_reserved-name, place-inside}
 
 -- nodes
@@ -76,10 +77,11 @@ pub record AreModules (nodes : List NodeEntry) (devices : List DeviceEntry) (don
   pub named : AreNamed (map (λ (m : ModuleEntry). m.name) done)
   pub free : has_name (map (λ (m : ModuleEntry). m.name) done) deployer ≡ false
   pub on_nodes : Each (λ (m : ModuleEntry). m.node < length nodes) done
+  pub provided : Each (λ (m : ModuleEntry). IsWord m.provider) done
   pub driving : Each (λ (m : ModuleEntry). IsThere m.start (length devices)) done
 
 module_keeps : (nodes : List NodeEntry) (devices : List DeviceEntry) (done : List ModuleEntry) (row : ModuleRow) (b : ModuleEntry)
-    → IsForm row.name → AreModules nodes devices done → module_made nodes devices done row ≡ Ok b → AreModules nodes devices (done ++ b ∷ [])
+    → IsModuleRow row → AreModules nodes devices done → module_made nodes devices done row ≡ Ok b → AreModules nodes devices (done ++ b ∷ [])
 module_keeps nodes devices done row b f p h =
     through (λ (r : ModuleEntry). AreModules nodes devices (done ++ r ∷ [])) (fresh (λ (e : ModuleEntry). e.name) done row.name) _ b (λ new e1 h1.
     through (λ (r : ModuleEntry). AreModules nodes devices (done ++ r ∷ [])) (not_reserved new) _ b (λ name e2 h2.
@@ -90,9 +92,10 @@ module_keeps nodes devices done row b f p h =
     let free = not_reserved-name new name e2 in
     let taken : fresh (λ (e : ModuleEntry). e.name) done row.name ≡ Some name = subst (λ n. fresh (λ (e : ModuleEntry). e.name) done row.name ≡ Some n) free.0 e1 in
     subst (λ (r : ModuleEntry). AreModules nodes devices (done ++ r ∷ [])) same (record {
-      named = entry-named (λ (m : ModuleEntry). m.name) done row.name one f taken p.named;
+      named = entry-named (λ (m : ModuleEntry). m.name) done row.name one f.name taken p.named;
       free = rw (map-append (λ (m : ModuleEntry). m.name) done (one ∷ [])) (has_name-snoc (map (λ (m : ModuleEntry). m.name) done) name deployer p.free free.1);
       on_nodes = each-snoc (λ (m : ModuleEntry). m.node < length nodes) done one p.on_nodes (place-inside (λ (n : NodeEntry). n.name) nodes row.node node no_node e3);
+      provided = each-snoc (λ (m : ModuleEntry). IsWord m.provider) done one p.provided f.provider;
       driving = each-snoc (λ (m : ModuleEntry). IsThere m.start (length devices)) done one p.driving (start-there devices row.start s e4);
     })) h3) h2) h1)
     (in_entry-Ok 5 Module (length done) (module_named nodes devices done row) b h)
@@ -115,7 +118,7 @@ link_keeps done row b f p h =
 pub record HaveForm (rows : RowLists) : Type 0 where
   pub nodes : Each (λ (r : NodeRow). IsForm r.name) rows.nodes
   pub devices : Each (λ (r : DeviceRow). IsForm r.name) rows.devices
-  pub modules : Each (λ (r : ModuleRow). IsForm r.name) rows.modules
+  pub modules : Each IsModuleRow rows.modules
   pub links : Each (λ (r : LinkRow). IsForm r.name) rows.links
 
 listed-form : (rows : List NodeRow) → Each (λ (r : NodeRow). IsForm r.name) rows → Each (λ (r : NodeRow). IsForm r.name) (listed rows)
@@ -139,7 +142,7 @@ forms t rows h =
     subst HaveForm same (record {
       nodes = listed-form nodes.0 (rows_each (λ (r : NodeRow). IsForm r.name) node_row Node node_form [] a.nodes nodes.0 tt nodes.1);
       devices = rows_each (λ (r : DeviceRow). IsForm r.name) device_row Device device_form [] a.devices devices.0 tt devices.1;
-      modules = rows_each (λ (r : ModuleRow). IsForm r.name) module_row Module module_form [] a.modules modules.0 tt modules.1;
+      modules = rows_each IsModuleRow module_row Module module_form [] a.modules modules.0 tt modules.1;
       links = rows_each (λ (r : LinkRow). IsForm r.name) link_row Connection link_form [] a.links links.0 tt links.1;
     })
 
@@ -154,8 +157,8 @@ entries_keep t rows e read made =
     let same : all ≡ e = cc in
     let of_nodes = made-each (λ (r : NodeRow). IsForm r.name) AreNodes node_made node_keeps [] rows.nodes nodes.0 f.nodes none_named nodes.1 in
     let of_devices = made-each (λ (r : DeviceRow). IsForm r.name) (AreDevices nodes.0) (device_made nodes.0) (device_keeps nodes.0) [] rows.devices devices.0 f.devices (none_named, tt) devices.1 in
-    let of_modules = made-each (λ (r : ModuleRow). IsForm r.name) (AreModules nodes.0 devices.0) (module_made nodes.0 devices.0) (module_keeps nodes.0 devices.0) [] rows.modules modules.0 f.modules
-    (record { named = none_named; free = refl; on_nodes = tt; driving = tt }) modules.1 in
+    let of_modules = made-each IsModuleRow (AreModules nodes.0 devices.0) (module_made nodes.0 devices.0) (module_keeps nodes.0 devices.0) [] rows.modules modules.0 f.modules
+    (record { named = none_named; free = refl; on_nodes = tt; provided = tt; driving = tt }) modules.1 in
     let of_links = made-each (λ (r : LinkRow). IsForm r.name) AreLinks link_made link_keeps [] rows.links links.0 f.links none_named links.1 in
     subst AreEntries same (record {
       nodes = of_nodes;
@@ -165,5 +168,6 @@ entries_keep t rows e read made =
       no_deployer = of_modules.free;
       device_nodes = all-each (λ (d : DeviceEntry). d.node < length nodes.0) devices.0 of_devices.1;
       module_nodes = all-each (λ (m : ModuleEntry). m.node < length nodes.0) modules.0 of_modules.on_nodes;
+      module_providers = all-each (λ (m : ModuleEntry). IsWord m.provider) modules.0 of_modules.provided;
       module_devices = all-each (λ (m : ModuleEntry). IsThere m.start (length devices.0)) modules.0 of_modules.driving;
     })

@@ -1,11 +1,14 @@
 -- The names of rows that are read are in form.
-use Rattle.std.proofs.Common.{◌≡◌, ℕ, Bool, true, false, codes, if◌then◌else◌, List, [], ◌∷◌, ◌++◌, length, Option, Some, None, option_map, option_and_then, Ok, refl, subst}
-use Rattle.toml.specs.Data.{Members, Items, no_items, item, as_table}
-use Rattle.sx_trace.specs.Names.{has_form}
+use Rattle.std.proofs.Common.{◌≡◌, ℕ, Bool, true, false, codes, if◌then◌else◌, nat_lt, List, [], ◌∷◌, ◌++◌, length, Option, Some, None, option_map, option_and_then, Ok, refl, subst}
+use Rattle.std.specs.Prelude.{ℤ, pos, negsuc}
+use Rattle.std.proofs.lemmas.Bool.{ltb-true}
+use Rattle.toml.specs.Data.{Members, Items, no_items, item, as_integer, as_table, get_member}
+use Rattle.sx_lang.specs.Words.{IsWord}
+use Rattle.sx_lang.specs.Form.{is_name}
 use Rattle.sx_stage.specs.Stage.{in_entry}
 use Rattle.sx_stage.proofs.Each.{Each, each-snoc, bind-Ok}
 use Rattle.sx_stage.specs.declared.fault.Sort.{Sort}
-use Rattle.sx_entries.specs.Fields.{name_of, name_at, text_at, key_at, word_at, has_only}
+use Rattle.sx_entries.specs.Fields.{name_of, name_at, text_at, key_at, word_at, word_of, has_only}
 use Rattle.sx_entries.specs.Rows.{holds, node_row, device_row, module_row, link_row, kind_at, start_row, end_at}
 use Rattle.sx_entries.specs.Arrays.{made_in}
 use Rattle.sx_entries.specs.declared.rows.NodeRow.{NodeRow}
@@ -16,12 +19,12 @@ use Rattle.sx_entries.specs.declared.rows.LinkRow.{LinkRow}
 -- a name that is kept is in form
 abbrev pub IsForm : Option (List ℕ) → Type 0
 IsForm None = Unit {0}
-IsForm (Some name) = has_form name ≡ true
+IsForm (Some name) = is_name name ≡ true
 
 name_of-form : (text : List ℕ) → IsForm (name_of text)
-name_of-form text = by_case (has_form text) refl
+name_of-form text = by_case (is_name text) refl
   where
-    by_case : (b : Bool) → has_form text ≡ b → IsForm (if b then Some text else None)
+    by_case : (b : Bool) → is_name text ≡ b → IsForm (if b then Some text else None)
     by_case true h = h
     by_case false h = tt
 
@@ -55,17 +58,33 @@ device_form t row h =
     let same : record { name = name; node = node; kind = kind; at = at } ≡ row = cc in
     subst (λ (r : DeviceRow). IsForm r.name) same (name_at-form (codes "name") t name e2)) h4) h3) h2) h1) h
 
-pub module_form : (t : Members) (row : ModuleRow) → module_row t ≡ Some row → IsForm row.name
+word_of-word : (z : ℤ) (n : ℕ) → word_of z ≡ Some n → IsWord n
+word_of-word (negsuc k) n h = absurd (cc)
+word_of-word (pos k) n h = by_case (nat_lt k 65536) refl h
+  where
+    by_case : (b : Bool) → nat_lt k 65536 ≡ b → (if b then Some k else None) ≡ Some n → IsWord n
+    by_case true e i = let same : k ≡ n = cc in subst IsWord same (ltb-true k 65536 e)
+    by_case false e i = absurd (cc)
+
+word_at-word : (key : List ℕ) (t : Members) (n : ℕ) → word_at key t ≡ Some n → IsWord n
+word_at-word key t n h = through IsWord (option_and_then as_integer (get_member key t)) word_of n (λ z e i. word_of-word z n i) h
+
+-- a module's name is in form, and its provider is a word
+pub record IsModuleRow (r : ModuleRow) : Type 0 where
+  pub name : IsForm r.name
+  pub provider : IsWord r.provider
+
+pub module_form : (t : Members) (row : ModuleRow) → module_row t ≡ Some row → IsModuleRow row
 module_form t row h =
-    through (λ (r : ModuleRow). IsForm r.name) (holds (has_only (codes "name" ∷ codes "node" ∷ codes "provider" ∷ codes "text" ∷ codes "data" ∷ codes "device" ∷ codes "source" ∷ []) t)) _ row (λ known e1 h1.
-    through (λ (r : ModuleRow). IsForm r.name) (name_at (codes "name") t) _ row (λ name e2 h2.
-    through (λ (r : ModuleRow). IsForm r.name) (name_at (codes "node") t) _ row (λ node e3 h3.
-    through (λ (r : ModuleRow). IsForm r.name) (word_at (codes "provider") t) _ row (λ provider e4 h4.
-    through (λ (r : ModuleRow). IsForm r.name) (word_at (codes "text") t) _ row (λ text e5 h5.
-    through (λ (r : ModuleRow). IsForm r.name) (start_row t) _ row (λ start e6 h6.
-    through (λ (r : ModuleRow). IsForm r.name) (text_at (codes "source") t) _ row (λ source e7 h7.
+    through IsModuleRow (holds (has_only (codes "name" ∷ codes "node" ∷ codes "provider" ∷ codes "text" ∷ codes "data" ∷ codes "device" ∷ codes "source" ∷ []) t)) _ row (λ known e1 h1.
+    through IsModuleRow (name_at (codes "name") t) _ row (λ name e2 h2.
+    through IsModuleRow (name_at (codes "node") t) _ row (λ node e3 h3.
+    through IsModuleRow (word_at (codes "provider") t) _ row (λ provider e4 h4.
+    through IsModuleRow (word_at (codes "text") t) _ row (λ text e5 h5.
+    through IsModuleRow (start_row t) _ row (λ start e6 h6.
+    through IsModuleRow (text_at (codes "source") t) _ row (λ source e7 h7.
     let same : record { name = name; node = node; provider = provider; text = text; start = start; source = source } ≡ row = cc in
-    subst (λ (r : ModuleRow). IsForm r.name) same (name_at-form (codes "name") t name e2)) h6) h5) h4) h3) h2) h1) h
+    subst IsModuleRow same (record { name = name_at-form (codes "name") t name e2; provider = word_at-word (codes "provider") t provider e4 })) h6) h5) h4) h3) h2) h1) h
 
 pub link_form : (t : Members) (row : LinkRow) → link_row t ≡ Some row → IsForm row.name
 link_form t row h =

@@ -5,7 +5,7 @@ use Rattle.std.specs.Result.{result_ok}
 use Rattle.std.specs.Str.{bytes_eq}
 use Rattle.hex.specs.Hex.{decode_sized}
 use Rattle.toml.specs.Data.{Members, no_members, member, get_member, as_str, as_integer}
-use Rattle.sx_trace.specs.Names.{has_form}
+use Rattle.sx_lang.specs.Form.{is_name}
 
 -- the text at a key
 abbrev pub text_at : List ℕ → Members → Option (List ℕ)
@@ -13,7 +13,7 @@ text_at key t = option_and_then as_str (get_member key t)
 
 -- the name that a text is
 abbrev pub name_of : List ℕ → Option (List ℕ)
-name_of text = if has_form text then Some text else None
+name_of text = if is_name text then Some text else None
 
 -- the name at a key: Some None where the text isn't a name
 abbrev pub name_at : List ℕ → Members → Option (Option (List ℕ))

@@ -2,7 +2,9 @@
 use Rattle.std.specs.Prelude.{◌≡◌, ℕ, ◌<◌, true, false, List, length, map, All, Ok}
 use Rattle.std.specs.List.{list_all}
 use Rattle.toml.specs.Data.{Members}
-use Rattle.sx_trace.specs.Names.{has_form, has_name, no_repeat, deployer}
+use Rattle.sx_lang.specs.Words.{IsWord}
+use Rattle.sx_lang.specs.Form.{is_name}
+use Rattle.sx_trace.specs.Names.{has_name, no_repeat, deployer}
 use Rattle.sx_entries.specs.Arrays.{RowLists, rows_of}
 use Rattle.sx_entries.specs.Entries.{EntryLists, entries_of}
 use Rattle.sx_entries.specs.declared.entries.Start.{Start}
@@ -10,7 +12,7 @@ use Rattle.sx_entries.specs.declared.entries.Start.TheVariants as start
 
 -- each name is in form, and none stands twice
 pub record AreNamed (names : List (List ℕ)) : Type 0 where
-  pub form : list_all has_form names ≡ true
+  pub form : list_all is_name names ≡ true
   pub apart : no_repeat names ≡ true
 
 -- where a module drives a device, it is one of so many
@@ -26,6 +28,7 @@ pub record AreEntries (e : EntryLists) : Type 0 where
   pub no_deployer : has_name (map (λ m. m.name) e.modules) deployer ≡ false
   pub device_nodes : All (λ d. d.node < length e.nodes) e.devices
   pub module_nodes : All (λ m. m.node < length e.nodes) e.modules
+  pub module_providers : All (λ m. IsWord m.provider) e.modules
   pub module_devices : All (λ m. IsThere m.start (length e.devices)) e.modules
 
 -- what is read keeps this

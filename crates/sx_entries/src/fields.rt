@@ -7,8 +7,7 @@ ghost use Rattle.sx_entries.specs.Fields.{has_only, key_at, knows, name_at, name
 
 use hex::FromHex;
 use std::marker::Model;
-use sx_lang::names::Name;
-use sx_trace::names::has_form;
+use sx_lang::names::{Name, has_form};
 use toml::{Table, Value};
 
 /// The value at a key.
@@ -69,6 +68,7 @@ pub fn source_at<'a>(table: &'a Table, key: &str) -> Option<Source<'a>>
 }
 
 /// The name that a text is.
+#[tactic(auto, using(sx_lang::proofs::Form::name_size))]
 pub fn name_of(text: &[u8]) -> Option<Name>
     ensures { result ≡ name_of text.now }
 {

@@ -3,7 +3,8 @@
 
 ghost use Rattle.sx_entries.specs.Law.{EntriesKeep};
 
-/// Names are in form and apart, no module is named `deployer`, and what an entry names is there.
+/// Names are in form and apart, no module is named `deployer`, what an entry names is there, and providers
+/// are 16-bit words.
 pub fn entries_keep()
     ensures { EntriesKeep }
 {}
