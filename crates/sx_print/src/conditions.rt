@@ -1,43 +1,15 @@
 //! Which modules can be printed.
 
 ghost use Rattle.std.specs.Prelude.{◌≡◌, ℕ, ◌≤◌, ◌&&◌, length, map, nat_le};
-ghost use Rattle.std.specs.List.{list_all};
 ghost use Rattle.sx_lang.specs.View.{block_of, expression_of, handler_of, module_of, statement_of};
-ghost use Rattle.sx_lex.specs.Words.{is_name, is_name_byte};
 ghost use Rattle.sx_print.specs.Printable.{block_open, block_plain, declaration_plain, declarations_plain, expression_open, expression_plain, handler_plain, handlers_open, handlers_plain, input_plain, is_plain, is_printable, module_open, module_plain, statement_open, statement_plain};
 
-use sx_lang::names::Name;
+use sx_lang::names::{Name, has_form};
 use sx_lang::tree::{Decl, Expr, Handler, Module, Stmt};
 use sx_lex::quoted::keyword;
 
 /// How many brackets and unary operators may be open at a time.
 const MOST_OPEN: u8 = 48;
-
-fn is_of_name(byte: u8) -> bool
-    ensures { result ≡ is_name_byte byte }
-{
-    byte.is_ascii_lowercase() || byte.is_ascii_digit() || byte == b'_'
-}
-
-fn are_of_name(bytes: &[u8]) -> bool
-    ensures { result ≡ list_all is_name_byte bytes.now }
-{
-    for byte in bytes {
-        if !is_of_name(*byte) {
-            return false;
-        }
-    }
-    true
-}
-
-fn has_form(word: &[u8]) -> bool
-    ensures { result ≡ is_name word.now }
-{
-    let Some((first, rest)) = word.split_first() else {
-        return false;
-    };
-    first.is_ascii_lowercase() && are_of_name(rest) && rest.len() <= 15
-}
 
 /// The name has the form of one, and is none of the language's own words.
 fn is_plain(x: &Name) -> bool
