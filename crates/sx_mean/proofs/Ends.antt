@@ -1,17 +1,15 @@
 -- The ends of a part: their number, their order, and in a valid application their ports.
-use Rattle.std.proofs.Common.{◌≡◌, ℕ, zero, suc, ◌+◌, ◌-◌, ◌<◌, ◌≤◌, ◌⊎◌, inl, inr, ◌==◌, Bool, true, false, ◌||◌, ◌&&◌, not, cond, if◌then◌else◌, List, [], ◌∷◌, length, Some, None, Option, slice_get, nat_lt, count_by, refl, sym, ap, ◌∙◌, subst, arith}
-use Rattle.std.specs.List.{list_any, cons_option, All, AllPairs}
-use Rattle.std.proofs.lemmas.Bool.{ltb-false, ltb-true, eqb-true}
-use Rattle.std.proofs.lemmas.Bool.Decides.{nat_tests}
+use Rattle.std.proofs.Common.{◌≡◌, ℕ, ◌+◌, ◌<◌, ◌≤◌, inl, inr, ◌==◌, Bool, true, false, ◌&&◌, cond, if◌then◌else◌, List, [], ◌∷◌, length, Some, None, slice_get, count_by, refl, sym, ap, ◌∙◌, subst, arith}
+use Rattle.std.specs.List.{cons_option, All, AllPairs}
+use Rattle.std.proofs.lemmas.Bool.{eqb-true}
 use Rattle.std.proofs.lemmas.List.Elements.{All-nil, All-cons, All-head, All-tail, All-weaker}
 use Rattle.std.proofs.lemmas.List.Kept.{AllPairs-cons}
 use Rattle.std.proofs.lemmas.List.Sums.{sum_by-cons}
-use Rattle.sx_lang.specs.declared.tree.Decl.{Decl}
 use Rattle.sx_lang.specs.declared.sides.Side.TheVariants.{From, To}
 use Rattle.sx_lang.specs.Tree.{ModuleTree}
 use Rattle.sx_mean.specs.declared.apps.Link.{Link}
 use Rattle.sx_mean.specs.declared.events.End.{End}
-use Rattle.sx_mean.specs.Application.{AppTree, PartTree, ends_from, ends_to, has_port, is_loose, is_overloaded, is_port, is_stray, is_too_large, is_valid, is_wrong, any_part, leaves, links_from, sends_too_much}
+use Rattle.sx_mean.specs.Application.{AppTree, PartTree, ends_from, ends_to, has_port, is_port, is_valid, leaves, links_from}
 use Rattle.sx_mean.specs.Valid.{IsTied}
 use Rattle.sx_mean.specs.Ends.{AreCounted, AreEnds, IsBefore, ends_after, ends_of, is_sending, ports_of, senders}
 use Rattle.sx_mean.proofs.Valid.{port_of_part, valid_applications}

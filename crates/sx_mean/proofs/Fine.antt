@@ -1,5 +1,5 @@
 -- What an accepted module's handlers give code that is made from them.
-use Rattle.std.proofs.Common.{◌≡◌, ℕ, ◌+◌, ◌≤◌, ◌⊎◌, inl, inr, Bool, true, false, ◌||◌, if◌then◌else◌, List, [], ◌∷◌, Option, Some, None, cond, count_by, refl, sym, ap, subst, arith}
+use Rattle.std.proofs.Common.{◌≡◌, ℕ, ◌≤◌, inl, inr, Bool, true, false, ◌||◌, if◌then◌else◌, List, [], ◌∷◌, Option, Some, None, cond, count_by, refl, ap, subst, arith}
 use Rattle.std.specs.List.{find, list_any}
 use Rattle.std.proofs.lemmas.List.Sums.{sum_by-cons}
 use Rattle.sx_lang.specs.declared.tree.Decl.{Decl}
@@ -10,7 +10,7 @@ use Rattle.sx_lang.specs.Sizes.{handler_cost, handlers_cost}
 use Rattle.sx_lang.specs.Words.{BlockHasWords, HandlersHaveWords}
 use Rattle.sx_check.specs.Names.{is_actuator, is_device, is_sensor}
 use Rattle.sx_check.specs.Rules.{first_broken}
-use Rattle.sx_check.specs.Uses.{block_uses, input_uses}
+use Rattle.sx_check.specs.Uses.{input_uses}
 use Rattle.sx_check.proofs.Keeps.{In}
 use Rattle.sx_check.proofs.Accepted.{accepted, fine}
 use Rattle.sx_mean.specs.Application.{declared_kind}

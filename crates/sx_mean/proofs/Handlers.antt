@@ -7,7 +7,7 @@ use Rattle.sx_check.specs.Names.{same_input}
 use Rattle.sx_mean.specs.declared.events.SourceEvent.{SourceEvent}
 use Rattle.sx_mean.specs.declared.events.SourceEvent.TheVariants as event
 use Rattle.sx_mean.specs.React.{handler_at, handler_of_name, input_names, nth}
-use Rattle.sx_mean.specs.Handlers.{IsNumbered, handler_number, number_of, number_of_name}
+use Rattle.sx_mean.specs.Handlers.{IsNumbered, number_of, number_of_name}
 
 -- what is found, by its place from j on
 abbrev IsFound : List HandlerTree → ℕ → Option HandlerTree → Option ℕ → Type 0

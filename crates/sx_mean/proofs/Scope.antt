@@ -1,5 +1,5 @@
 -- Locals by their index in scope, and the scope that a run keeps.
-use Rattle.std.proofs.Common.{◌≡◌, ℕ, zero, suc, ◌+◌, ◌==◌, Bool, true, false, ◌||◌, not, cond, if◌then◌else◌, List, [], ◌∷◌, ◌++◌, length, take, nat_lt, Option, Some, None, refl, sym, ap, ◌∙◌, arith, append_assoc}
+use Rattle.std.proofs.Common.{◌≡◌, ℕ, zero, suc, ◌+◌, ◌==◌, Bool, true, false, ◌||◌, not, cond, if◌then◌else◌, List, [], ◌∷◌, ◌++◌, length, take, nat_lt, Some, None, refl, sym, ap, ◌∙◌, arith, append_assoc}
 use Rattle.std.specs.Prelude.{option_map, slice_get, slice_set}
 use Rattle.std.proofs.Math.Seq.{take-append_seam}
 use Rattle.std.proofs.lemmas.Bool.{lt-ltb, le-ltb, ltb-false, ltb-true}
@@ -12,7 +12,7 @@ use Rattle.sx_check.specs.Uses.{is_seen}
 use Rattle.sx_check.proofs.Distinct.{same-true}
 use Rattle.sx_mean.specs.declared.moments.Local.{Local}
 use Rattle.sx_mean.specs.Places.{place, array_length}
-use Rattle.sx_mean.specs.Meaning.{State, after_block, after_statement, assign, assign_element, forget, in_block, local_place, look_up, new_local, times, value}
+use Rattle.sx_mean.specs.Meaning.{State, after_block, after_statement, assign, assign_element, forget, local_place, look_up, new_local, times, value}
 use Rattle.sx_mean.specs.Scope.{IsIndexed, KeepsScope, index_of, names_of}
 
 pub length-names : (ls : List Local) → length (names_of ls) ≡ length ls

@@ -1,15 +1,15 @@
 -- The cells of variables and elements, and the names and numbers of a handler.
-use Rattle.std.proofs.Common.{◌≡◌, ℕ, zero, suc, ◌+◌, ◌<◌, ◌≤◌, ◌⊎◌, inl, inr, Bool, true, false, ◌||◌, ◌&&◌, not, cond, if◌then◌else◌, List, [], ◌∷◌, ◌++◌, length, get_or, nat_lt, count_by, replicate, Some, None, refl, sym, ap, ◌∙◌, subst, arith}
+use Rattle.std.proofs.Common.{◌≡◌, ℕ, zero, suc, ◌+◌, ◌<◌, ◌≤◌, inl, inr, Bool, true, false, ◌||◌, cond, if◌then◌else◌, List, [], ◌∷◌, ◌++◌, length, get_or, nat_lt, count_by, replicate, refl, sym, ap, ◌∙◌, arith}
 use Rattle.std.specs.List.{list_any, All}
 use Rattle.std.proofs.Math.ListN.{get_or-append}
-use Rattle.std.proofs.lemmas.Bool.{ltb-false, ltb-true}
+use Rattle.std.proofs.lemmas.Bool.{ltb-true}
 use Rattle.std.proofs.lemmas.List.{get_or-append-add, length-replicate}
 use Rattle.std.proofs.lemmas.List.Elements.{All-nil, All-cons, All-head, All-tail}
 use Rattle.std.proofs.lemmas.List.Sums.{sum_by-cons}
 use Rattle.sx_lang.specs.declared.tree.Decl.{Decl}
 use Rattle.sx_lang.specs.declared.tree.Decl.TheVariants.{Device, Input, Output, Var, Array}
 use Rattle.sx_lang.specs.Tree.{Expression, Constant, Variable, Indexed, Applied, Combined, Statement, Defines, Assigns, Stores, Chooses, Repeats, Sends, Emits, Block, Done, Then}
-use Rattle.sx_lang.specs.Sizes.{declaration_cells, declared_cells}
+use Rattle.sx_lang.specs.Sizes.{declaration_cells}
 use Rattle.sx_lang.specs.Words.{AreWords, BlockHasWords, DeclHasWords, DeclsHaveWords, HasWords, IsWord}
 use Rattle.sx_check.specs.declared.declared.Role.TheVariants.{Word}
 use Rattle.sx_check.specs.Names.{same, declares, defined}
@@ -17,7 +17,6 @@ use Rattle.sx_check.specs.Bounds.{statement_emits, block_emits}
 use Rattle.sx_check.specs.Uses.{Use, used, expression_uses, statement_uses, block_uses, declares_as}
 use Rattle.sx_check.specs.Accepted.{IsProper}
 use Rattle.sx_mean.specs.Places.{place, initial_cells, first_cells, array_length, own_length}
-use Rattle.sx_mean.specs.Scope.{index_of}
 use Rattle.sx_mean.specs.Variables.{FineBlock, FineExpression, FineStatement, IsElement, IsKnown, IsVariable, first_value, own_value}
 use Rattle.sx_mean.proofs.Scope.{seen_index}
 
