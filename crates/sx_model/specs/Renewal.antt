@@ -1,0 +1,58 @@
+-- Epochs: which connections an attestation renews, and which ends open and take in an epoch.
+use Rattle.std.specs.Prelude.{ℕ, ◌+◌, ◌==◌, ◌&&◌, ◌||◌, nat_lt, nat_le, not, Bool, true, false, if◌then◌else◌, List, [], ◌∷◌, slice_index, Option, Some, None}
+use Rattle.sx_mean.specs.declared.apps.Link.{Link}
+use Rattle.sx_model.specs.State.{EndView, Attestation}
+
+-- the module is at an end of the connection
+abbrev pub is_of : ℕ → Link → Bool
+is_of m l = (l.from == m) || (l.to == m)
+
+-- the epochs with those of the module's connections raised by one
+abbrev pub raised : ℕ → List Link → List ℕ → List ℕ
+raised m [] es = es
+raised m (l ∷ ls) [] = []
+raised m (l ∷ ls) (e ∷ es) = (if is_of m l then e + 1 else e) ∷ raised m ls es
+
+-- one of the module's connections has the last epoch
+abbrev pub is_spent : ℕ → List Link → List ℕ → Bool
+is_spent m [] es = false
+is_spent m (l ∷ ls) [] = false
+is_spent m (l ∷ ls) (e ∷ es) = (is_of m l && nat_le 255 e) || is_spent m ls es
+
+-- a module that was last attested at a boot, if any, may be attested at this one
+abbrev pub may_attest : ℕ → List Link → List ℕ → Option ℕ → ℕ → Bool
+may_attest m ls es None b = true
+may_attest m ls es (Some last) b = nat_lt last b && not (is_spent m ls es)
+
+-- the epochs behind it: where it was attested before, its connections are renewed
+abbrev pub renewed : ℕ → List Link → Option ℕ → List ℕ → List ℕ
+renewed m ls None es = es
+renewed m ls (Some last) es = raised m ls es
+
+-- the boot of an attestation, if any
+abbrev pub boot_of : Option Attestation → Option ℕ
+boot_of None = None
+boot_of (Some a) = Some a.boot
+
+-- a closed end, or one that is open with a lower epoch, opens
+abbrev pub is_below : Option ℕ → ℕ → Bool
+is_below None epoch = true
+is_below (Some old) epoch = nat_lt old epoch
+
+-- the end as it opens in the epoch, with the first number to be taken
+abbrev pub opens : ℕ → EndView → Option EndView
+opens epoch view = if is_below view.epoch epoch then Some (record { epoch = Some epoch; next = 0 }) else None
+
+-- a module so attested may open an end of the connection with the epoch
+abbrev pub may_open : Option Attestation → ℕ → ℕ → ℕ → ℕ → Bool
+may_open None boot c epoch now = false
+may_open (Some a) boot c epoch now = (a.boot == boot) && (nat_le (slice_index a.floors c) epoch && nat_le epoch now)
+
+-- the end is open with this epoch
+abbrev pub is_at : Option ℕ → ℕ → Bool
+is_at None b = false
+is_at (Some a) b = a == b
+
+-- a receiving end that is open with the epoch takes the n-th word
+abbrev pub takes : ℕ → ℕ → EndView → Option EndView
+takes epoch n view = if is_at view.epoch epoch && nat_le view.next n then Some (record { epoch = view.epoch; next = n + 1 }) else None

@@ -1,0 +1,254 @@
+-- Which items the source allows, and what each makes of its state: none where it isn't allowed.
+use Rattle.std.specs.Prelude.{ℕ, ◌+◌, ◌*◌, ◌/◌, ◌%◌, ◌==◌, ◌&&◌, ◌||◌, nat_le, not, Bool, true, false, if◌then◌else◌, List, [], ◌∷◌, ◌++◌, map, slice_get, slice_set, slice_index, Option, Some, None, is_some, is_none, option_and_then}
+use Rattle.std.specs.List.{list_any}
+use Rattle.sx_lang.specs.Tree.{ModuleTree}
+use Rattle.sx_lang.specs.declared.tree.DeviceKind.{DeviceKind}
+use Rattle.sx_lang.specs.declared.tree.DeviceKind.TheVariants.{Sensor, Actuator}
+use Rattle.sx_lang.specs.declared.sides.Side.{Side}
+use Rattle.sx_lang.specs.declared.sides.Side.TheVariants.{From, To}
+use Rattle.sx_mean.specs.Places.{initial_cells}
+use Rattle.sx_mean.specs.declared.apps.AppDevice.{AppDevice}
+use Rattle.sx_mean.specs.declared.apps.Link.{Link}
+use Rattle.sx_mean.specs.declared.events.End.{End}
+use Rattle.sx_mean.specs.declared.events.SourceEvent.{SourceEvent}
+use Rattle.sx_mean.specs.declared.events.SourceEvent.TheVariants as event
+use Rattle.sx_trace.specs.declared.items.Item.{Item}
+use Rattle.sx_trace.specs.declared.items.Item.TheVariants.{Reset, Protect, Sense, Read, Drain, Ask, Attested, Denied, Vouch, Open, Take, Out, Raw, Done, Packet, Forged, Busy, Skip, Budget}
+use Rattle.sx_mean.specs.Application.{PartTree, AppTree}
+use Rattle.sx_mean.specs.Ends.{ends_of}
+use Rattle.sx_model.specs.State.{Reading, EndView, Pending, Present, Vouched, Attestation, Standing, Model}
+use Rattle.sx_model.specs.Renewal.{may_attest, renewed, boot_of, opens, may_open, takes}
+use Rattle.sx_model.specs.Reaction.{Flow, flow_of, after_event}
+
+-- where the first is some value, the second of it
+infixr 10 ◌>>?◌
+abbrev pub ◌>>?◌ : {A B : Type 0} → Option A → (A → Option B) → Option B
+o >>? f = option_and_then f o
+
+-- the state, where the test holds
+abbrev pub given : Bool → Model → Option Model
+given b s = if b then Some s else None
+
+-- the state with another standing of a module
+abbrev pub with_standing : Model → ℕ → Standing → Model
+with_standing s m x = record s { modules = slice_set s.modules m x }
+
+-- the state with another module at its node
+abbrev pub with_present : Model → ℕ → Standing → Present → Model
+with_present s m x p = with_standing s m (record x { present = Some p })
+
+-- the state with another reading of a device
+abbrev pub with_device : Model → ℕ → Reading → Model
+with_device s d r = record s { devices = slice_set s.devices d r }
+
+-- the kind is a sensor's
+abbrev pub is_sensor : DeviceKind → Bool
+is_sensor Sensor = true
+is_sensor Actuator = false
+
+-- the module is present, and nothing is pending
+abbrev pub idle : Standing → Option Present
+idle x = x.present >>? (λ p. if is_none p.pending then Some p else None)
+
+-- the module with another pending event, or with none
+abbrev pub with_pending : Present → Option Pending → Present
+with_pending p pending = record p { pending = pending }
+
+-- the part drives the device
+abbrev pub drives : Option ℕ → ℕ → Bool
+drives None d = false
+drives (Some x) d = x == d
+
+-- no driver of the device is present
+abbrev pub undriven : List PartTree → List Standing → ℕ → Bool
+undriven [] xs d = true
+undriven (q ∷ qs) [] d = true
+undriven (q ∷ qs) (x ∷ xs) d = not (drives q.device d && is_some x.present) && undriven qs xs d
+
+-- the node's modules are absent
+abbrev pub absent_at : ℕ → List PartTree → List Standing → List Standing
+absent_at n [] xs = xs
+absent_at n (q ∷ qs) [] = []
+absent_at n (q ∷ qs) (x ∷ xs) =
+    (if q.node == n then record x { present = None } else x) ∷ absent_at n qs xs
+
+-- the node's devices aren't fresh
+abbrev pub stale_at : ℕ → List AppDevice → List Reading → List Reading
+stale_at n [] rs = rs
+stale_at n (d ∷ ds) [] = []
+stale_at n (d ∷ ds) (r ∷ rs) = (if d.node == n then record r { fresh = false } else r) ∷ stale_at n ds rs
+
+-- a node is reset: its modules are absent, its sensors aren't fresh, and its boot rises
+abbrev pub reset_at : AppTree → Model → ℕ → ℕ → Model
+reset_at app s n boot = record s {
+  boots = slice_set s.boots n (boot + 1);
+  devices = stale_at n app.devices s.devices;
+  modules = absent_at n app.parts s.modules;
+}
+
+-- a module as it begins
+abbrev pub first_present : ModuleTree → List End → Present
+first_present tree es = record { cells = initial_cells tree.decls; ends = map (λ e. record { epoch = None; next = 0 }) es; pending = None }
+
+-- an absent module of the node is protected, or other code
+abbrev pub protected_as : AppTree → Model → ℕ → Option ℕ → Option Model
+protected_as app s n None = Some s
+protected_as app s n (Some m) =
+    slice_get app.parts m >>? (λ q. slice_get s.modules m >>? (λ x.
+    given ((q.node == n) && is_none x.present) (with_present s m x (first_present q.tree (ends_of app m)))))
+
+-- a sensor gets a value
+abbrev pub sensed : AppTree → Model → ℕ → ℕ → Option Model
+sensed app s d v = slice_get app.devices d >>? (λ w. given (is_sensor w.kind) (with_device s d (record { value = v; fresh = true })))
+
+-- the module reacts to an event
+abbrev pub reacts : AppTree → Model → ℕ → PartTree → Standing → Present → SourceEvent → Model
+reacts app s m q x p e =
+    let f = flow_of q.tree (ends_of app m) e p s.sent in
+    record (with_present s m x (after_event q.tree e f p)) { sent = f.sent }
+
+-- the reading is fresh, with this value
+abbrev pub is_fresh_with : ℕ → Reading → Bool
+is_fresh_with v r = r.fresh && (r.value == v)
+
+-- the device's kind is so
+abbrev pub kind_is : (DeviceKind → Bool) → Option AppDevice → Bool
+kind_is test None = false
+kind_is test (Some w) = test w.kind
+
+-- a driver takes its sensor's fresh value, and reacts to it
+abbrev pub has_read : AppTree → Model → ℕ → ℕ → Option Model
+has_read app s m v =
+    slice_get app.parts m >>? (λ q. slice_get s.modules m >>? (λ x. idle x >>? (λ p. q.device >>? (λ d. slice_get s.devices d >>? (λ r.
+    given (kind_is is_sensor (slice_get app.devices d) && is_fresh_with v r)
+    (reacts app (with_device s d (record r { fresh = false })) m q x p (event.Sample v)))))))
+
+-- other code takes a sensor's fresh value, while no driver of it is present
+abbrev pub drained : AppTree → Model → ℕ → Option Model
+drained app s d =
+    slice_get s.devices d >>? (λ r.
+    given (r.fresh && (kind_is is_sensor (slice_get app.devices d) && undriven app.parts s.modules d))
+    (with_device s d (record r { fresh = false })))
+
+-- the deployer asks a module; the challenge is the number of asks before
+abbrev pub asked_of : Model → ℕ → ℕ → Option Model
+asked_of s m a =
+    slice_get s.modules m >>? (λ x.
+    given (a == s.asks) (record (with_standing s m (record x { asked = Some a })) { asks = s.asks + 1 }))
+
+-- a module vouches for a challenge at its node's boot, in one piece
+abbrev pub has_vouched : AppTree → Model → ℕ → ℕ → Option Model
+has_vouched app s m a =
+    slice_get app.parts m >>? (λ q. slice_get s.modules m >>? (λ x. idle x >>? (λ p. slice_get s.boots q.node >>? (λ boot.
+    Some (with_standing s m (record x {
+      present = Some (with_pending p (Some (record { emits = []; pieces = 1 })));
+      vouched = x.vouched ++ record { challenge = a; boot = boot } ∷ [];
+    }))))))
+
+-- the challenge was vouched for at the boot
+abbrev pub is_vouched : ℕ → ℕ → List Vouched → Bool
+is_vouched a b xs = list_any (λ v. (v.challenge == a) && (v.boot == b)) xs
+
+-- the deployer accepts a module's answer to its open challenge
+abbrev pub was_attested : AppTree → Model → ℕ → ℕ → Option Model
+was_attested app s m b =
+    slice_get s.modules m >>? (λ x. x.asked >>? (λ a.
+    let epochs = renewed m app.links (boot_of x.attested) s.epochs in
+    given (is_vouched a b x.vouched && may_attest m app.links s.epochs (boot_of x.attested) b)
+    (record (with_standing s m (record x { asked = None; attested = Some (record { boot = b; floors = epochs }) })) { epochs = epochs })))
+
+-- two sides are the same
+abbrev pub same_side : Side → Side → Bool
+same_side From From = true
+same_side From To = false
+same_side To From = false
+same_side To To = true
+
+-- the views of the ends, with a change of that of the end with this connection and side; none where there is no such end
+abbrev pub changed : (EndView → Option EndView) → ℕ → Side → List End → List EndView → Option (List EndView)
+changed change c side [] views = None
+changed change c side (e ∷ es) [] = None
+changed change c side (e ∷ es) (view ∷ views) =
+    if (e.link == c) && same_side e.side side then change view >>? (λ v. Some (v ∷ views))
+    else changed change c side es views >>? (λ vs. Some (view ∷ vs))
+
+-- a module opens an end in an epoch from its floor to the connection's
+abbrev pub has_opened : AppTree → Model → ℕ → ℕ → Side → ℕ → Option Model
+has_opened app s m c side epoch =
+    slice_get app.parts m >>? (λ q. slice_get s.modules m >>? (λ x. idle x >>? (λ p. slice_get s.boots q.node >>? (λ boot.
+    changed (opens epoch) c side (ends_of app m) p.ends >>? (λ views.
+    given (may_open x.attested boot c epoch (slice_index s.epochs c))
+    (with_present s m x (record p { ends = views; pending = Some (record { emits = []; pieces = 0 }) })))))))
+
+-- the word is there, and is this one
+abbrev pub is_word : ℕ → Option ℕ → Bool
+is_word v None = false
+is_word v (Some w) = w == v
+
+-- a module takes a word that was sent over a connection, and reacts to it; the number is 65,536 times the epoch plus the word's index
+abbrev pub has_taken : AppTree → Model → ℕ → ℕ → ℕ → ℕ → Option Model
+has_taken app s m c i v =
+    slice_get app.parts m >>? (λ q. slice_get s.modules m >>? (λ x. idle x >>? (λ p. slice_get app.links c >>? (λ l. slice_get s.sent (c + 256 * (i / 65536)) >>? (λ words.
+    changed (takes (i / 65536) (i % 65536)) c To (ends_of app m) p.ends >>? (λ views.
+    given (is_word v (slice_get words (i % 65536)))
+    (reacts app s m q x (record p { ends = views }) (event.Input l.input v))))))))
+
+-- the first of the emits that are owed, written
+abbrev pub without_first : ℕ → List ℕ → ℕ → Option Pending
+without_first v [] k = None
+without_first v (e ∷ es) k = if e == v then Some (record { emits = es; pieces = k }) else None
+
+-- a module writes the first emit that it owes
+abbrev pub has_written : Model → ℕ → ℕ → Option Model
+has_written s m v =
+    slice_get s.modules m >>? (λ x. x.present >>? (λ p. p.pending >>? (λ owed. without_first v owed.emits owed.pieces >>? (λ left.
+    Some (with_present s m x (with_pending p (Some left)))))))
+
+-- no emit is left
+abbrev pub is_nothing : List ℕ → Bool
+is_nothing [] = true
+is_nothing (x ∷ xs) = false
+
+-- the reading isn't fresh
+abbrev pub is_stale : Option Reading → Bool
+is_stale None = false
+is_stale (Some r) = not r.fresh
+
+-- the module drives a sensor that isn't fresh
+abbrev pub waits : AppTree → List Reading → Option ℕ → Bool
+waits app devices None = false
+waits app devices (Some d) = kind_is is_sensor (slice_get app.devices d) && is_stale (slice_get devices d)
+
+-- an invocation that did its event, or that was refused with a status from 2 to 8
+abbrev pub is_done : AppTree → Model → ℕ → ℕ → ℕ → Option Model
+is_done app s m status k =
+    slice_get app.parts m >>? (λ q. slice_get s.modules m >>? (λ x. x.present >>? (λ p.
+    if status == 1 then p.pending >>? (λ owed.
+        given (is_nothing owed.emits && (k == owed.pieces)) (with_present s m x (with_pending p None)))
+    else given ((nat_le 2 status && nat_le status 8) && ((k == 0) && (is_none p.pending && (not (status == 8) || waits app s.devices q.device)))) s)))
+
+-- other code writes an actuator, while no driver of it is present
+abbrev pub wrote_raw : AppTree → Model → ℕ → Option Model
+wrote_raw app s d = given (kind_is (λ k. not (is_sensor k)) (slice_get app.devices d) && undriven app.parts s.modules d) s
+
+-- the state after an allowed item
+abbrev pub step : AppTree → Model → Item → Option Model
+step app s (Reset n cause) = slice_get s.boots n >>? (λ boot. Some (reset_at app s n boot))
+step app s (Protect n m) = protected_as app s n m
+step app s (Sense d v) = sensed app s d v
+step app s (Read m v) = has_read app s m v
+step app s (Drain d) = drained app s d
+step app s (Ask m a) = asked_of s m a
+step app s (Attested m b) = was_attested app s m b
+step app s (Denied m) = Some s
+step app s (Vouch m a) = has_vouched app s m a
+step app s (Open m c side epoch) = has_opened app s m c side epoch
+step app s (Take m c i v) = has_taken app s m c i v
+step app s (Out m v) = has_written s m v
+step app s (Raw d v) = wrote_raw app s d
+step app s (Done m status k) = is_done app s m status k
+step app s (Packet k n) = Some s
+step app s (Forged m) = Some s
+step app s (Busy n) = Some s
+step app s (Skip n) = Some s
+step app s (Budget n) = Some s
