@@ -1,0 +1,37 @@
+-- An entry of the ledger as plain data.
+use Rattle.std.specs.Prelude.{ℕ, ◌-◌, List, ◌++◌, length, take, replicate}
+use Rattle.sx_ledger.specs.declared.entry.Maker.{Maker}
+use Rattle.sx_ledger.specs.declared.entry.Entry.{Entry}
+
+-- who made a header and a plain body; the module that a set-key packet is for, else 255; and the boot that it is
+-- for or was made at, 0 of an event
+pub record Made : Type 0 where
+  pub maker : Maker
+  pub target : ℕ
+  pub boot : ℕ
+  pub header : List ℕ
+  pub body : List ℕ
+
+-- the target of an entry that is no set-key packet
+abbrev pub NO_TARGET : ℕ
+NO_TARGET = 255
+
+-- the bytes with zeros behind them up to 32
+abbrev pub padded : List ℕ → List ℕ
+padded bytes = bytes ++ replicate (32 - length bytes) 0
+
+-- the entry with this header and this body, of at most 32 bytes each
+abbrev pub entry_of : Made → Entry
+entry_of m = record {
+  maker = m.maker;
+  target = m.target;
+  boot = m.boot;
+  ad = padded m.header;
+  ad_len = length m.header;
+  body = padded m.body;
+  body_len = length m.body;
+}
+
+-- the header and the body of an entry, without the room behind them
+abbrev pub made_of : Entry → Made
+made_of e = record { maker = e.maker; target = e.target; boot = e.boot; header = take e.ad_len e.ad; body = take e.body_len e.body }

@@ -1,0 +1,54 @@
+ghost use Rattle.std.specs.Prelude.{◌≡◌, ◌↔◌, ◌⊎◌, List, [], IsTrue, OnErr, OnOk};
+ghost use Rattle.std.specs.List.{Contains};
+ghost use Rattle.sx_ledger.specs.declared.entry.Entry.{Entry as Seen};
+
+use crate::entry::Entry;
+use std::alloc::{AllocError, Global};
+use std::collections::BTreeSet;
+use std::marker::Model;
+
+/// The entries that were made.
+#[derive(Drop)]
+pub struct Ledger {
+    entries: BTreeSet<Entry>,
+}
+
+impl Model for Ledger {
+    ghost use Rattle.std.specs.Prelude.{List};
+    ghost use Rattle.sx_ledger.specs.declared.entry.Entry.{Entry as Seen};
+
+    ghost Value = { List Seen };
+
+    ghost view = { λ a. a.entries.keys };
+}
+
+impl Ledger {
+    /// The ledger in which no entry was made; it takes no memory.
+    pub fn new(alloc: Global) -> Ledger
+        ensures { result ≡ [] }
+    {
+        Ledger {
+            entries: BTreeSet::new(alloc),
+        }
+    }
+
+    /// Adds the entry. One that is there already changes nothing, and the ledger is as before where
+    /// there is no memory.
+    pub fn made(&mut self, entry: Entry) -> Result<(), AllocError>
+        ensures added { OnOk result ((e : Seen) → Contains self.new e ↔ (Contains self.old e ⊎ (e ≡ entry))) }
+        ensures again { Contains self.old entry → self.new ≡ self.old }
+        ensures err { OnErr result (self.new ≡ self.old) }
+    {
+        match self.entries.insert(entry) {
+            Ok(_) => Ok(()),
+            Err(_) => Err(AllocError),
+        }
+    }
+
+    /// Whether the entry was made.
+    pub fn is_made(&self, entry: &Entry) -> bool
+        ensures { IsTrue result ↔ Contains self.now entry.now }
+    {
+        self.entries.contains(entry)
+    }
+}
