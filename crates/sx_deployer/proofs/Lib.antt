@@ -1,0 +1,3 @@
+pub mod Granted
+pub mod Raised
+pub mod Shared

@@ -1,0 +1,118 @@
+-- What a deployer keeps, when it accepts an answer, and what that changes.
+use Rattle.std.specs.Prelude.{◌≡◌, ℕ, ◌+◌, ◌==◌, ◌&&◌, nat_lt, nat_le, not, Bool, true, false, if◌then◌else◌, List, [], ◌∷◌, replicate, slice_set, slice_index, get_or, Option, Some, None, bytes_eq}
+use Rattle.std.specs.List.{list_any}
+use Rattle.byteorder.specs.Endian.{little_bytes}
+use Rattle.sx_mean.specs.declared.events.End.{End}
+use Rattle.sx_tag.specs.Mac.{Mac}
+use Rattle.sx_tag.specs.Keys.{module_key}
+use Rattle.sx_tag.specs.Wrap.{wrapped}
+use Rattle.sx_wire.specs.Packets.{ask_packet}
+use Rattle.sx_deployer.specs.declared.target.Target.{Target}
+
+-- a module: its node's key, its provider, its identity, and its ends in order
+pub record Known : Type 0 where
+  pub node_key : List ℕ
+  pub provider : ℕ
+  pub identity : List ℕ
+  pub ends : List End
+
+-- what contracts see of a target
+abbrev pub known : Target → Known
+known t = record { node_key = t.node_key; provider = t.provider; identity = t.identity.items; ends = t.ends.items }
+
+-- the secret and the modules; the number of asks; each module's open ask, and the boot at which it was last attested;
+-- and each connection's epoch
+pub record Keeping : Type 0 where
+  pub secret : List ℕ
+  pub targets : List Known
+  pub asks : ℕ
+  pub open_asks : List (Option (List ℕ))
+  pub attested : List (Option ℕ)
+  pub epochs : List ℕ
+
+-- nothing was asked yet
+abbrev pub first : List ℕ → List Known → Keeping
+first secret targets = record {
+  secret = secret;
+  targets = targets;
+  asks = 0;
+  open_asks = replicate 32 None;
+  attested = replicate 32 None;
+  epochs = replicate 64 0;
+}
+
+-- the next ask: its challenge is the number of asks before
+abbrev pub next_ask : Keeping → List ℕ
+next_ask d = ask_packet (little_bytes 16 d.asks)
+
+-- the module is asked
+abbrev pub asked : Keeping → ℕ → Keeping
+asked d m = record d { asks = d.asks + 1; open_asks = slice_set d.open_asks m (Some (next_ask d)) }
+
+-- the key of a module at a boot of its node
+abbrev pub key_of : Mac → Known → ℕ → List ℕ
+key_of mac t boot = module_key mac t.node_key boot t.provider t.identity
+
+-- the tag that answers an ask at a boot
+abbrev pub expected : Mac → Known → ℕ → List ℕ → List ℕ
+expected mac t boot ask = (wrapped mac (key_of mac t boot) ask []).tag
+
+-- one of the ends is of this connection
+abbrev pub has_link : List End → ℕ → Bool
+has_link es c = list_any (λ e. e.link == c) es
+
+-- one of the ends' connections has the last epoch
+abbrev pub is_spent : List End → List ℕ → Bool
+is_spent es epochs = list_any (λ e. nat_le 255 (slice_index epochs e.link)) es
+
+-- the epochs of the connections from c on, with those of the ends' connections raised by one
+abbrev pub raised_from : ℕ → List End → List ℕ → List ℕ
+raised_from c es [] = []
+raised_from c es (epoch ∷ epochs) = (if has_link es c then epoch + 1 else epoch) ∷ raised_from (c + 1) es epochs
+
+-- a module with these ends that was last attested at a boot, if any, may be attested at this one
+abbrev pub may_attest : List End → List ℕ → Option ℕ → ℕ → Bool
+may_attest es epochs None boot = true
+may_attest es epochs (Some last) boot = nat_lt last boot && not (is_spent es epochs)
+
+-- a module that was attested before has no connection with the last epoch
+abbrev pub IsRenewable : List End → List ℕ → Option ℕ → Type 0
+IsRenewable es epochs None = Unit {0}
+IsRenewable es epochs (Some last) = is_spent es epochs ≡ false
+
+-- the epochs behind it: where the module was attested before, its connections are renewed
+abbrev pub renewed : List End → Option ℕ → List ℕ → List ℕ
+renewed es None epochs = epochs
+renewed es (Some last) epochs = raised_from 0 es epochs
+
+-- a module of which nothing is known
+abbrev pub nobody : Known
+nobody = record { node_key = []; provider = 0; identity = []; ends = [] }
+
+-- the module of this index, its open ask, and the boot at which it was last attested
+abbrev pub target_at : Keeping → ℕ → Known
+target_at d m = get_or d.targets m nobody
+
+abbrev pub open_ask : Keeping → ℕ → Option (List ℕ)
+open_ask d m = get_or d.open_asks m None
+
+abbrev pub attested_at : Keeping → ℕ → Option ℕ
+attested_at d m = get_or d.attested m None
+
+-- these bytes answer the open ask, if any, at a boot
+abbrev pub is_answer : Mac → Known → ℕ → List ℕ → Option (List ℕ) → Bool
+is_answer mac t boot answer None = false
+is_answer mac t boot answer (Some ask) = bytes_eq answer (expected mac t boot ask)
+
+-- the answer is accepted from the module at a boot
+abbrev pub accepts : Mac → Keeping → ℕ → ℕ → List ℕ → Bool
+accepts mac d m boot answer =
+    is_answer mac (target_at d m) boot answer (open_ask d m) && may_attest (target_at d m).ends d.epochs (attested_at d m) boot
+
+-- acceptance closes the ask, and renews the connections of a module that was attested before
+abbrev pub accepted : Keeping → ℕ → ℕ → Keeping
+accepted d m boot = record d {
+  open_asks = slice_set d.open_asks m None;
+  attested = slice_set d.attested m (Some boot);
+  epochs = renewed (target_at d m).ends (attested_at d m) d.epochs;
+}

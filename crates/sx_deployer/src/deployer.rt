@@ -1,0 +1,141 @@
+ghost use Rattle.std.specs.Prelude.{◌≡◌, ℕ, ◌<◌, ◌≤◌, if◌then◌else◌, IfOk, IsSome, None, length, map, slice_get, slice_index};
+ghost use Rattle.sx_deployer.specs.Keeping as spec;
+ghost use Rattle.sx_deployer.specs.Granting as grants;
+
+use crate::keys::{grant, is_answer};
+use crate::renewal::{may_attest, renewed};
+use crate::target::Target;
+use std::alloc::{AllocError, Global};
+use std::marker::Model;
+use sx_tag::Tag;
+
+/// What the deployer says to an answer.
+#[derive(Clone, Copy, PartialEq, Eq, Debug)]
+pub enum Verdict {
+    Attested,
+    Denied,
+}
+
+/// The deployer of one application.
+#[derive(Drop)]
+pub struct Deployer {
+    secret: [u8; 16],
+    targets: Vec<Target>,
+    asks: u32,
+    open_asks: [Option<[u8; 18]>; 32],
+    attested: [Option<u32>; 32],
+    epochs: [u8; 64],
+}
+
+impl Model for Deployer {
+    ghost use Rattle.std.specs.Prelude.{◌≤◌, length, map};
+    ghost use Rattle.sx_deployer.specs.Keeping.{Keeping, known};
+
+    ghost Value = { Keeping };
+
+    ghost view = { λ d. record { secret = d.secret; targets = map known d.targets.items; asks = d.asks; open_asks = d.open_asks; attested = d.attested; epochs = d.epochs } };
+
+    ghost invariant = { λ d. length d.targets.items ≤ 32 };
+}
+
+impl Deployer {
+    /// The deployer with this secret and these modules, which asked nothing yet. It takes no memory.
+    pub fn new(secret: [u8; 16], targets: Vec<Target>) -> Deployer
+        requires { length targets.items ≤ 32 }
+        ensures { result ≡ spec.first secret (map spec.known targets.items) }
+    {
+        Deployer {
+            secret,
+            targets,
+            asks: 0,
+            open_asks: [None; 32],
+            attested: [None; 32],
+            epochs: [0; 64],
+        }
+    }
+
+    /// The ask packet for a module, whose challenge is the number of asks before; it is now the
+    /// module's open ask.
+    pub fn ask<T: Tag>(&mut self, _tag: &T, module: u8) -> [u8; 18]
+        requires known { «module» < length self.old.targets }
+        requires few { self.old.asks < 4294967295 }
+        ensures packet { result ≡ spec.next_ask self.old }
+        ensures state { self.new ≡ spec.asked self.old «module» }
+    {
+        let packet = sx_wire::write_ask(&u128::from(self.asks).to_le_bytes());
+        self.asks += 1;
+        self.open_asks[usize::from(module)] = Some(packet);
+        packet
+    }
+
+    /// Judges an answer of a module at a boot of its node. `Denied` exactly where the module has no
+    /// open ask, the tag isn't the one expected at that boot, the module was attested at this boot or
+    /// a later one, or it was attested before and one of its connections has epoch 255; the deployer
+    /// is then as before. `Attested` closes the ask, and raises the epochs of the connections of a
+    /// module that was attested before.
+    pub fn answer<T: Tag>(&mut self, tag: &T, module: u8, boot: u32, mac: &[u8]) -> Verdict
+        requires { «module» < length self.old.targets }
+        ensures verdict { result ≡ (if spec.accepts T.mac self.old «module» boot mac.now then Verdict.Attested else Verdict.Denied) }
+        ensures state { self.new ≡ (if spec.accepts T.mac self.old «module» boot mac.now then spec.accepted self.old «module» boot else self.old) }
+    {
+        let place = usize::from(module);
+        let last = self.attested[place];
+        let target = &self.targets[place];
+        if !is_answer(tag, target, boot, mac, self.open_asks[place])
+            || !may_attest(&target.ends, &self.epochs, last, boot)
+        {
+            return Verdict::Denied;
+        }
+        self.epochs = renewed(&target.ends, &self.epochs, last);
+        self.open_asks[place] = None;
+        self.attested[place] = Some(boot);
+        Verdict::Attested
+    }
+
+    /// The set-key packet for an end of a module, by its index, at the boot at which the module was
+    /// last attested and in the connection's present epoch.
+    pub fn set_key<T: Tag>(&self, tag: &T, module: u8, end: u8) -> [u8; 38]
+        requires known { «module» < length self.now.targets }
+        requires attested { IsSome (spec.attested_at self.now «module») }
+        requires has_end { end < length (spec.target_at self.now «module»).ends }
+        ensures { result ≡ grants.packet_of T.mac self.now (grants.grant_at self.now «module» end) }
+    {
+        let target = &self.targets[usize::from(module)];
+        let end = target.ends[usize::from(end)];
+        let boot = self.attested[usize::from(module)].unwrap_or(0);
+        grant(tag, &self.secret, target, boot, end, self.epoch(end.link))
+    }
+
+    /// The epoch of a connection: 0 of one that no module has.
+    pub fn epoch(&self, link: u8) -> u8
+        ensures { result ≡ slice_index self.now.epochs link }
+    {
+        self.epochs.get(usize::from(link)).copied().unwrap_or(0)
+    }
+
+    /// The boot at which a module was last attested; `None` exactly where it wasn't.
+    pub fn attested(&self, module: u8) -> Option<u32>
+        requires { «module» < length self.now.targets }
+        ensures { result ≡ spec.attested_at self.now «module» }
+    {
+        self.attested[usize::from(module)]
+    }
+
+    /// A deployer that is equal to this one.
+    pub fn copy(&self, alloc: Global) -> Result<Deployer, AllocError>
+        ensures { IfOk result (λ d. d ≡ self.now) }
+    {
+        let mut targets = Vec::new(alloc);
+        for target in &self.targets {
+            targets.push(target.copy()?)?;
+        }
+        Ok(Deployer {
+            secret: self.secret,
+            targets,
+            asks: self.asks,
+            open_asks: self.open_asks,
+            attested: self.attested,
+            epochs: self.epochs,
+        })
+    }
+}

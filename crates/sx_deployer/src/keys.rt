@@ -1,0 +1,92 @@
+//! The keys of modules and connections.
+
+ghost use Rattle.std.specs.Prelude.{◌≡◌};
+ghost use Rattle.sx_deployer.specs.Keeping as spec;
+ghost use Rattle.sx_deployer.specs.Granting as grants;
+
+use crate::target::Target;
+use sx_lang::sides::Side;
+use sx_mean::events::End;
+use sx_tag::Tag;
+use sx_wire::{SetKeyPacket, write_set_key};
+
+fn key_of<T: Tag>(tag: &T, target: &Target, boot: u32) -> [u8; 16]
+    ensures { result ≡ spec.key_of T.mac (spec.known target.now) boot }
+{
+    sx_tag::module_key(
+        tag,
+        &target.node_key,
+        boot,
+        target.provider,
+        &target.identity,
+    )
+}
+
+fn expected<T: Tag>(tag: &T, target: &Target, boot: u32, ask: &[u8; 18]) -> [u8; 16]
+    ensures { result ≡ spec.expected T.mac (spec.known target.now) boot ask.now }
+{
+    let mut cipher = [0; 32];
+    sx_tag::wrap(tag, &key_of(tag, target, boot), ask, &[], &mut cipher)
+}
+
+/// Whether these bytes answer the open ask, if any, at a boot.
+pub fn is_answer<T: Tag>(
+    tag: &T,
+    target: &Target,
+    boot: u32,
+    mac: &[u8],
+    ask: Option<[u8; 18]>,
+) -> bool
+    ensures { result ≡ spec.is_answer T.mac (spec.known target.now) boot mac.now ask }
+{
+    match ask {
+        None => false,
+        Some(ask) => mac == expected(tag, target, boot, &ask).as_slice(),
+    }
+}
+
+fn side_number(side: Side) -> u16
+    ensures { result ≡ grants.side_number side }
+{
+    match side {
+        Side::From => 0,
+        Side::To => 1,
+    }
+}
+
+fn connection_key<T: Tag>(tag: &T, secret: &[u8; 16], link: u16) -> [u8; 16]
+    ensures { result ≡ grants.connection_key T.mac secret.now link }
+{
+    sx_tag::kdf(tag, secret, &link.to_le_bytes())
+}
+
+/// The set-key packet for an end of a module at a boot, with the connection's key of an epoch.
+pub fn grant<T: Tag>(
+    tag: &T,
+    secret: &[u8; 16],
+    target: &Target,
+    boot: u32,
+    end: End,
+    epoch: u8,
+) -> [u8; 38]
+    ensures { result ≡ grants.set_key T.mac secret.now (spec.known target.now) boot «end» epoch }
+{
+    let mut packet = SetKeyPacket {
+        link: u16::from(end.link) + 256 * u16::from(epoch),
+        end: side_number(end.side),
+        cipher: [0; 16],
+        mac: [0; 16],
+    };
+    let bytes = write_set_key(&packet);
+    let key = key_of(tag, target, boot);
+    let mut cipher = [0; 32];
+    packet.mac = sx_tag::wrap(
+        tag,
+        &key,
+        &bytes[..6],
+        &connection_key(tag, secret, packet.link),
+        &mut cipher,
+    );
+    packet.cipher.copy_from_slice(&cipher[..16]);
+    write_set_key(&packet)
+}
