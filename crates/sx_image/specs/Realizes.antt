@@ -78,7 +78,7 @@ abbrev pub DoesInvocation : Setup → State → Type 0
 DoesInvocation s n =
     let result = invoke s (call_at n) (progress_at s n) in
     Comes Watched Violation (watch s.mac) (λ w. 1) (Underway s result n) (Aborted result) (Exited s result n)
-        (4096 + module_cost s.tree) (begins n)
+    (4096 + module_cost s.tree) (begins n)
 
 -- The image's text has exactly the module's weight, a private section of zeros represents the initial state, and from
 -- every state that enters the module the node does the invocation.

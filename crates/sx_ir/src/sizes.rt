@@ -6,9 +6,13 @@ ghost use Rattle.sx_ir.specs.Sizes.{all_routines, bytes, has_routine, is_packet,
 use crate::ir::{Code, Ir, IrOp};
 
 const ENTRY: u64 = 24;
+
 const EXIT: u64 = 34;
+
 const SLOT: u64 = 64;
+
 const PACKET: u64 = 112;
+
 const LAST: u64 = 2;
 
 fn operator_bytes(op: IrOp) -> u64

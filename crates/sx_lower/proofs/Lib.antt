@@ -1,0 +1,16 @@
+pub mod Sizes
+pub mod Puts
+pub mod Parts
+pub mod Accepted
+pub mod Rules
+pub mod Bytes
+pub mod Slots
+pub mod Source
+pub mod Holds
+pub mod Run
+pub mod Packets
+pub mod Statements
+pub mod Sounds
+pub mod Reacts
+pub mod Moves
+pub mod Cases

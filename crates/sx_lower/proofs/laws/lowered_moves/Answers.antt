@@ -1,0 +1,5 @@
+use Rattle.sx_lower.proofs.Moves.{lowered_moves}
+use Rattle.sx_lower.proofs.laws.lowered_moves.Goals as goal
+
+pub returns : goal.returns
+returns c = lowered_moves
