@@ -65,12 +65,20 @@ header = 1 ∷ 0 ∷ 0 ∷ 0 ∷ 1 ∷ 0 ∷ []
 abbrev set_key_packet : List ℕ → List ℕ → List ℕ
 set_key_packet header key = let w = wrapped weak (replicate 16 3) header key in header ++ w.cipher ++ w.tag
 
+-- an event packet with a number's low and high byte
+abbrev event_at : ℕ → ℕ → ℕ → List ℕ
+event_at low high v = let h = 3 ∷ 0 ∷ 0 ∷ 0 ∷ low ∷ high ∷ [] in let w = wrapped weak (replicate 16 9) h (v ∷ 0 ∷ []) in h ++ w.cipher ++ w.tag
+
 abbrev event_of : ℕ → ℕ → List ℕ
-event_of number v = let h = 3 ∷ 0 ∷ 0 ∷ 0 ∷ number ∷ 0 ∷ [] in let w = wrapped weak (replicate 16 9) h (v ∷ 0 ∷ []) in h ++ w.cipher ++ w.tag
+event_of number v = event_at number 0 v
 
 entry_seven : outcome (invoke setup (call 7) (first [])) ≡ Some 2
 unfolding invoke own
 entry_seven = refl
+
+entry_four : outcome (invoke setup (call 4) (first [])) ≡ Some 2
+unfolding invoke own
+entry_four = refl
 
 sample_without_sensor : outcome (invoke setup (call 3) (first [])) ≡ Some 2
 unfolding invoke own
@@ -119,6 +127,11 @@ took = after (invoke setup (call 2) (record (first (event_of 0 5)) { state = ope
 event_twice : outcome (invoke setup (call 2) (record (first (event_of 0 5)) { state = took.state })) ≡ Some 6
 unfolding invoke entered read_byte read_bytes may own unwrapped crypt wrap_tag weak handled with_packet
 event_twice = refl
+
+-- the last number is refused
+event_last : outcome (invoke setup (call 2) (record (first (event_at 255 255 5)) { state = opened.state })) ≡ Some 6
+unfolding invoke entered read_byte read_bytes may own unwrapped crypt wrap_tag weak handled with_packet
+event_last = refl
 
 -- with a wrong tag 7
 event_forged : outcome (invoke setup (call 2) (record (first (take 23 (event_of 1 5) ++ 1 ∷ [])) { state = took.state })) ≡ Some 7

@@ -7,3 +7,4 @@ pub mod Progress
 pub mod Acts
 pub mod Entries
 pub mod Invocation
+pub mod Laws

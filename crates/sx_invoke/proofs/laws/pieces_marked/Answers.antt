@@ -1,0 +1,5 @@
+use Rattle.sx_invoke.proofs.Tally.{pieces_marked}
+use Rattle.sx_invoke.proofs.laws.pieces_marked.Goals as goal
+
+pub returns : goal.returns
+returns c = pieces_marked

@@ -1,0 +1,5 @@
+use Rattle.sx_invoke.proofs.Once.{unwraps_once}
+use Rattle.sx_invoke.proofs.laws.unwraps_once.Goals as goal
+
+pub returns : goal.returns
+returns c = unwraps_once

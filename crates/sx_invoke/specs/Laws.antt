@@ -1,0 +1,32 @@
+-- What holds of every invocation. Each law stands as the contract of a function in src/laws.rt.
+use Rattle.std.specs.Prelude.{◌≡◌, ℕ, Bool, true, false, List, [], ◌∷◌}
+use Rattle.sx_tag.specs.Mac.{IsTag}
+use Rattle.sx_invoke.specs.Setup.{Setup, Call}
+use Rattle.sx_invoke.specs.Marks.{Mark, Wrapped, Unwrapped, Sampled, Actuated, made}
+use Rattle.sx_invoke.specs.Progress.{Progress, marks_in, pieces_in, bytes_in}
+use Rattle.sx_invoke.specs.Invocation.{invoke}
+
+abbrev pub is_unwrap : Mark → Bool
+is_unwrap (Wrapped header body own) = false
+is_unwrap (Unwrapped header body own) = true
+is_unwrap (Sampled device v) = false
+is_unwrap (Actuated device v) = false
+
+abbrev pub NoUnwrap : List Mark → Type 0
+NoUnwrap [] = Unit {0}
+NoUnwrap (m ∷ ms) = (is_unwrap m ≡ false) × NoUnwrap ms
+
+-- no mark behind the first is an unwrap
+abbrev pub FirstAlone : List Mark → Type 0
+FirstAlone [] = Unit {0}
+FirstAlone (m ∷ ms) = NoUnwrap ms
+
+-- an invocation unwraps at most once, before it makes any other mark
+abbrev pub UnwrapsOnce : Type 0
+UnwrapsOnce = (s : Setup) (call : Call) (p : Progress) → p.marks ≡ [] → FirstAlone (marks_in (invoke s call p))
+
+-- the pieces of an invocation, of one that a violation ends too, have the bytes that its marks make
+abbrev pub PiecesMarked : Type 0
+PiecesMarked =
+    (s : Setup) (call : Call) (p : Progress) → IsTag s.mac → p.pieces ≡ [] → p.marks ≡ [] → let result = invoke s call p in
+    bytes_in (pieces_in result) ≡ made (marks_in result)
