@@ -13,6 +13,8 @@
 mod ir;
 mod sizes;
 mod soundness;
+#[cfg(test)]
+mod tests;
 
 pub use ir::{Code, Ir, IrOp};
 pub use sizes::{bytes, offset};

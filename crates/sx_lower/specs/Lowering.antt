@@ -10,6 +10,7 @@ use Rattle.sx_mean.specs.declared.events.SourceEvent.{SourceEvent}
 use Rattle.sx_mean.specs.Application.{block_packets}
 use Rattle.sx_mean.specs.React.{handler_at}
 use Rattle.sx_invoke.specs.Setup.{Setup}
+use Rattle.sx_ir.specs.declared.ir.Code.{Code}
 use Rattle.sx_ir.specs.declared.ir.Ir.{Ir}
 use Rattle.sx_ir.specs.declared.ir.Ir.TheVariants as ir
 use Rattle.sx_ir.specs.Sound.{is_sound_op, is_sound_part}
@@ -18,7 +19,7 @@ use Rattle.sx_ir.specs.Meaning.{After}
 use Rattle.sx_ir.specs.Invoking.{PartDoes}
 use Rattle.sx_ir.specs.Sizes.{ops_bytes}
 use Rattle.sx_mean.specs.Ends.{senders}
-use Rattle.sx_lower.specs.Lowered.{handlers_code, handlers_parts}
+use Rattle.sx_lower.specs.Lowered.{handlers_code, handlers_parts, IsLowered}
 use Rattle.sx_lang.specs.Words.{TreeHasWords}
 
 -- no handler makes more than 16 packets
@@ -73,6 +74,11 @@ pub record Lowers (m : ModuleTree) (ends : List End) (ops : List Ir) (listed : L
   pub parts : length listed ≡ length m.handlers
   pub reacts : (s : Setup) (handle : ℕ → Conf → After) (given : ℕ → ℕ) (e : SourceEvent) (h : HandlerTree) (k from to : ℕ) → s.tree ≡ m → s.ends ≡ ends
       → handler_at m e ≡ Some h → slice_get m.handlers k ≡ Some h → slice_get listed k ≡ Some (from, to) → PartDoes s handle given ops from e (handler_cost h)
+
+-- the code of a module
+pub record LowersTo (m : ModuleTree) (ends : List End) (code : Code) : Type 0 where
+  pub does : Lowers m ends code.ops.items code.parts.items
+  pub is : IsLowered m ends code.ops.items code.parts.items
 
 -- Handlers' code fits wherever it stands.
 abbrev pub LoweredFits : Type 0

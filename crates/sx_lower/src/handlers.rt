@@ -8,8 +8,8 @@ ghost use Rattle.sx_check.specs.Source.{source_tree};
 ghost use Rattle.sx_mean.specs.Places.{IsSized};
 ghost use Rattle.sx_lang.specs.Words.{TreeHasWords};
 ghost use Rattle.sx_mean.specs.Ends.{senders};
-ghost use Rattle.sx_lower.specs.Lowered.{block_code, handler_code, handlers_code, handlers_parts, AreFew, IsLowered};
-ghost use Rattle.sx_lower.specs.Lowering.{Lowers, SendFew};
+ghost use Rattle.sx_lower.specs.Lowered.{block_code, handler_code, handlers_code, handlers_parts, AreFew};
+ghost use Rattle.sx_lower.specs.Lowering.{LowersTo, SendFew};
 
 use crate::blocks::put_block;
 use crate::expressions::put;
@@ -82,7 +82,7 @@ fn put_handlers(
     Ok(())
 }
 
-fn code_of(alloc: Global, m: &Checked, ends: &[End]) -> Result<Code, AllocError>
+pub(crate) fn code_of(alloc: Global, m: &Checked, ends: &[End]) -> Result<Code, AllocError>
     requires few { length ends.now ≤ 16 }
     ensures ops { IfOk result (λ code. code.ops.items ≡ handlers_code (source_tree m.now).decls ends.now 0 (source_tree m.now).handlers) }
     ensures parts { IfOk result (λ code. code.parts.items ≡ handlers_parts (source_tree m.now).decls ends.now 0 (source_tree m.now).handlers) }
@@ -108,8 +108,7 @@ fn facts_of(m: &Checked)
 pub fn lower<T: Tag>(alloc: Global, _tag: &T, m: &Checked, ends: &[End]) -> Result<Code, AllocError>
     requires few { length ends.now ≤ 16 }
     requires packets { SendFew (senders ends.now) (source_tree m.now) (source_tree m.now).handlers }
-    ensures lowers { IfOk result (λ code. Lowers (source_tree m.now) ends.now code.ops.items code.parts.items) }
-    ensures code { IfOk result (λ code. IsLowered (source_tree m.now) ends.now code.ops.items code.parts.items) }
+    ensures { IfOk result (LowersTo (source_tree m.now) ends.now) }
 {
     facts_of(m);
     let code = code_of(alloc, m, ends)?;

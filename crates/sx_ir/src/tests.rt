@@ -1,0 +1,65 @@
+use crate::{Code, Ir, bytes, offset, sound};
+use std::alloc::{AllocError, Global};
+use std::test::Fail;
+use sx_rules::Layout;
+
+/// Two routines, for the ends 1 and 3.
+fn two_packets(alloc: Global) -> Result<Code, AllocError> {
+    Ok(Code {
+        ops: vec![in alloc;
+            Ir::Push(1),
+            Ir::Packet(1),
+            Ir::Packet(3),
+            Ir::JumpZero(0),
+            Ir::Stop,
+        ]?,
+        parts: vec![in alloc; (0, 5)]?,
+    })
+}
+
+fn layout(public: u16, private: u16) -> Option<Layout> {
+    Some(Layout {
+        pub_from: 0x4000,
+        pub_to: 0x4000u16.checked_add(public)?,
+        priv_from: 0x2000,
+        priv_to: 0x2000u16.checked_add(private)?,
+    })
+}
+
+#[test]
+fn a_text_is_entry_templates_exit_and_routines(rt: HostRuntime) -> Result<(), Fail> {
+    let code = two_packets(rt.alloc())?;
+    assert!(rt; code.ops.len() == 5);
+    assert_eq!(rt; bytes(&code), 24 + 26 + 34 + 64 + 2 * 112 + 2);
+    assert_eq!(rt; offset(&code, 3), 24 + 12);
+    Ok(())
+}
+
+fn is_sound_in(code: &Code, public: u16, private: u16) -> bool {
+    match layout(public, private) {
+        Some(l) => sound(code, &l),
+        None => false,
+    }
+}
+
+#[test]
+fn sound_code_has_room_for_its_text_and_slots(rt: HostRuntime) -> Result<(), Fail> {
+    let code = two_packets(rt.alloc())?;
+    assert!(rt; is_sound_in(&code, 374, 608));
+    assert!(rt; !is_sound_in(&code, 373, 608));
+    assert!(rt; !is_sound_in(&code, 374, 607));
+    Ok(())
+}
+
+#[test]
+fn code_that_writes_a_saved_register_is_not_sound(rt: HostRuntime) -> Result<(), Fail> {
+    let alloc = rt.alloc();
+    for (at, want) in [(4, true), (6, false), (12, false), (16, true), (102, true), (104, false)] {
+        let code = Code {
+            ops: vec![in alloc; Ir::Push(1), Ir::Store(at)]?,
+            parts: Vec::new(alloc),
+        };
+        assert_eq!(rt; is_sound_in(&code, 400, 512), want);
+    }
+    Ok(())
+}
