@@ -1,4 +1,4 @@
--- The boot count rises by one at a reset, and only then.
+-- The boot count rises by one at a reset, and only then; so a run keeps a section or raises it, and each run is guarded.
 use Rattle.std.proofs.Common.{◌≡◌, ◌+◌, ◌≤◌, ◌<◌, ◌⊎◌, inl, inr, List, [], ◌∷◌, refl, ◌∙◌, ap, arith, Option, Some, None}
 use Rattle.sx_rules.specs.declared.access.Violation.{Violation}
 use Rattle.sx_rules.specs.declared.section.Section.{Section}
