@@ -1,0 +1,136 @@
+#!/usr/bin/env python3
+"""The processor's instructions of `sancus check` and `sancus run` on the largest deployment, and their allocations.
+
+Clocks differ from machine to machine and from run to run; these counts don't, so work that nobody needs shows as a
+few lines of difference. valgrind counts: callgrind the instructions, and memcheck's summary the allocations.
+
+    bench/instructions.py            counts, and compares with the figures in bench/instructions.json
+    bench/instructions.py --store    counts, and writes these figures
+    bench/instructions.py --print check|run    writes the input alone
+
+Ends with status 1 where a count differs by more than one part in a hundred from its figure, or has none. The program
+must be built (`./sancus build`). Not a part of the gate.
+"""
+import json, os, re, subprocess, sys, tempfile
+
+HERE = os.path.dirname(os.path.abspath(__file__))
+PROGRAM = os.path.join(HERE, "..", "crates", "sancus_run", "out", "sancus_run")
+FIGURES = os.path.join(HERE, "instructions.json")
+TOLERANCE = 0.01
+
+# The limits of a deployment: its text in bytes, a line, and what it lists.
+TEXT, LINE, NODES, MODULES, CONNECTIONS = 262144, 4096, 16, 32, 64
+# Two modules share a node's addresses, which leaves room for some 400 nodes of syntax in each.
+STATEMENTS = 64
+
+
+def name(kind, number):
+    return f"{kind}_{number:02}".ljust(16, "x")
+
+
+def source(number):
+    """A driver's source: an event is worked on, passed on, and emitted or sampled."""
+    declarations = ["sensor;" if number % 2 == 0 else "actuator;", "input level;", "output next;", "var sum;"]
+    work = [f"sum = sum + v * {(number * 97 + k) % 65536};" for k in range(STATEMENTS)]
+    last = "sample(v) { sum = v; }" if number % 2 == 0 else ""
+    emit = "" if number % 2 == 0 else "emit sum;"
+    return declarations + ["on level(v) {"] + work + [emit, "send next(sum);", "}", last]
+
+
+def entry(number, filling):
+    """A module with its source, of which comments fill what is left of the text."""
+    lines = ["[[module]]", f'name = "{name("module", number)}"', f'node = "{name("node", number // 2)}"',
+             "provider = 7", f"text = {0x1000 + number % 2 * 0x7000:#x}", f'device = "{name("device", number)}"',
+             "source = '''"] + source(number)
+    while filling > 0:
+        comment = min(filling, LINE + 1)
+        lines.append("//".ljust(comment - 1, "-")[:comment - 1])
+        filling -= comment
+    return lines + ["'''"]
+
+
+def deployment():
+    """As many nodes, devices, modules and connections as there may be, in a text of as many bytes."""
+    head = ['secret = "000102030405060708090a0b0c0d0e0f"', "node = ["]
+    head += [f'  {{ name = "{name("node", k)}", key = "{k:032x}" }},' for k in range(NODES)] + ["]", "device = ["]
+    head += [f'  {{ name = "{name("device", k)}", node = "{name("node", k // 2)}", '
+             f'kind = "{"sensor" if k % 2 == 0 else "actuator"}", at = {0x0200 + k % 2 * 0x0700:#x} }},' for k in range(MODULES)]
+    head += ["]", "connection = ["]
+    head += [f'  {{ name = "{name("link", k)}", from = "{name("module", k % MODULES)}.next", '
+             f'to = "{name("module", (k + 1 + k // MODULES) % MODULES)}.level" }},' for k in range(CONNECTIONS)] + ["]"]
+    bare = sum(len(line) + 1 for line in head + [line for k in range(MODULES) for line in entry(k, 0)])
+    left = TEXT - bare
+    fillings = [left // MODULES + (k < left % MODULES) for k in range(MODULES)]
+    lines = head + [line for k in range(MODULES) for line in entry(k, fillings[k])]
+    assert sum(len(line) + 1 for line in lines) == TEXT
+    return lines
+
+
+def inputs():
+    """The inputs by the command. A run loads every module and calls its first entry."""
+    begun = deployment() + ["%%"]
+    schedule = []
+    for k in range(MODULES):
+        schedule += [f"load {name('module', k)}", f"ask {name('module', k)}", f"give {k} {name('node', k // 2)} 0x400",
+                     f"call {name('module', k)} 1 0x400 0x500"]
+    return {"check": begun, "run": begun + schedule}
+
+
+def valgrind(tool, command, text):
+    """What valgrind says of a call of the program, which must end with status 0."""
+    with tempfile.TemporaryDirectory() as folder:
+        log = os.path.join(folder, "log")
+        call = ["valgrind", f"--log-file={log}", *tool, PROGRAM, command]
+        ended = subprocess.run(call, input=text, stdout=subprocess.PIPE, cwd=folder)
+        if ended.returncode != 0:
+            sys.exit(f"{command}: status {ended.returncode}, {ended.stdout[-200:]!r}")
+        with open(log, encoding="utf-8") as file:
+            return file.read()
+
+
+def counted(pattern, log):
+    return int(re.search(pattern, log).group(1).replace(",", ""))
+
+
+def counts(command, lines):
+    text = ("\n".join(lines) + "\n").encode()
+    ran = valgrind(["--tool=callgrind", "--callgrind-out-file=/dev/null"], command, text)
+    heap = valgrind(["--tool=memcheck", "--leak-check=no"], command, text)
+    return {"instructions": counted(r"Collected : ([0-9]+)", ran),
+            "allocations": counted(r"total heap usage: ([0-9,]+) allocs", heap),
+            "bytes allocated": counted(r"frees, ([0-9,]+) bytes allocated", heap)}
+
+
+def compared(found, stored):
+    """Prints the counts beside their figures; whether each is near its figure."""
+    near = True
+    for command, figures in found.items():
+        for what, count in figures.items():
+            figure = stored.get(command, {}).get(what)
+            change = "no figure" if figure is None else f"{(count - figure) / figure:+.2%}"
+            near = near and figure is not None and abs(count - figure) <= TOLERANCE * figure
+            print(f"{command:6} {what:16} {count:15,}   {change}")
+    return near
+
+
+def main():
+    words = sys.argv[1:]
+    if len(words) == 2 and words[0] == "--print" and words[1] in inputs():
+        print("\n".join(inputs()[words[1]]))
+        return
+    if words not in ([], ["--store"]):
+        sys.exit(__doc__)
+    found = {command: counts(command, lines) for command, lines in inputs().items()}
+    if words:
+        with open(FIGURES, "w", encoding="utf-8") as file:
+            json.dump(found, file, indent=2)
+            file.write("\n")
+    stored = {}
+    if os.path.exists(FIGURES):
+        with open(FIGURES, encoding="utf-8") as file:
+            stored = json.load(file)
+    if not compared(found, stored):
+        sys.exit(1)
+
+
+main()
