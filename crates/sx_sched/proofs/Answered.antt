@@ -39,7 +39,7 @@ one_way false b = refl
 
 -- the test tells whether a word says bytes
 pub says_bytes : (most : ℕ) (word : List ℕ) → is_hex_text most word ≡ is_ok (bytes_of most word)
-says_bytes_of most word = by_result (decode_of word) refl
+says_bytes most word = by_result (decode_of word) refl
   where
     by_digits : (e : FromHexError) (t : Bool) → decode_of word ≡ Err e → list_all is_hex_digit word ≡ t → is_hex_text most word ≡ is_ok (bytes_of most word)
     by_digits e false h d = rw (d, h) refl
@@ -71,7 +71,7 @@ decoded_only most (Ok b) h = by_test (nat_le 1 (length b) && nat_le (length b) m
 
 -- no bytes are said
 pub says_none : (most : ℕ) (word : List ℕ) → is_hex_text most word ≡ false → bytes_of most word ≡ Err no_bytes
-says_none most word h = decoded_only most (decode_of word) (sym (says_bytes_of most word) ∙ h)
+says_none most word h = decoded_only most (decode_of word) (sym (says_bytes most word) ∙ h)
 
 ok_and : (r : Result (List ℕ) LineError) → is_ok r ≡ true → IsOkAnd r (λ b. Unit {0})
 ok_and (Ok b) h = tt
@@ -79,7 +79,7 @@ ok_and (Err e) h = absurd (cc)
 
 -- bytes are said, so memory for them may be wanted
 pub says_some : (most : ℕ) (word : List ℕ) → is_hex_text most word ≡ true → IsOkAnd (bytes_of most word) (λ b. Unit {0})
-says_some most word h = ok_and (bytes_of most word) (sym (says_bytes_of most word) ∙ h)
+says_some most word h = ok_and (bytes_of most word) (sym (says_bytes most word) ∙ h)
 
 pub says_these : (most : ℕ) (word b : List ℕ) → is_hex_text most word ≡ true → decode_of word ≡ Ok b → bytes_of most word ≡ Ok b
 says_these most word b h e = by_test (nat_le 1 (length b) && nat_le (length b) most) refl
@@ -91,4 +91,4 @@ says_these most word b h e = by_test (nat_le 1 (length b) && nat_le (length b) m
     by_test true t = said ∙ rw t refl
     by_test false t =
         let no : bytes_of most word ≡ Err no_bytes = said ∙ rw t refl in
-        absurd (let f : true ≡ false = sym h ∙ says_bytes_of most word ∙ ap (λ (r : Result (List ℕ) LineError). is_ok r) no in cc)
+        absurd (let f : true ≡ false = sym h ∙ says_bytes most word ∙ ap (λ (r : Result (List ℕ) LineError). is_ok r) no in cc)
