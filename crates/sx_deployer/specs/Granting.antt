@@ -52,6 +52,10 @@ no_end = record { link = 0; side = From; port = 0 }
 abbrev pub grant_at : Keeping → ℕ → ℕ → Grant
 grant_at d m e = grant d m (unwrap_or (attested_at d m) 0) (get_or (target_at d m).ends e no_end)
 
+-- its packet
+abbrev pub packet_at : Mac → Keeping → ℕ → ℕ → List ℕ
+packet_at mac d m e = packet_of mac d (grant_at d m e)
+
 -- for an end of a module, where that was attested
 abbrev pub grant_to : Keeping → ℕ → Option ℕ → End → List Grant
 grant_to d k None e = []

@@ -7,6 +7,8 @@ use Rattle.sx_tag.specs.Mac.{Mac}
 use Rattle.sx_tag.specs.Keys.{module_key}
 use Rattle.sx_tag.specs.Wrap.{wrapped}
 use Rattle.sx_wire.specs.Packets.{ask_packet}
+use Rattle.sx_deployer.specs.declared.deployer.Verdict.{Verdict}
+use Rattle.sx_deployer.specs.declared.deployer.Verdict.TheVariants.{Attested, Denied}
 use Rattle.sx_deployer.specs.declared.target.Target.{Target}
 
 -- a module: its node's key, its provider, its identity, and its ends in order
@@ -65,10 +67,14 @@ has_link es c = list_any (λ e. e.link == c) es
 abbrev pub is_spent : List End → List ℕ → Bool
 is_spent es epochs = list_any (λ e. nat_le 255 (slice_index epochs e.link)) es
 
+-- the epoch of the c-th connection behind an attestation of a module with these ends
+abbrev pub next_epoch : List End → ℕ → ℕ → ℕ
+next_epoch es c epoch = if has_link es c then epoch + 1 else epoch
+
 -- the epochs of the connections from c on, with those of the ends' connections raised by one
 abbrev pub raised_from : ℕ → List End → List ℕ → List ℕ
 raised_from c es [] = []
-raised_from c es (epoch ∷ epochs) = (if has_link es c then epoch + 1 else epoch) ∷ raised_from (c + 1) es epochs
+raised_from c es (epoch ∷ epochs) = next_epoch es c epoch ∷ raised_from (c + 1) es epochs
 
 -- a module with these ends that was last attested at a boot, if any, may be attested at this one
 abbrev pub may_attest : List End → List ℕ → Option ℕ → ℕ → Bool
@@ -116,3 +122,11 @@ accepted d m boot = record d {
   attested = slice_set d.attested m (Some boot);
   epochs = renewed (target_at d m).ends (attested_at d m) d.epochs;
 }
+
+-- the deployer behind an answer
+abbrev pub judged : Mac → Keeping → ℕ → ℕ → List ℕ → Keeping
+judged mac d m boot answer = if accepts mac d m boot answer then accepted d m boot else d
+
+-- what it says to the answer
+abbrev pub verdict : Mac → Keeping → ℕ → ℕ → List ℕ → Verdict
+verdict mac d m boot answer = if accepts mac d m boot answer then Attested else Denied

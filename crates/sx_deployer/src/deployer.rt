@@ -75,8 +75,10 @@ impl Deployer {
     /// module that was attested before.
     pub fn answer<T: Tag>(&mut self, tag: &T, module: u8, boot: u32, mac: &[u8]) -> Verdict
         requires { «module» < length self.old.targets }
-        ensures verdict { result ≡ (if spec.accepts T.mac self.old «module» boot mac.now then Verdict.Attested else Verdict.Denied) }
-        ensures state { self.new ≡ (if spec.accepts T.mac self.old «module» boot mac.now then spec.accepted self.old «module» boot else self.old) }
+        ensures verdict { result ≡ spec.verdict T.mac self.old «module» boot mac.now }
+        ensures state { self.new ≡ spec.judged T.mac self.old «module» boot mac.now }
+        ensures targets { self.new.targets ≡ self.old.targets }
+        ensures asks { self.new.asks ≡ self.old.asks }
     {
         let place = usize::from(module);
         let last = self.attested[place];
@@ -98,7 +100,7 @@ impl Deployer {
         requires known { «module» < length self.now.targets }
         requires attested { IsSome (spec.attested_at self.now «module») }
         requires has_end { end < length (spec.target_at self.now «module»).ends }
-        ensures { result ≡ grants.packet_of T.mac self.now (grants.grant_at self.now «module» end) }
+        ensures { result ≡ grants.packet_at T.mac self.now «module» end }
     {
         let target = &self.targets[usize::from(module)];
         let end = target.ends[usize::from(end)];

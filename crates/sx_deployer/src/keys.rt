@@ -69,7 +69,7 @@ pub fn grant<T: Tag>(
     end: End,
     epoch: u8,
 ) -> [u8; 38]
-    ensures { result ≡ grants.set_key T.mac secret.now (spec.known target.now) boot «end» epoch }
+    ensures { result ≡ grants.set_key T.mac secret.now (spec.known target.now) boot end epoch }
 {
     let mut packet = SetKeyPacket {
         link: u16::from(end.link) + 256 * u16::from(epoch),

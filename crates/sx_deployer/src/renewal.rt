@@ -41,7 +41,7 @@ pub fn renewed(ends: &[End], epochs: &[u8; 64], last: Option<u32>) -> [u8; 64]
 fn next_epoch(ends: &[End], epochs: &[u8; 64], link: u8) -> u8
     requires open { spec.is_spent ends.now epochs.now ≡ false }
     requires small { link < 64 }
-    ensures { result ≡ (if spec.has_link ends.now link then slice_index epochs.now link + 1 else slice_index epochs.now link) }
+    ensures { result ≡ spec.next_epoch ends.now link (slice_index epochs.now link) }
 {
     let epoch = epochs[usize::from(link)];
     if has_link(ends, link) {

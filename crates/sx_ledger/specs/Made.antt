@@ -1,5 +1,6 @@
 -- An entry of the ledger as plain data.
-use Rattle.std.specs.Prelude.{ℕ, ◌-◌, List, ◌++◌, length, take, replicate}
+use Rattle.std.specs.Prelude.{◌≡◌, ◌↔◌, ◌⊎◌, ℕ, ◌-◌, List, ◌++◌, length, take, replicate}
+use Rattle.std.specs.List.{Contains}
 use Rattle.sx_ledger.specs.declared.entry.Maker.{Maker}
 use Rattle.sx_ledger.specs.declared.entry.Entry.{Entry}
 
@@ -11,6 +12,10 @@ pub record Made : Type 0 where
   pub boot : ℕ
   pub header : List ℕ
   pub body : List ℕ
+
+-- an entry with these parts
+abbrev pub made : Maker → ℕ → ℕ → List ℕ → List ℕ → Made
+made maker target boot header body = record { maker = maker; target = target; boot = boot; header = header; body = body }
 
 -- the target of an entry that is no set-key packet
 abbrev pub NO_TARGET : ℕ
@@ -35,3 +40,7 @@ entry_of m = record {
 -- the header and the body of an entry, without the room behind them
 abbrev pub made_of : Entry → Made
 made_of e = record { maker = e.maker; target = e.target; boot = e.boot; header = take e.ad_len e.ad; body = take e.body_len e.body }
+
+-- the ledger's entries behind the making of one: those before, and that one
+abbrev pub Adds : List Entry → List Entry → Entry → Type 0
+Adds old new entry = (e : Entry) → Contains new e ↔ (Contains old e ⊎ (e ≡ entry))

@@ -1,5 +1,5 @@
 ghost use Rattle.std.specs.Prelude.{◌≡◌, ◌≤◌, length};
-ghost use Rattle.sx_ledger.specs.Made.{entry_of, padded};
+ghost use Rattle.sx_ledger.specs.Made.{entry_of, made, padded};
 
 /// Who made a tag.
 #[derive(Clone, Copy, PartialEq, Eq, PartialOrd, Ord, Debug)]
@@ -28,7 +28,7 @@ impl Entry {
     pub fn new(maker: Maker, target: u8, boot: u32, ad: &[u8], body: &[u8]) -> Entry
         requires ad { length ad.now ≤ 32 }
         requires body { length body.now ≤ 32 }
-        ensures { result ≡ entry_of (record { maker = maker; target = target; boot = boot; header = ad.now; body = body.now }) }
+        ensures { result ≡ entry_of (made maker target boot ad.now body.now) }
     {
         Entry {
             maker,

@@ -1,6 +1,6 @@
-ghost use Rattle.std.specs.Prelude.{◌≡◌, ◌↔◌, ◌⊎◌, List, [], IsTrue, OnErr, OnOk};
+ghost use Rattle.std.specs.Prelude.{◌≡◌, ◌↔◌, List, [], IsTrue, OnErr, OnOk};
 ghost use Rattle.std.specs.List.{Contains};
-ghost use Rattle.sx_ledger.specs.declared.entry.Entry.{Entry as Seen};
+ghost use Rattle.sx_ledger.specs.Made.{Adds};
 
 use crate::entry::Entry;
 use std::alloc::{AllocError, Global};
@@ -35,7 +35,7 @@ impl Ledger {
     /// Adds the entry. One that is there already changes nothing, and the ledger is as before where
     /// there is no memory.
     pub fn made(&mut self, entry: Entry) -> Result<(), AllocError>
-        ensures added { OnOk result ((e : Seen) → Contains self.new e ↔ (Contains self.old e ⊎ (e ≡ entry))) }
+        ensures added { OnOk result (Adds self.old self.new entry) }
         ensures again { Contains self.old entry → self.new ≡ self.old }
         ensures err { OnErr result (self.new ≡ self.old) }
     {

@@ -1,6 +1,6 @@
 -- What the model allows in worked runs, and what it doesn't. Nobody has to believe this file.
-use Rattle.std.specs.Prelude.{◌≡◌, Bool, true, false, List, [], ◌∷◌, ◌++◌, Option, Some, None, is_some}
-use Rattle.sx_lang.specs.declared.sides.Side.TheVariants.{From, To}
+use Rattle.std.specs.Prelude.{◌≡◌, Bool, true, false, List, [], ◌∷◌, ◌++◌, Some, is_some}
+use Rattle.sx_lang.specs.declared.sides.Side.TheVariants.{To}
 use Rattle.sx_trace.specs.declared.items.Item.{Item}
 use Rattle.sx_trace.specs.declared.items.Item.TheVariants.{Reset, Protect, Ask, Attested, Vouch, Open, Take, Out, Raw, Done}
 use Rattle.sx_trace.specs.declared.items.Cause.TheVariants.{Asked}

@@ -7,9 +7,8 @@ use Rattle.sx_mean.specs.declared.events.End.{End}
 use Rattle.sx_mean.specs.declared.events.SourceEvent.{SourceEvent}
 use Rattle.sx_mean.specs.declared.events.Act.{Act}
 use Rattle.sx_mean.specs.declared.events.Act.TheVariants.{Send, Emit}
-use Rattle.sx_mean.specs.Meaning.{State}
 use Rattle.sx_mean.specs.React.{react}
-use Rattle.sx_model.specs.State.{EndView, Pending, Present}
+use Rattle.sx_model.specs.State.{EndView, Present}
 
 -- while acts are done: what each connection was sent in each epoch, the emits, and how many pieces
 pub record Flow : Type 0 where

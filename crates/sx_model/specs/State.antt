@@ -1,5 +1,5 @@
 -- Where a run of the source stands.
-use Rattle.std.specs.Prelude.{ℕ, ◌*◌, zero, suc, false, List, [], ◌∷◌, Bool, Option, None, length, map, replicate}
+use Rattle.std.specs.Prelude.{ℕ, false, List, [], Bool, Option, None, map, replicate}
 use Rattle.sx_mean.specs.Application.{AppTree}
 
 -- a device: its last value, and whether no one took it yet

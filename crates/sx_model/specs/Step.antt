@@ -8,7 +8,6 @@ use Rattle.sx_lang.specs.declared.sides.Side.{Side}
 use Rattle.sx_lang.specs.declared.sides.Side.TheVariants.{From, To}
 use Rattle.sx_mean.specs.Places.{initial_cells}
 use Rattle.sx_mean.specs.declared.apps.AppDevice.{AppDevice}
-use Rattle.sx_mean.specs.declared.apps.Link.{Link}
 use Rattle.sx_mean.specs.declared.events.End.{End}
 use Rattle.sx_mean.specs.declared.events.SourceEvent.{SourceEvent}
 use Rattle.sx_mean.specs.declared.events.SourceEvent.TheVariants as event
@@ -16,9 +15,9 @@ use Rattle.sx_trace.specs.declared.items.Item.{Item}
 use Rattle.sx_trace.specs.declared.items.Item.TheVariants.{Reset, Protect, Sense, Read, Drain, Ask, Attested, Denied, Vouch, Open, Take, Out, Raw, Done, Packet, Forged, Busy, Skip, Budget}
 use Rattle.sx_mean.specs.Application.{PartTree, AppTree}
 use Rattle.sx_mean.specs.Ends.{ends_of}
-use Rattle.sx_model.specs.State.{Reading, EndView, Pending, Present, Vouched, Attestation, Standing, Model}
+use Rattle.sx_model.specs.State.{Reading, EndView, Pending, Present, Vouched, Standing, Model}
 use Rattle.sx_model.specs.Renewal.{may_attest, renewed, boot_of, opens, may_open, takes}
-use Rattle.sx_model.specs.Reaction.{Flow, flow_of, after_event}
+use Rattle.sx_model.specs.Reaction.{flow_of, after_event}
 
 -- where the first is some value, the second of it
 infixr 10 ◌>>?◌
@@ -224,7 +223,7 @@ abbrev pub is_done : AppTree → Model → ℕ → ℕ → ℕ → Option Model
 is_done app s m status k =
     slice_get app.parts m >>? (λ q. slice_get s.modules m >>? (λ x. x.present >>? (λ p.
     if status == 1 then p.pending >>? (λ owed.
-        given (is_nothing owed.emits && (k == owed.pieces)) (with_present s m x (with_pending p None)))
+    given (is_nothing owed.emits && (k == owed.pieces)) (with_present s m x (with_pending p None)))
     else given ((nat_le 2 status && nat_le status 8) && ((k == 0) && (is_none p.pending && (not (status == 8) || waits app s.devices q.device)))) s)))
 
 -- other code writes an actuator, while no driver of it is present

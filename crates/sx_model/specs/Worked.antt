@@ -1,5 +1,5 @@
 -- Worked runs of the lighting application: a light sensor, a module that compares, and a lamp. Nobody has to believe this file.
-use Rattle.std.specs.Prelude.{ℕ, List, [], ◌∷◌, ◌++◌, codes, Option, Some, None}
+use Rattle.std.specs.Prelude.{ℕ, List, [], ◌∷◌, ◌++◌, codes, Some, None}
 use Rattle.sx_lang.specs.declared.sides.Side.TheVariants.{From, To}
 use Rattle.sx_lang.specs.declared.tree.DeviceKind.TheVariants.{Sensor, Actuator}
 use Rattle.sx_lang.specs.declared.tree.Decl.TheVariants as decl
@@ -25,7 +25,7 @@ logic = record {
     input = Some (codes "level");
     param = codes "v";
     body = Then (Chooses (Combined Gt (Variable (codes "v")) (Variable (codes "limit")))
-      (Then (Sends (codes "bright") (Constant 1)) Done) (Then (Sends (codes "bright") (Constant 0)) Done)) Done;
+        (Then (Sends (codes "bright") (Constant 1)) Done) (Then (Sends (codes "bright") (Constant 0)) Done)) Done;
   } ∷ [];
 }
 

@@ -1,4 +1,4 @@
-use Rattle.std.proofs.Common.{◌≡◌, ◌+◌, ◌*◌, ℕ, List, rules, arith, refl, ap, ◌∙◌, take}
+use Rattle.std.proofs.Common.{◌≡◌, ◌+◌, ◌*◌, ℕ, List, rules, arith, ap, ◌∙◌, take}
 use Rattle.sx_deployer.specs.Keeping.{known, key_of}
 use Rattle.sx_deployer.specs.Granting.{connection_key, side_number}
 use Rattle.sx_deployer.proofs.Granted.{granted}
