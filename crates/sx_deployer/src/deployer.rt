@@ -80,17 +80,17 @@ impl Deployer {
         ensures targets { self.new.targets ≡ self.old.targets }
         ensures asks { self.new.asks ≡ self.old.asks }
     {
-        let place = usize::from(module);
-        let last = self.attested[place];
-        let target = &self.targets[place];
-        if !is_answer(tag, target, boot, mac, self.open_asks[place])
+        let index = usize::from(module);
+        let last = self.attested[index];
+        let target = &self.targets[index];
+        if !is_answer(tag, target, boot, mac, self.open_asks[index])
             || !may_attest(&target.ends, &self.epochs, last, boot)
         {
             return Verdict::Denied;
         }
         self.epochs = renewed(&target.ends, &self.epochs, last);
-        self.open_asks[place] = None;
-        self.attested[place] = Some(boot);
+        self.open_asks[index] = None;
+        self.attested[index] = Some(boot);
         Verdict::Attested
     }
 

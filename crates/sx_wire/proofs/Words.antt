@@ -13,7 +13,7 @@ high_byte a b h g = omega arith
 pub word_bytes : (a b : ℕ) → a < 256 → b < 256 → little_bytes 2 (a + 256 * (b + 256 * 0)) ≡ a ∷ b ∷ []
 word_bytes a b h g = ap (λ x. x ∷ (a + 256 * (b + 256 * 0)) / 256 % 256 ∷ []) (low_byte a b h) ∙ ap (λ x. a ∷ x ∷ []) (high_byte a b h g)
 
--- the words at the front of a list of bytes are its first six bytes
+-- the words that a list of bytes begins with are its first six bytes
 pub header_read : (kind : ℕ) (bytes : List ℕ) → 6 ≤ length bytes → ((i : ℕ) → get_or bytes i 0 < 256) → little_number 2 bytes ≡ kind →
     header kind (little_number 2 (drop 2 bytes)) (little_number 2 (drop 4 bytes)) ≡ take 6 bytes
 header_read kind [] long fits is = absurd (omega arith)
