@@ -1,0 +1,25 @@
+//! Words in a text.
+
+ghost use Rattle.std.specs.Prelude.{◌≡◌, ◌++◌, ◌∷◌, [], OnOk};
+ghost use Rattle.sx_tmpl.specs.Text.{bytes_of};
+
+use std::alloc::AllocError as OutOfMemory;
+
+/// Appends a word, its low byte first.
+fn put_word(text: &mut Vec<u8>, word: u16) -> Result<(), OutOfMemory>
+    ensures { OnOk result (text.new.items ≡ text.old.items ++ bytes_of (word ∷ [])) }
+{
+    text.push((word % 256) as u8)?;
+    text.push((word / 256) as u8)?;
+    Ok(())
+}
+
+/// Appends words, one behind the other.
+pub fn put_words(text: &mut Vec<u8>, words: &[u16]) -> Result<(), OutOfMemory>
+    ensures { OnOk result (text.new.items ≡ text.old.items ++ bytes_of words.now) }
+{
+    for word in words {
+        put_word(text, *word)?;
+    }
+    Ok(())
+}

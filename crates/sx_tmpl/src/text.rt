@@ -1,0 +1,93 @@
+//! The text of a code.
+
+ghost use Rattle.std.specs.Prelude.{◌≡◌, ◌≤◌, ◌<◌, ◌+◌, ◌*◌, ◌++◌, ℕ, OnOk, IfOk, IsTrue, Some, length, slice_get};
+ghost use Rattle.sx_mean.specs.Offsets.{end_at};
+ghost use Rattle.sx_ir.specs.Sizes.{bytes, has_routine};
+ghost use Rattle.sx_ir.specs.declared.ir.Ir.{Ir};
+ghost use Rattle.sx_ir.specs.Sound.{is_sound};
+ghost use Rattle.sx_tmpl.specs.Fits.{Fits, IsTable};
+ghost use Rattle.sx_tmpl.specs.Performs.{DoesCode, HasRoom};
+ghost use Rattle.sx_tmpl.specs.Text.{addresses, bytes_of, packet_words, packet_words_of, text_words, words_of};
+
+use crate::routines::{put_entry, put_exit, put_routine, put_slots};
+use crate::table::{has_routine, Table};
+use crate::templates::put_operation;
+use crate::put::put_words;
+use std::alloc::{AllocError as OutOfMemory, Global};
+use sx_ir::Code;
+use sx_rules::Layout;
+use sx_tag::Tag;
+
+#[tactic(auto, using(crate::proofs::TextTurns::turn))]
+fn put_operations(text: &mut Vec<u8>, code: &Code, layout: &Layout, table: &Table) -> Result<(), OutOfMemory>
+    requires table { IsTable layout.now code.now table.now }
+    requires fits { (p : ℕ) (i : Ir) → slice_get code.now.ops.items p ≡ Some i → Fits layout.now code.now i }
+    ensures { OnOk result (text.new.items ≡ text.old.items ++ bytes_of (words_of layout.now (addresses layout.now code.now) 0 code.now.ops.items)) }
+{
+    for (place, operation) in code.ops.iter().enumerate() {
+        put_operation(text, code, layout, table, place, *operation)?;
+    }
+    Ok(())
+}
+
+/// Appends the packet routine of an end that has one.
+fn put_packet(text: &mut Vec<u8>, code: &Code, base: u16, end: u16) -> Result<(), OutOfMemory>
+    requires end { end < 256 }
+    requires slot { IsTrue (has_routine code.now.ops.items end) → base + (end_at end + 24) < 65536 }
+    requires base { base + 512 < 65536 }
+    ensures { OnOk result (text.new.items ≡ text.old.items ++ bytes_of (packet_words_of base code.now.ops.items end)) }
+{
+    if has_routine(&code.ops, end) { put_routine(text, base, end as u8) } else { Ok(()) }
+}
+
+/// Appends the packet routines.
+#[tactic(auto, using(crate::proofs::TextTurns::packets_none, crate::proofs::TextTurns::packets_turn))]
+fn put_packets(text: &mut Vec<u8>, code: &Code, base: u16) -> Result<(), OutOfMemory>
+    requires slots { (k : ℕ) → k < 256 → IsTrue (has_routine code.now.ops.items k) → base + (end_at k + 24) < 65536 }
+    requires base { base + 512 < 65536 }
+    ensures { OnOk result (text.new.items ≡ text.old.items ++ bytes_of (packet_words base code.now.ops.items 256)) }
+{
+    for end in 0..256 {
+        put_packet(text, code, base, end)?;
+    }
+    Ok(())
+}
+
+/// Appends the text of a code in a section of this layout.
+fn put_text(text: &mut Vec<u8>, code: &Code, layout: &Layout, table: &Table) -> Result<(), OutOfMemory>
+    requires table { IsTable layout.now code.now table.now }
+    requires base { layout.now.priv_from + 512 < 65536 }
+    requires fits { (p : ℕ) (i : Ir) → slice_get code.now.ops.items p ≡ Some i → Fits layout.now code.now i }
+    requires slots { (k : ℕ) → k < 256 → IsTrue (has_routine code.now.ops.items k) → layout.now.priv_from + (end_at k + 24) < 65536 }
+    ensures { OnOk result (text.new.items ≡ text.old.items ++ bytes_of (text_words layout.now code.now)) }
+{
+    put_entry(text, layout.priv_from)?;
+    put_operations(text, code, layout, table)?;
+    put_exit(text, layout.priv_from)?;
+    put_slots(text, layout.priv_from)?;
+    put_packets(text, code, layout.priv_from)?;
+    put_words(text, &[0])?;
+    Ok(())
+}
+
+/// The text of stack code in a section of this layout, as `specs/Text.antt` defines it: the entry, the
+/// template of each operation in order, the exit, the routine that opens a slot, a packet routine for each
+/// end of which some operation makes a packet, and a word of 0. The tag is that of the node on which the
+/// text is said to do the code.
+pub fn emit<T: Tag>(
+    alloc: Global,
+    tag: &T,
+    code: &Code,
+    layout: &Layout,
+) -> Result<Vec<u8>, OutOfMemory>
+    requires room { HasRoom layout.now }
+    requires sound { IsTrue (is_sound code.now.ops.items code.now.parts.items layout.now) }
+    ensures text { IfOk result (λ text. text.items ≡ bytes_of (text_words layout.now code.now)) }
+    ensures size { IfOk result (λ text. length text.items ≡ bytes code.now.ops.items) }
+    ensures does { IfOk result (λ text. DoesCode T.mac code.now layout.now text.items) }
+{
+    let table = Table::new(alloc, code, layout)?;
+    let mut text = Vec::new(alloc);
+    put_text(&mut text, code, layout, &table)?;
+    Ok(text)
+}
