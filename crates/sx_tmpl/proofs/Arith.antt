@@ -21,8 +21,6 @@ use Rattle.std.proofs.lemmas.Bool.{cases_eq, eq-eqb, ne_eqb}
 use Rattle.sx_tmpl.proofs.Plain.{inside, Leads, stood}
 use Rattle.sx_tmpl.proofs.Words as w
 use Rattle.sx_tmpl.proofs.Holding.{stack_word, holds_pop, holds_replace, cell_below}
-
-
 use Rattle.std.specs.Int.Bits.{and_lt, or_lt, xor_lt}
 use Rattle.sx_tmpl.proofs.Branch.{compare_end}
 
@@ -42,9 +40,35 @@ module _ (f : Fixed) (st : Stands f) (all : List Mark) (B : Watched → Violatio
       let up0 : ((r.sp + 2) % 65536 + 0) % 65536 ≡ r.sp + 2 = omega (arith, st.beneath, st.room) in
       let z = combine binary.Sub x y in
       let r2 = record r { pc = at c.place + 4; sp = r.sp + 2; sr = flags_after op2.Sub y x r.sr } in
-      two f st all B _ t 0 0x81b1 0 (λ x y. Two op2.Sub false (Increment 1) (Indexed 1 x)) refl refl (omega arith) w.sub_top event.Quiet r d 0 (omega (arith, sh.pc)) safe
-      (r.sp, refl, p1, y, h.words.0, (r.sp + 2, up0, p2, x, h.words.1.0, (r.sp + 2, up0, p2, z, omega arith, omega arith, λ kept. (r2, rw up refl, inside t 2 (omega arith), λ safe2.
-      stood f st all B at (next c (z ∷ rest)) r2 (put_cell d.mem (r.sp + 2) z) d 0 safe2 (omega (arith, on)) (holds_replace f st at c.back x z rest c.priv c.mem (r.sp + 2) d.mem safe.memory (holds_pop f st at c.back y (x ∷ rest) c.priv c.mem r.sp d.mem h)) sh.devices sh.marks))))
+      two f st all B _ t 0 0x81b1 0 (λ x y. Two op2.Sub false (Increment 1) (Indexed 1 x)) refl refl (omega arith) w.sub_top event.Quiet r d 0 (omega (arith, sh.pc)) safe (
+        r.sp,
+        refl,
+        p1,
+        y,
+        h.words.0,
+        (
+          r.sp + 2,
+          up0,
+          p2,
+          x,
+          h.words.1.0,
+          (
+            r.sp + 2,
+            up0,
+            p2,
+            z,
+            omega arith,
+            omega arith,
+            λ kept. (
+              r2,
+              rw up refl,
+              inside t 2 (omega arith),
+              λ safe2.
+                  stood f st all B at (next c (z ∷ rest)) r2 (put_cell d.mem (r.sp + 2) z) d 0 safe2 (omega (arith, on)) (holds_replace f st at c.back x z rest c.priv c.mem (r.sp + 2) d.mem safe.memory (holds_pop f st at c.back y (x ∷ rest) c.priv c.mem r.sp d.mem h)) sh.devices sh.marks,
+            ),
+          ),
+        ),
+      )
 
   pub and_leads : (c : Conf) (x y : ℕ) (rest : List ℕ) → L 2 (0xf1b1 ∷ 0 ∷ []) 1 (record c { stack = y ∷ x ∷ rest }) (next c (combine binary.And x y ∷ rest))
   and_leads c x y rest r d t on sh safe =
@@ -58,9 +82,35 @@ module _ (f : Fixed) (st : Stands f) (all : List Mark) (B : Watched → Violatio
       let up0 : ((r.sp + 2) % 65536 + 0) % 65536 ≡ r.sp + 2 = omega (arith, st.beneath, st.room) in
       let z = combine binary.And x y in
       let r2 = record r { pc = at c.place + 4; sp = r.sp + 2; sr = flags_after op2.And y x r.sr } in
-      two f st all B _ t 0 0xf1b1 0 (λ x y. Two op2.And false (Increment 1) (Indexed 1 x)) refl refl (omega arith) w.and_top event.Quiet r d 0 (omega (arith, sh.pc)) safe
-      (r.sp, refl, p1, y, h.words.0, (r.sp + 2, up0, p2, x, h.words.1.0, (r.sp + 2, up0, p2, z, refl, and_lt 16 x y lx ly, λ kept. (r2, rw up refl, inside t 2 (omega arith), λ safe2.
-      stood f st all B at (next c (z ∷ rest)) r2 (put_cell d.mem (r.sp + 2) z) d 0 safe2 (omega (arith, on)) (holds_replace f st at c.back x z rest c.priv c.mem (r.sp + 2) d.mem safe.memory (holds_pop f st at c.back y (x ∷ rest) c.priv c.mem r.sp d.mem h)) sh.devices sh.marks))))
+      two f st all B _ t 0 0xf1b1 0 (λ x y. Two op2.And false (Increment 1) (Indexed 1 x)) refl refl (omega arith) w.and_top event.Quiet r d 0 (omega (arith, sh.pc)) safe (
+        r.sp,
+        refl,
+        p1,
+        y,
+        h.words.0,
+        (
+          r.sp + 2,
+          up0,
+          p2,
+          x,
+          h.words.1.0,
+          (
+            r.sp + 2,
+            up0,
+            p2,
+            z,
+            refl,
+            and_lt 16 x y lx ly,
+            λ kept. (
+              r2,
+              rw up refl,
+              inside t 2 (omega arith),
+              λ safe2.
+                  stood f st all B at (next c (z ∷ rest)) r2 (put_cell d.mem (r.sp + 2) z) d 0 safe2 (omega (arith, on)) (holds_replace f st at c.back x z rest c.priv c.mem (r.sp + 2) d.mem safe.memory (holds_pop f st at c.back y (x ∷ rest) c.priv c.mem r.sp d.mem h)) sh.devices sh.marks,
+            ),
+          ),
+        ),
+      )
 
   pub or_leads : (c : Conf) (x y : ℕ) (rest : List ℕ) → L 2 (0xd1b1 ∷ 0 ∷ []) 1 (record c { stack = y ∷ x ∷ rest }) (next c (combine binary.Or x y ∷ rest))
   or_leads c x y rest r d t on sh safe =
@@ -74,9 +124,35 @@ module _ (f : Fixed) (st : Stands f) (all : List Mark) (B : Watched → Violatio
       let up0 : ((r.sp + 2) % 65536 + 0) % 65536 ≡ r.sp + 2 = omega (arith, st.beneath, st.room) in
       let z = combine binary.Or x y in
       let r2 = record r { pc = at c.place + 4; sp = r.sp + 2; sr = flags_after op2.Bis y x r.sr } in
-      two f st all B _ t 0 0xd1b1 0 (λ x y. Two op2.Bis false (Increment 1) (Indexed 1 x)) refl refl (omega arith) w.or_top event.Quiet r d 0 (omega (arith, sh.pc)) safe
-      (r.sp, refl, p1, y, h.words.0, (r.sp + 2, up0, p2, x, h.words.1.0, (r.sp + 2, up0, p2, z, refl, or_lt 16 x y lx ly, λ kept. (r2, rw up refl, inside t 2 (omega arith), λ safe2.
-      stood f st all B at (next c (z ∷ rest)) r2 (put_cell d.mem (r.sp + 2) z) d 0 safe2 (omega (arith, on)) (holds_replace f st at c.back x z rest c.priv c.mem (r.sp + 2) d.mem safe.memory (holds_pop f st at c.back y (x ∷ rest) c.priv c.mem r.sp d.mem h)) sh.devices sh.marks))))
+      two f st all B _ t 0 0xd1b1 0 (λ x y. Two op2.Bis false (Increment 1) (Indexed 1 x)) refl refl (omega arith) w.or_top event.Quiet r d 0 (omega (arith, sh.pc)) safe (
+        r.sp,
+        refl,
+        p1,
+        y,
+        h.words.0,
+        (
+          r.sp + 2,
+          up0,
+          p2,
+          x,
+          h.words.1.0,
+          (
+            r.sp + 2,
+            up0,
+            p2,
+            z,
+            refl,
+            or_lt 16 x y lx ly,
+            λ kept. (
+              r2,
+              rw up refl,
+              inside t 2 (omega arith),
+              λ safe2.
+                  stood f st all B at (next c (z ∷ rest)) r2 (put_cell d.mem (r.sp + 2) z) d 0 safe2 (omega (arith, on)) (holds_replace f st at c.back x z rest c.priv c.mem (r.sp + 2) d.mem safe.memory (holds_pop f st at c.back y (x ∷ rest) c.priv c.mem r.sp d.mem h)) sh.devices sh.marks,
+            ),
+          ),
+        ),
+      )
 
   pub xor_leads : (c : Conf) (x y : ℕ) (rest : List ℕ) → L 2 (0xe1b1 ∷ 0 ∷ []) 1 (record c { stack = y ∷ x ∷ rest }) (next c (combine binary.Xor x y ∷ rest))
   xor_leads c x y rest r d t on sh safe =
@@ -90,9 +166,35 @@ module _ (f : Fixed) (st : Stands f) (all : List Mark) (B : Watched → Violatio
       let up0 : ((r.sp + 2) % 65536 + 0) % 65536 ≡ r.sp + 2 = omega (arith, st.beneath, st.room) in
       let z = combine binary.Xor x y in
       let r2 = record r { pc = at c.place + 4; sp = r.sp + 2; sr = flags_after op2.Xor y x r.sr } in
-      two f st all B _ t 0 0xe1b1 0 (λ x y. Two op2.Xor false (Increment 1) (Indexed 1 x)) refl refl (omega arith) w.xor_top event.Quiet r d 0 (omega (arith, sh.pc)) safe
-      (r.sp, refl, p1, y, h.words.0, (r.sp + 2, up0, p2, x, h.words.1.0, (r.sp + 2, up0, p2, z, refl, xor_lt 16 x y lx ly, λ kept. (r2, rw up refl, inside t 2 (omega arith), λ safe2.
-      stood f st all B at (next c (z ∷ rest)) r2 (put_cell d.mem (r.sp + 2) z) d 0 safe2 (omega (arith, on)) (holds_replace f st at c.back x z rest c.priv c.mem (r.sp + 2) d.mem safe.memory (holds_pop f st at c.back y (x ∷ rest) c.priv c.mem r.sp d.mem h)) sh.devices sh.marks))))
+      two f st all B _ t 0 0xe1b1 0 (λ x y. Two op2.Xor false (Increment 1) (Indexed 1 x)) refl refl (omega arith) w.xor_top event.Quiet r d 0 (omega (arith, sh.pc)) safe (
+        r.sp,
+        refl,
+        p1,
+        y,
+        h.words.0,
+        (
+          r.sp + 2,
+          up0,
+          p2,
+          x,
+          h.words.1.0,
+          (
+            r.sp + 2,
+            up0,
+            p2,
+            z,
+            refl,
+            xor_lt 16 x y lx ly,
+            λ kept. (
+              r2,
+              rw up refl,
+              inside t 2 (omega arith),
+              λ safe2.
+                  stood f st all B at (next c (z ∷ rest)) r2 (put_cell d.mem (r.sp + 2) z) d 0 safe2 (omega (arith, on)) (holds_replace f st at c.back x z rest c.priv c.mem (r.sp + 2) d.mem safe.memory (holds_pop f st at c.back y (x ∷ rest) c.priv c.mem r.sp d.mem h)) sh.devices sh.marks,
+            ),
+          ),
+        ),
+      )
 
   pub neg_leads : (c : Conf) (x : ℕ) (rest : List ℕ) → L 4 (0x430c ∷ 0x812c ∷ 0x4c81 ∷ 0 ∷ []) 3 (record c { stack = x ∷ rest }) (next c (apply unary.Neg x ∷ rest))
   neg_leads c x rest r d t on sh safe =
@@ -108,12 +210,40 @@ module _ (f : Fixed) (st : Stands f) (all : List Mark) (B : Watched → Violatio
       let r2 = record r { pc = at c.place + 4; sr = sr1; r12 = z } in
       let r3 = record r2 { pc = at c.place + 8 } in
       one f st all B _ t 0 0x430c (λ x y. Two op2.Mov false (Const 0) (Reg 12)) refl (omega arith) w.zero_12 event.Quiet r d 2 (omega (arith, sh.pc)) safe
-      (λ kept. (r1, rw (flags_stay r.sr) refl, inside t 1 (omega arith), λ s1.
-      one f st all B _ t 1 0x812c (λ x y. Two op2.Sub false (Indirect 1) (Reg 12)) refl (omega arith) w.sub_from_12 event.Quiet r1 d 1 refl s1
-      (r.sp, refl, p1, x, h.words.0, λ kept. (r2, rw value refl, inside t 2 (omega arith), λ s2.
-      two f st all B _ t 2 0x4c81 0 (λ x y. Two op2.Mov false (Reg 12) (Indexed 1 x)) refl refl (omega arith) w.put_12_top event.Quiet r2 d 0 refl s2
-      (r.sp, up0, p1, z, omega arith, omega arith, λ kept3. (r3, rw (flags_stay sr1) refl, inside t 4 (omega arith), λ s3.
-      stood f st all B at (next c (z ∷ rest)) r3 (put_cell d.mem r.sp z) d 0 s3 (omega (arith, on)) (holds_replace f st at c.back x z rest c.priv c.mem r.sp d.mem safe.memory h) sh.devices sh.marks))))))
+      (λ kept. (
+        r1,
+        rw (flags_stay r.sr) refl,
+        inside t 1 (omega arith),
+        λ s1.
+            one f st all B _ t 1 0x812c (λ x y. Two op2.Sub false (Indirect 1) (Reg 12)) refl (omega arith) w.sub_from_12 event.Quiet r1 d 1 refl s1 (
+              r.sp,
+              refl,
+              p1,
+              x,
+              h.words.0,
+              λ kept. (
+                r2,
+                rw value refl,
+                inside t 2 (omega arith),
+                λ s2.
+                    two f st all B _ t 2 0x4c81 0 (λ x y. Two op2.Mov false (Reg 12) (Indexed 1 x)) refl refl (omega arith) w.put_12_top event.Quiet r2 d 0 refl s2 (
+                      r.sp,
+                      up0,
+                      p1,
+                      z,
+                      omega arith,
+                      omega arith,
+                      λ kept3. (
+                        r3,
+                        rw (flags_stay sr1) refl,
+                        inside t 4 (omega arith),
+                        λ s3.
+                            stood f st all B at (next c (z ∷ rest)) r3 (put_cell d.mem r.sp z) d 0 s3 (omega (arith, on)) (holds_replace f st at c.back x z rest c.priv c.mem r.sp d.mem safe.memory h) sh.devices sh.marks,
+                      ),
+                    ),
+              ),
+            ),
+      ))
 
   pub inv_leads : (c : Conf) (x : ℕ) (rest : List ℕ) → L 4 (0x433c ∷ 0x812c ∷ 0x4c81 ∷ 0 ∷ []) 3 (record c { stack = x ∷ rest }) (next c (apply unary.Inv x ∷ rest))
   inv_leads c x rest r d t on sh safe =
@@ -129,12 +259,40 @@ module _ (f : Fixed) (st : Stands f) (all : List Mark) (B : Watched → Violatio
       let r2 = record r { pc = at c.place + 4; sr = sr1; r12 = z } in
       let r3 = record r2 { pc = at c.place + 8 } in
       one f st all B _ t 0 0x433c (λ x y. Two op2.Mov false (Const 65535) (Reg 12)) refl (omega arith) w.ones_12 event.Quiet r d 2 (omega (arith, sh.pc)) safe
-      (λ kept. (r1, rw (flags_stay r.sr) refl, inside t 1 (omega arith), λ s1.
-      one f st all B _ t 1 0x812c (λ x y. Two op2.Sub false (Indirect 1) (Reg 12)) refl (omega arith) w.sub_from_12 event.Quiet r1 d 1 refl s1
-      (r.sp, refl, p1, x, h.words.0, λ kept. (r2, rw value refl, inside t 2 (omega arith), λ s2.
-      two f st all B _ t 2 0x4c81 0 (λ x y. Two op2.Mov false (Reg 12) (Indexed 1 x)) refl refl (omega arith) w.put_12_top event.Quiet r2 d 0 refl s2
-      (r.sp, up0, p1, z, omega arith, omega arith, λ kept3. (r3, rw (flags_stay sr1) refl, inside t 4 (omega arith), λ s3.
-      stood f st all B at (next c (z ∷ rest)) r3 (put_cell d.mem r.sp z) d 0 s3 (omega (arith, on)) (holds_replace f st at c.back x z rest c.priv c.mem r.sp d.mem safe.memory h) sh.devices sh.marks))))))
+      (λ kept. (
+        r1,
+        rw (flags_stay r.sr) refl,
+        inside t 1 (omega arith),
+        λ s1.
+            one f st all B _ t 1 0x812c (λ x y. Two op2.Sub false (Indirect 1) (Reg 12)) refl (omega arith) w.sub_from_12 event.Quiet r1 d 1 refl s1 (
+              r.sp,
+              refl,
+              p1,
+              x,
+              h.words.0,
+              λ kept. (
+                r2,
+                rw value refl,
+                inside t 2 (omega arith),
+                λ s2.
+                    two f st all B _ t 2 0x4c81 0 (λ x y. Two op2.Mov false (Reg 12) (Indexed 1 x)) refl refl (omega arith) w.put_12_top event.Quiet r2 d 0 refl s2 (
+                      r.sp,
+                      up0,
+                      p1,
+                      z,
+                      omega arith,
+                      omega arith,
+                      λ kept3. (
+                        r3,
+                        rw (flags_stay sr1) refl,
+                        inside t 4 (omega arith),
+                        λ s3.
+                            stood f st all B at (next c (z ∷ rest)) r3 (put_cell d.mem r.sp z) d 0 s3 (omega (arith, on)) (holds_replace f st at c.back x z rest c.priv c.mem r.sp d.mem safe.memory h) sh.devices sh.marks,
+                      ),
+                    ),
+              ),
+            ),
+      ))
 
   pub not_leads : (c : Conf) (x : ℕ) (rest : List ℕ) → L 7 (0x9381 ∷ 0 ∷ 0x4381 ∷ 0 ∷ 0x2002 ∷ 0x4391 ∷ 0 ∷ []) 4 (record c { stack = x ∷ rest }) (next c (apply unary.Not x ∷ rest))
   not_leads c x rest r d t on sh safe =
@@ -150,11 +308,34 @@ module _ (f : Fixed) (st : Stands f) (all : List Mark) (B : Watched → Violatio
         | inl e ↦ equal 0 x r.sr (omega arith) e ∙ sym (eq-eqb x 0 e)
         | inr ne ↦ unequal 0 x r.sr (omega arith) lx ne ∙ sym (ne_eqb x 0 ne)
       ] in
-      two f st all B _ t 0 0x9381 0 (λ x y. Two op2.Cmp false (Const 0) (Indexed 1 x)) refl refl (omega arith) w.test_top event.Quiet r d 3 (omega (arith, sh.pc)) safe
-      (r.sp, up0, p1, x, h.words.0, λ kept. (r1, refl, inside t 2 (omega arith), λ s1.
-      two f st all B _ t 2 0x4381 0 (λ x y. Two op2.Mov false (Const 0) (Indexed 1 x)) refl refl (omega arith) w.zero_top event.Quiet r1 d 2 refl s1
-      (r.sp, up0, p1, 0, refl, omega arith, λ kept2. (r2, rw (flags_stay sr1) refl, inside t 4 (omega arith), λ s2.
-      compare_end f st all B at t 4 (next c (truth (x == 0) ∷ rest)) rest 0x2002 0 (x == 0) r2 (record d { mem = put_cell d.mem r.sp 0 }) refl refl refl (omega arith) w.jne_2 (ap not z) refl on refl h2 sh.devices sh.marks s2))))
+      two f st all B _ t 0 0x9381 0 (λ x y. Two op2.Cmp false (Const 0) (Indexed 1 x)) refl refl (omega arith) w.test_top event.Quiet r d 3 (omega (arith, sh.pc)) safe (
+        r.sp,
+        up0,
+        p1,
+        x,
+        h.words.0,
+        λ kept. (
+          r1,
+          refl,
+          inside t 2 (omega arith),
+          λ s1.
+              two f st all B _ t 2 0x4381 0 (λ x y. Two op2.Mov false (Const 0) (Indexed 1 x)) refl refl (omega arith) w.zero_top event.Quiet r1 d 2 refl s1 (
+                r.sp,
+                up0,
+                p1,
+                0,
+                refl,
+                omega arith,
+                λ kept2. (
+                  r2,
+                  rw (flags_stay sr1) refl,
+                  inside t 4 (omega arith),
+                  λ s2.
+                      compare_end f st all B at t 4 (next c (truth (x == 0) ∷ rest)) rest 0x2002 0 (x == 0) r2 (record d { mem = put_cell d.mem r.sp 0 }) refl refl refl (omega arith) w.jne_2 (ap not z) refl on refl h2 sh.devices sh.marks s2,
+                ),
+              ),
+        ),
+      )
 
   pub drop_leads : (c : Conf) (x : ℕ) (rest : List ℕ) → L 1 (0x5321 ∷ []) 1 (record c { stack = x ∷ rest }) (next c rest)
   drop_leads c x rest r d t on sh safe =
@@ -163,5 +344,10 @@ module _ (f : Fixed) (st : Stands f) (all : List Mark) (B : Watched → Violatio
       let up : (r.sp % 65536 + 2 + 0) % 65536 - (r.sp % 65536 + 2 + 0) % 65536 % 2 ≡ r.sp + 2 = omega (arith, p1.high, p1.is_even, st.beneath) in
       let r2 = record r { pc = at c.place + 2; sp = r.sp + 2; sr = flags_after op2.Add 2 (r.sp % 65536) r.sr } in
       one f st all B _ t 0 0x5321 (λ x y. Two op2.Add false (Const 2) (Reg 1)) refl (omega arith) w.drop_word event.Quiet r d 0 (omega (arith, sh.pc)) safe
-      (λ kept. (r2, rw up refl, inside t 1 (omega arith), λ s2.
-      stood f st all B at (next c rest) r2 d.mem d 0 s2 (omega (arith, on)) (holds_pop f st at c.back x rest c.priv c.mem r.sp d.mem h) sh.devices sh.marks))
+      (λ kept. (
+        r2,
+        rw up refl,
+        inside t 1 (omega arith),
+        λ s2.
+            stood f st all B at (next c rest) r2 d.mem d 0 s2 (omega (arith, on)) (holds_pop f st at c.back x rest c.priv c.mem r.sp d.mem h) sh.devices sh.marks,
+      ))

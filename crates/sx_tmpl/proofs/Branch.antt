@@ -23,7 +23,6 @@ use Rattle.sx_tmpl.proofs.Plain.{inside, Leads, stood}
 use Rattle.sx_tmpl.proofs.Words as w
 use Rattle.sx_tmpl.proofs.Holding.{stack_word, holds_pop, holds_replace, cell_below}
 
-
 module _ (f : Fixed) (st : Stands f) (all : List Mark) (B : Watched → Violation → Type 0) (at : ℕ → ℕ) where
   abbrev L : ℕ → List ℕ → ℕ → Conf → Conf → Type 0
   L n ws count c c2 = Leads f st all B at n ws count c c2
@@ -44,10 +43,21 @@ module _ (f : Fixed) (st : Stands f) (all : List Mark) (B : Watched → Violatio
       let up : (r.sp + 2) % 65536 ≡ r.sp + 2 = omega (arith, p1.high, st.beneath) in
       let r1 = record r { pc = at c.place + 2; sp = r.sp + 2; r12 = x; sr = flags_after op2.Mov 0 0 r.sr } in
       let r2 = record r1 { pc = at c.place + 4; sr = flags_after op2.Cmp 0 (x % 65536) r1.sr } in
-      one f st all B Q t 0 0x413c (λ x y. Two op2.Mov false (Increment 1) (Reg 12)) refl (omega arith) w.pop_12 event.Quiet r d (suc k) (omega (arith, sh.pc)) safe
-      (r.sp, refl, p1, x, h.words.0, λ kept. (r1, rw up refl, inside t 1 (omega arith), λ s1.
-      one f st all B Q t 1 0x930c (λ x y. Two op2.Cmp false (Const 0) (Reg 12)) refl (omega arith) w.test_12 event.Quiet r1 d k refl s1
-      (λ kept. (r2, refl, inside t 2 (omega arith), after))))
+      one f st all B Q t 0 0x413c (λ x y. Two op2.Mov false (Increment 1) (Reg 12)) refl (omega arith) w.pop_12 event.Quiet r d (suc k) (omega (arith, sh.pc)) safe (
+        r.sp,
+        refl,
+        p1,
+        x,
+        h.words.0,
+        λ kept. (
+          r1,
+          rw up refl,
+          inside t 1 (omega arith),
+          λ s1.
+              one f st all B Q t 1 0x930c (λ x y. Two op2.Cmp false (Const 0) (Reg 12)) refl (omega arith) w.test_12 event.Quiet r1 d k refl s1
+              (λ kept. (r2, refl, inside t 2 (omega arith), after)),
+        ),
+      )
 
   pub jump_zero_leads : (c : Conf) (q : ℕ) (rest : List ℕ) → InText f (at q) → at q % 2 ≡ 0 → L 5 (0x413c ∷ 0x930c ∷ 0x2002 ∷ 0x4030 ∷ at q ∷ []) 4 (record c { stack = 0 ∷ rest }) (record c { place = q; stack = rest })
   jump_zero_leads c q rest to ev r d t on sh safe =
@@ -60,9 +70,14 @@ module _ (f : Fixed) (st : Stands f) (all : List Mark) (B : Watched → Violatio
       let r3 = record r2 { pc = at c.place + 6 } in
       let r4 = record r3 { pc = at q; sr = flags_after op2.Mov 0 0 r3.sr } in
       one f st all B _ t 2 0x2002 (λ x y. Jump 0 (pos 2)) refl (omega arith) w.jne_2 event.Quiet r2 d 1 refl s2
-      (λ kept. (r3, rw z refl, inside t 3 (omega arith), λ s3.
-      two f st all B _ t 3 0x4030 (at q) (λ x y. Two op2.Mov false (Immediate x) (Reg 0)) refl refl (omega arith) w.goto event.Quiet r3 d 0 refl s3
-      (λ kept. (r4, rw e refl, to, λ s4. stood f st all B at (record c { place = q; stack = rest }) r4 d.mem d 0 s4 refl (holds_pop f st at c.back 0 rest c.priv c.mem r.sp d.mem h) sh.devices sh.marks)))))
+      (λ kept. (
+        r3,
+        rw z refl,
+        inside t 3 (omega arith),
+        λ s3.
+            two f st all B _ t 3 0x4030 (at q) (λ x y. Two op2.Mov false (Immediate x) (Reg 0)) refl refl (omega arith) w.goto event.Quiet r3 d 0 refl s3
+            (λ kept. (r4, rw e refl, to, λ s4. stood f st all B at (record c { place = q; stack = rest }) r4 d.mem d 0 s4 refl (holds_pop f st at c.back 0 rest c.priv c.mem r.sp d.mem h) sh.devices sh.marks)),
+      )))
 
   pub jump_not_leads : (c : Conf) (q v : ℕ) (rest : List ℕ) → L 5 (0x413c ∷ 0x930c ∷ 0x2002 ∷ 0x4030 ∷ at q ∷ []) 4 (record c { stack = suc v ∷ rest }) (next c rest)
   jump_not_leads c q v rest r d t on sh safe =
@@ -87,16 +102,38 @@ module _ (f : Fixed) (st : Stands f) (all : List Mark) (B : Watched → Violatio
       let r4 = record r { pc = P + 2 * (k + 1) } in
       let r5 = record r4 { pc = P + 2 * (k + 1 + 2); sr = flags_after op2.Mov 0 0 r.sr } in
       one f st all B _ t k jw (λ x y. Jump cond (pos 2)) g0 (omega arith) reads event.Quiet r d 1 pc safe
-      (λ kept. (r4, rw tk refl, inside t (k + 1) (omega arith), λ s4.
-      two f st all B _ t (k + 1) 0x4391 0 (λ x y. Two op2.Mov false (Const 1) (Indexed 1 x)) g1 g2 le w.one_top event.Quiet r4 d 0 refl s4
-      (r.sp, up0, p2, 1, refl, omega arith, λ kept5. (r5, refl, inside t (k + 1 + 2) le, λ s5.
-      stood f st all B at c2 r5 (put_cell d.mem r.sp 1) d 0 s5 (sym on) (subst (λ l. Holds f at c2.back l c2.priv c2.mem r.sp (put_cell d.mem r.sp 1)) (sym stack) (holds_replace f st at c2.back 0 1 rest c2.priv c2.mem r.sp d.mem safe.memory h)) dev marks))))
+      (λ kept. (
+        r4,
+        rw tk refl,
+        inside t (k + 1) (omega arith),
+        λ s4.
+            two f st all B _ t (k + 1) 0x4391 0 (λ x y. Two op2.Mov false (Const 1) (Indexed 1 x)) g1 g2 le w.one_top event.Quiet r4 d 0 refl s4 (
+              r.sp,
+              up0,
+              p2,
+              1,
+              refl,
+              omega arith,
+              λ kept5. (
+                r5,
+                refl,
+                inside t (k + 1 + 2) le,
+                λ s5.
+                    stood f st all B at c2 r5 (put_cell d.mem r.sp 1) d 0 s5 (sym on) (subst (λ l. Holds f at c2.back l c2.priv c2.mem r.sp (put_cell d.mem r.sp 1)) (sym stack) (holds_replace f st at c2.back 0 1 rest c2.priv c2.mem r.sp d.mem safe.memory h)) dev marks,
+              ),
+            ),
+      ))
   compare_end {P = P} t k c2 rest jw cond false r d g0 g1 g2 le reads tk pc on stack h dev marks safe =
       let to : (P + 2 * (k + 1) + 4) % 65536 ≡ P + 2 * (k + 1 + 2) = omega (arith, t.to, st.below) in
       let r4 = record r { pc = P + 2 * (k + 1 + 2) } in
       one f st all B _ t k jw (λ x y. Jump cond (pos 2)) g0 (omega arith) reads event.Quiet r d 1 pc safe
-      (λ kept. (r4, rw (tk, to) refl, inside t (k + 1 + 2) le, λ s4.
-      stood f st all B at c2 r4 d.mem d 1 s4 (sym on) (subst (λ l. Holds f at c2.back l c2.priv c2.mem r.sp d.mem) (sym stack) h) dev marks))
+      (λ kept. (
+        r4,
+        rw (tk, to) refl,
+        inside t (k + 1 + 2) le,
+        λ s4.
+            stood f st all B at c2 r4 d.mem d 1 s4 (sym on) (subst (λ l. Holds f at c2.back l c2.priv c2.mem r.sp d.mem) (sym stack) h) dev marks,
+      ))
 
   -- A comparison of the two upper words: the first is popped and compared, and 0 takes the place of the other.
   compare_leads : (c : Conf) (x y : ℕ) (rest : List ℕ) (jw cond : ℕ) (b : Bool) → Reads jw 1 (λ x y. Jump cond (pos 2))
@@ -117,13 +154,47 @@ module _ (f : Fixed) (st : Stands f) (all : List Mark) (B : Watched → Violatio
       let r1 = record r { pc = at c.place + 2; sp = sp; r12 = y; sr = flags_after op2.Mov 0 0 r.sr } in
       let r2 = record r1 { pc = at c.place + 6; sr = flags_after op2.Cmp (y % 65536) x r1.sr } in
       let r3 = record r2 { pc = at c.place + 10; sr = flags_after op2.Mov 0 0 r2.sr } in
-      one f st all B _ t 0 0x413c (λ x y. Two op2.Mov false (Increment 1) (Reg 12)) refl (omega arith) w.pop_12 event.Quiet r d 4 (omega (arith, sh.pc)) safe
-      (r.sp, refl, p1, y, h.words.0, λ kept. (r1, rw up refl, inside t 1 (omega arith), λ s1.
-      two f st all B _ t 1 0x9c81 0 (λ x y. Two op2.Cmp false (Reg 12) (Indexed 1 x)) refl refl (omega arith) w.cmp_12_top event.Quiet r1 d 3 refl s1
-      (sp, up0, p2, x, h.words.1.0, λ kept. (r2, refl, inside t 3 (omega arith), λ s2.
-      two f st all B _ t 3 0x4381 0 (λ x y. Two op2.Mov false (Const 0) (Indexed 1 x)) refl refl (omega arith) w.zero_top event.Quiet r2 d 2 refl s2
-      (sp, up0, p2, 0, refl, omega arith, λ kept3. (r3, refl, inside t 5 (omega arith), λ s3.
-      compare_end t 5 (next c (truth b ∷ rest)) rest jw cond b r3 (record d { mem = put_cell d.mem sp 0 }) refl refl refl (omega arith) reads (jumps r1.sr ly lx) refl on refl h3 sh.devices sh.marks s3))))))
+      one f st all B _ t 0 0x413c (λ x y. Two op2.Mov false (Increment 1) (Reg 12)) refl (omega arith) w.pop_12 event.Quiet r d 4 (omega (arith, sh.pc)) safe (
+        r.sp,
+        refl,
+        p1,
+        y,
+        h.words.0,
+        λ kept. (
+          r1,
+          rw up refl,
+          inside t 1 (omega arith),
+          λ s1.
+              two f st all B _ t 1 0x9c81 0 (λ x y. Two op2.Cmp false (Reg 12) (Indexed 1 x)) refl refl (omega arith) w.cmp_12_top event.Quiet r1 d 3 refl s1 (
+                sp,
+                up0,
+                p2,
+                x,
+                h.words.1.0,
+                λ kept. (
+                  r2,
+                  refl,
+                  inside t 3 (omega arith),
+                  λ s2.
+                      two f st all B _ t 3 0x4381 0 (λ x y. Two op2.Mov false (Const 0) (Indexed 1 x)) refl refl (omega arith) w.zero_top event.Quiet r2 d 2 refl s2 (
+                        sp,
+                        up0,
+                        p2,
+                        0,
+                        refl,
+                        omega arith,
+                        λ kept3. (
+                          r3,
+                          refl,
+                          inside t 5 (omega arith),
+                          λ s3.
+                              compare_end t 5 (next c (truth b ∷ rest)) rest jw cond b r3 (record d { mem = put_cell d.mem sp 0 }) refl refl refl (omega arith) reads (jumps r1.sr ly lx) refl on refl h3 sh.devices sh.marks s3,
+                        ),
+                      ),
+                ),
+              ),
+        ),
+      )
 
   pub lt_leads : (c : Conf) (x y : ℕ) (rest : List ℕ) → L 8 (0x413c ∷ 0x9c81 ∷ 0 ∷ 0x4381 ∷ 0 ∷ 0x2c02 ∷ 0x4391 ∷ 0 ∷ []) 5 (record c { stack = y ∷ x ∷ rest }) (next c (combine binary.Lt x y ∷ rest))
   lt_leads c x y rest = compare_leads c x y rest 0x2c02 3 (nat_lt x y) w.jc_2 (λ sr ly lx.

@@ -41,9 +41,10 @@ length-put_bytes (b ∷ bs) m a = length-put_bytes bs (slice_set m a (b % 256)) 
 -- bytes that were written stand there
 pub bytes_put : (bs m : List ℕ) (a : ℕ) → AreBytes bs → a + length bs ≤ length m → BytesAt (put_bytes m a bs) a bs
 bytes_put [] m a h le = tt
-bytes_put (b ∷ bs) m a h le =
-    (put_bytes_other bs (slice_set m a (b % 256)) (a + 1) a (inl (omega arith)) ∙ get_or-set_same m a (b % 256) 0 (omega arith) ∙ (let lt = h.0 in omega arith),
-    bytes_put bs (slice_set m a (b % 256)) (a + 1) h.1 (let l = length-set m a (b % 256) in omega arith))
+bytes_put (b ∷ bs) m a h le = (
+  put_bytes_other bs (slice_set m a (b % 256)) (a + 1) a (inl (omega arith)) ∙ get_or-set_same m a (b % 256) 0 (omega arith) ∙ (let lt = h.0 in omega arith),
+  bytes_put bs (slice_set m a (b % 256)) (a + 1) h.1 (let l = length-set m a (b % 256) in omega arith),
+)
 
 pub two_bytes : (m : List ℕ) (a v : ℕ) → ((b : ℕ) → slice_index m b < 256) → cell m a ≡ v → (slice_index m a ≡ v % 256) × (slice_index m (a + 1) ≡ v / 256)
 unfolding cell

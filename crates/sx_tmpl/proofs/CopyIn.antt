@@ -34,7 +34,6 @@ use Rattle.sx_tmpl.proofs.Plain.{inside}
 use Rattle.sx_tmpl.proofs.Words as w
 use Rattle.sx_tmpl.proofs.Holding.{data_word, holds_word}
 
-
 abbrev pub copy_in_words : ℕ → ℕ → ℕ → List ℕ
 copy_in_words base n o = 0x421c ∷ (base + 8) ∷ 0x403d ∷ (base + o) ∷ 0x403f ∷ n ∷ 0x4cfd ∷ 0 ∷ 0x531d ∷ 0x831f ∷ 0x23fb ∷ []
 
@@ -78,9 +77,14 @@ module _ (f : Fixed) (st : Stands f) (all : List Mark) (B : Watched → Violatio
         let r0 = record r { pc = P + 18; sr = sr; r12 = src; r13 = dst; r15 = 1 } in
         let r1 = record r { pc = P + 20; sr = sr1; r12 = src; r13 = dst; r15 = 0 } in
         one f st all B Q t 9 0x831f (λ x y. Two op2.Sub false (Const 1) (Reg 15)) refl (omega arith) w.count_15 event.Quiet r0 d (suc j) refl safe
-        (λ kept. (r1, refl, inside t 10 (omega arith), λ s1.
-        one f st all B Q t 10 0x23fb (λ x y. Jump 0 (negsuc 4)) refl (omega arith) w.jne_back_5 event.Quiet r1 d j refl s1
-        (λ kept. (record r1 { pc = P + 22 }, rw z refl, inside t 11 (omega arith), after sr1))))
+        (λ kept. (
+          r1,
+          refl,
+          inside t 10 (omega arith),
+          λ s1.
+              one f st all B Q t 10 0x23fb (λ x y. Jump 0 (negsuc 4)) refl (omega arith) w.jne_back_5 event.Quiet r1 d j refl s1
+              (λ kept. (record r1 { pc = P + 22 }, rw z refl, inside t 11 (omega arith), after sr1)),
+        ))
     count_down r d sr src dst (suc left) j lt safe after =
         let sr1 = flags_after op2.Cmp 1 (suc (suc left) % 65536) sr in
         let z = unequal 1 (suc (suc left) % 65536) sr (omega arith) (omega arith) (omega arith) in
@@ -89,15 +93,20 @@ module _ (f : Fixed) (st : Stands f) (all : List Mark) (B : Watched → Violatio
         let r0 = record r { pc = P + 18; sr = sr; r12 = src; r13 = dst; r15 = suc (suc left) } in
         let r1 = record r { pc = P + 20; sr = sr1; r12 = src; r13 = dst; r15 = suc left } in
         one f st all B Q t 9 0x831f (λ x y. Two op2.Sub false (Const 1) (Reg 15)) refl (omega arith) w.count_15 event.Quiet r0 d (suc j) refl safe
-        (λ kept. (r1, rw less refl, inside t 10 (omega arith), λ s1.
-        one f st all B Q t 10 0x23fb (λ x y. Jump 0 (negsuc 4)) refl (omega arith) w.jne_back_5 event.Quiet r1 d j refl s1
-        (λ kept. (record r1 { pc = P + 12 }, rw (z, to) refl, inside t 6 (omega arith), after sr1))))
+        (λ kept. (
+          r1,
+          rw less refl,
+          inside t 10 (omega arith),
+          λ s1.
+              one f st all B Q t 10 0x23fb (λ x y. Jump 0 (negsuc 4)) refl (omega arith) w.jne_back_5 event.Quiet r1 d j refl s1
+              (λ kept. (record r1 { pc = P + 12 }, rw (z, to) refl, inside t 6 (omega arith), after sr1)),
+        ))
 
     -- one byte, or the end
     one_byte : (r : Regs) (d : Data) (sr src o left j : ℕ) (priv : List ℕ) → left < 65535 → src < 65536 → IsData o → o < length priv → Holds f at back stack priv outside r.sp d.mem → Safe f all (running f (turn_at r sr src (base_of f + o) (suc left)) d)
         → ((v : Violation) → refused f Read bad.Read src ≡ Some v → B (running f (turn_at r sr src (base_of f + o) (suc left)) d) v)
         → (refused f Read bad.Read src ≡ None → (m : List ℕ) (sr : ℕ) → Holds f at back stack (slice_set priv o (slice_index d.mem src % 256)) outside r.sp m
-            → Safe f all (running f (record r { pc = behind left; sr = sr; r12 = (src + 1) % 65536; r13 = base_of f + (o + 1); r15 = left }) (record d { mem = m })) → Runs f all B Q j (running f (record r { pc = behind left; sr = sr; r12 = (src + 1) % 65536; r13 = base_of f + (o + 1); r15 = left }) (record d { mem = m })))
+        → Safe f all (running f (record r { pc = behind left; sr = sr; r12 = (src + 1) % 65536; r13 = base_of f + (o + 1); r15 = left }) (record d { mem = m })) → Runs f all B Q j (running f (record r { pc = behind left; sr = sr; r12 = (src + 1) % 65536; r13 = base_of f + (o + 1); r15 = left }) (record d { mem = m })))
         → Runs f all B Q (suc (suc (suc (suc j)))) (running f (turn_at r sr src (base_of f + o) (suc left)) d)
     one_byte r d sr src o left j priv lt ls i fits h safe stop allowed =
         let sz = h.size in
@@ -111,12 +120,32 @@ module _ (f : Fixed) (st : Stands f) (all : List Mark) (B : Watched → Violatio
         let r1 = record r { pc = P + 16; sr = sr; r12 = (src + 1) % 65536; r13 = dst; r15 = suc left } in
         let sr2 = flags_after op2.Add 1 (dst % 65536) sr in
         let r2 = record r1 { pc = P + 18; sr = sr2; r13 = base_of f + (o + 1) } in
-        two f st all B Q t 6 0x4cfd 0 (λ x y. Two op2.Mov true (Increment 12) (Indexed 13 x)) refl refl (omega arith) w.move_byte_12_13 event.Quiet (turn_at r sr src dst (suc left)) d (suc (suc (suc j))) refl safe
-        (src, refl, stop, λ ok. (dst, up0, Inside place, (λ v e. absurd (none-some v (sym free ∙ e))), λ _ kept1. (r1, rw (flags_stay sr) refl, inside t 8 (omega arith), λ s1.
-        one f st all B Q t 8 0x531d (λ x y. Two op2.Add false (Const 1) (Reg 13)) refl (omega arith) w.raise_13 event.Quiet r1 (record d { mem = m1 }) (suc (suc j)) refl s1
-        (λ kept2. (r2, rw up refl, inside t 9 (omega arith), λ s2.
-        count_down r (record d { mem = m1 }) sr2 ((src + 1) % 65536) (base_of f + (o + 1)) left j lt s2
-        (λ sr3 s3. allowed ok m1 sr3 (holds_byte f st at back stack priv outside r.sp d.mem o (slice_index d.mem src % 256) safe.memory h i fits) s3))))))
+        two f st all B Q t 6 0x4cfd 0 (λ x y. Two op2.Mov true (Increment 12) (Indexed 13 x)) refl refl (omega arith) w.move_byte_12_13 event.Quiet (turn_at r sr src dst (suc left)) d (suc (suc (suc j))) refl safe (
+          src,
+          refl,
+          stop,
+          λ ok. (
+            dst,
+            up0,
+            Inside place,
+            (λ v e. absurd (none-some v (sym free ∙ e))),
+            λ _ kept1. (
+              r1,
+              rw (flags_stay sr) refl,
+              inside t 8 (omega arith),
+              λ s1.
+                  one f st all B Q t 8 0x531d (λ x y. Two op2.Add false (Const 1) (Reg 13)) refl (omega arith) w.raise_13 event.Quiet r1 (record d { mem = m1 }) (suc (suc j)) refl s1
+                  (λ kept2. (
+                    r2,
+                    rw up refl,
+                    inside t 9 (omega arith),
+                    λ s2.
+                        count_down r (record d { mem = m1 }) sr2 ((src + 1) % 65536) (base_of f + (o + 1)) left j lt s2
+                        (λ sr3 s3. allowed ok m1 sr3 (holds_byte f st at back stack priv outside r.sp d.mem o (slice_index d.mem src % 256) safe.memory h i fits) s3),
+                  )),
+            ),
+          ),
+        )
 
     byte_taken : (src n : ℕ) → refused f Read bad.Read src ≡ None → read_bytes f.setup ds outside src (suc n) ≡ then_ (read_bytes f.setup ds outside (src + 1) n) (λ bs. Ok (slice_index outside src ∷ bs))
     unfolding read_bytes
@@ -135,7 +164,7 @@ module _ (f : Fixed) (st : Stands f) (all : List Mark) (B : Watched → Violatio
         → Holds f at back stack priv outside r.sp d.mem → Safe f all (running f (turn_at r sr src (base_of f + o) (suc n)) d)
         → ((v : Violation) → read_bytes f.setup ds outside src (suc n) ≡ Err v → (r2 : Regs) (m2 : List ℕ) → B (running f r2 (record d { mem = m2 })) v)
         → ((bs : List ℕ) → read_bytes f.setup ds outside src (suc n) ≡ Ok bs → (sr a s : ℕ) (m2 : List ℕ) → Holds f at back stack (put_bytes priv o bs) outside r.sp m2
-            → Safe f all (running f (record r { pc = P + 22; sr = sr; r12 = a; r13 = s; r15 = 0 }) (record d { mem = m2 })) → Runs f all B Q j (running f (record r { pc = P + 22; sr = sr; r12 = a; r13 = s; r15 = 0 }) (record d { mem = m2 })))
+        → Safe f all (running f (record r { pc = P + 22; sr = sr; r12 = a; r13 = s; r15 = 0 }) (record d { mem = m2 })) → Runs f all B Q j (running f (record r { pc = P + 22; sr = sr; r12 = a; r13 = s; r15 = 0 }) (record d { mem = m2 })))
         → Runs f all B Q (4 * suc n + j) (running f (turn_at r sr src (base_of f + o) (suc n)) d)
     copy_in_runs zero r d sr src o j priv lt le free rg h safe stop done =
         let fits = rg.fits in
@@ -143,7 +172,7 @@ module _ (f : Fixed) (st : Stands f) (all : List Mark) (B : Watched → Violatio
         (one_byte r d sr src o 0 j priv (omega arith) (omega arith) (record { low = rg.low; beside = elim (rg.beside) [ inl q ↦ inl (omega arith) | inr q ↦ inr q ] }) (omega arith) h safe
         (λ v e. stop v (not_taken src 0 v e) (turn_at r sr src (base_of f + o) 1) d.mem)
         (λ ok m sr3 h2 s3. done (slice_index outside src ∷ []) (byte_taken src 0 ok ∙ ap (λ r. then_ r (λ bs. Ok (slice_index outside src ∷ bs))) (nothing (src + 1))) sr3 ((src + 1) % 65536) (base_of f + (o + 1)) m
-            (subst (λ b. Holds f at back stack (slice_set priv o (b % 256)) outside r.sp m) (h.others src (free src (omega arith) (omega arith))) h2) s3))
+        (subst (λ b. Holds f at back stack (slice_set priv o (b % 256)) outside r.sp m) (h.others src (free src (omega arith) (omega arith))) h2) s3))
     copy_in_runs (suc n) r d sr src o j priv lt le free rg h safe stop done =
         let fits = rg.fits in
         let next_ : (src + 1) % 65536 ≡ src + 1 = omega arith in
@@ -154,19 +183,19 @@ module _ (f : Fixed) (st : Stands f) (all : List Mark) (B : Watched → Violatio
         (one_byte r d sr src o (suc n) (4 * suc n + j) priv (omega arith) (omega arith) (record { low = rg.low; beside = elim (rg.beside) [ inl q ↦ inl (omega arith) | inr q ↦ inr q ] }) (omega arith) h safe
         (λ v e. stop v (not_taken src (suc n) v e) (turn_at r sr src (base_of f + o) (suc (suc n))) d.mem)
         (λ ok m sr3 h2 s3.
-            subst (λ a. Safe f all (running f (turn_at r sr3 a (base_of f + (o + 1)) (suc n)) (record d { mem = m })) → Runs f all B Q (4 * suc n + j) (running f (turn_at r sr3 a (base_of f + (o + 1)) (suc n)) (record d { mem = m }))) (sym next_)
-            (λ s. copy_in_runs n r (record d { mem = m }) sr3 (src + 1) (o + 1) j (slice_set priv o (b % 256)) (omega arith) (omega arith) (λ a p q. free a (omega arith) (omega arith))
-                (record { low = omega (arith, rg.low); beside = elim (rg.beside) [ inl q ↦ inl (omega arith) | inr q ↦ inr (omega arith) ]; fits = omega arith })
-                (subst (λ b. Holds f at back stack (slice_set priv o (b % 256)) outside r.sp m) is_b h2) s
-                (λ v e. stop v (byte_taken src (suc n) ok ∙ ap (λ r. then_ r (λ bs. Ok (b ∷ bs))) e))
-                (λ bs e. done (b ∷ bs) (byte_taken src (suc n) ok ∙ ap (λ r. then_ r (λ bs. Ok (b ∷ bs))) e))) s3))
+        subst (λ a. Safe f all (running f (turn_at r sr3 a (base_of f + (o + 1)) (suc n)) (record d { mem = m })) → Runs f all B Q (4 * suc n + j) (running f (turn_at r sr3 a (base_of f + (o + 1)) (suc n)) (record d { mem = m }))) (sym next_)
+        (λ s. copy_in_runs n r (record d { mem = m }) sr3 (src + 1) (o + 1) j (slice_set priv o (b % 256)) (omega arith) (omega arith) (λ a p q. free a (omega arith) (omega arith))
+        (record { low = omega (arith, rg.low); beside = elim (rg.beside) [ inl q ↦ inl (omega arith) | inr q ↦ inr (omega arith) ]; fits = omega arith })
+        (subst (λ b. Holds f at back stack (slice_set priv o (b % 256)) outside r.sp m) is_b h2) s
+        (λ v e. stop v (byte_taken src (suc n) ok ∙ ap (λ r. then_ r (λ bs. Ok (b ∷ bs))) e))
+        (λ bs e. done (b ∷ bs) (byte_taken src (suc n) ok ∙ ap (λ r. then_ r (λ bs. Ok (b ∷ bs))) e))) s3))
 
     -- the three loads before the loop, and the loop
     pub copy_in_whole : (r : Regs) (d : Data) (src n j : ℕ) (priv : List ℕ) → count ≡ suc n → n < 65535 → src + suc n ≤ 65536 → ((a : ℕ) → src ≤ a → a < src + suc n → in_private f.setup.section a ≡ false) → IsRange from_ (suc n) (length priv)
         → word priv 8 ≡ src → r.pc ≡ P + 2 * 0 → Holds f at back stack priv outside r.sp d.mem → Safe f all (running f r d)
         → ((v : Violation) → read_bytes f.setup ds outside src (suc n) ≡ Err v → (r2 : Regs) (m2 : List ℕ) → B (running f r2 (record d { mem = m2 })) v)
         → ((bs : List ℕ) → read_bytes f.setup ds outside src (suc n) ≡ Ok bs → (r2 : Regs) (m2 : List ℕ) → r2.pc ≡ P + 22 → r2.sp ≡ r.sp → Holds f at back stack (put_bytes priv from_ bs) outside r.sp m2
-            → Safe f all (running f r2 (record d { mem = m2 })) → Runs f all B Q j (running f r2 (record d { mem = m2 })))
+        → Safe f all (running f r2 (record d { mem = m2 })) → Runs f all B Q j (running f r2 (record d { mem = m2 })))
         → Runs f all B Q (suc (suc (suc (4 * suc n + j)))) (running f r d)
     copy_in_whole r d src n j priv ec lt le free rg ew pc h safe stop done =
         let fits = rg.fits in
@@ -180,10 +209,31 @@ module _ (f : Fixed) (st : Stands f) (all : List Mark) (B : Watched → Violatio
         let r1 = record r { pc = P + 4; r12 = src } in
         let r2 = record r1 { pc = P + 8; r13 = base_of f + from_ } in
         let r3 = record r2 { pc = P + 12; r15 = suc n } in
-        two f st all B Q t 0 0x421c (base_of f + 8) (λ x y. Two op2.Mov false (Absolute x) (Reg 12)) refl refl (omega arith) w.get_12 event.Quiet r d _ pc safe
-        (base_of f + 8, refl, p8, src, is, λ kept. (r1, rw stay refl, inside t 2 (omega arith), λ s1.
-        two f st all B Q t 2 0x403d (base_of f + from_) (λ x y. Two op2.Mov false (Immediate x) (Reg 13)) refl refl (omega arith) w.load_13 event.Quiet r1 d _ refl s1
-        (λ kept. (r2, rw (stay, e13) refl, inside t 4 (omega arith), λ s2.
-        two f st all B Q t 4 0x403f count (λ x y. Two op2.Mov false (Immediate x) (Reg 15)) refl refl (omega arith) w.load_15 event.Quiet r2 d _ refl s2
-        (λ kept. (r3, rw (stay, e15) refl, inside t 6 (omega arith), λ s3.
-        copy_in_runs n r d r.sr src from_ j priv lt le free rg h s3 stop (λ bs e sr a s m2 h2 s4. done bs e (record r { pc = P + 22; sr = sr; r12 = a; r13 = s; r15 = 0 }) m2 refl refl h2 s4)))))))
+        two f st all B Q t 0 0x421c (base_of f + 8) (λ x y. Two op2.Mov false (Absolute x) (Reg 12)) refl refl (omega arith) w.get_12 event.Quiet r d _ pc safe (
+          base_of f + 8,
+          refl,
+          p8,
+          src,
+          is,
+          λ kept. (
+            r1,
+            rw stay refl,
+            inside t 2 (omega arith),
+            λ s1.
+                two f st all B Q t 2 0x403d (base_of f + from_) (λ x y. Two op2.Mov false (Immediate x) (Reg 13)) refl refl (omega arith) w.load_13 event.Quiet r1 d _ refl s1
+                (λ kept. (
+                  r2,
+                  rw (stay, e13) refl,
+                  inside t 4 (omega arith),
+                  λ s2.
+                      two f st all B Q t 4 0x403f count (λ x y. Two op2.Mov false (Immediate x) (Reg 15)) refl refl (omega arith) w.load_15 event.Quiet r2 d _ refl s2
+                      (λ kept. (
+                        r3,
+                        rw (stay, e15) refl,
+                        inside t 6 (omega arith),
+                        λ s3.
+                            copy_in_runs n r d r.sr src from_ j priv lt le free rg h s3 stop (λ bs e sr a s m2 h2 s4. done bs e (record r { pc = P + 22; sr = sr; r12 = a; r13 = s; r15 = 0 }) m2 refl refl h2 s4),
+                      )),
+                )),
+          ),
+        )

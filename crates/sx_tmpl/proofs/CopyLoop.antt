@@ -30,7 +30,6 @@ use Rattle.std.specs.Prelude.{negsuc, slice_get}
 use Rattle.sx_tmpl.proofs.Plain.{inside}
 use Rattle.sx_tmpl.proofs.Words as w
 
-
 module _ (f : Fixed) (st : Stands f) (all : List Mark) (B : Watched → Violation → Type 0) (at : ℕ → ℕ) where
   -- what refuses a byte is what refuses it by the definitions of the windows
   byte_written : (ds : List Window) (m : List ℕ) (a b : ℕ) → device_at ds a ≡ device_at f.devices a → refused f Write bad.Write a ≡ None → write_byte f.setup ds m a b ≡ Ok (slice_set m a b)
@@ -57,8 +56,8 @@ module _ (f : Fixed) (st : Stands f) (all : List Mark) (B : Watched → Violatio
 
   -- the loop: its four instructions stand from the k-th word on
   module _ (Q : Watched → Type 0) (P n k : ℕ) (ws : List ℕ) (t : Text f P n ws) (le : k + 5 ≤ n)
-    (g0 : slice_get ws k ≡ Some 0x4dfc) (g1 : slice_get ws (k + 1) ≡ Some 0) (g2 : slice_get ws (k + 2) ≡ Some 0x531c) (g3 : slice_get ws (k + 2 + 1) ≡ Some 0x831f) (g4 : slice_get ws (k + 2 + 1 + 1) ≡ Some 0x23fb)
-    (ds : List Window) (same : (a : ℕ) → device_at ds a ≡ device_at f.devices a) (back : Option ℕ) (stack priv : List ℕ) where
+      (g0 : slice_get ws k ≡ Some 0x4dfc) (g1 : slice_get ws (k + 1) ≡ Some 0) (g2 : slice_get ws (k + 2) ≡ Some 0x531c) (g3 : slice_get ws (k + 2 + 1) ≡ Some 0x831f) (g4 : slice_get ws (k + 2 + 1 + 1) ≡ Some 0x23fb)
+      (ds : List Window) (same : (a : ℕ) → device_at ds a ≡ device_at f.devices a) (back : Option ℕ) (stack priv : List ℕ) where
     abbrev turn_at : Regs → ℕ → ℕ → ℕ → ℕ → Regs
     turn_at r sr dst src left = record r { pc = P + 2 * k; sr = sr; r12 = dst; r13 = src; r15 = left }
 
@@ -77,9 +76,14 @@ module _ (f : Fixed) (st : Stands f) (all : List Mark) (B : Watched → Violatio
         let r1 = record r { pc = P + 2 * (k + 2 + 1 + 1); sr = sr1; r12 = dst; r13 = src; r15 = 0 } in
         let r2 = record r1 { pc = P + 2 * (k + 2 + 1 + 1 + 1) } in
         one f st all B Q t (k + 2 + 1) 0x831f (λ x y. Two op2.Sub false (Const 1) (Reg 15)) g3 (omega arith) w.count_15 event.Quiet r0 d (suc j) refl safe
-        (λ kept. (r1, refl, inside t (k + 2 + 1 + 1) (omega arith), λ s1.
-        one f st all B Q t (k + 2 + 1 + 1) 0x23fb (λ x y. Jump 0 (negsuc 4)) g4 (omega arith) w.jne_back_5 event.Quiet r1 d j refl s1
-        (λ kept. (r2, rw z refl, inside t (k + 2 + 1 + 1 + 1) (omega arith), after sr1))))
+        (λ kept. (
+          r1,
+          refl,
+          inside t (k + 2 + 1 + 1) (omega arith),
+          λ s1.
+              one f st all B Q t (k + 2 + 1 + 1) 0x23fb (λ x y. Jump 0 (negsuc 4)) g4 (omega arith) w.jne_back_5 event.Quiet r1 d j refl s1
+              (λ kept. (r2, rw z refl, inside t (k + 2 + 1 + 1 + 1) (omega arith), after sr1)),
+        ))
     count_down r d sr dst src (suc left) j lt safe after =
         let sr1 = flags_after op2.Cmp 1 (suc (suc left) % 65536) sr in
         let z = unequal 1 (suc (suc left) % 65536) sr (omega arith) (omega arith) (omega arith) in
@@ -89,9 +93,14 @@ module _ (f : Fixed) (st : Stands f) (all : List Mark) (B : Watched → Violatio
         let r1 = record r { pc = P + 2 * (k + 2 + 1 + 1); sr = sr1; r12 = dst; r13 = src; r15 = suc left } in
         let r2 = record r1 { pc = P + 2 * k } in
         one f st all B Q t (k + 2 + 1) 0x831f (λ x y. Two op2.Sub false (Const 1) (Reg 15)) g3 (omega arith) w.count_15 event.Quiet r0 d (suc j) refl safe
-        (λ kept. (r1, rw less refl, inside t (k + 2 + 1 + 1) (omega arith), λ s1.
-        one f st all B Q t (k + 2 + 1 + 1) 0x23fb (λ x y. Jump 0 (negsuc 4)) g4 (omega arith) w.jne_back_5 event.Quiet r1 d j refl s1
-        (λ kept. (r2, rw (z, to) refl, inside t k (omega arith), after sr1))))
+        (λ kept. (
+          r1,
+          rw less refl,
+          inside t (k + 2 + 1 + 1) (omega arith),
+          λ s1.
+              one f st all B Q t (k + 2 + 1 + 1) 0x23fb (λ x y. Jump 0 (negsuc 4)) g4 (omega arith) w.jne_back_5 event.Quiet r1 d j refl s1
+              (λ kept. (r2, rw (z, to) refl, inside t k (omega arith), after sr1)),
+        ))
 
     abbrev after_turn : Regs → ℕ → ℕ → ℕ → ℕ → Regs
     after_turn r sr dst src left = record r { pc = behind left; sr = sr; r12 = (dst % 65536 + 1 + 0) % 65536; r13 = src + 1; r15 = left }
@@ -100,7 +109,7 @@ module _ (f : Fixed) (st : Stands f) (all : List Mark) (B : Watched → Violatio
     one_byte : (r : Regs) (d : Data) (sr dst src b left j : ℕ) (outside : List ℕ) → left < 65535 → f.from ≤ dst → dst < f.to → PrivateByte f src → slice_index d.mem src ≡ b → Holds f at back stack priv outside r.sp d.mem → Safe f all (running f (turn_at r sr dst src (suc left)) d)
         → ((v : Violation) → refused f Write bad.Write dst ≡ Some v → B (running f (turn_at r sr dst src (suc left)) d) v)
         → (refused f Write bad.Write dst ≡ None → (m : List ℕ) → m ≡ slice_set d.mem dst b → (sr : ℕ) → Holds f at back stack priv (slice_set outside dst b) r.sp m
-            → Safe f all (running f (after_turn r sr dst src left) (record d { mem = m })) → Runs f all B Q j (running f (after_turn r sr dst src left) (record d { mem = m })))
+        → Safe f all (running f (after_turn r sr dst src left) (record d { mem = m })) → Runs f all B Q j (running f (after_turn r sr dst src left) (record d { mem = m })))
         → Runs f all B Q (suc (suc (suc (suc j)))) (running f (turn_at r sr dst src (suc left)) d)
     one_byte r d sr dst src b left j outside lt d1 d2 p is h safe stop allowed =
         let lim = st.window in
@@ -113,13 +122,33 @@ module _ (f : Fixed) (st : Stands f) (all : List Mark) (B : Watched → Violatio
         let r1 = record r { pc = P + 2 * (k + 2); sr = sr1; r12 = dst; r13 = src + 1; r15 = suc left } in
         let r2 = record r1 { pc = P + 2 * (k + 2 + 1); sr = flags_after op2.Add 1 (dst % 65536) sr1; r12 = (dst % 65536 + 1 + 0) % 65536 } in
         let free = read_free f st src p in
-        two f st all B Q t k 0x4dfc 0 (λ x y. Two op2.Mov true (Increment 13) (Indexed 12 x)) g0 g1 (omega arith) w.move_byte_13_12 event.Quiet (turn_at r sr dst src (suc left)) d (suc (suc (suc j))) refl safe
-        (src, refl, (λ v e. absurd (none-some v (sym free ∙ e))), λ _. (dst, up0, Outside d1 d2, stop, λ ok kept1. (r1, rw up refl, inside t (k + 2) (omega arith), λ s1.
-        one f st all B Q t (k + 2) 0x531c (λ x y. Two op2.Add false (Const 1) (Reg 12)) g2 (omega arith) w.raise_12 event.Quiet r1 (record d { mem = m1 }) (suc (suc j)) refl s1
-        (λ kept2. (r2, refl, inside t (k + 2 + 1) (omega arith), λ s2.
-        count_down r (record d { mem = m1 }) (flags_after op2.Add 1 (dst % 65536) sr1) ((dst % 65536 + 1 + 0) % 65536) (src + 1) left j lt s2
-        (λ sr3 s3. allowed ok m1 (ap (slice_set d.mem dst) cut) sr3
-            (subst (λ b. Holds f at back stack priv (slice_set outside dst b) r.sp m1) cut (holds_outside f st at back stack priv outside r.sp d.mem dst (slice_index d.mem src % 256) safe.memory h (st.window_apart dst d1 d2) (omega arith))) s3))))))
+        two f st all B Q t k 0x4dfc 0 (λ x y. Two op2.Mov true (Increment 13) (Indexed 12 x)) g0 g1 (omega arith) w.move_byte_13_12 event.Quiet (turn_at r sr dst src (suc left)) d (suc (suc (suc j))) refl safe (
+          src,
+          refl,
+          (λ v e. absurd (none-some v (sym free ∙ e))),
+          λ _. (
+            dst,
+            up0,
+            Outside d1 d2,
+            stop,
+            λ ok kept1. (
+              r1,
+              rw up refl,
+              inside t (k + 2) (omega arith),
+              λ s1.
+                  one f st all B Q t (k + 2) 0x531c (λ x y. Two op2.Add false (Const 1) (Reg 12)) g2 (omega arith) w.raise_12 event.Quiet r1 (record d { mem = m1 }) (suc (suc j)) refl s1
+                  (λ kept2. (
+                    r2,
+                    refl,
+                    inside t (k + 2 + 1) (omega arith),
+                    λ s2.
+                        count_down r (record d { mem = m1 }) (flags_after op2.Add 1 (dst % 65536) sr1) ((dst % 65536 + 1 + 0) % 65536) (src + 1) left j lt s2
+                        (λ sr3 s3. allowed ok m1 (ap (slice_set d.mem dst) cut) sr3
+                        (subst (λ b. Holds f at back stack priv (slice_set outside dst b) r.sp m1) cut (holds_outside f st at back stack priv outside r.sp d.mem dst (slice_index d.mem src % 256) safe.memory h (st.window_apart dst d1 d2) (omega arith))) s3),
+                  )),
+            ),
+          ),
+        )
 
     written : (outside : List ℕ) (dst b : ℕ) (bs : List ℕ) → refused f Write bad.Write dst ≡ None → write_bytes f.setup ds outside dst (b ∷ bs) ≡ write_bytes f.setup ds (slice_set outside dst b) (dst + 1) bs
     unfolding write_bytes
@@ -138,8 +167,8 @@ module _ (f : Fixed) (st : Stands f) (all : List Mark) (B : Watched → Violatio
         → Holds f at back stack priv outside r.sp d.mem → Safe f all (running f (turn_at r sr dst src (suc (length bs))) d)
         → ((v : Violation) → write_bytes f.setup ds outside dst (b ∷ bs) ≡ Err v → (r2 : Regs) (m2 : List ℕ) → B (running f r2 (record d { mem = m2 })) v)
         → ((mem : List ℕ) → write_bytes f.setup ds outside dst (b ∷ bs) ≡ Ok mem → (sr a s : ℕ) (m2 : List ℕ) → Holds f at back stack priv mem r.sp m2
-            → Safe f all (running f (record r { pc = P + 2 * (k + 2 + 1 + 1 + 1); sr = sr; r12 = a; r13 = s; r15 = 0 }) (record d { mem = m2 }))
-            → Runs f all B Q j (running f (record r { pc = P + 2 * (k + 2 + 1 + 1 + 1); sr = sr; r12 = a; r13 = s; r15 = 0 }) (record d { mem = m2 })))
+        → Safe f all (running f (record r { pc = P + 2 * (k + 2 + 1 + 1 + 1); sr = sr; r12 = a; r13 = s; r15 = 0 }) (record d { mem = m2 }))
+        → Runs f all B Q j (running f (record r { pc = P + 2 * (k + 2 + 1 + 1 + 1); sr = sr; r12 = a; r13 = s; r15 = 0 }) (record d { mem = m2 })))
         → Runs f all B Q (4 * suc (length bs) + j) (running f (turn_at r sr dst src (suc (length bs))) d)
     copy_runs [] b r d sr dst src j outside lt d1 d2 p is h safe stop done =
         subst (λ j. Runs f all B Q j (running f (turn_at r sr dst src 1) d)) (omega arith)
@@ -153,11 +182,11 @@ module _ (f : Fixed) (st : Stands f) (all : List Mark) (B : Watched → Violatio
         (one_byte r d sr dst src b (suc (length bs)) (4 * suc (length bs) + j) outside (omega arith) d1 (omega arith) (record { low = p.low; high = omega (arith, p.high) }) is.0 h safe
         (λ v e. stop v (not_written outside dst b (b2 ∷ bs) v e) (turn_at r sr dst src (suc (suc (length bs)))) d.mem)
         (λ ok m em sr3 h2 s3.
-            let still : BytesAt m (src + 1) (b2 ∷ bs) = bytes_same d.mem m (src + 1) (b2 ∷ bs) (λ c x y. ap (λ (l : List ℕ). slice_index l c) em ∙ get_or-set_other d.mem dst c b 0 (private_apart c (omega arith) (omega (arith, p.high)))) is.1 in
-            subst (λ a. Safe f all (running f (turn_at r sr3 a (src + 1) (suc (length bs))) (record d { mem = m })) → Runs f all B Q (4 * suc (length bs) + j) (running f (turn_at r sr3 a (src + 1) (suc (length bs))) (record d { mem = m }))) (sym next)
-            (λ s. copy_runs bs b2 r (record d { mem = m }) sr3 (dst + 1) (src + 1) j (slice_set outside dst b) (omega arith) (omega arith) (omega arith) (record { low = omega (arith, p.low); high = omega (arith, p.high) }) still h2 s
-                (λ v e. stop v (written outside dst b (b2 ∷ bs) ok ∙ e))
-                (λ mem e. done mem (written outside dst b (b2 ∷ bs) ok ∙ e))) s3))
+        let still : BytesAt m (src + 1) (b2 ∷ bs) = bytes_same d.mem m (src + 1) (b2 ∷ bs) (λ c x y. ap (λ (l : List ℕ). slice_index l c) em ∙ get_or-set_other d.mem dst c b 0 (private_apart c (omega arith) (omega (arith, p.high)))) is.1 in
+        subst (λ a. Safe f all (running f (turn_at r sr3 a (src + 1) (suc (length bs))) (record d { mem = m })) → Runs f all B Q (4 * suc (length bs) + j) (running f (turn_at r sr3 a (src + 1) (suc (length bs))) (record d { mem = m }))) (sym next)
+        (λ s. copy_runs bs b2 r (record d { mem = m }) sr3 (dst + 1) (src + 1) j (slice_set outside dst b) (omega arith) (omega arith) (omega arith) (record { low = omega (arith, p.low); high = omega (arith, p.high) }) still h2 s
+        (λ v e. stop v (written outside dst b (b2 ∷ bs) ok ∙ e))
+        (λ mem e. done mem (written outside dst b (b2 ∷ bs) ok ∙ e))) s3))
       where
         private_apart : (c : ℕ) → src ≤ c → c < f.setup.section.layout.priv_to → c ≢ dst
         private_apart c x y e = true≢false (sym (in_private_yes f.setup.section c (omega (arith, p.low)) y) ∙ ap (in_private f.setup.section) e ∙ st.window_apart dst d1 (omega arith))

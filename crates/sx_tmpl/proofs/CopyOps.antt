@@ -44,7 +44,6 @@ use Rattle.sx_tmpl.proofs.Plain.{inside, Leads}
 use Rattle.sx_tmpl.proofs.Words as w
 use Rattle.sx_tmpl.proofs.Holding.{stack_word, data_word, holds_pop, holds_word}
 
-
 ok_err : (m : List ℕ) (x : Violation) → ◌≡◌ {A = Result (List ℕ) Violation} (Ok m) (Err x) → ⊥
 ok_err m x e = cc
 
@@ -73,10 +72,10 @@ window_free f a n some h = (short, free)
     free : (b : ℕ) → a ≤ b → b < a + n → in_private f.setup.section b ≡ false
     free b p q = elim (cases_Bool (in_private f.setup.section b)) [
       | inl t ↦
-        let x = and_parts (nat_le (base_of f) b) (nat_lt b f.setup.section.layout.priv_to) t in
-        let lo : base_of f ≤ b = leb-true (base_of f) b x.0 in
-        let hi : b < f.setup.section.layout.priv_to = ltb-true b f.setup.section.layout.priv_to x.1 in
-        absurd (true≢false (sym h ∙ ap not (or_right (passes_end a n) _ (and_from _ _ (lt-ltb 0 n some) (and_from _ _ (lt-ltb a f.setup.section.layout.priv_to (omega arith)) (lt-ltb (base_of f) (a + n) (omega arith)))))))
+          let x = and_parts (nat_le (base_of f) b) (nat_lt b f.setup.section.layout.priv_to) t in
+          let lo : base_of f ≤ b = leb-true (base_of f) b x.0 in
+          let hi : b < f.setup.section.layout.priv_to = ltb-true b f.setup.section.layout.priv_to x.1 in
+          absurd (true≢false (sym h ∙ ap not (or_right (passes_end a n) _ (and_from _ _ (lt-ltb 0 n some) (and_from _ _ (lt-ltb a f.setup.section.layout.priv_to (omega arith)) (lt-ltb (base_of f) (a + n) (omega arith)))))))
       | inr t ↦ t
     ]
 
@@ -111,7 +110,7 @@ module _ (f : Fixed) (st : Stands f) (all : List Mark) (B : Watched → Violatio
           (copy_in_whole f st all B at Q (at c.place) (suc n) o t d.devices safe.devices c.back c.stack c.mem r d (saved c 13) n 0 c.priv refl lt (omega arith) (λ a x y. win.1 a x (omega arith)) rg refl (omega (arith, sh.pc)) sh.holds safe
           (λ v e r2 m2. stop v (ap (λ ds. read_bytes f.setup ds c.mem (saved c 13) (suc n)) (sym sh.devices) ∙ e) (running f r2 (record d { mem = m2 })) sh.marks)
           (λ bs e r2 m2 pc2 sp2 h2 s2. Here (done bs (ap (λ ds. read_bytes f.setup ds c.mem (saved c 13) (suc n)) (sym sh.devices) ∙ e) (running f r2 (record d { mem = m2 }))
-              (record { regs = r2; rest = record d { mem = m2 }; state = refl; safe = s2; shows = record { pc = pc2 ∙ omega (arith, on); holds = subst (λ s. Holds f at c.back c.stack (put_bytes c.priv o bs) c.mem s m2) (sym sp2) h2; devices = sh.devices; marks = sh.marks } }))))
+          (record { regs = r2; rest = record d { mem = m2 }; state = refl; safe = s2; shows = record { pc = pc2 ∙ omega (arith, on); holds = subst (λ s. Holds f at c.back c.stack (put_bytes c.priv o bs) c.mem s m2) (sym sp2) h2; devices = sh.devices; marks = sh.marks } }))))
 
       read : (w : Result (List ℕ) Violation) → W ≡ w → (has_in_window f.setup c && nat_le (suc n) 40) ≡ true → Ending (copied_in c o w) G E
       read (Ok bs) ew ok = Goes_to (record (next c c.stack) { priv = put_bytes c.priv o bs }) refl (λ r d t on sh safe. core (Stood f all at (record (next c c.stack) { priv = put_bytes c.priv o bs })) ok r d t on sh safe
@@ -201,16 +200,48 @@ module _ (f : Fixed) (st : Stands f) (all : List Mark) (B : Watched → Violatio
           let r3 = record r2 { pc = at c.place + 10; r13 = base_of f + o } in
           let r4 = record r3 { pc = at c.place + 14; r15 = suc n } in
           weaker Q (suc (suc (suc (suc (4 * suc n))))) (8 + 4 * suc n) (running f r d) (omega arith)
-          (one f st all B Q t 0 0x413c (λ x y. Two op2.Mov false (Increment 1) (Reg 12)) refl (omega arith) w.pop_12 event.Quiet r d _ (omega (arith, sh.pc)) safe
-          (r.sp, refl, p1, v, h.words.0, λ kept. (r1, rw (up, stay) refl, inside t 1 (omega arith), λ s1.
-          two f st all B Q t 1 0x521c (base_of f + 10) (λ x y. Two op2.Add false (Absolute x) (Reg 12)) refl refl (omega arith) w.add_absolute_12 event.Quiet r1 d _ refl s1
-          (base_of f + 10, refl, p10, saved c 14, is, λ kept. (r2, rw sum refl, inside t 3 (omega arith), λ s2.
-          two f st all B Q t 3 0x403d (base_of f + o) (λ x y. Two op2.Mov false (Immediate x) (Reg 13)) refl refl (omega arith) w.load_13 event.Quiet r2 d _ refl s2
-          (λ kept. (r3, rw (flags_stay sr2, e13) refl, inside t 5 (omega arith), λ s3.
-          two f st all B Q t 5 0x403f (suc n) (λ x y. Two op2.Mov false (Immediate x) (Reg 15)) refl refl (omega arith) w.load_15 event.Quiet r3 d _ refl s3
-          (λ kept. (r4, rw (flags_stay sr2, e15) refl, inside t 7 (omega arith), λ s4.
-          loop Q bytes refl (length_from c.priv o (suc n)) (omega arith) r1 d sr2 t sh.devices sh.marks (subst (λ l. BytesAt d.mem (base_of f + o) l) same (stand_from d.mem (base_of f + o) (suc n))) h1 s4 stop
-          (λ mem e r5 m2 pc5 h5 s5. done mem e (running f r5 (record d { mem = m2 })) (record { regs = r5; rest = record d { mem = m2 }; state = refl; safe = s5; shows = record { pc = pc5 ∙ omega (arith, on); holds = h5; devices = sh.devices; marks = sh.marks } })))))))))))
+          (one f st all B Q t 0 0x413c (λ x y. Two op2.Mov false (Increment 1) (Reg 12)) refl (omega arith) w.pop_12 event.Quiet r d _ (omega (arith, sh.pc)) safe (
+            r.sp,
+            refl,
+            p1,
+            v,
+            h.words.0,
+            λ kept. (
+              r1,
+              rw (up, stay) refl,
+              inside t 1 (omega arith),
+              λ s1.
+                  two f st all B Q t 1 0x521c (base_of f + 10) (λ x y. Two op2.Add false (Absolute x) (Reg 12)) refl refl (omega arith) w.add_absolute_12 event.Quiet r1 d _ refl s1 (
+                    base_of f + 10,
+                    refl,
+                    p10,
+                    saved c 14,
+                    is,
+                    λ kept. (
+                      r2,
+                      rw sum refl,
+                      inside t 3 (omega arith),
+                      λ s2.
+                          two f st all B Q t 3 0x403d (base_of f + o) (λ x y. Two op2.Mov false (Immediate x) (Reg 13)) refl refl (omega arith) w.load_13 event.Quiet r2 d _ refl s2
+                          (λ kept. (
+                            r3,
+                            rw (flags_stay sr2, e13) refl,
+                            inside t 5 (omega arith),
+                            λ s3.
+                                two f st all B Q t 5 0x403f (suc n) (λ x y. Two op2.Mov false (Immediate x) (Reg 15)) refl refl (omega arith) w.load_15 event.Quiet r3 d _ refl s3
+                                (λ kept. (
+                                  r4,
+                                  rw (flags_stay sr2, e15) refl,
+                                  inside t 7 (omega arith),
+                                  λ s4.
+                                      loop Q bytes refl (length_from c.priv o (suc n)) (omega arith) r1 d sr2 t sh.devices sh.marks (subst (λ l. BytesAt d.mem (base_of f + o) l) same (stand_from d.mem (base_of f + o) (suc n))) h1 s4 stop
+                                      (λ mem e r5 m2 pc5 h5 s5. done mem e (running f r5 (record d { mem = m2 })) (record { regs = r5; rest = record d { mem = m2 }; state = refl; safe = s5; shows = record { pc = pc5 ∙ omega (arith, on); holds = h5; devices = sh.devices; marks = sh.marks } })),
+                                )),
+                          )),
+                    ),
+                  ),
+            ),
+          ))
 
       write : (w : Result (List ℕ) Violation) → W ≡ w → (has_out_window f.setup c && has_copy_room c v (suc n)) ≡ true → Ending (copied_out w c1 after) G E
       write (Ok mem) ew ok = Goes_to (after mem) refl (λ r d t on sh safe. core (Stood f all at (after mem)) ok r d t on sh safe

@@ -49,7 +49,6 @@ use Rattle.sx_tmpl.proofs.Plain.{inside, Leads}
 use Rattle.sx_tmpl.proofs.Words as words
 use Rattle.sx_tmpl.proofs.Holding.{stack_word, holds_push, holds_pop}
 
-
 -- clearing a sensor's sample leaves where the devices are
 at_cleared : (ds : List Window) (i n a : ℕ) → position_from (on_word a) n (changed stale ds i) ≡ position_from (on_word a) n ds
 at_cleared [] i n a = refl
@@ -137,11 +136,11 @@ module _ (f : Fixed) (st : Stands f) (all : List Mark) (B : Watched → Violatio
       let is : cell d.mem r.sp ≡ v = h.words.0 in
       let g : List ℕ = at_pc (regs16 f (record r { sp = (r.sp + 2) % 65536; sr = flags_after op2.Mov 0 0 r.sr })) (at c.place + 4) in
       let done : after_write (store f.setup.live f.setup.section.id true (base_of f) (cell d.mem r.sp) x) (λ y. Finished g y) ≡ Finished (regs16 f r2) (record x { touches = noted untouched (DeviceWrite i v) }) =
-          ap (λ r. after_write r (λ y. Finished g y)) (store_actuator x (cell d.mem r.sp) i w here kind)
-          ∙ ap (λ v. Finished g (record x { touches = noted untouched (DeviceWrite i v) })) is
-          ∙ ap (λ g. Finished g (record x { touches = noted untouched (DeviceWrite i v) })) (rw (up, flags_stay r.sr) refl) in
+      ap (λ r. after_write r (λ y. Finished g y)) (store_actuator x (cell d.mem r.sp) i w here kind)
+      ∙ ap (λ v. Finished g (record x { touches = noted untouched (DeviceWrite i v) })) is
+      ∙ ap (λ g. Finished g (record x { touches = noted untouched (DeviceWrite i v) })) (rw (up, flags_stay r.sr) refl) in
       let at_ = two_attempt f st all B Q t 0 0x41b2 (base_of f) (λ x y. Two op2.Mov false (Increment 1) (Absolute x)) refl refl (omega arith) words.pop_absolute r d (omega (arith, sh.pc)) safe
-          ∙ ap (λ r. after_read r (λ v y. after_write (store f.setup.live f.setup.section.id true (base_of f) v y) (λ y. Finished g y))) (load_word f st r.sp r.sp x refl p1 safe.devices) ∙ done in
+      ∙ ap (λ r. after_read r (λ v y. after_write (store f.setup.live f.setup.section.id true (base_of f) v y) (λ y. Finished g y))) (load_word f st r.sp r.sp x refl p1 safe.devices) ∙ done in
       let mk : d.marks ++ mark.Actuated i v ∷ [] ≡ c.marks ++ mark.Actuated i v ∷ [] = ap (λ l. l ++ mark.Actuated i v ∷ []) sh.marks in
       from_touched f st all B Q 0 r r2 d d.mem d.devices (noted untouched (DeviceWrite i v)) (mark.Actuated i v ∷ []) safe (record { from = omega (arith, sh.pc); to = omega (arith, sh.pc) }) (inside t 2 (omega arith)) at_ refl safe.memory (λ a. refl) (subst (λ l. HasPrefix all l) (sym mk) begins)
       (λ s. Here (record { regs = r2; rest = record d { marks = d.marks ++ mark.Actuated i v ∷ [] }; state = refl; safe = s; shows = record { pc = omega (arith, on); holds = holds_pop f st at c.back v rest c.priv c.mem r.sp d.mem h; devices = sh.devices; marks = mk } }))
@@ -167,14 +166,24 @@ module _ (f : Fixed) (st : Stands f) (all : List Mark) (B : Watched → Violatio
       let g : List ℕ = at_pc (slice_set (at_pc (regs16 f r) (at c.place + 2)) 1 ((r.sp + 65534) % 65536)) (at c.place + 4) in
       let m2 = put_cell d.mem sp v in
       let at_ = two_attempt f st all B Q t 0 0x1212 (base_of f) (λ x y. One op1.Push false (Absolute x)) refl refl (omega arith) words.push_absolute r d (omega (arith, sh.pc)) safe
-          ∙ ap (λ r_. after_read r_ (λ v y. after_write (store f.setup.live f.setup.section.id true ((r.sp + 65534) % 65536) v y) (λ y. Finished g y))) (load_fresh x i w here kind fresh)
-          ∙ ap (λ o. after_write o (λ y. Finished g y)) (store_word f st ((r.sp + 65534) % 65536) sp v y down pr same)
-          ∙ ap (λ g. Finished g (record y { mem = m2 })) (rw down refl) in
+      ∙ ap (λ r_. after_read r_ (λ v y. after_write (store f.setup.live f.setup.section.id true ((r.sp + 65534) % 65536) v y) (λ y. Finished g y))) (load_fresh x i w here kind fresh)
+      ∙ ap (λ o. after_write o (λ y. Finished g y)) (store_word f st ((r.sp + 65534) % 65536) sp v y down pr same)
+      ∙ ap (λ g. Finished g (record y { mem = m2 })) (rw down refl) in
       let mk : d.marks ++ mark.Sampled i w.value ∷ [] ≡ c.marks ++ mark.Sampled i w.value ∷ [] = ap (λ l. l ++ mark.Sampled i w.value ∷ []) sh.marks in
       from_touched f st all B Q 0 r r2 d m2 (cleared d.devices i) (noted untouched (DeviceRead i w.value)) (mark.Sampled i w.value ∷ []) safe (record { from = omega (arith, sh.pc); to = omega (arith, sh.pc) }) (inside t 2 (omega arith)) at_ refl
       (kept_word f st d.mem sp v safe.memory pr (omega arith)) (λ a. at_cleared d.devices i 0 a) (subst (λ l. HasPrefix all l) (sym mk) begins)
-      (λ s. Here (record { regs = r2; rest = record { mem = m2; devices = cleared d.devices i; exchange = d.exchange; marks = d.marks ++ mark.Sampled i w.value ∷ [] }; state = refl; safe = s; shows = record { pc = omega (arith, on);
-          holds = holds_push f st at c.back c.stack c.priv c.mem r.sp d.mem sp v safe.memory h (omega arith) (omega arith); devices = ap (λ ds. cleared ds i) sh.devices; marks = mk } }))
+      (λ s. Here (record {
+        regs = r2;
+        rest = record { mem = m2; devices = cleared d.devices i; exchange = d.exchange; marks = d.marks ++ mark.Sampled i w.value ∷ [] };
+        state = refl;
+        safe = s;
+        shows = record {
+          pc = omega (arith, on);
+          holds = holds_push f st at c.back c.stack c.priv c.mem r.sp d.mem sp v safe.memory h (omega arith) (omega arith);
+          devices = ap (λ ds. cleared ds i) sh.devices;
+          marks = mk;
+        };
+      }))
 
   pub sense_stale : (c : Conf) (i : ℕ) (w : Window) → device_of c.devices (base_of f) ≡ Some (i, w) → w.kind ≡ Sensor → w.fresh ≡ false → length c.stack < 160
       → Leads f st all B at 2 (0x1212 ∷ base_of f ∷ []) 1 c (next c (0 ∷ c.stack))
@@ -193,10 +202,20 @@ module _ (f : Fixed) (st : Stands f) (all : List Mark) (B : Watched → Violatio
       let g : List ℕ = at_pc (slice_set (at_pc (regs16 f r) (at c.place + 2)) 1 ((r.sp + 65534) % 65536)) (at c.place + 4) in
       let m2 = put_cell d.mem sp 0 in
       let at_ = two_attempt f st all B Q t 0 0x1212 (base_of f) (λ x y. One op1.Push false (Absolute x)) refl refl (omega arith) words.push_absolute r d (omega (arith, sh.pc)) safe
-          ∙ ap (λ r_. after_read r_ (λ v y. after_write (store f.setup.live f.setup.section.id true ((r.sp + 65534) % 65536) v y) (λ y. Finished g y))) (load_stale x i w here kind fresh)
-          ∙ ap (λ o. after_write o (λ y. Finished g y)) (store_word f st ((r.sp + 65534) % 65536) sp 0 x down pr safe.devices)
-          ∙ ap (λ g. Finished g (record x { mem = m2 })) (rw down refl) in
+      ∙ ap (λ r_. after_read r_ (λ v y. after_write (store f.setup.live f.setup.section.id true ((r.sp + 65534) % 65536) v y) (λ y. Finished g y))) (load_stale x i w here kind fresh)
+      ∙ ap (λ o. after_write o (λ y. Finished g y)) (store_word f st ((r.sp + 65534) % 65536) sp 0 x down pr safe.devices)
+      ∙ ap (λ g. Finished g (record x { mem = m2 })) (rw down refl) in
       from_touched f st all B Q 0 r r2 d m2 d.devices untouched [] safe (record { from = omega (arith, sh.pc); to = omega (arith, sh.pc) }) (inside t 2 (omega arith)) at_ refl
       (kept_word f st d.mem sp 0 safe.memory pr (omega arith)) (λ a. refl) (subst (λ l. HasPrefix all l) (sym (append-nil d.marks)) safe.marks)
-      (λ s. Here (record { regs = r2; rest = record { mem = m2; devices = d.devices; exchange = d.exchange; marks = d.marks ++ [] }; state = refl; safe = s; shows = record { pc = omega (arith, on);
-          holds = holds_push f st at c.back c.stack c.priv c.mem r.sp d.mem sp 0 safe.memory h (omega arith) (omega arith); devices = sh.devices; marks = append-nil d.marks ∙ sh.marks } }))
+      (λ s. Here (record {
+        regs = r2;
+        rest = record { mem = m2; devices = d.devices; exchange = d.exchange; marks = d.marks ++ [] };
+        state = refl;
+        safe = s;
+        shows = record {
+          pc = omega (arith, on);
+          holds = holds_push f st at c.back c.stack c.priv c.mem r.sp d.mem sp 0 safe.memory h (omega arith) (omega arith);
+          devices = sh.devices;
+          marks = append-nil d.marks ∙ sh.marks;
+        };
+      }))

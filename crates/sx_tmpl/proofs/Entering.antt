@@ -71,8 +71,8 @@ bytes_from_get m a (suc n) i lt =
     elim (cases_lt i n) [
       | inl p ↦ get_or_append_left (bytes_from m a n) (slice_index m (a + n) ∷ []) 0 i (omega (arith, len, p)) ∙ bytes_from_get m a n i p
       | inr p ↦
-        let e : i ≡ length (bytes_from m a n) = omega (arith, lt, p, len) in
-        ap (λ (x : ℕ). slice_index (bytes_from m a n ++ slice_index m (a + n) ∷ []) x) e ∙ get_or-append_seam (bytes_from m a n) (slice_index m (a + n)) [] 0 ∙ ap (slice_index m) (omega (arith, lt, p))
+          let e : i ≡ length (bytes_from m a n) = omega (arith, lt, p, len) in
+          ap (λ (x : ℕ). slice_index (bytes_from m a n ++ slice_index m (a + n) ∷ []) x) e ∙ get_or-append_seam (bytes_from m a n) (slice_index m (a + n)) [] 0 ∙ ap (slice_index m) (omega (arith, lt, p))
     ]
 
 -- No device's word lies in a public section.
@@ -81,13 +81,13 @@ off_word : (l : Layout) (at : ℕ) (w : Window) → apart l.pub_from l.pub_to w.
 off_word l at w h lo hi = elim (cases_Bool (on_word at w)) [
   | inr f ↦ f
   | inl t ↦
-    let p = and_parts (nat_le w.at at) (nat_lt at (w.at + 2)) t in
-    let x = leb-true w.at at p.0 in
-    let y = ltb-true at (w.at + 2) p.1 in
-    elim (or_cases (nat_le l.pub_to w.at) (nat_le (w.at + 2) l.pub_from) h) [
-      | inl a ↦ let z = leb-true l.pub_to w.at a in absurd (omega (arith, x, hi, z))
-      | inr b ↦ let z = leb-true (w.at + 2) l.pub_from b in absurd (omega (arith, y, lo, z))
-    ]
+      let p = and_parts (nat_le w.at at) (nat_lt at (w.at + 2)) t in
+      let x = leb-true w.at at p.0 in
+      let y = ltb-true at (w.at + 2) p.1 in
+      elim (or_cases (nat_le l.pub_to w.at) (nat_le (w.at + 2) l.pub_from) h) [
+        | inl a ↦ let z = leb-true l.pub_to w.at a in absurd (omega (arith, x, hi, z))
+        | inr b ↦ let z = leb-true (w.at + 2) l.pub_from b in absurd (omega (arith, y, lo, z))
+      ]
 ]
 
 pub free_of_devices : (l : Layout) (at i : ℕ) (ws : List Window) → no_device (places_of ws) l ≡ true → l.pub_from ≤ at → at < l.pub_to → position_from (on_word at) i ws ≡ None
@@ -125,8 +125,21 @@ window_short s a good = elim (cases_lt 65536 (a + 384)) [
 
 abbrev pub regs_at : State → Regs
 regs_at n = record {
-  pc = slice_index n.regs 0; sp = slice_index n.regs 1; sr = slice_index n.regs 2; r4 = slice_index n.regs 4; r5 = slice_index n.regs 5; r6 = slice_index n.regs 6; r7 = slice_index n.regs 7; r8 = slice_index n.regs 8;
-  r9 = slice_index n.regs 9; r10 = slice_index n.regs 10; r11 = slice_index n.regs 11; r12 = slice_index n.regs 12; r13 = slice_index n.regs 13; r14 = slice_index n.regs 14; r15 = slice_index n.regs 15;
+  pc = slice_index n.regs 0;
+  sp = slice_index n.regs 1;
+  sr = slice_index n.regs 2;
+  r4 = slice_index n.regs 4;
+  r5 = slice_index n.regs 5;
+  r6 = slice_index n.regs 6;
+  r7 = slice_index n.regs 7;
+  r8 = slice_index n.regs 8;
+  r9 = slice_index n.regs 9;
+  r10 = slice_index n.regs 10;
+  r11 = slice_index n.regs 11;
+  r12 = slice_index n.regs 12;
+  r13 = slice_index n.regs 13;
+  r14 = slice_index n.regs 14;
+  r15 = slice_index n.regs 15;
 }
 
 abbrev pub data_at : State → Data

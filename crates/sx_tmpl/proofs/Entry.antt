@@ -45,7 +45,6 @@ use Rattle.sx_tmpl.proofs.Plain.{inside}
 use Rattle.sx_tmpl.proofs.Words as w
 use Rattle.sx_tmpl.proofs.Holding.{data_word, holds_store}
 
-
 -- the node as it enters the module: no module runs, PC is the entry, and the last instruction showed whatever it did
 abbrev pub entering : Fixed → Regs → Data → ℕ → ℕ → Event → Watched
 entering f r d last caller e = record {
@@ -64,7 +63,6 @@ entering f r d last caller e = record {
   marks = d.marks;
   event = e;
 }
-
 
 module _ (f : Fixed) (st : Stands f) (all : List Mark) (B : Watched → Violation → Type 0) (at : ℕ → ℕ) (Q : Watched → Type 0) where
   from_entry : (n : ℕ) (r : Regs) (d : Data) (last caller : ℕ) (e : Event) (o : Outcome) → Safe f all (entering f r d last caller e) → InText f r.pc → entered_from (entering f r d last caller e).node f.setup.section.id ≡ f.caller → attempt f.setup.mac (entering f r d last caller e).node ≡ o
@@ -114,10 +112,10 @@ module _ (f : Fixed) (st : Stands f) (all : List Mark) (B : Watched → Violatio
       let w0 : word d.mem r.pc ≡ 0x4182 = word_is d.mem r.pc ev ∙ i0 in
       let plain = w.put_sp.plain in
       let at_ = ap (λ b. cond b (ordered f.setup.mac s (device_at d.devices r.pc)) (Violated bad.Fetch)) out
-          ∙ ap (ordered f.setup.mac s) dev
-          ∙ ap (λ b. cond b (instruction f.setup.mac s) (Violated bad.Order)) ord
-          ∙ rw (w0, own) refl
-          ∙ program_two f st all B Q 0x4182 (base_of f + 148) (λ x y. Two op2.Mov false (Reg 1) (Absolute x)) (regs16 f r) x w.put_sp got in
+      ∙ ap (ordered f.setup.mac s) dev
+      ∙ ap (λ b. cond b (instruction f.setup.mac s) (Violated bad.Order)) ord
+      ∙ rw (w0, own) refl
+      ∙ program_two f st all B Q 0x4182 (base_of f + 148) (λ x y. Two op2.Mov false (Reg 1) (Absolute x)) (regs16 f r) x w.put_sp got in
       from_entry j r d last caller e _ safe (record { from = here; to = omega arith }) from at_
       (owes_met f st (Then f st all B Q j d) (NoTell f st all B Q) (B (entering f r d last caller e)) (row (Two op2.Mov false (Reg 1) (Absolute (base_of f + 148))) (at_pc (regs16 f r) ((r.pc + 2) % 65536)) ((r.pc + 4) % 65536)) x safe.devices safe.memory owed)
 
@@ -212,18 +210,92 @@ module _ (f : Fixed) (st : Stands f) (all : List Mark) (B : Watched → Violatio
       let r3 = record r { pc = P + 16 } in
       let r4 = record r { pc = P + 20 } in
       let r5 = record r { pc = P + 24; sp = b + 512 } in
-      first f st all B at (Q0 priv outside r d) t r d last caller e 5 pc safe from
-      (b + 148, refl, p148, f.sp, v0, ls, λ k0. (r0, rw (stay, next) refl, inside t 2 (omega arith), λ s0.
-      two f st all B (Q0 priv outside r d) t 2 0x4c82 (b + 6) (λ x y. Two op2.Mov false (Reg 12) (Absolute x)) refl refl (omega arith) w.put_12 event.Quiet r0 (record d { mem = m0 }) 4 refl s0
-      (b + 6, refl, p6, r.r12, omega arith, l12, λ k1. (r1, rw stay refl, inside t 4 (omega arith), λ s1.
-      two f st all B (Q0 priv outside r d) t 4 0x4d82 (b + 8) (λ x y. Two op2.Mov false (Reg 13) (Absolute x)) refl refl (omega arith) w.put_13 event.Quiet r1 (record d { mem = m1 }) 3 refl s1
-      (b + 8, refl, p8, r.r13, omega arith, l13, λ k2. (r2, rw stay refl, inside t 6 (omega arith), λ s2.
-      two f st all B (Q0 priv outside r d) t 6 0x4e82 (b + 10) (λ x y. Two op2.Mov false (Reg 14) (Absolute x)) refl refl (omega arith) w.put_14 event.Quiet r2 (record d { mem = m2 }) 2 refl s2
-      (b + 10, refl, p10, r.r14, omega arith, l14, λ k3. (r3, rw stay refl, inside t 8 (omega arith), λ s3.
-      two f st all B (Q0 priv outside r d) t 8 0x4f82 (b + 12) (λ x y. Two op2.Mov false (Reg 15) (Absolute x)) refl refl (omega arith) w.put_15 event.Quiet r3 (record d { mem = m3 }) 1 refl s3
-      (b + 12, refl, p12, r.r15, omega arith, l15, λ k4. (r4, rw stay refl, inside t 10 (omega arith), λ s4.
-      two f st all B (Q0 priv outside r d) t 10 0x4031 (b + 512) (λ x y. Two op2.Mov false (Immediate x) (Reg 1)) refl refl (omega arith) w.load_sp event.Quiet r4 (record d { mem = m4 }) 0 refl s4
-      (λ k5. (r5, rw (stay, sp2) refl, inside t 12 (omega arith), λ s5.
-      Here (record { regs = r5; rest = record d { mem = m4 }; state = refl; safe = s5; shows = record { pc = sym at0;
-          holds = store 12 r.r15 q3 outside m3 (omega arith) (omega arith) refl k3 (store 10 r.r14 q2 outside m2 (omega arith) (omega arith) refl k2 (store 8 r.r13 q1 outside m1 (omega arith) (omega arith) refl k1 (store 6 r.r12 priv outside m0 (omega arith) (omega arith) refl k0 h0)));
-          devices = refl; marks = refl } })))))))))))))
+      first f st all B at (Q0 priv outside r d) t r d last caller e 5 pc safe from (
+        b + 148,
+        refl,
+        p148,
+        f.sp,
+        v0,
+        ls,
+        λ k0. (
+          r0,
+          rw (stay, next) refl,
+          inside t 2 (omega arith),
+          λ s0.
+              two f st all B (Q0 priv outside r d) t 2 0x4c82 (b + 6) (λ x y. Two op2.Mov false (Reg 12) (Absolute x)) refl refl (omega arith) w.put_12 event.Quiet r0 (record d { mem = m0 }) 4 refl s0 (
+                b + 6,
+                refl,
+                p6,
+                r.r12,
+                omega arith,
+                l12,
+                λ k1. (
+                  r1,
+                  rw stay refl,
+                  inside t 4 (omega arith),
+                  λ s1.
+                      two f st all B (Q0 priv outside r d) t 4 0x4d82 (b + 8) (λ x y. Two op2.Mov false (Reg 13) (Absolute x)) refl refl (omega arith) w.put_13 event.Quiet r1 (record d { mem = m1 }) 3 refl s1 (
+                        b + 8,
+                        refl,
+                        p8,
+                        r.r13,
+                        omega arith,
+                        l13,
+                        λ k2. (
+                          r2,
+                          rw stay refl,
+                          inside t 6 (omega arith),
+                          λ s2.
+                              two f st all B (Q0 priv outside r d) t 6 0x4e82 (b + 10) (λ x y. Two op2.Mov false (Reg 14) (Absolute x)) refl refl (omega arith) w.put_14 event.Quiet r2 (record d { mem = m2 }) 2 refl s2 (
+                                b + 10,
+                                refl,
+                                p10,
+                                r.r14,
+                                omega arith,
+                                l14,
+                                λ k3. (
+                                  r3,
+                                  rw stay refl,
+                                  inside t 8 (omega arith),
+                                  λ s3.
+                                      two f st all B (Q0 priv outside r d) t 8 0x4f82 (b + 12) (λ x y. Two op2.Mov false (Reg 15) (Absolute x)) refl refl (omega arith) w.put_15 event.Quiet r3 (record d { mem = m3 }) 1 refl s3 (
+                                        b + 12,
+                                        refl,
+                                        p12,
+                                        r.r15,
+                                        omega arith,
+                                        l15,
+                                        λ k4. (
+                                          r4,
+                                          rw stay refl,
+                                          inside t 10 (omega arith),
+                                          λ s4.
+                                              two f st all B (Q0 priv outside r d) t 10 0x4031 (b + 512) (λ x y. Two op2.Mov false (Immediate x) (Reg 1)) refl refl (omega arith) w.load_sp event.Quiet r4 (record d { mem = m4 }) 0 refl s4
+                                              (λ k5. (
+                                                r5,
+                                                rw (stay, sp2) refl,
+                                                inside t 12 (omega arith),
+                                                λ s5.
+                                                    Here (record {
+                                                      regs = r5;
+                                                      rest = record d { mem = m4 };
+                                                      state = refl;
+                                                      safe = s5;
+                                                      shows = record {
+                                                        pc = sym at0;
+                                                        holds = store 12 r.r15 q3 outside m3 (omega arith) (omega arith) refl k3 (store 10 r.r14 q2 outside m2 (omega arith) (omega arith) refl k2 (store 8 r.r13 q1 outside m1 (omega arith) (omega arith) refl k1 (store 6 r.r12 priv outside m0 (omega arith) (omega arith) refl k0 h0)));
+                                                        devices = refl;
+                                                        marks = refl;
+                                                      };
+                                                    }),
+                                              )),
+                                        ),
+                                      ),
+                                ),
+                              ),
+                        ),
+                      ),
+                ),
+              ),
+        ),
+      )

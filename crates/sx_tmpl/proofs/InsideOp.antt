@@ -39,7 +39,6 @@ use Rattle.sx_tmpl.proofs.Plain.{inside, Leads}
 use Rattle.sx_tmpl.proofs.Words as w
 use Rattle.sx_tmpl.proofs.Holding.{data_word, holds_word, cell_below}
 
-
 module _ (f : Fixed) (st : Stands f) (all : List Mark) (B : Watched → Violation → Type 0) (Q : Watched → Type 0) where
   illegal_program : (regs : List ℕ) (x : Rattle.sx_machine.specs.Run.Moment) → exec (sections_of f) f.setup.section.id (program 0 regs) x ≡ Violated bad.Illegal
   unfolding program length_of instruction_at
@@ -85,36 +84,67 @@ module _ (f : Fixed) (st : Stands f) (all : List Mark) (B : Watched → Violatio
       let r4 = record r3 { pc = at c.place + 14; sr = sr2 } in
       let to : (at c.place + 10 + 8) % 65536 ≡ at c.place + 18 = omega (arith, t.to) in
       let to2 : (at c.place + 16 + 2) % 65536 ≡ at c.place + 18 = omega (arith, t.to) in
-      two f st all B Q t 0 0x421c (base_of f + 12) (λ x y. Two op2.Mov false (Absolute x) (Reg 12)) refl refl (omega arith) w.get_12 event.Quiet r d 5 (omega (arith, sh.pc)) safe
-      (base_of f + 12, refl, p12, x, is, λ kept. (r1, rw (flags_stay r.sr) refl, inside t 2 (omega arith), λ s1.
-      two f st all B Q t 2 0x903c l.pub_from (λ x y. Two op2.Cmp false (Immediate x) (Reg 12)) refl refl (omega arith) w.cmp_immediate_12 event.Quiet r1 d 4 refl s1
-      (λ kept. (r2, refl, inside t 4 (omega arith), λ s2.
-      elim (cases_lt x l.pub_from) [
-        | inl lo ↦
-          let out : in_public f.setup.section (even x) ≡ false = and_left _ _ (lt-leb l.pub_from (even x) (omega arith)) in
-          let no_ = borrow (l.pub_from % 65536) (x % 65536) r.sr (omega arith) (omega arith) in
-          one f st all B Q t 4 0x2804 (λ x y. Jump 2 (pos 4)) refl (omega arith) w.jnc_4 event.Quiet r2 d 3 refl s2
-          (λ kept. (record r2 { pc = at c.place + 18 }, rw (no_, to) refl, inside t 9 (omega arith), λ s3. Here (done out (record r2 { pc = at c.place + 18 }) refl refl s3)))
-        | inr ge ↦
-          let yes_ = no_borrow (l.pub_from % 65536) (x % 65536) r.sr (omega arith) (omega arith) in
-          one f st all B Q t 4 0x2804 (λ x y. Jump 2 (pos 4)) refl (omega arith) w.jnc_4 event.Quiet r2 d 3 refl s2
-          (λ kept. (r3, rw yes_ refl, inside t 5 (omega arith), λ s3.
-          two f st all B Q t 5 0x903c l.pub_to (λ x y. Two op2.Cmp false (Immediate x) (Reg 12)) refl refl (omega arith) w.cmp_immediate_12 event.Quiet r3 d 2 refl s3
-          (λ kept. (r4, refl, inside t 7 (omega arith), λ s4.
-          elim (cases_lt x l.pub_to) [
-            | inl lt ↦
-              let in_ : in_public f.setup.section (even x) ≡ true = and_from _ _ (le-leb l.pub_from (even x) (omega arith)) (lt-ltb (even x) l.pub_to (omega arith)) in
-              let no_ = borrow (l.pub_to % 65536) (x % 65536) sr1 (omega arith) (omega arith) in
-              one f st all B Q t 7 0x2c01 (λ x y. Jump 3 (pos 1)) refl (omega arith) w.jc_1 event.Quiet r4 d 1 refl s4
-              (λ kept. (record r4 { pc = at c.place + 16 }, rw no_ refl, inside t 8 (omega arith), λ s5.
-              illegal_step f st all B Q t 8 refl (omega arith) (record r4 { pc = at c.place + 16 }) d 0 refl s5 (stop in_ (running f (record r4 { pc = at c.place + 16 }) d) sh.marks)))
-            | inr ge2 ↦
-              let out : in_public f.setup.section (even x) ≡ false = and_right (nat_le l.pub_from (even x)) _ (le-ltb (even x) l.pub_to (omega arith)) in
-              let yes2 = no_borrow (l.pub_to % 65536) (x % 65536) sr1 (omega arith) (omega arith) in
-              one f st all B Q t 7 0x2c01 (λ x y. Jump 3 (pos 1)) refl (omega arith) w.jc_1 event.Quiet r4 d 1 refl s4
-              (λ kept. (record r4 { pc = at c.place + 18 }, rw (yes2, to2) refl, inside t 9 (omega arith), λ s5. Here (done out (record r4 { pc = at c.place + 18 }) refl refl s5)))
-          ]))))
-      ]))))
+      two f st all B Q t 0 0x421c (base_of f + 12) (λ x y. Two op2.Mov false (Absolute x) (Reg 12)) refl refl (omega arith) w.get_12 event.Quiet r d 5 (omega (arith, sh.pc)) safe (
+        base_of f + 12,
+        refl,
+        p12,
+        x,
+        is,
+        λ kept. (
+          r1,
+          rw (flags_stay r.sr) refl,
+          inside t 2 (omega arith),
+          λ s1.
+              two f st all B Q t 2 0x903c l.pub_from (λ x y. Two op2.Cmp false (Immediate x) (Reg 12)) refl refl (omega arith) w.cmp_immediate_12 event.Quiet r1 d 4 refl s1
+              (λ kept. (
+                r2,
+                refl,
+                inside t 4 (omega arith),
+                λ s2.
+                    elim (cases_lt x l.pub_from) [
+                      | inl lo ↦
+                          let out : in_public f.setup.section (even x) ≡ false = and_left _ _ (lt-leb l.pub_from (even x) (omega arith)) in
+                          let no_ = borrow (l.pub_from % 65536) (x % 65536) r.sr (omega arith) (omega arith) in
+                          one f st all B Q t 4 0x2804 (λ x y. Jump 2 (pos 4)) refl (omega arith) w.jnc_4 event.Quiet r2 d 3 refl s2
+                          (λ kept. (record r2 { pc = at c.place + 18 }, rw (no_, to) refl, inside t 9 (omega arith), λ s3. Here (done out (record r2 { pc = at c.place + 18 }) refl refl s3)))
+                      | inr ge ↦
+                          let yes_ = no_borrow (l.pub_from % 65536) (x % 65536) r.sr (omega arith) (omega arith) in
+                          one f st all B Q t 4 0x2804 (λ x y. Jump 2 (pos 4)) refl (omega arith) w.jnc_4 event.Quiet r2 d 3 refl s2
+                          (λ kept. (
+                            r3,
+                            rw yes_ refl,
+                            inside t 5 (omega arith),
+                            λ s3.
+                                two f st all B Q t 5 0x903c l.pub_to (λ x y. Two op2.Cmp false (Immediate x) (Reg 12)) refl refl (omega arith) w.cmp_immediate_12 event.Quiet r3 d 2 refl s3
+                                (λ kept. (
+                                  r4,
+                                  refl,
+                                  inside t 7 (omega arith),
+                                  λ s4.
+                                      elim (cases_lt x l.pub_to) [
+                                        | inl lt ↦
+                                            let in_ : in_public f.setup.section (even x) ≡ true = and_from _ _ (le-leb l.pub_from (even x) (omega arith)) (lt-ltb (even x) l.pub_to (omega arith)) in
+                                            let no_ = borrow (l.pub_to % 65536) (x % 65536) sr1 (omega arith) (omega arith) in
+                                            one f st all B Q t 7 0x2c01 (λ x y. Jump 3 (pos 1)) refl (omega arith) w.jc_1 event.Quiet r4 d 1 refl s4
+                                            (λ kept. (
+                                              record r4 { pc = at c.place + 16 },
+                                              rw no_ refl,
+                                              inside t 8 (omega arith),
+                                              λ s5.
+                                                  illegal_step f st all B Q t 8 refl (omega arith) (record r4 { pc = at c.place + 16 }) d 0 refl s5 (stop in_ (running f (record r4 { pc = at c.place + 16 }) d) sh.marks),
+                                            ))
+                                        | inr ge2 ↦
+                                            let out : in_public f.setup.section (even x) ≡ false = and_right (nat_le l.pub_from (even x)) _ (le-ltb (even x) l.pub_to (omega arith)) in
+                                            let yes2 = no_borrow (l.pub_to % 65536) (x % 65536) sr1 (omega arith) (omega arith) in
+                                            one f st all B Q t 7 0x2c01 (λ x y. Jump 3 (pos 1)) refl (omega arith) w.jc_1 event.Quiet r4 d 1 refl s4
+                                            (λ kept. (record r4 { pc = at c.place + 18 }, rw (yes2, to2) refl, inside t 9 (omega arith), λ s5. Here (done out (record r4 { pc = at c.place + 18 }) refl refl s5)))
+                                      ],
+                                )),
+                          ))
+                    ],
+              )),
+        ),
+      )
 
   pub inside_ends : (c : Conf) → Ending (cond (in_public f.setup.section (even (saved c 15))) (Stops (Violates bad.Illegal c.marks)) (Goes (next c c.stack))) (λ t. Leads f st all B at 9 (inside_words f) 6 c t) (λ v m. Breaks f st all B at 9 (inside_words f) 6 c v m)
   inside_ends c = either (in_public f.setup.section (even (saved c 15))) refl

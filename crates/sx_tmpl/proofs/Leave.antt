@@ -42,7 +42,6 @@ use Rattle.sx_tmpl.proofs.Plain.{inside}
 use Rattle.sx_tmpl.proofs.Words as w
 use Rattle.sx_tmpl.proofs.Holding.{stack_word, data_word, holds_word}
 
-
 -- what holds a byte is a live section with it in its public part
 holder_from : (live : List Section) (a i : ℕ) → holder live a ≡ i → 0 < i → (u : Section) × Lives live u × (in_public u a ≡ true) × (u.id ≡ i)
 holder_from [] a i e lt = absurd (omega arith)
@@ -79,9 +78,9 @@ module _ (f : Fixed) (st : Stands f) (all : List Mark) (B : Watched → Violatio
   not_held : (a : ℕ) → in_public f.setup.section a ≡ false → (holder f.setup.live a == f.setup.section.id) ≡ false
   not_held a h = elim (cases_eq (holder f.setup.live a) f.setup.section.id) [
     | inl e ↦
-      let x = holder_from f.setup.live a f.setup.section.id e (own_above f st) in
-      let same : x.0 ≡ f.setup.section = same_Some x.0 f.setup.section (sym (placed_found (sections_of f) x.0 st.placed x.1) ∙ ap (Rattle.sx_rules.specs.Access.section_of f.setup.live) x.3 ∙ placed_found (sections_of f) f.setup.section st.placed st.lives) in
-      absurd (true≢false (sym x.2 ∙ ap (λ u. in_public u a) same ∙ h))
+        let x = holder_from f.setup.live a f.setup.section.id e (own_above f st) in
+        let same : x.0 ≡ f.setup.section = same_Some x.0 f.setup.section (sym (placed_found (sections_of f) x.0 st.placed x.1) ∙ ap (Rattle.sx_rules.specs.Access.section_of f.setup.live) x.3 ∙ placed_found (sections_of f) f.setup.section st.placed st.lives) in
+        absurd (true≢false (sym x.2 ∙ ap (λ u. in_public u a) same ∙ h))
     | inr ne ↦ ne_eqb (holder f.setup.live a) f.setup.section.id ne
   ]
 
@@ -116,7 +115,6 @@ pub record Departed (f : Fixed) (at : ℕ → ℕ) (c : Conf) (status count : �
   pub holds : Holds f at c.back c.stack c.priv c.mem sp rest.mem
   pub devices : rest.devices ≡ c.devices
   pub marks : rest.marks ≡ c.marks
-
 
 module _ (f : Fixed) (st : Stands f) (all : List Mark) (B : Watched → Violation → Type 0) (at : ℕ → ℕ) where
   -- the last instruction: MOV &return, PC
@@ -173,33 +171,121 @@ module _ (f : Fixed) (st : Stands f) (all : List Mark) (B : Watched → Violatio
       let q10 = record q9 { pc = at c.place + 24; r15 = 0 } in
       let q11 = record q10 { pc = at c.place + 26; sr = 0 } in
       let q12 = record q11 { pc = at c.place + 30; sp = f.sp } in
-      one f st all B Q t 0 0x413d (λ x y. Two op2.Mov false (Increment 1) (Reg 13)) refl (omega arith) w.pop_13 event.Quiet r d 14 (omega (arith, sh.pc)) safe
-      (r.sp, refl, p1, count, h.words.0, λ kept. (r1, rw (up, stay) refl, inside t 1 (omega arith), λ s1.
-      one f st all B Q t 1 0x413c (λ x y. Two op2.Mov false (Increment 1) (Reg 12)) refl (omega arith) w.pop_12 event.Quiet r1 d 13 refl s1
-      (r.sp + 2, refl, p2, status, h.words.1.0, λ kept. (q0, rw (up2, stay) refl, inside t 2 (omega arith), λ z0.
-      one f st all B Q t 2 0x4304 (λ x y. Two op2.Mov false (Const 0) (Reg 4)) refl (omega arith) w.zero_4 event.Quiet q0 d 12 refl z0
-      (λ kept. (q1, rw stay refl, inside t 3 (omega arith), λ z1.
-      one f st all B Q t 3 0x4305 (λ x y. Two op2.Mov false (Const 0) (Reg 5)) refl (omega arith) w.zero_5 event.Quiet q1 d 11 refl z1
-      (λ kept. (q2, rw stay refl, inside t 4 (omega arith), λ z2.
-      one f st all B Q t 4 0x4306 (λ x y. Two op2.Mov false (Const 0) (Reg 6)) refl (omega arith) w.zero_6 event.Quiet q2 d 10 refl z2
-      (λ kept. (q3, rw stay refl, inside t 5 (omega arith), λ z3.
-      one f st all B Q t 5 0x4307 (λ x y. Two op2.Mov false (Const 0) (Reg 7)) refl (omega arith) w.zero_7 event.Quiet q3 d 9 refl z3
-      (λ kept. (q4, rw stay refl, inside t 6 (omega arith), λ z4.
-      one f st all B Q t 6 0x4308 (λ x y. Two op2.Mov false (Const 0) (Reg 8)) refl (omega arith) w.zero_8 event.Quiet q4 d 8 refl z4
-      (λ kept. (q5, rw stay refl, inside t 7 (omega arith), λ z5.
-      one f st all B Q t 7 0x4309 (λ x y. Two op2.Mov false (Const 0) (Reg 9)) refl (omega arith) w.zero_9 event.Quiet q5 d 7 refl z5
-      (λ kept. (q6, rw stay refl, inside t 8 (omega arith), λ z6.
-      one f st all B Q t 8 0x430a (λ x y. Two op2.Mov false (Const 0) (Reg 10)) refl (omega arith) w.zero_10 event.Quiet q6 d 6 refl z6
-      (λ kept. (q7, rw stay refl, inside t 9 (omega arith), λ z7.
-      one f st all B Q t 9 0x430b (λ x y. Two op2.Mov false (Const 0) (Reg 11)) refl (omega arith) w.zero_11 event.Quiet q7 d 5 refl z7
-      (λ kept. (q8, rw stay refl, inside t 10 (omega arith), λ z8.
-      one f st all B Q t 10 0x430e (λ x y. Two op2.Mov false (Const 0) (Reg 14)) refl (omega arith) w.zero_14 event.Quiet q8 d 4 refl z8
-      (λ kept. (q9, rw stay refl, inside t 11 (omega arith), λ z9.
-      one f st all B Q t 11 0x430f (λ x y. Two op2.Mov false (Const 0) (Reg 15)) refl (omega arith) w.zero_15 event.Quiet q9 d 3 refl z9
-      (λ kept. (q10, rw stay refl, inside t 12 (omega arith), λ z10.
-      one f st all B Q t 12 0x4302 (λ x y. Two op2.Mov false (Const 0) (Reg 2)) refl (omega arith) w.clear_status event.Quiet q10 d 2 refl z10
-      (λ kept. (q11, refl, inside t 13 (omega arith), λ z11.
-      two f st all B Q t 13 0x4211 (base_of f + 148) (λ x y. Two op2.Mov false (Absolute x) (Reg 1)) refl refl (omega arith) w.get_sp event.Quiet q11 d 1 refl z11
-      (base_of f + 148, refl, p148, f.sp, h.entry_sp, λ kept. (q12, rw spe refl, inside t 15 (omega arith), λ z12.
-      return_out Q t 15 refl refl (omega arith) q12 d (saved c 15) refl z12 back out refl
-      (λ kept. record { rest = d; state = refl; kept = kept; sp = r.sp; holds = h; devices = sh.devices; marks = sh.marks })))))))))))))))))))))))))))))
+      one f st all B Q t 0 0x413d (λ x y. Two op2.Mov false (Increment 1) (Reg 13)) refl (omega arith) w.pop_13 event.Quiet r d 14 (omega (arith, sh.pc)) safe (
+        r.sp,
+        refl,
+        p1,
+        count,
+        h.words.0,
+        λ kept. (
+          r1,
+          rw (up, stay) refl,
+          inside t 1 (omega arith),
+          λ s1.
+              one f st all B Q t 1 0x413c (λ x y. Two op2.Mov false (Increment 1) (Reg 12)) refl (omega arith) w.pop_12 event.Quiet r1 d 13 refl s1 (
+                r.sp + 2,
+                refl,
+                p2,
+                status,
+                h.words.1.0,
+                λ kept. (
+                  q0,
+                  rw (up2, stay) refl,
+                  inside t 2 (omega arith),
+                  λ z0.
+                      one f st all B Q t 2 0x4304 (λ x y. Two op2.Mov false (Const 0) (Reg 4)) refl (omega arith) w.zero_4 event.Quiet q0 d 12 refl z0
+                      (λ kept. (
+                        q1,
+                        rw stay refl,
+                        inside t 3 (omega arith),
+                        λ z1.
+                            one f st all B Q t 3 0x4305 (λ x y. Two op2.Mov false (Const 0) (Reg 5)) refl (omega arith) w.zero_5 event.Quiet q1 d 11 refl z1
+                            (λ kept. (
+                              q2,
+                              rw stay refl,
+                              inside t 4 (omega arith),
+                              λ z2.
+                                  one f st all B Q t 4 0x4306 (λ x y. Two op2.Mov false (Const 0) (Reg 6)) refl (omega arith) w.zero_6 event.Quiet q2 d 10 refl z2
+                                  (λ kept. (
+                                    q3,
+                                    rw stay refl,
+                                    inside t 5 (omega arith),
+                                    λ z3.
+                                        one f st all B Q t 5 0x4307 (λ x y. Two op2.Mov false (Const 0) (Reg 7)) refl (omega arith) w.zero_7 event.Quiet q3 d 9 refl z3
+                                        (λ kept. (
+                                          q4,
+                                          rw stay refl,
+                                          inside t 6 (omega arith),
+                                          λ z4.
+                                              one f st all B Q t 6 0x4308 (λ x y. Two op2.Mov false (Const 0) (Reg 8)) refl (omega arith) w.zero_8 event.Quiet q4 d 8 refl z4
+                                              (λ kept. (
+                                                q5,
+                                                rw stay refl,
+                                                inside t 7 (omega arith),
+                                                λ z5.
+                                                    one f st all B Q t 7 0x4309 (λ x y. Two op2.Mov false (Const 0) (Reg 9)) refl (omega arith) w.zero_9 event.Quiet q5 d 7 refl z5
+                                                    (λ kept. (
+                                                      q6,
+                                                      rw stay refl,
+                                                      inside t 8 (omega arith),
+                                                      λ z6.
+                                                          one f st all B Q t 8 0x430a (λ x y. Two op2.Mov false (Const 0) (Reg 10)) refl (omega arith) w.zero_10 event.Quiet q6 d 6 refl z6
+                                                          (λ kept. (
+                                                            q7,
+                                                            rw stay refl,
+                                                            inside t 9 (omega arith),
+                                                            λ z7.
+                                                                one f st all B Q t 9 0x430b (λ x y. Two op2.Mov false (Const 0) (Reg 11)) refl (omega arith) w.zero_11 event.Quiet q7 d 5 refl z7
+                                                                (λ kept. (
+                                                                  q8,
+                                                                  rw stay refl,
+                                                                  inside t 10 (omega arith),
+                                                                  λ z8.
+                                                                      one f st all B Q t 10 0x430e (λ x y. Two op2.Mov false (Const 0) (Reg 14)) refl (omega arith) w.zero_14 event.Quiet q8 d 4 refl z8
+                                                                      (λ kept. (
+                                                                        q9,
+                                                                        rw stay refl,
+                                                                        inside t 11 (omega arith),
+                                                                        λ z9.
+                                                                            one f st all B Q t 11 0x430f (λ x y. Two op2.Mov false (Const 0) (Reg 15)) refl (omega arith) w.zero_15 event.Quiet q9 d 3 refl z9
+                                                                            (λ kept. (
+                                                                              q10,
+                                                                              rw stay refl,
+                                                                              inside t 12 (omega arith),
+                                                                              λ z10.
+                                                                                  one f st all B Q t 12 0x4302 (λ x y. Two op2.Mov false (Const 0) (Reg 2)) refl (omega arith) w.clear_status event.Quiet q10 d 2 refl z10
+                                                                                  (λ kept. (
+                                                                                    q11,
+                                                                                    refl,
+                                                                                    inside t 13 (omega arith),
+                                                                                    λ z11.
+                                                                                        two f st all B Q t 13 0x4211 (base_of f + 148) (λ x y. Two op2.Mov false (Absolute x) (Reg 1)) refl refl (omega arith) w.get_sp event.Quiet q11 d 1 refl z11 (
+                                                                                          base_of f + 148,
+                                                                                          refl,
+                                                                                          p148,
+                                                                                          f.sp,
+                                                                                          h.entry_sp,
+                                                                                          λ kept. (
+                                                                                            q12,
+                                                                                            rw spe refl,
+                                                                                            inside t 15 (omega arith),
+                                                                                            λ z12.
+                                                                                                return_out Q t 15 refl refl (omega arith) q12 d (saved c 15) refl z12 back out refl
+                                                                                                (λ kept. record { rest = d; state = refl; kept = kept; sp = r.sp; holds = h; devices = sh.devices; marks = sh.marks }),
+                                                                                          ),
+                                                                                        ),
+                                                                                  )),
+                                                                            )),
+                                                                      )),
+                                                                )),
+                                                          )),
+                                                    )),
+                                              )),
+                                        )),
+                                  )),
+                            )),
+                      )),
+                ),
+              ),
+        ),
+      )

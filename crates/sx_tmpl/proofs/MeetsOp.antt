@@ -28,8 +28,6 @@ use Rattle.sx_tmpl.proofs.Plain.{inside, Leads, stood}
 use Rattle.sx_tmpl.proofs.Words as w
 use Rattle.sx_tmpl.proofs.Holding.{stack_word, data_word, holds_push, holds_word, cell_below}
 
-
-
 abbrev pub meets_words : Fixed → ℕ → ℕ → List ℕ
 meets_words f r n =
     0x421c ∷ (base_of f + offsets.saved_at r) ∷ 0x903c ∷ (65537 - n) ∷ 0x2c06 ∷ 0x903c ∷ f.setup.section.layout.priv_to ∷ 0x2c05
@@ -81,38 +79,74 @@ module _ (f : Fixed) (st : Stands f) (all : List Mark) (B : Watched → Violatio
       let t1 : (at c.place + 10 + 12) % 65536 ≡ at c.place + 22 = omega (arith, t.to) in
       let t2 : (at c.place + 16 + 10) % 65536 ≡ at c.place + 26 = omega (arith, t.to) in
       let t3 : (at c.place + 22 + 4) % 65536 ≡ at c.place + 26 = omega (arith, t.to) in
-      two f st all B _ t 0 0x421c (base_of f + o) (λ x y. Two op2.Mov false (Absolute x) (Reg 12)) refl refl (omega arith) w.get_12 event.Quiet r d 8 (omega (arith, sh.pc)) safe
-      (base_of f + o, refl, po, x, is, λ kept. (r1, rw (flags_stay r.sr) refl, inside t 2 (omega arith), λ s1.
-      two f st all B _ t 2 0x903c k1 (λ x y. Two op2.Cmp false (Immediate x) (Reg 12)) refl refl (omega arith) w.cmp_immediate_12 event.Quiet r1 d 7 refl s1
-      (λ kept. (r2, refl, inside t 4 (omega arith), λ s2.
-      elim (cases_lt x k1) [
-        | inr ge ↦
-          one f st all B _ t 4 0x2c06 (λ x y. Jump 3 (pos 6)) refl (omega arith) w.jc_6 event.Quiet r2 d 6 refl s2
-          (λ kept. (record r2 { pc = at c.place + 22 }, rw (no_borrow (k1 % 65536) (x % 65536) r.sr (omega arith) (omega arith), t1) refl, inside t 11 (omega arith), λ s3. ending true (bad_end f x n ge small) (record r2 { pc = at c.place + 22 }) 4 refl refl s3))
-        | inl lt1 ↦
-          one f st all B _ t 4 0x2c06 (λ x y. Jump 3 (pos 6)) refl (omega arith) w.jc_6 event.Quiet r2 d 6 refl s2
-          (λ kept. (r3, rw (borrow (k1 % 65536) (x % 65536) r.sr (omega arith) (omega arith)) refl, inside t 5 (omega arith), λ s3.
-          two f st all B _ t 5 0x903c l.priv_to (λ x y. Two op2.Cmp false (Immediate x) (Reg 12)) refl refl (omega arith) w.cmp_immediate_12 event.Quiet r3 d 5 refl s3
-          (λ kept. (r4, refl, inside t 7 (omega arith), λ s4.
-          elim (cases_lt x l.priv_to) [
-            | inr ge2 ↦
-              one f st all B _ t 7 0x2c05 (λ x y. Jump 3 (pos 5)) refl (omega arith) w.jc_5 event.Quiet r4 d 4 refl s4
-              (λ kept. (record r4 { pc = at c.place + 26 }, rw (no_borrow (l.priv_to % 65536) (x % 65536) sr1 (omega arith) (omega arith), t2) refl, inside t 13 (omega arith), λ s5. ending false (good_above f x n lt1 small ge2) (record r4 { pc = at c.place + 26 }) 2 refl refl s5))
-            | inl lt2 ↦
-              one f st all B _ t 7 0x2c05 (λ x y. Jump 3 (pos 5)) refl (omega arith) w.jc_5 event.Quiet r4 d 4 refl s4
-              (λ kept. (r5, rw (borrow (l.priv_to % 65536) (x % 65536) sr1 (omega arith) (omega arith)) refl, inside t 8 (omega arith), λ s5.
-              two f st all B _ t 8 0x903c k3 (λ x y. Two op2.Cmp false (Immediate x) (Reg 12)) refl refl (omega arith) w.cmp_immediate_12 event.Quiet r5 d 3 refl s5
-              (λ kept. (r6, refl, inside t 10 (omega arith), λ s6.
-              elim (cases_lt x k3) [
-                | inl lt3 ↦
-                  one f st all B _ t 10 0x2802 (λ x y. Jump 2 (pos 2)) refl (omega arith) w.jnc_2 event.Quiet r6 d 2 refl s6
-                  (λ kept. (record r6 { pc = at c.place + 26 }, rw (borrow (k3 % 65536) (x % 65536) sr2 (omega arith) (omega arith), t3) refl, inside t 13 (omega arith), λ s7. ending false (good_below f x n lt1 small lt3) (record r6 { pc = at c.place + 26 }) 0 refl refl s7))
-                | inr ge3 ↦
-                  one f st all B _ t 10 0x2802 (λ x y. Jump 2 (pos 2)) refl (omega arith) w.jnc_2 event.Quiet r6 d 2 refl s6
-                  (λ kept. (record r6 { pc = at c.place + 22 }, rw (no_borrow (k3 % 65536) (x % 65536) sr2 (omega arith) (omega arith)) refl, inside t 11 (omega arith), λ s7. ending true (bad_inside f x n (omega arith) lt2 ge3) (record r6 { pc = at c.place + 22 }) 0 refl refl s7))
-              ]))))
-          ]))))
-      ]))))
+      two f st all B _ t 0 0x421c (base_of f + o) (λ x y. Two op2.Mov false (Absolute x) (Reg 12)) refl refl (omega arith) w.get_12 event.Quiet r d 8 (omega (arith, sh.pc)) safe (
+        base_of f + o,
+        refl,
+        po,
+        x,
+        is,
+        λ kept. (
+          r1,
+          rw (flags_stay r.sr) refl,
+          inside t 2 (omega arith),
+          λ s1.
+              two f st all B _ t 2 0x903c k1 (λ x y. Two op2.Cmp false (Immediate x) (Reg 12)) refl refl (omega arith) w.cmp_immediate_12 event.Quiet r1 d 7 refl s1
+              (λ kept. (
+                r2,
+                refl,
+                inside t 4 (omega arith),
+                λ s2.
+                    elim (cases_lt x k1) [
+                      | inr ge ↦
+                          one f st all B _ t 4 0x2c06 (λ x y. Jump 3 (pos 6)) refl (omega arith) w.jc_6 event.Quiet r2 d 6 refl s2
+                          (λ kept. (record r2 { pc = at c.place + 22 }, rw (no_borrow (k1 % 65536) (x % 65536) r.sr (omega arith) (omega arith), t1) refl, inside t 11 (omega arith), λ s3. ending true (bad_end f x n ge small) (record r2 { pc = at c.place + 22 }) 4 refl refl s3))
+                      | inl lt1 ↦
+                          one f st all B _ t 4 0x2c06 (λ x y. Jump 3 (pos 6)) refl (omega arith) w.jc_6 event.Quiet r2 d 6 refl s2
+                          (λ kept. (
+                            r3,
+                            rw (borrow (k1 % 65536) (x % 65536) r.sr (omega arith) (omega arith)) refl,
+                            inside t 5 (omega arith),
+                            λ s3.
+                                two f st all B _ t 5 0x903c l.priv_to (λ x y. Two op2.Cmp false (Immediate x) (Reg 12)) refl refl (omega arith) w.cmp_immediate_12 event.Quiet r3 d 5 refl s3
+                                (λ kept. (
+                                  r4,
+                                  refl,
+                                  inside t 7 (omega arith),
+                                  λ s4.
+                                      elim (cases_lt x l.priv_to) [
+                                        | inr ge2 ↦
+                                            one f st all B _ t 7 0x2c05 (λ x y. Jump 3 (pos 5)) refl (omega arith) w.jc_5 event.Quiet r4 d 4 refl s4
+                                            (λ kept. (record r4 { pc = at c.place + 26 }, rw (no_borrow (l.priv_to % 65536) (x % 65536) sr1 (omega arith) (omega arith), t2) refl, inside t 13 (omega arith), λ s5. ending false (good_above f x n lt1 small ge2) (record r4 { pc = at c.place + 26 }) 2 refl refl s5))
+                                        | inl lt2 ↦
+                                            one f st all B _ t 7 0x2c05 (λ x y. Jump 3 (pos 5)) refl (omega arith) w.jc_5 event.Quiet r4 d 4 refl s4
+                                            (λ kept. (
+                                              r5,
+                                              rw (borrow (l.priv_to % 65536) (x % 65536) sr1 (omega arith) (omega arith)) refl,
+                                              inside t 8 (omega arith),
+                                              λ s5.
+                                                  two f st all B _ t 8 0x903c k3 (λ x y. Two op2.Cmp false (Immediate x) (Reg 12)) refl refl (omega arith) w.cmp_immediate_12 event.Quiet r5 d 3 refl s5
+                                                  (λ kept. (
+                                                    r6,
+                                                    refl,
+                                                    inside t 10 (omega arith),
+                                                    λ s6.
+                                                        elim (cases_lt x k3) [
+                                                          | inl lt3 ↦
+                                                              one f st all B _ t 10 0x2802 (λ x y. Jump 2 (pos 2)) refl (omega arith) w.jnc_2 event.Quiet r6 d 2 refl s6
+                                                              (λ kept. (record r6 { pc = at c.place + 26 }, rw (borrow (k3 % 65536) (x % 65536) sr2 (omega arith) (omega arith), t3) refl, inside t 13 (omega arith), λ s7. ending false (good_below f x n lt1 small lt3) (record r6 { pc = at c.place + 26 }) 0 refl refl s7))
+                                                          | inr ge3 ↦
+                                                              one f st all B _ t 10 0x2802 (λ x y. Jump 2 (pos 2)) refl (omega arith) w.jnc_2 event.Quiet r6 d 2 refl s6
+                                                              (λ kept. (record r6 { pc = at c.place + 22 }, rw (no_borrow (k3 % 65536) (x % 65536) sr2 (omega arith) (omega arith)) refl, inside t 11 (omega arith), λ s7. ending true (bad_inside f x n (omega arith) lt2 ge3) (record r6 { pc = at c.place + 22 }) 0 refl refl s7))
+                                                        ],
+                                                  )),
+                                            ))
+                                      ],
+                                )),
+                          ))
+                    ],
+              )),
+        ),
+      )
     where
       place_of : Bool → ℕ
       place_of true = at c.place + 22
@@ -131,10 +165,22 @@ module _ (f : Fixed) (st : Stands f) (all : List Mark) (B : Watched → Violatio
           let r4 = record r3 { pc = at c.place + 28 } in
           let hp = holds_push f st at c.back c.stack c.priv c.mem r2.sp d.mem sp 1 safe.memory (subst (λ s. Holds f at c.back c.stack c.priv c.mem s d.mem) (sym sp_) h) (omega arith) (omega arith) in
           subst (λ v. Runs f all B (Stood f all at (next c (truth v ∷ c.stack))) (suc (suc j)) (running f r2 d)) (sym e)
-          (one f st all B _ t 11 0x1213 (λ x y. One op1.Push false (Const 1)) refl (omega arith) w.push_one event.Quiet r2 d (suc j) pc safe2
-          (sp, down, pr, 1, refl, omega arith, λ kept. (r3, rw down refl, inside t 12 (omega arith), λ s3.
-          one f st all B _ t 12 0x3c01 (λ x y. Jump 7 (pos 1)) refl (omega arith) w.jmp_1 event.Quiet r3 (record d { mem = put_cell d.mem sp 1 }) j refl s3
-          (λ kept2. (r4, rw to2_ refl, inside t 14 (omega arith), λ s4. stood f st all B at (next c (1 ∷ c.stack)) r4 (put_cell d.mem sp 1) d j s4 (omega (arith, on)) hp sh.devices sh.marks)))))
+          (one f st all B _ t 11 0x1213 (λ x y. One op1.Push false (Const 1)) refl (omega arith) w.push_one event.Quiet r2 d (suc j) pc safe2 (
+            sp,
+            down,
+            pr,
+            1,
+            refl,
+            omega arith,
+            λ kept. (
+              r3,
+              rw down refl,
+              inside t 12 (omega arith),
+              λ s3.
+                  one f st all B _ t 12 0x3c01 (λ x y. Jump 7 (pos 1)) refl (omega arith) w.jmp_1 event.Quiet r3 (record d { mem = put_cell d.mem sp 1 }) j refl s3
+                  (λ kept2. (r4, rw to2_ refl, inside t 14 (omega arith), λ s4. stood f st all B at (next c (1 ∷ c.stack)) r4 (put_cell d.mem sp 1) d j s4 (omega (arith, on)) hp sh.devices sh.marks)),
+            ),
+          ))
         where
           to2_ : (at c.place + 26 + 2) % 65536 ≡ at c.place + 28
           to2_ = omega (arith, t.to, st.below)
@@ -147,6 +193,18 @@ module _ (f : Fixed) (st : Stands f) (all : List Mark) (B : Watched → Violatio
           let r3 = record r2 { pc = at c.place + 28; sp = sp } in
           let hp = holds_push f st at c.back c.stack c.priv c.mem r2.sp d.mem sp 0 safe.memory (subst (λ s. Holds f at c.back c.stack c.priv c.mem s d.mem) (sym sp_) h) (omega arith) (omega arith) in
           subst (λ v. Runs f all B (Stood f all at (next c (truth v ∷ c.stack))) (suc (suc j)) (running f r2 d)) (sym e)
-          (one f st all B _ t 13 0x1203 (λ x y. One op1.Push false (Const 0)) refl (omega arith) w.push_zero event.Quiet r2 d (suc j) pc safe2
-          (sp, down, pr, 0, refl, omega arith, λ kept. (r3, rw down refl, inside t 14 (omega arith), λ s3.
-          stood f st all B at (next c (0 ∷ c.stack)) r3 (put_cell d.mem sp 0) d (suc j) s3 (omega (arith, on)) hp sh.devices sh.marks)))
+          (one f st all B _ t 13 0x1203 (λ x y. One op1.Push false (Const 0)) refl (omega arith) w.push_zero event.Quiet r2 d (suc j) pc safe2 (
+            sp,
+            down,
+            pr,
+            0,
+            refl,
+            omega arith,
+            λ kept. (
+              r3,
+              rw down refl,
+              inside t 14 (omega arith),
+              λ s3.
+                  stood f st all B at (next c (0 ∷ c.stack)) r3 (put_cell d.mem sp 0) d (suc j) s3 (omega (arith, on)) hp sh.devices sh.marks,
+            ),
+          ))

@@ -43,7 +43,6 @@ use Rattle.sx_tmpl.proofs.Plain.{inside}
 use Rattle.sx_tmpl.proofs.Words as w
 use Rattle.sx_tmpl.proofs.Holding.{stack_word, data_word, holds_pop, holds_store, holds_word, cell_below}
 
-
 -- an end is ready to send
 abbrev pub is_ready : EndState → Bool
 is_ready e = e.is_open && nat_lt e.number 65535
@@ -85,32 +84,59 @@ module _ (f : Fixed) (st : Stands f) (all : List Mark) (B : Watched → Violatio
       let r2 = record r { pc = A + 6; sr = sr1 } in
       let r3 = record r { pc = A + 10; sr = sr3 } in
       let ready : (b : Bool) → (e.is_open ≡ b) → is_ready e ≡ (b && nat_lt e.number 65535) = λ b x. ap (λ b. b && nat_lt e.number 65535) x in
-      two f st all B Q t 0 0x9382 (base_of f + offsets.end_open_at k) (λ x y. Two op2.Cmp false (Const 0) (Absolute x)) refl refl (omega arith) w.test_absolute event.Quiet r d _ pc safe
-      (base_of f + offsets.end_open_at k, refl, so.1, open_, so.0, λ kept. (r1, refl, inside t 2 (omega arith), λ s1.
-      elim (cases_eq open_ 0) [
-        | inl z ↦
-          let to : (A + 6 + 104) % 65536 ≡ A + 110 = omega (arith, t.to, st.below) in
-          let no_ : is_ready e ≡ false = ready false (sym (ap (λ (x : EndState). x.is_open) is) ∙ ap not (eq-eqb open_ 0 z)) in
-          one f st all B Q t 2 0x2434 (λ x y. Jump 1 (pos 52)) refl (omega arith) w.jeq_52 event.Quiet r1 d _ refl s1
-          (λ kept. (record r { pc = A + 110; sr = sr1 }, rw (equal 0 open_ r.sr (omega arith) z, to) refl, inside t 55 (omega arith), λ s2. more j (suc (suc j)) _ (omega arith) (skip no_ sr1 s2)))
-        | inr nz ↦
-          let is_open : e.is_open ≡ true = sym (ap (λ (x : EndState). x.is_open) is) ∙ ap not (ne_eqb open_ 0 nz) in
-          one f st all B Q t 2 0x2434 (λ x y. Jump 1 (pos 52)) refl (omega arith) w.jeq_52 event.Quiet r1 d _ refl s1
-          (λ kept. (r2, rw (unequal 0 open_ r.sr (omega arith) lo nz) refl, inside t 3 (omega arith), λ s2.
-          two f st all B Q t 3 0x93b2 (base_of f + offsets.end_number_at k) (λ x y. Two op2.Cmp false (Const 65535) (Absolute x)) refl refl (omega arith) w.test_full event.Quiet r2 d _ refl s2
-          (base_of f + offsets.end_number_at k, refl, sn.1, number, sn.0, λ kept. (r3, refl, inside t 5 (omega arith), λ s3.
-          elim (cases_eq number 65535) [
-            | inl z ↦
-              let to : (A + 12 + 98) % 65536 ≡ A + 110 = omega (arith, t.to, st.below) in
-              let no_ : is_ready e ≡ false = ready true is_open ∙ le-ltb e.number 65535 (omega (arith, ap (λ (x : EndState). x.number) is)) in
-              one f st all B Q t 5 0x2431 (λ x y. Jump 1 (pos 49)) refl (omega arith) w.jeq_49 event.Quiet r3 d _ refl s3
-              (λ kept. (record r { pc = A + 110; sr = sr3 }, rw (equal 65535 number sr1 (omega arith) z, to) refl, inside t 55 (omega arith), λ s4. skip no_ sr3 s4))
-            | inr nz2 ↦
-              let yes_ : is_ready e ≡ true = ready true is_open ∙ lt-ltb e.number 65535 (omega (arith, ap (λ (x : EndState). x.number) is)) in
-              one f st all B Q t 5 0x2431 (λ x y. Jump 1 (pos 49)) refl (omega arith) w.jeq_49 event.Quiet r3 d _ refl s3
-              (λ kept. (record r { pc = A + 12; sr = sr3 }, rw (unequal 65535 number sr1 (omega arith) ln nz2) refl, inside t 6 (omega arith), λ s4. go_on yes_ sr3 s4))
-          ]))))
-      ]))
+      two f st all B Q t 0 0x9382 (base_of f + offsets.end_open_at k) (λ x y. Two op2.Cmp false (Const 0) (Absolute x)) refl refl (omega arith) w.test_absolute event.Quiet r d _ pc safe (
+        base_of f + offsets.end_open_at k,
+        refl,
+        so.1,
+        open_,
+        so.0,
+        λ kept. (
+          r1,
+          refl,
+          inside t 2 (omega arith),
+          λ s1.
+              elim (cases_eq open_ 0) [
+                | inl z ↦
+                    let to : (A + 6 + 104) % 65536 ≡ A + 110 = omega (arith, t.to, st.below) in
+                    let no_ : is_ready e ≡ false = ready false (sym (ap (λ (x : EndState). x.is_open) is) ∙ ap not (eq-eqb open_ 0 z)) in
+                    one f st all B Q t 2 0x2434 (λ x y. Jump 1 (pos 52)) refl (omega arith) w.jeq_52 event.Quiet r1 d _ refl s1
+                    (λ kept. (record r { pc = A + 110; sr = sr1 }, rw (equal 0 open_ r.sr (omega arith) z, to) refl, inside t 55 (omega arith), λ s2. more j (suc (suc j)) _ (omega arith) (skip no_ sr1 s2)))
+                | inr nz ↦
+                    let is_open : e.is_open ≡ true = sym (ap (λ (x : EndState). x.is_open) is) ∙ ap not (ne_eqb open_ 0 nz) in
+                    one f st all B Q t 2 0x2434 (λ x y. Jump 1 (pos 52)) refl (omega arith) w.jeq_52 event.Quiet r1 d _ refl s1
+                    (λ kept. (
+                      r2,
+                      rw (unequal 0 open_ r.sr (omega arith) lo nz) refl,
+                      inside t 3 (omega arith),
+                      λ s2.
+                          two f st all B Q t 3 0x93b2 (base_of f + offsets.end_number_at k) (λ x y. Two op2.Cmp false (Const 65535) (Absolute x)) refl refl (omega arith) w.test_full event.Quiet r2 d _ refl s2 (
+                            base_of f + offsets.end_number_at k,
+                            refl,
+                            sn.1,
+                            number,
+                            sn.0,
+                            λ kept. (
+                              r3,
+                              refl,
+                              inside t 5 (omega arith),
+                              λ s3.
+                                  elim (cases_eq number 65535) [
+                                    | inl z ↦
+                                        let to : (A + 12 + 98) % 65536 ≡ A + 110 = omega (arith, t.to, st.below) in
+                                        let no_ : is_ready e ≡ false = ready true is_open ∙ le-ltb e.number 65535 (omega (arith, ap (λ (x : EndState). x.number) is)) in
+                                        one f st all B Q t 5 0x2431 (λ x y. Jump 1 (pos 49)) refl (omega arith) w.jeq_49 event.Quiet r3 d _ refl s3
+                                        (λ kept. (record r { pc = A + 110; sr = sr3 }, rw (equal 65535 number sr1 (omega arith) z, to) refl, inside t 55 (omega arith), λ s4. skip no_ sr3 s4))
+                                    | inr nz2 ↦
+                                        let yes_ : is_ready e ≡ true = ready true is_open ∙ lt-ltb e.number 65535 (omega (arith, ap (λ (x : EndState). x.number) is)) in
+                                        one f st all B Q t 5 0x2431 (λ x y. Jump 1 (pos 49)) refl (omega arith) w.jeq_49 event.Quiet r3 d _ refl s3
+                                        (λ kept. (record r { pc = A + 12; sr = sr3 }, rw (unequal 65535 number sr1 (omega arith) ln nz2) refl, inside t 6 (omega arith), λ s4. go_on yes_ sr3 s4))
+                                  ],
+                            ),
+                          ),
+                    ))
+              ],
+        ),
+      )
 
   -- a word that only templates use
   scratch : (o : ℕ) → 106 ≤ o → o % 2 ≡ 0 → o ≤ 146 → PrivateWord f (base_of f + o)
@@ -124,7 +150,7 @@ module _ (f : Fixed) (st : Stands f) (all : List Mark) (B : Watched → Violatio
   -- header and body are made
   pub header_run : (e : EndState) → end_state priv k ≡ e → (r : Regs) (d : Data) (ret v : ℕ) (rest outside : List ℕ) (j : ℕ) → r.pc ≡ A + 2 * 6 → H (ret ∷ v ∷ rest) outside r.sp d.mem → Safe f all (running f r d)
       → ((m : List ℕ) → H (ret ∷ v ∷ rest) outside r.sp m → cell m (base_of f + 106) ≡ 3 → cell m (base_of f + 106 + 2) ≡ e.field → cell m (base_of f + 106 + 4) ≡ e.number → cell m (base_of f + 130) ≡ v
-          → Safe f all (running f (record r { pc = A + 36 }) (record d { mem = m })) → R j (running f (record r { pc = A + 36 }) (record d { mem = m })))
+      → Safe f all (running f (record r { pc = A + 36 }) (record d { mem = m })) → R j (running f (record r { pc = A + 36 }) (record d { mem = m })))
       → R (suc (suc (suc (suc j)))) (running f r d)
   unfolding end_state
   header_run e is r d ret v rest outside j pc h safe after =
@@ -160,27 +186,95 @@ module _ (f : Fixed) (st : Stands f) (all : List Mark) (B : Watched → Violatio
       let r2 = record r { pc = A + 24 } in
       let r3 = record r { pc = A + 30 } in
       let r4 = record r { pc = A + 36 } in
-      three f st all B Q t 6 0x40b2 3 (b + 106) (λ x y. Two op2.Mov false (Immediate x) (Absolute y)) refl refl refl (omega arith) w.set_word event.Quiet r d _ pc safe
-      (b + 106, refl, p106, 3, refl, omega arith, λ kept1. (r1, rw stay refl, inside t 9 (omega arith), λ s1.
-      three f st all B Q t 9 0x4292 (b + offsets.end_at k) (b + 108) (λ x y. Two op2.Mov false (Absolute x) (Absolute y)) refl refl refl (omega arith) w.move_absolute event.Quiet r1 (record d { mem = m1 }) _ refl s1
-      (b + offsets.end_at k, refl, pf, field, isf, (b + 108, refl, p108, field, refl, subst (λ (n : ℕ). n < 65536) isf (cell_below f st m1 (b + offsets.end_at k) kept1), λ kept2. (r2, rw stay refl, inside t 12 (omega arith), λ s2.
-      three f st all B Q t 12 0x4292 (b + offsets.end_number_at k) (b + 110) (λ x y. Two op2.Mov false (Absolute x) (Absolute y)) refl refl refl (omega arith) w.move_absolute event.Quiet r2 (record d { mem = m2 }) _ refl s2
-      (b + offsets.end_number_at k, refl, sn.1, number, sn.0, (b + 110, refl, p110, number, refl, subst (λ (n : ℕ). n < 65536) sn.0 (cell_below f st m2 (b + offsets.end_number_at k) kept2), λ kept3. (r3, rw stay refl, inside t 15 (omega arith), λ s3.
-      three f st all B Q t 15 0x4192 2 (b + 130) (λ x y. Two op2.Mov false (Indexed 1 x) (Absolute y)) refl refl refl (omega arith) w.move_under_top event.Quiet r3 (record d { mem = m3 }) _ refl s3
-      (r.sp + 2, up, pv, v, h3.words.1.0, (b + 130, refl, p130, v, refl, subst (λ (n : ℕ). n < 65536) h3.words.1.0 (cell_below f st m3 (r.sp + 2) kept3), λ kept4. (r4, rw stay refl, inside t 18 (omega arith),
-      after m4 h4
-          (cell-put_other m3 (b + 130) v (b + 106) (omega arith) (omega arith) (omega arith) ∙ cell-put_other m2 (b + 110) number (b + 106) (omega arith) (omega arith) (omega arith) ∙ cell-put_other m1 (b + 108) field (b + 106) (omega arith) (omega arith) (omega arith) ∙ same_word f st d.mem (b + 106) 3 safe.memory p106)
-          (ap (cell m4) (omega arith) ∙ cell-put_other m3 (b + 130) v (b + 108) (omega arith) (omega arith) (omega arith) ∙ cell-put_other m2 (b + 110) number (b + 108) (omega arith) (omega arith) (omega arith) ∙ same_word f st m1 (b + 108) field kept1 p108 ∙ ef)
-          (ap (cell m4) (omega arith) ∙ cell-put_other m3 (b + 130) v (b + 110) (omega arith) (omega arith) (omega arith) ∙ same_word f st m2 (b + 110) number kept2 p110 ∙ en)
-          (same_word f st m3 (b + 130) v kept3 p130))))))))))))
+      three f st all B Q t 6 0x40b2 3 (b + 106) (λ x y. Two op2.Mov false (Immediate x) (Absolute y)) refl refl refl (omega arith) w.set_word event.Quiet r d _ pc safe (
+        b + 106,
+        refl,
+        p106,
+        3,
+        refl,
+        omega arith,
+        λ kept1. (
+          r1,
+          rw stay refl,
+          inside t 9 (omega arith),
+          λ s1.
+              three f st all B Q t 9 0x4292 (b + offsets.end_at k) (b + 108) (λ x y. Two op2.Mov false (Absolute x) (Absolute y)) refl refl refl (omega arith) w.move_absolute event.Quiet r1 (record d { mem = m1 }) _ refl s1 (
+                b + offsets.end_at k,
+                refl,
+                pf,
+                field,
+                isf,
+                (
+                  b + 108,
+                  refl,
+                  p108,
+                  field,
+                  refl,
+                  subst (λ (n : ℕ). n < 65536) isf (cell_below f st m1 (b + offsets.end_at k) kept1),
+                  λ kept2. (
+                    r2,
+                    rw stay refl,
+                    inside t 12 (omega arith),
+                    λ s2.
+                        three f st all B Q t 12 0x4292 (b + offsets.end_number_at k) (b + 110) (λ x y. Two op2.Mov false (Absolute x) (Absolute y)) refl refl refl (omega arith) w.move_absolute event.Quiet r2 (record d { mem = m2 }) _ refl s2 (
+                          b + offsets.end_number_at k,
+                          refl,
+                          sn.1,
+                          number,
+                          sn.0,
+                          (
+                            b + 110,
+                            refl,
+                            p110,
+                            number,
+                            refl,
+                            subst (λ (n : ℕ). n < 65536) sn.0 (cell_below f st m2 (b + offsets.end_number_at k) kept2),
+                            λ kept3. (
+                              r3,
+                              rw stay refl,
+                              inside t 15 (omega arith),
+                              λ s3.
+                                  three f st all B Q t 15 0x4192 2 (b + 130) (λ x y. Two op2.Mov false (Indexed 1 x) (Absolute y)) refl refl refl (omega arith) w.move_under_top event.Quiet r3 (record d { mem = m3 }) _ refl s3 (
+                                    r.sp + 2,
+                                    up,
+                                    pv,
+                                    v,
+                                    h3.words.1.0,
+                                    (
+                                      b + 130,
+                                      refl,
+                                      p130,
+                                      v,
+                                      refl,
+                                      subst (λ (n : ℕ). n < 65536) h3.words.1.0 (cell_below f st m3 (r.sp + 2) kept3),
+                                      λ kept4. (
+                                        r4,
+                                        rw stay refl,
+                                        inside t 18 (omega arith),
+                                        after m4 h4
+                                            (cell-put_other m3 (b + 130) v (b + 106) (omega arith) (omega arith) (omega arith) ∙ cell-put_other m2 (b + 110) number (b + 106) (omega arith) (omega arith) (omega arith) ∙ cell-put_other m1 (b + 108) field (b + 106) (omega arith) (omega arith) (omega arith) ∙ same_word f st d.mem (b + 106) 3 safe.memory p106)
+                                            (ap (cell m4) (omega arith) ∙ cell-put_other m3 (b + 130) v (b + 108) (omega arith) (omega arith) (omega arith) ∙ cell-put_other m2 (b + 110) number (b + 108) (omega arith) (omega arith) (omega arith) ∙ same_word f st m1 (b + 108) field kept1 p108 ∙ ef)
+                                            (ap (cell m4) (omega arith) ∙ cell-put_other m3 (b + 130) v (b + 110) (omega arith) (omega arith) (omega arith) ∙ same_word f st m2 (b + 110) number kept2 p110 ∙ en)
+                                            (same_word f st m3 (b + 130) v kept3 p130),
+                                      ),
+                                    ),
+                                  ),
+                            ),
+                          ),
+                        ),
+                  ),
+                ),
+              ),
+        ),
+      )
 
   -- the registers are loaded, and the body is wrapped
   pub wrap_run : IsTag f.setup.mac → (e : EndState) → end_state priv k ≡ e → (r : Regs) (d : Data) (v : ℕ) (stack outside : List ℕ) (j : ℕ) → r.pc ≡ A + 2 * 18 → H stack outside r.sp d.mem → Safe f all (running f r d)
       → cell d.mem (base_of f + 106) ≡ 3 → cell d.mem (base_of f + 106 + 2) ≡ e.field → cell d.mem (base_of f + 106 + 4) ≡ e.number → cell d.mem (base_of f + 130) ≡ v
       → HasPrefix all (d.marks ++ mark.Wrapped (event_header e) (windows.two v) false ∷ [])
       → ((x : Exchange) (m : List ℕ) (r2 : Regs) → r2.pc ≡ A + 64 → r2.sp ≡ r.sp → H stack outside r.sp m → BytesAt m (base_of f + 106) (event_packet f.setup e v)
-          → let d2 : Data = record d { mem = m; exchange = x; marks = d.marks ++ mark.Wrapped (event_header e) (windows.two v) false ∷ [] } in
-          Safe f all (running_after (event.Wrapped f.setup.section.id) f r2 d2) → R j (running_after (event.Wrapped f.setup.section.id) f r2 d2))
+      → let d2 : Data = record d { mem = m; exchange = x; marks = d.marks ++ mark.Wrapped (event_header e) (windows.two v) false ∷ [] } in
+      Safe f all (running_after (event.Wrapped f.setup.section.id) f r2 d2) → R j (running_after (event.Wrapped f.setup.section.id) f r2 d2))
       → R (suc (suc (suc (suc (suc (suc (suc (suc j)))))))) (running f r d)
   unfolding end_state
   wrap_run tag e is r d v stack outside j pc h safe c0 c1 c2 cv marks after =
@@ -207,7 +301,7 @@ module _ (f : Fixed) (st : Stands f) (all : List Mark) (B : Watched → Violatio
       let ad : bytes_from d.mem (b + 106) 6 ≡ event_header e = six d.mem (b + 106) 3 e.field e.number bytes c0 c1 c2 in
       let body : bytes_from d.mem (b + 130) 2 ≡ windows.two v = pair d.mem (b + 130) v bytes cv in
       let key : bytes_from d.mem (b + offsets.end_key_at k) 16 ≡ e.key =
-          bytes_agree d.mem priv b (offsets.end_key_at k) 16 (λ i lt. h.bytes (offsets.end_key_at k + i) (record { low = omega arith; beside = inr (omega arith) }) (omega arith)) ∙ ap (λ (x : EndState). x.key) is in
+      bytes_agree d.mem priv b (offsets.end_key_at k) 16 (λ i lt. h.bytes (offsets.end_key_at k + i) (record { low = omega arith; beside = inr (omega arith) }) (omega arith)) ∙ ap (λ (x : EndState). x.key) is in
       let pk : PrivateRange f (b + offsets.end_key_at k) 16 = record { low = omega arith; high = omega arith } in
       let bs : Buffers f r7 = record {
         header = record { low = omega arith; high = omega arith };
@@ -215,7 +309,8 @@ module _ (f : Fixed) (st : Stands f) (all : List Mark) (B : Watched → Violatio
         out = record { low = omega arith; high = omega arith };
         tag = record { low = omega arith; high = omega arith };
         few = omega arith;
-        short = omega arith } in
+        short = omega arith;
+      } in
       let ne : (b + offsets.end_key_at k == 0) ≡ false = ne_eqb (b + offsets.end_key_at k) 0 (omega arith) in
       let W = wrapped f.setup.mac e.key (event_header e) (windows.two v) in
       let lc = length_cipher f.setup.mac tag e.key (event_header e) (windows.two v) (omega arith) in
@@ -228,33 +323,68 @@ module _ (f : Fixed) (st : Stands f) (all : List Mark) (B : Watched → Violatio
       let size : length d.mem ≡ 65536 = safe.memory.size in
       let size2 : length mc ≡ 65536 = length-put_bytes W.cipher d.mem (b + 112) ∙ size in
       let at_header : BytesAt mt (b + 106) (event_header e) =
-          bytes_same d.mem mt (b + 106) (event_header e) (λ c p q. put_bytes_other W.tag mc (b + 114) c (inl (omega arith)) ∙ put_bytes_other W.cipher d.mem (b + 112) c (inl (omega arith)))
-          (subst (λ l. BytesAt d.mem (b + 106) l) ad (stand_from d.mem (b + 106) 6)) in
+      bytes_same d.mem mt (b + 106) (event_header e) (λ c p q. put_bytes_other W.tag mc (b + 114) c (inl (omega arith)) ∙ put_bytes_other W.cipher d.mem (b + 112) c (inl (omega arith)))
+      (subst (λ l. BytesAt d.mem (b + 106) l) ad (stand_from d.mem (b + 106) 6)) in
       let at_cipher : BytesAt mt (b + 112) W.cipher =
-          bytes_same mc mt (b + 112) W.cipher (λ c p q. put_bytes_other W.tag mc (b + 114) c (inl (omega arith)))
-          (bytes_put W.cipher d.mem (b + 112) (cipher_bytes f.setup.mac tag e.key (event_header e) (windows.two v) (omega arith, (omega arith, tt))) (omega arith)) in
+      bytes_same mc mt (b + 112) W.cipher (λ c p q. put_bytes_other W.tag mc (b + 114) c (inl (omega arith)))
+      (bytes_put W.cipher d.mem (b + 112) (cipher_bytes f.setup.mac tag e.key (event_header e) (windows.two v) (omega arith, (omega arith, tt))) (omega arith)) in
       let at_tag : BytesAt mt (b + 114) W.tag = bytes_put W.tag mc (b + 114) (tag_bytes f.setup.mac tag e.key (event_header e) (windows.two v)) (omega arith) in
       let packet : BytesAt mt (b + 106) (event_packet f.setup e v) =
-          bytes_append mt (b + 106) (event_header e) (W.cipher ++ W.tag) at_header
-          (subst (λ a. BytesAt mt a (W.cipher ++ W.tag)) (omega arith) (bytes_append mt (b + 112) W.cipher W.tag at_cipher (subst (λ a. BytesAt mt a W.tag) (omega arith) at_tag))) in
+      bytes_append mt (b + 106) (event_header e) (W.cipher ++ W.tag) at_header
+      (subst (λ a. BytesAt mt a (W.cipher ++ W.tag)) (omega arith) (bytes_append mt (b + 112) W.cipher W.tag at_cipher (subst (λ a. BytesAt mt a W.tag) (omega arith) at_tag))) in
       two f st all B Q t 18 0x4039 (b + offsets.end_key_at k) (λ x y. Two op2.Mov false (Immediate x) (Reg 9)) refl refl (omega arith) w.load_9 event.Quiet r d _ pc safe
-      (λ kept. (r1, rw (stay, kx) refl, inside t 20 (omega arith), λ s1.
-      two f st all B Q t 20 0x403a (b + 106) (λ x y. Two op2.Mov false (Immediate x) (Reg 10)) refl refl (omega arith) w.load_10 event.Quiet r1 d _ refl s1
-      (λ kept. (r2, rw (stay, x106) refl, inside t 22 (omega arith), λ s2.
-      two f st all B Q t 22 0x403b 6 (λ x y. Two op2.Mov false (Immediate x) (Reg 11)) refl refl (omega arith) w.load_11 event.Quiet r2 d _ refl s2
-      (λ kept. (r3, rw stay refl, inside t 24 (omega arith), λ s3.
-      two f st all B Q t 24 0x403c (b + 130) (λ x y. Two op2.Mov false (Immediate x) (Reg 12)) refl refl (omega arith) w.load_12 event.Quiet r3 d _ refl s3
-      (λ kept. (r4, rw (stay, x130) refl, inside t 26 (omega arith), λ s4.
-      one f st all B Q t 26 0x432d (λ x y. Two op2.Mov false (Const 2) (Reg 13)) refl (omega arith) w.two_13 event.Quiet r4 d _ refl s4
-      (λ kept. (r5, rw stay refl, inside t 27 (omega arith), λ s5.
-      two f st all B Q t 27 0x403e (b + 112) (λ x y. Two op2.Mov false (Immediate x) (Reg 14)) refl refl (omega arith) w.load_14 event.Quiet r5 d _ refl s5
-      (λ kept. (r6, rw (stay, x112) refl, inside t 29 (omega arith), λ s6.
-      two f st all B Q t 29 0x403f (b + 114) (λ x y. Two op2.Mov false (Immediate x) (Reg 15)) refl refl (omega arith) w.load_15 event.Quiet r6 d _ refl s6
-      (λ kept. (r7, rw (stay, x114) refl, inside t 31 (omega arith), λ s7.
-      subst (λ own. HasPrefix all (d.marks ++ mark.Wrapped (event_header e) (windows.two v) own ∷ []) → ((x : Exchange) → let d2 : Data = record d { mem = mt; exchange = x; marks = d.marks ++ mark.Wrapped (event_header e) (windows.two v) own ∷ [] } in
-              Safe f all (running_after (event.Wrapped f.setup.section.id) f (record r7 { pc = A + 64; r15 = 1 }) d2) → R j (running_after (event.Wrapped f.setup.section.id) f (record r7 { pc = A + 64; r15 = 1 }) d2)) → R (suc j) (running f r7 d)) ne
-      (wrap_as f st all B Q t 31 refl (omega arith) event.Quiet r7 d e.key (event_header e) (windows.two v) j refl s7 bs (KeyIn pk key) ad body)
-      marks (λ x s. after x mt (record r7 { pc = A + 64; r15 = 1 }) refl refl ht packet s)))))))))))))))
+      (λ kept. (
+        r1,
+        rw (stay, kx) refl,
+        inside t 20 (omega arith),
+        λ s1.
+            two f st all B Q t 20 0x403a (b + 106) (λ x y. Two op2.Mov false (Immediate x) (Reg 10)) refl refl (omega arith) w.load_10 event.Quiet r1 d _ refl s1
+            (λ kept. (
+              r2,
+              rw (stay, x106) refl,
+              inside t 22 (omega arith),
+              λ s2.
+                  two f st all B Q t 22 0x403b 6 (λ x y. Two op2.Mov false (Immediate x) (Reg 11)) refl refl (omega arith) w.load_11 event.Quiet r2 d _ refl s2
+                  (λ kept. (
+                    r3,
+                    rw stay refl,
+                    inside t 24 (omega arith),
+                    λ s3.
+                        two f st all B Q t 24 0x403c (b + 130) (λ x y. Two op2.Mov false (Immediate x) (Reg 12)) refl refl (omega arith) w.load_12 event.Quiet r3 d _ refl s3
+                        (λ kept. (
+                          r4,
+                          rw (stay, x130) refl,
+                          inside t 26 (omega arith),
+                          λ s4.
+                              one f st all B Q t 26 0x432d (λ x y. Two op2.Mov false (Const 2) (Reg 13)) refl (omega arith) w.two_13 event.Quiet r4 d _ refl s4
+                              (λ kept. (
+                                r5,
+                                rw stay refl,
+                                inside t 27 (omega arith),
+                                λ s5.
+                                    two f st all B Q t 27 0x403e (b + 112) (λ x y. Two op2.Mov false (Immediate x) (Reg 14)) refl refl (omega arith) w.load_14 event.Quiet r5 d _ refl s5
+                                    (λ kept. (
+                                      r6,
+                                      rw (stay, x112) refl,
+                                      inside t 29 (omega arith),
+                                      λ s6.
+                                          two f st all B Q t 29 0x403f (b + 114) (λ x y. Two op2.Mov false (Immediate x) (Reg 15)) refl refl (omega arith) w.load_15 event.Quiet r6 d _ refl s6
+                                          (λ kept. (
+                                            r7,
+                                            rw (stay, x114) refl,
+                                            inside t 31 (omega arith),
+                                            λ s7.
+                                                subst (λ own. HasPrefix all (d.marks ++ mark.Wrapped (event_header e) (windows.two v) own ∷ []) → ((x : Exchange) → let d2 : Data = record d { mem = mt; exchange = x; marks = d.marks ++ mark.Wrapped (event_header e) (windows.two v) own ∷ [] } in
+                                                Safe f all (running_after (event.Wrapped f.setup.section.id) f (record r7 { pc = A + 64; r15 = 1 }) d2) → R j (running_after (event.Wrapped f.setup.section.id) f (record r7 { pc = A + 64; r15 = 1 }) d2)) → R (suc j) (running f r7 d)) ne
+                                                (wrap_as f st all B Q t 31 refl (omega arith) event.Quiet r7 d e.key (event_header e) (windows.two v) j refl s7 bs (KeyIn pk key) ad body)
+                                                marks (λ x s. after x mt (record r7 { pc = A + 64; r15 = 1 }) refl refl ht packet s),
+                                          )),
+                                    )),
+                              )),
+                        )),
+                  )),
+            )),
+      ))
 
   -- R12 doubled
   double_run : (i : ℕ) → slice_get (routine_words (base_of f) k) i ≡ Some 0x5c0c → i + 1 ≤ 56 → (r : Regs) (d : Data) (x j : ℕ) → x < 32768 → Safe f all (running f (record r { pc = A + 2 * i; r12 = x }) d)
@@ -282,26 +412,47 @@ module _ (f : Fixed) (st : Stands f) (all : List Mark) (B : Watched → Violatio
       let rp = data_read 4 stack outside r.sp d.mem (omega arith) (omega arith) refl h in
       let ro = data_read 10 stack outside r.sp d.mem (omega arith) (omega arith) refl h in
       let r1 = record r { pc = A + 68; r12 = p } in
-      two f st all B Q t 32 0x421c (b + 4) (λ x y. Two op2.Mov false (Absolute x) (Reg 12)) refl refl (omega arith) w.get_12 e r d _ pc safe
-      (b + 4, refl, rp.1, p, rp.0 ∙ is, λ kept. (r1, rw (flags_stay r.sr) refl, inside t 34 (omega arith), λ s1.
-      double_run 34 refl (omega arith) r1 d p _ (omega arith) s1 (λ sr2 s2.
-      double_run 35 refl (omega arith) (record r { sr = sr2 }) d (2 * p) _ (omega arith) s2 (λ sr3 s3.
-      double_run 36 refl (omega arith) (record r { sr = sr3 }) d (2 * (2 * p)) _ (omega arith) s3 (λ sr4 s4.
-      let x = 2 * (2 * (2 * p)) in
-      let cutx : x % 65536 ≡ x = omega arith in
-      let r4 = record r { pc = A + 74; sr = sr4; r12 = x } in
-      let r5 = record r { pc = A + 76; sr = sr4; r12 = x; r14 = x } in
-      one f st all B Q t 37 0x4c0e (λ x y. Two op2.Mov false (Reg 12) (Reg 14)) refl (omega arith) w.move_12_14 event.Quiet r4 d _ refl s4
-      (λ kept. (r5, rw (flags_stay sr4, cutx) refl, inside t 38 (omega arith), λ s5.
-      double_run 38 refl (omega arith) (record r { sr = sr4; r14 = x }) d x _ (omega arith) s5 (λ sr6 s6.
-      let y = 2 * x in
-      let z : (y % 65536 + x % 65536 + 0) % 65536 ≡ 24 * p = omega arith in
-      let sr7 = flags_after op2.Add (x % 65536) (y % 65536) sr6 in
-      let r6 = record r { pc = A + 78; sr = sr6; r12 = y; r14 = x } in
-      let r7 = record r { pc = A + 80; sr = sr7; r12 = 24 * p; r14 = x } in
-      one f st all B Q t 39 0x5e0c (λ x y. Two op2.Add false (Reg 14) (Reg 12)) refl (omega arith) w.add_14_12 event.Quiet r6 d _ refl s6
-      (λ kept. (r7, rw z refl, inside t 40 (omega arith), λ s7.
-      last sr7 x s7 ro))))))))))
+      two f st all B Q t 32 0x421c (b + 4) (λ x y. Two op2.Mov false (Absolute x) (Reg 12)) refl refl (omega arith) w.get_12 e r d _ pc safe (
+        b + 4,
+        refl,
+        rp.1,
+        p,
+        rp.0 ∙ is,
+        λ kept. (
+          r1,
+          rw (flags_stay r.sr) refl,
+          inside t 34 (omega arith),
+          λ s1.
+              double_run 34 refl (omega arith) r1 d p _ (omega arith) s1 (λ sr2 s2.
+              double_run 35 refl (omega arith) (record r { sr = sr2 }) d (2 * p) _ (omega arith) s2 (λ sr3 s3.
+              double_run 36 refl (omega arith) (record r { sr = sr3 }) d (2 * (2 * p)) _ (omega arith) s3 (λ sr4 s4.
+              let x = 2 * (2 * (2 * p)) in
+              let cutx : x % 65536 ≡ x = omega arith in
+              let r4 = record r { pc = A + 74; sr = sr4; r12 = x } in
+              let r5 = record r { pc = A + 76; sr = sr4; r12 = x; r14 = x } in
+              one f st all B Q t 37 0x4c0e (λ x y. Two op2.Mov false (Reg 12) (Reg 14)) refl (omega arith) w.move_12_14 event.Quiet r4 d _ refl s4
+              (λ kept. (
+                r5,
+                rw (flags_stay sr4, cutx) refl,
+                inside t 38 (omega arith),
+                λ s5.
+                    double_run 38 refl (omega arith) (record r { sr = sr4; r14 = x }) d x _ (omega arith) s5 (λ sr6 s6.
+                    let y = 2 * x in
+                    let z : (y % 65536 + x % 65536 + 0) % 65536 ≡ 24 * p = omega arith in
+                    let sr7 = flags_after op2.Add (x % 65536) (y % 65536) sr6 in
+                    let r6 = record r { pc = A + 78; sr = sr6; r12 = y; r14 = x } in
+                    let r7 = record r { pc = A + 80; sr = sr7; r12 = 24 * p; r14 = x } in
+                    one f st all B Q t 39 0x5e0c (λ x y. Two op2.Add false (Reg 14) (Reg 12)) refl (omega arith) w.add_14_12 event.Quiet r6 d _ refl s6
+                    (λ kept. (
+                      r7,
+                      rw z refl,
+                      inside t 40 (omega arith),
+                      λ s7.
+                          last sr7 x s7 ro,
+                    ))),
+              ))))),
+        ),
+      )
     where
       last : (sr r14 : ℕ) → Safe f all (running f (record r { pc = A + 80; sr = sr; r12 = 24 * p; r14 = r14 }) d) → (cell d.mem (base_of f + 10) ≡ word priv 10) × PrivateWord f (base_of f + 10) → R (suc (suc (suc j))) (running f (record r { pc = A + 80; sr = sr; r12 = 24 * p; r14 = r14 }) d)
       last sr r14 s7 ro =
@@ -313,12 +464,28 @@ module _ (f : Fixed) (st : Stands f) (all : List Mark) (B : Watched → Violatio
           let r8 = record r { pc = A + 84; sr = sr8; r12 = out + 24 * p; r14 = r14 } in
           let r9 = record r8 { pc = A + 88; r13 = b + 106 } in
           let r10 = record r9 { pc = A + 92; r15 = 24 } in
-          two f st all B Q t 40 0x521c (b + 10) (λ x y. Two op2.Add false (Absolute x) (Reg 12)) refl refl (omega arith) w.add_absolute_12 event.Quiet r7 d _ refl s7
-          (b + 10, refl, ro.1, out, ro.0 ∙ io, λ kept. (r8, rw sum refl, inside t 42 (omega arith), λ s8.
-          two f st all B Q t 42 0x403d (b + 106) (λ x y. Two op2.Mov false (Immediate x) (Reg 13)) refl refl (omega arith) w.load_13 event.Quiet r8 d _ refl s8
-          (λ kept. (r9, rw (flags_stay sr8, x106) refl, inside t 44 (omega arith), λ s9.
-          two f st all B Q t 44 0x403f 24 (λ x y. Two op2.Mov false (Immediate x) (Reg 15)) refl refl (omega arith) w.load_15 event.Quiet r9 d _ refl s9
-          (λ kept. (r10, rw (flags_stay sr8) refl, inside t 46 (omega arith), after sr8 r14))))))
+          two f st all B Q t 40 0x521c (b + 10) (λ x y. Two op2.Add false (Absolute x) (Reg 12)) refl refl (omega arith) w.add_absolute_12 event.Quiet r7 d _ refl s7 (
+            b + 10,
+            refl,
+            ro.1,
+            out,
+            ro.0 ∙ io,
+            λ kept. (
+              r8,
+              rw sum refl,
+              inside t 42 (omega arith),
+              λ s8.
+                  two f st all B Q t 42 0x403d (b + 106) (λ x y. Two op2.Mov false (Immediate x) (Reg 13)) refl refl (omega arith) w.load_13 event.Quiet r8 d _ refl s8
+                  (λ kept. (
+                    r9,
+                    rw (flags_stay sr8, x106) refl,
+                    inside t 44 (omega arith),
+                    λ s9.
+                        two f st all B Q t 44 0x403f 24 (λ x y. Two op2.Mov false (Immediate x) (Reg 15)) refl refl (omega arith) w.load_15 event.Quiet r9 d _ refl s9
+                        (λ kept. (r10, rw (flags_stay sr8) refl, inside t 46 (omega arith), after sr8 r14)),
+                  )),
+            ),
+          )
 
   -- back to where the routine was called
   pub return_run : (r : Regs) (d : Data) (priv2 stack outside : List ℕ) (ret j : ℕ) → r.pc ≡ A + 2 * 55 → Holds f at back (ret ∷ stack) priv2 outside r.sp d.mem → InText f ret → ret % 2 ≡ 0 → Safe f all (running f r d)
@@ -333,7 +500,7 @@ module _ (f : Fixed) (st : Stands f) (all : List Mark) (B : Watched → Violatio
   -- number and count of pieces rise
   pub counts_run : (e : EndState) → end_state priv k ≡ e → (r : Regs) (d : Data) (stack outside : List ℕ) (ret p j : ℕ) → r.pc ≡ A + 2 * 51 → H (ret ∷ stack) outside r.sp d.mem → e.number < 65535 → word priv offsets.pieces_at ≡ p → p < 65535 → InText f ret → ret % 2 ≡ 0 → Safe f all (running f r d)
       → ((sr : ℕ) (m : List ℕ) → Holds f at back stack (put_word (put_word priv (offsets.end_number_at k) (e.number + 1)) offsets.pieces_at (p + 1)) outside (r.sp + 2) m
-          → Safe f all (running f (record r { pc = ret; sp = r.sp + 2; sr = sr }) (record d { mem = m })) → R j (running f (record r { pc = ret; sp = r.sp + 2; sr = sr }) (record d { mem = m })))
+      → Safe f all (running f (record r { pc = ret; sp = r.sp + 2; sr = sr }) (record d { mem = m })) → R j (running f (record r { pc = ret; sp = r.sp + 2; sr = sr }) (record d { mem = m })))
       → R (suc (suc (suc j))) (running f r d)
   unfolding end_state
   counts_run e is r d stack outside ret p j pc h ln ip lp to ev safe after =
@@ -359,12 +526,50 @@ module _ (f : Fixed) (st : Stands f) (all : List Mark) (B : Watched → Violatio
       let sr2 = flags_after op2.Add 1 p sr1 in
       let r1 = record r { pc = A + 106; sr = sr1 } in
       let r2 = record r { pc = A + 110; sr = sr2 } in
-      two f st all B Q t 51 0x5392 (b + o) (λ x y. Two op2.Add false (Const 1) (Absolute x)) refl refl (omega arith) w.raise_absolute event.Quiet r d _ pc safe
-      (b + o, refl, sn.1, n, sn.0 ∙ en, (b + o, refl, sn.1, n + 1, up_n, omega arith, λ kept1. (r1, refl, inside t 53 (omega arith), λ s1.
-      two f st all B Q t 53 0x5392 (b + 4) (λ x y. Two op2.Add false (Const 1) (Absolute x)) refl refl (omega arith) w.raise_absolute event.Quiet r1 (record d { mem = m1 }) _ refl s1
-      (b + 4, refl, pp, p, cp, (b + 4, refl, pp, p + 1, up_p, omega arith, λ kept2. (r2, refl, inside t 55 (omega arith), λ s2.
-      return_run r2 (record d { mem = m2 }) (put_word priv1 4 (p + 1)) stack outside ret _ refl (holds_store f st at back (ret ∷ stack) priv1 outside r.sp m1 4 (p + 1) kept1 h1 refl i_p (omega arith)) to ev s2
-      (after sr2 m2)))))))
+      two f st all B Q t 51 0x5392 (b + o) (λ x y. Two op2.Add false (Const 1) (Absolute x)) refl refl (omega arith) w.raise_absolute event.Quiet r d _ pc safe (
+        b + o,
+        refl,
+        sn.1,
+        n,
+        sn.0 ∙ en,
+        (
+          b + o,
+          refl,
+          sn.1,
+          n + 1,
+          up_n,
+          omega arith,
+          λ kept1. (
+            r1,
+            refl,
+            inside t 53 (omega arith),
+            λ s1.
+                two f st all B Q t 53 0x5392 (b + 4) (λ x y. Two op2.Add false (Const 1) (Absolute x)) refl refl (omega arith) w.raise_absolute event.Quiet r1 (record d { mem = m1 }) _ refl s1 (
+                  b + 4,
+                  refl,
+                  pp,
+                  p,
+                  cp,
+                  (
+                    b + 4,
+                    refl,
+                    pp,
+                    p + 1,
+                    up_p,
+                    omega arith,
+                    λ kept2. (
+                      r2,
+                      refl,
+                      inside t 55 (omega arith),
+                      λ s2.
+                          return_run r2 (record d { mem = m2 }) (put_word priv1 4 (p + 1)) stack outside ret _ refl (holds_store f st at back (ret ∷ stack) priv1 outside r.sp m1 4 (p + 1) kept1 h1 refl i_p (omega arith)) to ev s2
+                          (after sr2 m2),
+                    ),
+                  ),
+                ),
+          ),
+        ),
+      )
 
   -- where the end is ready: header and body, wrap, copy, counts
   pub send_run : IsTag f.setup.mac → (e : EndState) → end_state priv k ≡ e → (r : Regs) (d : Data) (ret v : ℕ) (rest outside : List ℕ) (p out j : ℕ) → r.pc ≡ A + 2 * 6 → H (ret ∷ v ∷ rest) outside r.sp d.mem → Safe f all (running f r d)
@@ -372,7 +577,7 @@ module _ (f : Fixed) (st : Stands f) (all : List Mark) (B : Watched → Violatio
       → (marks : List Mark) → d.marks ++ mark.Wrapped (event_header e) (windows.two v) false ∷ [] ≡ marks → HasPrefix all marks
       → ((x : Violation) → write_bytes f.setup d.devices outside (out + 24 * p) (event_packet f.setup e v) ≡ Err x → (c : Watched) → c.marks ≡ marks → B c x)
       → ((mem : List ℕ) → write_bytes f.setup d.devices outside (out + 24 * p) (event_packet f.setup e v) ≡ Ok mem → (r2 : Regs) (d2 : Data) → r2.pc ≡ ret
-          → Holds f at back (v ∷ rest) (put_word (put_word priv (offsets.end_number_at k) (e.number + 1)) offsets.pieces_at (p + 1)) mem r2.sp d2.mem → d2.devices ≡ d.devices → d2.marks ≡ marks → Safe f all (running f r2 d2) → R j (running f r2 d2))
+      → Holds f at back (v ∷ rest) (put_word (put_word priv (offsets.end_number_at k) (e.number + 1)) offsets.pieces_at (p + 1)) mem r2.sp d2.mem → d2.devices ≡ d.devices → d2.marks ≡ marks → Safe f all (running f r2 d2) → R j (running f r2 d2))
       → R (121 + j) (running f r d)
   send_run tag e is r d ret v rest outside p out j pc h safe ln ip lp io lo w1 w2 to ev marks em begins stop done =
       let W = wrapped f.setup.mac e.key (event_header e) (windows.two v) in
@@ -391,9 +596,9 @@ module _ (f : Fixed) (st : Stands f) (all : List Mark) (B : Watched → Violatio
       (address_run (event.Wrapped f.setup.section.id) r2 d2 (ret ∷ v ∷ rest) outside p out (96 + suc (suc (suc j))) pc2 (subst (λ a. H (ret ∷ v ∷ rest) outside a m2) (sym sp2) h2) s2 ip (omega arith) io (omega arith) (λ sr3 r14 s3.
       subst (λ n. Safe f all (running f (record r2 { pc = A + 92; sr = sr3; r12 = out + 24 * p; r13 = base_of f + 106; r14 = r14; r15 = n }) d2) → R (96 + suc (suc (suc j))) (running f (record r2 { pc = A + 92; sr = sr3; r12 = out + 24 * p; r13 = base_of f + 106; r14 = r14; r15 = n }) d2)) (sym count)
       (λ s. subst (λ n. R n (running f (record r2 { pc = A + 92; sr = sr3; r12 = out + 24 * p; r13 = base_of f + 106; r14 = r14; r15 = suc (length bs) }) d2)) (omega arith)
-          (copy_runs f st all B at Q A 56 46 (routine_words (base_of f) k) t (omega arith) refl refl refl refl refl d.devices safe.devices back (ret ∷ v ∷ rest) priv bs 3 (record r2 { r14 = r14 }) d2 sr3 (out + 24 * p) (base_of f + 106) (suc (suc (suc j))) outside (omega arith) w1 (omega arith)
-          (record { low = omega arith; high = omega (arith, st.room) }) packet (subst (λ a. H (ret ∷ v ∷ rest) outside a m2) (sym sp2) h2) s
-          (λ x2 bad_ r4 m4. stop x2 bad_ (running f r4 (record d2 { mem = m4 })) em)
-          (λ mem good sr5 a5 a6 m5 h5 s5.
-              counts_run e is (record r2 { pc = A + 102; sr = sr5; r12 = a5; r13 = a6; r14 = r14; r15 = 0 }) (record d2 { mem = m5 }) (v ∷ rest) mem ret p j refl h5 ln ip (omega arith) to ev s5
-              (λ sr6 m6 h6 s6. done mem good (record r2 { pc = ret; sp = r2.sp + 2; sr = sr6; r12 = a5; r13 = a6; r14 = r14; r15 = 0 }) (record d2 { mem = m6 }) refl h6 refl em s6)))) s3))))))
+      (copy_runs f st all B at Q A 56 46 (routine_words (base_of f) k) t (omega arith) refl refl refl refl refl d.devices safe.devices back (ret ∷ v ∷ rest) priv bs 3 (record r2 { r14 = r14 }) d2 sr3 (out + 24 * p) (base_of f + 106) (suc (suc (suc j))) outside (omega arith) w1 (omega arith)
+      (record { low = omega arith; high = omega (arith, st.room) }) packet (subst (λ a. H (ret ∷ v ∷ rest) outside a m2) (sym sp2) h2) s
+      (λ x2 bad_ r4 m4. stop x2 bad_ (running f r4 (record d2 { mem = m4 })) em)
+      (λ mem good sr5 a5 a6 m5 h5 s5.
+      counts_run e is (record r2 { pc = A + 102; sr = sr5; r12 = a5; r13 = a6; r14 = r14; r15 = 0 }) (record d2 { mem = m5 }) (v ∷ rest) mem ret p j refl h5 ln ip (omega arith) to ev s5
+      (λ sr6 m6 h6 s6. done mem good (record r2 { pc = ret; sp = r2.sp + 2; sr = sr6; r12 = a5; r13 = a6; r14 = r14; r15 = 0 }) (record d2 { mem = m6 }) refl h6 refl em s6)))) s3))))))

@@ -42,7 +42,6 @@ use Rattle.sx_invoke.specs.Marks.{made}
 use Rattle.sx_tmpl.proofs.Words as w
 use Rattle.sx_tmpl.proofs.Holding.{stack_word, holds_push}
 
-
 -- with the packet's wrap the marks make its bytes, too
 packet_made : (all marks : List Mark) (header body : List ℕ) (p : ℕ) → 24 * p ≤ made marks → HasPrefix all (marks ++ mark.Wrapped header body false ∷ []) → 24 * p + 24 ≤ made all
 packet_made all marks header body p room begins =
@@ -92,11 +91,11 @@ module _ (f : Fixed) (st : Stands f) (all : List Mark) (B : Watched → Violatio
   packet_core : (Q : Watched → Type 0) → IsTag f.setup.mac → (c : Conf) (k v A : ℕ) (rest : List ℕ) (j : ℕ) → offsets.end_at k + 24 ≤ length c.priv → length (v ∷ rest) ≤ 160
       → (r : Regs) (d : Data) → Text f (at c.place) 2 (0x12b0 ∷ A ∷ []) → Text f A 56 (routine_words (base_of f) k) → at (c.place + 1) ≡ at c.place + 2 * 2 → Shows f at (record c { stack = v ∷ rest }) r d → Safe f all (running f r d)
       → (let e = end_state c.priv k in let marks = c.marks ++ mark.Wrapped (event_header e) (windows.two v) false ∷ [] in
-          (is_ready e ≡ false → (r2 : Regs) (d2 : Data) → Shows f at (next c (v ∷ rest)) r2 d2 → Safe f all (running f r2 d2) → Runs f all B Q j (running f r2 d2))
-          → (is_ready e ≡ true → (saved c 14 + 384 ≤ 65536) × (24 * pieces c + 24 ≤ 384) × (f.from ≤ saved c 14 + 24 * pieces c) × (saved c 14 + 24 * pieces c + 24 ≤ f.to) × HasPrefix all marks)
-          → (is_ready e ≡ true → (x : Violation) → write_bytes f.setup c.devices c.mem (saved c 14 + 24 * pieces c) (event_packet f.setup e v) ≡ Err x → (w : Watched) → w.marks ≡ marks → B w x)
-          → (is_ready e ≡ true → (mem : List ℕ) → write_bytes f.setup c.devices c.mem (saved c 14 + 24 * pieces c) (event_packet f.setup e v) ≡ Ok mem → (r2 : Regs) (d2 : Data) → Shows f at (packed (sealed_event (record c { stack = v ∷ rest }) e v) k e mem) r2 d2 → Safe f all (running f r2 d2) → Runs f all B Q j (running f r2 d2))
-          → Runs f all B Q (126 + j) (running f r d))
+      (is_ready e ≡ false → (r2 : Regs) (d2 : Data) → Shows f at (next c (v ∷ rest)) r2 d2 → Safe f all (running f r2 d2) → Runs f all B Q j (running f r2 d2))
+      → (is_ready e ≡ true → (saved c 14 + 384 ≤ 65536) × (24 * pieces c + 24 ≤ 384) × (f.from ≤ saved c 14 + 24 * pieces c) × (saved c 14 + 24 * pieces c + 24 ≤ f.to) × HasPrefix all marks)
+      → (is_ready e ≡ true → (x : Violation) → write_bytes f.setup c.devices c.mem (saved c 14 + 24 * pieces c) (event_packet f.setup e v) ≡ Err x → (w : Watched) → w.marks ≡ marks → B w x)
+      → (is_ready e ≡ true → (mem : List ℕ) → write_bytes f.setup c.devices c.mem (saved c 14 + 24 * pieces c) (event_packet f.setup e v) ≡ Ok mem → (r2 : Regs) (d2 : Data) → Shows f at (packed (sealed_event (record c { stack = v ∷ rest }) e v) k e mem) r2 d2 → Safe f all (running f r2 d2) → Runs f all B Q j (running f r2 d2))
+      → Runs f all B Q (126 + j) (running f r d))
   packet_core Q tag c k v A rest j slot len r d t rt on sh safe idle fine stop done =
       let e = end_state c.priv k in
       let marks = c.marks ++ mark.Wrapped (event_header e) (windows.two v) false ∷ [] in
@@ -117,23 +116,35 @@ module _ (f : Fixed) (st : Stands f) (all : List Mark) (B : Watched → Violatio
       let ev : ret % 2 ≡ 0 = omega (arith, t.is_even) in
       let d1 : Data = record d { mem = m1 } in
       subst (λ n. Runs f all B Q n (running f r d)) (omega arith)
-      (two f st all B Q t 0 0x12b0 A (λ x y. One op1.Call false (Immediate x)) refl refl (omega arith) w.call event.Quiet r d (suc (suc (suc (suc (121 + j))))) (omega (arith, sh.pc)) safe
-      (sp, down, pr, ret, refl, omega arith, λ kept. (r1, rw (down, target) refl, record { from = rt.from; to = omega (arith, rt.to) }, λ s1.
-      tests_run f st all B at Q k A rt c.back c.priv slot e refl r1 d1 (ret ∷ stack) c.mem (121 + j) (omega arith) h1 s1
-      (λ nr sr s2. subst (λ n. Runs f all B Q n (running f (record r1 { pc = A + 110; sr = sr }) d1)) (omega arith)
-          (return_run f st all B at Q k A rt c.back c.priv slot (record r1 { pc = A + 110; sr = sr }) d1 c.priv stack c.mem ret (120 + j) refl h1 to ev s2
-          (λ h3 s3. weaker j (120 + j) _ (omega arith) (idle nr (record r1 { pc = ret; sr = sr; sp = sp + 2 }) d1 (record { pc = sym on; holds = h3; devices = sh.devices; marks = sh.marks }) s3))))
-      (λ yr sr s2.
-          let ok = fine yr in
-          let ln : e.number < 65535 = ltb-true e.number 65535 (and_parts e.is_open (nat_lt e.number 65535) yr).1 in
-          let same_marks : d1.marks ++ mark.Wrapped (event_header e) (windows.two v) false ∷ [] ≡ marks = ap (λ l. l ++ mark.Wrapped (event_header e) (windows.two v) false ∷ []) sh.marks in
-          subst (λ ds. ((x : Violation) → write_bytes f.setup ds c.mem (saved c 14 + 24 * pieces c) (event_packet f.setup e v) ≡ Err x → (w : Watched) → w.marks ≡ marks → B w x)
-                  → ((mem : List ℕ) → write_bytes f.setup ds c.mem (saved c 14 + 24 * pieces c) (event_packet f.setup e v) ≡ Ok mem → (r2 : Regs) (d2 : Data) → r2.pc ≡ ret
-                      → Holds f at c.back (v ∷ rest) (put_word (put_word c.priv (offsets.end_number_at k) (e.number + 1)) offsets.pieces_at (pieces c + 1)) mem r2.sp d2.mem → d2.devices ≡ d.devices → d2.marks ≡ marks → Safe f all (running f r2 d2) → Runs f all B Q j (running f r2 d2))
-                  → Runs f all B Q (121 + j) (running f (record r1 { pc = A + 12; sr = sr }) d1)) sh.devices
-          (send_run f st all B at Q k A rt c.back c.priv slot tag e refl (record r1 { pc = A + 12; sr = sr }) d1 ret v rest c.mem (pieces c) (saved c 14) j refl h1 s2 ln refl ok.1 refl ok.0 ok.2 ok.3 to ev marks same_marks ok.4)
-          (stop yr)
-          (λ mem good r2 d2 pc2 h2 dv mk s3. done yr mem good r2 d2 (record { pc = pc2 ∙ sym on; holds = h2; devices = dv ∙ sh.devices; marks = mk }) s3)))))
+      (two f st all B Q t 0 0x12b0 A (λ x y. One op1.Call false (Immediate x)) refl refl (omega arith) w.call event.Quiet r d (suc (suc (suc (suc (121 + j))))) (omega (arith, sh.pc)) safe (
+        sp,
+        down,
+        pr,
+        ret,
+        refl,
+        omega arith,
+        λ kept. (
+          r1,
+          rw (down, target) refl,
+          record { from = rt.from; to = omega (arith, rt.to) },
+          λ s1.
+              tests_run f st all B at Q k A rt c.back c.priv slot e refl r1 d1 (ret ∷ stack) c.mem (121 + j) (omega arith) h1 s1
+              (λ nr sr s2. subst (λ n. Runs f all B Q n (running f (record r1 { pc = A + 110; sr = sr }) d1)) (omega arith)
+              (return_run f st all B at Q k A rt c.back c.priv slot (record r1 { pc = A + 110; sr = sr }) d1 c.priv stack c.mem ret (120 + j) refl h1 to ev s2
+              (λ h3 s3. weaker j (120 + j) _ (omega arith) (idle nr (record r1 { pc = ret; sr = sr; sp = sp + 2 }) d1 (record { pc = sym on; holds = h3; devices = sh.devices; marks = sh.marks }) s3))))
+              (λ yr sr s2.
+              let ok = fine yr in
+              let ln : e.number < 65535 = ltb-true e.number 65535 (and_parts e.is_open (nat_lt e.number 65535) yr).1 in
+              let same_marks : d1.marks ++ mark.Wrapped (event_header e) (windows.two v) false ∷ [] ≡ marks = ap (λ l. l ++ mark.Wrapped (event_header e) (windows.two v) false ∷ []) sh.marks in
+              subst (λ ds. ((x : Violation) → write_bytes f.setup ds c.mem (saved c 14 + 24 * pieces c) (event_packet f.setup e v) ≡ Err x → (w : Watched) → w.marks ≡ marks → B w x)
+              → ((mem : List ℕ) → write_bytes f.setup ds c.mem (saved c 14 + 24 * pieces c) (event_packet f.setup e v) ≡ Ok mem → (r2 : Regs) (d2 : Data) → r2.pc ≡ ret
+              → Holds f at c.back (v ∷ rest) (put_word (put_word c.priv (offsets.end_number_at k) (e.number + 1)) offsets.pieces_at (pieces c + 1)) mem r2.sp d2.mem → d2.devices ≡ d.devices → d2.marks ≡ marks → Safe f all (running f r2 d2) → Runs f all B Q j (running f r2 d2))
+              → Runs f all B Q (121 + j) (running f (record r1 { pc = A + 12; sr = sr }) d1)) sh.devices
+              (send_run f st all B at Q k A rt c.back c.priv slot tag e refl (record r1 { pc = A + 12; sr = sr }) d1 ret v rest c.mem (pieces c) (saved c 14) j refl h1 s2 ln refl ok.1 refl ok.0 ok.2 ok.3 to ev marks same_marks ok.4)
+              (stop yr)
+              (λ mem good r2 d2 pc2 h2 dv mk s3. done yr mem good r2 d2 (record { pc = pc2 ∙ sym on; holds = h2; devices = dv ∙ sh.devices; marks = mk }) s3)),
+        ),
+      ))
     where
       weaker : (n m : ℕ) (x : Watched) → n ≤ m → Runs f all B Q n x → Runs f all B Q m x
       weaker n m x le (Here q) = Here q
@@ -191,9 +202,9 @@ module _ (f : Fixed) (st : Stands f) (all : List Mark) (B : Watched → Violatio
           packet_core (Stood f all at c2) tag c k v A rest 0 slot len r d t rt on sh safe
           (λ nr. absurd (true≢false (sym yr ∙ nr)))
           (λ _.
-              let sealed = subst (λ l. HasPrefix all l) (sym (ap (λ (c : Conf). c.marks) same)) begins in
-              let to = w2 ho (24 * pieces c + 24) fits (packet_made all c.marks (event_header e) (windows.two v) (pieces c) room sealed) in
-              (lo, fits, omega (arith, w1), omega (arith, w1, to), sealed))
+          let sealed = subst (λ l. HasPrefix all l) (sym (ap (λ (c : Conf). c.marks) same)) begins in
+          let to = w2 ho (24 * pieces c + 24) fits (packet_made all c.marks (event_header e) (windows.two v) (pieces c) room sealed) in
+          (lo, fits, omega (arith, w1), omega (arith, w1, to), sealed))
           (λ _ x bad_. absurd (ok_err mem x (sym ok ∙ bad_)))
           (λ _ mem2 ok2 r2 d2 s safe2. shown _ r2 d2 (ap (packed (sealed_event (record c { stack = v ∷ rest }) e v) k e) (ok_same mem2 mem (sym ok2 ∙ ok)) ∙ same) s safe2)
       by_case (Refused x yr ho lo fits room bad_ is) = absurd (goes_stops c2 _ (sym goes ∙ is))
@@ -215,9 +226,9 @@ module _ (f : Fixed) (st : Stands f) (all : List Mark) (B : Watched → Violatio
           packet_core (λ _. ⊥) tag c k v A rest 0 slot len r d t rt on sh safe
           (λ nr. absurd (true≢false (sym yr ∙ nr)))
           (λ _.
-              let sealed = subst (λ l. HasPrefix all l) (sym same.1) begins in
-              let to = w2 ho (24 * pieces c + 24) fits (packet_made all c.marks (event_header e) (windows.two v) (pieces c) room sealed) in
-              (lo, fits, omega (arith, w1), omega (arith, w1, to), sealed))
+          let sealed = subst (λ l. HasPrefix all l) (sym same.1) begins in
+          let to = w2 ho (24 * pieces c + 24) fits (packet_made all c.marks (event_header e) (windows.two v) (pieces c) room sealed) in
+          (lo, fits, omega (arith, w1), omega (arith, w1, to), sealed))
           (λ _ z bad2 w m. subst (λ v. B w v) (sym same.0 ∙ err_same y z (sym bad_ ∙ bad2)) (ends w (m ∙ same.1)))
           (λ _ mem ok2. absurd (ok_err mem y (sym ok2 ∙ bad_)))
       by_case (Nothing_said is) = absurd (stuck_violates x marks (stops_same _ _ (sym is ∙ stops)))

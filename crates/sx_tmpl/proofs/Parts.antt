@@ -17,8 +17,6 @@ use Rattle.sx_tmpl.proofs.Plain.{inside, Leads, stood}
 use Rattle.sx_tmpl.proofs.Words as w
 use Rattle.sx_tmpl.proofs.Holding.{holds_return, holds_forget, data_word, holds_store}
 
-
-
 module _ (f : Fixed) (st : Stands f) (all : List Mark) (B : Watched → Violation → Type 0) (at : ℕ → ℕ) where
   -- the count of pieces is set to 0, the next place is kept, and the part begins
   pub handler_leads : (c : Conf) (q : ℕ) → InText f (at q) → at q % 2 ≡ 0 → 6 ≤ length c.priv → Leads f st all B at 7 (0x4382 ∷ (base_of f + 4) ∷ 0x40b2 ∷ (at (c.place + 1)) ∷ (base_of f + 104) ∷ 0x4030 ∷ at q ∷ []) 3 c (record c { place = q; priv = put_word c.priv 4 0; back = Some (c.place + 1) })
@@ -38,13 +36,42 @@ module _ (f : Fixed) (st : Stands f) (all : List Mark) (B : Watched → Violatio
       let r1 = record r { pc = at c.place + 4 } in
       let r2 = record r { pc = at c.place + 10 } in
       let r3 = record r { pc = at q } in
-      two f st all B _ t 0 0x4382 (base_of f + 4) (λ x y. Two op2.Mov false (Const 0) (Absolute x)) refl refl (omega arith) w.clear_absolute event.Quiet r d 2 (omega (arith, sh.pc)) safe
-      (base_of f + 4, refl, p4, 0, refl, omega arith, λ k1. (r1, rw stay refl, inside t 2 (omega arith), λ s1.
-      three f st all B _ t 2 0x40b2 ret (base_of f + 104) (λ x y. Two op2.Mov false (Immediate x) (Absolute y)) refl refl refl (omega arith) w.set_word event.Quiet r1 (record d { mem = m1 }) 1 refl s1
-      (base_of f + 104, refl, p104, ret, cut, omega arith, λ k2. (r2, rw stay refl, inside t 5 (omega arith), λ s2.
-      two f st all B _ t 5 0x4030 (at q) (λ x y. Two op2.Mov false (Immediate x) (Reg 0)) refl refl (omega arith) w.goto event.Quiet r2 (record d { mem = m2 }) 0 refl s2
-      (λ k3. (r3, rw (stay, e) refl, to, λ s3.
-      stood f st all B at (record c { place = q; priv = put_word c.priv 4 0; back = Some (c.place + 1) }) r3 m2 d 0 s3 refl (holds_return f st at c.back (c.place + 1) c.stack (put_word c.priv 4 0) c.mem r.sp m1 k1 h1) sh.devices sh.marks))))))
+      two f st all B _ t 0 0x4382 (base_of f + 4) (λ x y. Two op2.Mov false (Const 0) (Absolute x)) refl refl (omega arith) w.clear_absolute event.Quiet r d 2 (omega (arith, sh.pc)) safe (
+        base_of f + 4,
+        refl,
+        p4,
+        0,
+        refl,
+        omega arith,
+        λ k1. (
+          r1,
+          rw stay refl,
+          inside t 2 (omega arith),
+          λ s1.
+              three f st all B _ t 2 0x40b2 ret (base_of f + 104) (λ x y. Two op2.Mov false (Immediate x) (Absolute y)) refl refl refl (omega arith) w.set_word event.Quiet r1 (record d { mem = m1 }) 1 refl s1 (
+                base_of f + 104,
+                refl,
+                p104,
+                ret,
+                cut,
+                omega arith,
+                λ k2. (
+                  r2,
+                  rw stay refl,
+                  inside t 5 (omega arith),
+                  λ s2.
+                      two f st all B _ t 5 0x4030 (at q) (λ x y. Two op2.Mov false (Immediate x) (Reg 0)) refl refl (omega arith) w.goto event.Quiet r2 (record d { mem = m2 }) 0 refl s2
+                      (λ k3. (
+                        r3,
+                        rw (stay, e) refl,
+                        to,
+                        λ s3.
+                            stood f st all B at (record c { place = q; priv = put_word c.priv 4 0; back = Some (c.place + 1) }) r3 m2 d 0 s3 refl (holds_return f st at c.back (c.place + 1) c.stack (put_word c.priv 4 0) c.mem r.sp m1 k1 h1) sh.devices sh.marks,
+                      )),
+                ),
+              ),
+        ),
+      )
 
   -- back to that place
   pub stop_leads : (c : Conf) (p : ℕ) → InText f (at p) → at p % 2 ≡ 0 → Leads f st all B at 2 (0x4210 ∷ (base_of f + 104) ∷ []) 1 (record c { back = Some p }) (record c { place = p; back = None })
@@ -53,6 +80,17 @@ module _ (f : Fixed) (st : Stands f) (all : List Mark) (B : Watched → Violatio
       let e : at p - at p % 2 ≡ at p = omega arith in
       let p104 = data_word f st 104 (omega arith) refl (omega (arith, st.room)) in
       let r2 = record r { pc = at p } in
-      two f st all B _ t 0 0x4210 (base_of f + 104) (λ x y. Two op2.Mov false (Absolute x) (Reg 0)) refl refl (omega arith) w.goto_stored event.Quiet r d 0 (omega (arith, sh.pc)) safe
-      (base_of f + 104, refl, p104, at p, h.returns, λ k1. (r2, rw (flags_stay r.sr, e) refl, to, λ s1.
-      stood f st all B at (record c { place = p; back = None }) r2 d.mem d 0 s1 refl (holds_forget f at (Some p) c.stack c.priv c.mem r.sp d.mem h) sh.devices sh.marks))
+      two f st all B _ t 0 0x4210 (base_of f + 104) (λ x y. Two op2.Mov false (Absolute x) (Reg 0)) refl refl (omega arith) w.goto_stored event.Quiet r d 0 (omega (arith, sh.pc)) safe (
+        base_of f + 104,
+        refl,
+        p104,
+        at p,
+        h.returns,
+        λ k1. (
+          r2,
+          rw (flags_stay r.sr, e) refl,
+          to,
+          λ s1.
+              stood f st all B at (record c { place = p; back = None }) r2 d.mem d 0 s1 refl (holds_forget f at (Some p) c.stack c.priv c.mem r.sp d.mem h) sh.devices sh.marks,
+        ),
+      )

@@ -149,12 +149,12 @@ module _ (s : Setup) (n : State) (result : Invoked) (e : Ready s n) (sizes : byt
       let jump = jump_leads f st all Never a.at t a.exit (record { from = exit.from; to = omega (arith, exit.to) }) exit.is_even x.regs x.rest (done.stands t.place ir.Leave leaving.at) (done.following t.place ir.Leave leaving.at) x.shows (subst (λ w. Safe f all w) x.state x.safe) in
       subst (λ u. Runs f all Never (λ w. Departed f a.at t status count w) 16 u) (sym x.state)
       (and_then Watched Violation (watch s.mac) (λ _. 1) (Safe f all) Never (Stood f all a.at at_exit) (λ w. Departed f a.at t status count w) 1 15 16 (running f x.regs x.rest) (omega arith) jump (λ u z.
-          let same : record at_exit { stack = count ∷ status ∷ rest } ≡ at_exit = ap (λ l. record at_exit { stack = l }) (sym stack) in
-          let long : 14 ≤ length t.priv = omega (arith, z.shows.holds.size, st.room) in
-          let run = leave_run f st all Never a.at at_exit status count rest out long z.regs z.rest exit (subst (λ c. Shows f a.at c z.regs z.rest) (sym same) z.shows) (subst (λ w. Safe f all w) z.state z.safe) in
-          weaken Watched Violation (watch s.mac) (λ _. 1) (Safe f all) (Safe f all) Never Never (Departed f a.at (record at_exit { stack = count ∷ status ∷ rest }) status count) (λ w. Departed f a.at t status count w) 15 15 u (omega arith) (λ u p. p) (λ u v b. b)
-              (λ y q. record { rest = q.rest; state = q.state; kept = q.kept; sp = q.sp; holds = subst (λ l. Holds f a.at t.back l t.priv t.mem q.sp q.rest.mem) (sym stack) q.holds; devices = q.devices; marks = q.marks })
-              (subst (λ u. Runs f all Never (Departed f a.at (record at_exit { stack = count ∷ status ∷ rest }) status count) 15 u) (sym z.state) run)))
+      let same : record at_exit { stack = count ∷ status ∷ rest } ≡ at_exit = ap (λ l. record at_exit { stack = l }) (sym stack) in
+      let long : 14 ≤ length t.priv = omega (arith, z.shows.holds.size, st.room) in
+      let run = leave_run f st all Never a.at at_exit status count rest out long z.regs z.rest exit (subst (λ c. Shows f a.at c z.regs z.rest) (sym same) z.shows) (subst (λ w. Safe f all w) z.state z.safe) in
+      weaken Watched Violation (watch s.mac) (λ _. 1) (Safe f all) (Safe f all) Never Never (Departed f a.at (record at_exit { stack = count ∷ status ∷ rest }) status count) (λ w. Departed f a.at t status count w) 15 15 u (omega arith) (λ u p. p) (λ u v b. b)
+      (λ y q. record { rest = q.rest; state = q.state; kept = q.kept; sp = q.sp; holds = subst (λ l. Holds f a.at t.back l t.priv t.mem q.sp q.rest.mem) (sym stack) q.holds; devices = q.devices; marks = q.marks })
+      (subst (λ u. Runs f all Never (Departed f a.at (record at_exit { stack = count ∷ status ∷ rest }) status count) 15 u) (sym z.state) run)))
 
   left_from : (t : Conf) (status count : ℕ) (w : Watched) → saved t 15 ≡ (call_at n).back → Departed f a.at t status count w → LeftFrom s n status count t w
   left_from t status count w is q = record {
@@ -199,10 +199,10 @@ text_does mac code l tag room sound tree ends image section n result rest same i
       begins = omega (arith, fits);
     } in
     let there : public_bytes section.layout n.mem ≡ bytes_of (text_words section.layout code) ++ rest =
-        ap (λ (l : Layout). public_bytes l n.mem) enters.stands.layout ∙ enters.stands.text ∙ is ∙ ap (λ (l : Layout). bytes_of (text_words l code) ++ rest) (sym here) in
+    ap (λ (l : Layout). public_bytes l n.mem) enters.stands.layout ∙ enters.stands.text ∙ is ∙ ap (λ (l : Layout). bytes_of (text_words l code) ++ rest) (sym here) in
     let size = text_size section.layout code in
     let words = length-bytes (text_words section.layout code) in
     subst (λ (l : Layout). Performs s code n result (Stood (fixed_at s n result) (marks_in result) (addresses l code).at)) here
     (performs s n result ready sizes tag code all_sound narrow (λ k lt.
-        sym (bytes_from_get n.mem section.layout.pub_from (section.layout.pub_to - section.layout.pub_from) k (omega (arith, lt, fits, size, words)))
-        ∙ ap (λ (t : List ℕ). slice_index t k) there ∙ get_or_append_left (bytes_of (text_words section.layout code)) rest 0 k (omega (arith, lt, words))))
+    sym (bytes_from_get n.mem section.layout.pub_from (section.layout.pub_to - section.layout.pub_from) k (omega (arith, lt, fits, size, words)))
+    ∙ ap (λ (t : List ℕ). slice_index t k) there ∙ get_or_append_left (bytes_of (text_words section.layout code)) rest 0 k (omega (arith, lt, words))))

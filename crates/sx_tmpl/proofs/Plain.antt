@@ -44,9 +44,21 @@ module _ (f : Fixed) (st : Stands f) (all : List Mark) (B : Watched → Violatio
       let pr = stack_word f st sp (length (x ∷ c.stack)) (omega arith) (omega arith) (omega arith) in
       let down : (r.sp + 65534) % 65536 ≡ sp = omega (arith, st.beneath, st.room) in
       let r2 = record r { pc = at c.place + 4; sp = sp } in
-      two f st all B _ t 0 0x1230 x (λ x y. One op1.Push false (Immediate x)) refl refl (omega arith) w.push_immediate event.Quiet r d 0 (omega (arith, sh.pc)) safe
-      (sp, down, pr, x, omega arith, lt, λ kept. (r2, rw down refl, inside t 2 (omega arith), λ safe2.
-      stood (next c (x ∷ c.stack)) r2 (put_cell d.mem sp x) d 0 safe2 (omega (arith, on)) (holds_push f st at c.back c.stack c.priv c.mem r.sp d.mem sp x safe.memory h (omega arith) (omega arith)) sh.devices sh.marks))
+      two f st all B _ t 0 0x1230 x (λ x y. One op1.Push false (Immediate x)) refl refl (omega arith) w.push_immediate event.Quiet r d 0 (omega (arith, sh.pc)) safe (
+        sp,
+        down,
+        pr,
+        x,
+        omega arith,
+        lt,
+        λ kept. (
+          r2,
+          rw down refl,
+          inside t 2 (omega arith),
+          λ safe2.
+              stood (next c (x ∷ c.stack)) r2 (put_cell d.mem sp x) d 0 safe2 (omega (arith, on)) (holds_push f st at c.back c.stack c.priv c.mem r.sp d.mem sp x safe.memory h (omega arith) (omega arith)) sh.devices sh.marks,
+        ),
+      )
 
   pub load_leads : (c : Conf) (o : ℕ) → o % 2 ≡ 0 → IsData o → o + 2 ≤ length c.priv → length c.stack < 160 → Leads 2 (0x1212 ∷ (base_of f + o) ∷ []) 1 c (next c (word c.priv o ∷ c.stack))
   load_leads c o ev i fits room r d t on sh safe =
@@ -59,9 +71,28 @@ module _ (f : Fixed) (st : Stands f) (all : List Mark) (B : Watched → Violatio
       let is = holds_word f st at c.back c.stack c.priv c.mem r.sp d.mem o h ev i fits in
       let down : (r.sp + 65534) % 65536 ≡ sp = omega (arith, st.beneath, st.room) in
       let r2 = record r { pc = at c.place + 4; sp = sp } in
-      two f st all B _ t 0 0x1212 (base_of f + o) (λ x y. One op1.Push false (Absolute x)) refl refl (omega arith) w.push_absolute event.Quiet r d 0 (omega (arith, sh.pc)) safe
-      (base_of f + o, refl, po, x, is, (sp, down, pr, x, refl, subst (λ (n : ℕ). n < 65536) is (cell_below f st d.mem (base_of f + o) safe.memory), λ kept. (r2, rw down refl, inside t 2 (omega arith), λ safe2.
-      stood (next c (x ∷ c.stack)) r2 (put_cell d.mem sp x) d 0 safe2 (omega (arith, on)) (holds_push f st at c.back c.stack c.priv c.mem r.sp d.mem sp x safe.memory h (omega arith) (omega arith)) sh.devices sh.marks)))
+      two f st all B _ t 0 0x1212 (base_of f + o) (λ x y. One op1.Push false (Absolute x)) refl refl (omega arith) w.push_absolute event.Quiet r d 0 (omega (arith, sh.pc)) safe (
+        base_of f + o,
+        refl,
+        po,
+        x,
+        is,
+        (
+          sp,
+          down,
+          pr,
+          x,
+          refl,
+          subst (λ (n : ℕ). n < 65536) is (cell_below f st d.mem (base_of f + o) safe.memory),
+          λ kept. (
+            r2,
+            rw down refl,
+            inside t 2 (omega arith),
+            λ safe2.
+                stood (next c (x ∷ c.stack)) r2 (put_cell d.mem sp x) d 0 safe2 (omega (arith, on)) (holds_push f st at c.back c.stack c.priv c.mem r.sp d.mem sp x safe.memory h (omega arith) (omega arith)) sh.devices sh.marks,
+          ),
+        ),
+      )
 
   pub store_leads : (c : Conf) (x : ℕ) (rest : List ℕ) (o : ℕ) → o % 2 ≡ 0 → IsData o → o + 2 ≤ length c.priv → Leads 2 (0x41b2 ∷ (base_of f + o) ∷ []) 1 (record c { stack = x ∷ rest }) (record c { place = c.place + 1; stack = rest; priv = put_word c.priv o x })
   store_leads c x rest o ev i fits r d t on sh safe =
@@ -71,9 +102,28 @@ module _ (f : Fixed) (st : Stands f) (all : List Mark) (B : Watched → Violatio
       let po = data_word f st o i.low ev (omega (arith, h.size)) in
       let up : (r.sp + 2) % 65536 ≡ r.sp + 2 = omega (arith, st.beneath, st.room) in
       let r2 = record r { pc = at c.place + 4; sp = r.sp + 2; sr = flags_after op2.Mov 0 0 r.sr } in
-      two f st all B _ t 0 0x41b2 (base_of f + o) (λ x y. Two op2.Mov false (Increment 1) (Absolute x)) refl refl (omega arith) w.pop_absolute event.Quiet r d 0 (omega (arith, sh.pc)) safe
-      (r.sp, refl, p1, x, h.words.0, (base_of f + o, refl, po, x, refl, subst (λ (n : ℕ). n < 65536) h.words.0 (cell_below f st d.mem r.sp safe.memory), λ kept. (r2, rw up refl, inside t 2 (omega arith), λ safe2.
-      stood (record c { place = c.place + 1; stack = rest; priv = put_word c.priv o x }) r2 (put_cell d.mem (base_of f + o) x) d 0 safe2 (omega (arith, on)) (holds_store f st at c.back rest c.priv c.mem (r.sp + 2) d.mem o x safe.memory (holds_pop f st at c.back x rest c.priv c.mem r.sp d.mem h) ev i fits) sh.devices sh.marks)))
+      two f st all B _ t 0 0x41b2 (base_of f + o) (λ x y. Two op2.Mov false (Increment 1) (Absolute x)) refl refl (omega arith) w.pop_absolute event.Quiet r d 0 (omega (arith, sh.pc)) safe (
+        r.sp,
+        refl,
+        p1,
+        x,
+        h.words.0,
+        (
+          base_of f + o,
+          refl,
+          po,
+          x,
+          refl,
+          subst (λ (n : ℕ). n < 65536) h.words.0 (cell_below f st d.mem r.sp safe.memory),
+          λ kept. (
+            r2,
+            rw up refl,
+            inside t 2 (omega arith),
+            λ safe2.
+                stood (record c { place = c.place + 1; stack = rest; priv = put_word c.priv o x }) r2 (put_cell d.mem (base_of f + o) x) d 0 safe2 (omega (arith, on)) (holds_store f st at c.back rest c.priv c.mem (r.sp + 2) d.mem o x safe.memory (holds_pop f st at c.back x rest c.priv c.mem r.sp d.mem h) ev i fits) sh.devices sh.marks,
+          ),
+        ),
+      )
 
   pub add_leads : (c : Conf) (x y : ℕ) (rest : List ℕ) → Leads 2 (0x51b1 ∷ 0 ∷ []) 1 (record c { stack = y ∷ x ∷ rest }) (next c (combine binary.Add x y ∷ rest))
   add_leads c x y rest r d t on sh safe =
@@ -85,6 +135,32 @@ module _ (f : Fixed) (st : Stands f) (all : List Mark) (B : Watched → Violatio
       let up0 : ((r.sp + 2) % 65536 + 0) % 65536 ≡ r.sp + 2 = omega (arith, st.beneath, st.room) in
       let z = combine binary.Add x y in
       let r2 = record r { pc = at c.place + 4; sp = r.sp + 2; sr = flags_after op2.Add y x r.sr } in
-      two f st all B _ t 0 0x51b1 0 (λ x y. Two op2.Add false (Increment 1) (Indexed 1 x)) refl refl (omega arith) w.add_top event.Quiet r d 0 (omega (arith, sh.pc)) safe
-      (r.sp, refl, p1, y, h.words.0, (r.sp + 2, up0, p2, x, h.words.1.0, (r.sp + 2, up0, p2, z, omega arith, omega arith, λ kept. (r2, rw up refl, inside t 2 (omega arith), λ safe2.
-      stood (next c (z ∷ rest)) r2 (put_cell d.mem (r.sp + 2) z) d 0 safe2 (omega (arith, on)) (holds_replace f st at c.back x z rest c.priv c.mem (r.sp + 2) d.mem safe.memory (holds_pop f st at c.back y (x ∷ rest) c.priv c.mem r.sp d.mem h)) sh.devices sh.marks))))
+      two f st all B _ t 0 0x51b1 0 (λ x y. Two op2.Add false (Increment 1) (Indexed 1 x)) refl refl (omega arith) w.add_top event.Quiet r d 0 (omega (arith, sh.pc)) safe (
+        r.sp,
+        refl,
+        p1,
+        y,
+        h.words.0,
+        (
+          r.sp + 2,
+          up0,
+          p2,
+          x,
+          h.words.1.0,
+          (
+            r.sp + 2,
+            up0,
+            p2,
+            z,
+            omega arith,
+            omega arith,
+            λ kept. (
+              r2,
+              rw up refl,
+              inside t 2 (omega arith),
+              λ safe2.
+                  stood (next c (z ∷ rest)) r2 (put_cell d.mem (r.sp + 2) z) d 0 safe2 (omega (arith, on)) (holds_replace f st at c.back x z rest c.priv c.mem (r.sp + 2) d.mem safe.memory (holds_pop f st at c.back y (x ∷ rest) c.priv c.mem r.sp d.mem h)) sh.devices sh.marks,
+            ),
+          ),
+        ),
+      )

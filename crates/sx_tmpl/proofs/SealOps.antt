@@ -39,7 +39,6 @@ use Rattle.sx_tmpl.proofs.Plain.{inside, Leads}
 use Rattle.sx_tmpl.proofs.Words as w
 use Rattle.sx_tmpl.proofs.Holding.{stack_word, holds_push}
 
-
 -- the registers R9 to R15 are loaded
 abbrev pub load_words : ℕ → ℕ → ℕ → ℕ → ℕ → ℕ → ℕ → List ℕ → List ℕ
 load_words v9 v10 v11 v12 v13 v14 v15 tail = 0x4039 ∷ v9 ∷ 0x403a ∷ v10 ∷ 0x403b ∷ v11 ∷ 0x403c ∷ v12 ∷ 0x403d ∷ v13 ∷ 0x403e ∷ v14 ∷ 0x403f ∷ v15 ∷ tail
@@ -67,19 +66,49 @@ module _ (f : Fixed) (st : Stands f) (all : List Mark) (B : Watched → Violatio
       let r5 = record r4 { pc = P + 20; r13 = v13 } in
       let r6 = record r5 { pc = P + 24; r14 = v14 } in
       two f st all B Q t 0 0x4039 v9 (λ x y. Two op2.Mov false (Immediate x) (Reg 9)) refl refl (omega arith) w.load_9 event.Quiet r d _ pc safe
-      (λ kept. (r1, rw (stay, e9) refl, inside t 2 (omega arith), λ s1.
-      two f st all B Q t 2 0x403a v10 (λ x y. Two op2.Mov false (Immediate x) (Reg 10)) refl refl (omega arith) w.load_10 event.Quiet r1 d _ refl s1
-      (λ kept. (r2, rw (stay, e10) refl, inside t 4 (omega arith), λ s2.
-      two f st all B Q t 4 0x403b v11 (λ x y. Two op2.Mov false (Immediate x) (Reg 11)) refl refl (omega arith) w.load_11 event.Quiet r2 d _ refl s2
-      (λ kept. (r3, rw (stay, e11) refl, inside t 6 (omega arith), λ s3.
-      two f st all B Q t 6 0x403c v12 (λ x y. Two op2.Mov false (Immediate x) (Reg 12)) refl refl (omega arith) w.load_12 event.Quiet r3 d _ refl s3
-      (λ kept. (r4, rw (stay, e12) refl, inside t 8 (omega arith), λ s4.
-      two f st all B Q t 8 0x403d v13 (λ x y. Two op2.Mov false (Immediate x) (Reg 13)) refl refl (omega arith) w.load_13 event.Quiet r4 d _ refl s4
-      (λ kept. (r5, rw (stay, e13) refl, inside t 10 (omega arith), λ s5.
-      two f st all B Q t 10 0x403e v14 (λ x y. Two op2.Mov false (Immediate x) (Reg 14)) refl refl (omega arith) w.load_14 event.Quiet r5 d _ refl s5
-      (λ kept. (r6, rw (stay, e14) refl, inside t 12 (omega arith), λ s6.
-      two f st all B Q t 12 0x403f v15 (λ x y. Two op2.Mov false (Immediate x) (Reg 15)) refl refl (omega arith) w.load_15 event.Quiet r6 d _ refl s6
-      (λ kept. (loaded r (P + 28) v9 v10 v11 v12 v13 v14 v15, rw (stay, e15) refl, inside t 14 (omega arith), after))))))))))))))
+      (λ kept. (
+        r1,
+        rw (stay, e9) refl,
+        inside t 2 (omega arith),
+        λ s1.
+            two f st all B Q t 2 0x403a v10 (λ x y. Two op2.Mov false (Immediate x) (Reg 10)) refl refl (omega arith) w.load_10 event.Quiet r1 d _ refl s1
+            (λ kept. (
+              r2,
+              rw (stay, e10) refl,
+              inside t 4 (omega arith),
+              λ s2.
+                  two f st all B Q t 4 0x403b v11 (λ x y. Two op2.Mov false (Immediate x) (Reg 11)) refl refl (omega arith) w.load_11 event.Quiet r2 d _ refl s2
+                  (λ kept. (
+                    r3,
+                    rw (stay, e11) refl,
+                    inside t 6 (omega arith),
+                    λ s3.
+                        two f st all B Q t 6 0x403c v12 (λ x y. Two op2.Mov false (Immediate x) (Reg 12)) refl refl (omega arith) w.load_12 event.Quiet r3 d _ refl s3
+                        (λ kept. (
+                          r4,
+                          rw (stay, e12) refl,
+                          inside t 8 (omega arith),
+                          λ s4.
+                              two f st all B Q t 8 0x403d v13 (λ x y. Two op2.Mov false (Immediate x) (Reg 13)) refl refl (omega arith) w.load_13 event.Quiet r4 d _ refl s4
+                              (λ kept. (
+                                r5,
+                                rw (stay, e13) refl,
+                                inside t 10 (omega arith),
+                                λ s5.
+                                    two f st all B Q t 10 0x403e v14 (λ x y. Two op2.Mov false (Immediate x) (Reg 14)) refl refl (omega arith) w.load_14 event.Quiet r5 d _ refl s5
+                                    (λ kept. (
+                                      r6,
+                                      rw (stay, e14) refl,
+                                      inside t 12 (omega arith),
+                                      λ s6.
+                                          two f st all B Q t 12 0x403f v15 (λ x y. Two op2.Mov false (Immediate x) (Reg 15)) refl refl (omega arith) w.load_15 event.Quiet r6 d _ refl s6
+                                          (λ kept. (loaded r (P + 28) v9 v10 v11 v12 v13 v14 v15, rw (stay, e15) refl, inside t 14 (omega arith), after)),
+                                    )),
+                              )),
+                        )),
+                  )),
+            )),
+      ))
 
 -- the key's place: 0 for the module's own
 abbrev pub key_place : Fixed → ℕ → ℕ
@@ -114,8 +143,8 @@ module _ (f : Fixed) (st : Stands f) (all : List Mark) (B : Watched → Violatio
       elim h [
         | inl z ↦ absurd (omega arith)
         | inr g ↦
-          let same = holds_from f st at c.back stack c.priv c.mem sp m (suc k) 16 hold g in
-          KeyIn (subst (λ a. PrivateRange f a 16) (sym e) (private_range (suc k) 16 c.priv hold.size g)) (ap (λ a. bytes_from m a 16) e ∙ same)
+            let same = holds_from f st at c.back stack c.priv c.mem sp m (suc k) 16 hold g in
+            KeyIn (subst (λ a. PrivateRange f a 16) (sym e) (private_range (suc k) 16 c.priv hold.size g)) (ap (λ a. bytes_from m a 16) e ∙ same)
       ]
 
   key_is_own : (k : ℕ) → (key_place f k == 0) ≡ (k == 0)
@@ -147,8 +176,8 @@ module _ (f : Fixed) (st : Stands f) (all : List Mark) (B : Watched → Violatio
   -- wrap, and a plain instruction behind it
   pub seal_leads : IsTag f.setup.mac → (c : Conf) (k h hn b bn : ℕ) → SealsAt k h hn b bn (length c.priv)
       → (let w = wrapped f.setup.mac (key_at f.setup c k) (bytes_from c.priv h hn) (bytes_from c.priv b bn) in
-          let marks = c.marks ++ mark.Wrapped (bytes_from c.priv h hn) (bytes_from c.priv b bn) (k == 0) ∷ [] in
-          HasPrefix all marks → Leads f st all B at 16 (seal_words k h hn b bn (0x1384 ∷ 0x4309 ∷ [])) 9 c (record (next c c.stack) { priv = put_bytes (put_bytes c.priv (h + hn) w.cipher) (h + hn + bn) w.tag; marks = marks }))
+      let marks = c.marks ++ mark.Wrapped (bytes_from c.priv h hn) (bytes_from c.priv b bn) (k == 0) ∷ [] in
+      HasPrefix all marks → Leads f st all B at 16 (seal_words k h hn b bn (0x1384 ∷ 0x4309 ∷ [])) 9 c (record (next c c.stack) { priv = put_bytes (put_bytes c.priv (h + hn) w.cipher) (h + hn + bn) w.tag; marks = marks }))
   seal_leads tag c k h hn b bn ok begins r d t on sh safe =
       let hold = sh.holds in
       let sz = hold.size in
@@ -191,16 +220,21 @@ module _ (f : Fixed) (st : Stands f) (all : List Mark) (B : Watched → Violatio
       let ls = key_small c k sz ok.key in
       loads_run f st all B Q (at c.place) 16 v9 (base + h) hn (base + b) bn (base + (h + hn)) (base + (h + hn + bn)) (0x1384 ∷ 0x4309 ∷ []) t (omega arith) ls (omega arith) (omega arith) (omega arith) (omega arith) (omega arith) (omega arith) r d 2 (omega (arith, sh.pc)) safe (λ sL.
       subst (λ own. HasPrefix all (d.marks ++ mark.Wrapped ad body own ∷ []) → ((x : Exchange) → let d2 : Data = record d { mem = mt; exchange = x; marks = d.marks ++ mark.Wrapped ad body own ∷ [] } in
-              Safe f all (running_after (event.Wrapped f.setup.section.id) f (record rL { pc = at c.place + 30; r15 = 1 }) d2) → Runs f all B Q 1 (running_after (event.Wrapped f.setup.section.id) f (record rL { pc = at c.place + 30; r15 = 1 }) d2)) → Runs f all B Q 2 (running f rL d)) (key_is_own k)
+      Safe f all (running_after (event.Wrapped f.setup.section.id) f (record rL { pc = at c.place + 30; r15 = 1 }) d2) → Runs f all B Q 1 (running_after (event.Wrapped f.setup.section.id) f (record rL { pc = at c.place + 30; r15 = 1 }) d2)) → Runs f all B Q 2 (running f rL d)) (key_is_own k)
       (wrap_as f st all B Q t 14 refl (omega arith) event.Quiet rL d key ad body 1 refl sL (buffers_here c k h hn b bn rL sz ok refl refl (private_range b bn c.priv sz bdy) pc_ refl refl) (key_here c k c.stack r.sp rL d.mem ok.key hold refl) ea eb)
       (subst (λ l. HasPrefix all l) (sym mk) begins)
       (λ x s2.
-          let d2 : Data = record d { mem = mt; exchange = x; marks = d.marks ++ mark.Wrapped ad body (k == 0) ∷ [] } in
-          let r2 = record rL { pc = at c.place + 30; r15 = 1 } in
-          let r3 = record r2 { pc = at c.place + 32; r9 = 0 } in
-          one f st all B Q t 15 0x4309 (λ x y. Two op2.Mov false (Const 0) (Reg 9)) refl (omega arith) w.zero_9 (event.Wrapped f.setup.section.id) r2 d2 0 refl s2
-          (λ kept. (r3, rw (flags_stay r.sr) refl, inside t 16 (omega arith), λ s3.
-          Here (record { regs = r3; rest = d2; state = refl; safe = s3; shows = record { pc = omega (arith, on); holds = ht; devices = sh.devices; marks = mk } })))))
+      let d2 : Data = record d { mem = mt; exchange = x; marks = d.marks ++ mark.Wrapped ad body (k == 0) ∷ [] } in
+      let r2 = record rL { pc = at c.place + 30; r15 = 1 } in
+      let r3 = record r2 { pc = at c.place + 32; r9 = 0 } in
+      one f st all B Q t 15 0x4309 (λ x y. Two op2.Mov false (Const 0) (Reg 9)) refl (omega arith) w.zero_9 (event.Wrapped f.setup.section.id) r2 d2 0 refl s2
+      (λ kept. (
+        r3,
+        rw (flags_stay r.sr) refl,
+        inside t 16 (omega arith),
+        λ s3.
+            Here (record { regs = r3; rest = d2; state = refl; safe = s3; shows = record { pc = omega (arith, on); holds = ht; devices = sh.devices; marks = mk } }),
+      ))))
 
   -- the configuration after an unwrap
   abbrev pub after_open : Conf → ℕ → List ℕ → ℕ → ℕ → Option (List ℕ) → Conf
@@ -218,11 +252,32 @@ module _ (f : Fixed) (st : Stands f) (all : List Mark) (B : Watched → Violatio
       let cut : r.r15 % 65536 ≡ v = omega arith in
       let r2 = record r { pc = P + 32; sp = sp } in
       let h2 = holds_push f st at back stack priv outside r.sp d.mem sp v safe.memory hold (omega arith) (omega arith) in
-      one f st all B (Stood f all at c2) t 15 0x120f (λ x y. One op1.Push false (Reg 15)) has le w.push_15 e r d 0 pc safe
-      (sp, down, pr, v, cut, lv, λ kept. (r2, rw down refl, inside t 16 le, λ s3.
-      Here (record { regs = r2; rest = record d { mem = put_cell d.mem sp v }; state = refl; safe = s3; shows = record { pc = sym on;
-          holds = subst (λ b. Holds f at b c2.stack c2.priv c2.mem sp (put_cell d.mem sp v)) (sym eb) (subst (λ l. Holds f at back l c2.priv c2.mem sp (put_cell d.mem sp v)) (sym es) (subst (λ p. Holds f at back (v ∷ stack) p c2.mem sp (put_cell d.mem sp v)) (sym ep) (subst (λ o. Holds f at back (v ∷ stack) priv o sp (put_cell d.mem sp v)) (sym em) h2)));
-          devices = dv; marks = mk } })))
+      one f st all B (Stood f all at c2) t 15 0x120f (λ x y. One op1.Push false (Reg 15)) has le w.push_15 e r d 0 pc safe (
+        sp,
+        down,
+        pr,
+        v,
+        cut,
+        lv,
+        λ kept. (
+          r2,
+          rw down refl,
+          inside t 16 le,
+          λ s3.
+              Here (record {
+                regs = r2;
+                rest = record d { mem = put_cell d.mem sp v };
+                state = refl;
+                safe = s3;
+                shows = record {
+                  pc = sym on;
+                  holds = subst (λ b. Holds f at b c2.stack c2.priv c2.mem sp (put_cell d.mem sp v)) (sym eb) (subst (λ l. Holds f at back l c2.priv c2.mem sp (put_cell d.mem sp v)) (sym es) (subst (λ p. Holds f at back (v ∷ stack) p c2.mem sp (put_cell d.mem sp v)) (sym ep) (subst (λ o. Holds f at back (v ∷ stack) priv o sp (put_cell d.mem sp v)) (sym em) h2)));
+                  devices = dv;
+                  marks = mk;
+                };
+              }),
+        ),
+      )
 
   abbrev open_words : ℕ → ℕ → ℕ → ℕ → ℕ → List ℕ → List ℕ
   open_words k h hn b bn tail = load_words (key_place f k) (base_of f + h) hn (base_of f + (h + hn)) bn (base_of f + b) (base_of f + (h + hn + bn)) tail
@@ -253,17 +308,17 @@ module _ (f : Fixed) (st : Stands f) (all : List Mark) (B : Watched → Violatio
       let ec = holds_from f st at c.back c.stack c.priv c.mem r.sp d.mem (h + hn) bn hold rc in
       let et = holds_from f st at c.back c.stack c.priv c.mem r.sp d.mem (h + hn + bn) 16 hold rt in
       let same : unwrapped f.setup.mac key (bytes_from d.mem (base + h) hn) (bytes_from d.mem (base + (h + hn)) bn) (bytes_from d.mem (base + (h + hn + bn)) 16) ≡ result =
-          ap (λ a. unwrapped f.setup.mac key a (bytes_from d.mem (base + (h + hn)) bn) (bytes_from d.mem (base + (h + hn + bn)) 16)) ea
-          ∙ ap (λ x. unwrapped f.setup.mac key ad x (bytes_from d.mem (base + (h + hn + bn)) 16)) ec ∙ ap (λ x. unwrapped f.setup.mac key ad (bytes_from c.priv (h + hn) bn) x) et ∙ is in
+      ap (λ a. unwrapped f.setup.mac key a (bytes_from d.mem (base + (h + hn)) bn) (bytes_from d.mem (base + (h + hn + bn)) 16)) ea
+      ∙ ap (λ x. unwrapped f.setup.mac key ad x (bytes_from d.mem (base + (h + hn + bn)) 16)) ec ∙ ap (λ x. unwrapped f.setup.mac key ad (bytes_from c.priv (h + hn) bn) x) et ∙ is in
       let ls = key_small c k sz ok.key in
       let told : (plain : List ℕ) → d.marks ++ mark.Unwrapped (bytes_from d.mem (base + h) hn) (take bn plain) (v9 == 0) ∷ [] ≡ c.marks ++ mark.Unwrapped ad (take bn plain) (k == 0) ∷ [] =
-          λ plain. ap (λ l. l ++ mark.Unwrapped (bytes_from d.mem (base + h) hn) (take bn plain) (v9 == 0) ∷ []) sh.marks ∙ ap (λ a. c.marks ++ mark.Unwrapped a (take bn plain) (v9 == 0) ∷ []) ea ∙ ap (λ o. c.marks ++ mark.Unwrapped ad (take bn plain) o ∷ []) (key_is_own k) in
+      λ plain. ap (λ l. l ++ mark.Unwrapped (bytes_from d.mem (base + h) hn) (take bn plain) (v9 == 0) ∷ []) sh.marks ∙ ap (λ a. c.marks ++ mark.Unwrapped a (take bn plain) (v9 == 0) ∷ []) ea ∙ ap (λ o. c.marks ++ mark.Unwrapped ad (take bn plain) o ∷ []) (key_is_own k) in
       loads_run f st all B Q (at c.place) 16 v9 (base + h) hn (base + (h + hn)) bn (base + b) (base + (h + hn + bn)) (0x1385 ∷ 0x120f ∷ []) t (omega arith) ls (omega arith) (omega arith) (omega arith) (omega arith) (omega arith) (omega arith) r d 2 (omega (arith, sh.pc)) safe (λ sL.
       unwrap_step f st all B Q t 14 refl (omega arith) event.Quiet rL d key 1 result refl sL (buffers_here c k h hn b bn rL sz ok refl refl (private_range (h + hn) bn c.priv sz rc) (private_range b bn c.priv sz bdy) refl refl) (key_here c k c.stack r.sp rL d.mem ok.key hold refl) same
       (λ er s2. subst (λ o. Runs f all B (Stood f all at (after_open c k ad b bn o)) 1 (running f (record rL { pc = at c.place + 30; r15 = 0 }) d)) (sym er)
-          (answer_pushed (next c (0 ∷ c.stack)) 0 t refl (omega arith) event.Quiet (record rL { pc = at c.place + 30; r15 = 0 }) d c.stack c.priv c.mem c.back 0 refl s2 hold room refl (omega arith) on refl refl refl refl sh.devices sh.marks))
+      (answer_pushed (next c (0 ∷ c.stack)) 0 t refl (omega arith) event.Quiet (record rL { pc = at c.place + 30; r15 = 0 }) d c.stack c.priv c.mem c.back 0 refl s2 hold room refl (omega arith) on refl refl refl refl sh.devices sh.marks))
       (λ plain er. subst (λ l. HasPrefix all l) (sym (told plain)) (subst (λ o. HasPrefix all (after_open c k ad b bn o).marks) er begins))
       (λ plain x er s2. subst (λ o. Runs f all B (Stood f all at (after_open c k ad b bn o)) 1 (running_after (event.Unwrapped f.setup.section.id) f (record rL { pc = at c.place + 30; r15 = 1 }) (record d { mem = put_bytes d.mem (base + b) (take bn plain); exchange = x; marks = d.marks ++ mark.Unwrapped (bytes_from d.mem (base + h) hn) (take bn plain) (v9 == 0) ∷ [] }))) (sym er)
-          (let rb : IsRange b (length (take bn plain)) (length c.priv) = front_range b bn (length (take bn plain)) (length c.priv) bdy (let l = length-take bn plain in omega (arith, l)) in
-          answer_pushed (after_open c k ad b bn (Some plain)) 0 t refl (omega arith) (event.Unwrapped f.setup.section.id) (record rL { pc = at c.place + 30; r15 = 1 }) (record d { mem = put_bytes d.mem (base + b) (take bn plain); exchange = x; marks = d.marks ++ mark.Unwrapped (bytes_from d.mem (base + h) hn) (take bn plain) (v9 == 0) ∷ [] })
-          c.stack (put_bytes c.priv b (take bn plain)) c.mem c.back 1 refl s2 (holds_bytes f st at c.back (take bn plain) c.stack c.priv c.mem r.sp d.mem b safe.memory hold rb) room refl (omega arith) on refl refl refl refl sh.devices (told plain))))
+      (let rb : IsRange b (length (take bn plain)) (length c.priv) = front_range b bn (length (take bn plain)) (length c.priv) bdy (let l = length-take bn plain in omega (arith, l)) in
+      answer_pushed (after_open c k ad b bn (Some plain)) 0 t refl (omega arith) (event.Unwrapped f.setup.section.id) (record rL { pc = at c.place + 30; r15 = 1 }) (record d { mem = put_bytes d.mem (base + b) (take bn plain); exchange = x; marks = d.marks ++ mark.Unwrapped (bytes_from d.mem (base + h) hn) (take bn plain) (v9 == 0) ∷ [] })
+      c.stack (put_bytes c.priv b (take bn plain)) c.mem c.back 1 refl s2 (holds_bytes f st at c.back (take bn plain) c.stack c.priv c.mem r.sp d.mem b safe.memory hold rb) room refl (omega arith) on refl refl refl refl sh.devices (told plain))))

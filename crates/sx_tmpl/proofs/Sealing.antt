@@ -51,15 +51,15 @@ none_meets (w ∷ ws) at n i h = rw (here, none_meets ws at n (i + 1) (λ b p q.
     here : meets at n w.at (w.at + 2) ≡ false
     here = elim (cases_Bool (meets at n w.at (w.at + 2))) [
       | inl t ↦
-        let p = and_parts (nat_lt 0 n) (nat_lt at (w.at + 2) && nat_lt w.at (at + n)) t in
-        let q = and_parts (nat_lt at (w.at + 2)) (nat_lt w.at (at + n)) p.1 in
-        let some : 0 < n = ltb-true 0 n p.0 in
-        let q0 : at < w.at + 2 = ltb-true at (w.at + 2) q.0 in
-        let q1 : w.at < at + n = ltb-true w.at (at + n) q.1 in
-        elim (cases_lt at w.at) [
-          | inl lt ↦ absurd (true≢false (sym (and_from _ _ (le-leb w.at w.at (omega arith)) (lt-ltb w.at (w.at + 2) (omega arith))) ∙ first w.at (h w.at (omega arith) q1)))
-          | inr ge ↦ absurd (true≢false (sym (and_from _ _ (le-leb w.at at ge) (lt-ltb at (w.at + 2) q0)) ∙ first at (h at (omega arith) (omega arith))))
-        ]
+          let p = and_parts (nat_lt 0 n) (nat_lt at (w.at + 2) && nat_lt w.at (at + n)) t in
+          let q = and_parts (nat_lt at (w.at + 2)) (nat_lt w.at (at + n)) p.1 in
+          let some : 0 < n = ltb-true 0 n p.0 in
+          let q0 : at < w.at + 2 = ltb-true at (w.at + 2) q.0 in
+          let q1 : w.at < at + n = ltb-true w.at (at + n) q.1 in
+          elim (cases_lt at w.at) [
+            | inl lt ↦ absurd (true≢false (sym (and_from _ _ (le-leb w.at w.at (omega arith)) (lt-ltb w.at (w.at + 2) (omega arith))) ∙ first w.at (h w.at (omega arith) q1)))
+            | inr ge ↦ absurd (true≢false (sym (and_from _ _ (le-leb w.at at ge) (lt-ltb at (w.at + 2) q0)) ∙ first at (h at (omega arith) (omega arith))))
+          ]
       | inr t ↦ t
     ]
 
@@ -159,9 +159,11 @@ module _ (f : Fixed) (st : Stands f) where
         let own : own_key (regs16 f r) ≡ true = eq-eqb r.r9 0 z in
         let lens : (nat_le r.r11 32 && nat_le r.r13 32) ≡ true = and_from _ _ (le-leb r.r11 32 bs.few) (le-leb r.r13 32 bs.short) in
         let k1 : passes_end r.r9 (cond (own_key (regs16 f r)) 0 16) ≡ false = rw own (le-ltb 65536 (r.r9 + 0) (omega (arith, z))) in
-        let k2 : meets_device (places_of d.devices) r.r9 (cond (own_key (regs16 f r)) 0 16) ≡ false = rw own (empty_meets (places_of d.devices) r.r9) in
-        ((λ no_. absurd (true≢false (sym lens ∙ no_))), (λ _. tests_met _ same bs k1 k2
-        (subst (λ b. OwesT (cond b (body f.setup.section.key) (Bytes r.r9 16 body))) (sym own) (subst (λ key. OwesT (body key)) (sym is) (bs.header, (bs.text, owed))))))
+        let k2 : meets_device (places_of d.devices) r.r9 (cond (own_key (regs16 f r)) 0 16) ≡ false = rw own (empty_meets (places_of d.devices) r.r9) in (
+          (λ no_. absurd (true≢false (sym lens ∙ no_))),
+          (λ _. tests_met _ same bs k1 k2
+              (subst (λ b. OwesT (cond b (body f.setup.section.key) (Bytes r.r9 16 body))) (sym own) (subst (λ key. OwesT (body key)) (sym is) (bs.header, (bs.text, owed))))),
+        )
       where
         body : List ℕ → Plan
         body key = Bytes r.r10 r.r11 (λ ad. Bytes r.r12 r.r13 (λ text. rest key ad text))
@@ -169,9 +171,11 @@ module _ (f : Fixed) (st : Stands f) where
         let own : own_key (regs16 f r) ≡ false = ne_eqb r.r9 0 (omega (arith, p.low)) in
         let lens : (nat_le r.r11 32 && nat_le r.r13 32) ≡ true = and_from _ _ (le-leb r.r11 32 bs.few) (le-leb r.r13 32 bs.short) in
         let k1 : passes_end r.r9 (cond (own_key (regs16 f r)) 0 16) ≡ false = rw own (no_passing r.r9 16 p) in
-        let k2 : meets_device (places_of d.devices) r.r9 (cond (own_key (regs16 f r)) 0 16) ≡ false = rw own (no_meeting d.devices r.r9 16 same p) in
-        ((λ no_. absurd (true≢false (sym lens ∙ no_))), (λ _. tests_met _ same bs k1 k2
-        (subst (λ b. OwesT (cond b (body f.setup.section.key) (Bytes r.r9 16 body))) (sym own) (p, subst (λ key. OwesT (body key)) (sym is) (bs.header, (bs.text, owed))))))
+        let k2 : meets_device (places_of d.devices) r.r9 (cond (own_key (regs16 f r)) 0 16) ≡ false = rw own (no_meeting d.devices r.r9 16 same p) in (
+          (λ no_. absurd (true≢false (sym lens ∙ no_))),
+          (λ _. tests_met _ same bs k1 k2
+              (subst (λ b. OwesT (cond b (body f.setup.section.key) (Bytes r.r9 16 body))) (sym own) (p, subst (λ key. OwesT (body key)) (sym is) (bs.header, (bs.text, owed))))),
+        )
       where
         body : List ℕ → Plan
         body key = Bytes r.r10 r.r11 (λ ad. Bytes r.r12 r.r13 (λ text. rest key ad text))
@@ -227,8 +231,8 @@ module _ (f : Fixed) (st : Stands f) (all : List Mark) (B : Watched → Violatio
   pub wrap_step : {P n : ℕ} {ws : List ℕ} (t : Text f P n ws) (k : ℕ) → slice_get ws k ≡ Some 0x1384 → k + 1 ≤ n → (e : Event) (r : Regs) (d : Data) (key : List ℕ) (j : ℕ) → r.pc ≡ P + 2 * k → Safe f all (running_after e f r d)
       → Buffers f r → KeyAt f r d.mem key → HasPrefix all (d.marks ++ mark.Wrapped (bytes_from d.mem r.r10 r.r11) (bytes_from d.mem r.r12 r.r13) (r.r9 == 0) ∷ [])
       → ((x : Exchange) → let r2 = record r { pc = P + 2 * (k + 1); r15 = 1 } in
-          let d2 : Data = record d { mem = put_bytes (put_bytes d.mem r.r14 (sealed r d key).cipher) r.r15 (sealed r d key).tag; exchange = x; marks = d.marks ++ mark.Wrapped (bytes_from d.mem r.r10 r.r11) (bytes_from d.mem r.r12 r.r13) (r.r9 == 0) ∷ [] } in
-          Safe f all (running_after (event.Wrapped f.setup.section.id) f r2 d2) → Runs f all B Q j (running_after (event.Wrapped f.setup.section.id) f r2 d2))
+      let d2 : Data = record d { mem = put_bytes (put_bytes d.mem r.r14 (sealed r d key).cipher) r.r15 (sealed r d key).tag; exchange = x; marks = d.marks ++ mark.Wrapped (bytes_from d.mem r.r10 r.r11) (bytes_from d.mem r.r12 r.r13) (r.r9 == 0) ∷ [] } in
+      Safe f all (running_after (event.Wrapped f.setup.section.id) f r2 d2) → Runs f all B Q j (running_after (event.Wrapped f.setup.section.id) f r2 d2))
       → Runs f all B Q (suc j) (running_after e f r d)
   unfolding module_row
   wrap_step {P = P} t k has fits e r d key j pc safe bs key_at marks after =
@@ -244,11 +248,16 @@ module _ (f : Fixed) (st : Stands f) (all : List Mark) (B : Watched → Violatio
       let m = mark_of (regs16 f r) ad body in
       let new = mark.Wrapped ad body (r.r9 == 0) ∷ [] in
       let row : Owes f (NoDone f st all B Q) (Tells f st all B Q j d) (B (running_after e f r d)) (wrap f.setup.mac g f.setup.section) d.mem =
-          inputs_met f st all e r d (Tells f st all B Q j d) (B (running_after e f r d)) B Q key (λ key ad body. Put r.r14 (wrapped f.setup.mac key ad body).cipher (Put r.r15 (wrapped f.setup.mac key ad body).tag (Tell (concluded (regs16 f r) 1) (event.Wrapped f.setup.section.id) (exchanged (regs16 f r) ad body)))) safe.devices bs key_at
-          (range_shorter f st r.r14 r.r13 (length w.cipher) bs.out lc, (range_shorter f st r.r15 16 (length w.tag) bs.tag lt, λ kept.
-          (r2, rw next refl, record { from = omega (arith, t.from); to = omega (arith, t.to) }, refl, new, ap (λ a. mark.Wrapped a (take (length body) (padded body)) (r.r9 == 0) ∷ []) m.0 ∙ ap (λ b. mark.Wrapped ad b (r.r9 == 0) ∷ []) m.1, marks, after _))) in
+      inputs_met f st all e r d (Tells f st all B Q j d) (B (running_after e f r d)) B Q key (λ key ad body. Put r.r14 (wrapped f.setup.mac key ad body).cipher (Put r.r15 (wrapped f.setup.mac key ad body).tag (Tell (concluded (regs16 f r) 1) (event.Wrapped f.setup.section.id) (exchanged (regs16 f r) ad body)))) safe.devices bs key_at (
+        range_shorter f st r.r14 r.r13 (length w.cipher) bs.out lc,
+        (
+          range_shorter f st r.r15 16 (length w.tag) bs.tag lt,
+          λ kept.
+              (r2, rw next refl, record { from = omega (arith, t.from); to = omega (arith, t.to) }, refl, new, ap (λ a. mark.Wrapped a (take (length body) (padded body)) (r.r9 == 0) ∷ []) m.0 ∙ ap (λ b. mark.Wrapped ad b (r.r9 == 0) ∷ []) m.1, marks, after _),
+        ),
+      ) in
       let owed : Owes f (NoDone f st all B Q) (Tells f st all B Q j d) (B (running_after e f r d)) (module_row f.setup.mac 4 g) d.mem =
-          subst (λ o. Owes f (NoDone f st all B Q) (Tells f st all B Q j d) (B (running_after e f r d)) (within g (wrap f.setup.mac g) o) d.mem) (sym found) row in
+      subst (λ o. Owes f (NoDone f st all B Q) (Tells f st all B Q j d) (B (running_after e f r d)) (within g (wrap f.setup.mac g) o) d.mem) (sym found) row in
       from_told f st all B Q j e r d _ safe (record { from = omega (arith, t.from); to = omega (arith, t.to) }) (module_fetched t k 0x1384 4 has fits e r d pc safe (λ a. refl))
       (owes_met f st (NoDone f st all B Q) (Tells f st all B Q j d) (B (running_after e f r d)) (module_row f.setup.mac 4 g) (start (running_after e f r d).node) safe.devices safe.memory owed)
 
@@ -261,18 +270,18 @@ module _ (f : Fixed) (st : Stands f) (all : List Mark) (B : Watched → Violatio
       → (result ≡ None → Safe f all (running_after event.Quiet f (record r { pc = P + 2 * (k + 1); r15 = 0 }) d) → Runs f all B Q j (running_after event.Quiet f (record r { pc = P + 2 * (k + 1); r15 = 0 }) d))
       → ((plain : List ℕ) → result ≡ Some plain → HasPrefix all (d.marks ++ mark.Unwrapped (bytes_from d.mem r.r10 r.r11) (take r.r13 plain) (r.r9 == 0) ∷ []))
       → ((plain : List ℕ) (x : Exchange) → result ≡ Some plain → let r2 = record r { pc = P + 2 * (k + 1); r15 = 1 } in
-          let d2 : Data = record d { mem = put_bytes d.mem r.r14 (take r.r13 plain); exchange = x; marks = d.marks ++ mark.Unwrapped (bytes_from d.mem r.r10 r.r11) (take r.r13 plain) (r.r9 == 0) ∷ [] } in
-          Safe f all (running_after (event.Unwrapped f.setup.section.id) f r2 d2) → Runs f all B Q j (running_after (event.Unwrapped f.setup.section.id) f r2 d2))
+      let d2 : Data = record d { mem = put_bytes d.mem r.r14 (take r.r13 plain); exchange = x; marks = d.marks ++ mark.Unwrapped (bytes_from d.mem r.r10 r.r11) (take r.r13 plain) (r.r9 == 0) ∷ [] } in
+      Safe f all (running_after (event.Unwrapped f.setup.section.id) f r2 d2) → Runs f all B Q j (running_after (event.Unwrapped f.setup.section.id) f r2 d2))
       → Runs f all B Q (suc j) (running_after e f r d)
   unfolding module_row
   unwrap_step {P = P} t k has fits e r d key j result pc safe bs key_at is failed marks after =
       let g = given_own f st all B Q e r d in
       let found : own_section g ≡ Some f.setup.section = own_found f st in
       let row : Owes f (NoDone f st all B Q) (Tells f st all B Q j d) (B (running_after e f r d)) (unwrap f.setup.mac g f.setup.section) d.mem =
-          inputs_met f st all e r d (Tells f st all B Q j d) (B (running_after e f r d)) B Q key (λ key ad cipher. Bytes r.r15 16 (λ tag. Writable r.r14 r.r13 (opened g ad (unwrapped f.setup.mac key ad cipher tag)))) safe.devices bs key_at
-          (bs.tag, (bs.out, subst (λ o. Owes f (NoDone f st all B Q) (Tells f st all B Q j d) (B (running_after e f r d)) (opened g (bytes_from d.mem r.r10 r.r11) o) d.mem) (sym is) (either result failed marks after))) in
+      inputs_met f st all e r d (Tells f st all B Q j d) (B (running_after e f r d)) B Q key (λ key ad cipher. Bytes r.r15 16 (λ tag. Writable r.r14 r.r13 (opened g ad (unwrapped f.setup.mac key ad cipher tag)))) safe.devices bs key_at
+      (bs.tag, (bs.out, subst (λ o. Owes f (NoDone f st all B Q) (Tells f st all B Q j d) (B (running_after e f r d)) (opened g (bytes_from d.mem r.r10 r.r11) o) d.mem) (sym is) (either result failed marks after))) in
       let owed : Owes f (NoDone f st all B Q) (Tells f st all B Q j d) (B (running_after e f r d)) (module_row f.setup.mac 5 g) d.mem =
-          subst (λ o. Owes f (NoDone f st all B Q) (Tells f st all B Q j d) (B (running_after e f r d)) (within g (unwrap f.setup.mac g) o) d.mem) (sym found) row in
+      subst (λ o. Owes f (NoDone f st all B Q) (Tells f st all B Q j d) (B (running_after e f r d)) (within g (unwrap f.setup.mac g) o) d.mem) (sym found) row in
       from_told f st all B Q j e r d _ safe (record { from = omega (arith, t.from); to = omega (arith, t.to) }) (module_fetched t k 0x1385 5 has fits e r d pc safe (λ a. refl))
       (owes_met f st (NoDone f st all B Q) (Tells f st all B Q j d) (B (running_after e f r d)) (module_row f.setup.mac 5 g) (start (running_after e f r d).node) safe.devices safe.memory owed)
     where
@@ -286,27 +295,43 @@ module _ (f : Fixed) (st : Stands f) (all : List Mark) (B : Watched → Violatio
           → (result ≡ None → Safe f all (running_after event.Quiet f (record r { pc = P + 2 * (k + 1); r15 = 0 }) d) → Runs f all B Q j (running_after event.Quiet f (record r { pc = P + 2 * (k + 1); r15 = 0 }) d))
           → ((plain : List ℕ) → result ≡ Some plain → HasPrefix all (d.marks ++ mark.Unwrapped (bytes_from d.mem r.r10 r.r11) (take r.r13 plain) (r.r9 == 0) ∷ []))
           → ((plain : List ℕ) (x : Exchange) → result ≡ Some plain → let r2 = record r { pc = P + 2 * (k + 1); r15 = 1 } in
-              let d2 : Data = record d { mem = put_bytes d.mem r.r14 (take r.r13 plain); exchange = x; marks = d.marks ++ mark.Unwrapped (bytes_from d.mem r.r10 r.r11) (take r.r13 plain) (r.r9 == 0) ∷ [] } in
-              Safe f all (running_after (event.Unwrapped f.setup.section.id) f r2 d2) → Runs f all B Q j (running_after (event.Unwrapped f.setup.section.id) f r2 d2))
+          let d2 : Data = record d { mem = put_bytes d.mem r.r14 (take r.r13 plain); exchange = x; marks = d.marks ++ mark.Unwrapped (bytes_from d.mem r.r10 r.r11) (take r.r13 plain) (r.r9 == 0) ∷ [] } in
+          Safe f all (running_after (event.Unwrapped f.setup.section.id) f r2 d2) → Runs f all B Q j (running_after (event.Unwrapped f.setup.section.id) f r2 d2))
           → Owes f (NoDone f st all B Q) (Tells f st all B Q j d) (B (running_after e f r d)) (opened (given_own f st all B Q e r d) (bytes_from d.mem r.r10 r.r11) result) d.mem
-      either None failed marks after = λ kept.
-          (record r { pc = P + 2 * (k + 1); r15 = 0 }, rw next refl, record { from = omega (arith, t.from); to = omega (arith, t.to) }, refl, [], refl, subst (λ l. HasPrefix all l) (sym (append-nil d.marks)) safe.marks,
-          subst (λ l. Safe f all (running_after event.Quiet f (record r { pc = P + 2 * (k + 1); r15 = 0 }) (record d { marks = l })) → Runs f all B Q j (running_after event.Quiet f (record r { pc = P + 2 * (k + 1); r15 = 0 }) (record d { marks = l }))) (sym (append-nil d.marks)) (failed refl))
+      either None failed marks after = λ kept. (
+        record r { pc = P + 2 * (k + 1); r15 = 0 },
+        rw next refl,
+        record { from = omega (arith, t.from); to = omega (arith, t.to) },
+        refl,
+        [],
+        refl,
+        subst (λ l. HasPrefix all l) (sym (append-nil d.marks)) safe.marks,
+        subst (λ l. Safe f all (running_after event.Quiet f (record r { pc = P + 2 * (k + 1); r15 = 0 }) (record d { marks = l })) → Runs f all B Q j (running_after event.Quiet f (record r { pc = P + 2 * (k + 1); r15 = 0 }) (record d { marks = l }))) (sym (append-nil d.marks)) (failed refl),
+      )
       either (Some plain) failed marks after =
           let body = take r.r13 plain in
           let m = mark_of (regs16 f r) (bytes_from d.mem r.r10 r.r11) body in
-          let lb : length body ≤ r.r13 = let h = length-take r.r13 plain in omega (arith, h) in
-          (range_shorter f st r.r14 r.r13 (length body) bs.out lb, λ kept.
-          (record r { pc = P + 2 * (k + 1); r15 = 1 }, rw next refl, record { from = omega (arith, t.from); to = omega (arith, t.to) }, refl, mark.Unwrapped (bytes_from d.mem r.r10 r.r11) body (r.r9 == 0) ∷ [],
-          ap (λ a. mark.Unwrapped a (take (length body) (padded body)) (r.r9 == 0) ∷ []) m.0 ∙ ap (λ b. mark.Unwrapped (bytes_from d.mem r.r10 r.r11) b (r.r9 == 0) ∷ []) m.1, marks plain refl, after plain _ refl))
+          let lb : length body ≤ r.r13 = let h = length-take r.r13 plain in omega (arith, h) in (
+            range_shorter f st r.r14 r.r13 (length body) bs.out lb,
+            λ kept. (
+              record r { pc = P + 2 * (k + 1); r15 = 1 },
+              rw next refl,
+              record { from = omega (arith, t.from); to = omega (arith, t.to) },
+              refl,
+              mark.Unwrapped (bytes_from d.mem r.r10 r.r11) body (r.r9 == 0) ∷ [],
+              ap (λ a. mark.Unwrapped a (take (length body) (padded body)) (r.r9 == 0) ∷ []) m.0 ∙ ap (λ b. mark.Unwrapped (bytes_from d.mem r.r10 r.r11) b (r.r9 == 0) ∷ []) m.1,
+              marks plain refl,
+              after plain _ refl,
+            ),
+          )
 
   -- what is to follow a wrap of this header and body under this key
   abbrev pub WrapThen : ℕ → Event → Regs → Data → ℕ → List ℕ → List ℕ → List ℕ → Type 0
   WrapThen j e r d pc key ad body =
       HasPrefix all (d.marks ++ mark.Wrapped ad body (r.r9 == 0) ∷ [])
       → ((x : Exchange) → let r2 = record r { pc = pc; r15 = 1 } in
-          let d2 : Data = record d { mem = put_bytes (put_bytes d.mem r.r14 (wrapped f.setup.mac key ad body).cipher) r.r15 (wrapped f.setup.mac key ad body).tag; exchange = x; marks = d.marks ++ mark.Wrapped ad body (r.r9 == 0) ∷ [] } in
-          Safe f all (running_after (event.Wrapped f.setup.section.id) f r2 d2) → Runs f all B Q j (running_after (event.Wrapped f.setup.section.id) f r2 d2))
+      let d2 : Data = record d { mem = put_bytes (put_bytes d.mem r.r14 (wrapped f.setup.mac key ad body).cipher) r.r15 (wrapped f.setup.mac key ad body).tag; exchange = x; marks = d.marks ++ mark.Wrapped ad body (r.r9 == 0) ∷ [] } in
+      Safe f all (running_after (event.Wrapped f.setup.section.id) f r2 d2) → Runs f all B Q j (running_after (event.Wrapped f.setup.section.id) f r2 d2))
       → Runs f all B Q (suc j) (running_after e f r d)
 
   -- wrap, by the header and the body that stand in memory

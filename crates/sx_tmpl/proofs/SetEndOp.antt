@@ -26,8 +26,6 @@ use Rattle.std.specs.Prelude.{slice_get}
 use Rattle.sx_tmpl.proofs.Plain.{inside, Leads}
 use Rattle.sx_tmpl.proofs.Words as w
 use Rattle.sx_tmpl.proofs.Holding.{stack_word, data_word, holds_push, holds_pop, holds_store, holds_word, cell_below}
-
-
 use Rattle.sx_ir.specs.Meaning.{keyed}
 use Rattle.sx_tmpl.proofs.Steps.{three}
 use Rattle.sx_tmpl.specs.Running.{put_cell}
@@ -100,12 +98,29 @@ module _ (f : Fixed) (st : Stands f) (all : List Mark) (B : Watched → Violatio
       let po = data_word f st o (omega arith) oe (omega arith) in
       let is = holds_word f st at back stack priv outside r.sp d.mem s h se (record { low = s1; beside = inl (omega arith) }) (let y = st.room in omega arith) ∙ ev in
       let lv = subst (λ (n : ℕ). n < 65536) is (cell_below f st d.mem (base_of f + s) safe.memory) in
-      three f st all B Q t i 0x429c (base_of f + s) y (λ x y. Two op2.Mov false (Absolute x) (Indexed 12 y)) g0 g1 g2 le w.move_to_indexed_12 event.Quiet (record r { pc = P + 2 * i }) d j refl safe
-      (base_of f + s, refl, ps, v, is, (base_of f + o, place, po, v, refl, lv, λ kept. (record r { pc = P + 2 * (i + 3) }, rw (flags_stay r.sr) refl, inside t (i + 3) le,
-      after (put_cell d.mem (base_of f + o) v) (holds_store f st at back stack priv outside r.sp d.mem o v safe.memory h oe (record { low = omega arith; beside = inr o1 }) fits))))
+      three f st all B Q t i 0x429c (base_of f + s) y (λ x y. Two op2.Mov false (Absolute x) (Indexed 12 y)) g0 g1 g2 le w.move_to_indexed_12 event.Quiet (record r { pc = P + 2 * i }) d j refl safe (
+        base_of f + s,
+        refl,
+        ps,
+        v,
+        is,
+        (
+          base_of f + o,
+          place,
+          po,
+          v,
+          refl,
+          lv,
+          λ kept. (
+            record r { pc = P + 2 * (i + 3) },
+            rw (flags_stay r.sr) refl,
+            inside t (i + 3) le,
+            after (put_cell d.mem (base_of f + o) v) (holds_store f st at back stack priv outside r.sp d.mem o v safe.memory h oe (record { low = omega arith; beside = inr o1 }) fits),
+          ),
+        ),
+      )
 
 module _ (f : Fixed) (st : Stands f) (all : List Mark) (B : Watched → Violation → Type 0) (at : ℕ → ℕ) where
-
   pub set_end_leads : (c : Conf) (k A : ℕ) → Text f A 32 (slot_words (base_of f)) → offsets.end_at k + 24 ≤ length c.priv → length c.stack ≤ 160 → Leads f st all B at 4 (0x403c ∷ (base_of f + offsets.end_at k) ∷ 0x12b0 ∷ A ∷ []) 14 c (record (next c c.stack) { priv = keyed c.priv k (word c.priv 18) (bytes_from c.priv 56 16) })
   set_end_leads c k A rt fits len r d t on sh safe =
       let h = sh.holds in
@@ -183,26 +198,78 @@ module _ (f : Fixed) (st : Stands f) (all : List Mark) (B : Watched → Violatio
       let i4 : (b + o0 + 4) % 65536 ≡ b + o2 = omega arith in
       let done : key_words K0 p o ≡ put_bytes K0 o (bytes_from p 56 16) = key_put K0 p o (omega arith) small in
       two f st all B Q t 0 0x403c (b + o0) (λ x y. Two op2.Mov false (Immediate x) (Reg 12)) refl refl (omega arith) w.load_12 event.Quiet r d 13 (omega (arith, sh.pc)) safe
-      (λ ka. (r00, rw (stay, e12) refl, inside t 2 (omega arith), λ s_a.
-      two f st all B Q t 2 0x12b0 A (λ x y. One op1.Call false (Immediate x)) refl refl (omega arith) w.call event.Quiet r00 d 12 refl s_a
-      (sp, down, pr, ret, refl, omega arith, λ kb_. (record r_ { pc = A }, rw (down, target) refl, record { from = rt.from; to = omega (arith, rt.to) }, λ s_b.
-      subst (λ pc. Safe f all (running f (record r_ { pc = pc }) d0) → Runs f all B Q 12 (running f (record r_ { pc = pc }) d0)) (omega arith)
-      (λ s0.
-      move_step f st all B at Q A k rt c.back (ret ∷ c.stack) c.mem 0 18 o0 0 (omega arith) refl refl refl (omega arith) (omega arith) (omega arith) refl (omega arith) (omega arith) r_ d0 p field 11 refl (omega arith) refl h0 s0 (λ ma ha sa.
-      two f st all B Q rt 3 0x438c 2 (λ x y. Two op2.Mov false (Const 0) (Indexed 12 x)) refl refl (omega arith) w.zero_indexed_12 event.Quiet (record r_ { pc = A + 6 }) (record d0 { mem = ma }) 10 refl sa
-      (b + o1, i2, pn, 0, refl, omega arith, λ kb. (record r_ { pc = A + 10 }, rw stay refl, inside rt 5 (omega arith), λ sb.
-      let hb = holds_store f st at c.back (ret ∷ c.stack) q0 c.mem sp ma o1 0 sa.memory ha (omega arith) (record { low = omega arith; beside = inr (omega arith) }) (omega arith) in
-      two f st all B Q rt 5 0x439c 4 (λ x y. Two op2.Mov false (Const 1) (Indexed 12 x)) refl refl (omega arith) w.one_indexed_12 event.Quiet (record r_ { pc = A + 10 }) (record d0 { mem = put_cell ma (b + o1) 0 }) 9 refl sb
-      (b + o2, i4, po, 1, refl, omega arith, λ kc. (record r_ { pc = A + 14 }, rw stay refl, inside rt 7 (omega arith), λ sc.
-      let hc = holds_store f st at c.back (ret ∷ c.stack) q1 c.mem sp (put_cell ma (b + o1) 0) o2 1 sb.memory hb (omega arith) (record { low = omega arith; beside = inr (omega arith) }) (omega arith) in
-      move_step f st all B at Q A k rt c.back (ret ∷ c.stack) c.mem 7 56 (o + 0) 8 (omega arith) refl refl refl (omega arith) (omega arith) (omega arith) refl (omega arith) (omega arith) r_ (record d0 { mem = (put_cell (put_cell ma (b + o1) 0) (b + o2) 1) }) K0 v0 8 refl (omega arith) w0 hc sc (λ x0 h0 s0_.
-      move_step f st all B at Q A k rt c.back (ret ∷ c.stack) c.mem 10 58 (o + 2) 10 (omega arith) refl refl refl (omega arith) (omega arith) (omega arith) refl (omega arith) (omega arith) r_ (record d0 { mem = x0 }) K1 v1 7 refl (omega arith) w1 h0 s0_ (λ x1 h1 s1_.
-      move_step f st all B at Q A k rt c.back (ret ∷ c.stack) c.mem 13 60 (o + 4) 12 (omega arith) refl refl refl (omega arith) (omega arith) (omega arith) refl (omega arith) (omega arith) r_ (record d0 { mem = x1 }) K2 v2 6 refl (omega arith) w2 h1 s1_ (λ x2 h2 s2_.
-      move_step f st all B at Q A k rt c.back (ret ∷ c.stack) c.mem 16 62 (o + 6) 14 (omega arith) refl refl refl (omega arith) (omega arith) (omega arith) refl (omega arith) (omega arith) r_ (record d0 { mem = x2 }) K3 v3 5 refl (omega arith) w3 h2 s2_ (λ x3 h3 s3_.
-      move_step f st all B at Q A k rt c.back (ret ∷ c.stack) c.mem 19 64 (o + 8) 16 (omega arith) refl refl refl (omega arith) (omega arith) (omega arith) refl (omega arith) (omega arith) r_ (record d0 { mem = x3 }) K4 v4 4 refl (omega arith) w4 h3 s3_ (λ x4 h4 s4_.
-      move_step f st all B at Q A k rt c.back (ret ∷ c.stack) c.mem 22 66 (o + 10) 18 (omega arith) refl refl refl (omega arith) (omega arith) (omega arith) refl (omega arith) (omega arith) r_ (record d0 { mem = x4 }) K5 v5 3 refl (omega arith) w5 h4 s4_ (λ x5 h5 s5_.
-      move_step f st all B at Q A k rt c.back (ret ∷ c.stack) c.mem 25 68 (o + 12) 20 (omega arith) refl refl refl (omega arith) (omega arith) (omega arith) refl (omega arith) (omega arith) r_ (record d0 { mem = x5 }) K6 v6 2 refl (omega arith) w6 h5 s5_ (λ x6 h6 s6_.
-      move_step f st all B at Q A k rt c.back (ret ∷ c.stack) c.mem 28 70 (o + 14) 22 (omega arith) refl refl refl (omega arith) (omega arith) (omega arith) refl (omega arith) (omega arith) r_ (record d0 { mem = x6 }) K7 v7 1 refl (omega arith) w7 h6 s6_ (λ x7 h7 s7_.
-      one f st all B Q rt 31 0x4130 (λ x y. Two op2.Mov false (Increment 1) (Reg 0)) refl (omega arith) w.return_ event.Quiet (record r_ { pc = A + 62 }) (record d0 { mem = x7 }) 0 refl s7_
-      (sp, refl, pr, ret, h7.words.0, λ kz. (record r_ { pc = ret; sp = sp + 2 }, rw (up, stay, keven) refl, inside t 4 (omega arith), λ sz_2.
-      Here (record { regs = record r_ { pc = ret; sp = sp + 2 }; rest = record d0 { mem = x7 }; state = refl; safe = sz_2; shows = record { pc = omega (arith, on); holds = subst (λ l. Holds f at c.back c.stack l c.mem (sp + 2) x7) done (holds_pop f st at c.back ret c.stack K8 c.mem sp x7 h7); devices = sh.devices; marks = sh.marks } }))))))))))))))))) s_b))))
+      (λ ka. (
+        r00,
+        rw (stay, e12) refl,
+        inside t 2 (omega arith),
+        λ s_a.
+            two f st all B Q t 2 0x12b0 A (λ x y. One op1.Call false (Immediate x)) refl refl (omega arith) w.call event.Quiet r00 d 12 refl s_a (
+              sp,
+              down,
+              pr,
+              ret,
+              refl,
+              omega arith,
+              λ kb_. (
+                record r_ { pc = A },
+                rw (down, target) refl,
+                record { from = rt.from; to = omega (arith, rt.to) },
+                λ s_b.
+                    subst (λ pc. Safe f all (running f (record r_ { pc = pc }) d0) → Runs f all B Q 12 (running f (record r_ { pc = pc }) d0)) (omega arith)
+                    (λ s0.
+                    move_step f st all B at Q A k rt c.back (ret ∷ c.stack) c.mem 0 18 o0 0 (omega arith) refl refl refl (omega arith) (omega arith) (omega arith) refl (omega arith) (omega arith) r_ d0 p field 11 refl (omega arith) refl h0 s0 (λ ma ha sa.
+                    two f st all B Q rt 3 0x438c 2 (λ x y. Two op2.Mov false (Const 0) (Indexed 12 x)) refl refl (omega arith) w.zero_indexed_12 event.Quiet (record r_ { pc = A + 6 }) (record d0 { mem = ma }) 10 refl sa (
+                      b + o1,
+                      i2,
+                      pn,
+                      0,
+                      refl,
+                      omega arith,
+                      λ kb. (
+                        record r_ { pc = A + 10 },
+                        rw stay refl,
+                        inside rt 5 (omega arith),
+                        λ sb.
+                            let hb = holds_store f st at c.back (ret ∷ c.stack) q0 c.mem sp ma o1 0 sa.memory ha (omega arith) (record { low = omega arith; beside = inr (omega arith) }) (omega arith) in
+                            two f st all B Q rt 5 0x439c 4 (λ x y. Two op2.Mov false (Const 1) (Indexed 12 x)) refl refl (omega arith) w.one_indexed_12 event.Quiet (record r_ { pc = A + 10 }) (record d0 { mem = put_cell ma (b + o1) 0 }) 9 refl sb (
+                              b + o2,
+                              i4,
+                              po,
+                              1,
+                              refl,
+                              omega arith,
+                              λ kc. (
+                                record r_ { pc = A + 14 },
+                                rw stay refl,
+                                inside rt 7 (omega arith),
+                                λ sc.
+                                    let hc = holds_store f st at c.back (ret ∷ c.stack) q1 c.mem sp (put_cell ma (b + o1) 0) o2 1 sb.memory hb (omega arith) (record { low = omega arith; beside = inr (omega arith) }) (omega arith) in
+                                    move_step f st all B at Q A k rt c.back (ret ∷ c.stack) c.mem 7 56 (o + 0) 8 (omega arith) refl refl refl (omega arith) (omega arith) (omega arith) refl (omega arith) (omega arith) r_ (record d0 { mem = (put_cell (put_cell ma (b + o1) 0) (b + o2) 1) }) K0 v0 8 refl (omega arith) w0 hc sc (λ x0 h0 s0_.
+                                    move_step f st all B at Q A k rt c.back (ret ∷ c.stack) c.mem 10 58 (o + 2) 10 (omega arith) refl refl refl (omega arith) (omega arith) (omega arith) refl (omega arith) (omega arith) r_ (record d0 { mem = x0 }) K1 v1 7 refl (omega arith) w1 h0 s0_ (λ x1 h1 s1_.
+                                    move_step f st all B at Q A k rt c.back (ret ∷ c.stack) c.mem 13 60 (o + 4) 12 (omega arith) refl refl refl (omega arith) (omega arith) (omega arith) refl (omega arith) (omega arith) r_ (record d0 { mem = x1 }) K2 v2 6 refl (omega arith) w2 h1 s1_ (λ x2 h2 s2_.
+                                    move_step f st all B at Q A k rt c.back (ret ∷ c.stack) c.mem 16 62 (o + 6) 14 (omega arith) refl refl refl (omega arith) (omega arith) (omega arith) refl (omega arith) (omega arith) r_ (record d0 { mem = x2 }) K3 v3 5 refl (omega arith) w3 h2 s2_ (λ x3 h3 s3_.
+                                    move_step f st all B at Q A k rt c.back (ret ∷ c.stack) c.mem 19 64 (o + 8) 16 (omega arith) refl refl refl (omega arith) (omega arith) (omega arith) refl (omega arith) (omega arith) r_ (record d0 { mem = x3 }) K4 v4 4 refl (omega arith) w4 h3 s3_ (λ x4 h4 s4_.
+                                    move_step f st all B at Q A k rt c.back (ret ∷ c.stack) c.mem 22 66 (o + 10) 18 (omega arith) refl refl refl (omega arith) (omega arith) (omega arith) refl (omega arith) (omega arith) r_ (record d0 { mem = x4 }) K5 v5 3 refl (omega arith) w5 h4 s4_ (λ x5 h5 s5_.
+                                    move_step f st all B at Q A k rt c.back (ret ∷ c.stack) c.mem 25 68 (o + 12) 20 (omega arith) refl refl refl (omega arith) (omega arith) (omega arith) refl (omega arith) (omega arith) r_ (record d0 { mem = x5 }) K6 v6 2 refl (omega arith) w6 h5 s5_ (λ x6 h6 s6_.
+                                    move_step f st all B at Q A k rt c.back (ret ∷ c.stack) c.mem 28 70 (o + 14) 22 (omega arith) refl refl refl (omega arith) (omega arith) (omega arith) refl (omega arith) (omega arith) r_ (record d0 { mem = x6 }) K7 v7 1 refl (omega arith) w7 h6 s6_ (λ x7 h7 s7_.
+                                    one f st all B Q rt 31 0x4130 (λ x y. Two op2.Mov false (Increment 1) (Reg 0)) refl (omega arith) w.return_ event.Quiet (record r_ { pc = A + 62 }) (record d0 { mem = x7 }) 0 refl s7_ (
+                                      sp,
+                                      refl,
+                                      pr,
+                                      ret,
+                                      h7.words.0,
+                                      λ kz. (
+                                        record r_ { pc = ret; sp = sp + 2 },
+                                        rw (up, stay, keven) refl,
+                                        inside t 4 (omega arith),
+                                        λ sz_2.
+                                            Here (record { regs = record r_ { pc = ret; sp = sp + 2 }; rest = record d0 { mem = x7 }; state = refl; safe = sz_2; shows = record { pc = omega (arith, on); holds = subst (λ l. Holds f at c.back c.stack l c.mem (sp + 2) x7) done (holds_pop f st at c.back ret c.stack K8 c.mem sp x7 h7); devices = sh.devices; marks = sh.marks } }),
+                                      ),
+                                    ))))))))),
+                              ),
+                            ),
+                      ),
+                    ))) s_b,
+              ),
+            ),
+      ))

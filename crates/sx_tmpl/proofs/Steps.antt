@@ -169,7 +169,7 @@ module _ (f : Fixed) (st : Stands f) (all : List Mark) (B : Watched → Violatio
       let x = start (running_after e f r d).node in
       let is : cell d.mem r.pc ≡ w = text_word d.mem r.pc w safe.memory here ends (ap (cell f.entered) pc ∙ t.word k w has) in
       let at = tests_passed e r d safe here ends ev ∙ plain_instruction e r d w here ends ev is reads.plain ∙ program_one w i (regs16 f r) x reads
-          ∙ ap (λ b. exec_own (row (i 0 0) (at_pc (regs16 f r) b) b) x) next in
+      ∙ ap (λ b. exec_own (row (i 0 0) (at_pc (regs16 f r) b) b) x) next in
       from_met j e r d _ safe (record { from = here; to = omega arith }) at (owes_met f st (Then j d) NoTell (B (running_after e f r d)) _ x safe.devices safe.memory owed)
 
   -- the same with an extension word
@@ -192,7 +192,7 @@ module _ (f : Fixed) (st : Stands f) (all : List Mark) (B : Watched → Violatio
       let is1 : cell d.mem (P + 2 * (k + 1)) ≡ u = text_word d.mem (P + 2 * (k + 1)) u safe.memory (omega arith) (omega arith) (t.word (k + 1) u has1) in
       let got = fetched (onward r.pc 2) (P + 2 * (k + 1)) u x next (omega arith) (omega arith) (omega arith) safe.devices is1 in
       let at = tests_passed e r d safe here ends ev ∙ plain_instruction e r d w here ends ev is reads.plain ∙ program_two w u i (regs16 f r) x reads got
-          ∙ ap (λ b. exec_own (row (i u 0) (at_pc (regs16 f r) b) (onward r.pc 4)) x) next ∙ ap (λ b. exec_own (row (i u 0) (at_pc (regs16 f r) (P + 2 * (k + 1))) b) x) next2 in
+      ∙ ap (λ b. exec_own (row (i u 0) (at_pc (regs16 f r) b) (onward r.pc 4)) x) next ∙ ap (λ b. exec_own (row (i u 0) (at_pc (regs16 f r) (P + 2 * (k + 1))) b) x) next2 in
       from_met j e r d _ safe (record { from = here; to = omega arith }) at (owes_met f st (Then j d) NoTell (B (running_after e f r d)) _ x safe.devices safe.memory owed)
 
   -- and with two
@@ -218,5 +218,5 @@ module _ (f : Fixed) (st : Stands f) (all : List Mark) (B : Watched → Violatio
       let got = fetched (onward r.pc 2) (P + 2 * (k + 1)) u x next (omega arith) (omega arith) (omega arith) safe.devices is1 in
       let got2 = fetched (onward r.pc 4) (P + 2 * (k + 2)) v x next2 (omega arith) (omega arith) (omega arith) safe.devices is2 in
       let at = tests_passed e r d safe here ends ev ∙ plain_instruction e r d w here ends ev is reads.plain ∙ program_three w u v i (regs16 f r) x reads got got2
-          ∙ ap (λ b. exec_own (row (i u v) (at_pc (regs16 f r) b) (onward r.pc 6)) x) next ∙ ap (λ b. exec_own (row (i u v) (at_pc (regs16 f r) (P + 2 * (k + 1))) b) x) next3 in
+      ∙ ap (λ b. exec_own (row (i u v) (at_pc (regs16 f r) b) (onward r.pc 6)) x) next ∙ ap (λ b. exec_own (row (i u v) (at_pc (regs16 f r) (P + 2 * (k + 1))) b) x) next3 in
       from_met j e r d _ safe (record { from = here; to = omega arith }) at (owes_met f st (Then j d) NoTell (B (running_after e f r d)) _ x safe.devices safe.memory owed)

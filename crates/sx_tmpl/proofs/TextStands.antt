@@ -34,13 +34,13 @@ routine_at m b base ops zero k lt h w = absurd (omega (arith, lt))
 routine_at m b base ops (suc n) k lt h w = elim (cases_lt k n) [
   | inl less ↦ routine_at m b base ops n k less h (words_front m b (packet_words base ops n) (if has_routine ops n then routine_words base n else []) w)
   | inr ge ↦
-    let same : n ≡ k = omega (arith, lt, ge) in
-    let back = words_back m b (packet_words base ops n) (if has_routine ops n then routine_words base n else []) w in
-    let size = packets_size base ops n in
-    let place : b + 2 * length (packet_words base ops n) ≡ b + 112 * routines ops n = omega (arith, size) in
-    let here : WordsAt m (b + 112 * routines ops n) (if has_routine ops n then routine_words base n else []) = subst (λ a. WordsAt m a (if has_routine ops n then routine_words base n else [])) place back in
-    let there : WordsAt m (b + 112 * routines ops k) (if has_routine ops k then routine_words base k else []) = subst (λ n. WordsAt m (b + 112 * routines ops n) (if has_routine ops n then routine_words base n else [])) same here in
-    subst (λ (x : Bool). WordsAt m (b + 112 * routines ops k) (if x then routine_words base k else [])) h there
+      let same : n ≡ k = omega (arith, lt, ge) in
+      let back = words_back m b (packet_words base ops n) (if has_routine ops n then routine_words base n else []) w in
+      let size = packets_size base ops n in
+      let place : b + 2 * length (packet_words base ops n) ≡ b + 112 * routines ops n = omega (arith, size) in
+      let here : WordsAt m (b + 112 * routines ops n) (if has_routine ops n then routine_words base n else []) = subst (λ a. WordsAt m a (if has_routine ops n then routine_words base n else [])) place back in
+      let there : WordsAt m (b + 112 * routines ops k) (if has_routine ops k then routine_words base k else []) = subst (λ n. WordsAt m (b + 112 * routines ops n) (if has_routine ops n then routine_words base n else [])) same here in
+      subst (λ (x : Bool). WordsAt m (b + 112 * routines ops k) (if x then routine_words base k else [])) h there
 ]
 
 module _ (f : Fixed) (st : Stands f) (code : Code) (text : (k : ℕ) → k < 2 * length (text_words f.setup.section.layout code) → slice_index f.entered (f.setup.section.layout.pub_from + k) ≡ slice_index (bytes_of (text_words f.setup.section.layout code)) k)

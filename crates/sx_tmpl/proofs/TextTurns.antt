@@ -50,9 +50,9 @@ counts_turn ops n count counts counts2 is h e = subst (λ l. AreCounts ops (n + 
   each = λ k lt. elim (cases_lt k n) [
     | inl less ↦ get_or_append_left counts (count ∷ []) 0 k (let y = h.count in omega (arith, less, y)) ∙ h.each k less
     | inr ge ↦
-      let same : k ≡ n = omega (arith, lt, ge) in
-      let here : k ≡ length counts = (let y = h.count in omega (arith, same, y)) in
-      ap (λ (i : ℕ). get_or (counts ++ count ∷ []) i 0) here ∙ get_or-append_seam counts count [] 0 ∙ e ∙ ap (routines ops) (sym same)
+        let same : k ≡ n = omega (arith, lt, ge) in
+        let here : k ≡ length counts = (let y = h.count in omega (arith, same, y)) in
+        ap (λ (i : ℕ). get_or (counts ++ count ∷ []) i 0) here ∙ get_or-append_seam counts count [] 0 ∙ e ∙ ap (routines ops) (sym same)
   ];
 })
 

@@ -13,10 +13,7 @@ use Rattle.sx_tmpl.proofs.Steps.{Text, InText}
 use Rattle.std.specs.Prelude.{slice_get, nat_lt, ◌==◌}
 use Rattle.std.proofs.lemmas.Bool.{ltb-true, leb-true, and_parts}
 use Rattle.sx_tmpl.proofs.Plain.{Leads}
-
-
 use Rattle.sx_reach.specs.Reach.{Next, Ends}
-
 use Rattle.sx_reach.specs.Reach.{Goes, Stops, Comes}
 use Rattle.sx_image.specs.Watched.{watch}
 use Rattle.sx_tmpl.proofs.Made.{made_prefix}
@@ -137,7 +134,7 @@ pushed_goes c t v e =
     (ltb-true (length c.stack) 160 w.0, goes_same (next c (v ∷ c.stack)) t w.1)
 
 module _ (f : Fixed) (st : Stands f) (all : List Mark) (BV : Violation → List Mark → Type 0) (tag : IsTag f.setup.mac) (a : Addresses) (code : List Ir) (emitted_ : Emitted f a code) (handle : ℕ → Conf → After)
-  (parts : (h : ℕ) (c t : Conf) → handle h c ≡ Goes t → record c { place = a.part h; back = Some (c.place + 1) } ≡ t) (given : ℕ → ℕ) where
+    (parts : (h : ℕ) (c t : Conf) → handle h c ≡ Goes t → record c { place = a.part h; back = Some (c.place + 1) } ≡ t) (given : ℕ → ℕ) where
   abbrev pub B : Watched → Violation → Type 0
   B w v = BV v w.marks
 
@@ -296,7 +293,7 @@ module _ (f : Fixed) (st : Stands f) (all : List Mark) (BV : Violation → List 
   op_goes (ir.CopyIn (suc n) o) stack c t here ok g gt e =
       let c1 = record c { stack = stack } in
       with_size _ (16 + 8 * suc n + 0) _ t (λ sz. lift _ (7 + 4 * suc n) (16 + 8 * suc n + 0) _ t t (omega arith) refl
-          (ending_goes (copy_in f.setup c1 (suc n) o) _ _ t (copy_in_ends f st all B a.at c1 n o (subst (λ s. IsRange o (suc n) s) (size_is f c.priv sz) ok.2) (omega (arith, ok.1))) e))
+      (ending_goes (copy_in f.setup c1 (suc n) o) _ _ t (copy_in_ends f st all B a.at c1 n o (subst (λ s. IsRange o (suc n) s) (size_is f c.priv sz) ok.2) (omega (arith, ok.1))) e))
   op_goes (ir.CopyOut zero o) stack c t here ok g gt e = absurd (omega (arith, ok.0))
   op_goes (ir.CopyOut (suc n) o) [] c t here ok g gt e = absurd (never Stuck t e)
   op_goes (ir.CopyOut (suc n) o) (v ∷ rest) c t here ok g gt e =
@@ -305,7 +302,7 @@ module _ (f : Fixed) (st : Stands f) (all : List Mark) (BV : Violation → List 
       let from = g.from in
       let w : (f.from ≤ saved c 14 + v) × (saved c 14 + v + suc n ≤ f.to) = (omega (arith, from), omega (arith, from, to)) in
       with_size _ (16 + 8 * suc n + 0) _ t (λ sz. lift _ (8 + 4 * suc n) (16 + 8 * suc n + 0) _ t t (omega arith) refl
-          (ending_goes (copy_out f.setup (record c { stack = v ∷ rest }) (suc n) o v rest) _ _ t (copy_out_ends f st all B a.at c v rest n o (subst (λ s. IsRange o (suc n) s) (size_is f c.priv sz) ok.2) (omega (arith, ok.1)) w.0 w.1) e))
+      (ending_goes (copy_out f.setup (record c { stack = v ∷ rest }) (suc n) o v rest) _ _ t (copy_out_ends f st all B a.at c v rest n o (subst (λ s. IsRange o (suc n) s) (size_is f c.priv sz) ok.2) (omega (arith, ok.1)) w.0 w.1) e))
   op_goes (ir.Seal k h hn b bn) stack c t here ok g gt e =
       let same = goes_same _ t e in
       with_size _ 16 _ t (λ sz. lift _ 9 16 _ _ t (omega arith) same (seal_leads f st all B a.at tag (record c { stack = stack }) k h hn b bn (subst (λ s. SealsAt k h hn b bn s) (size_is f c.priv sz) ok) (subst (λ l. HasPrefix all l) (sym (ap (λ (c : Conf). c.marks) same)) gt)))
@@ -402,7 +399,7 @@ stop_stops c None h e = stuck_is h e
 stop_stops c (Some p) h e = absurd (goes_never _ h e)
 
 module _ (f : Fixed) (st : Stands f) (all : List Mark) (BV : Violation → List Mark → Type 0) (begins : (v : Violation) (m : List Mark) → BV v m → HasPrefix all m) (tag : IsTag f.setup.mac) (a : Addresses) (code : List Ir) (emitted_ : Emitted f a code) (handle : ℕ → Conf → After)
-  (parts : (h : ℕ) (c t : Conf) → handle h c ≡ Goes t → record c { place = a.part h; back = Some (c.place + 1) } ≡ t) (no_end : (h : ℕ) (c : Conf) (w : Halt) → handle h c ≡ Stops w → Stuck ≡ w) (given : ℕ → ℕ) where
+    (parts : (h : ℕ) (c t : Conf) → handle h c ≡ Goes t → record c { place = a.part h; back = Some (c.place + 1) } ≡ t) (no_end : (h : ℕ) (c : Conf) (w : Halt) → handle h c ≡ Stops w → Stuck ≡ w) (given : ℕ → ℕ) where
   abbrev pub Bw : Watched → Violation → Type 0
   Bw w v = BV v w.marks
 

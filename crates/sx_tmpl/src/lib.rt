@@ -12,6 +12,8 @@ mod put;
 mod routines;
 mod table;
 mod templates;
+#[cfg(test)]
+mod tests;
 mod text;
 
 pub use text::emit;

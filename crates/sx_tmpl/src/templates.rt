@@ -6,8 +6,8 @@ ghost use Rattle.sx_tmpl.specs.Fits.{AreSealed, Fits, IsTable};
 ghost use Rattle.sx_tmpl.specs.Template.{copy_in_words, copy_out_words, handler_words, inside_words, key_word, load_at_words, meets_words, multiply_words, open_words, operator_words, seal_words, store_at_words, template};
 ghost use Rattle.sx_tmpl.specs.Text.{addresses, bytes_of, part_place};
 
-use crate::table::Table;
 use crate::put::put_words;
+use crate::table::Table;
 use std::alloc::AllocError as OutOfMemory;
 use sx_ir::{Code, Ir, IrOp};
 use sx_mean::offsets::{end_at, saved_at};
@@ -16,7 +16,9 @@ use sx_rules::Layout;
 fn put_product(text: &mut Vec<u8>) -> Result<(), OutOfMemory>
     ensures { OnOk result (text.new.items ≡ text.old.items ++ bytes_of multiply_words) }
 {
-    let words = [0x413c, 0x413d, 0x430e, 0x403f, 16, 0x5e0e, 0x5c0c, 0x2801, 0x5d0e, 0x831f, 0x23fa, 0x120e];
+    let words = [
+        0x413c, 0x413d, 0x430e, 0x403f, 16, 0x5e0e, 0x5c0c, 0x2801, 0x5d0e, 0x831f, 0x23fa, 0x120e,
+    ];
     put_words(text, &words)
 }
 
@@ -41,31 +43,53 @@ fn put_operator(text: &mut Vec<u8>, operator: IrOp) -> Result<(), OutOfMemory>
 fn put_load_at(text: &mut Vec<u8>, start: u16, length: u16) -> Result<(), OutOfMemory>
     ensures { OnOk result (text.new.items ≡ text.old.items ++ bytes_of (load_at_words start length)) }
 {
-    put_words(text, &[0x413c, 0x903c, length, 0x2c04, 0x5c0c, 0x121c, start, 0x3c01, 0x1203])
+    put_words(
+        text,
+        &[
+            0x413c, 0x903c, length, 0x2c04, 0x5c0c, 0x121c, start, 0x3c01, 0x1203,
+        ],
+    )
 }
 
 fn put_store_at(text: &mut Vec<u8>, start: u16, length: u16) -> Result<(), OutOfMemory>
     ensures { OnOk result (text.new.items ≡ text.old.items ++ bytes_of (store_at_words start length)) }
 {
-    put_words(text, &[0x413d, 0x413c, 0x903c, length, 0x2c03, 0x5c0c, 0x4d8c, start])
+    put_words(
+        text,
+        &[
+            0x413d, 0x413c, 0x903c, length, 0x2c03, 0x5c0c, 0x4d8c, start,
+        ],
+    )
 }
 
 /// `back` is where the caller's return address is kept, `from` and `to` bound the public section.
 fn put_inside(text: &mut Vec<u8>, back: u16, from: u16, to: u16) -> Result<(), OutOfMemory>
     ensures { OnOk result (text.new.items ≡ text.old.items ++ bytes_of (inside_words back from to)) }
 {
-    put_words(text, &[0x421c, back, 0x903c, from, 0x2804, 0x903c, to, 0x2c01, 0])
+    put_words(
+        text,
+        &[0x421c, back, 0x903c, from, 0x2804, 0x903c, to, 0x2c01, 0],
+    )
 }
 
 /// `saved` is where the caller's register is kept, `from` and `to` bound the private section.
-fn put_meets(text: &mut Vec<u8>, saved: u16, from: u16, to: u16, length: u16) -> Result<(), OutOfMemory>
+fn put_meets(
+    text: &mut Vec<u8>,
+    saved: u16,
+    from: u16,
+    to: u16,
+    length: u16,
+) -> Result<(), OutOfMemory>
     requires length { 2 ≤ length }
     requires below { from < 65535 }
     ensures { OnOk result (text.new.items ≡ text.old.items ++ bytes_of (meets_words saved from to length)) }
 {
     let past = u16::MAX - length + 2;
     let before = (from + 1).saturating_sub(length);
-    let words = [0x421c, saved, 0x903c, past, 0x2c06, 0x903c, to, 0x2c05, 0x903c, before, 0x2802, 0x1213, 0x3c01, 0x1203];
+    let words = [
+        0x421c, saved, 0x903c, past, 0x2c06, 0x903c, to, 0x2c05, 0x903c, before, 0x2802, 0x1213,
+        0x3c01, 0x1203,
+    ];
     put_words(text, &words)
 }
 
@@ -73,14 +97,24 @@ fn put_meets(text: &mut Vec<u8>, saved: u16, from: u16, to: u16, length: u16) ->
 fn put_copy_in(text: &mut Vec<u8>, window: u16, to: u16, count: u16) -> Result<(), OutOfMemory>
     ensures { OnOk result (text.new.items ≡ text.old.items ++ bytes_of (copy_in_words window to count)) }
 {
-    put_words(text, &[0x421c, window, 0x403d, to, 0x403f, count, 0x4cfd, 0, 0x531d, 0x831f, 0x23fb])
+    put_words(
+        text,
+        &[
+            0x421c, window, 0x403d, to, 0x403f, count, 0x4cfd, 0, 0x531d, 0x831f, 0x23fb,
+        ],
+    )
 }
 
 /// `window` is where the caller's out-window is kept, and `from` where the bytes are.
 fn put_copy_out(text: &mut Vec<u8>, window: u16, from: u16, count: u16) -> Result<(), OutOfMemory>
     ensures { OnOk result (text.new.items ≡ text.old.items ++ bytes_of (copy_out_words window from count)) }
 {
-    put_words(text, &[0x413c, 0x521c, window, 0x403d, from, 0x403f, count, 0x4dfc, 0, 0x531c, 0x831f, 0x23fb])
+    put_words(
+        text,
+        &[
+            0x413c, 0x521c, window, 0x403d, from, 0x403f, count, 0x4dfc, 0, 0x531c, 0x831f, 0x23fb,
+        ],
+    )
 }
 
 /// `next` is the address of the next operation, `part` that of the handler's part.
@@ -88,7 +122,10 @@ fn put_handler(text: &mut Vec<u8>, base: u16, next: u16, part: u16) -> Result<()
     requires { base + 104 < 65536 }
     ensures { OnOk result (text.new.items ≡ text.old.items ++ bytes_of (handler_words base next part)) }
 {
-    put_words(text, &[0x4382, base + 4, 0x40b2, next, base + 104, 0x4030, part])
+    put_words(
+        text,
+        &[0x4382, base + 4, 0x40b2, next, base + 104, 0x4030, part],
+    )
 }
 
 /// The first place of a handler's part.
@@ -125,9 +162,22 @@ fn put_seal(
     let cipher = header + u16::from(header_length);
     let tag = cipher + u16::from(length);
     let words = [
-        0x4039, key_address(base, key), 0x403a, base + header, 0x403b, u16::from(header_length),
-        0x403c, base + body, 0x403d, u16::from(length), 0x403e, base + cipher, 0x403f, base + tag,
-        0x1384, 0x4309,
+        0x4039,
+        key_address(base, key),
+        0x403a,
+        base + header,
+        0x403b,
+        u16::from(header_length),
+        0x403c,
+        base + body,
+        0x403d,
+        u16::from(length),
+        0x403e,
+        base + cipher,
+        0x403f,
+        base + tag,
+        0x1384,
+        0x4309,
     ];
     put_words(text, &words)
 }
@@ -148,9 +198,22 @@ fn put_open(
     let cipher = header + u16::from(header_length);
     let tag = cipher + u16::from(length);
     let words = [
-        0x4039, key_address(base, key), 0x403a, base + header, 0x403b, u16::from(header_length),
-        0x403c, base + cipher, 0x403d, u16::from(length), 0x403e, base + body, 0x403f, base + tag,
-        0x1385, 0x120f,
+        0x4039,
+        key_address(base, key),
+        0x403a,
+        base + header,
+        0x403b,
+        u16::from(header_length),
+        0x403c,
+        base + cipher,
+        0x403d,
+        u16::from(length),
+        0x403e,
+        base + body,
+        0x403f,
+        base + tag,
+        0x1385,
+        0x120f,
     ];
     put_words(text, &words)
 }
@@ -205,19 +268,53 @@ pub fn put_operation(
         Ir::LoadAt(offset, length) => put_load_at(text, base + offset, length),
         Ir::StoreAt(offset, length) => put_store_at(text, base + offset, length),
         Ir::Op(operator) => put_operator(text, operator),
-        Ir::Jump(to) => put_words(text, &[0x4030, place_address(table, code, layout, usize::from(to))]),
-        Ir::JumpZero(to) => put_words(text, &[0x413c, 0x930c, 0x2002, 0x4030, place_address(table, code, layout, usize::from(to))]),
+        Ir::Jump(to) => put_words(
+            text,
+            &[0x4030, place_address(table, code, layout, usize::from(to))],
+        ),
+        Ir::JumpZero(to) => put_words(
+            text,
+            &[
+                0x413c,
+                0x930c,
+                0x2002,
+                0x4030,
+                place_address(table, code, layout, usize::from(to)),
+            ],
+        ),
         Ir::Packet(end) => put_words(text, &[0x12b0, packet_address(table, code, layout, end)]),
         Ir::Drop => put_words(text, &[0x5321]),
         Ir::Emit => put_words(text, &[0x41b2, base]),
         Ir::Stop => put_words(text, &[0x4210, base + 104]),
         Ir::Saved(register) => put_words(text, &[0x1212, base + saved_at(register)]),
         Ir::Inside => put_inside(text, base + 12, layout.pub_from, layout.pub_to),
-        Ir::Meets(register, length) => put_meets(text, base + saved_at(register), base, layout.priv_to, length),
+        Ir::Meets(register, length) => put_meets(
+            text,
+            base + saved_at(register),
+            base,
+            layout.priv_to,
+            length,
+        ),
         Ir::CopyIn(count, offset) => put_copy_in(text, base + 8, base + offset, count),
         Ir::CopyOut(count, offset) => put_copy_out(text, base + 10, base + offset, count),
-        Ir::Seal(key, header, header_length, body, length) => put_seal(text, base, key, header, header_length, body, length),
-        Ir::Open(key, header, header_length, body, length) => put_open(text, base, key, header, header_length, body, length),
+        Ir::Seal(key, header, header_length, body, length) => put_seal(
+            text,
+            base,
+            key,
+            header,
+            header_length,
+            body,
+            length,
+        ),
+        Ir::Open(key, header, header_length, body, length) => put_open(
+            text,
+            base,
+            key,
+            header,
+            header_length,
+            body,
+            length,
+        ),
         Ir::SetEnd(end) => put_words(text, &[0x403c, base + end_at(end), 0x12b0, exit + 34]),
         Ir::Sense => put_words(text, &[0x1212, base]),
         Ir::Handler(handler) => {

@@ -9,17 +9,22 @@ ghost use Rattle.sx_tmpl.specs.Fits.{Fits, IsTable};
 ghost use Rattle.sx_tmpl.specs.Performs.{DoesCode, HasRoom};
 ghost use Rattle.sx_tmpl.specs.Text.{addresses, bytes_of, packet_words, packet_words_of, text_words, words_of};
 
-use crate::routines::{put_entry, put_exit, put_routine, put_slots};
-use crate::table::{has_routine, Table};
-use crate::templates::put_operation;
 use crate::put::put_words;
+use crate::routines::{put_entry, put_exit, put_routine, put_slots};
+use crate::table::{Table, has_routine};
+use crate::templates::put_operation;
 use std::alloc::{AllocError as OutOfMemory, Global};
 use sx_ir::Code;
 use sx_rules::Layout;
 use sx_tag::Tag;
 
 #[tactic(auto, using(crate::proofs::TextTurns::turn))]
-fn put_operations(text: &mut Vec<u8>, code: &Code, layout: &Layout, table: &Table) -> Result<(), OutOfMemory>
+fn put_operations(
+    text: &mut Vec<u8>,
+    code: &Code,
+    layout: &Layout,
+    table: &Table,
+) -> Result<(), OutOfMemory>
     requires table { IsTable layout.now code.now table.now }
     requires fits { (p : ℕ) (i : Ir) → slice_get code.now.ops.items p ≡ Some i → Fits layout.now code.now i }
     ensures { OnOk result (text.new.items ≡ text.old.items ++ bytes_of (words_of layout.now (addresses layout.now code.now) 0 code.now.ops.items)) }
@@ -37,7 +42,11 @@ fn put_packet(text: &mut Vec<u8>, code: &Code, base: u16, end: u16) -> Result<()
     requires base { base + 512 < 65536 }
     ensures { OnOk result (text.new.items ≡ text.old.items ++ bytes_of (packet_words_of base code.now.ops.items end)) }
 {
-    if has_routine(&code.ops, end) { put_routine(text, base, end as u8) } else { Ok(()) }
+    if has_routine(&code.ops, end) {
+        put_routine(text, base, end as u8)
+    } else {
+        Ok(())
+    }
 }
 
 /// Appends the packet routines.
@@ -54,7 +63,12 @@ fn put_packets(text: &mut Vec<u8>, code: &Code, base: u16) -> Result<(), OutOfMe
 }
 
 /// Appends the text of a code in a section of this layout.
-fn put_text(text: &mut Vec<u8>, code: &Code, layout: &Layout, table: &Table) -> Result<(), OutOfMemory>
+fn put_text(
+    text: &mut Vec<u8>,
+    code: &Code,
+    layout: &Layout,
+    table: &Table,
+) -> Result<(), OutOfMemory>
     requires table { IsTable layout.now code.now table.now }
     requires base { layout.now.priv_from + 512 < 65536 }
     requires fits { (p : ℕ) (i : Ir) → slice_get code.now.ops.items p ≡ Some i → Fits layout.now code.now i }

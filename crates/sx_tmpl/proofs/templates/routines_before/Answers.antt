@@ -19,5 +19,5 @@ pub returns-clause-below : goal.returns-clause-below
 returns-clause-below c =
     let byte : c.args.end < 256 = omega (arith, c.ranges.end.fits) in
     let count : c.preceding.result ≡ routines c.args.code.now.ops.items c.args.end =
-        c.preceding.ensures ∙ ap (slice_index c.args.table.now.routines.items) c.from.ensures ∙ c.requires.table.counts.each c.args.end byte in
+    c.preceding.ensures ∙ ap (slice_index c.args.table.now.routines.items) c.from.ensures ∙ c.requires.table.counts.each c.args.end byte in
     before_below c.args.layout.now c.args.code.now c.args.table.now c.args.end c.preceding.result c.requires.table byte count
