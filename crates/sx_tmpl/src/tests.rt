@@ -27,6 +27,6 @@ fn a_comparison(rt: HostRuntime) -> Result<(), Fail> {
     assert!(rt; sound(&code, &layout));
     let text = emit(rt.alloc(), &Weak, &code, &layout)?;
     assert_eq!(rt; text.len(), 152);
-    assert_eq!(rt; &text[24..52], &COMPARISON);
+    assert_eq!(rt; &text[24..52], COMPARISON.as_slice());
     Ok(())
 }
