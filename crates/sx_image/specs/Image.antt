@@ -26,6 +26,7 @@ pub record Image : Type 0 where
 abbrev pub private_bytes : Layout → List ℕ → List ℕ
 private_bytes l mem = bytes_from mem l.priv_from (l.priv_to - l.priv_from)
 
+-- the bytes of its text
 abbrev pub public_bytes : Layout → List ℕ → List ℕ
 public_bytes l mem = bytes_from mem l.pub_from (l.pub_to - l.pub_from)
 
@@ -44,9 +45,11 @@ pub record Enters (tree : ModuleTree) (image : Image) (section : Section) (n : S
   pub stands : Stands image section n
   pub devices : HasDevices n.devices (declared_kind tree.decls) image.layout
 
+-- what is constant while a module runs on this node
 abbrev pub setup_at : Mac → ModuleTree → List End → Section → State → Setup
 setup_at mac tree ends section n = record { mac = mac; section = section; live = n.sections.live; tree = tree; ends = ends }
 
+-- what the caller asks, in R12 to R15
 abbrev pub call_at : State → Call
 call_at n = record { entry = slice_index n.regs 12; input = slice_index n.regs 13; output = slice_index n.regs 14; back = slice_index n.regs 15 }
 

@@ -19,10 +19,12 @@ marks_of_touch touch.Quiet = []
 marks_of_touch (touch.DeviceRead device v) = Sampled device v ∷ []
 marks_of_touch (touch.DeviceWrite device v) = Actuated device v ∷ []
 
+-- the marks of touches, in order
 abbrev pub marks_of_touches : List Touch → List Mark
 marks_of_touches [] = []
 marks_of_touches (t ∷ ts) = marks_of_touch t ++ marks_of_touches ts
 
+-- the mark of an event: a wrap or an unwrap, with the exchange after it
 abbrev pub marks_of_event : Event → Exchange → List Mark
 marks_of_event event.Quiet x = []
 marks_of_event (event.Reset v) x = []
@@ -42,6 +44,7 @@ pub record Watched : Type 0 where
   pub marks : List Mark
   pub event : Event
 
+-- the violation of an event
 abbrev pub violation_of : Event → Option Violation
 violation_of event.Quiet = None
 violation_of (event.Reset v) = Some v
@@ -51,6 +54,7 @@ violation_of (event.Wrapped id) = None
 violation_of (event.Unwrapped id) = None
 violation_of (event.Left id) = None
 
+-- what the step shows is added, or its violation ends the run
 abbrev pub watched_on : Watched → Shows Seen → Option Violation → Stepped Watched Violation
 watched_on c x None = Goes (record { node = x.state; marks = c.marks ++ marks_of x.shown x.state.exchange; event = x.shown.event })
 watched_on c x (Some v) = Stops v

@@ -112,12 +112,12 @@ keyed_twice : outcome (invoke setup (call 0) (record (first (set_key_packet head
 unfolding invoke entered read_byte read_bytes may own unwrapped crypt wrap_tag weak
 keyed_twice = refl
 
--- an event: closed 5, then open 1, then again 6
+-- an event: closed 5, then open 1, with no packet of the closed sending end, then again 6
 event_closed : outcome (invoke setup (call 2) (first (event_of 0 5))) ≡ Some 5
 unfolding invoke entered read_byte read_bytes may own unwrapped crypt wrap_tag weak
 event_closed = refl
 
-event_once : outcome (invoke setup (call 2) (record (first (event_of 0 5)) { state = opened.state })) ≡ Some 1
+event_once : counts (invoke setup (call 2) (record (first (event_of 0 5)) { state = opened.state })) ≡ 1 ∷ 0 ∷ 1 ∷ []
 unfolding invoke entered read_byte read_bytes may own unwrapped crypt wrap_tag weak handled with_packet
 event_once = refl
 

@@ -19,15 +19,17 @@ use Rattle.sx_invoke.specs.Progress.{Progress, Course, Going, Broken, and_on}
 
 -- Pieces. The k-th packet stands at offset 24 k of the out-window.
 
+-- a copy to the out-window that was made, or was refused
 abbrev pub copied_to : Result (List ℕ) Violation → Progress → Course
 copied_to (Ok mem) p = Going (record p { mem = mem })
 copied_to (Err v) p = Broken v p
 
--- a piece is made, and then copied to its place
+-- a piece is made, and then copied to its offset
 abbrev pub with_piece : Setup → Call → List ℕ → Progress → Course
 with_piece s c piece p =
     copied_to (write_bytes s p.devices p.mem (c.output + 24 * length p.pieces) piece) (record p { pieces = p.pieces ++ piece ∷ [] })
 
+-- an event packet's header: its kind, the connection field and the number
 abbrev pub event_header : EndState → List ℕ
 event_header e = 3 ∷ 0 ∷ two e.field ++ two e.number
 
@@ -38,6 +40,7 @@ counted k e v p = record p {
   marks = p.marks ++ Wrapped (event_header e) (two v) false ∷ [];
 }
 
+-- the packet: its header, and the cipher and tag of the value
 abbrev pub event_packet : Setup → EndState → ℕ → List ℕ
 event_packet s e v =
     let w = wrapped s.mac e.key (event_header e) (two v) in
@@ -66,14 +69,17 @@ with_packets s c output v k (e ∷ es) p =
 abbrev pub own_window : Setup → List Window → Option (ℕ × Window)
 own_window s devices = device_of devices s.section.layout.priv_from
 
+-- a write to the actuator, of a module that drives one
 abbrev pub actuated : ℕ → Option (ℕ × Window) → Progress → Progress
 actuated v None p = p
 actuated v (Some d) p = record p { marks = p.marks ++ Actuated d.0 v ∷ [] }
 
+-- one act
 abbrev pub with_act : Setup → Call → Act → Progress → Course
 with_act s c (Send output v) p = with_packets s c output v 0 s.ends p
 with_act s c (Emit v) p = Going (actuated v (own_window s p.devices) p)
 
+-- acts one after the other, up to a violation
 abbrev pub with_acts : Setup → Call → List Act → Progress → Course
 with_acts s c [] p = Going p
 with_acts s c (a ∷ acts) p = and_on (with_act s c a p) (with_acts s c acts)

@@ -18,16 +18,18 @@ use Rattle.sx_invoke.specs.Acts.{with_piece, own_window, handled}
 
 -- Which end a packet is for.
 
+-- the sides are the same
 abbrev pub has_side : Side → Side → Bool
 has_side From From = true
 has_side From To = false
 has_side To From = false
 has_side To To = true
 
+-- the end is of this connection and side
 abbrev pub end_is : ℕ → Side → End → Bool
 end_is link side e = (e.link == link) && has_side side e.side
 
--- the first such end from the k-th on, with its place
+-- the first such end from the k-th on, with its index
 abbrev pub end_found : ℕ → Side → ℕ → List End → Option (ℕ × End)
 end_found link side k [] = None
 end_found link side k (e ∷ es) = if end_is link side e then Some (k, e) else end_found link side (k + 1) es
@@ -38,6 +40,7 @@ side_of zero = Some From
 side_of (suc zero) = Some To
 side_of (suc (suc n)) = None
 
+-- the end of this connection on the side, where it is one
 abbrev pub end_on : ℕ → List End → Option Side → Option (ℕ × End)
 end_on link ends None = None
 end_on link ends (Some side) = end_found link side 0 ends
@@ -46,21 +49,26 @@ end_on link ends (Some side) = end_found link side 0 ends
 abbrev pub field_in : List ℕ → ℕ
 field_in packet = word packet 2
 
+-- the end field of a set-key packet, the number of an event packet
 abbrev pub second_in : List ℕ → ℕ
 second_in packet = word packet 4
 
+-- the first 6 bytes
 abbrev pub header_in : List ℕ → List ℕ
 header_in packet = take 6 packet
 
--- 4 and 5: a packet is copied from the in-window, and its first two bytes tell its kind
+-- Steps 4 and 5: a packet is copied from the in-window, and its first two bytes tell its kind
 
+-- the packet begins with its kind and 0
 abbrev pub is_kind : ℕ → List ℕ → Bool
 is_kind kind packet = (slice_index packet 0 == kind) && (slice_index packet 1 == 0)
 
+-- step 5: a packet of the kind goes on, another gives status 4
 abbrev pub received : Result (List ℕ) Violation → ℕ → (List ℕ → Invoked) → Progress → Invoked
 received (Err v) kind rest p = Violates v p
 received (Ok packet) kind rest p = if is_kind kind packet then rest packet else Returns 4 p
 
+-- steps 4 and 5
 abbrev pub with_received : Setup → Call → ℕ → ℕ → Progress → (List ℕ → Invoked) → Invoked
 with_received s c n kind p rest = received (read_bytes s p.devices p.mem c.input n) kind rest p
 
@@ -70,55 +78,58 @@ with_received s c n kind p rest = received (read_bytes s p.devices p.mem c.input
 abbrev pub is_keyed : EndState → ℕ → Bool
 is_keyed e field = e.is_open && not (nat_lt (epoch_of e.field) (epoch_of field))
 
--- 10: the end is open with that key and field, and its next number is 0
+-- step 10: the end is open with that key and field, and its next number is 0
 abbrev pub keyed : ℕ → List ℕ → List ℕ → Progress → Progress
 keyed k packet key p = record p {
   state = record p.state { ends = with_end p.state.ends k (record { is_open = true; field = field_in packet; number = 0; key = key }) };
   marks = p.marks ++ Unwrapped (header_in packet) key true ∷ [];
 }
 
--- 8: the tag
+-- step 8: the tag
 abbrev pub key_opened : ℕ → List ℕ → Option (List ℕ) → Progress → Invoked
 key_opened k packet None p = Returns 7 p
 key_opened k packet (Some body) p = Returns 1 (keyed k packet (take 16 body) p)
 
--- 6: the end
+-- step 6: the end
 abbrev pub set_key_at : Setup → List ℕ → Option (ℕ × End) → Progress → Invoked
 set_key_at s packet None p = Returns 5 p
 set_key_at s packet (Some e) p =
     if is_keyed (end_of p.state.ends e.0) (field_in packet) then Returns 5 p
     else key_opened e.0 packet (unwrapped s.mac s.section.key (header_in packet) (take 16 (drop 6 packet)) (drop 22 packet)) p
 
+-- steps 6 to 10 of entry 0
 abbrev pub set_key : Setup → List ℕ → Progress → Invoked
 set_key s packet p = set_key_at s packet (end_on (link_of (field_in packet)) s.ends (side_of (second_in packet))) p
 
 -- Entry 1, attest: the answer is the tag of the ask as header and an empty body.
 
+-- step 10 of entry 1: a wrap and one piece
 abbrev pub attest : Setup → Call → List ℕ → Progress → Invoked
 attest s c ask p =
     finished (with_piece s c (wrapped s.mac s.section.key ask []).tag (record p { marks = p.marks ++ Wrapped ask [] true ∷ [] }))
 
 -- Entry 2, input.
 
+-- the number is taken: the next one is above it
 abbrev pub taken : ℕ → List ℕ → List ℕ → EndState → Progress → Progress
 taken k packet value e p = record p {
   state = record p.state { ends = with_end p.state.ends k (record e { number = second_in packet + 1 }) };
   marks = p.marks ++ Unwrapped (header_in packet) value false ∷ [];
 }
 
--- 8 and 10: the tag, the next number, and the handler
+-- steps 8 and 10: the tag, the next number, and the handler
 abbrev pub event_opened : Setup → Call → ℕ × End → List ℕ → Option (List ℕ) → Progress → Invoked
 event_opened s c e packet None p = Returns 7 p
 event_opened s c e packet (Some body) p =
     finished (handled s c (event.Input e.1.port (word body 0)) (taken e.0 packet (take 2 body) (end_of p.state.ends e.0) p))
 
--- 7: the number
+-- step 7: the number
 abbrev pub event_numbered : Setup → Call → ℕ × End → List ℕ → EndState → Progress → Invoked
 event_numbered s c e packet state p =
     if nat_lt (second_in packet) state.number || (second_in packet == 65535) then Returns 6 p
     else event_opened s c e packet (unwrapped s.mac state.key (header_in packet) (take 2 (drop 6 packet)) (drop 8 packet)) p
 
--- 6: the end
+-- step 6: the end
 abbrev pub input_at : Setup → Call → List ℕ → Option (ℕ × End) → Progress → Invoked
 input_at s c packet None p = Returns 5 p
 input_at s c packet (Some e) p =
@@ -126,19 +137,22 @@ input_at s c packet (Some e) p =
     if not state.is_open || not (epoch_of state.field == epoch_of (field_in packet)) then Returns 5 p
     else event_numbered s c e packet state p
 
+-- steps 6 to 10 of entry 2
 abbrev pub input : Setup → Call → List ℕ → Progress → Invoked
 input s c packet p = input_at s c packet (end_found (link_of (field_in packet)) To 0 s.ends) p
 
 -- Entry 3, sample.
 
+-- the sample is read: the sensor is no longer fresh
 abbrev pub sampled : ℕ × Window → Progress → Progress
 sampled d p = record p { devices = cleared p.devices d.0; marks = p.marks ++ Sampled d.0 d.1.value ∷ [] }
 
--- 9 and 10: the sensor is fresh, and the handler runs with its value
+-- steps 9 and 10: the sensor is fresh, and the handler runs with its value
 abbrev pub sample_of : Setup → Call → Option (ℕ × Window) → Progress → Invoked
 sample_of s c None p = Returns 8 p
 sample_of s c (Some d) p =
     if d.1.fresh then finished (handled s c (event.Sample d.1.value) (sampled d p)) else Returns 8 p
 
+-- steps 9 and 10 of entry 3
 abbrev pub sample : Setup → Call → Progress → Invoked
 sample s c p = sample_of s c (own_window s p.devices) p

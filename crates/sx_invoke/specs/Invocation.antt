@@ -11,19 +11,21 @@ use Rattle.sx_invoke.specs.Windows.{in_window_size, out_window_size, is_bad_wind
 use Rattle.sx_invoke.specs.Progress.{Progress, Invoked, Returns, Violates}
 use Rattle.sx_invoke.specs.Entries.{with_received, set_key, attest, input, sample}
 
--- 1, 2 and 3: the return address, the entry, and the windows
-
+-- step 1: the return address without bit 0 lies in the public section
 abbrev pub returns_inside : Setup → Call → Bool
 returns_inside s c = in_public s.section (even c.back)
 
+-- the module drives a sensor
 abbrev pub is_sensor_driver : Option DeviceKind → Bool
 is_sensor_driver None = false
 is_sensor_driver (Some Sensor) = true
 is_sensor_driver (Some Actuator) = false
 
+-- step 2: there is no such entry
 abbrev pub is_no_entry : Setup → Call → Bool
 is_no_entry s c = nat_lt 3 c.entry || ((c.entry == 3) && not (is_sensor_driver (declared_kind s.tree.decls)))
 
+-- step 3: one of the windows is bad
 abbrev pub has_bad_windows : Setup → Call → Bool
 has_bad_windows s c = is_bad_window s c.input in_window_size || is_bad_window s c.output out_window_size
 

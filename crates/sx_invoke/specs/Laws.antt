@@ -6,12 +6,14 @@ use Rattle.sx_invoke.specs.Marks.{Mark, Wrapped, Unwrapped, Sampled, Actuated, m
 use Rattle.sx_invoke.specs.Progress.{Progress, marks_in, pieces_in, bytes_in}
 use Rattle.sx_invoke.specs.Invocation.{invoke}
 
+-- the mark is an unwrap
 abbrev pub is_unwrap : Mark → Bool
 is_unwrap (Wrapped header body own) = false
 is_unwrap (Unwrapped header body own) = true
 is_unwrap (Sampled device v) = false
 is_unwrap (Actuated device v) = false
 
+-- none of the marks is an unwrap
 abbrev pub NoUnwrap : List Mark → Type 0
 NoUnwrap [] = Unit {0}
 NoUnwrap (m ∷ ms) = (is_unwrap m ≡ false) × NoUnwrap ms

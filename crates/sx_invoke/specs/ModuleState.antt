@@ -19,25 +19,30 @@ pub record ModuleState : Type 0 where
   pub cells : List ℕ
   pub ends : List EndState
 
+-- the epoch in a connection field, and the number of the connection
 abbrev pub epoch_of : ℕ → ℕ
 epoch_of field = field / 256
 
 abbrev pub link_of : ℕ → ℕ
 link_of field = field % 256
 
+-- an end that was never opened
 abbrev pub closed : EndState
 closed = record { is_open = false; field = 0; number = 0; key = replicate 16 0 }
 
+-- the k-th end's state
 abbrev pub end_of : List EndState → ℕ → EndState
 end_of [] k = closed
 end_of (e ∷ es) zero = e
 end_of (e ∷ es) (suc k) = end_of es k
 
+-- the k-th end's state is this
 abbrev pub with_end : List EndState → ℕ → EndState → List EndState
 with_end [] k new = []
 with_end (e ∷ es) zero new = new ∷ es
 with_end (e ∷ es) (suc k) new = e ∷ with_end es k new
 
+-- all ends closed
 abbrev pub initial_ends : List End → List EndState
 initial_ends [] = []
 initial_ends (e ∷ es) = closed ∷ initial_ends es
@@ -55,6 +60,7 @@ end_state priv k = record {
   key = bytes_from priv (end_key_at k) 16;
 }
 
+-- the states of ends in their slots, from the k-th on
 abbrev pub end_states : List ℕ → ℕ → List End → List EndState
 end_states priv k [] = []
 end_states priv k (e ∷ es) = end_state priv k ∷ end_states priv (k + 1) es

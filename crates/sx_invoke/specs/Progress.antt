@@ -24,18 +24,22 @@ pub data Course : Type 0 where
   Going : Progress → Course
   Broken : Violation → Progress → Course
 
+-- the rest, where the first part goes on
 abbrev pub and_on : Course → (Progress → Course) → Course
 and_on (Going p) rest = rest p
 and_on (Broken v p) rest = Broken v p
 
+-- a whole course: status 1 or its violation
 abbrev pub finished : Course → Invoked
 finished (Going p) = Returns 1 p
 finished (Broken v p) = Violates v p
 
+-- the marks until the end
 abbrev pub marks_in : Invoked → List Mark
 marks_in (Returns status p) = p.marks
 marks_in (Violates v p) = p.marks
 
+-- the pieces made until the end
 abbrev pub pieces_in : Invoked → List (List ℕ)
 pieces_in (Returns status p) = p.pieces
 pieces_in (Violates v p) = p.pieces

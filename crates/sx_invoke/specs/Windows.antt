@@ -24,6 +24,7 @@ is_bad_window s at n = passes_end at n || meets at n s.section.layout.priv_from 
 abbrev pub two : ℕ → List ℕ
 two v = v % 256 ∷ v / 256 ∷ []
 
+-- no byte of a device's word is read or written
 abbrev pub unless_device : {T : Type 0} → Option ℕ → T → Result T Violation
 unless_device None x = Ok x
 unless_device (Some device) x = Err bad.Device
@@ -33,10 +34,12 @@ unfoldable pub read_byte : Setup → List Window → List ℕ → ℕ → Result
 read_byte s devices mem at =
     if may s.live s.section.id Read at then unless_device (device_at devices at) (slice_index mem at) else Err bad.Read
 
+-- the same of a write
 unfoldable pub write_byte : Setup → List Window → List ℕ → ℕ → ℕ → Result (List ℕ) Violation
 write_byte s devices mem at b =
     if may s.live s.section.id Write at then unless_device (device_at devices at) (slice_set mem at b) else Err bad.Write
 
+-- the rest, where the first byte was allowed
 abbrev pub then_ : {A B : Type 0} → Result A Violation → (A → Result B Violation) → Result B Violation
 then_ (Ok a) f = f a
 then_ (Err v) f = Err v

@@ -5,6 +5,7 @@ use Rattle.sx_ir.specs.declared.ir.IrOp.TheVariants as op
 use Rattle.sx_ir.specs.declared.ir.Ir.{Ir}
 use Rattle.sx_ir.specs.declared.ir.Ir.TheVariants as ir
 
+-- of an operation on words
 abbrev pub operator_count : IrOp → ℕ
 operator_count op.Add = 8
 operator_count op.Sub = 8
@@ -18,6 +19,7 @@ operator_count op.Neg = 8
 operator_count op.Inv = 8
 operator_count op.Not = 8
 
+-- of an operation
 abbrev pub count_of : Ir → ℕ
 count_of (ir.Push n) = 8
 count_of (ir.Load o) = 8

@@ -27,9 +27,11 @@ use Rattle.sx_ir.specs.declared.ir.IrOp.TheVariants as op
 use Rattle.sx_ir.specs.declared.ir.Ir.{Ir}
 use Rattle.sx_ir.specs.declared.ir.Ir.TheVariants as ir
 
+-- what an operation leads to
 abbrev pub After : Type 0
 After = Stepped Conf Halt
 
+-- an operation without meaning
 abbrev pub stuck : After
 stuck = Stops Stuck
 
@@ -37,10 +39,12 @@ stuck = Stops Stuck
 abbrev pub next : Conf → List ℕ → Conf
 next c stack = record c { place = c.place + 1; stack = stack }
 
+-- takes the top word, where there is one
 abbrev pub on_top : List ℕ → (ℕ → List ℕ → After) → After
 on_top [] go = stuck
 on_top (x ∷ rest) go = go x rest
 
+-- only where this holds
 abbrev pub when : Bool → After → After
 when b go = if b then go else stuck
 
@@ -73,15 +77,19 @@ with_element priv o n i v = if nat_lt i n then put_word priv (o + 2 * i) v else 
 abbrev pub saved : Conf → ℕ → ℕ
 saved c r = word c.priv (offsets.saved_at r)
 
+-- the count of pieces
 abbrev pub pieces : Conf → ℕ
 pieces c = word c.priv offsets.pieces_at
 
+-- the in-window is one that a caller may give
 abbrev pub has_in_window : Setup → Conf → Bool
 has_in_window s c = not (is_bad_window s (saved c 13) in_window_size)
 
+-- the out-window is one that a caller may give
 abbrev pub has_out_window : Setup → Conf → Bool
 has_out_window s c = not (is_bad_window s (saved c 14) out_window_size)
 
+-- a copy to the out-window that was made, or was refused
 abbrev pub copied_out : Result (List ℕ) Violation → Conf → (List ℕ → Conf) → After
 copied_out (Ok mem) c after = Goes (after mem)
 copied_out (Err v) c after = Stops (Violates v c.marks)
@@ -93,6 +101,7 @@ packed c k e mem = record (next c c.stack) {
   mem = mem;
 }
 
+-- the wrap of an event has made its mark
 abbrev pub sealed_event : Conf → EndState → ℕ → Conf
 sealed_event c e v = record c { marks = c.marks ++ mark.Wrapped (event_header e) (two v) false ∷ [] }
 
@@ -101,37 +110,45 @@ sealed_event c e v = record c { marks = c.marks ++ mark.Wrapped (event_header e)
 abbrev pub has_packet_room : Conf → Bool
 has_packet_room c = nat_le (24 * pieces c + 24) out_window_size && nat_le (24 * pieces c) (made c.marks)
 
+-- a packet of an open end
 abbrev pub send_open : Setup → Conf → ℕ → ℕ → EndState → After
 send_open s c k v e =
     when (has_packet_room c)
     (copied_out (write_bytes s c.devices c.mem (saved c 14 + 24 * pieces c) (event_packet s e v)) (sealed_event c e v) (packed (sealed_event c e v) k e))
 
+-- a packet, where the end is open and its number below 65,535
 abbrev pub send : Setup → Conf → ℕ → ℕ → EndState → After
 send s c k v e =
     when (has_out_window s c) (if e.is_open && nat_lt e.number 65535 then send_open s c k v e else Goes (next c c.stack))
 
+-- a write to an actuator
 abbrev pub emitted : Conf → ℕ → List ℕ → Kind → ℕ → After
 emitted c v rest kind.Actuator device = Goes (record (next c rest) { marks = c.marks ++ mark.Actuated device v ∷ [] })
 emitted c v rest kind.Sensor device = stuck
 
+-- a write to the module's device
 abbrev pub emit : Conf → ℕ → List ℕ → Option (ℕ × Window) → After
 emit c v rest None = stuck
 emit c v rest (Some d) = emitted c v rest d.1.kind d.0
 
+-- a read of a sensor: 0 where it is not fresh
 abbrev pub sensed : Conf → ℕ → Window → Kind → After
 sensed c device w kind.Sensor =
     if w.fresh then pushed (record c { devices = cleared c.devices device; marks = c.marks ++ mark.Sampled device w.value ∷ [] }) (0x8000 + w.value)
     else pushed c 0
 sensed c device w kind.Actuator = stuck
 
+-- a read of the module's device
 abbrev pub sense : Conf → Option (ℕ × Window) → After
 sense c None = stuck
 sense c (Some d) = sensed c d.0 d.1 d.1.kind
 
+-- a copy from the in-window that was made, or was refused
 abbrev pub copied_in : Conf → ℕ → Result (List ℕ) Violation → After
 copied_in c o (Ok bytes) = Goes (record (next c c.stack) { priv = put_bytes c.priv o bytes })
 copied_in c o (Err v) = Stops (Violates v c.marks)
 
+-- n bytes of the in-window to an offset
 abbrev pub copy_in : Setup → Conf → ℕ → ℕ → After
 copy_in s c n o = when (has_in_window s c && nat_le n in_window_size) (copied_in c o (read_bytes s c.devices c.mem (saved c 13) n))
 
@@ -139,6 +156,7 @@ copy_in s c n o = when (has_in_window s c && nat_le n in_window_size) (copied_in
 abbrev pub has_copy_room : Conf → ℕ → ℕ → Bool
 has_copy_room c at n = nat_le (at + n) out_window_size && nat_le (at + n) (made c.marks)
 
+-- n bytes at an offset to the out-window's offset
 abbrev pub copy_out : Setup → Conf → ℕ → ℕ → ℕ → List ℕ → After
 copy_out s c n o at rest =
     when (has_out_window s c && has_copy_room c at n)
@@ -149,23 +167,27 @@ abbrev pub key_at : Setup → Conf → ℕ → List ℕ
 key_at s c zero = s.section.key
 key_at s c (suc k) = bytes_from c.priv (suc k) 16
 
+-- a wrap leaves its cipher and tag, and its mark
 abbrev pub sealed : Conf → ℕ → ℕ → List ℕ → List ℕ → ℕ → Wrapped → After
 sealed c k to ad body n w = Goes (record (next c c.stack) {
   priv = put_bytes (put_bytes c.priv to w.cipher) (to + n) w.tag;
   marks = c.marks ++ mark.Wrapped ad body (k == 0) ∷ [];
 })
 
+-- a wrap of the body at an offset under the header at another
 abbrev pub seal : Setup → Conf → ℕ → ℕ → ℕ → ℕ → ℕ → After
 seal s c k h hn b bn =
     let ad = bytes_from c.priv h hn in
     let body = bytes_from c.priv b bn in
     sealed c k (h + hn) ad body bn (wrapped s.mac (key_at s c k) ad body)
 
+-- an unwrap that was accepted leaves its body and its mark
 abbrev pub opened : Conf → ℕ → List ℕ → ℕ → ℕ → Option (List ℕ) → After
 opened c k ad b bn None = pushed c 0
 opened c k ad b bn (Some body) =
     pushed (record c { priv = put_bytes c.priv b (take bn body); marks = c.marks ++ mark.Unwrapped ad (take bn body) (k == 0) ∷ [] }) 1
 
+-- an unwrap of the cipher and tag behind a header
 abbrev pub unseal : Setup → Conf → ℕ → ℕ → ℕ → ℕ → ℕ → After
 unseal s c k h hn b bn =
     let ad = bytes_from c.priv h hn in
@@ -176,17 +198,21 @@ abbrev pub keyed : List ℕ → ℕ → ℕ → List ℕ → List ℕ
 keyed priv k field key =
     put_bytes (put_word (put_word (put_word priv (offsets.end_at k) field) (offsets.end_number_at k) 0) (offsets.end_open_at k) 1) (offsets.end_key_at k) key
 
+-- the k-th end is opened with the copied packet's field and key
 abbrev pub set_end : Conf → ℕ → After
 set_end c k = Goes (record (next c c.stack) { priv = keyed c.priv k (word c.priv (offsets.packet_at + 2)) (bytes_from c.priv offsets.plain_at 16) })
 
+-- a handler's part ends: the run goes on where the part was begun from
 abbrev pub stop : Conf → Option ℕ → After
 stop c None = stuck
 stop c (Some p) = Goes (record c { place = p; back = None })
 
+-- a jump where the word is 0
 abbrev pub jump_zero : Conf → ℕ → ℕ → List ℕ → After
 jump_zero c p zero rest = Goes (record c { place = p; stack = rest })
 jump_zero c p (suc v) rest = Goes (next c rest)
 
+-- R12 to R15 are saved
 abbrev pub is_saved : ℕ → Bool
 is_saved r = nat_le 12 r && nat_le r 15
 
@@ -218,6 +244,7 @@ do_op s handle ir.Sense c = sense c (own_window s c.devices)
 do_op s handle (ir.Handler h) c = handle h (record c { priv = put_word c.priv offsets.pieces_at 0 })
 do_op s handle ir.Leave c = stuck
 
+-- the operation at the place, where there is one
 abbrev pub do_at : Setup → (ℕ → Conf → After) → Option Ir → Conf → After
 do_at s handle None c = stuck
 do_at s handle (Some i) c = do_op s handle i c
@@ -226,10 +253,12 @@ do_at s handle (Some i) c = do_op s handle i c
 unfoldable pub op_step : Setup → (ℕ → Conf → After) → List Ir → Conf → After
 op_step s handle code c = do_at s handle (slice_get code c.place) c
 
+-- the instructions that a given handler takes
 abbrev pub handler_count : (ℕ → ℕ) → Ir → ℕ
 handler_count given (ir.Handler h) = given h
 handler_count given i = 0
 
+-- the instructions of the operation at the place
 abbrev pub count_at : (ℕ → ℕ) → Option Ir → ℕ
 count_at given None = 0
 count_at given (Some i) = count_of i + handler_count given i
@@ -244,6 +273,7 @@ part_from [] h c = stuck
 part_from (part ∷ parts) zero c = Goes (record c { place = part.0; back = Some (c.place + 1) })
 part_from (part ∷ parts) (suc h) c = part_from parts h c
 
+-- code without handlers
 abbrev pub no_handler : ℕ → Conf → After
 no_handler h c = stuck
 

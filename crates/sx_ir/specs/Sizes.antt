@@ -52,9 +52,11 @@ abbrev pub ops_bytes : List Ir → ℕ
 ops_bytes [] = 0
 ops_bytes (i ∷ ops) = op_bytes i + ops_bytes ops
 
+-- the entry: SP and the caller's registers are kept, and the stack begins
 abbrev pub entry_bytes : ℕ
 entry_bytes = 24
 
+-- the exit: the results, all other registers 0, and the return
 abbrev pub exit_bytes : ℕ
 exit_bytes = 34
 

@@ -17,6 +17,7 @@ is_free size o n = nat_le (o + n) size && (nat_le 2 o && (nat_le (o + n) scratch
 abbrev pub may_change : ℕ → ℕ → ℕ → Bool
 may_change size o n = is_free size o n && (nat_le (o + n) 6 || nat_le 14 o)
 
+-- words stand at even offsets
 abbrev pub is_even : ℕ → Bool
 is_even o = o % 2 == 0
 
@@ -63,6 +64,7 @@ is_sound_op ops parts size ir.Leave = true
 abbrev pub is_sound_part : ℕ → ℕ × ℕ → Bool
 is_sound_part ops part = nat_lt part.0 ops && nat_le part.1 ops
 
+-- the bytes of a layout's sections
 abbrev pub public_size : Layout → ℕ
 public_size l = l.pub_to - l.pub_from
 

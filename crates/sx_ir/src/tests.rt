@@ -54,7 +54,14 @@ fn sound_code_has_room_for_its_text_and_slots(rt: HostRuntime) -> Result<(), Fai
 #[test]
 fn code_that_writes_a_saved_register_is_not_sound(rt: HostRuntime) -> Result<(), Fail> {
     let alloc = rt.alloc();
-    for (at, want) in [(4, true), (6, false), (12, false), (16, true), (102, true), (104, false)] {
+    for (at, want) in [
+        (4, true),
+        (6, false),
+        (12, false),
+        (16, true),
+        (102, true),
+        (104, false),
+    ] {
         let code = Code {
             ops: vec![in alloc; Ir::Push(1), Ir::Store(at)]?,
             parts: Vec::new(alloc),

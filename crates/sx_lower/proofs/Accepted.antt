@@ -1,5 +1,5 @@
 -- What an accepted module gives its code.
-use Rattle.std.proofs.Common.{◌≡◌, ℕ, ◌+◌, ◌*◌, ◌<◌, ◌≤◌, inl, inr, refl, List, [], ◌∷◌, length, None, arith}
+use Rattle.std.proofs.Common.{◌≡◌, ℕ, ◌*◌, ◌<◌, ◌≤◌, inl, inr, refl, List, [], ◌∷◌, length, None, arith}
 use Rattle.sx_lang.specs.Sizes.{module_nodes}
 use Rattle.sx_lang.specs.Tree.{HandlerTree, ModuleTree}
 use Rattle.sx_check.specs.Names.{locals}

@@ -38,7 +38,7 @@ use Rattle.sx_ir.specs.declared.ir.Ir.{Ir}
 use Rattle.sx_ir.specs.declared.ir.Ir.TheVariants as ir
 use Rattle.sx_lower.specs.Lowered.{block_code, handler_code, handlers_code, handlers_parts}
 use Rattle.sx_lower.proofs.Accepted.{short, light}
-use Rattle.sx_lower.specs.Lowering.{IsLowerable, Fits, Lowers, LoweredFits, LoweredReacts}
+use Rattle.sx_lower.specs.Lowering.{IsLowerable, Lowers, LoweredFits, LoweredReacts}
 use Rattle.sx_lower.proofs.Bytes.{word_small}
 use Rattle.sx_lower.proofs.Holds.{Holds, holds_define}
 use Rattle.sx_lower.proofs.Run.{HasAt, has_front, has_back, has_all, at, do_one, weaker, to, room, Comes_to}

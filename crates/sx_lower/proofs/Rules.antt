@@ -1,5 +1,5 @@
 -- What an accepted module gives its handlers' code.
-use Rattle.std.proofs.Common.{◌≡◌, ℕ, ◌+◌, ◌<◌, ◌≤◌, inl, inr, true, List, [], ◌∷◌, length, None, ap, sym, subst, arith}
+use Rattle.std.proofs.Common.{◌≡◌, ℕ, ◌+◌, ◌<◌, ◌≤◌, inl, inr, true, List, [], ◌∷◌, length, None, subst, arith}
 use Rattle.std.specs.List.{list_any}
 use Rattle.sx_lang.specs.Tree.{HandlerTree, ModuleTree}
 use Rattle.sx_lang.specs.Words.{TreeHasWords}

@@ -54,6 +54,7 @@ IsHandlerOp ends ir.Emit = Unit {0}
 IsHandlerOp ends ir.Stop = Unit {0}
 IsHandlerOp ends i = ⊥
 
+-- all operations are those of handlers' parts
 abbrev pub AreHandlerOps : List End → List Ir → Type 0
 AreHandlerOps ends [] = Unit {0}
 AreHandlerOps ends (i ∷ ops) = IsHandlerOp ends i × AreHandlerOps ends ops
