@@ -1,0 +1,123 @@
+-- The acts that a schedule is made of: one instruction of a node, or one thing that is done from outside.
+use Rattle.std.specs.Prelude.{ℕ, ◌+◌, if◌then◌else◌, List, [], ◌∷◌, ◌++◌, length, slice_get, slice_set, Option, Some, None, Result, Ok, Err}
+use Rattle.sx_mean.specs.declared.events.End.{End}
+use Rattle.sx_trace.specs.declared.items.Item.{Item}
+use Rattle.sx_trace.specs.declared.items.Item.TheVariants as item
+use Rattle.sx_ledger.specs.declared.entry.Maker.TheVariants as maker
+use Rattle.sx_machine.specs.declared.kinds.Refused.{Refused}
+use Rattle.sx_machine.specs.declared.kinds.Refused.TheVariants.{Busy, Guarded, Masked}
+use Rattle.sx_machine.specs.declared.kinds.Seen.{Seen}
+use Rattle.sx_machine.specs.State.{State}
+use Rattle.sx_machine.specs.Step.{Shows, own_of, step}
+use Rattle.sx_machine.specs.Acts.{set}
+use Rattle.sx_mean.specs.Ends.{ends_of}
+use Rattle.sx_world.specs.Setting.{Site, Setting, module_of}
+use Rattle.sx_world.specs.Ledger.{Made, NO_TARGET, made, is_made}
+use Rattle.sx_world.specs.Deployer.{DeployerState, Grant, asked, accepts, accepted, set_key, set_key_entry, grants_after}
+use Rattle.sx_world.specs.Wire.{ask_packet}
+use Rattle.sx_world.specs.State.{World, Acted}
+use Rattle.sx_world.specs.Observation.{observed, unless_made}
+
+-- nothing happens but the items
+abbrev pub only : World → List Item → Acted
+only w items = record { world = w; items = items }
+
+-- one act, and what follows it
+abbrev pub then_ : Acted → (World → Acted) → Acted
+then_ a rest = record { world = (rest a.world).world; items = a.items ++ (rest a.world).items }
+
+abbrev pub with_node : World → ℕ → State → List Made → ℕ → World
+with_node w n s ledger steps = record { nodes = slice_set w.nodes n s; packets = w.packets; deployer = w.deployer; ledger = ledger; lines = w.lines; steps = steps }
+
+-- where there is such a node
+abbrev pub at_node : World → (State → Acted) → Option State → Acted
+at_node w act None = only w []
+at_node w act (Some s) = act s
+
+-- one instruction of a node
+abbrev pub stepped : Setting → World → ℕ → State → Acted
+stepped set w n s =
+    let r = step set.mac s in
+    let o = observed set n (module_of set.sites n s (own_of s)) r.state r.shown w.ledger in
+    record { world = with_node w n r.state o.ledger (w.steps + 1); items = o.items }
+
+abbrev pub refused_item : ℕ → Refused → Item
+refused_item n Busy = item.Busy n
+refused_item n Guarded = item.Skip n
+refused_item n Masked = item.Skip n
+
+-- an act on a node that answers nothing: its item where it is done, and where it is refused
+abbrev pub or_refused : ℕ → List Item → Result (Unit {0}) Refused → List Item
+or_refused n items (Ok u) = items
+or_refused n items (Err why) = refused_item n why ∷ []
+
+abbrev pub done_on : World → ℕ → List Item → Shows (Result (Unit {0}) Refused) → Acted
+done_on w n items r = record { world = with_node w n r.state w.ledger w.steps; items = or_refused n items r.shown }
+
+abbrev pub with_packet : World → List ℕ → Acted
+with_packet w bytes = record {
+  world = record { nodes = w.nodes; packets = w.packets ++ bytes ∷ []; deployer = w.deployer; ledger = w.ledger; lines = w.lines; steps = w.steps };
+  items = item.Packet (length w.packets) (length bytes) ∷ [];
+}
+
+abbrev pub took : World → ℕ → Result (List ℕ) Refused → Acted
+took w n (Ok bytes) = with_packet w bytes
+took w n (Err why) = only w (refused_item n why ∷ [])
+
+-- an interrupt is run as code outside every module
+abbrev pub interrupted : Setting → World → ℕ → State → Result Seen Refused → Acted
+interrupted set w n s (Ok seen) =
+    let o = observed set n None s seen w.ledger in
+    record { world = with_node w n s o.ledger w.steps; items = o.items }
+interrupted set w n s (Err why) = only w (refused_item n why ∷ [])
+
+abbrev pub with_deployer : World → DeployerState → List Made → World
+with_deployer w d ledger = record { nodes = w.nodes; packets = w.packets; deployer = d; ledger = ledger; lines = w.lines; steps = w.steps }
+
+-- the deployer asks a module
+abbrev pub ask : World → ℕ → Acted
+ask w m =
+    then_ (record { world = with_deployer w (asked w.deployer m) w.ledger; items = item.Ask m w.deployer.asks ∷ [] })
+    (λ v. with_packet v (ask_packet w.deployer.asks))
+
+-- one set-key packet, and its entry
+abbrev pub key_given : Setting → World → Grant → Option Site → Acted
+key_given set w g None = only w []
+key_given set w g (Some site) = with_packet (with_deployer w w.deployer (w.ledger ++ set_key_entry set g ∷ [])) (set_key set site g)
+
+abbrev pub keys_given : Setting → List Grant → World → Acted
+keys_given set [] w = only w []
+keys_given set (g ∷ gs) w = then_ (key_given set w g (slice_get set.sites g.holder)) (keys_given set gs)
+
+-- an answer to this ask is accepted from a module that was last attested at a boot, if any
+abbrev pub attested : Setting → World → ℕ → ℕ → List ℕ → Option ℕ → Acted
+attested set w m boot ask last =
+    let d = accepted set.app.links w.deployer m boot last in
+    then_ (record {
+      world = with_deployer w d w.ledger;
+      items = unless_made None (is_made w.ledger (made (maker.Module m) NO_TARGET boot ask [])) (item.Attested m boot);
+    }) (keys_given set (grants_after set.app d m boot last))
+
+abbrev pub denied : World → ℕ → Acted
+denied w m = only w (item.Denied m ∷ [])
+
+-- a module's open ask, none where there is none
+abbrev pub open_ask : Option (Option (List ℕ)) → Option (List ℕ)
+open_ask None = None
+open_ask (Some ask) = ask
+
+abbrev pub attested_at : Option (Option ℕ) → Option ℕ
+attested_at None = None
+attested_at (Some boot) = boot
+
+abbrev pub judged : Setting → World → ℕ → Site → ℕ → List ℕ → Option (List ℕ) → Acted
+judged set w m site boot answer None = denied w m
+judged set w m site boot answer (Some ask) =
+    let last = attested_at (slice_get w.deployer.attested m) in
+    if accepts set site w.deployer m boot answer (Some ask) last then attested set w m boot ask last else denied w m
+
+-- a packet is given to the deployer as a module's answer
+abbrev pub answered : Setting → World → ℕ → ℕ → Option Site → Option (List ℕ) → Acted
+answered set w m boot None packet = denied w m
+answered set w m boot (Some site) None = denied w m
+answered set w m boot (Some site) (Some answer) = judged set w m site boot answer (open_ask (slice_get w.deployer.open_asks m))

@@ -1,0 +1,32 @@
+-- Who made which header and body. An entry is there exactly where it was made.
+use Rattle.std.specs.Prelude.{ℕ, ◌==◌, ◌&&◌, Bool, true, false, List, take, bytes_eq}
+use Rattle.std.specs.List.{list_any}
+use Rattle.sx_ledger.specs.declared.entry.Maker.{Maker}
+use Rattle.sx_ledger.specs.declared.entry.Maker.TheVariants.{Deployer, Module}
+use Rattle.sx_machine.specs.declared.kinds.Exchange.{Exchange}
+pub use Rattle.sx_ledger.specs.Made.{Made, NO_TARGET}
+
+-- an entry of these
+abbrev pub made : Maker → ℕ → ℕ → List ℕ → List ℕ → Made
+made maker target boot header body = record { maker = maker; target = target; boot = boot; header = header; body = body }
+
+abbrev pub same_maker : Maker → Maker → Bool
+same_maker Deployer Deployer = true
+same_maker Deployer (Module m) = false
+same_maker (Module m) Deployer = false
+same_maker (Module m) (Module k) = m == k
+
+abbrev pub same_entry : Made → Made → Bool
+same_entry a b =
+    same_maker a.maker b.maker && ((a.target == b.target) && ((a.boot == b.boot) && (bytes_eq a.header b.header && bytes_eq a.body b.body)))
+
+-- whether the entry was made
+abbrev pub is_made : List Made → Made → Bool
+is_made ledger e = list_any (same_entry e) ledger
+
+-- the header and the body of an exchange
+abbrev pub header_of : Exchange → List ℕ
+header_of x = take x.ad_len x.ad
+
+abbrev pub body_of : Exchange → List ℕ
+body_of x = take x.body_len x.body
