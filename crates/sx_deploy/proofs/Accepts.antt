@@ -1,6 +1,7 @@
 -- What an accepted text's deployment in memory satisfies.
 use Rattle.std.proofs.Common.{ℕ, List, Result, Ok, Err, IfOk, IsTrue, refl}
 use Rattle.sx_mean.specs.Application.{is_valid}
+use Rattle.sx_mean.specs.View.{app_as}
 use Rattle.sx_trace.specs.Names.{are_valid}
 use Rattle.sx_stage.specs.Fault.{GivesOne}
 use Rattle.sx_stage.specs.declared.fault.DeployError.{DeployError}
@@ -12,8 +13,8 @@ use Rattle.sx_deploy.proofs.Sound.{sound}
 use Rattle.sx_deploy.proofs.ValidApp.{app_valid}
 use Rattle.sx_deploy.proofs.ValidNames.{names_valid}
 
-pub accepts_app : (text : List ℕ) (r : Result Deployment DeployError) → GivesOne deployed_as r (IsRead text) → IfOk r (λ d. IsTrue (is_valid d.app))
-accepts_app text (Ok d) h = app_valid text (deployed_as d) d.app h refl
+pub accepts_app : (text : List ℕ) (r : Result Deployment DeployError) → GivesOne deployed_as r (IsRead text) → IfOk r (λ d. IsTrue (is_valid (app_as d.app)))
+accepts_app text (Ok d) h = app_valid text (deployed_as d) h
 accepts_app text (Err e) h = tt
 
 pub accepts_names : (text : List ℕ) (r : Result Deployment DeployError) → GivesOne deployed_as r (IsRead text) → IfOk r (λ d. IsTrue (are_valid d.names))

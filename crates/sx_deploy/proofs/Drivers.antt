@@ -14,7 +14,7 @@ use Rattle.sx_deploy.specs.Sources.{Coded}
 use Rattle.sx_deploy.specs.Ties.{app_device, byte, device_of}
 use Rattle.sx_deploy.specs.Places.{ends_of, start_of}
 use Rattle.sx_deploy.specs.Law.{AreBeside}
-use Rattle.sx_deploy.proofs.AppSeen.{count_by-cons}
+use Rattle.sx_check.proofs.Distinct.{count_by-cons}
 use Rattle.sx_deploy.proofs.Apart.{EachPair, stand, stand_after, tests-equal}
 
 and_true : (a b : Bool) → (a && b) ≡ true → (a ≡ true) × (b ≡ true)

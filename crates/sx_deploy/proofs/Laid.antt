@@ -18,7 +18,8 @@ use Rattle.sx_deploy.specs.declared.placing.Placement.{Placement}
 use Rattle.sx_deploy.specs.Sources.{Coded}
 use Rattle.sx_deploy.specs.Ties.{app_device, byte, device_of}
 use Rattle.sx_deploy.specs.Places.{Sections, Span, data_of, drives, ends_of, holds_word, is_lost, is_outside, is_own, layout_of, meet, meets_module, placed, sections_of, span, start_of, text_of}
-use Rattle.sx_deploy.specs.Deployment.{Deployed, PartTree, part_of}
+use Rattle.sx_mean.specs.Application.{PartTree}
+use Rattle.sx_deploy.specs.Deployment.{Deployed, part_of}
 use Rattle.sx_deploy.specs.Law.{AreApart, AreLaid, IsInside, IsLaid, IsWordPlace, Word, standing, words_of}
 use Rattle.sx_deploy.proofs.Apart.{EachPair, none-any, one_placed, or_false, and_false, pair-snoc, stand, stand_after, tests-equal}
 use Rattle.sx_deploy.proofs.ValidApp.{each-map, each-weaker, each-both}

@@ -1,10 +1,11 @@
 pub mod Accepted
 pub mod Accepts
 pub mod Apart
-pub mod AppSeen
+pub mod Counted
 pub mod Begun
 pub mod Bytes
 pub mod Drivers
+pub mod Held
 pub mod Few
 pub mod Laid
 pub mod Linked
@@ -12,6 +13,7 @@ pub mod Mapped
 pub mod Meanings
 pub mod Outcomes
 pub mod Pairs
+pub mod Parts
 pub mod Ports
 pub mod Sizes
 pub mod Sound

@@ -8,7 +8,8 @@ use Rattle.std.proofs.lemmas.Option.{slice_get_within}
 use Rattle.sx_lang.specs.declared.tree.Decl.{Decl}
 use Rattle.sx_lang.specs.declared.tree.Decl.TheVariants as decl
 use Rattle.sx_check.specs.Rules.{first_broken}
-use Rattle.sx_mean.specs.Application.{is_port}
+use Rattle.sx_check.proofs.Distinct.{count_by-cons}
+use Rattle.sx_mean.specs.Application.{has_port, is_port}
 use Rattle.sx_mean.specs.declared.apps.Link.{Link}
 use Rattle.sx_stage.specs.Stage.{made_after}
 use Rattle.sx_stage.specs.declared.fault.Sort.TheVariants.{Connection}
@@ -22,7 +23,6 @@ use Rattle.sx_entries.proofs.Kept.{in_entry-Ok}
 use Rattle.sx_deploy.specs.Sources.{Coded}
 use Rattle.sx_deploy.specs.Ties.{Port, byte, link_of, port_in, port_names, port_of, port_place, tied}
 use Rattle.sx_deploy.specs.Deployment.{part_of}
-use Rattle.sx_deploy.proofs.AppSeen.{count_by-cons, has_port_tree}
 use Rattle.sx_deploy.proofs.Sizes.{few_ports}
 
 -- a declaration is a port where it has a port's name
@@ -52,7 +52,7 @@ port_inside output ds (Some name) port h =
 
 -- the number of a module and of one of its ports
 port_there : (output : Bool) (ms : List Coded) (owner port : ℕ) (m : Coded) → slice_get ms owner ≡ Some m → port < count_by (is_port output) m.tree.decls
-    → has_port_tree (is_port output) (map part_of ms) owner port ≡ true
+    → has_port (is_port output) (map part_of ms) owner port ≡ true
 port_there output [] owner port m h k = absurd (cc)
 port_there output (c ∷ cs) zero port m h k =
     let same : c ≡ m = cc in
@@ -61,20 +61,20 @@ port_there output (c ∷ cs) zero port m h k =
 port_there output (c ∷ cs) (suc owner) port m h k =
     let later : (suc owner == 0) ≡ false = grind (arith, nat_tests) in
     let one_less : suc owner - 1 ≡ owner = omega arith in
-    subst (λ b. (if b then nat_lt port (count_by (is_port output) c.tree.decls) else has_port_tree (is_port output) (map part_of cs) (suc owner - 1) port) ≡ true) (sym later)
-    (subst (λ (n : ℕ). has_port_tree (is_port output) (map part_of cs) n port ≡ true) (sym one_less) (port_there output cs owner port m h k))
+    subst (λ b. (if b then nat_lt port (count_by (is_port output) c.tree.decls) else has_port (is_port output) (map part_of cs) (suc owner - 1) port) ≡ true) (sym later)
+    (subst (λ (n : ℕ). has_port (is_port output) (map part_of cs) n port ≡ true) (sym one_less) (port_there output cs owner port m h k))
 
-each-get : {A : Type 0} (P : A → Type 0) (xs : List A) (i : ℕ) (x : A) → Each P xs → slice_get xs i ≡ Some x → P x
+pub each-get : {A : Type 0} (P : A → Type 0) (xs : List A) (i : ℕ) (x : A) → Each P xs → slice_get xs i ≡ Some x → P x
 each-get P [] i x h e = absurd (cc)
 each-get P (y ∷ ys) zero x h e = let same : y ≡ x = cc in subst P same h.0
 each-get P (y ∷ ys) (suc i) x h e = each-get P ys i x h.1 e
 
 abbrev pub IsLinked : List Coded → Link → Type 0
-IsLinked modules l = (has_port_tree (is_port true) (map part_of modules) l.from l.output ≡ true) × (has_port_tree (is_port false) (map part_of modules) l.to l.input ≡ true)
+IsLinked modules l = (has_port (is_port true) (map part_of modules) l.from l.output ≡ true) × (has_port (is_port false) (map part_of modules) l.to l.input ≡ true)
 
 module _ (modules : List Coded) (few : length modules ≤ 32) (sound : Each (λ (m : Coded). first_broken m.tree ≡ None) modules) where
   abbrev pub IsPort : Bool → Port → Type 0
-  IsPort output p = has_port_tree (is_port output) (map part_of modules) p.owner p.port ≡ true
+  IsPort output p = has_port (is_port output) (map part_of modules) p.owner p.port ≡ true
 
   port_kept : (output : Bool) (row : EndRow) (p : Port) → port_of output modules row ≡ Some p → IsPort output p
   port_kept output row p h =
@@ -87,8 +87,8 @@ module _ (modules : List Coded) (few : length modules ≤ 32) (sound : Each (λ 
       let there : owner < length modules = slice_get_within modules owner m e2 in
       let own : owner ≡ byte owner = omega arith in
       let its : port ≡ byte port = omega arith in
-      subst (IsPort output) same (subst (λ (n : ℕ). has_port_tree (is_port output) (map part_of modules) n (byte port) ≡ true) own
-      (subst (λ (n : ℕ). has_port_tree (is_port output) (map part_of modules) owner n ≡ true) its (port_there output modules owner port m e2 inside)))) h2) h1) h
+      subst (IsPort output) same (subst (λ (n : ℕ). has_port (is_port output) (map part_of modules) n (byte port) ≡ true) own
+      (subst (λ (n : ℕ). has_port (is_port output) (map part_of modules) owner n ≡ true) its (port_there output modules owner port m e2 inside)))) h2) h1) h
 
   link_kept : (row : LinkEntry) (l : Link) → link_of modules row ≡ Some l → IsLinked modules l
   link_kept row l h =

@@ -3,7 +3,9 @@ use Rattle.std.proofs.Common.{◌≡◌, ℕ, ◌+◌, ◌<◌, ◌≤◌, false
 use Rattle.std.specs.List.{All, AllPairs}
 use Rattle.std.proofs.lemmas.Bool.Decides.{nat_tests}
 use Rattle.std.proofs.lemmas.List.{length-map}
+use Rattle.sx_lang.specs.Words.{IsWord}
 use Rattle.sx_mean.specs.Application.{ends_from, ends_to}
+use Rattle.sx_mean.proofs.Valid.{valid_applications}
 use Rattle.sx_stage.proofs.Each.{Each, all-each}
 use Rattle.sx_entries.specs.Law.{AreEntries}
 use Rattle.sx_entries.specs.declared.entries.NodeEntry.{NodeEntry}
@@ -15,14 +17,15 @@ use Rattle.sx_entries.proofs.Made.{entries_keep}
 use Rattle.sx_deploy.specs.declared.placing.Placement.{Placement}
 use Rattle.sx_deploy.specs.Sources.{Coded}
 use Rattle.sx_deploy.specs.Ties.{app_device, byte, has_many_ends}
-use Rattle.sx_deploy.specs.Deployment.{Deployed, IsRead, arranged, part_of}
+use Rattle.sx_deploy.specs.Deployment.{Deployed, IsRead, app_of, arranged, part_of}
 use Rattle.sx_deploy.specs.Law.{AreBeside, AreLaid, IsSound, IsWordPlace, Word, standing}
 use Rattle.sx_deploy.proofs.Accepted.{Accepted, accepted}
 use Rattle.sx_deploy.proofs.Apart.{all_beside, all_stand, stand_after}
 use Rattle.sx_deploy.proofs.Drivers.{IsFit}
 use Rattle.sx_deploy.proofs.Few.{AreFew, few, tested-at}
 use Rattle.sx_deploy.proofs.Laid.{AreWordsApart, IsFitting, laid_from, pair-all, standing-map, word, words-map, words_apart, words_places}
-use Rattle.sx_deploy.proofs.ValidApp.{AreFit, each-all-back, each-weaker, fits, placed_modules}
+use Rattle.sx_deploy.proofs.Parts.{are_parts, coded_words, sensors_same}
+use Rattle.sx_deploy.proofs.ValidApp.{AreFit, each-all-back, each-map, each-weaker, fits, placed_modules, valid_app}
 
 no_module : Coded
 no_module = record { name = []; node = 0; provider = 0; text = 0; start = start.At 0; tree = record { decls = []; handlers = [] } }
@@ -54,6 +57,8 @@ module _ (d : Deployed) (a : Accepted d) (k : AreEntries a.e) (f : AreFew a.e) (
       let layouts : map (λ (p : Placement). p.layout) a.placements ≡ map (λ (p : Placement). p.layout) (stand_after e.devices a.links 0 a.modules) = ap (map (λ (p : Placement). p.layout)) out in
       let laid = laid_from (arranged e a.modules a.links a.placements) e.devices a.links (length a.modules) refl refl refl f.devices on_nodes few_ends [] a.modules a.placements stands.1 fitting (omega arith) in
       let small : length e.nodes ≤ 16 = f.nodes in
+      let valid = valid_app e a.modules a.links f k t in
+      let v = valid_applications (app_of e a.modules a.links) valid in
       record {
         nodes = (let cut : byte (length e.nodes) ≡ length e.nodes = omega (arith, small) in cut ∙ sym (length-map e.nodes (λ (n : NodeEntry). n.name)));
         keys = length-map e.nodes (λ (n : NodeEntry). n.key) ∙ sym (length-map e.nodes (λ (n : NodeEntry). n.name));
@@ -61,6 +66,13 @@ module _ (d : Deployed) (a : Accepted d) (k : AreEntries a.e) (f : AreFew a.e) (
         places = length-map e.devices (λ (d : DeviceEntry). d.at) ∙ sym (length-map e.devices (λ (d : DeviceEntry). d.name));
         parts = length-map a.modules part_of ∙ t.as_many_modules ∙ sym (length-map e.modules (λ (m : ModuleEntry). m.name));
         providers = length-map e.modules (λ (m : ModuleEntry). m.provider) ∙ sym (length-map e.modules (λ (m : ModuleEntry). m.name));
+        few_nodes = v.few_nodes;
+        few_devices = v.few_devices;
+        few_parts = v.few_parts;
+        few_links = v.few_links;
+        sensors = sensors_same e.devices;
+        provider_words = all-each IsWord (map (λ (m : ModuleEntry). m.provider) e.modules) (each-map (λ (m : ModuleEntry). m.provider) IsWord e.modules (each-all-back (λ (m : ModuleEntry). IsWord m.provider) e.modules k.module_providers));
+        modules = are_parts (arranged e a.modules a.links a.placements) a.modules refl valid a.sound (coded_words 0 e.modules a.modules a.are_coded);
         links = t.as_many_links ∙ sym (length-map e.links (λ (l : LinkEntry). l.name));
         words = subst (λ (ws : List Word). All IsWordPlace ws) (sym (words-map e.devices)) (all-each IsWordPlace (map word e.devices) (words_places e.devices stands.0));
         words_apart = subst (λ (ws : List Word). AllPairs AreWordsApart ws) (sym (words-map e.devices)) (pair-all AreWordsApart (map word e.devices) (words_apart e.devices on_nodes stands.0));

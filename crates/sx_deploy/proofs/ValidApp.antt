@@ -3,8 +3,7 @@ use Rattle.std.proofs.Common.{◌≡◌, ℕ, zero, suc, ◌+◌, ◌<◌, ◌�
 use Rattle.std.specs.List.{list_any, All}
 use Rattle.std.proofs.lemmas.Bool.Decides.{nat_tests}
 use Rattle.std.proofs.lemmas.List.{length-map}
-use Rattle.sx_mean.specs.Application.{declared_kind, ends_from, ends_to, is_driven, is_valid, same_device, sends_too_much}
-use Rattle.sx_mean.specs.declared.apps.App.{App}
+use Rattle.sx_mean.specs.Application.{AppTree, PartTree, any_part, declared_kind, ends_from, ends_to, is_crowded, is_driven, is_loose, is_misplaced, is_overloaded, is_stray, is_too_large, is_valid, is_wrong, same_device, sends_too_much}
 use Rattle.sx_mean.specs.declared.apps.AppDevice.{AppDevice}
 use Rattle.sx_mean.specs.declared.apps.Link.{Link}
 use Rattle.sx_stage.specs.Fault.{passes}
@@ -20,15 +19,14 @@ use Rattle.sx_entries.specs.declared.entries.DeviceEntry.{DeviceEntry}
 use Rattle.sx_entries.specs.declared.entries.ModuleEntry.{ModuleEntry}
 use Rattle.sx_entries.specs.declared.entries.LinkEntry.{LinkEntry}
 use Rattle.sx_entries.proofs.Made.{entries_keep}
-use Rattle.sx_deploy.specs.Counts.{is_crowded}
+use Rattle.sx_deploy.specs.Counts as counts
 use Rattle.sx_deploy.specs.Sources.{Coded}
 use Rattle.sx_deploy.specs.Ties.{app_device, byte, device_of, has_many_ends, is_mistied, links_of, makes_many_packets, tied}
 use Rattle.sx_deploy.specs.Places.{is_lost, placed, placements_of}
 use Rattle.sx_deploy.specs.declared.placing.Placement.{Placement}
-use Rattle.sx_deploy.specs.Deployment.{AppTree, Deployed, IsRead, PartTree, app_of, part_of}
-use Rattle.sx_deploy.specs.SeenDeployment.{app_as}
+use Rattle.sx_deploy.specs.Deployment.{Deployed, IsRead, app_of, part_of}
 use Rattle.sx_deploy.proofs.Accepted.{Accepted, accepted, passes-None}
-use Rattle.sx_deploy.proofs.AppSeen.{any_tree, count_by-map, crowded, loose, misplaced, overloaded, stray, too_large, valid-seen, valid_tree, wrong}
+use Rattle.sx_deploy.proofs.Counted.{count_by-map}
 use Rattle.sx_deploy.proofs.Apart.{EachPair, all_beside}
 use Rattle.sx_deploy.proofs.Drivers.{IsFit, all_unlike, one_drives}
 use Rattle.sx_deploy.proofs.Few.{AreFew, few, tested-at}
@@ -61,7 +59,7 @@ each-clear bad q same earlier (x ∷ xs) h = by_case (bad earlier x) refl h (eac
     by_case true e i rest = absurd (cc)
     by_case false e i rest = (sym (same earlier x) ∙ e, rest i)
 
-none_wrong : (test : ℕ → PartTree → Bool) (ms : List Coded) (p : ℕ) → ((i : ℕ) (d : Coded) → i < length ms → test (p + i) (part_of (get_or ms i d)) ≡ false) → any_tree test p (map part_of ms) ≡ false
+none_wrong : (test : ℕ → PartTree → Bool) (ms : List Coded) (p : ℕ) → ((i : ℕ) (d : Coded) → i < length ms → test (p + i) (part_of (get_or ms i d)) ≡ false) → any_part test p (map part_of ms) ≡ false
 none_wrong test [] p h = refl
 none_wrong test (m ∷ ms) p h =
     let first : test p (part_of m) ≡ false = subst (λ (n : ℕ). test n (part_of m) ≡ false) (add-zero p) (h zero m (omega arith)) in
@@ -95,14 +93,15 @@ module _ (e : EntryLists) (modules : List Coded) (links : List Link) (f : AreFew
   app : AppTree
   app = app_of e modules links
 
-  no_strays : list_any (stray (app_of e modules links)) (map app_device e.devices) ≡ false
+  no_strays : list_any (is_stray (app_of e modules links)) (map app_device e.devices) ≡ false
   no_strays =
-      any-none (stray (app_of e modules links)) (map app_device e.devices) (each-map app_device (λ d. stray (app_of e modules links) d ≡ false) e.devices
-      (each-weaker (λ (d : DeviceEntry). d.node < length e.nodes) (λ (d : DeviceEntry). stray (app_of e modules links) (app_device d) ≡ false)
+      any-none (is_stray (app_of e modules links)) (map app_device e.devices) (each-map app_device (λ d. is_stray (app_of e modules links) d ≡ false) e.devices
+      (each-weaker (λ (d : DeviceEntry). d.node < length e.nodes) (λ (d : DeviceEntry). is_stray (app_of e modules links) (app_device d) ≡ false)
       (λ d h. ap not (below d.node (length e.nodes) h (let n : length e.nodes ≤ 16 = f.nodes in omega (arith, n)))) e.devices
       (each-all-back (λ (d : DeviceEntry). d.node < length e.nodes) e.devices k.device_nodes)))
 
-  not_large : too_large (app_of e modules links) ≡ false
+  not_large : is_too_large (app_of e modules links) ≡ false
+  unfolding is_too_large
   not_large =
       let nodes : nat_lt 16 (byte (length e.nodes)) ≡ false = few_enough 16 _ (let n : length e.nodes ≤ 16 = f.nodes in omega (arith, n)) in
       let devices : nat_lt 32 (length (map app_device e.devices)) ≡ false = few_enough 32 _ (rw (length-map e.devices app_device) f.devices) in
@@ -110,7 +109,8 @@ module _ (e : EntryLists) (modules : List Coded) (links : List Link) (f : AreFew
       let all_links : nat_lt 64 (length links) ≡ false = few_enough 64 _ (rw t.as_many_links f.links) in
       rw (nodes, devices, parts, all_links) refl
 
-  not_misplaced : (i : ℕ) (d : Coded) → i < length modules → misplaced (app_of e modules links) (part_of (get_or modules i d)) ≡ false
+  not_misplaced : (i : ℕ) (d : Coded) → i < length modules → is_misplaced (app_of e modules links) (part_of (get_or modules i d)) ≡ false
+  unfolding is_misplaced
   not_misplaced i d h =
       let m = get_or modules i d in
       let node : m.node < length e.nodes = each-at (λ (m : Coded). m.node < length e.nodes) modules i d t.nodes h in
@@ -118,7 +118,8 @@ module _ (e : EntryLists) (modules : List Coded) (links : List Link) (f : AreFew
       let fit : IsFit e.devices m = each-at (IsFit e.devices) modules i d t.fit h in
       rw (there, fit.driven) refl
 
-  not_crowded : (i : ℕ) (d : Coded) → i < length modules → crowded (app_of e modules links) (part_of (get_or modules i d)) ≡ false
+  not_crowded : (i : ℕ) (d : Coded) → i < length modules → is_crowded (app_of e modules links) (part_of (get_or modules i d)) ≡ false
+  unfolding is_crowded
   not_crowded i d h =
       let m = get_or modules i d in
       let node : m.node < length e.nodes = each-at (λ (m : Coded). m.node < length e.nodes) modules i d t.nodes h in
@@ -128,7 +129,8 @@ module _ (e : EntryLists) (modules : List Coded) (links : List Link) (f : AreFew
       few_enough 1 _ (subst (λ (n : ℕ). n ≤ 1) (count_by-map part_of (λ (r : PartTree). same_device (device_of m.start) r.device) modules) (one_drives (device_of m.start) modules t.drivers)) in
       rw (few_there, alone) refl
 
-  not_overloaded : (i : ℕ) (d : Coded) → i < length modules → overloaded (app_of e modules links) i (part_of (get_or modules i d)) ≡ false
+  not_overloaded : (i : ℕ) (d : Coded) → i < length modules → is_overloaded (app_of e modules links) i (part_of (get_or modules i d)) ≡ false
+  unfolding is_overloaded
   not_overloaded i d h =
       let m = get_or modules i d in
       let ends = tested-at (has_many_ends links) [] modules t.ends i d h in
@@ -139,18 +141,21 @@ module _ (e : EntryLists) (modules : List Coded) (links : List Link) (f : AreFew
       let few_packets : sends_too_much links i m.tree ≡ false = subst (λ (n : ℕ). sends_too_much links n m.tree ≡ false) at_packets packets.2 in
       rw (few_ends, few_packets) refl
 
-  none_is_wrong : any_tree (wrong (app_of e modules links)) 0 (map part_of modules) ≡ false
+  none_is_wrong : any_part (is_wrong (app_of e modules links)) 0 (map part_of modules) ≡ false
+  unfolding is_wrong
   none_is_wrong =
-      none_wrong (wrong (app_of e modules links)) modules 0 (λ i d h.
+      none_wrong (is_wrong (app_of e modules links)) modules 0 (λ i d h.
       (let place : i ≡ 0 + i = omega arith in
-      subst (λ (n : ℕ). wrong (app_of e modules links) n (part_of (get_or modules i d)) ≡ false) place
+      subst (λ (n : ℕ). is_wrong (app_of e modules links) n (part_of (get_or modules i d)) ≡ false) place
       (rw (not_misplaced i d h, not_crowded i d h, not_overloaded i d h) refl)))
 
-  none_is_loose : list_any (loose (app_of e modules links)) links ≡ false
+  none_is_loose : list_any (is_loose (app_of e modules links)) links ≡ false
+  unfolding is_loose
   none_is_loose =
-      any-none (loose (app_of e modules links)) links (each-weaker (λ (l : Link). IsLinked modules l) (λ l. loose (app_of e modules links) l ≡ false) (λ l h. rw (h.0, h.1) refl) links t.linked)
+      any-none (is_loose (app_of e modules links)) links (each-weaker (λ (l : Link). IsLinked modules l) (λ l. is_loose (app_of e modules links) l ≡ false) (λ l h. rw (h.0, h.1) refl) links t.linked)
 
-  pub valid_app : valid_tree (app_of e modules links) ≡ true
+  pub valid_app : is_valid (app_of e modules links) ≡ true
+  unfolding is_valid
   valid_app = rw (not_large, no_strays, none_is_wrong, none_is_loose) refl
 
 pub each-both : {A : Type 0} (P Q R : A → Type 0) → ((x : A) → P x → Q x → R x) → (xs : List A) → Each P xs → Each Q xs → Each R xs
@@ -226,7 +231,7 @@ fits d a k f =
     crowd : (node : ℕ) → node < length a.e.nodes → count_by (λ (c : Coded). byte c.node == byte node) a.modules ≤ 8
     crowd node h =
         let small : length a.e.nodes ≤ 16 = f.nodes in
-        let t = tested-at (is_crowded a.e.modules) [] a.e.nodes f.crowds node no_entry h in
+        let t = tested-at (counts.is_crowded a.e.modules) [] a.e.nodes f.crowds node no_entry h in
         let at_node : length t.0 ≡ node = (let x = t.1 in omega (arith, x)) in
         let few_there : nat_lt 8 (count_by (λ (m : ModuleEntry). m.node == node) a.e.modules) ≡ false =
         subst (λ (n : ℕ). nat_lt 8 (count_by (λ (m : ModuleEntry). m.node == n) a.e.modules) ≡ false) at_node t.2 in
@@ -236,10 +241,10 @@ fits d a k f =
         (each-all-back (λ (m : ModuleEntry). m.node < length a.e.nodes) a.e.modules k.module_nodes) in
         subst (λ (n : ℕ). n ≤ 8) (sym (pairs-count node (omega (arith, h, small)) a.e.modules a.modules (pairs 0 a.e.modules a.modules a.are_coded) near)) at_most
 
-pub app_valid : (text : List ℕ) (d : Deployed) (app : App) → IsRead text (Ok d) → app_as app ≡ d.app → is_valid app ≡ true
-app_valid text d app h same =
+pub app_valid : (text : List ℕ) (d : Deployed) → IsRead text (Ok d) → is_valid d.app ≡ true
+app_valid text d h =
     let a = accepted text d h in
     let k = entries_keep a.table a.rows a.e a.read a.named in
     let f = few a.e a.few in
     let t = fits d a k f in
-    valid-seen app ∙ ap valid_tree (same ∙ sym (ap (λ (x : Deployed). x.app) a.same)) ∙ valid_app a.e a.modules a.links f k t
+    subst (λ (x : Deployed). is_valid x.app ≡ true) a.same (valid_app a.e a.modules a.links f k t)

@@ -1,10 +1,9 @@
 -- The deployment that a text means, or the first rule that it breaks and where.
-use Rattle.std.specs.Prelude.{◌≡◌, ℕ, Bool, true, false, List, length, map, Option, Result, Ok, Err}
+use Rattle.std.specs.Prelude.{◌≡◌, ℕ, Bool, true, false, List, length, map, Result, Ok, Err}
 use Rattle.toml.specs.Data.{Members}
-use Rattle.sx_lang.specs.Tree.{ModuleTree}
 use Rattle.sx_lang.specs.declared.tree.DeviceKind.{DeviceKind}
 use Rattle.sx_lang.specs.declared.tree.DeviceKind.TheVariants.{Sensor, Actuator}
-use Rattle.sx_mean.specs.declared.apps.AppDevice.{AppDevice}
+use Rattle.sx_mean.specs.Application.{AppTree, PartTree}
 use Rattle.sx_mean.specs.declared.apps.Link.{Link}
 use Rattle.sx_rules.specs.declared.section.Layout.{Layout}
 use Rattle.sx_trace.specs.Names.{NameLists}
@@ -19,19 +18,6 @@ use Rattle.sx_deploy.specs.Checks.{checked_all}
 use Rattle.sx_deploy.specs.Ties.{byte, app_device, device_of, links_of}
 use Rattle.sx_deploy.specs.Places.{placements_of}
 use Rattle.sx_deploy.specs.declared.placing.Placement.{Placement}
-
--- a part of an application
-pub record PartTree : Type 0 where
-  pub node : ℕ
-  pub device : Option ℕ
-  pub tree : ModuleTree
-
--- an application
-pub record AppTree : Type 0 where
-  pub nodes : ℕ
-  pub devices : List AppDevice
-  pub parts : List PartTree
-  pub links : List Link
 
 -- a deployment: the application, its names, and by node, device and module the keys, places, layouts and providers
 pub record Deployed : Type 0 where

@@ -1,13 +1,15 @@
 -- What holds of the meaning of every text.
-use Rattle.std.specs.Prelude.{◌≡◌, ℕ, ◌+◌, ◌%◌, ◌<◌, ◌≤◌, ◌⊎◌, List, [], ◌∷◌, length, Some, Result, AllPairs, All, IfSome, IsSome, slice_get}
+use Rattle.std.specs.Prelude.{◌≡◌, ℕ, ◌+◌, ◌%◌, ◌<◌, ◌≤◌, ◌⊎◌, true, false, List, [], ◌∷◌, length, map, Some, None, Result, AllPairs, All, IfSome, IsSome, slice_get}
 use Rattle.sx_lang.specs.Sizes.{module_weight, module_data_size}
-use Rattle.sx_mean.specs.Application.{ends_from, ends_to}
+use Rattle.sx_lang.specs.Words.{IsWord, TreeHasWords}
+use Rattle.sx_check.specs.Rules.{first_broken}
+use Rattle.sx_mean.specs.Application.{PartTree, declared_kind, ends_from, ends_to, is_driven, sends_too_much}
 use Rattle.sx_mean.specs.declared.apps.AppDevice.{AppDevice}
 use Rattle.sx_rules.specs.declared.section.Layout.{Layout}
 use Rattle.sx_stage.specs.declared.fault.DeployFault.{DeployFault}
 use Rattle.sx_deploy.specs.declared.placing.Placement.{Placement}
 use Rattle.sx_deploy.specs.Places.{Span, span, text_of, data_of}
-use Rattle.sx_deploy.specs.Deployment.{Deployed, IsRead, PartTree}
+use Rattle.sx_deploy.specs.Deployment.{Deployed, IsRead, is_sensor}
 
 -- no text has two meanings
 abbrev pub OneMeaning : Type 0
@@ -63,6 +65,16 @@ AreLaid d p [] [] = Unit {0}
 AreLaid d p (q ∷ qs) (l ∷ ls) = IsLaid d p q l × AreLaid d (p + 1) qs ls
 AreLaid d p _ _ = ⊥
 
+-- The p-th module keeps the rules of the language, and its numbers are words. It is at a node of the application, drives a device exactly
+-- where it declares one, of that kind and at its node, and has neither too many ends nor sends too much.
+pub record IsPart (d : Deployed) (p : ℕ) (q : PartTree) : Type 0 where
+  pub checked : first_broken q.tree ≡ None
+  pub words : TreeHasWords q.tree
+  pub node : q.node < d.app.nodes
+  pub driven : is_driven d.app.devices q.node q.device (declared_kind q.tree.decls) ≡ true
+  pub ends : ends_from d.app.links p + ends_to d.app.links p ≤ 16
+  pub packets : sends_too_much d.app.links p q.tree ≡ false
+
 -- even, and where a device may be
 pub record IsWordPlace (w : Word) : Type 0 where
   pub even : w.at % 2 ≡ 0
@@ -78,6 +90,13 @@ pub record IsSound (d : Deployed) : Type 0 where
   pub parts : length d.app.parts ≡ length d.names.modules
   pub providers : length d.providers ≡ length d.names.modules
   pub links : length d.app.links ≡ length d.names.links
+  pub few_nodes : d.app.nodes ≤ 16
+  pub few_devices : length d.app.devices ≤ 32
+  pub few_parts : length d.app.parts ≤ 32
+  pub few_links : length d.app.links ≤ 64
+  pub sensors : d.names.sensors ≡ map (λ x. is_sensor x.kind) d.app.devices
+  pub provider_words : All IsWord d.providers
+  pub modules : (p : ℕ) (q : PartTree) → slice_get d.app.parts p ≡ Some q → IsPart d p q
   pub words : All IsWordPlace (words_of d.app.devices d.places)
   pub words_apart : AllPairs (λ (v w : Word). v.node ≡ w.node → ¬ (v.at ≡ w.at)) (words_of d.app.devices d.places)
   pub laid : AreLaid d 0 d.app.parts d.layouts

@@ -2,7 +2,8 @@
 ghost use Rattle.std.specs.Prelude.{◌≡◌, IfOk, length, map};
 ghost use Rattle.sx_deploy.specs.Deployment.{app_of, arranged, is_sensor, names_of, part_of};
 ghost use Rattle.sx_deploy.specs.Seen.{checked_as};
-ghost use Rattle.sx_deploy.specs.SeenDeployment.{app_as, deployed_as, part_as};
+ghost use Rattle.sx_deploy.specs.SeenDeployment.{deployed_as};
+ghost use Rattle.sx_mean.specs.View.{app_as, part_as};
 ghost use Rattle.sx_deploy.specs.Ties.{app_device};
 
 use crate::checks::CheckedModule;

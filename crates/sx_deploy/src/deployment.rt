@@ -2,6 +2,7 @@
 ghost use Rattle.std.specs.Prelude.{IfOk, IsTrue, map};
 ghost use Rattle.toml.specs.View.{table_view};
 ghost use Rattle.sx_mean.specs.Application.{is_valid};
+ghost use Rattle.sx_mean.specs.View.{app_as};
 ghost use Rattle.sx_trace.specs.Names.{are_valid};
 ghost use Rattle.sx_stage.specs.Fault.{Gives, GivesOne};
 ghost use Rattle.sx_deploy.specs.Deployment.{counted_in, deployed, IsFrom, IsRead};
@@ -109,7 +110,7 @@ pub fn read_deployment(alloc: Global, text: &[u8]) -> Result<Deployment, DeployE
     // the deployment is the text's, and so is the fault
     ensures read { GivesOne deployed_as result (IsRead text.now) }
     // what is accepted passes `App::valid`
-    ensures app { IfOk result (λ d. IsTrue (is_valid d.app)) }
+    ensures app { IfOk result (λ d. IsTrue (is_valid (app_as d.app))) }
     // and `Names::valid`
     ensures names { IfOk result (λ d. IsTrue (are_valid d.names)) }
     // its lists fit each other, and its modules and devices have places of their own

@@ -1,7 +1,8 @@
 //! The ends of connections that a module holds.
 ghost use Rattle.std.specs.Prelude.{◌≡◌, ◌++◌, IfOk};
 ghost use Rattle.std.specs.Option.{option_to_list};
-ghost use Rattle.sx_deploy.specs.Ends.{ends_held, receiving, sending};
+ghost use Rattle.sx_mean.specs.View.{app_as};
+ghost use Rattle.sx_deploy.specs.Ends.{AreHeld, ends_held, receiving, sending};
 
 use crate::deployment::Deployment;
 use crate::ties::byte;
@@ -61,9 +62,11 @@ fn ends_in(alloc: Global, links: &[Link], place: u8) -> Result<Vec<End>, AllocEr
 }
 
 impl Deployment {
-    /// The ends that the module of this number holds, in connection order, `From` before `To`.
+    /// The ends that the module of this number holds, in connection order, `From` before `To`. A number
+    /// of a connection above 255 is given as 255; a deployment that is read has at most 64 connections.
+    #[tactic(auto, using(crate::proofs::Held::are_held))]
     pub fn ends(&self, alloc: Global, module: u8) -> Result<Vec<End>, AllocError>
-        ensures { IfOk result (λ ends. ends.items ≡ ends_held self.now.app.links.items «module») }
+        ensures { IfOk result (λ ends. AreHeld (app_as self.now.app) «module» ends.items) }
     {
         ends_in(alloc, &self.app.links, module)
     }

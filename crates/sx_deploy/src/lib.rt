@@ -16,6 +16,8 @@ mod checks;
 mod counts;
 pub mod deployment;
 mod ends;
+#[cfg(test)]
+mod heights;
 pub mod laws;
 mod placing;
 mod sources;
