@@ -13,7 +13,8 @@ use Rattle.sx_invoke.specs.Marks.{Mark}
 use Rattle.sx_image.specs.Watched.{Watched}
 use Rattle.sx_ir.specs.Conf.{Conf}
 use Rattle.sx_ir.specs.Meaning.{next}
-use Rattle.sx_tmpl.specs.Running.{Fixed, Stands, put_cell}
+use Rattle.sx_tmpl.specs.Running.{Fixed}
+use Rattle.sx_tmpl.proofs.MidRun.{Stands, put_cell}
 use Rattle.sx_tmpl.proofs.Steps.{one, two}
 use Rattle.sx_tmpl.proofs.Flags.{flags_stay, flags_after, equal, unequal}
 use Rattle.std.specs.Prelude.{◌==◌}

@@ -12,7 +12,8 @@ use Rattle.sx_invoke.specs.Marks.{Mark}
 use Rattle.sx_image.specs.Watched.{Watched}
 use Rattle.sx_ir.specs.Conf.{Conf}
 use Rattle.sx_ir.specs.Meaning.{next}
-use Rattle.sx_tmpl.specs.Running.{Regs, Fixed, Data, running, Safe, Stands, Runs, put_cell}
+use Rattle.sx_tmpl.specs.Running.{Regs, Fixed, Data, running, Safe}
+use Rattle.sx_tmpl.proofs.MidRun.{Stands, Runs, put_cell}
 use Rattle.sx_tmpl.specs.Shows.{Holds, Shows, Stood}
 use Rattle.sx_machine.specs.Rows.{taken}
 use Rattle.sx_tmpl.proofs.Steps.{Text, InText, Reads, one, two}

@@ -15,7 +15,7 @@ use Rattle.sx_rules.specs.declared.access.Access.TheVariants.{Read}
 use Rattle.sx_rules.specs.declared.access.Violation.TheVariants as bad
 use Rattle.sx_rules.specs.Access.{may, in_private}
 use Rattle.sx_invoke.specs.Windows.{unless_device, then_}
-use Rattle.sx_tmpl.specs.Running.{refused, device_refusal, PrivateByte}
+use Rattle.sx_tmpl.proofs.MidRun.{refused, device_refusal, PrivateByte}
 use Rattle.sx_tmpl.proofs.Owes.{Inside}
 use Rattle.sx_tmpl.proofs.Holding.{IsRange, holds_byte}
 use Rattle.sx_invoke.specs.Windows.{read_byte, read_bytes}
@@ -25,7 +25,8 @@ use Rattle.sx_tmpl.proofs.Flags.{flags_stay}
 use Rattle.sx_machine.specs.Memory.{word}
 use Rattle.sx_invoke.specs.Marks.{Mark}
 use Rattle.sx_image.specs.Watched.{Watched}
-use Rattle.sx_tmpl.specs.Running.{Regs, Fixed, Data, running, Safe, Stands, Runs}
+use Rattle.sx_tmpl.specs.Running.{Regs, Fixed, Data, running, Safe}
+use Rattle.sx_tmpl.proofs.MidRun.{Stands, Runs}
 use Rattle.sx_tmpl.specs.Shows.{base_of, IsData, Holds}
 use Rattle.sx_tmpl.proofs.Steps.{Text, one, two}
 use Rattle.sx_tmpl.proofs.Flags.{flags_after, equal, unequal}

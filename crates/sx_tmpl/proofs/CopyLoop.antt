@@ -15,14 +15,15 @@ use Rattle.sx_rules.specs.declared.access.Access.TheVariants.{Write}
 use Rattle.sx_rules.specs.declared.access.Violation.TheVariants as bad
 use Rattle.sx_rules.specs.Access.{may, in_private}
 use Rattle.sx_invoke.specs.Windows.{write_byte, write_bytes, unless_device, then_}
-use Rattle.sx_tmpl.specs.Running.{refused, device_refusal, PrivateByte, PrivateRange}
+use Rattle.sx_tmpl.proofs.MidRun.{refused, device_refusal, PrivateByte, PrivateRange}
 use Rattle.sx_tmpl.proofs.Owes.{Outside, let_through}
 use Rattle.sx_tmpl.proofs.Owned.{read_free, in_private_yes}
 use Rattle.sx_tmpl.proofs.Bytes.{BytesAt, bytes_same}
 use Rattle.sx_tmpl.proofs.Holding.{holds_outside}
 use Rattle.sx_invoke.specs.Marks.{Mark}
 use Rattle.sx_image.specs.Watched.{Watched}
-use Rattle.sx_tmpl.specs.Running.{Regs, Fixed, Data, running, Safe, Stands, Runs}
+use Rattle.sx_tmpl.specs.Running.{Regs, Fixed, Data, running, Safe}
+use Rattle.sx_tmpl.proofs.MidRun.{Stands, Runs}
 use Rattle.sx_tmpl.specs.Shows.{Holds}
 use Rattle.sx_tmpl.proofs.Steps.{Text, one, two}
 use Rattle.sx_tmpl.proofs.Flags.{flags_after, equal, unequal}

@@ -1,8 +1,8 @@
 -- A node that a call enters, and how it stands for the first configuration.
-use Rattle.std.proofs.Common.{◌≡◌, ℕ, zero, suc, ◌+◌, ◌-◌, ◌*◌, ◌%◌, ◌<◌, ◌≤◌, ◌⊎◌, inl, inr, Bool, true, false, not, ◌&&◌, ◌||◌, cond, List, [], ◌∷◌, ◌++◌, length, get_or, Option, Some, None, refl, sym, ap, ◌∙◌, subst, arith}
-use Rattle.std.specs.Prelude.{slice_index, slice_get, nat_lt, nat_le, min}
-use Rattle.std.specs.List.{list_all, position_from}
-use Rattle.std.proofs.Math.Nat.{min-le_left, min-le_right, le-min}
+use Rattle.std.proofs.Common.{◌≡◌, ℕ, zero, suc, ◌+◌, ◌-◌, ◌%◌, ◌<◌, ◌≤◌, ◌⊎◌, inl, inr, Bool, true, false, ◌&&◌, ◌||◌, cond, List, [], ◌∷◌, ◌++◌, length, Option, Some, None, refl, sym, ap, ◌∙◌, subst, arith}
+use Rattle.std.specs.Prelude.{slice_index, nat_lt, nat_le}
+use Rattle.std.specs.List.{position_from}
+use Rattle.std.proofs.Math.Nat.{min-le_left, min-le_right}
 use Rattle.std.proofs.lemmas.Bool.{true≢false, lt-ltb, le-leb, leb-true, ltb-true, cases_lt, cases_Bool, and_from, and_parts, or_cases, or_left}
 use Rattle.std.proofs.lemmas.List.{get_or_append_left}
 use Rattle.std.proofs.Math.Seq.{get_or-append_seam}
@@ -12,24 +12,22 @@ use Rattle.sx_lang.specs.declared.tree.DeviceKind.TheVariants.{Sensor, Actuator}
 use Rattle.sx_rules.specs.declared.access.Access.TheVariants.{Write}
 use Rattle.sx_rules.specs.declared.access.Violation.{Violation}
 use Rattle.sx_rules.specs.declared.section.Layout.{Layout}
-use Rattle.sx_rules.specs.Access.{may, in_private, in_public, Lives, holder}
+use Rattle.sx_rules.specs.Access.{may, in_private, Lives, holder}
 use Rattle.sx_rules.specs.Admission.{apart, no_device}
 use Rattle.sx_rules.specs.Placed.{Placed}
 use Rattle.sx_bus.specs.declared.devices.Window.{Window}
-use Rattle.sx_bus.specs.Devices.{HaveSamples, device_at, on_word, places_of}
+use Rattle.sx_bus.specs.Devices.{device_at, on_word, places_of}
 use Rattle.sx_mean.specs.Application.{declared_kind}
-use Rattle.sx_tag.specs.Mac.{IsTag}
 use Rattle.sx_machine.specs.declared.kinds.Event.TheVariants as event
 use Rattle.sx_machine.specs.Node.{IsNode}
 use Rattle.sx_machine.specs.State.{State}
 use Rattle.sx_machine.specs.Step.{pc_of, own_of, entered_from}
 use Rattle.sx_machine.specs.Memory.{bytes_from}
 use Rattle.sx_machine.specs.Ranges.{meets, passes_end}
-use Rattle.sx_reach.specs.Reach.{Comes}
 use Rattle.sx_reach.proofs.Reaching.{weaken}
 use Rattle.sx_invoke.specs.Setup.{Setup}
-use Rattle.sx_invoke.specs.Devices.{HasDevices, Drives}
-use Rattle.sx_invoke.specs.Marks.{HasPrefix, Mark, made}
+use Rattle.sx_invoke.specs.Devices.{HasDevices}
+use Rattle.sx_invoke.specs.Marks.{Mark, made}
 use Rattle.sx_invoke.specs.Progress.{Invoked, bytes_in, marks_in, pieces_in}
 use Rattle.sx_invoke.specs.Windows.{is_bad_window}
 use Rattle.sx_image.specs.Watched.{Watched, watch}
@@ -37,7 +35,8 @@ use Rattle.sx_image.specs.Image.{call_at, private_bytes}
 use Rattle.sx_image.specs.Realizes.{Underway, begins, is_piece_address}
 use Rattle.sx_tmpl.specs.Performs.{entry_conf, HasRoom}
 use Rattle.sx_tmpl.specs.Performs as upper
-use Rattle.sx_tmpl.specs.Running.{Regs, Fixed, Data, fixed_at, pieces_end, sections_of, regs16, Safe, Stands, Runs}
+use Rattle.sx_tmpl.specs.Running.{Regs, Fixed, Data, fixed_at, pieces_end, sections_of, regs16, Safe}
+use Rattle.sx_tmpl.proofs.MidRun.{Stands, Runs}
 use Rattle.sx_tmpl.specs.Shows.{base_of, Stood}
 use Rattle.sx_tmpl.specs.Template.{entry_words}
 use Rattle.sx_tmpl.proofs.Steps.{Text}

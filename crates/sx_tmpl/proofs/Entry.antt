@@ -1,6 +1,6 @@
 -- The entry: from any registers to the first configuration.
 use Rattle.sx_tmpl.specs.Template.{entry_words}
-use Rattle.std.proofs.Common.{◌≡◌, ◌≢◌, ℕ, suc, ◌+◌, ◌-◌, ◌*◌, ◌%◌, ◌<◌, ◌≤◌, inl, inr, true, false, cond, List, [], ◌∷◌, length, None, refl, sym, ◌∙◌, ap, arith, slice_index}
+use Rattle.std.proofs.Common.{◌≡◌, ◌≢◌, ℕ, suc, ◌+◌, ◌-◌, ◌*◌, ◌%◌, ◌<◌, ◌≤◌, inl, inr, true, false, cond, List, [], length, None, refl, sym, ◌∙◌, ap, arith, slice_index}
 use Rattle.sx_reach.specs.Reach.{Here}
 use Rattle.sx_isa.specs.declared.instruction.Operand.TheVariants.{Reg, Absolute, Immediate}
 use Rattle.sx_isa.specs.declared.instruction.Op2.TheVariants as op2
@@ -32,7 +32,8 @@ use Rattle.sx_tmpl.proofs.Flags.{flags_stay}
 use Rattle.sx_machine.specs.Memory.{word, put_word}
 use Rattle.sx_invoke.specs.Marks.{Mark}
 use Rattle.sx_image.specs.Watched.{Watched}
-use Rattle.sx_tmpl.specs.Running.{Regs, regs16, Fixed, Data, running, Safe, Stands, Runs, cell, put_cell}
+use Rattle.sx_tmpl.specs.Running.{Regs, regs16, Fixed, Data, running, Safe, cell}
+use Rattle.sx_tmpl.proofs.MidRun.{Stands, Runs, put_cell}
 use Rattle.sx_tmpl.specs.Shows.{base_of, IsData, Holds, Stood}
 use Rattle.sx_machine.specs.Rows.{row}
 use Rattle.sx_machine.specs.Registers.{at_pc}

@@ -29,7 +29,8 @@ use Rattle.sx_invoke.specs.Marks.{Mark}
 use Rattle.sx_image.specs.Watched.{Watched}
 use Rattle.sx_ir.specs.Conf.{Conf}
 use Rattle.sx_ir.specs.Meaning.{next}
-use Rattle.sx_tmpl.specs.Running.{Regs, regs16, Fixed, Data, running, Safe, Stands, Runs, cell}
+use Rattle.sx_tmpl.specs.Running.{Regs, regs16, Fixed, Data, running, Safe, cell}
+use Rattle.sx_tmpl.proofs.MidRun.{Stands, Runs}
 use Rattle.sx_tmpl.specs.Shows.{base_of, Holds, Shows, Stood}
 use Rattle.sx_tmpl.proofs.Steps.{Text, one, two}
 use Rattle.sx_tmpl.proofs.Flags.{flags_after, no_borrow, borrow}

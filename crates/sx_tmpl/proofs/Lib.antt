@@ -1,3 +1,4 @@
+pub mod MidRun
 pub mod Owned
 pub mod Mem
 pub mod Owes

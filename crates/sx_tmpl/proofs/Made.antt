@@ -1,6 +1,6 @@
 -- The bytes of the pieces that marks make.
-use Rattle.std.proofs.Common.{◌≡◌, ℕ, ◌+◌, ◌≤◌, List, [], ◌∷◌, ◌++◌, ap, arith}
-use Rattle.sx_invoke.specs.Marks.{HasPrefix, Mark, made, piece_size}
+use Rattle.std.proofs.Common.{◌≡◌, ◌+◌, ◌≤◌, List, [], ◌∷◌, ◌++◌, ap, arith}
+use Rattle.sx_invoke.specs.Marks.{HasPrefix, Mark, made}
 
 pub made-append : (xs ys : List Mark) → made (xs ++ ys) ≡ made xs + made ys
 made-append [] ys = omega arith

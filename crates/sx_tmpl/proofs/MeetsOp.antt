@@ -18,7 +18,8 @@ use Rattle.sx_invoke.specs.Marks.{Mark}
 use Rattle.sx_image.specs.Watched.{Watched}
 use Rattle.sx_ir.specs.Conf.{Conf}
 use Rattle.sx_ir.specs.Meaning.{next}
-use Rattle.sx_tmpl.specs.Running.{Regs, Fixed, running, Safe, Stands, Runs, put_cell}
+use Rattle.sx_tmpl.specs.Running.{Regs, Fixed, running, Safe}
+use Rattle.sx_tmpl.proofs.MidRun.{Stands, Runs, put_cell}
 use Rattle.sx_tmpl.specs.Shows.{base_of, Holds, Stood}
 use Rattle.sx_tmpl.proofs.Steps.{one, two}
 use Rattle.sx_tmpl.proofs.Flags.{flags_after, no_borrow, borrow}

@@ -10,7 +10,7 @@ use Rattle.sx_machine.specs.declared.kinds.Event.{Event}
 use Rattle.sx_machine.specs.declared.kinds.Event.TheVariants as event
 use Rattle.std.specs.Prelude.{Ok, Err}
 use Rattle.sx_invoke.specs.Windows.{write_byte, write_bytes, unless_device, then_}
-use Rattle.sx_tmpl.specs.Running.{PrivateRange, PrivateWord}
+use Rattle.sx_tmpl.proofs.MidRun.{PrivateRange, PrivateWord}
 use Rattle.sx_tmpl.proofs.Mem.{cell-put_other, put_word_is, word_is, length-put}
 use Rattle.sx_tmpl.proofs.Holding.{same_word, holds_under, holds_under_bytes}
 use Rattle.sx_tag.specs.Mac.{IsTag}
@@ -33,7 +33,8 @@ use Rattle.sx_tmpl.proofs.Sealing.{KeyIn, Buffers, wrap_as}
 use Rattle.sx_machine.specs.Memory.{word, put_word}
 use Rattle.sx_invoke.specs.Marks.{Mark}
 use Rattle.sx_image.specs.Watched.{Watched}
-use Rattle.sx_tmpl.specs.Running.{Regs, Fixed, Data, running, Safe, Stands, Runs, cell, put_cell}
+use Rattle.sx_tmpl.specs.Running.{Regs, Fixed, Data, running, Safe, cell}
+use Rattle.sx_tmpl.proofs.MidRun.{Stands, Runs, put_cell}
 use Rattle.sx_tmpl.specs.Shows.{base_of, IsData, Holds}
 use Rattle.sx_tmpl.proofs.Steps.{Text, InText, one, two}
 use Rattle.sx_tmpl.proofs.Flags.{flags_after, equal, unequal}

@@ -9,7 +9,8 @@ use Rattle.sx_machine.specs.Memory.{put_word}
 use Rattle.sx_invoke.specs.Marks.{Mark}
 use Rattle.sx_image.specs.Watched.{Watched}
 use Rattle.sx_ir.specs.Conf.{Conf}
-use Rattle.sx_tmpl.specs.Running.{Fixed, Stands, put_cell}
+use Rattle.sx_tmpl.specs.Running.{Fixed}
+use Rattle.sx_tmpl.proofs.MidRun.{Stands, put_cell}
 use Rattle.sx_tmpl.specs.Shows.{base_of}
 use Rattle.sx_tmpl.proofs.Steps.{three, InText, two}
 use Rattle.sx_tmpl.proofs.Flags.{flags_stay}

@@ -1,42 +1,37 @@
 -- The emitted text does its code.
-use Rattle.std.proofs.Common.{◌≡◌, ℕ, zero, suc, ◌+◌, ◌-◌, ◌*◌, ◌%◌, ◌<◌, ◌≤◌, ◌⊎◌, inl, inr, Bool, true, false, not, List, [], ◌∷◌, ◌++◌, length, length-append, Option, Some, None, refl, sym, ap, ◌∙◌, subst, arith}
+use Rattle.std.proofs.Common.{◌≡◌, ℕ, zero, suc, ◌+◌, ◌-◌, ◌*◌, ◌<◌, ◌≤◌, Bool, true, false, not, List, [], ◌∷◌, ◌++◌, length, Some, refl, sym, ap, ◌∙◌, subst, arith}
 use Rattle.std.specs.Prelude.{slice_index, slice_get, min, replicate}
 use Rattle.std.proofs.Math.Nat.{le-min}
 use Rattle.std.proofs.lemmas.Bool.{true≢false}
 use Rattle.std.proofs.lemmas.List.{get_or_append_left}
-use Rattle.sx_lang.specs.Tree.{ModuleTree}
-use Rattle.sx_mean.specs.declared.events.End.{End}
 use Rattle.sx_mean.specs.Application.{declared_kind}
 use Rattle.sx_rules.specs.declared.access.Violation.{Violation}
 use Rattle.sx_rules.specs.declared.section.Layout.{Layout}
-use Rattle.sx_rules.specs.declared.section.Section.{Section}
 use Rattle.sx_rules.specs.Access.{in_public}
-use Rattle.sx_bus.specs.declared.devices.Window.{Window}
 use Rattle.sx_tag.specs.Mac.{IsTag, Mac}
 use Rattle.sx_machine.specs.Memory.{even}
 use Rattle.sx_machine.specs.State.{State}
 use Rattle.sx_machine.proofs.Devices.{device_there, sample_small}
-use Rattle.sx_reach.specs.Reach.{Comes, Goes, Stops}
+use Rattle.sx_reach.specs.Reach.{Goes, Stops}
 use Rattle.sx_reach.proofs.Reaching.{and_then, weaken}
 use Rattle.sx_invoke.specs.Setup.{Setup}
 use Rattle.sx_invoke.specs.Devices.{HasDevices}
-use Rattle.sx_invoke.specs.Acts.{own_window}
 use Rattle.sx_invoke.specs.Marks.{HasPrefix, Mark, made}
 use Rattle.sx_invoke.specs.Progress.{Invoked, bytes_in, marks_in, pieces_in}
 use Rattle.sx_invoke.specs.Windows.{is_bad_window}
 use Rattle.sx_image.specs.Watched.{Watched, watch}
-use Rattle.sx_image.specs.Image.{Enters, Image, call_at, public_bytes, setup_at}
+use Rattle.sx_image.specs.Image.{call_at, public_bytes, setup_at}
 use Rattle.sx_ir.specs.Conf.{Conf, Halt}
 use Rattle.sx_ir.specs.Conf as conf
 use Rattle.sx_ir.specs.declared.ir.Code.{Code}
 use Rattle.sx_ir.specs.declared.ir.Ir.{Ir}
 use Rattle.sx_ir.specs.declared.ir.Ir.TheVariants as ir
-use Rattle.sx_ir.specs.Meaning.{After, Leaving, has_out_window, op_count, op_step, part_from, saved}
-use Rattle.sx_ir.specs.Sizes.{bytes}
+use Rattle.sx_ir.specs.Meaning.{After, Leaving, op_count, op_step, part_from, saved}
 use Rattle.sx_ir.specs.Sound.{is_sound}
 use Rattle.sx_tmpl.specs.Performs.{DoesCode, HasRoom, IsNarrow, IsRegular, LeftFrom, Never, Performs, ReturnsBehind, With, entry_conf, no_count}
 use Rattle.sx_tmpl.specs.Performs as upper
-use Rattle.sx_tmpl.specs.Running.{Fixed, running, fixed_at, pieces_end, Safe, Runs}
+use Rattle.sx_tmpl.specs.Running.{Fixed, running, fixed_at, pieces_end, Safe}
+use Rattle.sx_tmpl.proofs.MidRun.{Runs}
 use Rattle.sx_tmpl.specs.Shows.{Holds, Shows, Stood, base_of}
 use Rattle.sx_tmpl.specs.Template.{Addresses}
 use Rattle.sx_tmpl.specs.Text.{addresses, bytes_of, part_place, text_words}
@@ -44,7 +39,7 @@ use Rattle.sx_tmpl.proofs.Branch.{jump_leads}
 use Rattle.sx_tmpl.proofs.Entering.{Ready, bytes_from_get, enters, sections_same, stands, weak}
 use Rattle.sx_tmpl.proofs.Leave.{Departed, leave_run}
 use Rattle.sx_tmpl.proofs.SoundOps.{AreSound, are_sound, sound_op}
-use Rattle.sx_tmpl.proofs.Steps.{Text, InText}
+use Rattle.sx_tmpl.proofs.Steps.{Text}
 use Rattle.sx_tmpl.proofs.TextBytes.{length-bytes, text_size}
 use Rattle.sx_tmpl.proofs.TextStands.{code_emitted, entry_text, exit_text, first_at, packet_text, slots_text, target}
 use Rattle.sx_tmpl.proofs.Whole.{Emitted, Good, IsTarget, step_goes, step_stops}

@@ -8,7 +8,7 @@ use Rattle.sx_isa.specs.declared.instruction.Instr.TheVariants.{Two, One}
 use Rattle.sx_rules.specs.declared.access.Violation.{Violation}
 use Rattle.sx_machine.specs.declared.kinds.Event.{Event}
 use Rattle.sx_machine.specs.declared.kinds.Event.TheVariants as event
-use Rattle.sx_tmpl.specs.Running.{PrivateRange}
+use Rattle.sx_tmpl.proofs.MidRun.{PrivateRange}
 use Rattle.sx_tmpl.proofs.Holding.{IsRange, holds_bytes, holds_from}
 use Rattle.sx_tag.specs.Mac.{IsTag}
 use Rattle.sx_tmpl.proofs.Bytes.{length_cipher, length_tag, length-put_bytes}
@@ -29,7 +29,8 @@ use Rattle.sx_invoke.specs.Marks.{Mark}
 use Rattle.sx_image.specs.Watched.{Watched}
 use Rattle.sx_ir.specs.Conf.{Conf}
 use Rattle.sx_ir.specs.Meaning.{next}
-use Rattle.sx_tmpl.specs.Running.{Regs, Fixed, Data, running, Safe, Stands, Runs, put_cell}
+use Rattle.sx_tmpl.specs.Running.{Regs, Fixed, Data, running, Safe}
+use Rattle.sx_tmpl.proofs.MidRun.{Stands, Runs, put_cell}
 use Rattle.sx_tmpl.specs.Shows.{base_of, Holds, Stood}
 use Rattle.sx_tmpl.proofs.Owes.{kept_bytes}
 use Rattle.sx_tmpl.proofs.Steps.{Text, one, two}

@@ -31,7 +31,8 @@ use Rattle.sx_machine.specs.State.{State}
 use Rattle.sx_invoke.specs.Marks as mark
 use Rattle.sx_invoke.specs.Marks.{Mark, HasPrefix}
 use Rattle.sx_image.specs.Watched.{Watched, watch, violation_of, marks_of_event}
-use Rattle.sx_tmpl.specs.Running.{Regs, regs16, Fixed, Data, sections_of, running_after, Safe, Stands, Runs, PrivateRange, cell}
+use Rattle.sx_tmpl.specs.Running.{Regs, regs16, Fixed, Data, sections_of, running_after, Safe, cell}
+use Rattle.sx_tmpl.proofs.MidRun.{Stands, Runs, PrivateRange}
 use Rattle.sx_tmpl.proofs.Owned.{own_found, run_holder, in_private_yes}
 use Rattle.sx_tmpl.proofs.Owes.{Owes, Met, owes_met}
 use Rattle.sx_tmpl.proofs.Mem.{word_is}

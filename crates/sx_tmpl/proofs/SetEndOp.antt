@@ -19,7 +19,8 @@ use Rattle.sx_invoke.specs.Marks.{Mark}
 use Rattle.sx_image.specs.Watched.{Watched}
 use Rattle.sx_ir.specs.Conf.{Conf}
 use Rattle.sx_ir.specs.Meaning.{next}
-use Rattle.sx_tmpl.specs.Running.{Regs, Fixed, Data, running, Safe, Stands, Runs, cell, put_cell}
+use Rattle.sx_tmpl.specs.Running.{Regs, Fixed, Data, running, Safe, cell}
+use Rattle.sx_tmpl.proofs.MidRun.{Stands, Runs, put_cell}
 use Rattle.sx_tmpl.specs.Shows.{base_of, Holds, Stood}
 use Rattle.sx_tmpl.proofs.Steps.{Text, one, two}
 use Rattle.std.specs.Prelude.{slice_get}
@@ -28,7 +29,7 @@ use Rattle.sx_tmpl.proofs.Words as w
 use Rattle.sx_tmpl.proofs.Holding.{stack_word, data_word, holds_push, holds_pop, holds_store, holds_word, cell_below}
 use Rattle.sx_ir.specs.Meaning.{keyed}
 use Rattle.sx_tmpl.proofs.Steps.{three}
-use Rattle.sx_tmpl.specs.Running.{put_cell}
+use Rattle.sx_tmpl.proofs.MidRun.{put_cell}
 
 -- a word below stays
 word_stays : (p : List ℕ) (o v j : ℕ) → o % 2 ≡ 0 → j % 2 ≡ 0 → j + 2 ≤ o → word (put_word p o v) j ≡ word p j

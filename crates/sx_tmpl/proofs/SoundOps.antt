@@ -1,5 +1,5 @@
 -- Sound code has what its templates ask.
-use Rattle.std.proofs.Common.{◌≡◌, ℕ, zero, suc, ◌+◌, ◌-◌, ◌*◌, ◌%◌, ◌<◌, ◌≤◌, ◌⊎◌, inl, inr, Bool, true, false, ◌&&◌, ◌||◌, List, [], ◌∷◌, length, Some, refl, sym, ap, ◌∙◌, subst, arith}
+use Rattle.std.proofs.Common.{◌≡◌, ℕ, zero, suc, ◌+◌, ◌*◌, ◌%◌, ◌<◌, ◌≤◌, inl, inr, Bool, true, ◌&&◌, ◌||◌, List, [], ◌∷◌, length, Some, sym, ap, ◌∙◌, subst, arith}
 use Rattle.std.specs.Prelude.{slice_get, nat_le, nat_lt, ◌==◌}
 use Rattle.std.specs.List.{list_all}
 use Rattle.std.proofs.lemmas.Option.{none-some, same_Some}
@@ -8,10 +8,10 @@ use Rattle.sx_rules.specs.declared.section.Layout.{Layout}
 use Rattle.sx_mean.specs.Offsets as offsets
 use Rattle.sx_ir.specs.declared.ir.Ir.{Ir}
 use Rattle.sx_ir.specs.declared.ir.Ir.TheVariants as ir
-use Rattle.sx_ir.specs.declared.ir.Code.{Code}
-use Rattle.sx_ir.specs.Sizes.{bytes, has_routine, routines}
+use Rattle.sx_ir.specs.Sizes.{bytes}
 use Rattle.sx_ir.specs.Sound.{are_sealed, has_slot, is_even, is_free, is_key, is_sound, is_sound_op, is_sound_part, may_change, private_size, public_size}
-use Rattle.sx_tmpl.specs.Running.{Fixed, Stands}
+use Rattle.sx_tmpl.specs.Running.{Fixed}
+use Rattle.sx_tmpl.proofs.MidRun.{Stands}
 use Rattle.sx_tmpl.specs.Shows.{base_of, IsData}
 use Rattle.sx_tmpl.specs.Template.{Addresses, slot_words, routine_words}
 use Rattle.sx_tmpl.specs.Text.{part_place}

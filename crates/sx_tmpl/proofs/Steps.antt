@@ -20,7 +20,8 @@ use Rattle.sx_machine.specs.Rows.{row, row_of, with_words, program}
 use Rattle.sx_machine.specs.Step.{own_of, start, is_module_word, instruction, ordered, word_outside, attempt, settled}
 use Rattle.sx_invoke.specs.Marks.{Mark}
 use Rattle.sx_image.specs.Watched.{Watched, watch, watched_on, violation_of}
-use Rattle.sx_tmpl.specs.Running.{sections_of, Regs, regs16, Fixed, Data, running_after, running, Kept, Safe, Stands, Runs, cell}
+use Rattle.sx_tmpl.specs.Running.{sections_of, Regs, regs16, Fixed, Data, running_after, running, Kept, Safe, cell}
+use Rattle.sx_tmpl.proofs.MidRun.{Stands, Runs}
 use Rattle.sx_tmpl.proofs.Owned.{own_above, in_public_yes, run_outside, run_in_order, run_extends, run_holder}
 use Rattle.sx_tmpl.proofs.Mem.{even_is, word_is}
 use Rattle.sx_tmpl.proofs.Owes.{Owes, Met, owes_met, text_kept}

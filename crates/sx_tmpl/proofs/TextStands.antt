@@ -1,19 +1,19 @@
 -- Where a code's text stands in memory, its parts stand at their addresses.
-use Rattle.std.proofs.Common.{◌≡◌, ℕ, zero, suc, ◌+◌, ◌*◌, ◌%◌, ◌/◌, ◌<◌, ◌≤◌, ◌⊎◌, inl, inr, Bool, true, false, List, [], ◌∷◌, ◌++◌, take, length, length-append, Some, refl, sym, ap, ◌∙◌, subst, arith}
+use Rattle.std.proofs.Common.{◌≡◌, ℕ, zero, suc, ◌+◌, ◌*◌, ◌%◌, ◌/◌, ◌<◌, ◌≤◌, inl, inr, Bool, true, List, [], ◌∷◌, ◌++◌, take, length, Some, sym, ap, ◌∙◌, subst, arith}
 use Rattle.std.specs.Prelude.{slice_index, slice_get, if◌then◌else◌}
-use Rattle.std.proofs.lemmas.Option.{none-some, same_Some}
 use Rattle.std.proofs.lemmas.Bool.{cases_lt}
 use Rattle.sx_rules.specs.declared.section.Layout.{Layout}
 use Rattle.sx_ir.specs.declared.ir.Code.{Code}
 use Rattle.sx_ir.specs.declared.ir.Ir.{Ir}
 use Rattle.sx_ir.specs.declared.ir.Ir.TheVariants as ir
 use Rattle.sx_ir.specs.Sizes.{bytes, has_routine, ops_bytes, routines}
-use Rattle.sx_tmpl.specs.Running.{Fixed, Stands, cell}
+use Rattle.sx_tmpl.specs.Running.{Fixed, cell}
+use Rattle.sx_tmpl.proofs.MidRun.{Stands}
 use Rattle.sx_tmpl.specs.Shows.{base_of, WordsAt}
-use Rattle.sx_tmpl.specs.Template.{Addresses, template, entry_words, leave_words, slot_words, routine_words}
+use Rattle.sx_tmpl.specs.Template.{Addresses, entry_words, leave_words, slot_words, routine_words}
 use Rattle.sx_tmpl.specs.Text.{addresses, bytes_of, packet_words, text_words, words_of}
 use Rattle.sx_tmpl.proofs.Placing.{words_front, words_back, word_at, emitted}
-use Rattle.sx_tmpl.proofs.Steps.{Text, InText}
+use Rattle.sx_tmpl.proofs.Steps.{Text}
 use Rattle.sx_tmpl.proofs.TextBytes.{code_size, packets_size}
 use Rattle.sx_tmpl.proofs.TextPlaces.{bytes_within, exit_is, has_one, place_is, routine_within}
 use Rattle.sx_tmpl.proofs.Whole.{Emitted, IsSoundOp, IsTarget}

@@ -7,15 +7,15 @@ use Rattle.sx_invoke.specs.Marks.{Mark}
 use Rattle.sx_image.specs.Watched.{Watched}
 use Rattle.sx_ir.specs.Conf.{Conf}
 use Rattle.sx_ir.specs.Meaning.{next}
-use Rattle.sx_tmpl.specs.Running.{Regs, Fixed, Data, running, Safe, Stands, Runs}
+use Rattle.sx_tmpl.specs.Running.{Regs, Fixed, Data, running, Safe}
+use Rattle.sx_tmpl.proofs.MidRun.{Stands, Runs}
 use Rattle.sx_tmpl.specs.Shows.{base_of, IsData, Shows, Stood}
 use Rattle.sx_tmpl.proofs.Steps.{Text, InText}
 use Rattle.std.specs.Prelude.{slice_get, nat_lt, ◌==◌}
 use Rattle.std.proofs.lemmas.Bool.{ltb-true, leb-true, and_parts}
 use Rattle.sx_tmpl.proofs.Plain.{Leads}
 use Rattle.sx_reach.specs.Reach.{Next, Ends}
-use Rattle.sx_reach.specs.Reach.{Goes, Stops, Comes}
-use Rattle.sx_image.specs.Watched.{watch}
+use Rattle.sx_reach.specs.Reach.{Goes, Stops}
 use Rattle.sx_tmpl.proofs.Made.{made_prefix}
 use Rattle.sx_invoke.specs.Marks.{made}
 use Rattle.sx_mean.specs.Offsets as offsets
@@ -33,7 +33,7 @@ use Rattle.sx_ir.specs.declared.ir.Ir.{Ir}
 use Rattle.sx_ir.specs.declared.ir.Ir.TheVariants as ir
 use Rattle.sx_ir.specs.Conf.{Halt, Violates, Stuck}
 use Rattle.sx_ir.specs.Counts.{count_of}
-use Rattle.sx_ir.specs.Meaning.{After, when, pushed, operated, emit, emitted, saved, pieces, stop, is_saved, has_out_window, has_copy_room, do_op, do_at, op_step, op_count, count_at, handler_count, OnViolation, send}
+use Rattle.sx_ir.specs.Meaning.{After, when, pushed, operated, emit, emitted, saved, stop, is_saved, has_out_window, has_copy_room, do_op, do_at, op_step, op_count, count_at, handler_count, OnViolation, send}
 use Rattle.sx_tmpl.specs.Template.{Addresses, operator_words, template, slot_words, routine_words}
 use Rattle.sx_tmpl.proofs.Plain.{push_leads, load_leads, store_leads, add_leads}
 use Rattle.sx_tmpl.proofs.Branch.{jump_leads, jump_zero_leads, jump_not_leads, lt_leads, eq_leads}

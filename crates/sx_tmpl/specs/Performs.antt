@@ -1,14 +1,14 @@
 -- What it is that instructions do stack code.
-use Rattle.std.specs.Prelude.{◌≡◌, ℕ, ◌+◌, ◌%◌, ◌≤◌, ◌<◌, ◌⊎◌, true, false, List, [], ◌++◌, length, slice_index, slice_get, Option, Some, None, if◌then◌else◌, IsTrue}
+use Rattle.std.specs.Prelude.{◌≡◌, ℕ, ◌+◌, ◌%◌, ◌≤◌, ◌<◌, ◌⊎◌, false, List, [], ◌++◌, length, slice_index, slice_get, Option, Some, None}
 use Rattle.sx_lang.specs.Tree.{ModuleTree}
 use Rattle.sx_mean.specs.declared.events.End.{End}
-use Rattle.sx_mean.specs.Offsets.{saved_at, scratch_at, stack_words, stack_to}
+use Rattle.sx_mean.specs.Offsets.{scratch_at, stack_words, stack_to}
 use Rattle.sx_rules.specs.declared.access.Violation.{Violation}
 use Rattle.sx_rules.specs.declared.section.Layout.{Layout}
 use Rattle.sx_rules.specs.declared.section.Section.{Section}
 use Rattle.sx_rules.specs.Access.{in_private, in_public}
 use Rattle.sx_bus.specs.Devices.{HaveSamples}
-use Rattle.sx_tag.specs.Mac.{IsTag, Mac}
+use Rattle.sx_tag.specs.Mac.{Mac}
 use Rattle.sx_machine.specs.declared.kinds.Event.TheVariants as event
 use Rattle.sx_machine.specs.Memory.{even, put_word}
 use Rattle.sx_machine.specs.State.{State}
@@ -24,10 +24,9 @@ use Rattle.sx_ir.specs.declared.ir.Code.{Code}
 use Rattle.sx_ir.specs.declared.ir.Ir.{Ir}
 use Rattle.sx_ir.specs.declared.ir.Ir.TheVariants as ir
 use Rattle.sx_ir.specs.Meaning.{Leaving, op_count, op_step, part_from, saved}
-use Rattle.sx_ir.specs.Sound.{is_sound}
 use Rattle.sx_tmpl.specs.Shows.{Stood}
 use Rattle.sx_tmpl.specs.Running.{fixed_at}
-use Rattle.sx_tmpl.specs.Text.{addresses, bytes_of, text_words}
+use Rattle.sx_tmpl.specs.Text.{addresses}
 
 -- the node comes from here to Q, or is reset with B, within so many instructions, and each moment before is one of the invocation
 abbrev pub Runs : Setup → Invoked → State → (Watched → Violation → Type 0) → (Watched → Type 0) → ℕ → Watched → Type 0

@@ -1,4 +1,4 @@
-use Rattle.std.proofs.Common.{◌≡◌, ℕ, ◌++◌, drop}
+use Rattle.std.proofs.Common.{◌≡◌, ◌++◌, drop}
 use Rattle.sx_tmpl.specs.Text.{bytes_of}
 use Rattle.sx_tmpl.proofs.put.put_words.Given as goal
 

@@ -1,4 +1,4 @@
-use Rattle.std.proofs.Common.{◌∙◌, ap, subst, ℕ, ◌+◌, List}
+use Rattle.std.proofs.Common.{◌∙◌, ap, subst, ◌+◌, List}
 use Rattle.sx_ir.specs.declared.ir.Ir.{Ir}
 use Rattle.sx_tmpl.specs.Fits.{AreCounts}
 use Rattle.sx_tmpl.specs.Text.{places_from}

@@ -1,0 +1,59 @@
+-- What templates rely on of a module in mid-run, and the bytes of its private section.
+use Rattle.std.specs.Prelude.{◌≡◌, ℕ, ◌+◌, ◌/◌, ◌%◌, ◌<◌, ◌≤◌, true, false, List, Option, Some, None, slice_set, if◌then◌else◌}
+use Rattle.sx_reach.specs.Reach.{Comes}
+use Rattle.sx_bus.specs.Devices.{device_at}
+use Rattle.sx_rules.specs.declared.access.Access.{Access}
+use Rattle.sx_rules.specs.declared.access.Violation.{Violation}
+use Rattle.sx_rules.specs.declared.access.Violation.TheVariants as bad
+use Rattle.sx_rules.specs.Access.{may, in_public, in_private, Lives}
+use Rattle.sx_rules.specs.Placed.{Placed}
+use Rattle.sx_invoke.specs.Marks.{Mark}
+use Rattle.sx_image.specs.Watched.{Watched, watch}
+use Rattle.sx_tmpl.specs.Running.{Fixed, sections_of, Safe}
+
+-- the module runs, its first private word is the only one that a device may have, and its public section has none
+pub record Stands (f : Fixed) : Type 0 where
+  pub placed : Placed (sections_of f)
+  pub lives : Lives f.setup.live f.setup.section
+  pub base_even : f.setup.section.layout.priv_from % 2 ≡ 0
+  pub room : f.setup.section.layout.priv_from + 512 ≤ f.setup.section.layout.priv_to
+  pub from_even : f.setup.section.layout.pub_from % 2 ≡ 0
+  pub to_even : f.setup.section.layout.pub_to % 2 ≡ 0
+  pub sp_even : f.sp % 2 ≡ 0
+  pub below : f.setup.section.layout.pub_to < 65536
+  pub beneath : f.setup.section.layout.priv_to < 65536
+  pub public_plain : (a : ℕ) → in_public f.setup.section a ≡ true → device_at f.devices a ≡ None
+  pub private_plain : (a : ℕ) → in_private f.setup.section a ≡ true → f.setup.section.layout.priv_from + 2 ≤ a → device_at f.devices a ≡ None
+  pub window : f.to ≤ 65536
+  pub window_apart : (a : ℕ) → f.from ≤ a → a < f.to → in_private f.setup.section a ≡ false
+
+-- the run of a module comes to Q, or ends in a violation with B
+abbrev pub Runs : Fixed → List Mark → (Watched → Violation → Type 0) → (Watched → Type 0) → ℕ → Watched → Type 0
+Runs f all B Q n c = Comes Watched Violation (watch f.setup.mac) (λ _. 1) (Safe f all) B Q n c
+
+abbrev pub device_refusal : Option ℕ → Option Violation
+device_refusal None = None
+device_refusal (Some device) = Some bad.Device
+
+-- what refuses code of the module a byte: the access table, and then a device
+abbrev pub refused : Fixed → Access → Violation → ℕ → Option Violation
+refused f access v a = if may f.setup.live f.setup.section.id access a then device_refusal (device_at f.devices a) else Some v
+
+-- a byte of the private section beside its first word
+pub record PrivateByte (f : Fixed) (a : ℕ) : Type 0 where
+  pub low : f.setup.section.layout.priv_from + 2 ≤ a
+  pub high : a < f.setup.section.layout.priv_to
+
+-- an even word of it
+pub record PrivateWord (f : Fixed) (a : ℕ) : Type 0 where
+  pub low : f.setup.section.layout.priv_from + 2 ≤ a
+  pub high : a + 2 ≤ f.setup.section.layout.priv_to
+  pub is_even : a % 2 ≡ 0
+
+-- so many bytes of it
+pub record PrivateRange (f : Fixed) (a n : ℕ) : Type 0 where
+  pub low : f.setup.section.layout.priv_from + 2 ≤ a
+  pub high : a + n ≤ f.setup.section.layout.priv_to
+
+unfoldable pub put_cell : List ℕ → ℕ → ℕ → List ℕ
+put_cell m a v = slice_set (slice_set m a (v % 256)) (a + 1) (v / 256)
