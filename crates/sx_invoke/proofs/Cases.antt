@@ -1,24 +1,20 @@
 -- Worked cases of invocations, by computation, over a toy tag.
-use Rattle.std.proofs.Common.{◌≡◌, ℕ, ◌+◌, ◌-◌, List, [], ◌∷◌, ◌++◌, refl, Option, Some, None}
-use Rattle.std.specs.Prelude.{replicate, length, take, drop, bit_xor, Bool, true, false}
+use Rattle.std.proofs.Common.{◌≡◌, ℕ, List, [], ◌∷◌, ◌++◌, refl, Option, Some, None}
+use Rattle.std.specs.Prelude.{replicate, length, take, Bool, true, false}
 use Rattle.sx_lang.specs.declared.sides.Side.TheVariants.{From, To}
 use Rattle.sx_lang.specs.declared.tree.Decl.TheVariants.{Device, Input, Output}
 use Rattle.sx_lang.specs.declared.tree.DeviceKind.TheVariants.{Sensor}
-use Rattle.sx_lang.specs.Tree.{Constant, Variable, Sends, Done, Then, HandlerTree, ModuleTree}
+use Rattle.sx_lang.specs.Tree.{Variable, Sends, Done, Then, HandlerTree, ModuleTree}
 use Rattle.sx_mean.specs.declared.events.End.{End}
-use Rattle.sx_rules.specs.declared.access.Violation.{Violation}
-use Rattle.sx_rules.specs.declared.access.Violation.TheVariants as bad
 use Rattle.sx_rules.specs.declared.section.Section.{Section}
 use Rattle.sx_rules.specs.Access.{may}
-use Rattle.sx_bus.specs.declared.devices.Window.{Window}
 use Rattle.sx_bus.specs.declared.devices.Kind.TheVariants as kind
-use Rattle.sx_tag.specs.Mac.{Mac, weak}
-use Rattle.sx_tag.specs.Wrap.{Wrapped, wrapped, crypt, wrap_tag, unwrapped}
+use Rattle.sx_tag.specs.Mac.{weak}
+use Rattle.sx_tag.specs.Wrap.{wrapped, crypt, wrap_tag, unwrapped}
 use Rattle.sx_invoke.specs.Setup.{Setup, Call}
-use Rattle.sx_invoke.specs.ModuleState.{ModuleState, EndState, initial_state, state_of, end_state}
-use Rattle.sx_invoke.specs.Marks.{Mark}
+use Rattle.sx_invoke.specs.ModuleState.{initial_state, state_of, end_state}
 use Rattle.sx_invoke.specs.Windows.{read_byte, read_bytes, write_byte, write_bytes}
-use Rattle.sx_invoke.specs.Progress.{Progress, Invoked, Returns, Violates, marks_in, pieces_in}
+use Rattle.sx_invoke.specs.Progress.{Progress, Invoked, Returns, Violates}
 use Rattle.sx_invoke.specs.Invocation.{invoke, entered}
 use Rattle.sx_invoke.specs.Acts.{handled, with_packet}
 

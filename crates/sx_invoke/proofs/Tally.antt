@@ -1,5 +1,5 @@
 -- The pieces of an invocation have the bytes that its marks make.
-use Rattle.std.proofs.Common.{◌≡◌, ℕ, zero, suc, ◌+◌, ◌*◌, ◌<◌, ◌≤◌, Bool, true, false, ◌&&◌, ◌||◌, not, ◌==◌, List, [], ◌∷◌, ◌++◌, length, take, drop, Option, Some, None, Result, Ok, Err, refl, sym, ap, ◌∙◌, subst, arith}
+use Rattle.std.proofs.Common.{◌≡◌, ℕ, ◌+◌, ◌*◌, ◌≤◌, Bool, true, false, ◌&&◌, ◌||◌, not, ◌==◌, List, [], ◌∷◌, ◌++◌, length, take, drop, Option, Some, None, Result, Ok, Err, refl, sym, ap, ◌∙◌, arith}
 use Rattle.std.specs.Prelude.{if◌then◌else◌, nat_lt}
 use Rattle.std.proofs.lemmas.List.{length-append, length-take}
 use Rattle.sx_lang.specs.declared.sides.Side.TheVariants.{To}
@@ -25,7 +25,7 @@ use Rattle.sx_invoke.specs.Progress.{bytes_in, Progress, Invoked, Returns, Viola
 use Rattle.sx_invoke.specs.Acts.{with_piece, copied_to, with_packet, event_packet, event_header, counted, with_packets, with_act, with_acts, actuated, own_window, handled}
 use Rattle.sx_mean.specs.Ends.{is_sending}
 use Rattle.sx_invoke.specs.Invocation.{invoke, entered, returns_inside, is_no_entry, has_bad_windows}
-use Rattle.sx_invoke.specs.Entries.{received, is_kind, set_key, set_key_at, key_opened, is_keyed, keyed, attest, input, input_at, event_numbered, event_opened, sample, sample_of, sampled, taken, field_in, second_in, header_in, end_on, end_found, side_of, with_received}
+use Rattle.sx_invoke.specs.Entries.{received, is_kind, set_key, set_key_at, key_opened, is_keyed, attest, input, input_at, event_numbered, event_opened, sample, sample_of, sampled, taken, field_in, second_in, header_in, end_on, end_found, side_of, with_received}
 
 -- a tag has 16 bytes
 pub tag_length : (mac : Mac) (key ad cipher : List ℕ) → IsTag mac → length (wrap_tag mac key ad cipher) ≡ 16

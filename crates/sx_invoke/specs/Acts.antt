@@ -1,11 +1,10 @@
 -- What the acts of a handler do: packets to the out-window, and writes to the actuator.
-use Rattle.std.specs.Prelude.{ℕ, ◌+◌, ◌*◌, ◌==◌, nat_lt, Bool, true, false, ◌&&◌, if◌then◌else◌, List, [], ◌∷◌, ◌++◌, length, Option, Some, None, Result, Ok, Err}
-use Rattle.sx_lang.specs.declared.sides.Side.{Side}
-use Rattle.sx_lang.specs.declared.sides.Side.TheVariants.{From, To}
+use Rattle.std.specs.Prelude.{ℕ, ◌+◌, ◌*◌, nat_lt, false, ◌&&◌, if◌then◌else◌, List, [], ◌∷◌, ◌++◌, length, Option, Some, None, Result, Ok, Err}
 use Rattle.sx_mean.specs.declared.events.End.{End}
 use Rattle.sx_mean.specs.declared.events.Act.{Act}
 use Rattle.sx_mean.specs.declared.events.Act.TheVariants.{Send, Emit}
 use Rattle.sx_mean.specs.declared.events.SourceEvent.{SourceEvent}
+use Rattle.sx_mean.specs.Ends.{is_sending}
 use Rattle.sx_mean.specs.React.{react}
 use Rattle.sx_rules.specs.declared.access.Violation.{Violation}
 use Rattle.sx_bus.specs.declared.devices.Window.{Window}
@@ -53,10 +52,6 @@ with_packet s c v k p =
     if e.is_open && nat_lt e.number 65535 then with_piece s c (event_packet s e v) (counted k e v p) else Going p
 
 -- Acts of a handler, in order.
-
-abbrev pub is_sending : ℕ → Side → ℕ → Bool
-is_sending output From port = port == output
-is_sending output To port = false
 
 -- a packet for each sending end of the output, from the k-th end on
 abbrev pub with_packets : Setup → Call → ℕ → ℕ → ℕ → List End → Progress → Course

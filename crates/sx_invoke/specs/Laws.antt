@@ -1,5 +1,5 @@
 -- What holds of every invocation. Each law stands as the contract of a function in src/laws.rt.
-use Rattle.std.specs.Prelude.{◌≡◌, ℕ, Bool, true, false, List, [], ◌∷◌}
+use Rattle.std.specs.Prelude.{◌≡◌, Bool, true, false, List, [], ◌∷◌}
 use Rattle.sx_tag.specs.Mac.{IsTag}
 use Rattle.sx_invoke.specs.Setup.{Setup, Call}
 use Rattle.sx_invoke.specs.Marks.{Mark, Wrapped, Unwrapped, Sampled, Actuated, made}

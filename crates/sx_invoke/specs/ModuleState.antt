@@ -1,5 +1,5 @@
 -- A module's state, as the bytes of its private section represent it: every content represents exactly one.
-use Rattle.std.specs.Prelude.{ℕ, zero, suc, ◌+◌, ◌%◌, ◌*◌, ◌/◌, ◌==◌, Bool, false, not, List, [], ◌∷◌, length, replicate}
+use Rattle.std.specs.Prelude.{ℕ, zero, suc, ◌+◌, ◌%◌, ◌/◌, ◌==◌, Bool, false, not, List, [], ◌∷◌, length, replicate}
 use Rattle.sx_lang.specs.Tree.{ModuleTree}
 use Rattle.sx_mean.specs.declared.events.End.{End}
 use Rattle.sx_mean.specs.Places.{initial_cells}

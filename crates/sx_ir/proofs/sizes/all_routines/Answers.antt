@@ -1,4 +1,4 @@
-use Rattle.std.proofs.Common.{◌≡◌, ℕ, subst, arith}
+use Rattle.std.proofs.Common.{◌≡◌, subst, arith}
 use Rattle.sx_ir.specs.Sizes.{routines}
 use Rattle.sx_ir.proofs.sizes.all_routines.Goals as goal
 

@@ -1,5 +1,5 @@
-use Rattle.std.proofs.Common.{◌≡◌, ℕ, ◌+◌, ◌*◌, ◌<◌, ◌≤◌, length, take, ◌-◌}
-use Rattle.sx_ir.specs.Sizes.{all_routines, bytes, has_routine, is_packet, offset, op_bytes, operator_bytes, ops_bytes, routines}
+use Rattle.std.proofs.Common.{◌≡◌, ◌≤◌}
+use Rattle.sx_ir.specs.Sizes.{routines}
 use Rattle.sx_ir.proofs.sizes.all_routines.Given as goal
 
 abbrev pub invariant-loop-end : goal.invariant-loop-end
