@@ -14,7 +14,8 @@ use Rattle.sx_invoke.specs.ModuleState.{EndState, ModuleState, end_of, with_end,
 use Rattle.sx_invoke.specs.Marks.{Mark, Wrapped, Unwrapped, Sampled, Actuated}
 use Rattle.sx_invoke.specs.Windows.{two, write_bytes}
 use Rattle.sx_invoke.specs.Progress.{Progress, Course, Going, Broken, and_on, finished, marks_in}
-use Rattle.sx_invoke.specs.Acts.{copied_to, with_piece, event_header, counted, event_packet, with_packet, is_sending, with_packets, own_window, actuated, with_acts}
+use Rattle.sx_invoke.specs.Acts.{copied_to, with_piece, event_header, counted, event_packet, with_packet, with_packets, own_window, actuated, with_acts}
+use Rattle.sx_mean.specs.Ends.{is_sending}
 use Rattle.sx_mean.specs.Application.{PartTree, AppTree}
 use Rattle.sx_mean.specs.Ends.{ends_of}
 use Rattle.sx_model.specs.State.{EndView}
