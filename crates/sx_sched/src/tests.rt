@@ -43,7 +43,7 @@ fn breaks(rt: &impl Abort, alloc: Global, names: &Names, text: &[u8], rule: u8) 
 }
 
 #[test]
-fn lines_of_nodes(rt: HostRuntime) -> Result<(), Fail> {
+fn steps(rt: HostRuntime) -> Result<(), Fail> {
     let alloc = rt.alloc();
     let names = lighting(alloc)?;
     if names.valid() {
@@ -59,6 +59,15 @@ fn lines_of_nodes(rt: HostRuntime) -> Result<(), Fail> {
         );
         let line = parse_line(alloc, &names, b" finish\ta ")?;
         assert!(rt; matches!(line, Line::Finish { node: 0 }));
+    }
+    Ok(())
+}
+
+#[test]
+fn registers_and_memory(rt: HostRuntime) -> Result<(), Fail> {
+    let alloc = rt.alloc();
+    let names = lighting(alloc)?;
+    if names.valid() {
         let line = parse_line(alloc, &names, b"set a r15 0xFFFF")?;
         assert!(rt;
             matches!(
@@ -81,6 +90,15 @@ fn lines_of_nodes(rt: HostRuntime) -> Result<(), Fail> {
                 }
             )
         );
+    }
+    Ok(())
+}
+
+#[test]
+fn packets_and_sensors(rt: HostRuntime) -> Result<(), Fail> {
+    let alloc = rt.alloc();
+    let names = lighting(alloc)?;
+    if names.valid() {
         let line = parse_line(alloc, &names, b"give 10 b 0x300")?;
         assert!(rt;
             matches!(
@@ -102,6 +120,15 @@ fn lines_of_nodes(rt: HostRuntime) -> Result<(), Fail> {
                 }
             )
         );
+    }
+    Ok(())
+}
+
+#[test]
+fn interrupts_and_resets(rt: HostRuntime) -> Result<(), Fail> {
+    let alloc = rt.alloc();
+    let names = lighting(alloc)?;
+    if names.valid() {
         let line = parse_line(alloc, &names, b"irq b 14")?;
         assert!(rt; matches!(line, Line::Irq { node: 1, line: 14 }));
         let line = parse_line(alloc, &names, b"reset b")?;
@@ -111,7 +138,7 @@ fn lines_of_nodes(rt: HostRuntime) -> Result<(), Fail> {
 }
 
 #[test]
-fn lines_of_modules(rt: HostRuntime) -> Result<(), Fail> {
+fn asks_and_answers(rt: HostRuntime) -> Result<(), Fail> {
     let alloc = rt.alloc();
     let names = lighting(alloc)?;
     if names.valid() {
@@ -128,6 +155,15 @@ fn lines_of_modules(rt: HostRuntime) -> Result<(), Fail> {
                 }
             )
         );
+    }
+    Ok(())
+}
+
+#[test]
+fn loads_and_calls(rt: HostRuntime) -> Result<(), Fail> {
+    let alloc = rt.alloc();
+    let names = lighting(alloc)?;
+    if names.valid() {
         let line = parse_line(alloc, &names, b"load logic")?;
         assert!(rt; matches!(line, Line::Load { module: 1 }));
         let line = parse_line(alloc, &names, b"call lamp 2 0x300 0x400")?;
@@ -142,6 +178,15 @@ fn lines_of_modules(rt: HostRuntime) -> Result<(), Fail> {
                 }
             )
         );
+    }
+    Ok(())
+}
+
+#[test]
+fn blanks(rt: HostRuntime) -> Result<(), Fail> {
+    let alloc = rt.alloc();
+    let names = lighting(alloc)?;
+    if names.valid() {
         let line = parse_line(alloc, &names, b"# call lamp")?;
         assert!(rt; matches!(line, Line::Blank));
         let line = parse_line(alloc, &names, b" \t")?;
