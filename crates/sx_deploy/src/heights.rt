@@ -24,13 +24,7 @@ fn checked(module: Module) -> Result<Checked, Refused> {
 }
 
 /// The text, with the first part so many times before its middle and the last as often behind it.
-fn nested(
-    alloc: Global,
-    first: &str,
-    times: u8,
-    middle: &str,
-    last: &str,
-) -> Result<String, Fail> {
+fn nested(alloc: Global, first: &str, times: u8, middle: &str, last: &str) -> Result<String, Fail> {
     let mut text = String::new(alloc);
     for _time in 0..times {
         text.push_str(first)?;
@@ -59,12 +53,28 @@ fn expressions_of_height_32_in_15_blocks(rt: HostRuntime) -> Result<(), Fail> {
     let alloc = rt.alloc();
     let rows = [
         // -5 is 65,531
-        (nested(alloc, "-", 31, "v", "")?, 65_531, (65, 6400, 540, 10_720)),
+        (
+            nested(alloc, "-", 31, "v", "")?,
+            65_531,
+            (65, 6400, 540, 10_720),
+        ),
         // 32 times 5
-        (nested(alloc, "v + (", 30, "v + v", ")")?, 160, (96, 8384, 540, 11_712)),
-        (nested(alloc, "v + ", 31, "v", "")?, 160, (96, 8384, 540, 11_712)),
+        (
+            nested(alloc, "v + (", 30, "v + v", ")")?,
+            160,
+            (96, 8384, 540, 11_712),
+        ),
+        (
+            nested(alloc, "v + ", 31, "v", "")?,
+            160,
+            (96, 8384, 540, 11_712),
+        ),
         // the array's first element, since its sixth is past its end
-        (nested(alloc, "a[", 31, "v", "]")?, 0, (65, 6400, 540, 11_712)),
+        (
+            nested(alloc, "a[", 31, "v", "]")?,
+            0,
+            (65, 6400, 540, 11_712),
+        ),
     ];
     for (expression, worth, want) in &rows {
         let module = deep(alloc, expression.as_str())?;
