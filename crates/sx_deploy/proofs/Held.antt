@@ -8,6 +8,7 @@ use Rattle.sx_mean.specs.Application.{AppTree}
 use Rattle.sx_mean.specs.Ends as mean
 use Rattle.sx_deploy.specs.Ties.{byte}
 use Rattle.sx_deploy.specs.Ends.{AreHeld, end_as, ends_after, ends_held}
+use Rattle.std.proofs.Common.{Result, Ok, Err, IfOk, Vec, Global}
 
 all_held : (ls : List Link) (n p : ℕ) → ends_after n p ls ≡ map end_as (mean.ends_after n p ls)
 all_held [] n p = refl
@@ -38,3 +39,9 @@ are_held app p ends h = record {
   all = h ∙ all_held app.links 0 p;
   few = λ few. h ∙ same_held app.links 0 p (omega (arith, few));
 }
+
+-- the ends that a call gives, where it gives some
+pub held_if : {E : Type 0} (app : AppTree) (p : ℕ) (r : Result (Vec End Global) E)
+    → IfOk r (λ ends. ends.items ≡ ends_held app.links p) → IfOk r (λ ends. AreHeld app p ends.items)
+held_if app p (Ok ends) h = are_held app p ends.items h
+held_if app p (Err e) h = tt
