@@ -1,8 +1,7 @@
 -- What the deployer does keeps a run tied: asks, answers, and the keys that it gives.
-use Rattle.std.proofs.Common.{◌≡◌, ◌≢◌, ℕ, zero, suc, ◌+◌, ◌*◌, ◌%◌, ◌/◌, ◌^◌, ◌<◌, ◌≤◌, ◌⊎◌, inl, inr, ◌==◌, ◌&&◌, Bool, true, false, if◌then◌else◌, List, [], ◌∷◌, ◌++◌, length, Option, Some, None, refl, sym, ◌∙◌, ap, subst, arith}
-use Rattle.std.specs.Prelude.{slice_get, slice_set, slice_index, is_some, is_none, bytes_eq}
-use Rattle.std.proofs.lemmas.Bool.{true≢false, and_parts, and_from, eqb-true, cases_eq, cases_Bool}
-use Rattle.sx_lang.specs.declared.sides.Side.{Side}
+use Rattle.std.proofs.Common.{◌≡◌, ◌≢◌, ℕ, zero, suc, ◌+◌, ◌*◌, ◌%◌, ◌/◌, ◌^◌, ◌<◌, ◌≤◌, ◌⊎◌, inl, inr, ◌==◌, Bool, true, false, if◌then◌else◌, List, [], ◌∷◌, ◌++◌, length, Option, Some, None, refl, sym, ◌∙◌, ap, subst, arith}
+use Rattle.std.specs.Prelude.{slice_get, slice_set, slice_index, is_some}
+use Rattle.std.proofs.lemmas.Bool.{and_parts, cases_eq}
 use Rattle.sx_lang.specs.declared.sides.Side.TheVariants.{From, To}
 use Rattle.sx_mean.specs.declared.events.End.{End}
 use Rattle.sx_trace.specs.declared.items.Item.{Item}
@@ -12,25 +11,25 @@ use Rattle.sx_ledger.specs.declared.entry.Maker.TheVariants as maker
 use Rattle.sx_machine.specs.State.{State}
 use Rattle.sx_mean.specs.Application.{PartTree, AppTree}
 use Rattle.sx_mean.specs.Ends.{ends_of}
-use Rattle.sx_model.specs.State.{Present, Attestation, Standing, Model}
+use Rattle.sx_model.specs.State.{Attestation, Standing, Model}
 use Rattle.sx_mean.specs.declared.apps.Link.{Link}
 use Rattle.sx_invoke.specs.ModuleState.{link_of, epoch_of}
-use Rattle.sx_model.specs.Step.{is_vouched, asked_of, was_attested, step}
+use Rattle.sx_model.specs.Step.{is_vouched, asked_of, was_attested}
 use Rattle.sx_model.specs.Renewal.{may_attest, boot_of, renewed}
 use Rattle.sx_world.specs.Setting.{Site, Setting}
 use Rattle.sx_world.specs.Wire.{low_first, number_in, ask_packet, challenge_in, is_ask}
 use Rattle.sx_world.specs.Ledger.{Made, NO_TARGET, made, is_made}
-use Rattle.sx_world.specs.Deployer.{DeployerState, Grant, asked, accepts, accepted, side_number, grant, grants_of, grant_to, grant_beyond, grants_beyond, grants_after, set_key, set_key_entry}
+use Rattle.sx_world.specs.Deployer.{DeployerState, Grant, asked, accepts, accepted, grants_of, grant_to, grant_beyond, grants_beyond, grants_after, set_key, set_key_entry}
 use Rattle.sx_world.specs.State.{World, Acted}
 use Rattle.sx_world.specs.Observation.{unless_made}
-use Rattle.sx_world.specs.Acts.{only, then_, with_packet, with_deployer, ask, key_given, keys_given, attested, denied, open_ask, attested_at, judged, answered}
+use Rattle.sx_world.specs.Acts.{then_, with_packet, with_deployer, ask, key_given, keys_given, attested, denied, open_ask, attested_at, judged, answered}
 use Rattle.sx_world.specs.Run.{counted}
 use Rattle.sx_world.proofs.Lists.{get_same, get_other, get_some, get_within, length_set, some_inj}
 use Rattle.sx_world.proofs.Entries.{made_behind}
 use Rattle.sx_world.proofs.Unique.{eq_refl}
 use Rattle.sx_world.proofs.Renewal.{renewed_grows, renewed_long, renewed_small, later_boot, higher_epoch, from_end, to_end}
 use Rattle.sx_world.proofs.Verdicts.{Verdict, Broken, Over, Going, judge, Fares, fares_then, fares_map}
-use Rattle.sx_world.proofs.Tied.{WasSent, AtLeast, KnownKey, KnownVouch, Known, HasEnd, asked_as, DeployerTied, IsTimely, HasSent, IsSane, HasSize, ModuleTied, Absent, Rests, Runs, Tied}
+use Rattle.sx_world.proofs.Tied.{KnownKey, Known, HasEnd, asked_as, DeployerTied, IsTimely, HasSent, IsSane, ModuleTied, Absent, Rests, Runs, Tied}
 
 -- a challenge's bytes tell it
 low_number : (n v : ℕ) → v < 256 ^ n → number_in (low_first n v) ≡ v

@@ -2,7 +2,6 @@
 use Rattle.std.proofs.Common.{◌≡◌, ℕ, zero, suc, ◌+◌, ◌/◌, ◌||◌, ◌==◌, Bool, true, false, if◌then◌else◌, List, [], ◌∷◌, length, take, drop, Option, Some, None, Result, Ok, Err, refl, ◌∙◌}
 use Rattle.std.specs.Prelude.{slice_get}
 use Rattle.sx_mean.specs.declared.apps.AppDevice.{AppDevice}
-use Rattle.sx_mean.specs.declared.events.End.{End}
 use Rattle.sx_trace.specs.declared.items.Item.{Item}
 use Rattle.sx_trace.specs.declared.items.Item.TheVariants as item
 use Rattle.sx_sched.specs.declared.lines.Line.{Line}
@@ -12,11 +11,10 @@ use Rattle.sx_machine.specs.declared.kinds.Seen.{Seen}
 use Rattle.sx_machine.specs.State.{State}
 use Rattle.sx_machine.specs.Step.{step}
 use Rattle.sx_machine.specs.Acts.{put as put_at, set as set_register, take as take_from, sense as sense_on, irq as interrupt}
-use Rattle.sx_mean.specs.Ends.{ends_of}
 use Rattle.sx_world.specs.Setting.{Site, Setting}
-use Rattle.sx_world.specs.Deployer.{accepts, Grant, set_key, set_key_entry, accepted, grants_after}
+use Rattle.sx_world.specs.Deployer.{accepts, Grant, accepted, grants_after}
 use Rattle.sx_world.specs.State.{World, Acted}
-use Rattle.sx_world.specs.Acts.{only, then_, with_node, at_node, stepped, done_on, with_packet, with_deployer, took, interrupted, key_given, keys_given, attested, denied, judged, answered, open_ask, attested_at}
+use Rattle.sx_world.specs.Acts.{only, then_, at_node, stepped, done_on, with_deployer, took, interrupted, key_given, keys_given, attested, denied, judged, answered, open_ask, attested_at}
 use Rattle.sx_world.specs.Run.{is_reset, steps_of, FINISH_STEPS, finish, put_on, set_on, give, place_at, sense_at, put_pieces, Register, set_all, register, unless_busy, load, call, acted}
 
 abbrev Same : World → Acted → Type 0

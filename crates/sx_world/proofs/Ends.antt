@@ -1,8 +1,8 @@
 -- The ends of a module: in its private section, and as the source has them.
-use Rattle.std.proofs.Common.{◌≡◌, ℕ, zero, suc, ◌+◌, ◌*◌, ◌/◌, ◌%◌, ◌<◌, ◌≤◌, ◌⊎◌, inl, inr, ◌==◌, ◌&&◌, Bool, true, false, if◌then◌else◌, List, [], ◌∷◌, ◌++◌, length, Option, Some, None, refl, sym, ◌∙◌, ap, subst, arith}
-use Rattle.std.specs.Prelude.{slice_get, is_some, is_none, nat_le, nat_lt}
+use Rattle.std.proofs.Common.{◌≡◌, ℕ, zero, suc, ◌+◌, ◌<◌, ◌≤◌, ◌⊎◌, inl, inr, ◌==◌, ◌&&◌, Bool, true, false, if◌then◌else◌, List, [], ◌∷◌, Option, Some, None, refl, sym, ◌∙◌, ap, subst, arith}
+use Rattle.std.specs.Prelude.{slice_get, nat_le, nat_lt}
 use Rattle.std.specs.List.{list_any, cons_option}
-use Rattle.std.proofs.lemmas.Bool.{true≢false, and_parts, eqb-true, and_from, cases_Bool, le-leb, ltb-true}
+use Rattle.std.proofs.lemmas.Bool.{true≢false, and_parts, eqb-true, le-leb, ltb-true}
 use Rattle.sx_lang.specs.declared.sides.Side.{Side}
 use Rattle.sx_lang.specs.declared.sides.Side.TheVariants.{From, To}
 use Rattle.sx_mean.specs.declared.apps.Link.{Link}
@@ -14,9 +14,9 @@ use Rattle.sx_mean.specs.Ends.{receiving, ends_after, ends_of}
 use Rattle.sx_model.specs.State.{EndView}
 use Rattle.sx_model.specs.Step.{◌>>?◌, same_side, changed}
 use Rattle.sx_model.specs.Renewal.{is_at, takes, is_below, opens}
-use Rattle.sx_world.specs.Observation.{is_end, has_end, sender_of}
+use Rattle.sx_world.specs.Observation.{is_end}
 use Rattle.sx_world.proofs.Lists.{some_inj}
-use Rattle.sx_world.proofs.Tied.{epoch_at, HasLength, Counts, SameEnd, SameEnds, open_at, AtLeast, HasEnd}
+use Rattle.sx_world.proofs.Tied.{epoch_at, HasLength, Counts, SameEnds, open_at, AtLeast, HasEnd}
 
 -- the end stands at this place, and no end before it is the same
 abbrev pub FoundAt : ℕ → Side → List End → ℕ → End → Type 0

@@ -1,8 +1,7 @@
 -- Each mark of a module that is under way is an item that the source allows, or it is forged.
-use Rattle.std.proofs.Common.{◌≡◌, ◌≢◌, ℕ, zero, suc, ◌+◌, ◌*◌, ◌/◌, ◌%◌, ◌<◌, ◌≤◌, ◌⊎◌, inl, inr, ◌==◌, ◌&&◌, ◌||◌, not, Bool, true, false, if◌then◌else◌, List, [], ◌∷◌, ◌++◌, length, Option, Some, None, refl, sym, ◌∙◌, ap, subst, arith}
-use Rattle.std.specs.Prelude.{slice_get, slice_set, slice_index, is_some, is_none, nat_le, nat_lt, bytes_eq}
-use Rattle.std.specs.List.{list_any}
-use Rattle.std.proofs.lemmas.Bool.{le-leb, ltb-true, true≢false, and_parts, eqb-true, cases_eq, or_cases, or_left, or_right, and_left, and_right, and_from, cases_Bool, false_from_ne_true, ne_eqb}
+use Rattle.std.proofs.Common.{◌≡◌, ℕ, zero, suc, ◌+◌, ◌*◌, ◌/◌, ◌%◌, ◌<◌, ◌≤◌, ◌⊎◌, inl, inr, ◌==◌, ◌&&◌, ◌||◌, not, Bool, true, false, if◌then◌else◌, List, [], ◌∷◌, ◌++◌, length, Option, Some, None, refl, sym, ◌∙◌, ap, subst, arith}
+use Rattle.std.specs.Prelude.{slice_get, slice_set, slice_index, is_some, nat_le}
+use Rattle.std.proofs.lemmas.Bool.{le-leb, ltb-true, true≢false, and_parts, eqb-true, cases_eq, or_cases, or_left, or_right, and_left, and_right, and_from, false_from_ne_true, ne_eqb}
 use Rattle.sx_lang.specs.declared.sides.Side.{Side}
 use Rattle.sx_lang.specs.declared.sides.Side.TheVariants.{From, To}
 use Rattle.sx_mean.specs.declared.apps.Link.{Link}
@@ -21,21 +20,20 @@ use Rattle.sx_invoke.specs.Entries.{end_found}
 use Rattle.sx_mean.specs.Application.{PartTree, AppTree}
 use Rattle.sx_mean.specs.Ends.{ends_of}
 use Rattle.sx_model.specs.State.{Reading, EndView, Pending, Present, Vouched as Vow, Attestation, Standing, Model, FIELDS}
-use Rattle.sx_model.specs.Reaction.{Flow, flow_of, after_event, all_done}
-use Rattle.sx_model.specs.Step.{◌>>?◌, where_, idle, reacts, changed, is_word, has_taken, has_opened, has_vouched, has_written, has_read, kind_is, is_sensor, waits, is_done, is_vouched, step}
-use Rattle.sx_model.specs.Renewal.{takes, opens, is_at, is_below, may_open}
+use Rattle.sx_model.specs.Reaction.{flow_of, after_event}
+use Rattle.sx_model.specs.Step.{idle, changed, is_word, has_taken, has_opened, has_vouched, has_written, has_read, kind_is, is_sensor, waits, is_done, is_vouched, step}
+use Rattle.sx_model.specs.Renewal.{takes, opens, is_below, may_open}
 use Rattle.sx_world.specs.Setting.{device_number}
-use Rattle.sx_world.specs.Wire.{begins, set_key_header, is_ask, is_set_key_header, is_event_header, challenge_in, link_in, epoch_in, last_in, value_in}
+use Rattle.sx_world.specs.Wire.{begins, is_ask, is_set_key_header, is_event_header, challenge_in, link_in, epoch_in, last_in, value_in}
 use Rattle.sx_world.specs.Ledger.{Made, NO_TARGET, made, is_made}
-use Rattle.sx_world.specs.Deployer.{side_number}
-use Rattle.sx_world.specs.Observation.{Observed, is_driver, read_item, write_item, side_in, is_end, has_end, sender_of, unless_made, has_wrapped, has_unwrapped}
-use Rattle.sx_world.proofs.Lists.{get_same, get_other, get_before, get_within, get_some, some_inj}
-use Rattle.sx_world.proofs.Ends.{FoundAt, found_at, renumbered, takes_at, opens_at, below_at, open_stays, opens_stays, open_same, takes_leaves, newly_open, open_small, EndOf, HasLink, has_link, Linked, linked, has_end-found}
+use Rattle.sx_world.specs.Observation.{Observed, is_driver, read_item, write_item, side_in, has_end, sender_of, unless_made, has_wrapped, has_unwrapped}
+use Rattle.sx_world.proofs.Lists.{get_some, some_inj}
+use Rattle.sx_world.proofs.Ends.{found_at, renumbered, takes_at, opens_at, below_at, open_stays, opens_stays, open_same, takes_leaves, newly_open, open_small, EndOf, has_link, linked, has_end-found}
 use Rattle.sx_world.proofs.Flows.{Flows, flows_same, flows_all, AllSending}
 use Rattle.sx_model.specs.Legal.{is_forged}
 use Rattle.sx_world.proofs.Unique.{distinct, sending_open, eq_refl}
-use Rattle.sx_world.proofs.Verdicts.{Verdict, Broken, Over, Going, judge, Fares}
-use Rattle.sx_world.proofs.Tied.{place_in, HasLength, Counts, SameEnd, SameEnds, SameState, WasSent, Settled, Settles, idle_with, Reacts, OwnSensor, Vouched, Begun, Refuses, Breaks, Opens, Vouches, Takes, Samples, Owes, Yet, Now, HasEnd, KnownKey, KnownVouch, Known, open_at, AtLeast, IsTimely, HasSent, IsSane, DeviceTied}
+use Rattle.sx_world.proofs.Verdicts.{judge, Fares}
+use Rattle.sx_world.proofs.Tied.{place_in, HasLength, SameEnds, SameState, WasSent, Settled, Settles, idle_with, Reacts, OwnSensor, Vouched, Begun, Refuses, Opens, Vouches, Takes, Samples, Owes, Yet, Now, KnownKey, Known, open_at, AtLeast, IsSane, DeviceTied}
 use Rattle.sx_world.proofs.Entries.{made_behind}
 use Rattle.sx_world.proofs.Moves.{readings_after, IsOwn, Moved, same_module, known_moved, sane_moved}
 

@@ -1,9 +1,7 @@
 -- What one module's mark changes in the source's state, and what stays.
-use Rattle.std.proofs.Common.{◌≡◌, ◌≢◌, ℕ, zero, suc, ◌+◌, ◌*◌, ◌/◌, ◌%◌, ◌<◌, ◌≤◌, ◌⊎◌, inl, inr, ◌==◌, Bool, true, false, if◌then◌else◌, List, [], ◌∷◌, ◌++◌, length, Option, Some, None, refl, sym, ◌∙◌, ap, subst, arith}
-use Rattle.std.specs.Prelude.{slice_get, slice_set, slice_index, is_some}
-use Rattle.std.proofs.lemmas.Bool.{true≢false, and_parts, eqb-true, cases_eq}
-use Rattle.sx_lang.specs.declared.sides.Side.{Side}
-use Rattle.sx_lang.specs.declared.sides.Side.TheVariants.{From, To}
+use Rattle.std.proofs.Common.{◌≡◌, ◌≢◌, ℕ, ◌≤◌, ◌⊎◌, inl, inr, true, false, List, [], ◌++◌, Some, refl, sym, ◌∙◌, ap, subst}
+use Rattle.std.specs.Prelude.{slice_get, slice_set, slice_index}
+use Rattle.std.proofs.lemmas.Bool.{cases_eq}
 use Rattle.sx_mean.specs.declared.apps.Link.{Link}
 use Rattle.sx_ledger.specs.declared.entry.Maker.{Maker}
 use Rattle.sx_ledger.specs.declared.entry.Maker.TheVariants as maker

@@ -11,7 +11,7 @@ use Rattle.sx_machine.specs.State.{State, reset}
 use Rattle.sx_machine.specs.Node.{IsNode}
 use Rattle.sx_mean.specs.declared.apps.AppDevice.{AppDevice}
 use Rattle.sx_invoke.specs.ModuleState.{link_of, epoch_of}
-use Rattle.sx_mean.specs.Application.{PartTree, AppTree}
+use Rattle.sx_mean.specs.Application.{PartTree}
 use Rattle.sx_mean.specs.Ends.{ends_of}
 use Rattle.sx_model.specs.State.{Reading, Present, Standing, Model}
 use Rattle.sx_model.specs.Step.{step, reset_at, absent_at, stale_at, is_vouched}

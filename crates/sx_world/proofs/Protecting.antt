@@ -24,12 +24,12 @@ use Rattle.sx_machine.specs.declared.kinds.Seen.{Seen}
 use Rattle.sx_machine.specs.State.{State}
 use Rattle.sx_machine.specs.Step.{Shows, step, own_of}
 use Rattle.sx_model.specs.Step.{step as model_step, first_present, protected_as, is_vouched}
-use Rattle.sx_invoke.specs.ModuleState.{EndState, ModuleState, initial_ends, initial_state, state_of, link_of, epoch_of}
-use Rattle.sx_image.specs.Watched.{violation_of, marks_of_touches}
+use Rattle.sx_invoke.specs.ModuleState.{initial_ends, state_of, link_of, epoch_of}
+use Rattle.sx_image.specs.Watched.{violation_of}
 use Rattle.sx_image.specs.Image.{private_bytes}
-use Rattle.sx_mean.specs.Application.{PartTree, AppTree}
+use Rattle.sx_mean.specs.Application.{PartTree}
 use Rattle.sx_mean.specs.Ends.{ends_of}
-use Rattle.sx_model.specs.State.{Reading, EndView, Present, Standing, Model}
+use Rattle.sx_model.specs.State.{Reading, Present, Standing, Model}
 use Rattle.sx_world.specs.Setting.{Site, Setting, module_of, deployed, is_at_site}
 use Rattle.sx_world.specs.Wire.{challenge_in}
 use Rattle.sx_world.specs.Ledger.{Made}

@@ -1,13 +1,13 @@
 -- What a renewal does to the connections' epochs: those of the module's connections are one higher, and none is above 255.
-use Rattle.std.proofs.Common.{◌≡◌, ℕ, zero, suc, ◌+◌, ◌<◌, ◌≤◌, ◌⊎◌, inl, inr, ◌==◌, ◌&&◌, ◌||◌, not, Bool, true, false, if◌then◌else◌, List, [], ◌∷◌, ◌++◌, length, Option, Some, None, refl, sym, ◌∙◌, ap, subst, arith}
+use Rattle.std.proofs.Common.{◌≡◌, ℕ, zero, suc, ◌+◌, ◌<◌, ◌≤◌, inl, inr, ◌==◌, ◌&&◌, not, Bool, true, false, if◌then◌else◌, List, [], ◌∷◌, length, Option, Some, None, refl, sym, ◌∙◌, ap, subst, arith}
 use Rattle.std.specs.Prelude.{slice_get, slice_index, nat_lt, nat_le}
 use Rattle.std.specs.List.{cons_option}
-use Rattle.std.proofs.lemmas.Bool.{true≢false, and_parts, or_left, or_right, or_parts, ltb-true, not-true}
+use Rattle.std.proofs.lemmas.Bool.{true≢false, and_parts, or_left, or_parts, ltb-true, not-true}
 use Rattle.sx_lang.specs.declared.sides.Side.TheVariants.{From, To}
 use Rattle.sx_mean.specs.declared.apps.Link.{Link}
 use Rattle.sx_mean.specs.declared.events.End.{End}
 use Rattle.sx_mean.specs.Application.{AppTree}
-use Rattle.sx_mean.specs.Ends.{sending, receiving, ends_after, ends_of}
+use Rattle.sx_mean.specs.Ends.{receiving, ends_after, ends_of}
 use Rattle.sx_model.specs.State.{Attestation}
 use Rattle.sx_model.specs.Renewal.{is_of, raised, is_spent, may_attest, boot_of, renewed}
 use Rattle.sx_world.proofs.Lists.{some_inj}

@@ -11,7 +11,7 @@ use Rattle.sx_rules.specs.declared.access.Violation.{Violation}
 use Rattle.sx_bus.specs.declared.devices.Window.{Window}
 use Rattle.sx_invoke.specs.Setup.{Setup, Call}
 use Rattle.sx_invoke.specs.ModuleState.{EndState, ModuleState, end_of, with_end, epoch_of, link_of}
-use Rattle.sx_invoke.specs.Marks.{Mark, Wrapped, Unwrapped, Sampled, Actuated}
+use Rattle.sx_invoke.specs.Marks.{Mark, Wrapped, Actuated}
 use Rattle.sx_invoke.specs.Windows.{two, write_bytes}
 use Rattle.sx_invoke.specs.Progress.{Progress, Course, Going, Broken, and_on, finished, marks_in}
 use Rattle.sx_invoke.specs.Acts.{copied_to, with_piece, event_header, counted, event_packet, with_packet, with_packets, own_window, actuated, with_acts}
@@ -19,11 +19,11 @@ use Rattle.sx_mean.specs.Ends.{is_sending}
 use Rattle.sx_mean.specs.Application.{PartTree, AppTree}
 use Rattle.sx_mean.specs.Ends.{ends_of}
 use Rattle.sx_model.specs.State.{EndView}
-use Rattle.sx_model.specs.Reaction.{Flow, MOST_SENT, field_at, field_of, sent_over, is_from, sends, sent_to, done, all_done}
+use Rattle.sx_model.specs.Reaction.{Flow, MOST_SENT, field_at, field_of, sent_over, is_from, sends, sent_to, all_done}
 use Rattle.sx_world.specs.Setting.{device_number}
-use Rattle.sx_world.specs.Wire.{link_in, last_in, value_in}
+use Rattle.sx_world.specs.Wire.{last_in, value_in}
 use Rattle.sx_world.specs.Observation.{sender_of}
-use Rattle.sx_world.proofs.Lists.{get_same, get_other, get_end, get_before, get_within}
+use Rattle.sx_world.proofs.Lists.{get_same, get_other, get_end, get_before}
 use Rattle.sx_world.proofs.Ends.{has_link, EndOf, epoch_open, epoch_closed}
 use Rattle.sx_world.proofs.Flows.{Flows, flows_on, flows_to, flows_all, AllSending}
 use Rattle.sx_world.proofs.Unique.{Distinct, distinct}

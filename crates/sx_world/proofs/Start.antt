@@ -1,18 +1,17 @@
 -- At power-on the world and the source are tied.
-use Rattle.std.proofs.Common.{◌≡◌, ◌≢◌, ℕ, zero, suc, ◌+◌, ◌<◌, ◌≤◌, ◌⊎◌, inl, inr, Bool, true, false, List, [], ◌∷◌, length, map, replicate, All, Option, Some, None, refl, sym, ◌∙◌, ap, subst, arith}
+use Rattle.std.proofs.Common.{◌≡◌, ℕ, zero, suc, ◌+◌, ◌≤◌, inl, true, false, List, [], ◌∷◌, length, map, replicate, Option, Some, None, refl, sym, ◌∙◌, ap, subst, arith}
 use Rattle.std.specs.Prelude.{slice_get, slice_index}
 use Rattle.std.proofs.lemmas.Bool.{true≢false}
 use Rattle.sx_bus.specs.declared.devices.Kind.{Kind}
 use Rattle.sx_bus.specs.declared.devices.Window.{Window}
 use Rattle.sx_bus.specs.Devices.{HaveSamples, powered_on}
 use Rattle.sx_machine.specs.State.{State, power_on as node_on}
-use Rattle.sx_model.specs.State.{power_on, Reading, Present, Standing, Model, FIELDS}
-use Rattle.sx_mean.specs.Application.{PartTree, AppTree}
-use Rattle.sx_mean.specs.Ends.{ends_of}
+use Rattle.sx_model.specs.State.{power_on, Reading, Standing, FIELDS}
+use Rattle.sx_mean.specs.Application.{AppTree}
 use Rattle.sx_model.specs.Renewal.{boot_of}
 use Rattle.sx_mean.specs.declared.apps.Link.{Link}
-use Rattle.sx_world.specs.Setting.{Site, Setting, windows_at, device_number}
-use Rattle.sx_world.specs.State.{World, nodes_from, switched_on}
+use Rattle.sx_world.specs.Setting.{Setting, windows_at, device_number}
+use Rattle.sx_world.specs.State.{nodes_from, switched_on}
 use Rattle.sx_machine.specs.Node.{IsNode}
 use Rattle.sx_world.specs.Law.{IsSound, devices_of}
 use Rattle.sx_world.proofs.Lists.{some_inj}

@@ -15,7 +15,6 @@ use Rattle.sx_invoke.specs.Marks.{Mark, Wrapped, Unwrapped}
 use Rattle.sx_image.specs.Watched.{marks_of_touches, marks_of_event, marks_of}
 use Rattle.sx_invoke.specs.Progress.{Invoked}
 use Rattle.sx_mean.specs.Application.{PartTree, AppTree}
-use Rattle.sx_mean.specs.Ends.{ends_of}
 use Rattle.sx_model.specs.State.{Reading, Present, Standing, Model, FIELDS}
 use Rattle.sx_model.specs.Step.{is_vouched}
 use Rattle.sx_world.specs.Setting.{Setting}

@@ -1,5 +1,5 @@
 -- How a run of the world stands to a run of the source.
-use Rattle.std.proofs.Common.{◌≡◌, ◌≢◌, ℕ, ◌+◌, ◌*◌, ◌<◌, ◌≤◌, ◌⊎◌, ◌==◌, ◌&&◌, ◌%◌, ◌/◌, Bool, true, false, if◌then◌else◌, List, [], ◌∷◌, ◌++◌, length, Option, Some, None}
+use Rattle.std.proofs.Common.{◌≡◌, ◌≢◌, ℕ, ◌+◌, ◌*◌, ◌<◌, ◌≤◌, ◌⊎◌, ◌==◌, ◌&&◌, true, false, if◌then◌else◌, List, [], ◌∷◌, ◌++◌, length, Option, Some, None}
 use Rattle.std.specs.Prelude.{slice_get, slice_index, is_some, nat_le}
 use Rattle.sx_lang.specs.declared.sides.Side.{Side}
 use Rattle.sx_lang.specs.declared.sides.Side.TheVariants.{From, To}
@@ -18,7 +18,6 @@ use Rattle.sx_machine.specs.State.{State}
 use Rattle.sx_machine.specs.Step.{pc_of}
 use Rattle.sx_machine.specs.declared.kinds.Event.{Event}
 use Rattle.sx_reach.specs.Reach.{Comes}
-use Rattle.sx_invoke.specs.Setup.{Setup}
 use Rattle.sx_invoke.specs.ModuleState.{EndState, ModuleState, state_of, end_of, with_end, epoch_of, link_of}
 use Rattle.sx_invoke.specs.Marks.{Mark, Wrapped, Unwrapped, Sampled, Actuated}
 use Rattle.sx_image.specs.Watched.{Watched, watch}
@@ -29,14 +28,14 @@ use Rattle.sx_image.specs.Image.{private_bytes, setup_at}
 use Rattle.sx_image.specs.Realizes.{Underway, Aborted, Exited}
 use Rattle.sx_mean.specs.Application.{PartTree, AppTree}
 use Rattle.sx_mean.specs.Ends.{ends_of}
-use Rattle.sx_model.specs.State.{Reading, EndView, Pending, Present, Attestation, Standing, Model, FIELDS}
-use Rattle.sx_model.specs.Reaction.{Flow, flow_of, after_event}
+use Rattle.sx_model.specs.State.{Reading, EndView, Present, Attestation, Standing, Model, FIELDS}
+use Rattle.sx_model.specs.Reaction.{flow_of, after_event}
 use Rattle.sx_model.specs.Step.{is_vouched, same_side, is_sensor, kind_is}
 use Rattle.sx_model.specs.Renewal.{boot_of}
 use Rattle.sx_world.specs.Setting.{Site, Setting, is_at_site, device_number, windows_at}
 use Rattle.sx_world.specs.Wire.{ask_packet, set_key_header, is_ask, is_set_key_header, is_event_header, challenge_in, link_in, epoch_in, last_in, value_in}
 use Rattle.sx_world.specs.Ledger.{Made, is_made}
-use Rattle.sx_world.specs.Deployer.{DeployerState, side_number}
+use Rattle.sx_world.specs.Deployer.{side_number}
 use Rattle.sx_world.specs.State.{World}
 use Rattle.sx_world.specs.Observation.{side_in, sender_of}
 

@@ -17,15 +17,14 @@ use Rattle.sx_reach.specs.Reach.{Goes, Comes, Here, Next, Ends}
 use Rattle.sx_reach.proofs.Reaching.{one_step}
 use Rattle.sx_invoke.specs.Setup.{Setup}
 use Rattle.sx_invoke.specs.ModuleState.{state_of, link_of, epoch_of}
-use Rattle.sx_invoke.specs.Marks.{Mark, Wrapped, HasPrefix}
-use Rattle.sx_image.specs.Watched.{Watched, watch, watched_on, violation_of, marks_of}
-use Rattle.sx_invoke.specs.Progress.{Progress, Invoked, Returns, Violates, marks_in}
-use Rattle.sx_image.specs.Image.{private_bytes, setup_at, call_at}
+use Rattle.sx_invoke.specs.Marks.{Mark, Wrapped}
+use Rattle.sx_image.specs.Watched.{Watched, watch, violation_of, marks_of}
+use Rattle.sx_invoke.specs.Progress.{Invoked, marks_in}
+use Rattle.sx_image.specs.Image.{private_bytes, setup_at}
 use Rattle.sx_image.specs.Realizes.{Underway, Aborted, Exited, exit_registers}
 use Rattle.sx_mean.specs.Application.{PartTree, AppTree}
 use Rattle.sx_mean.specs.Ends.{ends_of}
-use Rattle.sx_lang.specs.declared.sides.Side.{Side}
-use Rattle.sx_lang.specs.declared.sides.Side.TheVariants.{From, To}
+use Rattle.sx_lang.specs.declared.sides.Side.TheVariants.{From}
 use Rattle.sx_model.specs.State.{Present, Standing, Model, FIELDS}
 use Rattle.sx_model.specs.Step.{is_vouched}
 use Rattle.sx_world.specs.Setting.{Site, Setting}
@@ -33,7 +32,7 @@ use Rattle.sx_world.specs.Ledger.{Made, is_made}
 use Rattle.sx_world.specs.Observation.{Observed, observed}
 use Rattle.sx_world.proofs.Lists.{get_same, some_inj}
 use Rattle.sx_world.proofs.Flows.{Flows, flows_same, flows_on}
-use Rattle.sx_world.proofs.Verdicts.{Verdict, judge, Fares, fares_then, fares_map}
+use Rattle.sx_world.proofs.Verdicts.{judge, Fares, fares_then, fares_map}
 use Rattle.sx_world.proofs.Tied.{open_at, AtLeast, Owes, Known, IsSane, IsUnderWay, SameState}
 use Rattle.sx_world.proofs.Moves.{IsOwn, Moved, known_moved, sane_moved}
 use Rattle.sx_world.proofs.Judged.{Readings, Finished, done_owes}

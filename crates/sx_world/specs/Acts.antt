@@ -1,6 +1,5 @@
 -- The acts that a schedule is made of: one instruction of a node, or one thing that is done from outside.
 use Rattle.std.specs.Prelude.{ℕ, ◌+◌, if◌then◌else◌, List, [], ◌∷◌, ◌++◌, length, slice_get, slice_set, Option, Some, None, Result, Ok, Err}
-use Rattle.sx_mean.specs.declared.events.End.{End}
 use Rattle.sx_trace.specs.declared.items.Item.{Item}
 use Rattle.sx_trace.specs.declared.items.Item.TheVariants as item
 use Rattle.sx_ledger.specs.declared.entry.Maker.TheVariants as maker
@@ -10,7 +9,6 @@ use Rattle.sx_machine.specs.declared.kinds.Seen.{Seen}
 use Rattle.sx_machine.specs.State.{State}
 use Rattle.sx_machine.specs.Step.{Shows, own_of, step}
 use Rattle.sx_machine.specs.Acts.{set}
-use Rattle.sx_mean.specs.Ends.{ends_of}
 use Rattle.sx_world.specs.Setting.{Site, Setting, module_of}
 use Rattle.sx_world.specs.Ledger.{Made, NO_TARGET, made, is_made}
 use Rattle.sx_world.specs.Deployer.{DeployerState, Grant, asked, accepts, accepted, set_key, set_key_entry, grants_after}
