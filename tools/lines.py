@@ -1,0 +1,25 @@
+#!/usr/bin/env python3
+"""Prints the table of lines of docs/PROOFS.md: each crate's src (without tests), specs and proofs."""
+
+from pathlib import Path
+
+CRATES = Path(__file__).resolve().parent.parent / "crates"
+
+
+def lines(files):
+    return sum(len(file.read_text().splitlines()) for file in files)
+
+
+def counts(crate):
+    src = [file for file in (crate / "src").rglob("*.rt") if "tests" not in file.stem]
+    return lines(src), lines((crate / "specs").rglob("*.antt")), lines((crate / "proofs").rglob("*.antt"))
+
+
+def main():
+    rows = {crate.name: counts(crate) for crate in CRATES.iterdir() if (crate / "src").is_dir()}
+    print("| | lines in src / specs / proofs |\n|---|---|")
+    for name, row in sorted(rows.items(), key=lambda item: -sum(item[1])):
+        print(f"| {name} | " + " / ".join(f"{count:,}" for count in row) + " |")
+
+
+main()
