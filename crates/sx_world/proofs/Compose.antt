@@ -4,8 +4,7 @@ use Rattle.std.specs.Prelude.{slice_get}
 use Rattle.sx_trace.specs.declared.items.Item.{Item}
 use Rattle.sx_trace.specs.declared.items.Item.TheVariants as item
 use Rattle.sx_trace.specs.declared.items.Cause.TheVariants.{Asked}
-use Rattle.sx_sched.specs.declared.lines.Line.{Line}
-use Rattle.sx_sched.specs.declared.lines.Line.TheVariants.{Blank, Run, Finish, Put, Set, Take, Give, Forge, Sense, Irq, Reset, Ask, Answer, Load, Call}
+use Rattle.sx_sched.specs.Lines.{Line, Blank, Run, Finish, Put, Set, Take, Give, Forge, Sense, Irq, Reset, Ask, Answer, Load, Call}
 use Rattle.sx_mean.specs.declared.apps.AppDevice.{AppDevice}
 use Rattle.sx_machine.specs.declared.kinds.Refused.{Refused}
 use Rattle.sx_machine.specs.declared.kinds.Refused.TheVariants.{Busy, Guarded, Masked}
@@ -166,12 +165,12 @@ module _ (set : Setting) (keep : ActsKeep set) where
   keeps_line words w Blank lt form mo t = tied_counted w mo lt t
   keeps_line words w (Run n k) lt form mo t = keeps_steps (λ s. false) [] n k (counted w) keeps_nothing mo (tied_counted w mo lt t)
   keeps_line words w (Finish n) lt form mo t = keeps_finish n (counted w) mo (tied_counted w mo lt t)
-  keeps_line words w (Put n at bytes) lt form mo t = keeps_put n at bytes.items (counted w) mo (tied_counted w mo lt t)
+  keeps_line words w (Put n at bytes) lt form mo t = keeps_put n at bytes (counted w) mo (tied_counted w mo lt t)
   keeps_line words w (Set n r v) lt form mo t = keeps_set n r v (counted w) form.0 form.1 mo (tied_counted w mo lt t)
   keeps_line words w (Take n at len) lt form mo t =
       keeps_at (counted w) (λ s. took (counted w) n (take_from s at len).shown) n (slice_get w.nodes n) refl (λ s e. keep.take (counted w) n at len s e) mo (tied_counted w mo lt t)
   keeps_line words w (Give k n at) lt form mo t = keeps_give (counted w) n at (slice_get w.packets k) mo (tied_counted w mo lt t)
-  keeps_line words w (Forge bytes) lt form mo t = keep.packet (counted w) bytes.items mo (tied_counted w mo lt t)
+  keeps_line words w (Forge bytes) lt form mo t = keep.packet (counted w) bytes mo (tied_counted w mo lt t)
   keeps_line words w (Sense d v) lt form mo t = keeps_sense (counted w) d v (slice_get set.app.devices d) refl form.0 form.1 mo (tied_counted w mo lt t)
   keeps_line words w (Irq n line) lt form mo t =
       keeps_at (counted w) (λ s. interrupted set (counted w) n (interrupt s line).state (interrupt s line).shown) n (slice_get w.nodes n) refl (λ s e. keep.irq (counted w) n line s form e) mo (tied_counted w mo lt t)

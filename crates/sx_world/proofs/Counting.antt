@@ -4,8 +4,7 @@ use Rattle.std.specs.Prelude.{slice_get}
 use Rattle.sx_mean.specs.declared.apps.AppDevice.{AppDevice}
 use Rattle.sx_trace.specs.declared.items.Item.{Item}
 use Rattle.sx_trace.specs.declared.items.Item.TheVariants as item
-use Rattle.sx_sched.specs.declared.lines.Line.{Line}
-use Rattle.sx_sched.specs.declared.lines.Line.TheVariants.{Blank, Run, Finish, Put, Set, Take, Give, Forge, Sense, Irq, Reset, Ask, Answer, Load, Call}
+use Rattle.sx_sched.specs.Lines.{Line, Blank, Run, Finish, Put, Set, Take, Give, Forge, Sense, Irq, Reset, Ask, Answer, Load, Call}
 use Rattle.sx_machine.specs.declared.kinds.Refused.{Refused}
 use Rattle.sx_machine.specs.declared.kinds.Seen.{Seen}
 use Rattle.sx_machine.specs.State.{State}
@@ -120,7 +119,7 @@ pub counts_lines : (set : Setting) (w : World) (line : Line) → (acted set w li
 counts_lines set w Blank = refl
 counts_lines set w (Run n k) = same_steps set (λ s. false) [] n k w
 counts_lines set w (Finish n) = same_steps set (λ s. s.cur == 0) (item.Budget n ∷ []) n FINISH_STEPS w
-counts_lines set w (Put n at bytes) = same_put n at bytes.items w
+counts_lines set w (Put n at bytes) = same_put n at bytes w
 counts_lines set w (Set n r v) = same_set n r v w
 counts_lines set w (Take n at len) = same_at w (λ s. took w n (take_from s at len).shown) (slice_get w.nodes n) (λ s. same_took w n (take_from s at len).shown)
 counts_lines set w (Give k n at) = same_give w n at (slice_get w.packets k)

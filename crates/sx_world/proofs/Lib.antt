@@ -30,3 +30,9 @@ pub mod Sensing
 pub mod Interrupting
 pub mod Fits
 pub mod Whole
+pub mod Windows
+pub mod DeviceWords
+pub mod Sites
+pub mod Settled
+pub mod FormedLines
+pub mod Accepting

@@ -8,8 +8,7 @@ use Rattle.sx_rules.specs.declared.section.Layout.{Layout}
 use Rattle.sx_rules.specs.Admission.{good_bounds, parts_apart, apart}
 use Rattle.sx_bus.specs.declared.devices.Window.{Window}
 use Rattle.sx_bus.specs.Devices.{ArePlaces, powered_on, places_of, device_at}
-use Rattle.sx_sched.specs.declared.lines.Line.{Line}
-use Rattle.sx_sched.specs.declared.lines.Line.TheVariants.{Blank, Run, Finish, Put, Set, Take, Give, Forge, Sense, Irq, Reset, Ask, Answer, Load, Call}
+use Rattle.sx_sched.specs.Lines.{Line, Blank, Run, Finish, Put, Set, Take, Give, Forge, Sense, Irq, Reset, Ask, Answer, Load, Call}
 use Rattle.sx_tag.specs.Mac.{IsTag}
 use Rattle.sx_image.specs.Image.{Image}
 use Rattle.sx_image.specs.Realizes.{Realizes}

@@ -4,8 +4,7 @@ use Rattle.std.specs.List.{position_from}
 use Rattle.sx_trace.specs.declared.items.Cause.TheVariants.{Asked}
 use Rattle.sx_trace.specs.declared.items.Item.{Item}
 use Rattle.sx_trace.specs.declared.items.Item.TheVariants as item
-use Rattle.sx_sched.specs.declared.lines.Line.{Line}
-use Rattle.sx_sched.specs.declared.lines.Line.TheVariants.{Blank, Run, Finish, Put, Set, Take, Give, Forge, Sense, Irq, Reset, Ask, Answer, Load, Call}
+use Rattle.sx_sched.specs.Lines.{Line, Blank, Run, Finish, Put, Set, Take, Give, Forge, Sense, Irq, Reset, Ask, Answer, Load, Call}
 use Rattle.sx_mean.specs.declared.apps.AppDevice.{AppDevice}
 use Rattle.sx_machine.specs.declared.kinds.Event.{Event}
 use Rattle.sx_machine.specs.declared.kinds.Event.TheVariants as event
@@ -109,11 +108,11 @@ abbrev pub acted : Setting → World → Line → Acted
 acted set w Blank = only w []
 acted set w (Run n k) = steps_of set (λ s. false) [] n k w
 acted set w (Finish n) = finish set n w
-acted set w (Put n at bytes) = put_on n at bytes.items w
+acted set w (Put n at bytes) = put_on n at bytes w
 acted set w (Set n r v) = set_on n r v w
 acted set w (Take n at len) = at_node w (λ s. took w n (take_from s at len).shown) (slice_get w.nodes n)
 acted set w (Give k n at) = give w n at (slice_get w.packets k)
-acted set w (Forge bytes) = with_packet w bytes.items
+acted set w (Forge bytes) = with_packet w bytes
 acted set w (Sense d v) = sense_at set w d v (slice_get set.app.devices d)
 acted set w (Irq n line) = at_node w (λ s. interrupted set w n (irq s line).state (irq s line).shown) (slice_get w.nodes n)
 acted set w (Reset n) = at_node w (λ s. record { world = with_node w n (reset s) w.ledger w.steps; items = item.Reset n Asked ∷ [] }) (slice_get w.nodes n)
