@@ -1,7 +1,10 @@
 pub mod Blanks
-pub mod Fronts
+pub mod Due
 pub mod Going
-pub mod Sent
-pub mod Tells
-pub mod Statuses
 pub mod Heads
+pub mod Modules
+pub mod Promised
+pub mod Refusals
+pub mod Sent
+pub mod Statuses
+pub mod Tells

@@ -1,14 +1,15 @@
 -- What the command `check` writes: a function of the head of the input, and of what a deployment's text means.
-use Rattle.std.specs.Prelude.{◌≡◌, ℕ, ◌/◌, ◌%◌, List, [], ◌∷◌, ◌++◌, slice_index, codes, Result, Ok, Err}
-use Rattle.sx_told.specs.Told.{Output}
+use Rattle.std.specs.Prelude.{ℕ, ◌/◌, ◌%◌, List, [], ◌∷◌, ◌++◌, slice_index, codes, Result, Ok, Err}
+use Rattle.sx_told.specs.Told.{Output, unread}
 use Rattle.sx_rules.specs.declared.section.Layout.{Layout}
 use Rattle.sx_stage.specs.declared.fault.Place.TheVariants.{Nowhere}
 use Rattle.sx_stage.specs.declared.fault.DeployFault.{DeployFault}
 use Rattle.sx_stage.specs.Fault.{fault}
 use Rattle.sx_stage.specs.Text.{fault_text}
-use Rattle.sx_head.specs.Head.{Head, Found, TooLong, NoMark, Unread}
+use Rattle.sx_head.specs.Head.{Head, Found, TooLong, NoMark, Unread, head}
 use Rattle.sx_deploy.specs.Deployment.{Deployed, IsRead}
-use Rattle.sx_top.specs.Output.{line, end_line, unread}
+use Rattle.sx_io.specs.Reading.{Answer}
+use Rattle.sx_top.specs.Output.{line, end_line}
 
 -- what a deployment's text means
 abbrev pub Meaning : Type 0
@@ -47,8 +48,12 @@ abbrev pub checked : Result Deployed DeployFault → Output
 checked (Ok d) = record { text = module_lines d.names.modules d.layouts ++ end_line; status = 0 }
 checked (Err f) = refused f
 
-abbrev pub check_all : Meaning → Head → Output
-check_all meaning (Found text more) = checked (meaning text)
-check_all meaning TooLong = refused (fault 1 Nowhere)
-check_all meaning NoMark = refused (fault 2 Nowhere)
-check_all meaning Unread = unread
+abbrev pub check_head : Meaning → Head → Output
+check_head meaning (Found text more) = checked (meaning text)
+check_head meaning TooLong = refused (fault 1 Nowhere)
+check_head meaning NoMark = refused (fault 2 Nowhere)
+check_head meaning Unread = unread
+
+-- the command `check`
+abbrev pub check_all : Meaning → List Answer → Output
+check_all meaning answers = check_head meaning (head answers)

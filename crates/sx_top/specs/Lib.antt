@@ -6,3 +6,4 @@ pub mod Output
 pub mod Good
 pub mod Check
 pub mod Commands
+pub mod Promises

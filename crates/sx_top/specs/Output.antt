@@ -1,8 +1,8 @@
 -- What the command `run` writes, and its exit status: a function of the answers that the lines of its input give.
-use Rattle.std.specs.Prelude.{ℕ, ◌+◌, Bool, false, List, [], ◌∷◌, ◌++◌, Option, Some, None, codes, nat_lt, replicate, if◌then◌else◌}
+use Rattle.std.specs.Prelude.{ℕ, ◌+◌, List, [], ◌∷◌, ◌++◌, Option, Some, None, codes, nat_lt, replicate, if◌then◌else◌}
 use Rattle.sx_io.specs.Reading.{Answer, Line, End, Long, Fault}
 use Rattle.sx_head.specs.Head.{is_mark}
-use Rattle.sx_told.specs.Told.{Output, behind, read_failed}
+use Rattle.sx_told.specs.Told.{Output, behind, unread}
 use Rattle.sx_tag.specs.Mac.{Mac}
 use Rattle.sx_machine.specs.State.{State, power_on}
 use Rattle.sx_top.specs.Orders.{Order, order_of}
@@ -22,21 +22,15 @@ end_line = line (codes "end")
 unfoldable pub usage_line : List ℕ
 usage_line = line (codes "fault usage")
 
-unfoldable pub read_line : List ℕ
-read_line = line (codes "fault read")
-
 unfoldable pub unbuilt_line : List ℕ
 unbuilt_line = line (codes "fault unbuilt")
 
--- the last line and the status: 0 at the end, 2 for other words, 4 where a read failed, 7 for what isn't built
+-- the last line and the status: 0 at the end, 2 for other words, 7 for what isn't built
 abbrev pub finished : Output
 finished = record { text = end_line; status = 0 }
 
 abbrev pub misused : Output
 misused = record { text = usage_line; status = 2 }
-
-abbrev pub unread : Output
-unread = record { text = read_line; status = read_failed }
 
 abbrev pub unbuilt : Output
 unbuilt = record { text = unbuilt_line; status = 7 }

@@ -1,19 +1,18 @@
 //! The command `check`: it reads a deployment and says where its modules stand, or which rule it breaks.
 
-ghost use Rattle.std.specs.Prelude.{◌≡◌, ◌≤◌, ◌++◌, ◌∷◌, [], IfOk, OnOk, Ok, string_bytes};
-ghost use Rattle.sx_io.specs.Reading.{scan};
-ghost use Rattle.sx_told.specs.Told.{Told, Ends, source_at, sink_at, read_failed};
-ghost use Rattle.sx_head.specs.Head.{head};
-ghost use Rattle.sx_stage.specs.Fault.{fault};
+ghost use Rattle.std.specs.Prelude.{◌≡◌, ◌≤◌, ◌++◌, ◌∷◌, IfOk, OnOk, Ok, string_bytes};
+ghost use Rattle.sx_told.specs.Told.{Told, Ends, moment};
+ghost use Rattle.sx_head.specs.Head.{head_lines};
 ghost use Rattle.sx_deploy.specs.SeenDeployment.{deployed_as};
 ghost use Rattle.sx_top.specs.Output.{end_line};
 ghost use Rattle.sx_top.specs.Check.{Meaning, IsMeaning, digit, address, module_line, module_lines, fault_line, refused, checked, check_all};
+ghost use Rattle.sx_top.specs.Promises.{CheckTold, RunsOutBehindHead};
 
 use std::alloc::{AllocError, Global};
 use sx_deploy::deployment::{Deployment, read_deployment};
-use sx_deploy::{DeployError, DeployFault, Place};
+use sx_deploy::{DeployError, DeployFault};
 use sx_head::{HeadFault, read_head};
-use sx_io::{Lines, ReaderState, Sink, Source};
+use sx_io::{Lines, Sink, Source};
 use sx_lang::names::Name;
 use sx_rules::Layout;
 use sx_told::{OUT_OF_MEMORY, READ_FAILED, finish};
@@ -94,8 +93,7 @@ fn accepted(alloc: Global, deployment: &Deployment) -> Result<Vec<u8>, AllocErro
 
 /// Writes where the modules stand.
 fn accept<K: Sink>(alloc: Global, deployment: &Deployment, output: &mut K) -> u8
-    ensures ends { Ends K.tells (sink_at (K.written output.old) (K.faults output.old)) (sink_at (K.written output.new) (K.faults output.new)) result (checked (Ok (deployed_as deployment.now))) }
-    ensures read { result ≡ read_failed → ⊥ }
+    ensures { Ends K.tells (K.at output.old) (K.at output.new) result (checked (Ok (deployed_as deployment.now))) }
 {
     match accepted(alloc, deployment) {
         Ok(text) => finish(output, &text, 0),
@@ -105,8 +103,7 @@ fn accept<K: Sink>(alloc: Global, deployment: &Deployment, output: &mut K) -> u8
 
 /// Writes which rule is broken, and where.
 fn refuse<K: Sink>(alloc: Global, fault: DeployFault, output: &mut K) -> u8
-    ensures ends { Ends K.tells (sink_at (K.written output.old) (K.faults output.old)) (sink_at (K.written output.new) (K.faults output.new)) result (refused fault) }
-    ensures read { result ≡ read_failed → ⊥ }
+    ensures { Ends K.tells (K.at output.old) (K.at output.new) result (refused fault) }
 {
     match fault_line(alloc, fault) {
         Ok(text) => finish(output, text.as_bytes(), REFUSED),
@@ -116,9 +113,8 @@ fn refuse<K: Sink>(alloc: Global, fault: DeployFault, output: &mut K) -> u8
 
 /// Writes what is said of a deployment's text.
 fn judge<K: Sink>(alloc: Global, text: &[u8], output: &mut K) -> u8
-    ensures ends { (meaning : Meaning) → IsMeaning meaning
-        → Ends K.tells (sink_at (K.written output.old) (K.faults output.old)) (sink_at (K.written output.new) (K.faults output.new)) result (checked (meaning text.now)) }
-    ensures read { result ≡ read_failed → ⊥ }
+    ensures { (meaning : Meaning) → IsMeaning meaning
+        → Ends K.tells (K.at output.old) (K.at output.new) result (checked (meaning text.now)) }
 {
     match read_deployment(alloc, text) {
         Ok(deployment) => accept(alloc, &deployment, output),
@@ -127,31 +123,27 @@ fn judge<K: Sink>(alloc: Global, text: &[u8], output: &mut K) -> u8
     }
 }
 
-/// A rule that the text as a whole breaks.
-fn whole(rule: u8) -> DeployFault
-    ensures { result ≡ fault rule Place.Nowhere }
-{
-    DeployFault {
-        rule,
-        place: Place::Nowhere,
-    }
-}
-
-/// The command `check`: a deployment, and the line `%%`. Gives the exit status, as `top` does for this
-/// command. What stands behind that line isn't judged.
-#[tactic(auto, unfolding(crate::specs::Output::read_line))]
-pub fn check_over<S: Source, K: Sink>(alloc: Global, input: &mut S, output: &mut K) -> u8
+/// What the command `check` writes is that of the head that it took. That there is none takes no memory.
+fn check_told<S: Source, K: Sink>(alloc: Global, input: &mut S, output: &mut K) -> u8
     ensures { (meaning : Meaning) → IsMeaning meaning
-        → Told ReaderState.Open S.tells K.tells (source_at (S.rest input.old) (S.faults input.old)) (source_at (S.rest input.new) (S.faults input.new))
-        (sink_at (K.written output.old) (K.faults output.old)) (sink_at (K.written output.new) (K.faults output.new))
-        result (λ e bytes. check_all meaning (head (scan e [] bytes))) }
+        → Told S.tells K.tells head_lines (moment (S.at input.old) (K.at output.old)) (moment (S.at input.new) (K.at output.new))
+        result (check_all meaning) (RunsOutBehindHead result) }
 {
     let mut lines = Lines::new();
     match read_head(alloc, &mut lines, input) {
         Ok(text) => judge(alloc, &text, output),
-        Err(HeadFault::TooLong) => refuse(alloc, whole(1), output),
-        Err(HeadFault::NoMark) => refuse(alloc, whole(2), output),
+        Err(HeadFault::TooLong) => finish(output, b"fault deployment D1 -\n", REFUSED),
+        Err(HeadFault::NoMark) => finish(output, b"fault deployment D2 -\n", REFUSED),
         Err(HeadFault::Failed) => finish(output, b"fault read\n", READ_FAILED),
         Err(HeadFault::OutOfMemory) => OUT_OF_MEMORY,
     }
+}
+
+/// The command `check`: a deployment, and the line `%%`. Gives the exit status, as `top` does for this
+/// command. What stands behind that line isn't judged, and at most 4,096 bytes of it are read.
+pub fn check_over<S: Source, K: Sink>(alloc: Global, input: &mut S, output: &mut K) -> u8
+    ensures { CheckTold S.tells K.tells
+        (moment (S.at input.old) (K.at output.old)) (moment (S.at input.new) (K.at output.new)) result }
+{
+    check_told(alloc, input, output)
 }

@@ -1,8 +1,8 @@
 //! The items of a run, and their lines.
 
-ghost use Rattle.std.specs.Prelude.{◌≡◌, ℕ, ◌≤◌, ◌++◌, List, OnOk, OnErr, IsTrue};
-ghost use Rattle.sx_io.specs.Counts.{Rose};
-ghost use Rattle.sx_io.specs.Fronts.{AppendsFront};
+ghost use Rattle.std.specs.Prelude.{◌≡◌, ◌++◌, OnOk, OnErr, IsTrue};
+ghost use Rattle.sx_io.specs.Counts.{counted};
+ghost use Rattle.sx_io.specs.Prefixes.{AppendsPrefix};
 ghost use Rattle.sx_top.specs.Items.{item_line, items_text};
 
 use sx_io::{Failed, Sink, put_all};
@@ -63,12 +63,12 @@ impl Item {
     }
 }
 
-/// Writes the items' lines. After `Failed` a front of them was written.
+/// Writes the items' lines. After `Failed`, which is one fault, a prefix of them was written.
 pub fn put_items<K: Sink>(output: &mut K, items: &[Item]) -> Result<(), Failed>
-    ensures ok { OnOk result (IsTrue K.tells → K.written output.new ≡ K.written output.old ++ items_text items.now) }
-    ensures failed { OnErr result (IsTrue K.tells → AppendsFront (K.written output.old) (K.written output.new) (items_text items.now)) }
-    ensures kept { K.faults output.old ≤ K.faults output.new }
-    ensures rose { OnErr result (Rose (K.faults output.old) (K.faults output.new)) }
+    ensures ok { OnOk result (IsTrue K.tells → (K.at output.new).written ≡ (K.at output.old).written ++ items_text items.now) }
+    ensures failed { OnErr result (IsTrue K.tells → AppendsPrefix (K.at output.old).written (K.at output.new).written (items_text items.now)) }
+    ensures faultless { OnOk result ((K.at output.new).faults ≡ (K.at output.old).faults) }
+    ensures fault { OnErr result ((K.at output.new).faults ≡ counted (K.at output.old).faults) }
 {
     for item in items {
         put_all(output, item.line())?;

@@ -1,9 +1,11 @@
-//! The commands of the program. There is one so far, `run`, and one node, `n`.
+//! The commands of the program: `check`, and `run` on one node, `n`.
 //!
-//! `top` does all that the program does. Its contract says that what is written, and the exit
-//! status, are `output_of` (specs/Output.antt) of the words and of the input: the lines of the input
-//! (sx_io), what each orders (specs/Orders.antt), what an order does to the node (specs/Ran.antt,
-//! over the node's definitions in sx_machine), and the items that tell of it (specs/Items.antt).
+//! `top` does all that the program does. What it promises is one record, `ProgramTold` of
+//! specs/Promises.antt, and in it one for each command. They say that what is written, and the exit
+//! status, are `run_all` (specs/Output.antt) or `check_all` (specs/Check.antt) of the input: of its
+//! lines (sx_io), what each orders (specs/Orders.antt), what an order does to the node
+//! (specs/Ran.antt, over the node's definitions in sx_machine), and the items that tell of it
+//! (specs/Items.antt); and how far the input was read.
 #![tactic(auto)]
 
 mod check;

@@ -1,15 +1,16 @@
 //! The command `run`: it reads the schedule line by line, does each line's order, and writes its
 //! items before it asks for the next line.
 
-ghost use Rattle.std.specs.Prelude.{◌≡◌, ℕ, ◌+◌, ◌<◌, ◌≤◌, ◌∷◌, [], List, Err, Some, None, IfOk, OnOk, IsTrue};
-ghost use Rattle.sx_io.specs.Reading.{Answer, Line, scan};
-ghost use Rattle.sx_io.specs.Next.{coming, IsBetween};
-ghost use Rattle.sx_told.specs.Told.{Output, Does, Told, Ends, behind, source_at, sink_at, read_failed, out_of_memory};
+ghost use Rattle.std.specs.Prelude.{◌≡◌, ℕ, ◌+◌, ◌<◌, ◌≤◌, ◌∷◌, [], List, Err, Some, None, IfOk, OnOk};
+ghost use Rattle.sx_io.specs.Reading.{Answer, Line};
+ghost use Rattle.sx_told.specs.Told.{Output, Does, Rest, Told, moment};
+ghost use Rattle.sx_told.specs.Reads.{anything};
+ghost use Rattle.sx_head.specs.Head.{head_lines};
 ghost use Rattle.sx_machine.specs.State.{State};
 ghost use Rattle.sx_top.specs.Orders.{meant, IsFit};
 ghost use Rattle.sx_top.specs.Ran.{ordered};
-ghost use Rattle.sx_top.specs.Items.{items_text};
-ghost use Rattle.sx_top.specs.Output.{numbered, told_by, run_from, run_all, first_node, trace_line, end_line, read_line, unbuilt_line, unbuilt};
+ghost use Rattle.sx_top.specs.Output.{numbered, told_by, run_from, run_all, first_node};
+ghost use Rattle.sx_top.specs.Promises.{RunTold};
 
 use crate::items::{Item, put_items};
 use crate::obey::obey;
@@ -17,7 +18,7 @@ use crate::order::{LineError, Order, order_of};
 use std::alloc::{AllocError, Global};
 use sx_bus::{Bus, FlatBus, Windows};
 use sx_head::is_mark;
-use sx_io::{LineRead, Lines, ReaderState, Sink, Source};
+use sx_io::{LineRead, Lines, Sink, Source};
 use sx_node::Node;
 use sx_tag::Tag;
 use sx_told::{OUT_OF_MEMORY, READ_FAILED, Turned, WRITE_FAILED, finish, put_text};
@@ -34,6 +35,7 @@ fn judge(alloc: Global, text: &[u8], number: u32) -> Result<Order, LineError>
     ensures order { IfOk result (λ order. numbered number text.now ≡ Some (meant order)) }
     ensures fit { IfOk result (λ order. IsFit (meant order)) }
     ensures few { OnOk result (number ≤ 65536) }
+    ensures memory { result ≡ Err LineError.OutOfMemory → number ≤ 65536 }
     ensures unbuilt { result ≡ Err LineError.Unbuilt → numbered number text.now ≡ None }
 {
     if number > MOST_LINES {
@@ -52,7 +54,7 @@ fn tell<K: Sink, B: Bus, T: Tag>(
     requires boot { node.old.boot < 4294967295 }
     requires fit { IsFit (meant order.now) }
     ensures does { (left : State → List Answer → Output)
-        → Does K.tells (sink_at (K.written output.old) (K.faults output.old)) (sink_at (K.written output.new) (K.faults output.new))
+        → Does K.tells (K.at output.old) (K.at output.new)
         (λ more. told_by (ordered T.mac (meant order.now) node.old) (λ s. left s more)) result (left node.new) }
     ensures boot { result ≡ Turned.On → node.new.boot ≤ node.old.boot + 1 }
 {
@@ -80,7 +82,7 @@ fn turn<K: Sink, B: Bus, T: Tag>(
     number: u32,
 ) -> Turned
     requires { node.old.boot < 4294967295 }
-    ensures does { Does K.tells (sink_at (K.written output.old) (K.faults output.old)) (sink_at (K.written output.new) (K.faults output.new))
+    ensures does { Does K.tells (K.at output.old) (K.at output.new)
         (λ more. run_from T.mac node.old number (Line text.now ∷ more)) result (λ more. run_from T.mac node.new (number + 1) more) }
     ensures few { result ≡ Turned.On → number ≤ 65536 }
     ensures boot { result ≡ Turned.On → node.new.boot ≤ node.old.boot + 1 }
@@ -93,7 +95,6 @@ fn turn<K: Sink, B: Bus, T: Tag>(
 }
 
 /// Runs the lines of the schedule on a node that was just switched on.
-#[tactic(auto, unfolding(crate::specs::Output::end_line, crate::specs::Output::read_line, crate::specs::Output::unbuilt_line))]
 fn run_lines<S: Source, K: Sink, B: Bus, T: Tag>(
     alloc: Global,
     lines: &mut Lines,
@@ -101,12 +102,9 @@ fn run_lines<S: Source, K: Sink, B: Bus, T: Tag>(
     output: &mut K,
     node: &mut Node<B, T>,
 ) -> u8
-    requires between { IsBetween lines.old.state }
-    requires at_end { lines.old.state ≡ ReaderState.AtEnd → IsTrue S.tells → S.rest input.old ≡ [] }
-    requires boot { node.old.boot ≡ 0 }
-    ensures { Told lines.old.state S.tells K.tells (source_at (S.rest input.old) (S.faults input.old)) (source_at (S.rest input.new) (S.faults input.new))
-        (sink_at (K.written output.old) (K.faults output.old)) (sink_at (K.written output.new) (K.faults output.new))
-        result (λ e got. run_from T.mac node.old 1 (coming lines.old e got)) }
+    requires { node.old.boot ≡ 0 }
+    ensures { Rest S.tells K.tells head_lines lines.old (moment (S.at input.old) (K.at output.old)) (moment (S.at input.new) (K.at output.new))
+        result (run_from T.mac node.old 1) }
 {
     let mut into = [0; 4096];
     let mut items = Vec::new(alloc);
@@ -142,11 +140,8 @@ fn run_schedule<S: Source, K: Sink, T: Tag>(
     input: &mut S,
     output: &mut K,
 ) -> u8
-    requires between { IsBetween lines.old.state }
-    requires at_end { lines.old.state ≡ ReaderState.AtEnd → IsTrue S.tells → S.rest input.old ≡ [] }
-    ensures { Told lines.old.state S.tells K.tells (source_at (S.rest input.old) (S.faults input.old)) (source_at (S.rest input.new) (S.faults input.new))
-        (sink_at (K.written output.old) (K.faults output.old)) (sink_at (K.written output.new) (K.faults output.new))
-        result (λ e got. run_from T.mac first_node 1 (coming lines.old e got)) }
+    ensures { Rest S.tells K.tells head_lines lines.old (moment (S.at input.old) (K.at output.old)) (moment (S.at input.new) (K.at output.new))
+        result (run_from T.mac first_node 1) }
 {
     match first_node(alloc, tag) {
         Ok(mut node) => run_lines(alloc, lines, input, output, &mut node),
@@ -154,18 +149,10 @@ fn run_schedule<S: Source, K: Sink, T: Tag>(
     }
 }
 
-/// The command `run` over any tag: a line `%%`, and then the schedule. Gives the exit status, as `top`
-/// does for this command.
-#[tactic(auto, unfolding(crate::specs::Output::trace_line, crate::specs::Output::read_line, crate::specs::Output::unbuilt_line))]
-pub fn run_over<S: Source, K: Sink, T: Tag>(
-    alloc: Global,
-    tag: T,
-    input: &mut S,
-    output: &mut K,
-) -> u8
-    ensures { Told ReaderState.Open S.tells K.tells (source_at (S.rest input.old) (S.faults input.old)) (source_at (S.rest input.new) (S.faults input.new))
-        (sink_at (K.written output.old) (K.faults output.old)) (sink_at (K.written output.new) (K.faults output.new))
-        result (λ e bytes. run_all T.mac (scan e [] bytes)) }
+/// What the command `run` writes is that of the lines that it took.
+fn run_told<S: Source, K: Sink, T: Tag>(alloc: Global, tag: T, input: &mut S, output: &mut K) -> u8
+    ensures { Told S.tells K.tells head_lines (moment (S.at input.old) (K.at output.old)) (moment (S.at input.new) (K.at output.new))
+        result (run_all T.mac) anything }
 {
     let mut lines = Lines::new();
     let mut into = [0; 4096];
@@ -183,4 +170,18 @@ pub fn run_over<S: Source, K: Sink, T: Tag>(
             }
         }
     }
+}
+
+/// The command `run` over any tag: a line `%%`, and then the schedule, whose lines are done and told
+/// while they are read. Gives the exit status, as `top` does for this command.
+pub fn run_over<S: Source, K: Sink, T: Tag>(
+    alloc: Global,
+    tag: T,
+    input: &mut S,
+    output: &mut K,
+) -> u8
+    ensures { RunTold T.mac S.tells K.tells
+        (moment (S.at input.old) (K.at output.old)) (moment (S.at input.new) (K.at output.new)) result }
+{
+    run_told(alloc, tag, input, output)
 }

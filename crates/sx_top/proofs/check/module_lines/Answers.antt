@@ -1,4 +1,4 @@
-use Rattle.sx_top.proofs.Heads.{no_names, no_layouts, all_lines}
+use Rattle.sx_top.proofs.Modules.{no_names, no_layouts, all_lines}
 use Rattle.sx_top.proofs.check.module_lines.Goals.{then-modules-test+else-i-layouts, else-modules-test}
 use Rattle.sx_top.proofs.check.module_lines.Goals as goal
 

@@ -1,5 +1,5 @@
 use Rattle.std.proofs.Common.{◌≡◌, ℕ, suc, ◌+◌, ◌-◌, ◌<◌, sym, ◌∙◌, arith}
-use Rattle.sx_top.proofs.Fronts.{err_any}
+use Rattle.sx_top.proofs.Refusals.{err_any}
 use Rattle.sx_top.proofs.Going.{more_left, stopped_state, stopped_items, front_left, quiet_boot}
 use Rattle.sx_top.proofs.obey.steps.Goals as goal
 

@@ -1,0 +1,74 @@
+-- What the commands promise, each in one record that speaks of its streams at its start (m0) and at its end (m1).
+use Rattle.std.specs.Prelude.{ℕ, ◌+◌, ◌≤◌, ◌≡◌, ◌⊎◌, Bool, true, false, List, [], ◌++◌, IsTrue, length}
+use Rattle.sx_io.specs.Counts.{counted, Rose}
+use Rattle.sx_io.specs.Streams.{OneFault}
+use Rattle.sx_io.specs.Reading.{Answer, Ending, Ended, longest, scan}
+use Rattle.sx_told.specs.Reads.{anything}
+use Rattle.sx_told.specs.Told.{Ends, Moment, Output, Told, out_of_memory, read_failed, write_failed}
+use Rattle.sx_told.specs.Further.{HasEnd, Streams}
+use Rattle.sx_tag.specs.Mac.{Mac}
+use Rattle.sx_head.specs.Head.{Head, Found, TooLong, NoMark, Unread, head, head_lines}
+use Rattle.sx_top.specs.Check.{Meaning, IsMeaning, check_all}
+use Rattle.sx_top.specs.Commands.{is_run, is_check, IsGoodHead}
+use Rattle.sx_top.specs.Good.{IsGoodInput}
+use Rattle.sx_top.specs.Output.{run_all, misused}
+
+-- the status is 0 and all that is defined was written, or memory ran out
+abbrev pub CameToItsEnd : Bool → Moment → Moment → ℕ → Output → Type 0
+CameToItsEnd to_tell m0 m1 status o =
+    (status ≡ out_of_memory) ⊎ ((status ≡ 0) × (IsTrue to_tell → m1.sink.written ≡ m0.sink.written ++ o.text))
+
+-- no read and no write failed: neither count rose, nor stands at its last value
+abbrev pub IsFaultless : Moment → Moment → Type 0
+IsFaultless m0 m1 = (Rose m0.source.faults m1.source.faults → ⊥) × (Rose m0.sink.faults m1.sink.faults → ⊥)
+
+-- A status tells of faults: 4 only of one read that failed, after which nothing was read; 5 exactly of one write that failed.
+pub record TellsFaults (m0 m1 : Moment) (status : ℕ) : Type 0 where
+  pub read : status ≡ read_failed → OneFault m0.source m1.source
+  pub write : status ≡ write_failed → m1.sink.faults ≡ counted m0.sink.faults
+  pub no_write : (status ≡ write_failed → ⊥) → m1.sink.faults ≡ m0.sink.faults
+
+-- The command `run`. What it wrote, and its status, are those of the bytes that it took (`told`); it took no more than it
+-- must (`streams`); status 0 says that the input was read to its end; an input whose lines are all built is run to its end.
+pub record RunTold (mac : Mac) (tells to_tell : Bool) (m0 m1 : Moment) (status : ℕ) : Type 0 where
+  pub told : Told tells to_tell head_lines m0 m1 status (run_all mac) anything
+  pub streams : Streams tells to_tell head_lines m0 m1 (run_all mac)
+  pub faults : TellsFaults m0 m1 status
+  pub read_all : status ≡ 0 → IsTrue tells → m1.source.rest ≡ []
+  pub complete : IsTrue tells → IsGoodInput (scan head_lines Ended [] m0.source.rest) → IsFaultless m0 m1
+      → CameToItsEnd to_tell m0 m1 status (run_all mac (scan head_lines Ended [] m0.source.rest))
+
+-- these bytes are a head of this text, and the line `%%` behind it with its newline
+abbrev pub IsHead : List ℕ → List ℕ → Type 0
+IsHead bytes text = HasEnd bytes × ((e : Ending) (more : List ℕ) → head (scan head_lines e [] (bytes ++ more)) ≡ Found text (scan head_lines e [] more))
+
+abbrev pub IsFound : Head → Type 0
+IsFound (Found text more) = Unit {0}
+IsFound TooLong = ⊥
+IsFound NoMark = ⊥
+IsFound Unread = ⊥
+
+-- memory runs out only where there is a head: that there is none is told without memory
+abbrev pub RunsOutBehindHead : ℕ → List Answer → Type 0
+RunsOutBehindHead status answers = status ≡ out_of_memory → IsFound (head answers)
+
+-- The command `check`, whatever a deployment's text is said to mean. At most 4,096 bytes behind the line `%%` are taken.
+pub record CheckTold (tells to_tell : Bool) (m0 m1 : Moment) (status : ℕ) : Type 0 where
+  pub told : (meaning : Meaning) → IsMeaning meaning → Told tells to_tell head_lines m0 m1 status (check_all meaning) (RunsOutBehindHead status)
+  pub no_further : (bytes rest text : List ℕ) → IsTrue tells → m0.source.rest ≡ bytes ++ rest → IsHead bytes text
+      → length rest ≤ longest + length m1.source.rest
+  pub faults : TellsFaults m0 m1 status
+  pub complete : (meaning : Meaning) → IsMeaning meaning → IsTrue tells → IsGoodHead meaning (head (scan head_lines Ended [] m0.source.rest)) → IsFaultless m0 m1
+      → CameToItsEnd to_tell m0 m1 status (check_all meaning (scan head_lines Ended [] m0.source.rest))
+
+-- Words that are no command: one line says so, and nothing is read.
+pub record MisusedTold (to_tell : Bool) (m0 m1 : Moment) (status : ℕ) : Type 0 where
+  pub ends : Ends to_tell m0.sink m1.sink status misused
+  pub unread : m1.source ≡ m0.source
+
+-- The program: the words name the command. Status 2 comes for other words alone.
+pub record ProgramTold (mac : Mac) (words : List (List ℕ)) (tells to_tell : Bool) (m0 m1 : Moment) (status : ℕ) : Type 0 where
+  pub run : is_run words ≡ true → RunTold mac tells to_tell m0 m1 status
+  pub check : is_check words ≡ true → CheckTold tells to_tell m0 m1 status
+  pub other : is_run words ≡ false → is_check words ≡ false → MisusedTold to_tell m0 m1 status
+  pub usage : status ≡ 2 → (is_run words ≡ false) × (is_check words ≡ false)
