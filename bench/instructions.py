@@ -1,5 +1,5 @@
 #!/usr/bin/env python3
-"""The processor's instructions of `sancus check` and `sancus run` on the largest deployment, and their allocations.
+"""The processor's instructions of `sancus check` on the largest deployment and of a `sancus run`, and their allocations.
 
 Clocks differ from machine to machine and from run to run; these counts don't, so work that nobody needs shows as a
 few lines of difference. valgrind counts: callgrind the instructions, and memcheck's summary the allocations.
@@ -67,13 +67,12 @@ def deployment():
 
 
 def inputs():
-    """The inputs by the command. A run loads every module and calls its first entry."""
-    begun = deployment() + ["%%"]
-    schedule = []
+    """The inputs by the command. `run` takes no deployment yet: a run puts the longest bytes that a line may have, sets
+    and steps on the node n, and resets it, as often as there are modules."""
+    schedule = ["%%"]
     for k in range(MODULES):
-        schedule += [f"load {name('module', k)}", f"ask {name('module', k)}", f"give {k} {name('node', k // 2)} 0x400",
-                     f"call {name('module', k)} 1 0x400 0x500"]
-    return {"check": begun, "run": begun + schedule}
+        schedule += [f"put n 0x4000 {'0345' * 510}ff3f", "set n r5 7", "set n pc 0x4000", "run n 10000", "irq n 3", "reset n"]
+    return {"check": deployment() + ["%%"], "run": schedule}
 
 
 def valgrind(tool, command, text):
