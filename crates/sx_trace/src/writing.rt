@@ -1,7 +1,7 @@
 //! The lines of items are written.
 
-ghost use Rattle.std.specs.Prelude.{◌≡◌, ℕ, ◌+◌, ◌<◌, ◌≤◌, List, [], ◌∷◌, ◌++◌, length, take, drop, codes, decimal};
-ghost use Rattle.sx_trace.specs.Items.{name_at, name_or, cause_word, side_word, epoch_words, spaced, item_text, IsIndexOrNone, IsNamed, IsWritten};
+ghost use Rattle.std.specs.Prelude.{◌≡◌, ℕ, ◌+◌, ◌≤◌, List, [], ◌∷◌, ◌++◌, length, take, drop, codes, decimal};
+ghost use Rattle.sx_trace.specs.Items.{name_at, name_or, cause_word, side_word, epoch_words, spaced, item_text, IsWritten};
 
 use crate::items::{Cause, Item};
 use crate::names::{DEPLOYER, Names};
@@ -9,18 +9,19 @@ use itoa::{Buffer, Integer};
 use sx_lang::names::Name;
 use sx_lang::sides::Side;
 
-/// The name at an index of its list.
+/// The name at an index of its list, or no bytes where the list has none.
 fn name_at(names: &[Name], index: u8) -> &[u8]
-    requires { index < length names.now }
     ensures name { result.now ≡ name_at names.now index }
     ensures short { length result.now ≤ 16 }
 {
-    names[usize::from(index)].bytes()
+    match names.get(usize::from(index)) {
+        Some(name) => name.bytes(),
+        None => b"",
+    }
 }
 
 /// The name at an index of its list, or another word where there is no index.
 fn name_or<'a>(other: &'a [u8], names: &'a [Name], index: Option<u8>) -> &'a [u8]
-    requires named { IsIndexOrNone names.now index }
     requires small { length other.now ≤ 16 }
     ensures word { result.now ≡ name_or other.now names.now index }
     ensures short { length result.now ≤ 16 }
@@ -124,8 +125,7 @@ fn write_numbered<N: Integer>(
     index: u8,
     number: N,
 ) -> usize
-    requires kind { length kind.now ≤ 16 }
-    requires named { index < length names.now }
+    requires { length kind.now ≤ 16 }
     ensures { IsWritten (spaced (kind.now ∷ name_at names.now index ∷ N.text number ∷ [])) into.old result into.new }
 {
     let mut digits = Buffer::new();
@@ -190,10 +190,9 @@ fn write_packet(into: &mut [u8; 128], number: u32, len: u16) -> usize
 }
 
 /// Writes an item's line, without a newline, at the start of the buffer, and answers how many bytes
-/// the line has. The bytes behind it stay. The item's indices are below the lengths of the lists.
+/// the line has. The bytes behind it stay. An index past the end of its list writes no bytes.
 #[tactic(auto, unfolding(crate::specs::Items::item_text))]
 pub fn write_item(names: &Names, item: &Item, into: &mut [u8; 128]) -> usize
-    requires { IsNamed names.now item.now }
     ensures { IsWritten (item_text names.now item.now) into.old result into.new }
 {
     let nodes = &names.nodes;
