@@ -4,3 +4,4 @@ pub mod Conf
 pub mod Meaning
 pub mod Sound
 pub mod Invoking
+pub mod Joined

@@ -2,7 +2,7 @@
 //!
 //! `Code` is a list of operations, `Ir`, with the places of each handler's part. `bytes` and `offset` tell
 //! where the instructions of code stand in a module's text, and `sound` whether templates can be made for
-//! it.
+//! it. `join` puts the entry protocol and the handlers' parts into one code.
 //!
 //! `specs/Meaning.antt` has what each operation does to a configuration (`specs/Conf.antt`),
 //! `specs/Sizes.antt` and `specs/Counts.antt` the bytes and the instructions of each operation's template,
@@ -11,11 +11,13 @@
 #![tactic(auto)]
 
 mod ir;
+mod joining;
 mod sizes;
 mod soundness;
 #[cfg(test)]
 mod tests;
 
 pub use ir::{Code, Ir, IrOp};
-pub use sizes::{bytes, offset};
+pub use joining::join;
+pub use sizes::{bytes, has_routine, offset, op_bytes};
 pub use soundness::sound;

@@ -15,7 +15,7 @@ const PACKET: u64 = 112;
 
 const LAST: u64 = 2;
 
-fn operator_bytes(op: IrOp) -> u64
+fn operator_bytes(op: IrOp) -> u16
     ensures { result ≡ operator_bytes op }
 {
     match op {
@@ -27,7 +27,8 @@ fn operator_bytes(op: IrOp) -> u64
     }
 }
 
-fn op_bytes(op: &Ir) -> u64
+/// The bytes of an operation's template, at most 32.
+pub fn op_bytes(op: &Ir) -> u16
     ensures size { result ≡ op_bytes op.now }
     ensures small { result ≤ 32 }
 {
@@ -63,21 +64,22 @@ fn ops_bytes(ops: &[Ir]) -> u64
 {
     let mut total: u64 = 0;
     for op in ops {
-        total += op_bytes(op);
+        total += u64::from(op_bytes(op));
     }
     total
 }
 
-fn is_packet(op: &Ir, end: u64) -> bool
+fn is_packet(op: &Ir, end: u16) -> bool
     ensures { result ≡ is_packet end op.now }
 {
     match op {
-        Ir::Packet(k) => u64::from(*k) == end,
+        Ir::Packet(k) => u16::from(*k) == end,
         _ => false,
     }
 }
 
-fn has_routine(ops: &[Ir], end: u64) -> bool
+/// Whether a packet routine stands for this end: some operation makes a packet of it.
+pub fn has_routine(ops: &[Ir], end: u16) -> bool
     ensures { result ≡ has_routine ops.now end }
 {
     ops.iter().any(|op| is_packet(op, end))

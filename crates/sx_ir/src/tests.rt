@@ -1,7 +1,8 @@
-use crate::{Code, Ir, bytes, offset, sound};
+use crate::{Code, Ir, bytes, join, offset, sound};
 use std::alloc::{AllocError, Global};
 use std::test::Fail;
 use sx_rules::Layout;
+use sx_tag::Weak;
 
 /// Two routines, for the ends 1 and 3.
 fn two_packets(alloc: Global) -> Result<Code, AllocError> {
@@ -68,5 +69,22 @@ fn code_that_writes_a_saved_register_is_not_sound(rt: HostRuntime) -> Result<(),
         };
         assert_eq!(rt; is_sound_in(&code, 400, 512), want);
     }
+    Ok(())
+}
+
+#[test]
+fn handlers_move_behind_the_entry_protocol(rt: HostRuntime) -> Result<(), Fail> {
+    let alloc = rt.alloc();
+    let stub = Code {
+        ops: vec![in alloc; Ir::Handler(0), Ir::Jump(0)]?,
+        parts: Vec::new(alloc),
+    };
+    let bodies = two_packets(alloc)?;
+    assert_eq!(rt; bodies.ops.len(), 5);
+    let code = join(alloc, &Weak, &stub, &bodies)?;
+    assert_eq!(rt; code.ops.len(), 7);
+    assert!(rt; code.ops.get(1) == Some(&Ir::Jump(0)));
+    assert!(rt; code.ops.get(5) == Some(&Ir::JumpZero(2)));
+    assert!(rt; code.parts.first() == Some(&(2, 7)));
     Ok(())
 }

@@ -23,7 +23,7 @@ use Rattle.sx_ir.specs.Conf.{Conf, Violates}
 use Rattle.sx_ir.specs.declared.ir.Code.{Code}
 use Rattle.sx_ir.specs.declared.ir.Ir.{Ir}
 use Rattle.sx_ir.specs.declared.ir.Ir.TheVariants as ir
-use Rattle.sx_ir.specs.Meaning.{Leaving, op_count, op_step, part_from, saved}
+use Rattle.sx_ir.specs.Meaning.{Leaving, no_count, op_count, op_step, part_from, saved}
 use Rattle.sx_tmpl.specs.Shows.{Stood}
 use Rattle.sx_tmpl.specs.Running.{fixed_at}
 use Rattle.sx_tmpl.specs.Text.{addresses}
@@ -39,10 +39,6 @@ Never w v = ⊥
 -- a violation with the marks until then
 abbrev pub With : Violation → List Mark → Watched → Violation → Type 0
 With v marks w u = (u ≡ v) × (w.marks ≡ marks)
-
--- the instructions of a `Handler` are its own, without those of its part
-abbrev pub no_count : ℕ → ℕ
-no_count h = 0
 
 -- the configuration with which a call begins: the caller's R12 to R15 are in their places
 abbrev pub entry_conf : Layout → State → Conf

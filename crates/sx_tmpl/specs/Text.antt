@@ -22,17 +22,21 @@ abbrev pub places_of : Layout → Code → List ℕ
 places_of l code = places_from (l.pub_from + entry_bytes) code.ops.items
 
 -- Behind the operations stand the exit, the routine that opens a slot, and the packet routines.
-abbrev pub addresses : Layout → Code → Addresses
-addresses l code =
-    let at = slice_index (places_of l code) in
-    let exit = length code.ops.items in
+abbrev pub addresses_of : Layout → List Ir → List (ℕ × ℕ) → Addresses
+addresses_of l ops parts =
+    let at = slice_index (places_from (l.pub_from + entry_bytes) ops) in
+    let exit = length ops in
     record {
       at = at;
-      packet = λ k. at exit + (exit_bytes + slot_bytes) + packet_bytes * routines code.ops.items k;
-      part = part_place code.parts.items;
+      packet = λ k. at exit + (exit_bytes + slot_bytes) + packet_bytes * routines ops k;
+      part = part_place parts;
       exit = exit;
       slots = at exit + exit_bytes;
     }
+
+-- those of a code
+abbrev pub addresses : Layout → Code → Addresses
+addresses l code = addresses_of l code.ops.items code.parts.items
 
 -- the words of operations from a place on
 abbrev pub words_of : Layout → Addresses → ℕ → List Ir → List ℕ
@@ -48,11 +52,15 @@ unfoldable pub packet_words : ℕ → List Ir → ℕ → List ℕ
 packet_words base ops zero = []
 packet_words base ops (suc n) = packet_words base ops n ++ packet_words_of base ops n
 
--- all words of a code's text, the last of them 0
+-- all words of the text of operations with their parts, the last of them 0
+abbrev pub text_words_of : Layout → List Ir → List (ℕ × ℕ) → List ℕ
+text_words_of l ops parts =
+    entry_words l.priv_from ++ (words_of l (addresses_of l ops parts) 0 ops
+    ++ (leave_words l.priv_from ++ (slot_words l.priv_from ++ (packet_words l.priv_from ops 256 ++ 0 ∷ []))))
+
+-- all words of a code's text
 unfoldable pub text_words : Layout → Code → List ℕ
-text_words l code =
-    entry_words l.priv_from ++ (words_of l (addresses l code) 0 code.ops.items
-    ++ (leave_words l.priv_from ++ (slot_words l.priv_from ++ (packet_words l.priv_from code.ops.items 256 ++ 0 ∷ []))))
+text_words l code = text_words_of l code.ops.items code.parts.items
 
 -- words in memory, the low byte first
 abbrev pub bytes_of : List ℕ → List ℕ

@@ -1,12 +1,12 @@
 //! Where the parts of a text stand.
 
 ghost use Rattle.std.specs.Prelude.{◌≡◌, ℕ, ◌≤◌, ◌<◌, ◌+◌, ◌*◌, IfOk, length, slice_index};
-ghost use Rattle.sx_ir.specs.Sizes.{bytes, has_routine, is_packet, op_bytes, operator_bytes, ops_bytes};
+ghost use Rattle.sx_ir.specs.Sizes.{bytes, has_routine, op_bytes, ops_bytes};
 ghost use Rattle.sx_tmpl.specs.Fits.{AreCounts, IsTable};
 ghost use Rattle.sx_tmpl.specs.Text.{places_from};
 
 use std::alloc::{AllocError as OutOfMemory, Global};
-use sx_ir::{Code, Ir, IrOp};
+use sx_ir::{Code, Ir, has_routine, op_bytes};
 use sx_rules::Layout;
 
 /// Where the parts of a code's text stand. Behind the operations stand the exit, the routine that
@@ -57,58 +57,10 @@ fn places(alloc: Global, from: u16, ops: &[Ir]) -> Result<Vec<u16>, OutOfMemory>
     let mut next = from;
     for op in ops {
         places.push(next)?;
-        next += op_bytes(*op);
+        next += op_bytes(op);
     }
     places.push(next)?;
     Ok(places)
-}
-
-fn operator_bytes(operator: IrOp) -> u16
-    ensures { result ≡ operator_bytes operator }
-{
-    match operator {
-        IrOp::Add | IrOp::Sub | IrOp::And | IrOp::Or | IrOp::Xor => 4,
-        IrOp::Neg | IrOp::Inv => 8,
-        IrOp::Not => 14,
-        IrOp::Eq | IrOp::Lt => 16,
-        IrOp::Mul => 24,
-    }
-}
-
-/// The bytes of an operation's template.
-fn op_bytes(op: Ir) -> u16
-    ensures { result ≡ op_bytes op }
-{
-    match op {
-        Ir::Op(operator) => operator_bytes(operator),
-        Ir::Drop => 2,
-        Ir::SetEnd(_) => 8,
-        Ir::JumpZero(_) => 10,
-        Ir::Handler(_) => 14,
-        Ir::StoreAt(_, _) => 16,
-        Ir::LoadAt(_, _) | Ir::Inside => 18,
-        Ir::CopyIn(_, _) => 22,
-        Ir::CopyOut(_, _) => 24,
-        Ir::Meets(_, _) => 28,
-        Ir::Seal(..) | Ir::Open(..) => 32,
-        _ => 4,
-    }
-}
-
-fn is_packet(op: &Ir, end: u16) -> bool
-    ensures { result ≡ is_packet end op.now }
-{
-    match op {
-        Ir::Packet(k) => u16::from(*k) == end,
-        _ => false,
-    }
-}
-
-/// Some operation makes a packet of this end.
-pub fn has_routine(ops: &[Ir], end: u16) -> bool
-    ensures { result ≡ has_routine ops.now end }
-{
-    ops.iter().any(|op| is_packet(op, end))
 }
 
 /// For each end, how many of those before it have a packet routine.

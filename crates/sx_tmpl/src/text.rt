@@ -11,10 +11,10 @@ ghost use Rattle.sx_tmpl.specs.Text.{addresses, bytes_of, packet_words, packet_w
 
 use crate::put::put_words;
 use crate::routines::{put_entry, put_exit, put_routine, put_slots};
-use crate::table::{Table, has_routine};
+use crate::table::Table;
 use crate::templates::put_operation;
 use std::alloc::{AllocError as OutOfMemory, Global};
-use sx_ir::Code;
+use sx_ir::{Code, has_routine};
 use sx_rules::Layout;
 use sx_tag::Tag;
 

@@ -1,0 +1,68 @@
+//! Two codes as one.
+
+ghost use Rattle.std.specs.Prelude.{◌≡◌, ℕ, ◌+◌, ◌<◌, ◌++◌, ◌∷◌, [], IfOk, OnOk, length, map};
+ghost use Rattle.sx_ir.specs.Joined.{joined_ops, moved, moved_part, moved_place};
+
+use crate::ir::{Code, Ir};
+use std::alloc::{AllocError as OutOfMemory, Global};
+use sx_tag::Tag;
+
+fn moved_place(by: u16, place: u16) -> u16
+    ensures { result ≡ moved_place by place }
+{
+    by.saturating_add(place)
+}
+
+fn moved(by: u16, op: Ir) -> Ir
+    ensures { result ≡ moved by op }
+{
+    match op {
+        Ir::Jump(place) => Ir::Jump(moved_place(by, place)),
+        Ir::JumpZero(place) => Ir::JumpZero(moved_place(by, place)),
+        op => op,
+    }
+}
+
+fn put_moved(ops: &mut Vec<Ir>, by: u16, bodies: &[Ir]) -> Result<(), OutOfMemory>
+    ensures { OnOk result (ops.new.items ≡ ops.old.items ++ map (moved by) bodies.now) }
+{
+    for op in bodies {
+        ops.push(moved(by, *op))?;
+    }
+    Ok(())
+}
+
+fn put_moved_parts(
+    parts: &mut Vec<(u16, u16)>,
+    by: u16,
+    bodies: &[(u16, u16)],
+) -> Result<(), OutOfMemory>
+    ensures { OnOk result (parts.new.items ≡ parts.old.items ++ map (moved_part by) bodies.now) }
+{
+    for part in bodies {
+        parts.push((moved_place(by, part.0), moved_place(by, part.1)))?;
+    }
+    Ok(())
+}
+
+/// One code: the operations of the entry protocol, and then those of the handlers' parts, whose jumps and
+/// parts are moved behind them. What each `Handler` of the first does is then what its part of the second
+/// does. The code is the same for every tag. Nothing but want of memory is refused.
+pub fn join<T: Tag>(
+    alloc: Global,
+    _tag: &T,
+    stub: &Code,
+    bodies: &Code,
+) -> Result<Code, OutOfMemory>
+    requires short { length stub.now.ops.items + length bodies.now.ops.items < 65536 }
+    ensures ops { IfOk result (λ code. code.ops.items ≡ joined_ops stub.now.ops.items bodies.now.ops.items) }
+    ensures parts { IfOk result (λ code. code.parts.items ≡ map (moved_part (length stub.now.ops.items)) bodies.now.parts.items) }
+{
+    let by = stub.ops.len() as u16;
+    let mut ops = Vec::new(alloc);
+    ops.extend_from_slice(&stub.ops)?;
+    put_moved(&mut ops, by, &bodies.ops)?;
+    let mut parts = Vec::new(alloc);
+    put_moved_parts(&mut parts, by, &bodies.parts)?;
+    Ok(Code { ops, parts })
+}
