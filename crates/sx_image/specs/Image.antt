@@ -7,6 +7,8 @@ use Rattle.sx_rules.specs.declared.section.Layout.{Layout}
 use Rattle.sx_rules.specs.declared.section.Section.{Section}
 use Rattle.sx_rules.specs.Access.{Lives}
 use Rattle.sx_tag.specs.Mac.{Mac}
+use Rattle.sx_tag.specs.Keys.{identity}
+use Rattle.sx_image.specs.declared.image.Image.{Image as Built}
 use Rattle.sx_machine.specs.Memory.{bytes_from}
 use Rattle.sx_machine.specs.Node.{IsNode}
 use Rattle.sx_machine.specs.State.{State}
@@ -21,6 +23,14 @@ pub record Image : Type 0 where
   pub text : List ℕ
   pub layout : Layout
   pub provider : ℕ
+
+-- an image in a program's memory, as plain data
+abbrev pub plain : Built → Image
+plain i = record { text = i.text.items; layout = i.layout; provider = i.provider }
+
+-- its identity: the text, and then the layout
+abbrev pub identity_of : Image → List ℕ
+identity_of i = identity i.text i.layout.pub_from i.layout.pub_to i.layout.priv_from i.layout.priv_to
 
 -- the private bytes of a layout, each at its offset
 abbrev pub private_bytes : Layout → List ℕ → List ℕ
