@@ -57,10 +57,10 @@ bytes_more : (ps : List (List ℕ)) (p : List ℕ) → bytes_in (ps ++ p ∷ [])
 bytes_more [] p = omega arith
 bytes_more (x ∷ ps) p = let e = bytes_more ps p in omega (arith, e)
 
-abbrev Tallied : Progress → Type 0
+abbrev pub Tallied : Progress → Type 0
 Tallied p = bytes_in p.pieces ≡ made p.marks
 
-abbrev OnCourse : Course → Type 0
+abbrev pub OnCourse : Course → Type 0
 OnCourse (Going p) = Tallied p
 OnCourse (Broken v p) = Tallied p
 
@@ -116,7 +116,7 @@ module _ (s : Setup) (call : Call) (tag : IsTag s.mac) where
   acts_made [] p h = h
   acts_made (a ∷ acts) p h = then_on (with_act s call a p) (with_acts s call acts) (act_made a p h) (λ q t. acts_made acts q t)
 
-  handled_made : (e : SourceEvent) (p : Progress) → Tallied p → OnCourse (handled s call e p)
+  pub handled_made : (e : SourceEvent) (p : Progress) → Tallied p → OnCourse (handled s call e p)
   unfolding handled
   handled_made e p h = let done = react s.tree e p.state.cells in acts_made done.acts (record p { state = record p.state { cells = done.cells } }) h
 

@@ -33,7 +33,7 @@ use Rattle.sx_invoke.specs.Devices.{HasDevices}
 use Rattle.sx_ir.specs.Conf.{Conf}
 use Rattle.sx_ir.specs.Meaning.{After}
 use Rattle.sx_ir.specs.Sound.{is_sound_part}
-use Rattle.sx_ir.specs.Invoking.{Represents, Breaks, GoesOn, Does, PartDoes}
+use Rattle.sx_ir.specs.Invoking.{Represents, Breaks, GoesOn, Does, PartDoes, Begins}
 use Rattle.sx_ir.specs.declared.ir.Ir.{Ir}
 use Rattle.sx_ir.specs.declared.ir.Ir.TheVariants as ir
 use Rattle.sx_lower.specs.Lowered.{block_code, handler_code, handlers_code, handlers_parts}
@@ -127,9 +127,17 @@ module _ (s : Setup) (handle : ℕ → Conf → After) (given : ℕ → ℕ) (co
   unfolding handled
   course_is call p = ap (λ o. with_acts s call (run s.tree.decls o (value_of e) p.state.cells).acts (record p { state = record p.state { cells = (run s.tree.decls o (value_of e) p.state.cells).cells } })) is
 
+  -- the run is at the `Stop` of this place
+  abbrev IsAtStop : ℕ → Option ℕ → Conf → Type 0
+  IsAtStop q back t = (t.place ≡ q) × (slice_get code t.place ≡ Some ir.Stop) × (t.stack ≡ []) × (t.back ≡ back)
+
+  -- the place of the part's `Stop`
+  abbrev stop_place : ℕ
+  stop_place = place + 2 + length (block_code s.tree.decls s.ends (place + 2) (h.param ∷ []) h.body)
+
   -- a run that has ended stands for what the handler gave
   ended_represents : (call : Call) (p0 : Progress) (devs : List Window) (fin st : State) (names : List (List ℕ)) (q most : ℕ) (back : Option ℕ) (t : Conf) → st.cells ≡ fin.cells → st.acts ≡ fin.acts → p0.state.cells ≡ fin.cells → slice_get code q ≡ Some ir.Stop → Ended s call p0 devs names q [] back st most t
-      → GoesOn (with_acts s call fin.acts p0) (λ q. Represents s call q t × ((slice_get code t.place ≡ Some ir.Stop) × (t.stack ≡ []) × (t.back ≡ back)))
+      → GoesOn (with_acts s call fin.acts p0) (λ p. Represents s call p t × IsAtStop q back t)
   ended_represents call p0 devs fin st names q most back t cells acts first stops h =
       let g = h.tied.progress in
       let did : with_acts s call fin.acts p0 ≡ Going g = ap (λ l. with_acts s call l p0) (sym acts) ∙ h.tied.did in
@@ -148,11 +156,12 @@ module _ (s : Setup) (handle : ℕ → Conf → After) (given : ℕ → ℕ) (co
         output = w.output;
         back = w.back;
       } in
-      subst (λ r. GoesOn r (λ q. Represents s call q t × ((slice_get code t.place ≡ Some ir.Stop) × (t.stack ≡ []) × (t.back ≡ back)))) (sym did)
-      (r, (ap (slice_get code) h.placed ∙ stops, h.stacked, h.returns))
+      subst (λ r. GoesOn r (λ p. Represents s call p t × IsAtStop q back t)) (sym did)
+      (r, (h.placed, ap (slice_get code) h.placed ∙ stops, h.stacked, h.returns))
 
-  pub part_does : PartDoes s handle given code place e (handler_cost h)
-  part_does call p c at_place b =
+  -- the part comes to its `Stop`
+  pub part_ends : (call : Call) (p : Progress) (c : Conf) → c.place ≡ place → Begins s call e p c → Does s call handle given code (handled s call e p) (λ t. IsAtStop stop_place c.back t) (handler_cost h) c
+  part_ends call p c at_place b =
       let r = b.represents in
       let ds = s.tree.decls in
       let n = length s.ends in
@@ -192,7 +201,7 @@ module _ (s : Setup) (handle : ℕ → Conf → After) (given : ℕ → ℕ) (co
       let rest = subst (λ q. HasAt code q (body ++ ir.Stop ∷ [])) p2 has.1.1 in
       let stops = (has_back code (place + 2) body (ir.Stop ∷ []) rest).0 in
       let none : length p0.pieces ≡ 0 = ap length b.pieces in
-      let Goal : Conf → Type 0 = λ t. GoesOn (with_acts s call fin.acts p0) (λ q. Represents s call q t × ((slice_get code t.place ≡ Some ir.Stop) × (t.stack ≡ []) × (t.back ≡ c.back))) in
+      let Goal : Conf → Type 0 = λ t. GoesOn (with_acts s call fin.acts p0) (λ q. Represents s call q t × IsAtStop stop_place c.back t) in
       let Broke : Violation → List Mark → Type 0 = Breaks (with_acts s call fin.acts p0) in
       let runs = block_reach s handle given code call p0 c.devices fin window low.few_ends good.values h.body (place + 2) (h.param ∷ []) good.fine good.height (omega (arith, good.lets)) (has_front code (place + 2) body (ir.Stop ∷ []) rest)
       (start h v p.state.cells) [] c2 tied (omega (arith, good.depth)) (omega (arith, none, good.packets)) (record { more = []; all = append-nil _ }) in
@@ -203,7 +212,18 @@ module _ (s : Setup) (handle : ℕ → Conf → After) (given : ℕ → ℕ) (co
       (do_one s handle given code Broke Goal (ir.Store (local_at 0)) (at (place + 1) (v ∷ []) c) (at (place + 1 + 1) [] c2) (block_cost h.body) (8 + block_cost h.body) has.1.0 refl (omega arith)
       (to s handle given code Broke Goal (block_cost h.body) (place + 1 + 1) (place + 2) [] c2 p2 ran)) in
       let at_c = subst (λ x. Comes_to s handle given code Broke Goal (handler_cost h) (at x c.stack c)) (sym at_place) (subst (λ l. Comes_to s handle given code Broke Goal (handler_cost h) (at place l c)) (sym b.stack) from_start) in
-      subst (λ course. Does s call handle given code course (λ t. (slice_get code t.place ≡ Some ir.Stop) × (t.stack ≡ []) × (t.back ≡ c.back)) (handler_cost h) c) (sym (course_is call p)) at_c
+      subst (λ course. Does s call handle given code course (λ t. IsAtStop stop_place c.back t) (handler_cost h) c) (sym (course_is call p)) at_c
+
+  goes_also : (r : Course) (P Q : Progress → Type 0) → ((q : Progress) → P q → Q q) → GoesOn r P → GoesOn r Q
+  goes_also (Going q) P Q f x = f q x
+  goes_also (Broken v q) P Q f x = x
+
+  pub part_does : PartDoes s handle given code place e (handler_cost h)
+  part_does call p c at_place b =
+      let course = handled s call e p in
+      let Stops = λ (t : Conf). (slice_get code t.place ≡ Some ir.Stop) × (t.stack ≡ []) × (t.back ≡ c.back) in
+      weaker s handle given code (Breaks course) (λ t. GoesOn course (λ q. Represents s call q t × IsAtStop stop_place c.back t)) (λ t. GoesOn course (λ q. Represents s call q t × Stops t)) c (handler_cost h) (handler_cost h) (omega arith)
+      (λ t g. goes_also course (λ q. Represents s call q t × IsAtStop stop_place c.back t) (λ q. Represents s call q t × Stops t) (λ q x. (x.0, (x.1.1, x.1.2, x.1.3))) g) (part_ends call p c at_place b)
 
 -- Parts
 
@@ -226,6 +246,48 @@ part_stands ds ends (x ∷ hs) code p zero from to h has is part =
         either (Some x) = x.0
 part_stands ds ends (x ∷ hs) code p (suc k) from to h has is part =
     part_stands ds ends hs code (p + length (handler_code ds ends p x)) k from to h (has_back code p (handler_code ds ends p x) _ has) is part
+
+-- it ends behind its last operation
+part_behind : (ds : List Decl) (ends : List End) (hs : List HandlerTree) (p k from to : ℕ) (h : HandlerTree) → slice_get hs k ≡ Some h → slice_get (handlers_parts ds ends p hs) k ≡ Some (from, to) → from + length (handler_code ds ends from h) ≡ to
+part_behind ds ends [] p k from to h is part = absurd (differ is)
+  where
+    differ : ◌≡◌ {A = Option HandlerTree} None (Some h) → ⊥
+    differ e = cc
+part_behind ds ends (x ∷ hs) p zero from to h is part =
+    let same : x ≡ h = cc in
+    let both = pair_is (p + length (handler_code ds ends p x)) part in
+    ap (λ q. q + length (handler_code ds ends q h)) (sym both.0) ∙ ap (λ y. p + length (handler_code ds ends p y)) (sym same) ∙ both.1
+  where
+    pair_is : (q : ℕ) → ◌≡◌ {A = Option (ℕ × ℕ)} (Some (p, q)) (Some (from, to)) → (p ≡ from) × (q ≡ to)
+    pair_is q e = (ap (λ o. first o) e, ap (λ o. second o) e)
+      where
+        first : Option (ℕ × ℕ) → ℕ
+        first None = 0
+        first (Some x) = x.0
+
+        second : Option (ℕ × ℕ) → ℕ
+        second None = 0
+        second (Some x) = x.1
+part_behind ds ends (x ∷ hs) p (suc k) from to h is part = part_behind ds ends hs (p + length (handler_code ds ends p x)) k from to h is part
+
+-- In the handlers' code alone, a part comes to its last operation.
+pub lowered_ends : (s : Setup) (handle : ℕ → Conf → After) (given : ℕ → ℕ) (e : SourceEvent) (h : HandlerTree) (k from to : ℕ) → IsLowerable s.tree s.ends → handler_at s.tree e ≡ Some h → slice_get s.tree.handlers k ≡ Some h
+    → slice_get (handlers_parts s.tree.decls s.ends 0 s.tree.handlers) k ≡ Some (from, to) → (call : Call) (p : Progress) (c : Conf) → c.place ≡ from → Begins s call e p c
+    → Does s call handle given (handlers_code s.tree.decls s.ends 0 s.tree.handlers) (handled s call e p) (λ t. (t.place + 1 ≡ to) × (t.stack ≡ []) × (t.back ≡ c.back)) (handler_cost h) c
+lowered_ends s handle given e h k from to low is handler part call p c at_place b =
+    let code = handlers_code s.tree.decls s.ends 0 s.tree.handlers in
+    let stands : HasAt code 0 code = subst (λ l. HasAt l 0 code) (append-nil code) (has_all code [] []) in
+    let has = part_stands s.tree.decls s.ends s.tree.handlers code 0 k from to h stands handler part in
+    let behind = part_behind s.tree.decls s.ends s.tree.handlers 0 k from to h handler part in
+    let body = block_code s.tree.decls s.ends (from + 2) (h.param ∷ []) h.body in
+    let long = length-append body (ir.Stop ∷ []) in
+    let course = handled s call e p in
+    let Before = λ (t : Conf). (t.place ≡ from + 2 + length body) × (slice_get code t.place ≡ Some ir.Stop) × (t.stack ≡ []) × (t.back ≡ c.back) in
+    let After_ = λ (t : Conf). (t.place + 1 ≡ to) × (t.stack ≡ []) × (t.back ≡ c.back) in
+    weaker s handle given code (Breaks course) (λ t. GoesOn course (λ q. Represents s call q t × Before t)) (λ t. GoesOn course (λ q. Represents s call q t × After_ t)) c (handler_cost h) (handler_cost h) (omega arith)
+    (λ t g. goes_also s handle given code low e h is from has course (λ q. Represents s call q t × Before t) (λ q. Represents s call q t × After_ t)
+    (λ q x. let placed = x.1.0 in (x.0, (omega (arith, placed, behind, long), x.1.2, x.1.3))) g)
+    (part_ends s handle given code low e h is from has call p c at_place b)
 
 pub lowered_reacts : LoweredReacts
 lowered_reacts s handle given before after e h k from to low is handler part =
