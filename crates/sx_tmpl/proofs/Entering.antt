@@ -12,6 +12,7 @@ use Rattle.sx_lang.specs.declared.tree.DeviceKind.TheVariants.{Sensor, Actuator}
 use Rattle.sx_rules.specs.declared.access.Access.TheVariants.{Write}
 use Rattle.sx_rules.specs.declared.access.Violation.{Violation}
 use Rattle.sx_rules.specs.declared.section.Layout.{Layout}
+use Rattle.sx_rules.specs.declared.section.Section.{Section}
 use Rattle.sx_rules.specs.Access.{may, in_private, Lives, holder}
 use Rattle.sx_rules.specs.Admission.{apart, no_device}
 use Rattle.sx_rules.specs.Placed.{Placed}
@@ -45,7 +46,7 @@ use Rattle.sx_tmpl.proofs.Entry.{entering, entry_run}
 
 -- Lists by their places.
 
-abbrev gets : List ℕ → ℕ → ℕ → List ℕ
+abbrev pub gets : List ℕ → ℕ → ℕ → List ℕ
 gets l k zero = []
 gets l k (suc n) = slice_index l k ∷ gets l (suc k) n
 
@@ -53,7 +54,7 @@ gets_past : (x : ℕ) (l : List ℕ) (k n : ℕ) → gets (x ∷ l) (suc k) n �
 gets_past x l k zero = refl
 gets_past x l k (suc n) = ap (λ (r : List ℕ). slice_index l k ∷ r) (gets_past x l (suc k) n)
 
-from_gets : (l : List ℕ) → l ≡ gets l 0 (length l)
+pub from_gets : (l : List ℕ) → l ≡ gets l 0 (length l)
 from_gets [] = refl
 from_gets (x ∷ l) = ap (λ (r : List ℕ). x ∷ r) (from_gets l ∙ sym (gets_past x l 0 (length l)))
 
@@ -97,7 +98,7 @@ free_of_devices l at i (w ∷ ws) h lo hi =
 
 -- The caller's out-window.
 
-outside_window : (s : Setup) (a k : ℕ) → is_bad_window s a 384 ≡ false → a ≤ k → k < a + 384 → in_private s.section k ≡ false
+pub outside_window : (s : Setup) (a k : ℕ) → is_bad_window s a 384 ≡ false → a ≤ k → k < a + 384 → in_private s.section k ≡ false
 outside_window s a k good lo hi =
     go (nat_le s.section.layout.priv_from k) (nat_lt k s.section.layout.priv_to) refl refl
   where
@@ -114,7 +115,7 @@ outside_window s a k good lo hi =
         or_true true = refl
         or_true false = refl
 
-window_short : (s : Setup) (a : ℕ) → is_bad_window s a 384 ≡ false → a + 384 ≤ 65536
+pub window_short : (s : Setup) (a : ℕ) → is_bad_window s a 384 ≡ false → a + 384 ≤ 65536
 window_short s a good = elim (cases_lt 65536 (a + 384)) [
   | inl lt ↦ absurd (true≢false (sym (or_left (passes_end a 384) _ (lt-ltb 65536 (a + 384) lt)) ∙ good))
   | inr ge ↦ ge
@@ -144,6 +145,12 @@ regs_at n = record {
 abbrev pub data_at : State → Data
 data_at n = record { mem = n.mem; devices = n.devices; exchange = n.exchange; marks = [] }
 
+-- no other word of a private section is a device's
+pub private_free : (section : Section) (devices : List Window) (k : Option DeviceKind) → HasDevices devices k section.layout → (a : ℕ) → in_private section a ≡ true → section.layout.priv_from + 2 ≤ a → device_at devices a ≡ None
+private_free section devices None h a i le = let b = private_bounds section a i in h a b.0 b.1
+private_free section devices (Some Sensor) h a i le = let b = private_bounds section a i in h.alone a le b.1
+private_free section devices (Some Actuator) h a i le = let b = private_bounds section a i in h.alone a le b.1
+
 -- a node that enters the module, whose layout has room for what code needs
 pub record Ready (s : Setup) (n : State) : Type 0 where
   pub node : IsNode n
@@ -168,11 +175,6 @@ module _ (s : Setup) (n : State) (result : Invoked) (e : Ready s n) where
   abbrev out : ℕ
   out = (call_at n).output
 
-  private_free : (k : Option DeviceKind) → HasDevices n.devices k l → (a : ℕ) → in_private s.section a ≡ true → l.priv_from + 2 ≤ a → device_at n.devices a ≡ None
-  private_free None h a i le = let b = private_bounds s.section a i in h a b.0 b.1
-  private_free (Some Sensor) h a i le = let b = private_bounds s.section a i in h.alone a le b.1
-  private_free (Some Actuator) h a i le = let b = private_bounds s.section a i in h.alone a le b.1
-
   pub stands : Stands f
   stands = record {
     placed = subst (λ l. Placed (record { live = l; next = n.sections.next })) (sym e.live) e.node.placed;
@@ -181,11 +183,10 @@ module _ (s : Setup) (n : State) (result : Invoked) (e : Ready s n) where
     room = e.room.private_size;
     from_even = e.room.public_even;
     to_even = e.room.public_end;
-    sp_even = (let k : slice_index n.regs 1 - slice_index n.regs 1 % 2 ≡ slice_index n.regs 1 = e.node.registers.kept 1 in omega (arith, k));
     below = e.room.public_below;
     beneath = e.room.private_below;
     public_plain = λ a i. let b = public_bounds s.section a i in free_of_devices l a 0 n.devices (e.node.apart s.section e.lives) b.0 b.1;
-    private_plain = λ a i le. private_free (declared_kind s.tree.decls) e.devices a i le;
+    private_plain = λ a i le. private_free s.section n.devices (declared_kind s.tree.decls) e.devices a i le;
     window = fits (is_bad_window s out 384) refl;
     window_apart = λ a lo hi. apart_ (is_bad_window s out 384) refl a lo hi;
   }
@@ -197,6 +198,9 @@ module _ (s : Setup) (n : State) (result : Invoked) (e : Ready s n) where
       apart_ : (b : Bool) → is_bad_window s out 384 ≡ b → (a : ℕ) → out ≤ a → a < pieces_end b out (made all) → in_private s.section a ≡ false
       apart_ true h a lo hi = absurd (omega (arith, lo, hi))
       apart_ false h a lo hi = let m = min-le_right (made all) 384 in outside_window s out a h lo (omega (arith, hi, m))
+
+  pub sp_even : f.sp % 2 ≡ 0
+  sp_even = let k : slice_index n.regs 1 - slice_index n.regs 1 % 2 ≡ slice_index n.regs 1 = e.node.registers.kept 1 in omega (arith, k)
 
   pub sections_same : sections_of f ≡ n.sections
   sections_same = ap (λ l. record { live = l; next = n.sections.next }) e.live

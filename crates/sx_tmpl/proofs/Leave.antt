@@ -143,9 +143,9 @@ module _ (f : Fixed) (st : Stands f) (all : List Mark) (B : Watched → Violatio
       (owes_met f st (Out f st all B Q 0 d) (NoTell f st all B Q) (B (running f r d)) (row (Two op2.Mov false (Absolute (base_of f + 12)) (Reg 0)) (at_pc (regs16 f r) ((r.pc + 2) % 65536)) ((r.pc + 4) % 65536)) x safe.devices safe.memory
       (base_of f + 12, refl, p12, back, is, λ kept. (r2, rw stay refl, out, λ kept2. Here (after kept2))))
 
-  pub leave_run : (c : Conf) (status count : ℕ) (rest : List ℕ) → in_public f.setup.section (saved c 15 - saved c 15 % 2) ≡ false → 14 ≤ length c.priv → (r : Regs) (d : Data) → Text f (at c.place) 17 (leave_words (base_of f)) → Shows f at (record c { stack = count ∷ status ∷ rest }) r d → Safe f all (running f r d)
+  pub leave_run : (c : Conf) (status count : ℕ) (rest : List ℕ) → f.sp % 2 ≡ 0 → in_public f.setup.section (saved c 15 - saved c 15 % 2) ≡ false → 14 ≤ length c.priv → (r : Regs) (d : Data) → Text f (at c.place) 17 (leave_words (base_of f)) → Shows f at (record c { stack = count ∷ status ∷ rest }) r d → Safe f all (running f r d)
       → Runs f all B (Departed f at (record c { stack = count ∷ status ∷ rest }) status count) 15 (running f r d)
-  leave_run c status count rest out long r d t sh safe =
+  leave_run c status count rest sp_even out long r d t sh safe =
       let Q = Departed f at (record c { stack = count ∷ status ∷ rest }) status count in
       let h = sh.holds in
       let top = h.top in
@@ -157,7 +157,7 @@ module _ (f : Fixed) (st : Stands f) (all : List Mark) (B : Watched → Violatio
       let i12 : IsData 12 = record { low = omega arith; beside = inl (omega arith) } in
       let back : cell d.mem (base_of f + 12) ≡ saved c 15 = holds_word f st at c.back (count ∷ status ∷ rest) c.priv c.mem r.sp d.mem 12 h refl i12 long in
       let p148 = data_word f st 148 (omega arith) refl (omega (arith, st.room)) in
-      let spe : f.sp - f.sp % 2 ≡ f.sp = omega (arith, st.sp_even) in
+      let spe : f.sp - f.sp % 2 ≡ f.sp = omega (arith, sp_even) in
       let r1 = record r { pc = at c.place + 2; sp = r.sp + 2; r13 = count } in
       let q0 = record r1 { pc = at c.place + 4; sp = r.sp + 4; r12 = status } in
       let q1 = record q0 { pc = at c.place + 6; r4 = 0 } in

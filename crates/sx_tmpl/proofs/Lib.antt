@@ -35,6 +35,8 @@ pub mod TextStands
 pub mod Made
 pub mod SoundOps
 pub mod Entering
-pub mod Performing
 pub mod TextTurns
 pub mod Fitting
+pub mod Going
+pub mod Performing
+pub mod Resuming

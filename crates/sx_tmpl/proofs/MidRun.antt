@@ -19,7 +19,6 @@ pub record Stands (f : Fixed) : Type 0 where
   pub room : f.setup.section.layout.priv_from + 512 ≤ f.setup.section.layout.priv_to
   pub from_even : f.setup.section.layout.pub_from % 2 ≡ 0
   pub to_even : f.setup.section.layout.pub_to % 2 ≡ 0
-  pub sp_even : f.sp % 2 ≡ 0
   pub below : f.setup.section.layout.pub_to < 65536
   pub beneath : f.setup.section.layout.priv_to < 65536
   pub public_plain : (a : ℕ) → in_public f.setup.section a ≡ true → device_at f.devices a ≡ None

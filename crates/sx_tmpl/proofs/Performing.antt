@@ -1,8 +1,6 @@
 -- The emitted text does its code.
-use Rattle.std.proofs.Common.{◌≡◌, ℕ, zero, suc, ◌+◌, ◌-◌, ◌*◌, ◌<◌, ◌≤◌, Bool, true, false, not, List, [], ◌∷◌, ◌++◌, length, Some, refl, sym, ap, ◌∙◌, subst, arith}
-use Rattle.std.specs.Prelude.{slice_index, slice_get, min, replicate}
-use Rattle.std.proofs.Math.Nat.{le-min}
-use Rattle.std.proofs.lemmas.Bool.{true≢false}
+use Rattle.std.proofs.Common.{◌≡◌, ℕ, ◌+◌, ◌-◌, ◌*◌, ◌<◌, ◌≤◌, true, false, List, [], ◌∷◌, ◌++◌, length, Some, refl, sym, ap, ◌∙◌, subst, arith}
+use Rattle.std.specs.Prelude.{slice_index, slice_get, replicate}
 use Rattle.std.proofs.lemmas.List.{get_or_append_left}
 use Rattle.sx_mean.specs.Application.{declared_kind}
 use Rattle.sx_rules.specs.declared.access.Violation.{Violation}
@@ -11,14 +9,12 @@ use Rattle.sx_rules.specs.Access.{in_public}
 use Rattle.sx_tag.specs.Mac.{IsTag, Mac}
 use Rattle.sx_machine.specs.Memory.{even}
 use Rattle.sx_machine.specs.State.{State}
-use Rattle.sx_machine.proofs.Devices.{device_there, sample_small}
 use Rattle.sx_reach.specs.Reach.{Goes, Stops}
 use Rattle.sx_reach.proofs.Reaching.{and_then, weaken}
 use Rattle.sx_invoke.specs.Setup.{Setup}
 use Rattle.sx_invoke.specs.Devices.{HasDevices}
 use Rattle.sx_invoke.specs.Marks.{HasPrefix, Mark, made}
 use Rattle.sx_invoke.specs.Progress.{Invoked, bytes_in, marks_in, pieces_in}
-use Rattle.sx_invoke.specs.Windows.{is_bad_window}
 use Rattle.sx_image.specs.Watched.{Watched, watch}
 use Rattle.sx_image.specs.Image.{call_at, public_bytes, setup_at}
 use Rattle.sx_ir.specs.Conf.{Conf, Halt}
@@ -26,47 +22,24 @@ use Rattle.sx_ir.specs.Conf as conf
 use Rattle.sx_ir.specs.declared.ir.Code.{Code}
 use Rattle.sx_ir.specs.declared.ir.Ir.{Ir}
 use Rattle.sx_ir.specs.declared.ir.Ir.TheVariants as ir
-use Rattle.sx_ir.specs.Meaning.{After, Leaving, op_count, op_step, part_from, saved}
+use Rattle.sx_ir.specs.Meaning.{no_count, Leaving, op_count, op_step, part_from, saved}
 use Rattle.sx_ir.specs.Sound.{is_sound}
-use Rattle.sx_tmpl.specs.Performs.{DoesCode, HasRoom, IsNarrow, IsRegular, LeftFrom, Never, Performs, ReturnsBehind, With, entry_conf, no_count}
+use Rattle.sx_tmpl.specs.Performs.{DoesCode, HasRoom, IsNarrow, IsRegular, LeftFrom, Never, Performs, ReturnsBehind, With, entry_conf}
 use Rattle.sx_tmpl.specs.Performs as upper
-use Rattle.sx_tmpl.specs.Running.{Fixed, running, fixed_at, pieces_end, Safe}
-use Rattle.sx_tmpl.proofs.MidRun.{Runs}
+use Rattle.sx_tmpl.specs.Running.{Fixed, running, fixed_at, Safe}
+use Rattle.sx_tmpl.proofs.MidRun.{Runs, Stands}
 use Rattle.sx_tmpl.specs.Shows.{Holds, Shows, Stood, base_of}
 use Rattle.sx_tmpl.specs.Template.{Addresses}
-use Rattle.sx_tmpl.specs.Text.{addresses, bytes_of, part_place, text_words}
+use Rattle.sx_tmpl.specs.Text.{addresses, bytes_of, text_words}
 use Rattle.sx_tmpl.proofs.Branch.{jump_leads}
-use Rattle.sx_tmpl.proofs.Entering.{Ready, bytes_from_get, enters, sections_same, stands, weak}
+use Rattle.sx_tmpl.proofs.Entering.{Ready, bytes_from_get, enters, sections_same, sp_even, stands, weak}
 use Rattle.sx_tmpl.proofs.Leave.{Departed, leave_run}
-use Rattle.sx_tmpl.proofs.SoundOps.{AreSound, are_sound, sound_op}
+use Rattle.sx_tmpl.proofs.SoundOps.{AreSound, are_sound}
 use Rattle.sx_tmpl.proofs.Steps.{Text}
 use Rattle.sx_tmpl.proofs.TextBytes.{length-bytes, text_size}
-use Rattle.sx_tmpl.proofs.TextStands.{code_emitted, entry_text, exit_text, first_at, packet_text, slots_text, target}
-use Rattle.sx_tmpl.proofs.Whole.{Emitted, Good, IsTarget, step_goes, step_stops}
-
--- What `part_from` does.
-
-goes_same : (a b : Conf) → ◌≡◌ {A = After} (Goes a) (Goes b) → a ≡ b
-goes_same a b e = cc
-
-stuck_goes : (b : Conf) → ◌≡◌ {A = After} (Stops conf.Stuck) (Goes b) → ⊥
-stuck_goes b e = cc
-
-goes_stops : (a : Conf) (h : Halt) → ◌≡◌ {A = After} (Goes a) (Stops h) → ⊥
-goes_stops a h e = cc
-
-stops_same : (g h : Halt) → ◌≡◌ {A = After} (Stops g) (Stops h) → g ≡ h
-stops_same g h e = cc
-
-part_goes : (parts : List (ℕ × ℕ)) (h : ℕ) (c t : Conf) → part_from parts h c ≡ Goes t → record c { place = part_place parts h; back = Some (c.place + 1) } ≡ t
-part_goes [] h c t e = absurd (stuck_goes t e)
-part_goes (p ∷ parts) zero c t e = goes_same (record c { place = p.0; back = Some (c.place + 1) }) t e
-part_goes (p ∷ parts) (suc h) c t e = part_goes parts h c t e
-
-part_stops : (parts : List (ℕ × ℕ)) (h : ℕ) (c : Conf) (w : Halt) → part_from parts h c ≡ Stops w → conf.Stuck ≡ w
-part_stops [] h c w e = stops_same conf.Stuck w e
-part_stops (p ∷ parts) zero c w e = absurd (goes_stops (record c { place = p.0; back = Some (c.place + 1) }) w e)
-part_stops (p ∷ parts) (suc h) c w e = part_stops parts h c w e
+use Rattle.sx_tmpl.proofs.TextStands.{entry_text, exit_text, first_at}
+use Rattle.sx_tmpl.proofs.Going as going
+use Rattle.sx_tmpl.proofs.Whole.{Emitted}
 
 module _ (s : Setup) (n : State) (result : Invoked) (e : Ready s n) (sizes : bytes_in (pieces_in result) ≡ made (marks_in result)) (tag : IsTag s.mac) (code : Code) (sound : AreSound code.ops.items code.parts.items s.section.layout) (narrow : (p : ℕ) (i : Ir) → slice_get code.ops.items p ≡ Some i → IsNarrow i)
     (text : (k : ℕ) → k < 2 * length (text_words s.section.layout code) → slice_index n.mem (s.section.layout.pub_from + k) ≡ slice_index (bytes_of (text_words s.section.layout code)) k) where
@@ -88,48 +61,22 @@ module _ (s : Setup) (n : State) (result : Invoked) (e : Ready s n) (sizes : byt
   abbrev Sim : Conf → Watched → Type 0
   Sim c w = Stood f all a.at c w
 
-  there : (q : ℕ) → q ≤ length ops → IsTarget f (a.at q)
-  there = target f (stands s n result e) code text sound.fits
+  abbrev st : Stands f
+  st = stands s n result e
 
   done : Emitted f a ops
-  done = code_emitted f (stands s n result e) code text sound.fits
-      (λ p i h. sound_op f (stands s n result e) a parts ops sound (λ h. refl) there (packet_text f (stands s n result e) code text sound.fits) (slots_text f (stands s n result e) code text sound.fits) narrow p i h (sound.each p i h))
-
-  -- a configuration that is regular is one that templates can run from
-  good : (c : Conf) → IsRegular ops (call_at n) all c → Good f all a ops c
-  good c h = record {
-    marks = h.marks;
-    stack = h.room;
-    from = h.window;
-    to = λ ok k short few. to (is_bad_window s (call_at n).output 384) (sym (ap (λ (x : ℕ). not (is_bad_window s x 384)) h.window) ∙ ok) k short few;
-    sensor = λ i w found. sample_small c.devices i w h.samples (device_there c.devices s.section.layout.priv_from i w found);
-    back = λ p is. back p (subst (ReturnsBehind ops) is h.back);
-  }
-    where
-      to : (b : Bool) → not b ≡ true → (k : ℕ) → k ≤ 384 → k ≤ made all → (call_at n).output + k ≤ pieces_end b (call_at n).output (made all)
-      to false ok k short few = let m : k ≤ min (made all) 384 = le-min few short in omega (arith, m)
-      to true ok k short few = absurd (true≢false (sym ok))
-
-      back : (p : ℕ) → ReturnsBehind ops (Some p) → IsTarget f (a.at p)
-      back p (q, i, is, here) =
-          let t = done.stands q i here in
-          let next = done.following q i here in
-          let from = t.from in
-          let to = t.to in
-          let ev = t.is_even in
-          let z : a.at p ≡ a.at (q + 1) = ap a.at is in
-          (record { from = omega (arith, z, next, from); to = omega (arith, z, next, to) }, omega (arith, z, next, ev))
+  done = going.done f st all refl tag code sound narrow text
 
   goes : (c t : Conf) (w : Watched) → Sim c w → IsRegular ops (call_at n) all c → HasPrefix all t.marks → op_step s (part_from parts) ops c ≡ Goes t → upper.Runs s result n Never (Sim t) (op_count no_count ops c) w
   goes c t w x h begins is =
       weak s n result e sizes Never Never (Sim t) (Sim t) (op_count no_count ops c) w (λ w v x. x) (λ w x. x)
-      (step_goes f (stands s n result e) all (λ v m. ⊥) (λ v m b. absurd b) tag a ops done (part_from parts) (part_goes parts) (part_stops parts) no_count c t w x (good c h) is begins)
+      (going.op_goes_on f st all refl tag code sound narrow text (call_at n) c t w refl x h begins is)
 
   stops : (c : Conf) (v : Violation) (marks : List Mark) (w : Watched) → Sim c w → IsRegular ops (call_at n) all c → HasPrefix all marks → op_step s (part_from parts) ops c ≡ Stops (conf.Violates v marks)
       → upper.Runs s result n (With v marks) (λ x. ⊥) (op_count no_count ops c) w
   stops c v marks w x h begins is =
       weak s n result e sizes (With v marks) (With v marks) (λ x. ⊥) (λ x. ⊥) (op_count no_count ops c) w (λ w v x. x) (λ w x. x)
-      (step_stops f (stands s n result e) all (λ u m. (u ≡ v) × (m ≡ marks)) (λ u m b. subst (λ l. HasPrefix all l) (sym b.1) begins) tag a ops done (part_from parts) (part_goes parts) (part_stops parts) no_count c (conf.Violates v marks) w x (good c h) is (refl, refl))
+      (going.op_breaks f st all refl tag code sound narrow text (call_at n) c v marks w refl x h begins is)
 
   exit : Text f (a.at a.exit) 17 (Rattle.sx_tmpl.specs.Template.leave_words (base_of f))
   exit = exit_text f (stands s n result e) code text sound.fits
@@ -138,7 +85,6 @@ module _ (s : Setup) (n : State) (result : Invoked) (e : Ready s n) (sizes : byt
   departs : (t : Conf) (status count : ℕ) (w : Watched) → Sim t w → Leaving ops status count t → in_public s.section (even (saved t 15)) ≡ false → Runs f all Never (λ w. Departed f a.at t status count w) 16 w
   departs t status count w x leaving out =
       let rest = leaving.rest in
-      let st = stands s n result e in
       let stack : t.stack ≡ count ∷ status ∷ rest = leaving.stack in
       let at_exit : Conf = record t { place = a.exit } in
       let jump = jump_leads f st all Never a.at t a.exit (record { from = exit.from; to = omega (arith, exit.to) }) exit.is_even x.regs x.rest (done.stands t.place ir.Leave leaving.at) (done.following t.place ir.Leave leaving.at) x.shows (subst (λ w. Safe f all w) x.state x.safe) in
@@ -146,7 +92,7 @@ module _ (s : Setup) (n : State) (result : Invoked) (e : Ready s n) (sizes : byt
       (and_then Watched Violation (watch s.mac) (λ _. 1) (Safe f all) Never (Stood f all a.at at_exit) (λ w. Departed f a.at t status count w) 1 15 16 (running f x.regs x.rest) (omega arith) jump (λ u z.
       let same : record at_exit { stack = count ∷ status ∷ rest } ≡ at_exit = ap (λ l. record at_exit { stack = l }) (sym stack) in
       let long : 14 ≤ length t.priv = omega (arith, z.shows.holds.size, st.room) in
-      let run = leave_run f st all Never a.at at_exit status count rest out long z.regs z.rest exit (subst (λ c. Shows f a.at c z.regs z.rest) (sym same) z.shows) (subst (λ w. Safe f all w) z.state z.safe) in
+      let run = leave_run f st all Never a.at at_exit status count rest (sp_even s n result e) out long z.regs z.rest exit (subst (λ c. Shows f a.at c z.regs z.rest) (sym same) z.shows) (subst (λ w. Safe f all w) z.state z.safe) in
       weaken Watched Violation (watch s.mac) (λ _. 1) (Safe f all) (Safe f all) Never Never (Departed f a.at (record at_exit { stack = count ∷ status ∷ rest }) status count) (λ w. Departed f a.at t status count w) 15 15 u (omega arith) (λ u p. p) (λ u v b. b)
       (λ y q. record { rest = q.rest; state = q.state; kept = q.kept; sp = q.sp; holds = subst (λ l. Holds f a.at t.back l t.priv t.mem q.sp q.rest.mem) (sym stack) q.holds; devices = q.devices; marks = q.marks })
       (subst (λ u. Runs f all Never (Departed f a.at (record at_exit { stack = count ∷ status ∷ rest }) status count) 15 u) (sym z.state) run)))
