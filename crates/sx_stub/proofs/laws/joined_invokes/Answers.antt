@@ -1,0 +1,5 @@
+use Rattle.sx_stub.proofs.Joined.{joined_invokes}
+use Rattle.sx_stub.proofs.laws.joined_invokes.Goals as goal
+
+pub returns : goal.returns
+returns c = joined_invokes

@@ -1,0 +1,5 @@
+use Rattle.sx_stub.proofs.Whole.{stub_invokes}
+use Rattle.sx_stub.proofs.laws.stub_invokes.Goals as goal
+
+pub returns : goal.returns
+returns c = stub_invokes

@@ -1,0 +1,5 @@
+use Rattle.sx_stub.proofs.Sound.{stub_sound}
+use Rattle.sx_stub.proofs.laws.stub_sound.Goals as goal
+
+pub returns : goal.returns
+returns c = stub_sound

@@ -1,0 +1,312 @@
+-- The entry protocol as stack code: what each part of it is, at the place where it begins.
+use Rattle.std.specs.Prelude.{ℕ, ◌+◌, ◌*◌, Bool, true, false, not, if◌then◌else◌, List, [], ◌∷◌, ◌++◌, length, Option, Some, None}
+use Rattle.sx_lang.specs.declared.sides.Side.{Side}
+use Rattle.sx_lang.specs.declared.sides.Side.TheVariants.{From, To}
+use Rattle.sx_lang.specs.Tree.{ModuleTree}
+use Rattle.sx_mean.specs.declared.events.End.{End}
+use Rattle.sx_mean.specs.declared.events.SourceEvent.TheVariants as event
+use Rattle.sx_mean.specs.Application.{declared_kind}
+use Rattle.sx_mean.specs.Handlers.{number_of}
+use Rattle.sx_mean.specs.Meaning.{truth}
+use Rattle.sx_mean.specs.Offsets as offsets
+use Rattle.sx_invoke.specs.Invocation.{is_sensor_driver}
+use Rattle.sx_ir.specs.declared.ir.IrOp.TheVariants as op
+use Rattle.sx_ir.specs.declared.ir.Ir.{Ir}
+use Rattle.sx_ir.specs.declared.ir.Ir.TheVariants as ir
+
+-- Until a handler begins, its locals have room for which end a packet is for.
+
+-- what is searched for
+abbrev pub wanted_at : ℕ
+wanted_at = 72
+
+-- 12 times the end's place among the ends: there its slot begins among the words of the slots
+abbrev pub index_at : ℕ
+index_at = 74
+
+-- The words of a copied packet.
+
+-- its kind
+abbrev pub kind_at : ℕ
+kind_at = 16
+
+-- its connection field
+abbrev pub field_at : ℕ
+field_at = 18
+
+-- its end field or number
+abbrev pub second_at : ℕ
+second_at = 20
+
+-- the slots of the ends
+abbrev pub slots_at : ℕ
+slots_at = 512
+
+-- a return with this status, without a piece
+abbrev pub returns : ℕ → List Ir
+returns status = ir.Push status ∷ ir.Push 0 ∷ ir.Leave ∷ []
+
+-- such a return where the test leaves a word other than 0
+abbrev pub refuse_if : ℕ → List Ir → ℕ → List Ir
+refuse_if place test status = test ++ ir.JumpZero (place + length test + 4) ∷ returns status
+
+-- on to a place where the caller's entry is this one
+abbrev pub jump_on : ℕ → ℕ → List Ir
+jump_on entry place = ir.Saved 12 ∷ ir.Push entry ∷ ir.Op op.Sub ∷ ir.JumpZero place ∷ []
+
+-- One case for each end that has it: where the word at an offset is the case's number, its body,
+-- else the next case. The number depends on the end and its place among the ends, the body also on
+-- its own place in the code.
+pub record Cases : Type 0 where
+  pub offset : ℕ
+  pub has : End → Bool
+  pub number : ℕ → End → ℕ
+  pub body : ℕ → ℕ → End → List Ir
+
+-- the case of the k-th end
+abbrev pub case_of : Cases → ℕ → ℕ → End → List Ir
+case_of cs place k e =
+    let body = cs.body (place + 5) k e in
+    if cs.has e then ir.Load cs.offset ∷ ir.Push (cs.number k e) ∷ ir.Op op.Sub
+    ∷ ir.JumpZero (place + 5) ∷ ir.Jump (place + 5 + length body) ∷ body
+    else []
+
+-- the cases of ends, from the k-th on
+abbrev pub cases : Cases → ℕ → ℕ → List End → List Ir
+cases cs place k [] = []
+cases cs place k (e ∷ es) =
+    let here = case_of cs place k e in
+    here ++ cases cs (place + length here) (k + 1) es
+
+-- the side that receives
+abbrev pub is_to : Side → Bool
+is_to From = false
+is_to To = true
+
+-- each end has the case
+abbrev pub every_end : End → Bool
+every_end e = true
+
+-- the receiving ends have it
+abbrev pub is_receiving : End → Bool
+is_receiving e = is_to e.side
+
+-- 12 times an end's place
+abbrev pub index_of : ℕ → End → ℕ
+index_of k e = 12 * k
+
+-- what a connection field and an end field name
+abbrev pub named_end : ℕ → End → ℕ
+named_end k e = e.link + 256 * truth (is_to e.side)
+
+-- on to where the index is kept
+abbrev pub with_index : ℕ → ℕ → ℕ → End → List Ir
+with_index found place k e = ir.Push (12 * k) ∷ ir.Jump found ∷ []
+
+-- a word of the slot that was found: 0 its field, 1 its number, 2 whether it is open
+abbrev pub slot_word : ℕ → ℕ → List Ir
+slot_word ends n =
+    ir.Load index_at ∷ ir.Push n ∷ ir.Op op.Add ∷ ir.LoadAt slots_at (12 * ends) ∷ []
+
+-- the epoch of the field on top of the stack, times 256
+abbrev pub epoch : List Ir
+epoch = ir.Push 0xFF00 ∷ ir.Op op.And ∷ []
+
+-- a packet begins with another kind
+abbrev pub is_wrong_kind : ℕ → List Ir
+is_wrong_kind kind = ir.Load kind_at ∷ ir.Push kind ∷ ir.Op op.Sub ∷ []
+
+-- an unwrap was refused
+abbrev pub is_opened_not : List Ir
+is_opened_not = ir.Op op.Not ∷ []
+
+-- Set-key, and the cases in it.
+
+-- the end that is wanted is found, whichever side it is of
+abbrev pub find_any : ℕ → Cases
+find_any found =
+    record { offset = wanted_at; has = every_end; number = named_end; body = with_index found }
+
+-- the slot of the k-th end is opened
+abbrev pub open_end : ℕ → ℕ → End → List Ir
+open_end place k e = ir.SetEnd k ∷ ir.Push 1 ∷ ir.Push 0 ∷ ir.Leave ∷ []
+
+-- the slot of the end that was found is opened
+abbrev pub open_any : Cases
+open_any = record { offset = index_at; has = every_end; number = index_of; body = open_end }
+
+-- the end field is neither 0 nor 1
+abbrev pub is_no_side : List Ir
+is_no_side = ir.Push 1 ∷ ir.Load second_at ∷ ir.Op op.Lt ∷ []
+
+-- the end that the connection field and the end field name
+abbrev pub wanted_end : List Ir
+wanted_end =
+    ir.Load field_at ∷ ir.Push 255 ∷ ir.Op op.And
+    ∷ ir.Load second_at ∷ ir.Push 256 ∷ ir.Op op.Mul ∷ ir.Op op.Add ∷ []
+
+-- the end is open with an epoch that isn't below the packet's
+abbrev pub is_keyed_code : ℕ → List Ir
+is_keyed_code ends =
+    slot_word ends 2 ++ ir.Push 0 ∷ ir.Op op.Eq ∷ ir.Op op.Not
+    ∷ (slot_word ends 0 ++ (epoch ++ ir.Load field_at
+    ∷ (epoch ++ ir.Op op.Lt ∷ ir.Op op.Not ∷ ir.Op op.And ∷ [])))
+
+-- of the end that was found: the tests, and then the slot's opening
+abbrev pub key_found : List End → ℕ → List Ir
+key_found ends place =
+    refuse_if place (is_keyed_code (length ends)) 5
+    ++ ir.Open 0 16 6 56 16 ∷ (refuse_if (place + 24) is_opened_not 7
+    ++ cases open_any (place + 29) 0 ends)
+
+-- the packet is copied and tested, and its end is searched for
+abbrev pub set_key_code : ℕ → ℕ → List Ir
+set_key_code search place =
+    ir.CopyIn 38 16 ∷ (refuse_if (place + 1) (is_wrong_kind 1) 4
+    ++ (refuse_if (place + 8) is_no_side 5
+    ++ (wanted_end ++ ir.Store wanted_at ∷ ir.Jump search ∷ [])))
+
+-- Attest.
+
+-- the answer's tag is made and copied
+abbrev pub answer_code : List Ir
+answer_code =
+    ir.Seal 0 16 18 56 0 ∷ ir.Push 0 ∷ ir.CopyOut 16 34 ∷ ir.Push 1 ∷ ir.Push 1 ∷ ir.Leave ∷ []
+
+-- the ask is copied, tested and answered
+abbrev pub attest_code : ℕ → List Ir
+attest_code place =
+    ir.CopyIn 18 16 ∷ (refuse_if (place + 1) (is_wrong_kind 2) 4 ++ answer_code)
+
+-- A handler, where there is one, and the return.
+abbrev pub handled_by : Option ℕ → List Ir
+handled_by None = ir.Push 1 ∷ ir.Push 0 ∷ ir.Leave ∷ []
+handled_by (Some h) = ir.Handler h ∷ ir.Push 1 ∷ ir.Load offsets.pieces_at ∷ ir.Leave ∷ []
+
+-- Input, and the cases in it.
+
+-- a receiving end of the connection
+abbrev pub wanted_receiving : List Ir
+wanted_receiving =
+    ir.Load field_at ∷ ir.Push 255 ∷ ir.Op op.And ∷ ir.Push 256 ∷ ir.Op op.Add ∷ []
+
+-- the next number is above the packet's, and the handler runs with its value
+abbrev pub taken_code : ModuleTree → ℕ → End → List Ir
+taken_code tree k e =
+    ir.Load second_at ∷ ir.Push 1 ∷ ir.Op op.Add ∷ ir.Store (offsets.end_number_at k)
+    ∷ ir.Load 56 ∷ ir.Store offsets.event_at ∷ handled_by (number_of tree (event.Input e.port 0))
+
+-- the packet is unwrapped and taken
+abbrev pub take_event : ModuleTree → ℕ → ℕ → End → List Ir
+take_event tree place k e =
+    ir.Open (offsets.end_key_at k) 16 6 56 2 ∷ (refuse_if (place + 1) is_opened_not 7
+    ++ taken_code tree k e)
+
+-- the receiving end that was found takes the packet
+abbrev pub take_receiving : ModuleTree → Cases
+take_receiving tree =
+    record { offset = index_at; has = is_receiving; number = index_of; body = take_event tree }
+
+-- the end isn't open
+abbrev pub is_closed_code : ℕ → List Ir
+is_closed_code ends = slot_word ends 2 ++ ir.Push 0 ∷ ir.Op op.Eq ∷ []
+
+-- its epoch isn't the packet's
+abbrev pub is_other_epoch : ℕ → List Ir
+is_other_epoch ends =
+    slot_word ends 0 ++ (epoch ++ ir.Load field_at ∷ (epoch ++ ir.Op op.Sub ∷ []))
+
+-- the packet's number is below the next one
+abbrev pub is_past_number : ℕ → List Ir
+is_past_number ends = ir.Load second_at ∷ (slot_word ends 1 ++ ir.Op op.Lt ∷ [])
+
+-- it has no number above it
+abbrev pub is_last_number : List Ir
+is_last_number = ir.Load second_at ∷ ir.Push 65535 ∷ ir.Op op.Eq ∷ []
+
+-- of the end that was found: the tests, and then the event's taking
+abbrev pub input_found : ModuleTree → List End → ℕ → List Ir
+input_found tree ends place =
+    let n = length ends in
+    refuse_if place (is_closed_code n) 5 ++ (refuse_if (place + 10) (is_other_epoch n) 5
+    ++ (refuse_if (place + 24) (is_past_number n) 6 ++ (refuse_if (place + 34) is_last_number 6
+    ++ cases (take_receiving tree) (place + 41) 0 ends)))
+
+-- the packet is copied and tested, and its end is searched for
+abbrev pub input_code : ℕ → ℕ → List Ir
+input_code search place =
+    ir.CopyIn 24 16 ∷ (refuse_if (place + 1) (is_wrong_kind 3) 4
+    ++ (wanted_receiving ++ ir.Store wanted_at ∷ ir.Jump search ∷ []))
+
+-- The search for the end, which set-key and input share, and what follows it.
+
+-- where set-key goes on with the end that was found
+abbrev pub key_place : ModuleTree → List End → ℕ → ℕ
+key_place tree ends place = place + 3 + length (input_found tree ends (place + 3))
+
+-- the index is kept, and the caller's entry goes on: set-key's is 0
+abbrev pub found_code : ModuleTree → List End → ℕ → List Ir
+found_code tree ends place =
+    ir.Store index_at ∷ ir.Saved 12 ∷ ir.JumpZero (key_place tree ends place)
+    ∷ (input_found tree ends (place + 3) ++ key_found ends (key_place tree ends place))
+
+-- the end that is wanted is searched for; without one the status is 5
+abbrev pub search_code : ModuleTree → List End → ℕ → List Ir
+search_code tree ends place =
+    let found = place + 7 * length ends + 3 in
+    cases (find_any found) place 0 ends ++ (returns 5 ++ found_code tree ends found)
+
+-- Sample: the value is what the sensor's word reads, without its bit 15.
+
+-- the sensor wasn't fresh
+abbrev pub is_stale_code : List Ir
+is_stale_code = ir.Load offsets.event_at ∷ ir.Push 0 ∷ ir.Op op.Eq ∷ []
+
+-- the handler runs with the value
+abbrev pub sampled_code : ModuleTree → List Ir
+sampled_code tree =
+    ir.Load offsets.event_at ∷ ir.Push 0x8000 ∷ ir.Op op.Sub ∷ ir.Store offsets.event_at
+    ∷ handled_by (number_of tree (event.Sample 0))
+
+-- the sensor is read, tested and taken
+abbrev pub sample_code : ModuleTree → ℕ → List Ir
+sample_code tree place =
+    ir.Sense ∷ ir.Store offsets.event_at ∷ (refuse_if (place + 2) is_stale_code 8
+    ++ sampled_code tree)
+
+-- The tests of the entry and the windows, and the way to the four entries.
+
+-- there are entries 0 to 3 alone
+abbrev pub is_above_three : List Ir
+is_above_three = ir.Push 3 ∷ ir.Saved 12 ∷ ir.Op op.Lt ∷ []
+
+-- entry 3 is of a module that drives a sensor
+abbrev pub is_no_sample : ModuleTree → List Ir
+is_no_sample tree =
+    ir.Saved 12 ∷ ir.Push 3 ∷ ir.Op op.Eq
+    ∷ ir.Push (truth (not (is_sensor_driver (declared_kind tree.decls)))) ∷ ir.Op op.And ∷ []
+
+-- the return address, the entry and the windows, in this order
+abbrev pub tests : ModuleTree → List Ir
+tests tree =
+    ir.Inside ∷ (refuse_if 1 is_above_three 2 ++ (refuse_if 8 (is_no_sample tree) 2
+    ++ (refuse_if 17 (ir.Meets 13 40 ∷ []) 3 ++ refuse_if 22 (ir.Meets 14 384 ∷ []) 3)))
+
+-- the four entries' code begins at these places, and the search behind them
+abbrev pub entries : ModuleTree → List End → List Ir
+entries tree ends =
+    let set_key = 39 + length (sample_code tree 39) in
+    let attest = set_key + 24 in
+    let input = attest + 14 in
+    let search = input + 15 in
+    jump_on 0 set_key ++ (jump_on 1 attest ++ (jump_on 2 input
+    ++ (sample_code tree 39 ++ (set_key_code search set_key ++ (attest_code attest
+    ++ (input_code search input ++ search_code tree ends search))))))
+
+-- the stub, which begins at place 0
+unfoldable pub stub_code : ModuleTree → List End → List Ir
+stub_code tree ends = tests tree ++ entries tree ends
+
+-- the stub's operations: its code, and behind it a return, so that each of its jumps goes to an operation
+abbrev pub stub_ops : ModuleTree → List End → List Ir
+stub_ops tree ends = stub_code tree ends ++ returns 5

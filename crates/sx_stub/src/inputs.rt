@@ -1,0 +1,237 @@
+//! Input: the tests, and the opening of a packet with the key of its end.
+
+ghost use Rattle.std.specs.Prelude.{◌≡◌, ◌+◌, ◌<◌, ◌≤◌, ◌++◌, OnOk, length};
+ghost use Rattle.sx_lang.specs.View.{module_of};
+ghost use Rattle.sx_mean.specs.declared.events.SourceEvent.TheVariants as event;
+ghost use Rattle.sx_mean.specs.Handlers.{number_of};
+ghost use Rattle.sx_stub.specs.Stub.{case_of, cases, input_code, input_found, is_closed_code, is_last_number, is_other_epoch, is_past_number, is_receiving, refuse_if, take_event, take_receiving, taken_code, wanted_receiving};
+ghost use Rattle.sx_stub.specs.Puts.{Puts, PutsAt, PutsCase, PutsCases, Refuses, behind_cases, searched};
+
+use crate::handled::{handled_len, input_handler, put_handled};
+use crate::pieces::{
+    FIELD, INDEX, KIND, SECOND, SLOTS, WANTED, put, put_all, put_choice, put_refuse,
+};
+use std::alloc::AllocError;
+use sx_ir::{Ir, IrOp};
+use sx_lang::sides::Side;
+use sx_lang::tree::Module;
+use sx_mean::events::End;
+use sx_mean::offsets::{EVENT, PACKET, PLAIN, end_key_at, end_number_at};
+
+fn put_wanted_receiving(code: &mut Vec<Ir>, search: u16) -> Result<(), AllocError>
+    ensures { OnOk result (Puts (wanted_receiving ++ searched search) code.old.items code.new.items) }
+{
+    let ops = [
+        Ir::Load(FIELD),
+        Ir::Push(255),
+        Ir::Op(IrOp::And),
+        Ir::Push(256),
+        Ir::Op(IrOp::Add),
+        Ir::Store(WANTED),
+        Ir::Jump(search),
+    ];
+    put_all(code, &ops)
+}
+
+/// Appends the entry of input, which goes on at the search for the end.
+pub fn put_input(code: &mut Vec<Ir>, search: u16) -> Result<(), AllocError>
+    requires short { length code.old.items < 60000 }
+    ensures { OnOk result (PutsAt (input_code search) code.old.items code.new.items) }
+{
+    put(code, Ir::CopyIn(24, PACKET))?;
+    put_refuse(code, &[Ir::Load(KIND), Ir::Push(3), Ir::Op(IrOp::Sub)], 4)?;
+    put_wanted_receiving(code, search)
+}
+
+fn is_receiving(e: &End) -> bool
+    ensures { result ≡ is_receiving e.now }
+{
+    match e.side {
+        Side::From => false,
+        Side::To => true,
+    }
+}
+
+fn put_taken(code: &mut Vec<Ir>, tree: &Module, k: u8, e: &End) -> Result<(), AllocError>
+    requires few { length tree.now.handlers.items ≤ 256 }
+    ensures { OnOk result (Puts (taken_code (module_of tree.now) k e.now) code.old.items code.new.items) }
+{
+    let ops = [
+        Ir::Load(SECOND),
+        Ir::Push(1),
+        Ir::Op(IrOp::Add),
+        Ir::Store(end_number_at(k)),
+        Ir::Load(PLAIN),
+        Ir::Store(EVENT),
+    ];
+    put_all(code, &ops)?;
+    put_handled(code, input_handler(tree, e.port))
+}
+
+fn put_take(code: &mut Vec<Ir>, tree: &Module, k: u8, e: &End) -> Result<(), AllocError>
+    requires short { length code.old.items < 60000 }
+    requires few { length tree.now.handlers.items ≤ 256 }
+    ensures { OnOk result
+        (PutsAt (λ p. take_event (module_of tree.now) p k e.now) code.old.items code.new.items) }
+{
+    put(code, Ir::Open(end_key_at(k), PACKET, 6, PLAIN, 2))?;
+    put_refuse(code, &[Ir::Op(IrOp::Not)], 7)?;
+    put_taken(code, tree, k, e)
+}
+
+fn take_len(tree: &Module, e: &End) -> u16
+    requires few { length tree.now.handlers.items ≤ 256 }
+    ensures len { result ≡ length (take_event (module_of tree.now) 0 0 e.now) }
+    ensures small { result ≤ 16 }
+{
+    12 + handled_len(input_handler(tree, e.port))
+}
+
+fn case_len(tree: &Module, e: &End) -> u16
+    requires few { length tree.now.handlers.items ≤ 256 }
+    ensures len { result ≡ length (case_of (take_receiving (module_of tree.now)) 0 0 e.now) }
+    ensures small { result ≤ 21 }
+{
+    if is_receiving(e) {
+        5 + take_len(tree, e)
+    } else {
+        0
+    }
+}
+
+fn put_take_case(code: &mut Vec<Ir>, tree: &Module, k: u8, e: &End) -> Result<(), AllocError>
+    requires short { length code.old.items < 55000 }
+    requires few { length tree.now.handlers.items ≤ 256 }
+    requires ends { k < 16 }
+    ensures code { OnOk result
+        (PutsCase (take_receiving (module_of tree.now)) k e.now code.old.items code.new.items) }
+    ensures small { OnOk result (length code.new.items ≤ length code.old.items + 21) }
+{
+    if is_receiving(e) {
+        let next = code.len() as u16 + 5 + take_len(tree, e);
+        put_choice(code, INDEX, 12 * u16::from(k), next)?;
+        put_take(code, tree, k, e)
+    } else {
+        Ok(())
+    }
+}
+
+fn put_take_cases(code: &mut Vec<Ir>, tree: &Module, ends: &[End]) -> Result<(), AllocError>
+    requires short { length code.old.items < 50000 }
+    requires few { length tree.now.handlers.items ≤ 256 }
+    requires ends { length ends.now ≤ 16 }
+    ensures { OnOk result
+        (PutsCases (take_receiving (module_of tree.now)) ends.now code.old.items code.new.items) }
+{
+    let mut k: u8 = 0;
+    for e in ends {
+        put_take_case(code, tree, k, e)?;
+        k += 1;
+    }
+    Ok(())
+}
+
+/// The place behind the cases of the receiving ends, which begin at this one.
+fn behind_takes(tree: &Module, ends: &[End], place: u16) -> u16
+    requires short { place < 60000 }
+    requires few { length tree.now.handlers.items ≤ 256 }
+    requires ends { length ends.now ≤ 16 }
+    ensures place { result ≡ behind_cases (module_of tree.now) ends.now place }
+    ensures small { result ≤ place + 336 }
+{
+    let mut at = place;
+    for e in ends {
+        at += case_len(tree, e);
+    }
+    at
+}
+
+/// The place behind what input does with the end that was found, which begins at this one.
+pub fn behind_input_found(tree: &Module, ends: &[End], place: u16) -> u16
+    requires short { place < 59000 }
+    requires few { length tree.now.handlers.items ≤ 256 }
+    requires ends { length ends.now ≤ 16 }
+    ensures place { result ≡ place + length (input_found (module_of tree.now) ends.now place) }
+    ensures small { result ≤ place + 377 }
+{
+    behind_takes(tree, ends, place + 41)
+}
+
+fn put_closed_test(code: &mut Vec<Ir>, ends: u16) -> Result<(), AllocError>
+    requires short { length code.old.items < 60000 }
+    requires few { ends ≤ 16 }
+    ensures { OnOk result (Refuses (is_closed_code ends) 5 code.old.items code.new.items) }
+{
+    let test = [
+        Ir::Load(INDEX),
+        Ir::Push(2),
+        Ir::Op(IrOp::Add),
+        Ir::LoadAt(SLOTS, 12 * ends),
+        Ir::Push(0),
+        Ir::Op(IrOp::Eq),
+    ];
+    put_refuse(code, &test, 5)
+}
+
+fn put_epoch_test(code: &mut Vec<Ir>, ends: u16) -> Result<(), AllocError>
+    requires short { length code.old.items < 60000 }
+    requires few { ends ≤ 16 }
+    ensures { OnOk result (Refuses (is_other_epoch ends) 5 code.old.items code.new.items) }
+{
+    let test = [
+        Ir::Load(INDEX),
+        Ir::Push(0),
+        Ir::Op(IrOp::Add),
+        Ir::LoadAt(SLOTS, 12 * ends),
+        Ir::Push(0xFF00),
+        Ir::Op(IrOp::And),
+        Ir::Load(FIELD),
+        Ir::Push(0xFF00),
+        Ir::Op(IrOp::And),
+        Ir::Op(IrOp::Sub),
+    ];
+    put_refuse(code, &test, 5)
+}
+
+fn put_past_test(code: &mut Vec<Ir>, ends: u16) -> Result<(), AllocError>
+    requires short { length code.old.items < 60000 }
+    requires few { ends ≤ 16 }
+    ensures { OnOk result (Refuses (is_past_number ends) 6 code.old.items code.new.items) }
+{
+    let test = [
+        Ir::Load(SECOND),
+        Ir::Load(INDEX),
+        Ir::Push(1),
+        Ir::Op(IrOp::Add),
+        Ir::LoadAt(SLOTS, 12 * ends),
+        Ir::Op(IrOp::Lt),
+    ];
+    put_refuse(code, &test, 6)
+}
+
+fn put_last_test(code: &mut Vec<Ir>) -> Result<(), AllocError>
+    requires short { length code.old.items < 60000 }
+    ensures { OnOk result (Refuses is_last_number 6 code.old.items code.new.items) }
+{
+    put_refuse(
+        code,
+        &[Ir::Load(SECOND), Ir::Push(65535), Ir::Op(IrOp::Eq)],
+        6,
+    )
+}
+
+/// Appends what input does with the end that was found: the tests, and then the packet's opening.
+pub fn put_input_found(code: &mut Vec<Ir>, tree: &Module, ends: &[End]) -> Result<(), AllocError>
+    requires short { length code.old.items < 40000 }
+    requires few { length tree.now.handlers.items ≤ 256 }
+    requires ends { length ends.now ≤ 16 }
+    ensures { OnOk result
+        (PutsAt (input_found (module_of tree.now) ends.now) code.old.items code.new.items) }
+{
+    let count = ends.len() as u16;
+    put_closed_test(code, count)?;
+    put_epoch_test(code, count)?;
+    put_past_test(code, count)?;
+    put_last_test(code)?;
+    put_take_cases(code, tree, ends)
+}

@@ -1,0 +1,106 @@
+//! Set-key: the tests, and the opening of an end's slot.
+
+ghost use Rattle.std.specs.Prelude.{◌<◌, ◌≤◌, ◌++◌, OnOk, length};
+ghost use Rattle.sx_stub.specs.Puts.{Puts, PutsAt, PutsCase, PutsCases, Refuses, searched};
+ghost use Rattle.sx_stub.specs.Stub.{is_keyed_code, key_found, open_any, set_key_code, wanted_end};
+
+use crate::pieces::{
+    FIELD, INDEX, KIND, SECOND, SLOTS, WANTED, put, put_all, put_choice, put_refuse,
+};
+use std::alloc::AllocError;
+use sx_ir::{Ir, IrOp};
+use sx_mean::events::End;
+use sx_mean::offsets::{PACKET, PLAIN};
+
+fn put_wanted_end(code: &mut Vec<Ir>, search: u16) -> Result<(), AllocError>
+    ensures { OnOk result (Puts (wanted_end ++ searched search) code.old.items code.new.items) }
+{
+    let ops = [
+        Ir::Load(FIELD),
+        Ir::Push(255),
+        Ir::Op(IrOp::And),
+        Ir::Load(SECOND),
+        Ir::Push(256),
+        Ir::Op(IrOp::Mul),
+        Ir::Op(IrOp::Add),
+        Ir::Store(WANTED),
+        Ir::Jump(search),
+    ];
+    put_all(code, &ops)
+}
+
+/// Appends the entry of set-key, which goes on at the search for the end.
+pub fn put_set_key(code: &mut Vec<Ir>, search: u16) -> Result<(), AllocError>
+    requires short { length code.old.items < 60000 }
+    ensures { OnOk result (PutsAt (set_key_code search) code.old.items code.new.items) }
+{
+    put(code, Ir::CopyIn(38, PACKET))?;
+    put_refuse(code, &[Ir::Load(KIND), Ir::Push(1), Ir::Op(IrOp::Sub)], 4)?;
+    put_refuse(code, &[Ir::Push(1), Ir::Load(SECOND), Ir::Op(IrOp::Lt)], 5)?;
+    put_wanted_end(code, search)
+}
+
+fn put_keyed_test(code: &mut Vec<Ir>, ends: u16) -> Result<(), AllocError>
+    requires short { length code.old.items < 60000 }
+    requires few { ends ≤ 16 }
+    ensures { OnOk result (Refuses (is_keyed_code ends) 5 code.old.items code.new.items) }
+{
+    let words = 12 * ends;
+    let test = [
+        Ir::Load(INDEX),
+        Ir::Push(2),
+        Ir::Op(IrOp::Add),
+        Ir::LoadAt(SLOTS, words),
+        Ir::Push(0),
+        Ir::Op(IrOp::Eq),
+        Ir::Op(IrOp::Not),
+        Ir::Load(INDEX),
+        Ir::Push(0),
+        Ir::Op(IrOp::Add),
+        Ir::LoadAt(SLOTS, words),
+        Ir::Push(0xFF00),
+        Ir::Op(IrOp::And),
+        Ir::Load(FIELD),
+        Ir::Push(0xFF00),
+        Ir::Op(IrOp::And),
+        Ir::Op(IrOp::Lt),
+        Ir::Op(IrOp::Not),
+        Ir::Op(IrOp::And),
+    ];
+    put_refuse(code, &test, 5)
+}
+
+fn put_open_case(code: &mut Vec<Ir>, k: u8, e: &End) -> Result<(), AllocError>
+    requires short { length code.old.items < 60000 }
+    requires few { k < 16 }
+    ensures { OnOk result (PutsCase open_any k e.now code.old.items code.new.items) }
+{
+    let next = (code.len() + 9) as u16;
+    put_choice(code, INDEX, 12 * u16::from(k), next)?;
+    put_all(code, &[Ir::SetEnd(k), Ir::Push(1), Ir::Push(0), Ir::Leave])
+}
+
+fn put_open_cases(code: &mut Vec<Ir>, ends: &[End]) -> Result<(), AllocError>
+    requires short { length code.old.items < 50000 }
+    requires few { length ends.now ≤ 16 }
+    ensures { OnOk result (PutsCases open_any ends.now code.old.items code.new.items) }
+{
+    let mut k: u8 = 0;
+    for e in ends {
+        put_open_case(code, k, e)?;
+        k += 1;
+    }
+    Ok(())
+}
+
+/// Appends what set-key does with the end that was found: the tests, and then the slot's opening.
+pub fn put_key_found(code: &mut Vec<Ir>, ends: &[End]) -> Result<(), AllocError>
+    requires short { length code.old.items < 40000 }
+    requires few { length ends.now ≤ 16 }
+    ensures { OnOk result (PutsAt (key_found ends.now) code.old.items code.new.items) }
+{
+    put_keyed_test(code, ends.len() as u16)?;
+    put(code, Ir::Open(0, PACKET, 6, PLAIN, 16))?;
+    put_refuse(code, &[Ir::Op(IrOp::Not)], 7)?;
+    put_open_cases(code, ends)
+}

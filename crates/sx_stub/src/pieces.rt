@@ -1,0 +1,96 @@
+//! Pieces of which the protocol's parts are made.
+
+ghost use Rattle.std.specs.Prelude.{◌+◌, ◌<◌, ◌∷◌, [], OnOk, length};
+ghost use Rattle.sx_stub.specs.Puts.{Puts, PutsAt, Refuses, choice, searched};
+ghost use Rattle.sx_stub.specs.Stub.{jump_on, returns};
+
+use std::alloc::AllocError;
+use sx_ir::{Ir, IrOp};
+
+/// The word of what an end is searched by.
+pub const WANTED: u16 = 72;
+
+/// The word of 12 times the place of the end that was found.
+pub const INDEX: u16 = 74;
+
+/// The word of a copied packet's kind.
+pub const KIND: u16 = 16;
+
+/// The word of a copied packet's connection field.
+pub const FIELD: u16 = 18;
+
+/// The word of a copied packet's end field or number.
+pub const SECOND: u16 = 20;
+
+/// The first word of the slots.
+pub const SLOTS: u16 = 512;
+
+/// Appends an operation.
+pub fn put(code: &mut Vec<Ir>, op: Ir) -> Result<(), AllocError>
+    ensures { OnOk result (Puts (op ∷ []) code.old.items code.new.items) }
+{
+    code.push(op)?;
+    Ok(())
+}
+
+/// Appends operations.
+pub fn put_all(code: &mut Vec<Ir>, ops: &[Ir]) -> Result<(), AllocError>
+    ensures { OnOk result (Puts ops.now code.old.items code.new.items) }
+{
+    for op in ops {
+        put(code, *op)?;
+    }
+    Ok(())
+}
+
+/// Appends a return with this status and no pieces.
+pub fn put_returns(code: &mut Vec<Ir>, status: u16) -> Result<(), AllocError>
+    ensures { OnOk result (Puts (returns status) code.old.items code.new.items) }
+{
+    put_all(code, &[Ir::Push(status), Ir::Push(0), Ir::Leave])
+}
+
+/// Appends a return with this status where the test leaves a word other than 0.
+pub fn put_refuse(code: &mut Vec<Ir>, test: &[Ir], status: u16) -> Result<(), AllocError>
+    requires short { length code.old.items + length test.now < 65532 }
+    ensures { OnOk result (Refuses test.now status code.old.items code.new.items) }
+{
+    let next = (code.len() + test.len() + 4) as u16;
+    put_all(code, test)?;
+    put(code, Ir::JumpZero(next))?;
+    put_returns(code, status)
+}
+
+/// Appends a jump to a place where the caller's entry is this one.
+pub fn put_jump_on(code: &mut Vec<Ir>, entry: u16, place: u16) -> Result<(), AllocError>
+    ensures { OnOk result (Puts (jump_on entry place) code.old.items code.new.items) }
+{
+    let ops = [
+        Ir::Saved(12),
+        Ir::Push(entry),
+        Ir::Op(IrOp::Sub),
+        Ir::JumpZero(place),
+    ];
+    put_all(code, &ops)
+}
+
+/// Appends a choice: where the word at an offset is the number, on behind these operations, else at the place.
+pub fn put_choice(
+    code: &mut Vec<Ir>,
+    offset: u16,
+    number: u16,
+    otherwise: u16,
+) -> Result<(), AllocError>
+    requires short { length code.old.items < 65000 }
+    ensures { OnOk result (PutsAt (choice offset number otherwise) code.old.items code.new.items) }
+{
+    let body = (code.len() + 5) as u16;
+    let ops = [
+        Ir::Load(offset),
+        Ir::Push(number),
+        Ir::Op(IrOp::Sub),
+        Ir::JumpZero(body),
+        Ir::Jump(otherwise),
+    ];
+    put_all(code, &ops)
+}

@@ -1,0 +1,142 @@
+//! The protocol's code as a whole.
+
+ghost use Rattle.std.specs.Prelude.{◌≡◌, ◌<◌, ◌≤◌, All, [], IfOk, OnOk, length, not};
+ghost use Rattle.sx_check.specs.Source.{source_tree};
+ghost use Rattle.sx_lang.specs.View.{module_of};
+ghost use Rattle.sx_invoke.specs.Invocation.{is_sensor_driver};
+ghost use Rattle.sx_mean.specs.Application.{declared_kind};
+ghost use Rattle.sx_stub.specs.Stub.{entries, is_above_three, is_no_sample, stub_ops, tests};
+ghost use Rattle.sx_stub.specs.Puts.{Puts, Refuses};
+ghost use Rattle.sx_stub.specs.Stubs.{StubsTo};
+
+use crate::answers::put_attest;
+use crate::finding::put_search;
+use crate::inputs::put_input;
+use crate::keys::put_set_key;
+use crate::pieces::{put, put_jump_on, put_refuse, put_returns};
+use crate::samples::{put_sample, sample_len};
+use std::alloc::{AllocError, Global};
+use sx_check::checked::Checked;
+use sx_ir::{Code, Ir, IrOp};
+use sx_lang::tree::{DeviceKind, Module};
+use sx_mean::apps::declared_kind;
+use sx_mean::events::End;
+use sx_rules::Layout;
+use sx_tag::Tag;
+
+fn has_no_sensor(tree: &Module) -> bool
+    ensures { result ≡ not (is_sensor_driver (declared_kind tree.now.decls.items)) }
+{
+    match declared_kind(&tree.decls) {
+        Some(DeviceKind::Sensor) => false,
+        _ => true,
+    }
+}
+
+fn put_sample_test(code: &mut Vec<Ir>, tree: &Module) -> Result<(), AllocError>
+    requires short { length code.old.items < 60000 }
+    ensures { OnOk result (Refuses (is_no_sample (module_of tree.now)) 2 code.old.items code.new.items) }
+{
+    let test = [
+        Ir::Saved(12),
+        Ir::Push(3),
+        Ir::Op(IrOp::Eq),
+        Ir::Push(u16::from(has_no_sensor(tree))),
+        Ir::Op(IrOp::And),
+    ];
+    put_refuse(code, &test, 2)
+}
+
+fn put_entry_test(code: &mut Vec<Ir>) -> Result<(), AllocError>
+    requires short { length code.old.items < 60000 }
+    ensures { OnOk result (Refuses is_above_three 2 code.old.items code.new.items) }
+{
+    put_refuse(code, &[Ir::Push(3), Ir::Saved(12), Ir::Op(IrOp::Lt)], 2)
+}
+
+fn put_tests(code: &mut Vec<Ir>, tree: &Module) -> Result<(), AllocError>
+    requires empty { code.old.items ≡ [] }
+    ensures { OnOk result (code.new.items ≡ tests (module_of tree.now)) }
+{
+    put(code, Ir::Inside)?;
+    put_entry_test(code)?;
+    put_sample_test(code, tree)?;
+    put_refuse(code, &[Ir::Meets(13, 40)], 3)?;
+    put_refuse(code, &[Ir::Meets(14, 384)], 3)
+}
+
+fn put_entries(code: &mut Vec<Ir>, tree: &Module, ends: &[End]) -> Result<(), AllocError>
+    requires here { length code.old.items ≡ 27 }
+    requires few { length tree.now.handlers.items ≤ 256 }
+    requires ends { length ends.now ≤ 16 }
+    ensures { OnOk result (Puts (entries (module_of tree.now) ends.now) code.old.items code.new.items) }
+{
+    let set_key = 39 + sample_len(tree);
+    let attest = set_key + 24;
+    let input = attest + 14;
+    let search = input + 15;
+    put_jump_on(code, 0, set_key)?;
+    put_jump_on(code, 1, attest)?;
+    put_jump_on(code, 2, input)?;
+    put_sample(code, tree)?;
+    put_set_key(code, search)?;
+    put_attest(code)?;
+    put_input(code, search)?;
+    put_search(code, tree, ends)
+}
+
+fn put_stub(code: &mut Vec<Ir>, tree: &Module, ends: &[End]) -> Result<(), AllocError>
+    requires empty { code.old.items ≡ [] }
+    requires few { length tree.now.handlers.items ≤ 256 }
+    requires ends { length ends.now ≤ 16 }
+    ensures { OnOk result (code.new.items ≡ stub_ops (module_of tree.now) ends.now) }
+{
+    put_tests(code, tree)?;
+    put_entries(code, tree, ends)?;
+    put_returns(code, 5)
+}
+
+fn ops_of(alloc: Global, m: &Checked, ends: &[End]) -> Result<Vec<Ir>, AllocError>
+    requires ends { length ends.now ≤ 16 }
+    ensures { IfOk result (λ ops. ops.items ≡ stub_ops (source_tree m.now) ends.now) }
+{
+    let mut code = Vec::new(alloc);
+    put_stub(&mut code, m.module(), ends)?;
+    Ok(code)
+}
+
+fn link_fits(e: &End)
+    ensures { e.now.link < 256 }
+{
+    let _link = e.link;
+}
+
+/// The number of each connection is a byte, as its type says.
+pub fn links_fit(ends: &[End])
+    ensures { All (λ e. e.link < 256) ends.now }
+{
+    for e in ends {
+        link_fits(e);
+    }
+}
+
+/// The stack code of a module's entry protocol, where it has these ends of connections, 16 at most. Its
+/// `Handler`s name the module's handlers by their places; it has at most 1,024 operations, and no parts of its
+/// own. The code is the same for every tag and every layout. Nothing but want of memory is refused.
+pub fn stub<T: Tag>(
+    alloc: Global,
+    _tag: &T,
+    m: &Checked,
+    ends: &[End],
+    _layout: &Layout,
+) -> Result<Code, AllocError>
+    requires few { length ends.now ≤ 16 }
+    ensures { IfOk result (StubsTo (source_tree m.now) ends.now) }
+{
+    links_fit(ends);
+    let ops = ops_of(alloc, m, ends)?;
+    Ok(Code {
+        ops,
+        parts: Vec::new(alloc),
+    })
+}

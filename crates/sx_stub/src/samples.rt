@@ -1,0 +1,48 @@
+//! The sensor's samples.
+
+ghost use Rattle.std.specs.Prelude.{◌≡◌, ◌<◌, ◌≤◌, OnOk, length};
+ghost use Rattle.sx_lang.specs.View.{module_of};
+ghost use Rattle.sx_stub.specs.Puts.{Puts, PutsAt};
+ghost use Rattle.sx_stub.specs.Stub.{sample_code, sampled_code};
+
+use crate::handled::{handled_len, put_handled, sample_handler};
+use crate::pieces::{put, put_all, put_refuse};
+use std::alloc::AllocError;
+use sx_ir::{Ir, IrOp};
+use sx_lang::tree::Module;
+use sx_mean::offsets::EVENT;
+
+/// The number of operations of the entry of a sample.
+pub fn sample_len(tree: &Module) -> u16
+    requires few { length tree.now.handlers.items ≤ 256 }
+    ensures len { result ≡ length (sample_code (module_of tree.now) 39) }
+    ensures small { result ≤ 17 }
+{
+    13 + handled_len(sample_handler(tree))
+}
+
+fn put_sampled(code: &mut Vec<Ir>, tree: &Module) -> Result<(), AllocError>
+    requires few { length tree.now.handlers.items ≤ 256 }
+    ensures { OnOk result (Puts (sampled_code (module_of tree.now)) code.old.items code.new.items) }
+{
+    let ops = [
+        Ir::Load(EVENT),
+        Ir::Push(0x8000),
+        Ir::Op(IrOp::Sub),
+        Ir::Store(EVENT),
+    ];
+    put_all(code, &ops)?;
+    put_handled(code, sample_handler(tree))
+}
+
+/// Appends the entry of a sample.
+pub fn put_sample(code: &mut Vec<Ir>, tree: &Module) -> Result<(), AllocError>
+    requires short { length code.old.items < 60000 }
+    requires few { length tree.now.handlers.items ≤ 256 }
+    ensures { OnOk result (PutsAt (sample_code (module_of tree.now)) code.old.items code.new.items) }
+{
+    put(code, Ir::Sense)?;
+    put(code, Ir::Store(EVENT))?;
+    put_refuse(code, &[Ir::Load(EVENT), Ir::Push(0), Ir::Op(IrOp::Eq)], 8)?;
+    put_sampled(code, tree)
+}
