@@ -1,0 +1,279 @@
+-- An invocation makes at most 16 pieces.
+use Rattle.std.proofs.Common.{◌≡◌, ℕ, zero, suc, ◌+◌, ◌*◌, ◌≤◌, max, Bool, true, false, ◌&&◌, ◌||◌, not, ◌==◌, List, [], ◌∷◌, ◌++◌, length, take, drop, Option, Some, None, Result, Ok, Err, refl, sym, ap, ◌∙◌, subst, arith, cond}
+use Rattle.std.specs.Prelude.{if◌then◌else◌, nat_lt, slice_index, find}
+use Rattle.std.proofs.Math.Nat.{suc-mul}
+use Rattle.std.proofs.lemmas.List.{length-append}
+use Rattle.sx_lang.specs.declared.sides.Side.TheVariants.{To}
+use Rattle.sx_lang.specs.declared.tree.Decl.{Decl}
+use Rattle.sx_lang.specs.Tree.{Statement, Defines, Assigns, Stores, Chooses, Repeats, Sends, Emits, Block, Done, Then, HandlerTree, ModuleTree}
+use Rattle.sx_check.specs.Names.{same_input}
+use Rattle.sx_mean.specs.declared.events.End.{End}
+use Rattle.sx_mean.specs.declared.events.Act.{Act}
+use Rattle.sx_mean.specs.declared.events.Act.TheVariants.{Send, Emit}
+use Rattle.sx_mean.specs.declared.events.SourceEvent.{SourceEvent}
+use Rattle.sx_mean.specs.declared.events.SourceEvent.TheVariants as event
+use Rattle.sx_mean.specs.Application.{block_packets, statement_packets}
+use Rattle.sx_mean.specs.Places.{place, array_length, output_number}
+use Rattle.sx_mean.specs.Meaning.{State, assign, assign_element, after_statement, after_block, times, forget, value, local_place, define, act}
+use Rattle.sx_mean.specs.React.{react, run, handler_at, value_of, handler_of_name, handler_of_input, input_names, nth}
+use Rattle.sx_rules.specs.declared.access.Violation.{Violation}
+use Rattle.sx_rules.specs.declared.access.Violation.TheVariants as bad
+use Rattle.sx_bus.specs.declared.devices.Window.{Window}
+use Rattle.sx_tag.specs.Wrap.{unwrapped, wrapped}
+use Rattle.sx_machine.specs.Memory.{word}
+use Rattle.sx_invoke.specs.Setup.{Setup, Call}
+use Rattle.sx_invoke.specs.Marks as mark
+use Rattle.sx_invoke.specs.ModuleState.{EndState, end_of, link_of, epoch_of}
+use Rattle.sx_invoke.specs.Windows.{write_bytes, read_bytes}
+use Rattle.sx_invoke.specs.Progress.{Progress, Invoked, Returns, Violates, Course, Going, Broken, and_on, finished, pieces_in}
+use Rattle.sx_invoke.specs.Acts.{with_piece, copied_to, with_packet, event_packet, counted, with_packets, with_act, with_acts, actuated, own_window, handled}
+use Rattle.sx_mean.specs.Ends.{is_sending}
+use Rattle.sx_invoke.specs.Invocation.{invoke, entered, returns_inside, is_no_entry, has_bad_windows}
+use Rattle.sx_invoke.specs.Entries.{received, is_kind, set_key, set_key_at, key_opened, is_keyed, attest, input, input_at, event_numbered, event_opened, sample, sample_of, sampled, taken, field_in, second_in, header_in, keyed, end_on, end_found, side_of, with_received}
+use Rattle.sx_mean.specs.Ends.{senders}
+use Rattle.sx_lower.proofs.Packets.{senders-cons}
+use Rattle.sx_compile.specs.Laws.{FewPieces}
+use Rattle.sx_lower.specs.Lowering.{SendFew}
+
+-- the packets that acts make, at most
+
+abbrev act_packets : List End → Act → ℕ
+act_packets ends (Send output v) = senders ends output
+act_packets ends (Emit v) = 0
+
+abbrev acts_packets : List End → List Act → ℕ
+acts_packets ends [] = 0
+acts_packets ends (a ∷ acts) = act_packets ends a + acts_packets ends acts
+
+packets-append : (ends : List End) (xs ys : List Act) → acts_packets ends (xs ++ ys) ≡ acts_packets ends xs + acts_packets ends ys
+packets-append ends [] ys = omega arith
+packets-append ends (x ∷ xs) ys = let e = packets-append ends xs ys in omega (arith, e)
+
+module _ (ds : List Decl) (ends : List End) where
+  abbrev Sent : State → ℕ
+  Sent st = acts_packets ends st.acts
+
+  assign_sent : (x : List ℕ) (v : ℕ) (st : State) → Sent (assign ds x v st) ≡ Sent st
+  assign_sent x v st = go (nat_lt (local_place st.locals x) (length st.locals))
+    where
+      go : (b : Bool) → Sent (if b then record st { locals = Rattle.std.specs.Prelude.slice_set st.locals (local_place st.locals x) (Rattle.sx_mean.specs.Meaning.new_local x v) } else record st { cells = Rattle.std.specs.Prelude.slice_set st.cells (place ds x) v }) ≡ Sent st
+      go true = refl
+      go false = refl
+
+  element_sent : (x : List ℕ) (i v : ℕ) (st : State) → Sent (assign_element ds x i v st) ≡ Sent st
+  element_sent x i v st = go (nat_lt i (array_length ds x))
+    where
+      go : (b : Bool) → Sent (if b then record st { cells = Rattle.std.specs.Prelude.slice_set st.cells (place ds x + i) v } else st) ≡ Sent st
+      go true = refl
+      go false = refl
+
+  times_sent : (n k : ℕ) (f : State → State) (st : State) → ((a : State) → Sent (f a) ≤ Sent a + k) → Sent (times n f st) ≤ Sent st + n * k
+  times_sent zero k f st h = omega arith
+  times_sent (suc n) k f st h =
+      let a = h st in
+      let b = times_sent n k f (f st) h in
+      let e : suc n * k ≡ n * k + k = suc-mul n k in
+      omega (arith, a, b, e)
+
+  mutual
+    statement_sent : (t : Statement) (st : State) → Sent (after_statement ds t st) ≤ Sent st + statement_packets (senders ends) ds t
+    statement_sent (Defines x e) st = omega arith
+    statement_sent (Assigns x e) st = let a = assign_sent x (value ds st e) st in omega (arith, a)
+    statement_sent (Stores x i e) st = let a = element_sent x (value ds st i) (value ds st e) st in omega (arith, a)
+    statement_sent (Chooses e a b) st = go (value ds st e == 0) (block_sent a st) (block_sent b st)
+      where
+        go : (c : Bool) → Sent (after_block ds a st) ≤ Sent st + block_packets (senders ends) ds a → Sent (after_block ds b st) ≤ Sent st + block_packets (senders ends) ds b → Sent (if c then forget (length st.locals) (after_block ds b st) else forget (length st.locals) (after_block ds a st)) ≤ Sent st + max (block_packets (senders ends) ds a) (block_packets (senders ends) ds b)
+        go true p q = omega (arith, q)
+        go false p q = omega (arith, p)
+    statement_sent (Repeats n a) st = times_sent n (block_packets (senders ends) ds a) (λ x. forget (length x.locals) (after_block ds a x)) st (λ x. block_sent a x)
+    statement_sent (Sends x e) st = let a = packets-append ends st.acts (Send (output_number ds x) (value ds st e) ∷ []) in omega (arith, a)
+    statement_sent (Emits e) st = let a = packets-append ends st.acts (Emit (value ds st e) ∷ []) in omega (arith, a)
+
+    block_sent : (b : Block) (st : State) → Sent (after_block ds b st) ≤ Sent st + block_packets (senders ends) ds b
+    block_sent Done st = omega arith
+    block_sent (Then t b) st = let x = statement_sent t st in let y = block_sent b (after_statement ds t st) in omega (arith, x, y)
+
+-- the acts of an event make at most 16 packets
+
+find_few : (links : ℕ → ℕ) (m : ModuleTree) (test : HandlerTree → Bool) (hs : List HandlerTree) (h : HandlerTree) → SendFew links m hs → find test hs ≡ Some h → block_packets links m.decls h.body ≤ 16
+find_few links m test [] h few e = absurd (none_some e)
+  where
+    none_some : ◌≡◌ {A = Option HandlerTree} None (Some h) → ⊥
+    none_some e = cc
+find_few links m test (x ∷ hs) h few e = go (test x) e (λ e. find_few links m test hs h few.1 e)
+  where
+    same : ◌≡◌ {A = Option HandlerTree} (Some x) (Some h) → x ≡ h
+    same e = cc
+
+    go : (b : Bool) → cond b (Some x) (find test hs) ≡ Some h → (find test hs ≡ Some h → block_packets links m.decls h.body ≤ 16) → block_packets links m.decls h.body ≤ 16
+    go true e f = subst (λ (y : HandlerTree). block_packets links m.decls y.body ≤ 16) (same e) few.0
+    go false e f = f e
+
+handler_few : (links : ℕ → ℕ) (m : ModuleTree) (e : SourceEvent) (h : HandlerTree) → SendFew links m m.handlers → handler_at m e ≡ Some h → block_packets links m.decls h.body ≤ 16
+handler_few links m (event.Input j v) h few e = go (nth (input_names m.decls) j) e
+  where
+    go : (x : Option (List ℕ)) → handler_of_name x m.handlers ≡ Some h → block_packets links m.decls h.body ≤ 16
+    go None e = absurd (none_some e)
+      where
+        none_some : ◌≡◌ {A = Option HandlerTree} None (Some h) → ⊥
+        none_some e = cc
+    go (Some x) e = find_few links m (λ h. same_input (Some x) h.input) m.handlers h few e
+handler_few links m (event.Sample v) h few e = find_few links m (λ h. same_input None h.input) m.handlers h few e
+
+react_few : (m : ModuleTree) (ends : List End) (e : SourceEvent) (cells : List ℕ) → SendFew (senders ends) m m.handlers → acts_packets ends (react m e cells).acts ≤ 16
+react_few m ends e cells few = go (handler_at m e) refl
+  where
+    go : (o : Option HandlerTree) → handler_at m e ≡ o → acts_packets ends (run m.decls o (value_of e) cells).acts ≤ 16
+    go None f = omega arith
+    go (Some h) f =
+        let a = block_sent m.decls ends h.body (Rattle.sx_mean.specs.React.start h (value_of e) cells) in
+        let b = handler_few (senders ends) m e h few f in
+        omega (arith, a, b)
+
+-- what a part of the course adds
+
+abbrev pub pieces_on : Course → List (List ℕ)
+pieces_on (Going p) = p.pieces
+pieces_on (Broken v p) = p.pieces
+
+abbrev Adds : ℕ → (Progress → Course) → Progress → Type 0
+Adds n f p = length (pieces_on (f p)) ≤ length p.pieces + n
+
+adds_then : (n m : ℕ) (f g : Progress → Course) (p : Progress) → Adds n f p → ((r : Progress) → Adds m g r) → Adds (n + m) (λ x. and_on (f x) g) p
+adds_then n m f g p a b = go (f p) a
+  where
+    go : (x : Course) → length (pieces_on x) ≤ length p.pieces + n → length (pieces_on (and_on x g)) ≤ length p.pieces + (n + m)
+    go (Broken v r) x = omega (arith, x)
+    go (Going r) x = let y = b r in omega (arith, x, y)
+
+piece_adds : (s : Setup) (call : Call) (piece : List ℕ) (p : Progress) → Adds 1 (with_piece s call piece) p
+piece_adds s call piece p = go (write_bytes s p.devices p.mem (call.output + 24 * length p.pieces) piece)
+  where
+    go : (r : Result (List ℕ) Violation) → length (pieces_on (copied_to r (record p { pieces = p.pieces ++ piece ∷ [] }))) ≤ length p.pieces + 1
+    go (Err v) = let b = length-append p.pieces (piece ∷ []) in omega (arith, b)
+    go (Ok mem) = let b = length-append p.pieces (piece ∷ []) in omega (arith, b)
+
+packet_adds : (s : Setup) (call : Call) (v k : ℕ) (p : Progress) → Adds 1 (with_packet s call v k) p
+unfolding with_packet
+packet_adds s call v k p = go (end_of p.state.ends k) ((end_of p.state.ends k).is_open && nat_lt (end_of p.state.ends k).number 65535)
+  where
+    go : (e : EndState) (b : Bool) → length (pieces_on (if b then with_piece s call (event_packet s e v) (counted k e v p) else Going p)) ≤ length p.pieces + 1
+    go e true = piece_adds s call (event_packet s e v) (counted k e v p)
+    go e false = omega arith
+
+packets_add : (s : Setup) (call : Call) (output v k : ℕ) (es : List End) (p : Progress) → Adds (senders es output) (with_packets s call output v k es) p
+packets_add s call output v k [] p = omega arith
+packets_add s call output v k (e ∷ es) p =
+    subst (λ (n : ℕ). length (pieces_on (with_packets s call output v k (e ∷ es) p)) ≤ length p.pieces + n) (sym (senders-cons e es output)) (go (is_sending output e.side e.port) (packets_add s call output v (k + 1) es))
+  where
+    go : (b : Bool) → ((r : Progress) → Adds (senders es output) (with_packets s call output v (k + 1) es) r)
+        → length (pieces_on (if b then and_on (with_packet s call v k p) (with_packets s call output v (k + 1) es) else with_packets s call output v (k + 1) es p)) ≤ length p.pieces + (if b then 1 + senders es output else senders es output)
+    go true rest = adds_then 1 (senders es output) (with_packet s call v k) (with_packets s call output v (k + 1) es) p (packet_adds s call v k p) rest
+    go false rest = rest p
+
+act_adds : (s : Setup) (call : Call) (a : Act) (p : Progress) → Adds (act_packets s.ends a) (with_act s call a) p
+act_adds s call (Send output v) p = packets_add s call output v 0 s.ends p
+act_adds s call (Emit v) p = go (own_window s p.devices)
+  where
+    go : (o : Option (ℕ × Window)) → length (actuated v o p).pieces ≤ length p.pieces + 0
+    go None = omega arith
+    go (Some d) = omega arith
+
+acts_add : (s : Setup) (call : Call) (acts : List Act) (p : Progress) → Adds (acts_packets s.ends acts) (with_acts s call acts) p
+acts_add s call [] p = omega arith
+acts_add s call (a ∷ acts) p = adds_then (act_packets s.ends a) (acts_packets s.ends acts) (with_act s call a) (with_acts s call acts) p (act_adds s call a p) (acts_add s call acts)
+
+pub handled_few : (s : Setup) (call : Call) (e : SourceEvent) (p : Progress) → SendFew (senders s.ends) s.tree s.tree.handlers → p.pieces ≡ [] → length (pieces_on (handled s call e p)) ≤ 16
+unfolding handled
+handled_few s call e p few none =
+    let done = react s.tree e p.state.cells in
+    let a = acts_add s call done.acts (record p { state = record p.state { cells = done.cells } }) in
+    let b = react_few s.tree s.ends e p.state.cells few in
+    let c = ap length none in
+    omega (arith, a, b, c)
+
+module _ (s : Setup) (call : Call) (p : Progress) (few : SendFew (senders s.ends) s.tree s.tree.handlers) (none : p.pieces ≡ []) where
+  abbrev Fine : Invoked → Type 0
+  Fine r = length (pieces_in r) ≤ 16
+
+  refused : (a : ℕ) (r : Progress) → r.pieces ≡ p.pieces → Fine (Returns a r)
+  refused a r e = let y = ap length (e ∙ none) in omega (arith, y)
+
+  finishes : (x : Course) → length (pieces_on x) ≤ 16 → Fine (finished x)
+  finishes (Going r) f = f
+  finishes (Broken v r) f = f
+
+  if_fine : (b : Bool) (x y : Invoked) → Fine x → Fine y → Fine (if b then x else y)
+  if_fine true x y a b = a
+  if_fine false x y a b = b
+
+  violated : (v : Violation) → Fine (Violates v p)
+  violated v = let y = ap length none in omega (arith, y)
+
+  received_fine : (r : Result (List ℕ) Violation) (kind : ℕ) (rest : List ℕ → Invoked) → ((packet : List ℕ) → Fine (rest packet)) → Fine (received r kind rest p)
+  received_fine (Err v) kind rest f = violated v
+  received_fine (Ok packet) kind rest f = if_fine (is_kind kind packet) (rest packet) (Returns 4 p) (f packet) (refused 4 p refl)
+
+  set_key_fine : (packet : List ℕ) → Fine (set_key s packet p)
+  set_key_fine packet = by_end (end_on (link_of (field_in packet)) s.ends (side_of (second_in packet)))
+    where
+      by_tag : (k : ℕ) (u : Option (List ℕ)) → Fine (key_opened k packet u p)
+      by_tag k None = refused 7 p refl
+      by_tag k (Some body) = refused 1 (keyed k packet (take 16 body) p) refl
+
+      by_end : (e : Option (ℕ × End)) → Fine (set_key_at s packet e p)
+      by_end None = refused 5 p refl
+      by_end (Some e) =
+          let u = unwrapped s.mac s.section.key (header_in packet) (take 16 (drop 6 packet)) (drop 22 packet) in
+          if_fine (is_keyed (end_of p.state.ends e.0) (field_in packet)) (Returns 5 p) (key_opened e.0 packet u p) (refused 5 p refl) (by_tag e.0 u)
+
+  attest_fine : (ask : List ℕ) → Fine (attest s call ask p)
+  attest_fine ask =
+      let r = record p { marks = p.marks ++ mark.Wrapped ask [] true ∷ [] } in
+      let tg = (wrapped s.mac s.section.key ask []).tag in
+      finishes (with_piece s call tg r) (let a = piece_adds s call tg r in let b = ap length none in omega (arith, a, b))
+
+  input_fine : (packet : List ℕ) → Fine (input s call packet p)
+  input_fine packet = by_end (end_found (link_of (field_in packet)) To 0 s.ends)
+    where
+      by_tag : (e : ℕ × End) (u : Option (List ℕ)) → Fine (event_opened s call e packet u p)
+      by_tag e None = refused 7 p refl
+      by_tag e (Some body) =
+          let r = taken e.0 packet (take 2 body) (end_of p.state.ends e.0) p in
+          finishes (handled s call (event.Input e.1.port (word body 0)) r) (handled_few s call (event.Input e.1.port (word body 0)) r few none)
+
+      by_end : (e : Option (ℕ × End)) → Fine (input_at s call packet e p)
+      by_end None = refused 5 p refl
+      by_end (Some e) =
+          let st = end_of p.state.ends e.0 in
+          let u = unwrapped s.mac st.key (header_in packet) (take 2 (drop 6 packet)) (drop 8 packet) in
+          if_fine (not st.is_open || not (epoch_of st.field == epoch_of (field_in packet))) (Returns 5 p) (event_numbered s call e packet st p) (refused 5 p refl)
+          (if_fine (nat_lt (second_in packet) st.number || (second_in packet == 65535)) (Returns 6 p) (event_opened s call e packet u p) (refused 6 p refl) (by_tag e u))
+
+  sample_fine : Fine (sample s call p)
+  sample_fine = by_device (own_window s p.devices)
+    where
+      by_device : (d : Option (ℕ × Window)) → Fine (sample_of s call d p)
+      by_device None = refused 8 p refl
+      by_device (Some d) =
+          let r = sampled d p in
+          if_fine d.1.fresh (finished (handled s call (event.Sample d.1.value) r)) (Returns 8 p) (finishes (handled s call (event.Sample d.1.value) r) (handled_few s call (event.Sample d.1.value) r few none)) (refused 8 p refl)
+
+  entered_fine : Fine (entered s call p)
+  unfolding entered
+  entered_fine =
+      let r3 = sample s call p in
+      let i2 = with_received s call 24 3 p (λ packet. input s call packet p) in
+      let i1 = with_received s call 18 2 p (λ packet. attest s call packet p) in
+      let i0 = with_received s call 38 1 p (λ packet. set_key s packet p) in
+      if_fine (call.entry == 0) i0 (if call.entry == 1 then i1 else if call.entry == 2 then i2 else r3) (received_fine (read_bytes s p.devices p.mem call.input 38) 1 (λ packet. set_key s packet p) set_key_fine)
+      (if_fine (call.entry == 1) i1 (if call.entry == 2 then i2 else r3) (received_fine (read_bytes s p.devices p.mem call.input 18) 2 (λ packet. attest s call packet p) attest_fine)
+      (if_fine (call.entry == 2) i2 r3 (received_fine (read_bytes s p.devices p.mem call.input 24) 3 (λ packet. input s call packet p) input_fine) sample_fine))
+
+pub few_pieces : FewPieces
+unfolding invoke
+few_pieces s call p able none =
+    let few = able.few_packets in
+    if_fine s call p few none (returns_inside s call) (Violates bad.Illegal p) (if is_no_entry s call then Returns 2 p else if has_bad_windows s call then Returns 3 p else entered s call p) (violated s call p few none bad.Illegal)
+    (if_fine s call p few none (is_no_entry s call) (Returns 2 p) (if has_bad_windows s call then Returns 3 p else entered s call p) (refused s call p few none 2 p refl)
+    (if_fine s call p few none (has_bad_windows s call) (Returns 3 p) (entered s call p) (refused s call p few none 3 p refl) (entered_fine s call p few none)))

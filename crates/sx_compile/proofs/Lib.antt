@@ -1,0 +1,17 @@
+pub mod Kept
+pub mod Regular
+pub mod Written
+pub mod Few
+pub mod Zeros
+pub mod Begun
+pub mod Does
+pub mod Parts
+pub mod Sizes
+pub mod Narrow
+pub mod Sound
+pub mod Realizes
+pub mod Joins
+pub mod BodyText
+pub mod Handling
+pub mod BodyDoes
+pub mod Links

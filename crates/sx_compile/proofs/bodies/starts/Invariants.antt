@@ -1,0 +1,11 @@
+use Rattle.std.proofs.Common.{◌≡◌, ◌++◌, length, map, drop}
+use Rattle.std.specs.Prelude.{IsTrue}
+use Rattle.std.specs.List.{list_all}
+use Rattle.sx_ir.specs.Sound.{is_sound_part}
+use Rattle.sx_compile.specs.Body.{part_start}
+use Rattle.sx_compile.proofs.bodies.starts.Given as goal
+
+abbrev pub invariant-loop-part : goal.invariant-loop-part
+invariant-loop-part l =
+    (l.starts.items ++ map (part_start l.code.ops.items) (drop l.part-index l.code.parts.items) ≡ map (part_start l.fn.code.ops.items) l.fn.code.parts.items)
+    × IsTrue (list_all (is_sound_part (length l.code.ops.items)) (drop l.part-index l.code.parts.items))

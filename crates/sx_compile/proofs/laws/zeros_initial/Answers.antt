@@ -1,0 +1,5 @@
+use Rattle.sx_compile.proofs.Zeros.{zeros_initial}
+use Rattle.sx_compile.proofs.laws.zeros_initial.Goals as goal
+
+pub returns : goal.returns
+returns c = zeros_initial

@@ -1,0 +1,35 @@
+-- What holds of compiled modules. Each law stands as the contract of a function in src/laws.rt.
+use Rattle.std.specs.Prelude.{◌≡◌, ℕ, ◌<◌, ◌≤◌, List, [], length, replicate, All}
+use Rattle.sx_lang.specs.Tree.{ModuleTree}
+use Rattle.sx_lang.specs.Words.{TreeHasWords}
+use Rattle.sx_mean.specs.declared.events.End.{End}
+use Rattle.sx_rules.specs.declared.section.Layout.{Layout}
+use Rattle.sx_tag.specs.Mac.{Mac, IsTag}
+use Rattle.sx_invoke.specs.Invocation.{invoke}
+use Rattle.sx_invoke.specs.ModuleState.{initial_state, state_of}
+use Rattle.sx_invoke.specs.Progress.{Progress, pieces_in}
+use Rattle.sx_invoke.specs.Setup.{Call, Setup}
+use Rattle.sx_image.specs.Realizes.{Realizes}
+use Rattle.sx_ir.specs.declared.ir.Code.{Code}
+use Rattle.sx_lower.specs.Lowering.{IsLowerable}
+use Rattle.sx_compile.specs.Compiled.{HasSections, IsCompiled, compiled_image}
+
+-- an invocation of a module makes at most 16 pieces
+abbrev pub FewPieces : Type 0
+FewPieces =
+    (s : Setup) (call : Call) (p : Progress) → IsLowerable s.tree s.ends → p.pieces ≡ []
+    → length (pieces_in (invoke s call p)) ≤ 16
+
+-- a private section of zeros represents the initial state
+abbrev pub ZerosInitial : Type 0
+ZerosInitial =
+    (tree : ModuleTree) (ends : List End) (n : ℕ) → TreeHasWords tree
+    → state_of tree ends (replicate n 0) ≡ initial_state tree ends
+
+-- The image of a module realizes it: for every lawful tag, wherever the module's sections stand,
+-- and for every provider. `code` is the module's code as memory has it, which the text is made of.
+abbrev pub CompiledRealizes : Type 0
+CompiledRealizes =
+    (mac : Mac) (tree : ModuleTree) (ends : List End) (l : Layout) (provider : ℕ) (code : Code)
+    → IsTag mac → IsLowerable tree ends → All (λ e. e.link < 256) ends → HasSections tree ends l
+    → IsCompiled tree ends code → Realizes mac tree ends (compiled_image l provider tree ends)
