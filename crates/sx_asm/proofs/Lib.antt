@@ -1,0 +1,13 @@
+mod Examples
+pub mod Numbers
+pub mod WordKinds
+pub mod Runs
+pub mod Growing
+pub mod Lines
+pub mod Forms
+pub mod Standing
+pub mod Parts
+pub mod ShownTokens
+pub mod ShownOperands
+pub mod ShownAgain
+pub mod Listings

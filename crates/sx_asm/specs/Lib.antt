@@ -1,0 +1,11 @@
+pub mod Fronts
+pub mod Forms
+pub mod Adding
+pub mod Words
+pub mod Tokens
+pub mod Grammar
+pub mod Reading
+pub mod Meaning
+pub mod Assembled
+pub mod Shown
+pub mod Laws

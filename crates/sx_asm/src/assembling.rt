@@ -1,0 +1,247 @@
+//! The assembler: the rules in their order, and then the code.
+
+ghost use Rattle.std.specs.Prelude.{◌≡◌, ◌<◌, ◌≤◌, ◌&&◌, ◌++◌, ◌%◌, ◌/◌, [], ◌∷◌, true, take, length, Ok, IfOk, IfErr, OnOk, IsTrue};
+ghost use Rattle.sx_isa.specs.Spelling.{spelling};
+ghost use Rattle.sx_isa.specs.Legal.{IsInstruction};
+ghost use Rattle.sx_asm.specs.declared.error.AsmError.TheVariants.{OutOfMemory, Fault};
+ghost use Rattle.sx_asm.specs.Meaning.{words_at, bytes_of, code_of};
+ghost use Rattle.sx_asm.specs.Assembled.{is_known, operand_known, names_known, named, formed, has_form, reaches, reached, fitted, stands, assembled, Answers, label_count};
+
+use crate::error::AsmError;
+use crate::meaning::{
+    further, has_form, in_reach, is_label, jump_at, labels_of, number, one_at, size, two_at,
+};
+use crate::reading::read;
+use crate::written::{Entry, Item, Label, Value, Written};
+use std::alloc::Global;
+use sx_isa::{Instr, encode};
+
+/// The most bytes of code.
+const CODE_LIMIT: u32 = 8_192;
+
+fn fault(rule: u8, line: u32) -> AsmError
+    ensures { result ≡ Fault rule line }
+{
+    AsmError::Fault { rule, line }
+}
+
+/// Rule 2: the operands are those of their instructions.
+fn formed(entries: &[Entry]) -> Result<(), AsmError>
+    ensures { result ≡ formed entries.now }
+{
+    for entry in entries {
+        if !has_form(&entry.item) {
+            return Err(fault(2, entry.line));
+        }
+    }
+    Ok(())
+}
+
+fn is_known(labels: &[Label], value: &Value) -> bool
+    ensures { result ≡ is_known labels.now value.now }
+{
+    match value {
+        Value::Number(_) => true,
+        Value::Name(name) => is_label(labels, name),
+    }
+}
+
+fn operand_known(labels: &[Label], written: &Written) -> bool
+    ensures { result ≡ operand_known labels.now written.now }
+{
+    match written {
+        Written::Reg(_) | Written::Indirect(_) | Written::Increment(_) => true,
+        Written::Indexed(value, _)
+        | Written::Hash(value)
+        | Written::Immediate(value)
+        | Written::Absolute(value)
+        | Written::Symbolic(value) => is_known(labels, value),
+    }
+}
+
+/// The first labels, so many.
+fn first_labels(labels: &[Label], count: usize) -> &[Label]
+    ensures { result.now ≡ take count labels.now }
+{
+    if count < labels.len() {
+        &labels[..count]
+    } else {
+        labels
+    }
+}
+
+/// Whether the item's names have a label, or a label is the first of its name, where so many stand
+/// before it.
+fn names_known(labels: &[Label], before: usize, item: &Item) -> bool
+    ensures { result ≡ names_known labels.now before item.now }
+{
+    match item {
+        Item::Label(name) => !is_label(first_labels(labels, before), name),
+        Item::Word(value) => is_known(labels, value),
+        Item::Two { src, dst, .. } => operand_known(labels, src) && operand_known(labels, dst),
+        Item::One { arg, .. } => operand_known(labels, arg),
+        Item::Jump { target, .. } => is_known(labels, target),
+        Item::Reti | Item::Sancus(_) => true,
+    }
+}
+
+fn label_count(item: &Item) -> usize
+    ensures count { result ≡ label_count item.now }
+    ensures few { result ≤ 1 }
+{
+    match item {
+        Item::Label(_) => 1,
+        _ => 0,
+    }
+}
+
+/// Rule 3: each name has one label.
+fn named(labels: &[Label], entries: &[Entry]) -> Result<(), AsmError>
+    ensures { result ≡ named labels.now 0 entries.now }
+{
+    let mut before = 0;
+    for entry in entries {
+        if !names_known(labels, before, &entry.item) {
+            return Err(fault(3, entry.line));
+        }
+        before += label_count(&entry.item);
+    }
+    Ok(())
+}
+
+fn reaches(labels: &[Label], at: u16, item: &Item) -> bool
+    ensures { result ≡ reaches labels.now at item.now }
+{
+    match item {
+        Item::Jump { target, .. } => in_reach(further(at, 2), number(labels, target)),
+        _ => true,
+    }
+}
+
+/// Rule 4: the jumps reach their targets.
+fn reached(labels: &[Label], at: u16, entries: &[Entry]) -> Result<(), AsmError>
+    ensures { result ≡ reached labels.now at entries.now }
+{
+    let mut address = at;
+    for entry in entries {
+        if !reaches(labels, address, &entry.item) {
+            return Err(fault(4, entry.line));
+        }
+        address = further(address, size(&entry.item));
+    }
+    Ok(())
+}
+
+fn fitted(room: u32, entries: &[Entry]) -> Result<(), AsmError>
+    ensures { result ≡ fitted room entries.now }
+{
+    let mut left = room;
+    for entry in entries {
+        let size = u32::from(size(&entry.item));
+        if size > left {
+            return Err(fault(5, entry.line));
+        }
+        left -= size;
+    }
+    Ok(())
+}
+
+/// Rule 5: the code stands at an even address, and has room there.
+fn stands(at: u16, entries: &[Entry]) -> Result<(), AsmError>
+    ensures { result ≡ stands at entries.now }
+{
+    if at % 2 != 0 {
+        return Err(fault(5, 1));
+    }
+    fitted(CODE_LIMIT.min(65_536 - u32::from(at)), entries)
+}
+
+fn push_word(word: u16, code: &mut Vec<u8>) -> Result<(), AsmError>
+    ensures added { OnOk result (code.new.items ≡ code.old.items ++ bytes_of (word ∷ [])) }
+    ensures error { IfErr result (λ e. e ≡ OutOfMemory) }
+{
+    let [low, high] = word.to_le_bytes();
+    if code.push(low).is_err() {
+        return Err(AsmError::OutOfMemory);
+    }
+    if code.push(high).is_err() {
+        return Err(AsmError::OutOfMemory);
+    }
+    Ok(())
+}
+
+fn push_words(words: &[u16], code: &mut Vec<u8>) -> Result<(), AsmError>
+    ensures added { OnOk result (code.new.items ≡ code.old.items ++ bytes_of words.now) }
+    ensures error { IfErr result (λ e. e ≡ OutOfMemory) }
+{
+    for word in words {
+        push_word(*word, code)?;
+    }
+    Ok(())
+}
+
+#[tactic(auto, using(crate::proofs::Standing::within))]
+fn push_instruction(instruction: &Instr, code: &mut Vec<u8>) -> Result<(), AsmError>
+    requires { IsInstruction instruction.now }
+    ensures added { OnOk result
+        (code.new.items ≡ code.old.items ++ bytes_of (spelling instruction.now)) }
+    ensures error { IfErr result (λ e. e ≡ OutOfMemory) }
+{
+    let words = encode(instruction);
+    push_words(&words.w[..usize::from(words.len)], code)
+}
+
+fn push_item(labels: &[Label], at: u16, item: &Item, code: &mut Vec<u8>) -> Result<(), AsmError>
+    requires form { has_form item.now ≡ true }
+    requires reach { reaches labels.now at item.now ≡ true }
+    ensures added { OnOk result
+        (code.new.items ≡ code.old.items ++ bytes_of (words_at labels.now at item.now)) }
+    ensures error { IfErr result (λ e. e ≡ OutOfMemory) }
+{
+    match item {
+        Item::Label(_) => Ok(()),
+        Item::Word(value) => push_word(number(labels, value), code),
+        Item::Two { op, byte, src, dst } => {
+            push_instruction(&two_at(labels, at, *op, *byte, src, dst), code)
+        }
+        Item::One { op, byte, arg } => {
+            push_instruction(&one_at(labels, at, *op, *byte, arg), code)
+        }
+        Item::Jump { cond, target } => {
+            push_instruction(&jump_at(labels, at, *cond, target), code)
+        }
+        Item::Reti => push_instruction(&Instr::Reti, code),
+        Item::Sancus(number) => push_instruction(&Instr::Sancus(*number), code),
+    }
+}
+
+/// The bytes of items that stand from an address on.
+fn code_of(alloc: Global, labels: &[Label], at: u16, entries: &[Entry]) -> Result<Vec<u8>, AsmError>
+    requires formed { formed entries.now ≡ Ok tt }
+    requires reached { reached labels.now at entries.now ≡ Ok tt }
+    ensures code { IfOk result (λ code. code.items ≡ code_of labels.now at entries.now) }
+    ensures error { IfErr result (λ e. e ≡ OutOfMemory) }
+{
+    let mut code = Vec::new(alloc);
+    let mut address = at;
+    for entry in entries {
+        push_item(labels, address, &entry.item, &mut code)?;
+        address = further(address, size(&entry.item));
+    }
+    Ok(code)
+}
+
+/// The code of a text that stands at an address. A fault is the first of the five rules that the text
+/// breaks, each tried on the whole text, and the first line that breaks it, from 1.
+#[tactic(auto, unfolding(crate::specs::Assembled::assembled))]
+pub fn assemble(alloc: Global, at: u16, text: &str) -> Result<Vec<u8>, AsmError>
+    ensures { Answers (λ code. code.items) (assembled at text.now) result }
+{
+    let entries = read(alloc, text.as_bytes())?;
+    let labels = labels_of(alloc, at, &entries)?;
+    formed(&entries)?;
+    named(&labels, &entries)?;
+    reached(&labels, at, &entries)?;
+    stands(at, &entries)?;
+    code_of(alloc, &labels, at, &entries)
+}

@@ -1,0 +1,20 @@
+//! Laws of the definitions.
+
+ghost use Rattle.sx_asm.specs.Laws.{TestsOperands, Reassembles, ReassemblesLine, ReassemblesListing};
+
+/// Rule 2 tests just what an instruction can read and write.
+pub fn operands()
+    ensures { TestsOperands }
+{}
+
+/// The text of an instruction, assembled at its even address, gives the instruction's bytes.
+pub fn reassembles()
+    ensures { Reassembles }
+{}
+
+/// The line that `dis` shows, assembled at its even address, gives the bytes that it stands for; and
+/// so do the lines of a whole listing, joined by newlines.
+pub fn relists()
+    ensures line { ReassemblesLine }
+    ensures listing { ReassemblesListing }
+{}
