@@ -1,4 +1,4 @@
-ghost use Rattle.std.specs.Prelude.{◌≡◌, ℕ, ◌<◌, ◌≤◌, if◌then◌else◌, IfOk, IsSome, None, length, map, slice_get, slice_index};
+ghost use Rattle.std.specs.Prelude.{◌≡◌, ℕ, ◌<◌, ◌≤◌, if◌then◌else◌, IfOk, IsSome, None, length, map, option_map, slice_get, slice_index};
 ghost use Rattle.sx_deployer.specs.Keeping as spec;
 ghost use Rattle.sx_deployer.specs.Granting as grants;
 
@@ -7,6 +7,7 @@ use crate::renewal::{may_attest, renewed};
 use crate::target::Target;
 use std::alloc::{AllocError, Global};
 use std::marker::Model;
+use sx_mean::events::End;
 use sx_tag::Tag;
 
 /// What the deployer says to an answer.
@@ -121,6 +122,32 @@ impl Deployer {
         ensures { result ≡ spec.attested_at self.now «module» }
     {
         self.attested[usize::from(module)]
+    }
+
+    /// A module's open ask; `None` exactly where it has none.
+    pub fn open_ask(&self, module: u8) -> Option<[u8; 18]>
+        requires { «module» < length self.now.targets }
+        ensures { result ≡ spec.open_ask self.now «module» }
+    {
+        self.open_asks[usize::from(module)]
+    }
+
+    /// The set-key packet for an end, at a boot of its holder's node and in an epoch of the
+    /// connection; `None` exactly where there is no such module.
+    pub fn packet<T: Tag>(
+        &self,
+        tag: &T,
+        holder: u8,
+        boot: u32,
+        end: End,
+        epoch: u8,
+    ) -> Option<[u8; 38]>
+        ensures { result ≡ option_map (λ t. grants.set_key T.mac self.now.secret t boot «end» epoch) (slice_get self.now.targets holder) }
+    {
+        match self.targets.get(usize::from(holder)) {
+            Some(target) => Some(grant(tag, &self.secret, target, boot, end, epoch)),
+            None => None,
+        }
     }
 
     /// A deployer that is equal to this one.
