@@ -32,7 +32,7 @@ use Rattle.sx_world.proofs.Verdicts.{Verdict, Broken, Over, Going, judge, Fares,
 use Rattle.sx_world.proofs.Tied.{KnownKey, Known, HasEnd, asked_as, DeployerTied, IsTimely, HasSent, IsSane, ModuleTied, Absent, Rests, Runs, Tied}
 
 -- a challenge's bytes tell it
-low_number : (n v : ℕ) → v < 256 ^ n → number_in (low_first n v) ≡ v
+pub low_number : (n v : ℕ) → v < 256 ^ n → number_in (low_first n v) ≡ v
 low_number zero v h = omega (arith, h)
 low_number (suc n) v h =
     let small : v / 256 < 256 ^ n = omega (arith, h) in

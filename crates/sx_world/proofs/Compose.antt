@@ -1,5 +1,5 @@
 -- From each act to the run: every act forges, or goes on to a tied state.
-use Rattle.std.proofs.Common.{◌≡◌, ℕ, zero, suc, ◌+◌, ◌/◌, ◌<◌, ◌==◌, ◌||◌, Bool, true, false, if◌then◌else◌, List, [], ◌∷◌, length, take, drop, Option, Some, None, refl, arith}
+use Rattle.std.proofs.Common.{◌≤◌, ◌≡◌, ℕ, zero, suc, ◌+◌, ◌/◌, ◌<◌, ◌==◌, ◌||◌, Bool, true, false, if◌then◌else◌, List, [], ◌∷◌, length, take, drop, Option, Some, None, refl, arith}
 use Rattle.std.specs.Prelude.{slice_get}
 use Rattle.sx_trace.specs.declared.items.Item.{Item}
 use Rattle.sx_trace.specs.declared.items.Item.TheVariants as item
@@ -192,7 +192,7 @@ module _ (set : Setting) (keep : ActsKeep set) where
       (keeps_run words counts lines (acted set (counted w) line).world (rw (counts (counted w) line) (omega (arith, few))) form.1)
 
   -- every run is legal
-  pub legal_run : Wordly → CountsLines → Tied set (switched_on set) (power_on set.app) → (lines : List Line) → length lines < 65536 → AreInForm set lines
+  pub legal_run : Wordly → CountsLines → Tied set (switched_on set) (power_on set.app) → (lines : List Line) → length lines ≤ 65536 → AreInForm set lines
       → Legal set.app (before (run set (switched_on set) lines).items)
   legal_run words counts start lines few form =
       legal_of set.app (power_on set.app) (run set (switched_on set) lines).items (Tied set (run set (switched_on set) lines).world)

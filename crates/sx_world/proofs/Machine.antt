@@ -135,7 +135,7 @@ pub sections_after : (mac : Mac) (s : State) → violation_of (step mac s).shown
 sections_after mac s q = settled_sections mac s (attempt mac s) (attempt_told mac s) q
 
 -- the laws hold
-no_reset : (s t : State) → t.boot ≡ s.boot → t ≡ reset s → ⊥
+pub no_reset : (s t : State) → t.boot ≡ s.boot → t ≡ reset s → ⊥
 no_reset s t b r = let e = ap (λ (z : State). z.boot) r in absurd (omega (arith, b, e))
 
 pub public_same : (sec : Section) (m n : List ℕ) → KeptPublic sec m n → public_bytes sec.layout n ≡ public_bytes sec.layout m

@@ -27,7 +27,7 @@ use Rattle.sx_world.proofs.Lists.{some_inj}
 use Rattle.sx_world.specs.Accepted.{setting_of, AreImages}
 use Rattle.sx_world.proofs.Windows.{found_at, own_device}
 use Rattle.sx_world.proofs.DeviceWords.{all_at, pair_at, window_powered, word_of_window, spaced, are_places, nothing_at}
-use Rattle.sx_world.proofs.Sites.{IsSite, site_at, sites_long, laid_long, laid_at, standing_at}
+use Rattle.sx_world.proofs.LaidSites.{IsSite, site_at, sites_long, laid_long, laid_at, standing_at}
 
 -- numbers as tests
 

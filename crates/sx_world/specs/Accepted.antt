@@ -1,5 +1,5 @@
 -- The runs of an accepted deployment are legal, from its text on.
-use Rattle.std.specs.Prelude.{◌≡◌, ℕ, ◌<◌, List, [], ◌∷◌, length, slice_get, Some, Ok}
+use Rattle.std.specs.Prelude.{◌≡◌, ℕ, ◌≤◌, List, [], ◌∷◌, length, slice_get, Some, Ok}
 use Rattle.sx_rules.specs.declared.section.Layout.{Layout}
 use Rattle.sx_tag.specs.Mac.{Mac, IsTag}
 use Rattle.sx_mean.specs.Application.{PartTree}
@@ -42,8 +42,8 @@ AreLines names [] = Unit {0}
 AreLines names (line ∷ lines) = IsLine names line × AreLines names lines
 
 -- From text to trace: for every text that is accepted, every lawful tag, all images that realize its modules and every
--- schedule of fewer than 65,536 lines, the items before the first forged one are a legal run of the source.
+-- schedule of at most 65,536 lines, the items before the first forged one are a legal run of the source.
 abbrev pub AcceptedRuns : Type 0
 AcceptedRuns = (text : List ℕ) (d : Deployed) → IsRead text (Ok d) → (mac : Mac) (texts : List (List ℕ)) → IsTag mac → AreImages mac d texts
-    → (lines : List Line) → length lines < 65536 → AreLines d.names lines
+    → (lines : List Line) → length lines ≤ 65536 → AreLines d.names lines
     → Legal d.app (before (run (setting_of mac d texts) (switched_on (setting_of mac d texts)) lines).items)

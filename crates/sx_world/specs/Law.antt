@@ -94,5 +94,5 @@ AreInForm set (line ∷ lines) = IsInForm set line × AreInForm set lines
 
 -- every run is legal up to its first forged item
 abbrev pub RunsLegal : Type 0
-RunsLegal = (set : Setting) → IsSound set → (lines : List Line) → length lines < 65536 → AreInForm set lines
+RunsLegal = (set : Setting) → IsSound set → (lines : List Line) → length lines ≤ 65536 → AreInForm set lines
     → Legal set.app (before (run set (switched_on set) lines).items)

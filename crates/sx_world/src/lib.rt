@@ -8,6 +8,23 @@
 //! `specs/Setting.antt` has what a run is given, `State.antt` a world, `Acts.antt` the acts that lines are made
 //! of, `Observation.antt` the items of a step, `Ledger.antt` and `Wire.antt` who made which header,
 //! `Deployer.antt` the deployer, and `Law.antt` the theorem with its premises.
+//!
+//! The code does what the definitions say. `running` keeps the nodes, the packets, the deployer and the ledger, and
+//! its calls are acts: each says what it leaves and which items it adds, of every world of a run that it shows
+//! (`specs/Held.antt`).
 #![tactic(auto)]
 
+mod attesting;
+mod devices;
+mod giving;
+mod grants;
+mod headers;
 pub mod laws;
+mod observation;
+mod packets;
+mod recording;
+mod running;
+mod sending;
+pub mod sites;
+mod stepping;
+mod touching;

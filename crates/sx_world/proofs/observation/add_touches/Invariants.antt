@@ -1,0 +1,7 @@
+use Rattle.std.proofs.Common.{◌≡◌, ◌++◌, drop}
+use Rattle.sx_mean.specs.View.{app_as}
+use Rattle.sx_world.specs.Observation.{touch_items}
+use Rattle.sx_world.proofs.observation.add_touches.Given as goal
+
+abbrev pub invariant-loop-touch : goal.invariant-loop-touch
+invariant-loop-touch l = l.items.items ++ touch_items (app_as l.app) l.n l.runner (drop l.touch-index l.touches) ≡ l.fn.items.items ++ touch_items (app_as l.app) l.n l.runner l.touches

@@ -1,0 +1,16 @@
+use Rattle.std.proofs.Common.{◌≡◌, [], ◌∷◌, ◌++◌, length, map, ap, ◌∙◌, rules}
+use Rattle.std.specs.Vec.{vec_len}
+use Rattle.sx_world.specs.Held.{Running}
+use Rattle.sx_world.proofs.KeptPackets.{bytes_in, packet_did, map_push, map_long}
+use Rattle.sx_world.proofs.running.Running.new_packet.Goals as goal
+
+pub returns-clause-done : goal.returns-clause-done
+returns-clause-done g c =
+    let same : c.in_ok-packet.packet.items ≡ c.args.bytes.now = c.in_ok-packet.ensures.items_if_clones_equal (λ x y e. e) in
+    let packets : map bytes_in c.self.inside.packets.items ≡ c.args.self.now.packets = ap (λ (k : Running). k.packets) c.self.view_is in
+    let pushed : map bytes_in c.push.new.self.items ≡ c.args.self.now.packets ++ c.args.bytes.now ∷ [] =
+    ap (map bytes_in) c.in_ok-push.ensures.items ∙ map_push c.self.inside.packets.items c.in_ok-packet.packet
+    ∙ ap (λ ps. ps ++ c.in_ok-packet.packet.items ∷ []) packets ∙ ap (λ b. c.args.self.now.packets ++ b ∷ []) same in
+    let long : vec_len c.self.inside.packets ≡ length c.self.inside.packets.items = search rules in
+    packet_did c.add.result c.args.self.now _ _ c.args.items.now.items c.add.new.items.items c.args.bytes.now c.len-number.result c.self.view_is pushed
+    (c.len-number.ensures ∙ long ∙ map_long c.self.inside.packets.items ∙ ap length packets) c.add.ensures.ok

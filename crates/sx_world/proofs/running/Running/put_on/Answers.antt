@@ -1,0 +1,30 @@
+use Rattle.std.proofs.Common.{◌≡◌, [], length, refl, ap, ◌∙◌}
+use Rattle.std.specs.Prelude.{slice_get}
+use Rattle.std.proofs.lemmas.List.{with_items_is}
+use Rattle.sx_machine.specs.State.{State}
+use Rattle.sx_machine.specs.Acts.{put, put_refusal}
+use Rattle.sx_world.specs.Held.{Running}
+use Rattle.sx_world.proofs.Doing.{done_did, as_kept, lent_set, lent_long, unless_kept, boots_kept, unless_boot}
+use Rattle.sx_world.proofs.running.Running.put_on.Goals as goal
+
+pub returns-clause-done : goal.returns-clause-done
+returns-clause-done g c =
+    let act : State → State = λ s. (put s c.args.at c.args.bytes.now).state in
+    let same : c.deref_mut.result.now ≡ c.args.self.now.nodes = c.deref_mut.ensures.value ∙ ap (λ (k : Running). k.nodes) c.self.view_is in
+    done_did c.add_answer.result c.args.self.now _ c.args.items.now.items c.add_answer.new.items.items c.args.n [] (λ s. put s c.args.at c.args.bytes.now) c.put_node-answer.result c.requires
+    (λ s e. as_kept c.args.self.now _ _ c.args.n (act s) c.self.view_is
+    (with_items_is c.self.inside.nodes c.put_node-answer.new.nodes (lent_long c.deref_mut.result.now c.args.self.now.nodes c.put_node-answer.new.nodes c.args.n s act same e c.put_node-answer.ensures.nodes ∙ c.deref_mut.ensures.len)
+    ∙ lent_set c.deref_mut.result.now c.args.self.now.nodes c.put_node-answer.new.nodes c.args.n s act same e c.put_node-answer.ensures.nodes))
+    (λ s e. c.put_node-answer.ensures.answer s (ap (λ ns. slice_get ns c.args.n) same ∙ e))
+    (λ s. unless_kept (put_refusal s c.args.at (length c.args.bytes.now)) s _ refl)
+    c.add_answer.ensures.ok
+
+pub returns-clause-boots : goal.returns-clause-boots
+returns-clause-boots g c =
+    let act : State → State = λ s. (put s c.args.at c.args.bytes.now).state in
+    let same : c.deref_mut.result.now ≡ c.args.self.now.nodes = c.deref_mut.ensures.value ∙ ap (λ (k : Running). k.nodes) c.self.view_is in
+    boots_kept c.args.self.now.nodes _ c.args.n act c.requires
+    (λ s e.
+    with_items_is c.self.inside.nodes c.put_node-answer.new.nodes (lent_long c.deref_mut.result.now c.args.self.now.nodes c.put_node-answer.new.nodes c.args.n s act same e c.put_node-answer.ensures.nodes ∙ c.deref_mut.ensures.len)
+    ∙ lent_set c.deref_mut.result.now c.args.self.now.nodes c.put_node-answer.new.nodes c.args.n s act same e c.put_node-answer.ensures.nodes)
+    (λ s. unless_boot (put_refusal s c.args.at (length c.args.bytes.now)) s _ refl)

@@ -1,0 +1,108 @@
+-- The program's world, which world of a run it shows, and what a call makes of both.
+use Rattle.std.specs.Prelude.{◌≡◌, ◌↔◌, ℕ, ◌+◌, ◌≤◌, Bool, true, List, [], ◌∷◌, ◌++◌, length, map, take, slice_get, Some, Result, Ok, Err}
+use Rattle.std.specs.List.{Contains}
+use Rattle.sx_rules.specs.Placed.{Placed}
+use Rattle.sx_tag.specs.Mac.{Mac}
+use Rattle.sx_tag.specs.Keys.{identity}
+use Rattle.sx_mean.specs.Ends.{ends_of}
+use Rattle.sx_trace.specs.declared.items.Item.{Item}
+use Rattle.sx_ledger.specs.declared.entry.Entry.{Entry}
+use Rattle.sx_ledger.specs.Made.{entry_of}
+use Rattle.sx_machine.specs.State.{State}
+use Rattle.sx_deployer.specs.Keeping.{Keeping, Known}
+use Rattle.sx_deploy.specs.Deployment.{Deployed}
+use Rattle.sx_world.specs.Setting.{Site, Setting}
+use Rattle.sx_world.specs.Ledger.{Made, is_made}
+use Rattle.sx_world.specs.Deployer.{DeployerState, list_at}
+use Rattle.sx_world.specs.Observation.{Observed}
+use Rattle.sx_world.specs.State.{World, Acted}
+
+-- what the program keeps of a run but its sites; the ledger is a set
+pub record Running : Type 0 where
+  pub nodes : List State
+  pub packets : List (List ℕ)
+  pub deployer : Keeping
+  pub ledger : List Entry
+  pub steps : ℕ
+
+-- the program's world: where modules are deployed, how the run stands, the number of lines, and whether an act has wanted memory
+pub record Held : Type 0 where
+  pub sites : List Site
+  pub running : Running
+  pub lines : ℕ
+  pub wanted : Bool
+
+-- a header and a body that the machine can wrap
+abbrev pub IsShort : Made → Type 0
+IsShort m = (length m.header ≤ 32) × (length m.body ≤ 32)
+
+-- the set holds what was made, and no more
+abbrev pub Records : List Entry → List Made → Type 0
+Records entries ledger = (m : Made) → IsShort m → Contains entries (entry_of m) ↔ (is_made ledger m ≡ true)
+
+-- the items are a front of those that are due
+abbrev pub IsFront : List Item → List Item → Type 0
+IsFront items due = (rest : List Item) × (items ++ rest ≡ due)
+
+-- the setting of a run: a deployment's, with its modules at these sites
+abbrev pub setting : Mac → Deployed → List Site → Setting
+setting mac d sites = record { mac = mac; app = d.app; sites = sites; secret = d.secret; keys = d.keys; places = d.places }
+
+-- the items and the ledger are those that are due, whatever was made before
+abbrev pub Observes : List Entry → List Entry → List Item → List Item → (List Made → Observed) → Type 0
+Observes old new before after due = (ledger : List Made) → Records old ledger → (after ≡ before ++ (due ledger).items) × Records new (due ledger).ledger
+
+-- memory ran out before all items that are due were added
+abbrev pub ObservesFront : List Entry → List Item → List Item → (List Made → Observed) → Type 0
+ObservesFront old before after due = (ledger : List Made) → Records old ledger → IsFront after (before ++ (due ledger).items)
+
+-- the modules from the m-th on, as the deployer knows them
+abbrev pub targets_from : Setting → ℕ → List Site → List Known
+targets_from set m [] = []
+targets_from set m (site ∷ sites) =
+    record {
+      node_key = list_at set.keys site.node;
+      provider = site.provider;
+      identity = identity site.text site.layout.pub_from site.layout.pub_to site.layout.priv_from site.layout.priv_to;
+      ends = ends_of set.app m;
+    } ∷ targets_from set (m + 1) sites
+
+-- the deployer keeps the secret and the modules of the setting; it has room for 32 modules and 64 connections, of which the
+-- first are those of the application
+pub record IsKept (set : Setting) (k : Keeping) (d : DeployerState) : Type 0 where
+  pub secret : k.secret ≡ set.secret
+  pub targets : k.targets ≡ targets_from set 0 set.sites
+  pub asks : k.asks ≡ d.asks
+  pub open_asks : take (length set.app.parts) k.open_asks ≡ d.open_asks
+  pub attested : take (length set.app.parts) k.attested ≡ d.attested
+  pub epochs : take (length set.app.links) k.epochs ≡ d.epochs
+
+-- how many resets each node has had
+abbrev pub boots_of : List State → List ℕ
+boots_of nodes = map (λ s. s.boot) nodes
+
+-- the sections of each node are placed
+abbrev pub ArePlaced : List State → Type 0
+ArePlaced nodes = (n : ℕ) (s : State) → slice_get nodes n ≡ Some s → Placed s.sections
+
+-- what the program keeps shows this world of a run
+pub record Shows (set : Setting) (kept : Running) (w : World) : Type 0 where
+  pub nodes : kept.nodes ≡ w.nodes
+  pub packets : kept.packets ≡ w.packets
+  pub deployer : IsKept set kept.deployer w.deployer
+  pub ledger : Records kept.ledger w.ledger
+  pub steps : kept.steps ≡ w.steps
+  pub placed : ArePlaced w.nodes
+
+-- An act was done: what is kept behind it shows what the act leaves, and its items were added.
+abbrev pub Did : Setting → Running → Running → List Item → List Item → (World → Acted) → Type 0
+Did set old new before after act = (w : World) → Shows set old w → Shows set new (act w).world × (after ≡ before ++ (act w).items)
+
+-- Memory ran out: a front of the act's items was added.
+abbrev pub Wanted : Setting → Running → List Item → List Item → (World → Acted) → Type 0
+Wanted set old before after act = (w : World) → Shows set old w → IsFront after (before ++ (act w).items)
+
+-- a call did this act, or wanted memory
+abbrev pub Does : {X E : Type 0} → Setting → Result X E → Running → Running → List Item → List Item → (World → Acted) → Type 0
+Does set (Ok x) old new before after act = Did set old new before after act
+Does set (Err e) old new before after act = Wanted set old before after act

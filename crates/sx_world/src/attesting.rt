@@ -1,0 +1,112 @@
+//! Attestation: the deployer asks a module, and judges what is given to it as the answer.
+
+ghost use Rattle.std.specs.Prelude.{◌≡◌, ◌+◌, ◌*◌, ◌<◌, ◌≤◌, List, length, map, slice_get, OnOk};
+ghost use Rattle.sx_deploy.specs.SeenDeployment.{deployed_as};
+ghost use Rattle.sx_world.specs.Acts.{answered, ask};
+ghost use Rattle.sx_world.specs.Granted.{accepted_ask, confirmed, judged_by};
+ghost use Rattle.sx_world.specs.Held.{Does, setting};
+ghost use Rattle.sx_world.specs.Setting.{Setting, Site};
+
+use crate::grants::granted;
+use crate::headers::challenge_in;
+use crate::recording::{NO_TARGET, add, add_unless_made, is_made};
+use crate::running::Running;
+use crate::sending::add_packet;
+use std::alloc::AllocError;
+use sx_bus::Bus;
+use sx_deploy::deployment::Deployment;
+use sx_deployer::{Deployer, Verdict};
+use sx_ledger::Maker;
+use sx_tag::Tag;
+use sx_trace::items::Item;
+
+/// The open ask that a packet answers, as a module's answer at a boot of its node. Where it answers none, the deployer is as before.
+fn judge<T: Tag>(
+    tag: &T,
+    deployer: &mut Deployer,
+    packets: &[Vec<u8>],
+    m: u8,
+    boot: u32,
+    k: u32,
+) -> Option<[u8; 18]>
+    requires { m < length deployer.old.targets }
+    ensures ask { result ≡ accepted_ask T.mac deployer.old m boot (slice_get (map (λ p. p.items) packets.now) k) }
+    ensures state { deployer.new ≡ judged_by T.mac deployer.old m boot (slice_get (map (λ p. p.items) packets.now) k) }
+{
+    let ask = deployer.open_ask(m);
+    match packets.get(k as usize) {
+        Some(answer) => match deployer.answer(tag, m, boot, answer) {
+            Verdict::Attested => ask,
+            Verdict::Denied => None,
+        },
+        None => None,
+    }
+}
+
+impl<B: Bus, T: Tag> Running<B, T> {
+    /// The deployer asks a module.
+    pub(crate) fn ask(&mut self, m: u8, items: &mut Vec<Item>) -> Result<(), AllocError>
+        requires known { m < length self.old.deployer.targets }
+        requires asks { self.old.deployer.asks < 4294967295 }
+        requires packets { length self.old.packets < 4294967295 }
+        ensures does { (set : Setting) → Does set result self.old self.new items.old.items items.new.items (λ w. ask w m) }
+        ensures count { OnOk result (length self.new.packets ≤ length self.old.packets + 1) }
+    {
+        let packet = self.deployer.ask(&self.tag, m);
+        add(
+            items,
+            Item::Ask {
+                module: m,
+                challenge: challenge_in(&packet),
+            },
+        )?;
+        add_packet(self.alloc, &mut self.packets, &packet, items)
+    }
+
+    /// What follows an accepted answer to an ask, of a module that was last attested at a boot, if any.
+    fn confirm(
+        &mut self,
+        plan: &Deployment,
+        m: u8,
+        boot: u32,
+        ask: &[u8; 18],
+        last: Option<u32>,
+        items: &mut Vec<Item>,
+    ) -> Result<(), AllocError>
+        requires parts { length plan.now.app.parts.items ≤ length self.old.deployer.targets }
+        requires links { length plan.now.app.links.items ≤ 64 }
+        requires packets { length self.old.packets ≤ 4294967000 }
+        ensures does { (sites : List Site) → Does (setting T.mac (deployed_as plan.now) sites) result self.old self.new items.old.items items.new.items
+            (confirmed (setting T.mac (deployed_as plan.now) sites) m boot ask.now last) }
+        ensures count { OnOk result (length self.new.packets ≤ length self.old.packets + 192) }
+    {
+        let made = is_made(&self.ledger, Maker::Module(m), NO_TARGET, boot, ask, &[]);
+        add_unless_made(items, None, made, Item::Attested { module: m, boot })?;
+        let grants = granted(self.alloc, &self.deployer, &plan.app, m, boot, last)?;
+        self.give_keys(plan, &grants, items)
+    }
+
+    /// The deployer judges a packet as a module's answer at a boot of its node.
+    pub(crate) fn answer(
+        &mut self,
+        plan: &Deployment,
+        m: u8,
+        boot: u32,
+        k: u32,
+        items: &mut Vec<Item>,
+    ) -> Result<(), AllocError>
+        requires known { m < length plan.now.app.parts.items }
+        requires parts { length plan.now.app.parts.items ≤ length self.old.deployer.targets }
+        requires links { length plan.now.app.links.items ≤ 64 }
+        requires packets { length self.old.packets ≤ 4294967000 }
+        ensures does { (sites : List Site) → Does (setting T.mac (deployed_as plan.now) sites) result self.old self.new items.old.items items.new.items
+            (λ w. answered (setting T.mac (deployed_as plan.now) sites) w m boot (slice_get sites m) (slice_get w.packets k)) }
+        ensures count { OnOk result (length self.new.packets ≤ length self.old.packets + 192) }
+    {
+        let last = self.deployer.attested(m);
+        match judge(&self.tag, &mut self.deployer, &self.packets, m, boot, k) {
+            Some(ask) => self.confirm(plan, m, boot, &ask, last, items),
+            None => add(items, Item::Denied { module: m }),
+        }
+    }
+}

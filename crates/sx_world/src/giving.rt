@@ -1,0 +1,80 @@
+//! Connection keys are given: a set-key packet for each grant, and its entry of the ledger.
+
+ghost use Rattle.std.specs.Prelude.{◌≡◌, ◌+◌, ◌<◌, ◌≤◌, List, length, option_map, slice_get, OnOk};
+ghost use Rattle.sx_deploy.specs.SeenDeployment.{deployed_as};
+ghost use Rattle.sx_deployer.specs.Granting as granting;
+ghost use Rattle.sx_wire.specs.Packets.{field};
+ghost use Rattle.sx_world.specs.Acts.{key_given, keys_given};
+ghost use Rattle.sx_world.specs.Held.{Does, setting};
+ghost use Rattle.sx_world.specs.Setting.{Site};
+
+use crate::grants::Grant;
+use crate::recording::record;
+use crate::running::Running;
+use crate::sending::add_packet;
+use std::alloc::AllocError;
+use sx_bus::Bus;
+use sx_deploy::deployment::Deployment;
+use sx_ledger::Maker;
+use sx_tag::{Tag, kdf};
+use sx_trace::items::Item;
+
+/// The key of a connection in an epoch.
+fn connection_key<T: Tag>(tag: &T, secret: &[u8; 16], link: u8, epoch: u8) -> [u8; 16]
+    ensures { result ≡ granting.connection_key T.mac secret.now (field link epoch) }
+{
+    let field = u16::from(link) + 256 * u16::from(epoch);
+    kdf(tag, secret, &field.to_le_bytes())
+}
+
+impl<B: Bus, T: Tag> Running<B, T> {
+    /// The set-key packet of a grant, and its entry.
+    fn give_key(
+        &mut self,
+        plan: &Deployment,
+        g: &Grant,
+        items: &mut Vec<Item>,
+    ) -> Result<(), AllocError>
+        requires { length self.old.packets < 4294967295 }
+        ensures does { (sites : List Site) → Does (setting T.mac (deployed_as plan.now) sites) result self.old self.new items.old.items items.new.items
+            (λ w. key_given (setting T.mac (deployed_as plan.now) sites) w g.now (slice_get sites g.now.holder)) }
+        ensures count { OnOk result (length self.new.packets ≤ length self.old.packets + 1) }
+    {
+        match self
+            .deployer
+            .packet(&self.tag, g.holder, g.boot, g.end, g.epoch)
+        {
+            Some(packet) => {
+                let key = connection_key(&self.tag, &plan.secret, g.end.link, g.epoch);
+                record(
+                    &mut self.ledger,
+                    Maker::Deployer,
+                    g.holder,
+                    g.boot,
+                    &packet[..6],
+                    &key,
+                )?;
+                add_packet(self.alloc, &mut self.packets, &packet, items)
+            }
+            None => Ok(()),
+        }
+    }
+
+    /// The set-key packets of these grants, and their entries.
+    pub(crate) fn give_keys(
+        &mut self,
+        plan: &Deployment,
+        grants: &[Grant],
+        items: &mut Vec<Item>,
+    ) -> Result<(), AllocError>
+        requires { length self.old.packets + length grants.now ≤ 4294967295 }
+        ensures does { (sites : List Site) → Does (setting T.mac (deployed_as plan.now) sites) result self.old self.new items.old.items items.new.items
+            (keys_given (setting T.mac (deployed_as plan.now) sites) grants.now) }
+        ensures count { OnOk result (length self.new.packets ≤ length self.old.packets + length grants.now) }
+    {
+        for g in grants {
+            self.give_key(plan, g, items)?;
+        }
+        Ok(())
+    }
+}

@@ -1,0 +1,37 @@
+//! How a run stands: all nodes, the packets, the deployer and the ledger.
+
+use std::alloc::Global;
+use std::marker::Model;
+use sx_bus::Bus;
+use sx_deployer::Deployer;
+use sx_ledger::Ledger;
+use sx_node::Node;
+use sx_tag::Tag;
+
+/// What a world keeps of a run but where its modules are deployed.
+#[derive(Drop)]
+pub(crate) struct Running<B: Bus, T: Tag> {
+    pub(crate) alloc: Global,
+    pub(crate) tag: T,
+    pub(crate) nodes: Vec<Node<B, T>>,
+    pub(crate) packets: Vec<Vec<u8>>,
+    pub(crate) deployer: Deployer,
+    pub(crate) ledger: Ledger,
+    /// How many steps of nodes were taken.
+    pub(crate) steps: u64,
+}
+
+impl<B: Bus, T: Tag> Model for Running<B, T> {
+    ghost use Rattle.std.specs.Prelude.{map};
+    ghost use Rattle.sx_world.specs.Held.{Running as Kept};
+
+    ghost Value = { Kept };
+
+    ghost view = { λ r. record {
+      nodes = r.nodes.items;
+      packets = map (λ p. p.items) r.packets.items;
+      deployer = r.deployer;
+      ledger = r.ledger;
+      steps = r.steps;
+    } };
+}

@@ -1,0 +1,98 @@
+//! Where the deployed modules stand, and which of them a section of a node is.
+
+ghost use Rattle.std.specs.Prelude.{◌≡◌, ◌+◌, ◌-◌, ◌<◌, ◌≤◌, length, bytes_eq, IfSome};
+ghost use Rattle.sx_machine.specs.Memory.{bytes_from};
+ghost use Rattle.sx_world.specs.Setting.{deployed, is_at_site, module_of, same_layout};
+
+use std::marker::Model;
+use sx_bus::Bus;
+use sx_node::Node;
+use sx_rules::{Layout, Section};
+use sx_tag::Tag;
+
+/// Where a module is deployed: its node, its layout, its provider, and the text of its image.
+#[derive(Drop)]
+pub struct Site {
+    pub node: u8,
+    pub layout: Layout,
+    pub provider: u16,
+    pub text: Vec<u8>,
+}
+
+impl Model for Site {
+    ghost use Rattle.sx_world.specs.Setting.{Site as Placed};
+
+    ghost Value = { Placed };
+
+    ghost view = { λ s. record { node = s.node; layout = s.layout; provider = s.provider; text = s.text.items } };
+}
+
+fn same_layout(a: &Layout, b: &Layout) -> bool
+    ensures { result ≡ same_layout a.now b.now }
+{
+    a.pub_from == b.pub_from
+        && a.pub_to == b.pub_to
+        && a.priv_from == b.priv_from
+        && a.priv_to == b.priv_to
+}
+
+/// Whether these bytes stand in a node's memory from an address on.
+#[tactic(auto, unfolding(sx_machine::specs::Memory::bytes_from))]
+fn has_bytes<B: Bus, T: Tag>(node: &Node<B, T>, at: u16, bytes: &[u8]) -> bool
+    requires { at + length bytes.now ≤ 65536 }
+    ensures { result ≡ bytes_eq (bytes_from node.now.mem at (length bytes.now)) bytes.now }
+{
+    for i in 0..bytes.len() {
+        if node.byte((usize::from(at) + i) as u16) != bytes[i] {
+            return false;
+        }
+    }
+    true
+}
+
+/// Whether the public section of this layout holds the text.
+fn has_text<B: Bus, T: Tag>(node: &Node<B, T>, layout: &Layout, text: &[u8]) -> bool
+    ensures { result ≡ bytes_eq (bytes_from node.now.mem layout.now.pub_from (layout.now.pub_to - layout.now.pub_from)) text.now }
+{
+    let count = layout.pub_to.saturating_sub(layout.pub_from);
+    usize::from(count) == text.len() && has_bytes(node, layout.pub_from, text)
+}
+
+/// Whether a section of a node is of the site's identity.
+fn is_at_site<B: Bus, T: Tag>(n: u8, node: &Node<B, T>, x: &Section, site: &Site) -> bool
+    ensures { result ≡ is_at_site n node.now.mem x.now site.now }
+{
+    site.node == n
+        && same_layout(&x.layout, &site.layout)
+        && x.provider == site.provider
+        && has_text(node, &x.layout, &site.text)
+}
+
+/// The deployed module that a section of a node is.
+fn deployed<B: Bus, T: Tag>(sites: &[Site], n: u8, node: &Node<B, T>, x: &Section) -> Option<u8>
+    requires { length sites.now ≤ 256 }
+    ensures { result ≡ deployed sites.now n node.now.mem x.now }
+{
+    for m in 0..sites.len() {
+        if is_at_site(n, node, x, &sites[m]) {
+            return Some(m as u8);
+        }
+    }
+    None
+}
+
+/// The deployed module that the live section of a node with the id is.
+pub(crate) fn module_of<B: Bus, T: Tag>(
+    sites: &[Site],
+    n: u8,
+    node: &Node<B, T>,
+    id: u16,
+) -> Option<u8>
+    requires { length sites.now ≤ 256 }
+    ensures { result ≡ module_of sites.now n node.now id }
+{
+    match node.section(id) {
+        Some(section) => deployed(sites, n, node, &section),
+        None => None,
+    }
+}

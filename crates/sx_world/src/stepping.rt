@@ -1,0 +1,149 @@
+//! Instructions of a node, one after the other.
+
+ghost use Rattle.std.specs.Prelude.{◌≡◌, ◌==◌, ◌&&◌, ◌||◌, ℕ, ◌+◌, ◌<◌, ◌≤◌, length, slice_get, slice_set, Some, IfOk, OnOk, OnErr};
+ghost use Rattle.std.specs.Option.{option_to_list};
+ghost use Rattle.sx_deploy.specs.SeenDeployment.{deployed_as};
+ghost use Rattle.sx_machine.specs.State.{State};
+ghost use Rattle.sx_machine.specs.Step.{step};
+ghost use Rattle.sx_machine.specs.Acts.{irq};
+ghost use Rattle.sx_world.specs.Acts.{at_node, interrupted, stepped};
+ghost use Rattle.sx_world.specs.Held.{Did, Wanted, setting};
+ghost use Rattle.sx_world.specs.Run.{is_reset, steps_of};
+
+use crate::observation::{add_seen, runner_of};
+use crate::recording::add;
+use crate::running::Running;
+use crate::sites::Site;
+use crate::touching::refused_item;
+use std::alloc::AllocError;
+use sx_bus::Bus;
+use sx_deploy::deployment::Deployment;
+use sx_node::{Event, Node, Refused, Seen};
+use sx_tag::Tag;
+use sx_trace::items::Item;
+
+fn is_reset(event: Event) -> bool
+    ensures { result ≡ is_reset event }
+{
+    matches!(event, Event::Reset(_))
+}
+
+fn step_node<B: Bus, T: Tag>(nodes: &mut [Node<B, T>], n: u8) -> Seen
+    requires node { n < length nodes.old }
+    requires boot { (s : State) → slice_get nodes.old n ≡ Some s → s.boot < 4294967295 }
+    ensures nodes { (s : State) → slice_get nodes.old n ≡ Some s → nodes.new ≡ slice_set nodes.old n (step T.mac s).state }
+    ensures seen { (s : State) → slice_get nodes.old n ≡ Some s → result ≡ (step T.mac s).shown }
+{
+    nodes[usize::from(n)].step()
+}
+
+fn irq_node<B: Bus, T: Tag>(nodes: &mut [Node<B, T>], n: u8, line: u8) -> Result<Seen, Refused>
+    requires node { n < length nodes.old }
+    requires line { line ≤ 14 }
+    requires boot { (s : State) → slice_get nodes.old n ≡ Some s → s.boot < 4294967295 }
+    ensures nodes { (s : State) → slice_get nodes.old n ≡ Some s → nodes.new ≡ slice_set nodes.old n (irq s line).state }
+    ensures answer { (s : State) → slice_get nodes.old n ≡ Some s → (irq s line).shown ≡ result }
+{
+    nodes[usize::from(n)].irq(line)
+}
+
+impl<B: Bus, T: Tag> Running<B, T> {
+    /// An interrupt of a node, which runs as code outside every module.
+    pub(crate) fn irq(
+        &mut self,
+        plan: &Deployment,
+        sites: &[Site],
+        n: u8,
+        line: u8,
+        items: &mut Vec<Item>,
+    ) -> Result<(), AllocError>
+        requires node { n < length self.old.nodes }
+        requires line { line ≤ 14 }
+        requires boot { (s : State) → slice_get self.old.nodes n ≡ Some s → s.boot < 4294967295 }
+        requires sites { length sites.now ≤ 256 }
+        requires devices { length plan.now.app.devices.items ≤ 256 }
+        ensures done { OnOk result (Did (setting T.mac (deployed_as plan.now) sites.now) self.old self.new items.old.items items.new.items
+            (λ w. at_node w (λ s. interrupted (setting T.mac (deployed_as plan.now) sites.now) w n (irq s line).state (irq s line).shown) (slice_get w.nodes n))) }
+        ensures front { OnErr result (Wanted (setting T.mac (deployed_as plan.now) sites.now) self.old items.old.items items.new.items
+            (λ w. at_node w (λ s. interrupted (setting T.mac (deployed_as plan.now) sites.now) w n (irq s line).state (irq s line).shown) (slice_get w.nodes n))) }
+    {
+        match irq_node(&mut self.nodes, n, line) {
+            Ok(seen) => {
+                let node = &self.nodes[usize::from(n)];
+                add_seen(plan, sites, n, None, node, &seen, items, &mut self.ledger)
+            }
+            Err(why) => add(items, refused_item(n, why)),
+        }
+    }
+
+    /// One instruction of a node, and its event.
+    fn step(
+        &mut self,
+        plan: &Deployment,
+        sites: &[Site],
+        n: u8,
+        items: &mut Vec<Item>,
+    ) -> Result<Event, AllocError>
+        requires node { n < length self.old.nodes }
+        requires boot { (s : State) → slice_get self.old.nodes n ≡ Some s → s.boot < 4294967295 }
+        requires steps { self.old.steps < 18446744073709551615 }
+        requires sites { length sites.now ≤ 256 }
+        requires devices { length plan.now.app.devices.items ≤ 256 }
+        ensures done { OnOk result (Did (setting T.mac (deployed_as plan.now) sites.now) self.old self.new items.old.items items.new.items
+            (λ w. at_node w (stepped (setting T.mac (deployed_as plan.now) sites.now) w n) (slice_get w.nodes n))) }
+        ensures front { OnErr result (Wanted (setting T.mac (deployed_as plan.now) sites.now) self.old items.old.items items.new.items
+            (λ w. at_node w (stepped (setting T.mac (deployed_as plan.now) sites.now) w n) (slice_get w.nodes n))) }
+        ensures nodes { (s : State) → slice_get self.old.nodes n ≡ Some s → self.new.nodes ≡ slice_set self.old.nodes n (step T.mac s).state }
+        ensures event { IfOk result (λ event. (s : State) → slice_get self.old.nodes n ≡ Some s → event ≡ (step T.mac s).shown.event) }
+        ensures steps { self.new.steps ≡ self.old.steps + 1 }
+    {
+        let seen = step_node(&mut self.nodes, n);
+        self.steps += 1;
+        let node = &self.nodes[usize::from(n)];
+        let runner = runner_of(sites, n, node, &seen);
+        add_seen(plan, sites, n, runner, node, &seen, items, &mut self.ledger)?;
+        Ok(seen.event)
+    }
+
+    /// Whether no further step follows one that showed this event.
+    fn ends(&self, n: u8, idle: bool, event: Event) -> bool
+        requires { n < length self.now.nodes }
+        ensures { (s : State) → slice_get self.now.nodes n ≡ Some s → result ≡ (is_reset event || (idle && (s.cur == 0))) }
+    {
+        is_reset(event) || (idle && self.nodes[usize::from(n)].running() == 0)
+    }
+
+    /// So many steps of a node, or fewer where one ends in a reset or, where `idle` says so, leaves no module running; and this
+    /// item where all were taken.
+    pub(crate) fn steps_of(
+        &mut self,
+        plan: &Deployment,
+        sites: &[Site],
+        n: u8,
+        count: u32,
+        idle: bool,
+        end: Option<Item>,
+        items: &mut Vec<Item>,
+    ) -> Result<(), AllocError>
+        requires node { n < length self.old.nodes }
+        requires boot { (s : State) → slice_get self.old.nodes n ≡ Some s → s.boot < 4294967295 }
+        requires steps { self.old.steps + count ≤ 18446744073709551615 }
+        requires sites { length sites.now ≤ 256 }
+        requires devices { length plan.now.app.devices.items ≤ 256 }
+        ensures done { OnOk result (Did (setting T.mac (deployed_as plan.now) sites.now) self.old self.new items.old.items items.new.items
+            (steps_of (setting T.mac (deployed_as plan.now) sites.now) (λ s. idle && (s.cur == 0)) (option_to_list end) n count)) }
+        ensures front { OnErr result (Wanted (setting T.mac (deployed_as plan.now) sites.now) self.old items.old.items items.new.items
+            (steps_of (setting T.mac (deployed_as plan.now) sites.now) (λ s. idle && (s.cur == 0)) (option_to_list end) n count)) }
+    {
+        for done in 0..count {
+            let event = self.step(plan, sites, n, items)?;
+            if self.ends(n, idle, event) {
+                return Ok(());
+            }
+        }
+        match end {
+            Some(item) => add(items, item),
+            None => Ok(()),
+        }
+    }
+}
