@@ -12,7 +12,8 @@ use Rattle.sx_tag.specs.Mac.{Mac}
 use Rattle.sx_head.specs.Head.{Head, head, head_lines}
 use Rattle.sx_top.specs.Output.{run_all}
 use Rattle.sx_top.specs.Check.{Meaning, IsMeaning, check_head, check_all}
-use Rattle.sx_top.specs.Promises.{CameToItsEnd, CheckTold, IsHead, RunTold, RunsOutBehindHead, TellsFaults}
+use Rattle.sx_top.specs.Faults.{CameToItsEnd, TellsFaults}
+use Rattle.sx_top.specs.Promises.{CheckTold, IsHead, RunTold, RunsOutBehindHead}
 use Rattle.sx_top.proofs.Due.{due_all}
 use Rattle.sx_top.proofs.Heads.{known, is_known}
 use Rattle.sx_top.proofs.Statuses.{all_zero, all_not_zero, all_not_two, all_not_four, head_zero, head_not_two, check_not_four, checked_not}

@@ -4,6 +4,14 @@ pub mod Items
 pub mod Ran
 pub mod Output
 pub mod Good
+pub mod Built
 pub mod Check
 pub mod Commands
+pub mod Faults
+pub mod Schedule
+pub mod Run
+pub mod Turns
+pub mod WellFormed
+pub mod Histories
+pub mod Runs
 pub mod Promises

@@ -1,32 +1,16 @@
 -- What the commands promise, each in one record that speaks of its streams at its start (m0) and at its end (m1).
-use Rattle.std.specs.Prelude.{ℕ, ◌+◌, ◌≤◌, ◌≡◌, ◌⊎◌, Bool, true, false, List, [], ◌++◌, IsTrue, length}
-use Rattle.sx_io.specs.Counts.{counted, Rose}
-use Rattle.sx_io.specs.Streams.{OneFault}
+use Rattle.std.specs.Prelude.{ℕ, ◌+◌, ◌≤◌, ◌≡◌, Bool, true, false, List, [], ◌++◌, IsTrue, length}
 use Rattle.sx_io.specs.Reading.{Answer, Ending, Ended, longest, scan}
 use Rattle.sx_told.specs.Reads.{anything}
-use Rattle.sx_told.specs.Told.{Ends, Moment, Output, Told, out_of_memory, read_failed, write_failed}
+use Rattle.sx_told.specs.Told.{Ends, Moment, Told, out_of_memory}
 use Rattle.sx_told.specs.Further.{HasEnd, Streams}
 use Rattle.sx_tag.specs.Mac.{Mac}
 use Rattle.sx_head.specs.Head.{Head, Found, TooLong, NoMark, Unread, head, head_lines}
 use Rattle.sx_top.specs.Check.{Meaning, IsMeaning, check_all}
 use Rattle.sx_top.specs.Commands.{is_run, is_check, IsGoodHead}
+use Rattle.sx_top.specs.Faults.{CameToItsEnd, IsFaultless, TellsFaults}
 use Rattle.sx_top.specs.Good.{IsGoodInput}
 use Rattle.sx_top.specs.Output.{run_all, misused}
-
--- the status is 0 and all that is defined was written, or memory ran out
-abbrev pub CameToItsEnd : Bool → Moment → Moment → ℕ → Output → Type 0
-CameToItsEnd to_tell m0 m1 status o =
-    (status ≡ out_of_memory) ⊎ ((status ≡ 0) × (IsTrue to_tell → m1.sink.written ≡ m0.sink.written ++ o.text))
-
--- no read and no write failed: neither count rose, nor stands at its last value
-abbrev pub IsFaultless : Moment → Moment → Type 0
-IsFaultless m0 m1 = (Rose m0.source.faults m1.source.faults → ⊥) × (Rose m0.sink.faults m1.sink.faults → ⊥)
-
--- A status tells of faults: 4 only of one read that failed, after which nothing was read; 5 exactly of one write that failed.
-pub record TellsFaults (m0 m1 : Moment) (status : ℕ) : Type 0 where
-  pub read : status ≡ read_failed → OneFault m0.source m1.source
-  pub write : status ≡ write_failed → m1.sink.faults ≡ counted m0.sink.faults
-  pub no_write : (status ≡ write_failed → ⊥) → m1.sink.faults ≡ m0.sink.faults
 
 -- The command `run`. What it wrote, and its status, are those of the bytes that it took (`told`); it took no more than it
 -- must (`streams`); status 0 says that the input was read to its end; an input whose lines are all built is run to its end.

@@ -6,16 +6,27 @@
 //! lines (sx_io), what each orders (specs/Orders.antt), what an order does to the node
 //! (specs/Ran.antt, over the node's definitions in sx_machine), and the items that tell of it
 //! (specs/Items.antt); and how far the input was read.
+//!
+//! What `run` will promise of a deployment is `RunSays` of specs/Runs.antt: its output is `run_all`
+//! (specs/Run.antt) of the lines of its schedule (specs/Schedule.antt), and it is legal and guarded. Its
+//! parts that need no world stand beside the run on one node: `compiling`, `images`, `judging`, `trace`, and
+//! `schedule`, which runs lines on anything that acts as a world does (`acting`). No command calls them yet.
 #![tactic(auto)]
 
+mod acting;
 mod check;
 mod command;
+mod compiling;
+mod images;
 mod items;
+mod judging;
 mod obey;
 mod order;
 mod run;
+mod schedule;
 #[cfg(test)]
 mod tests;
+mod trace;
 mod words;
 
 pub use command::top;

@@ -1,0 +1,98 @@
+-- What the command `run` writes, and its exit status: a function of what texts of deployments mean, of the texts of the modules'
+-- images, and of the answers that the lines of its input give.
+use Rattle.std.specs.Prelude.{ℕ, List, [], ◌∷◌, ◌++◌, codes, decimal, flat_map, Result, Ok, Err}
+use Rattle.hex.specs.Hex.{encode_lower}
+use Rattle.sx_io.specs.Reading.{Answer}
+use Rattle.sx_told.specs.Told.{Output, behind, unread}
+use Rattle.sx_tag.specs.Mac.{Mac}
+use Rattle.sx_stage.specs.declared.fault.Place.TheVariants.{Nowhere}
+use Rattle.sx_stage.specs.declared.fault.DeployFault.{DeployFault}
+use Rattle.sx_stage.specs.Fault.{fault}
+use Rattle.sx_head.specs.Head.{Head, Found, TooLong, NoMark, Unread, head}
+use Rattle.sx_trace.specs.declared.items.Item.{Item}
+use Rattle.sx_trace.specs.Names.{NameLists}
+use Rattle.sx_trace.specs.Items.{item_text}
+use Rattle.sx_deploy.specs.Deployment.{Deployed}
+use Rattle.sx_world.specs.Setting.{Site, Setting}
+use Rattle.sx_sched.specs.Lines.{Line}
+use Rattle.sx_world.specs.State.{World, Acted, switched_on}
+use Rattle.sx_world.specs.Accepted.{setting_of}
+use Rattle.sx_world.specs.Run.{acted, counted, run}
+use Rattle.sx_top.specs.Output.{line, trace_line, end_line}
+use Rattle.sx_top.specs.Check.{Meaning, refused}
+use Rattle.sx_top.specs.Schedule.{Stop, AtEnd, Breaks, Schedule, schedule}
+use Rattle.sx_top.specs.Schedule as sched
+
+-- a module's name, and the text of its image
+unfoldable pub image_line : List ℕ → List ℕ → List ℕ
+image_line name text = line (codes "image " ++ name ++ codes " " ++ encode_lower text)
+
+abbrev pub images_text : List (List ℕ) → List (List ℕ) → List ℕ
+images_text (name ∷ names) (text ∷ texts) = image_line name text ++ images_text names texts
+images_text [] texts = []
+images_text (name ∷ names) [] = []
+
+unfoldable pub item_line : NameLists → Item → List ℕ
+item_line names i = line (item_text names i)
+
+abbrev pub items_text : NameLists → List Item → List ℕ
+items_text names items = flat_map (item_line names) items
+
+abbrev pub broken_text : ℕ → ℕ → List ℕ
+broken_text rule number = codes "S" ++ decimal rule ++ codes " " ++ decimal number
+
+unfoldable pub broken_line : ℕ → ℕ → List ℕ
+broken_line rule number = line (codes "fault schedule " ++ broken_text rule number)
+
+-- status 3: this line is the first that breaks a rule, and this is the first rule that it breaks
+abbrev pub broken : ℕ → ℕ → Output
+broken rule number = record { text = broken_line rule number; status = 3 }
+
+-- the last line, and the status
+abbrev pub stopped : Stop → Output
+stopped AtEnd = record { text = end_line; status = 0 }
+stopped sched.Unread = unread
+stopped (Breaks rule number) = broken rule number
+
+-- what a schedule writes: the items of the run of its lines, and how it ended
+abbrev pub written : NameLists → Setting → World → Schedule → Output
+written names set w x = behind (items_text names (run set w x.lines).items) (stopped x.stop)
+
+-- what the next line does
+abbrev pub done : Setting → World → Line → Acted
+done set w line = acted set (counted w) line
+
+-- a line's items, and what follows from the world that it leaves
+abbrev pub told_by : NameLists → Acted → (World → Output) → Output
+told_by names a more = behind (items_text names a.items) (more a.world)
+
+-- what the schedule from the line with this number on writes
+unfoldable pub run_from : NameLists → Setting → World → ℕ → List Answer → Output
+run_from names set w number answers = written names set w (schedule names number answers)
+
+-- what the schedule of a deployment writes, where all is switched on
+abbrev pub run_deployed : Mac → Deployed → List (List ℕ) → List Answer → Output
+run_deployed mac d texts more = run_from d.names (setting_of mac d texts) (switched_on (setting_of mac d texts)) 1 more
+
+-- the images, `trace`, and what the schedule writes; or the rule that the deployment breaks
+abbrev pub run_found : Mac → List (List ℕ) → Result Deployed DeployFault → List Answer → Output
+run_found mac texts (Ok d) more = behind (images_text d.names.modules texts ++ trace_line) (run_deployed mac d texts more)
+run_found mac texts (Err f) more = refused f
+
+abbrev pub run_head : Mac → Meaning → List (List ℕ) → Head → Output
+run_head mac meaning texts (Found text more) = run_found mac texts (meaning text) more
+run_head mac meaning texts TooLong = refused (fault 1 Nowhere)
+run_head mac meaning texts NoMark = refused (fault 2 Nowhere)
+run_head mac meaning texts Unread = unread
+
+-- the command `run`
+abbrev pub run_all : Mac → Meaning → List (List ℕ) → List Answer → Output
+run_all mac meaning texts answers = run_head mac meaning texts (head answers)
+
+-- the setting of a run: a deployment, and where its modules stand
+abbrev pub setting_at : Mac → Deployed → List Site → Setting
+setting_at mac d sites = record { mac = mac; app = d.app; sites = sites; secret = d.secret; keys = d.keys; places = d.places }
+
+-- the items of the run of a schedule that these answers are
+abbrev pub items_of : Mac → Deployed → List (List ℕ) → List Answer → List Item
+items_of mac d texts more = (run (setting_of mac d texts) (switched_on (setting_of mac d texts)) (schedule d.names 1 more).lines).items

@@ -1,0 +1,152 @@
+//! The lines of a schedule. Each is judged and acted, and its items are written, before the next is read.
+
+ghost use Rattle.std.specs.Prelude.{◌≡◌, ℕ, ◌+◌, ◌<◌, ◌≤◌, ◌∷◌, List, Ok, IsTrue, map};
+ghost use Rattle.sx_io.specs.Reading.{Answer};
+ghost use Rattle.sx_trace.specs.Names.{are_valid};
+ghost use Rattle.sx_sched.specs.Lines.{line_of, IsLine};
+ghost use Rattle.sx_told.specs.Told.{Output, Does, Rest, moment};
+ghost use Rattle.sx_head.specs.Head.{head_lines};
+ghost use Rattle.sx_deploy.specs.SeenDeployment.{deployed_as};
+ghost use Rattle.sx_world.specs.State.{World, switched_on};
+ghost use Rattle.sx_world.specs.Accepted.{sites_of};
+ghost use Rattle.sx_top.specs.Run.{done, told_by, run_from, run_found, setting_at};
+ghost use Rattle.sx_top.specs.Turns.{Turns};
+
+use crate::acting::Acts;
+use crate::images::put_images;
+use crate::judging::{TOO_LONG, break_off, judge};
+use crate::trace::push_items;
+use std::alloc::Global;
+use sx_deploy::deployment::Deployment;
+use sx_image::Image;
+use sx_io::{LineRead, Lines, Sink, Source};
+use sx_sched::lines::{Line, LineError};
+use sx_told::{OUT_OF_MEMORY, READ_FAILED, Turned, finish, put_text};
+use sx_trace::items::Item;
+
+/// Acts a line, and writes its items.
+fn tell<K: Sink, W: Acts>(
+    output: &mut K,
+    world: &mut W,
+    plan: &Deployment,
+    items: &mut Vec<Item>,
+    text: &mut Vec<u8>,
+    line: &Line,
+) -> Turned
+    requires form { IsLine (deployed_as plan.now).names (line_of line.now) }
+    requires few { W.lines world.old < 65536 }
+    ensures does { (w : World) → W.shows (setting_at W.mac (deployed_as plan.now) (W.sites world.old)) world.old w
+        → (left : World → List Answer → Output) → Does K.tells (K.at output.old) (K.at output.new)
+        (λ more. told_by (deployed_as plan.now).names (done (setting_at W.mac (deployed_as plan.now) (W.sites world.old)) w (line_of line.now)) (λ v. left v more))
+        result (left (done (setting_at W.mac (deployed_as plan.now) (W.sites world.old)) w (line_of line.now)).world) }
+    ensures stands { result ≡ Turned.On → (w : World) → W.shows (setting_at W.mac (deployed_as plan.now) (W.sites world.old)) world.old w
+        → W.shows (setting_at W.mac (deployed_as plan.now) (W.sites world.old)) world.new
+        (done (setting_at W.mac (deployed_as plan.now) (W.sites world.old)) w (line_of line.now)).world }
+    ensures sites { W.sites world.new ≡ W.sites world.old }
+    ensures counts { result ≡ Turned.On → W.lines world.new ≡ W.lines world.old + 1 }
+{
+    items.clear();
+    text.clear();
+    match world.act(plan, line, items) {
+        Ok(()) => match push_items(text, &plan.names, items) {
+            Ok(()) => put_text(output, text),
+            Err(_) => Turned::Stop(OUT_OF_MEMORY),
+        },
+        Err(_) => Turned::Stop(OUT_OF_MEMORY),
+    }
+}
+
+/// Does what a line says, and writes its items.
+fn turn<K: Sink, W: Acts>(
+    alloc: Global,
+    output: &mut K,
+    world: &mut W,
+    plan: &Deployment,
+    items: &mut Vec<Item>,
+    text: &mut Vec<u8>,
+    said: &[u8],
+    number: u32,
+) -> Turned
+    requires names { IsTrue (are_valid (deployed_as plan.now).names) }
+    requires counted { W.lines world.old + 1 ≡ number }
+    ensures turns { (w : World) → W.shows (setting_at W.mac (deployed_as plan.now) (W.sites world.old)) world.old w
+        → Turns K.tells (K.at output.old) (K.at output.new) (deployed_as plan.now).names (setting_at W.mac (deployed_as plan.now) (W.sites world.old))
+        (W.shows (setting_at W.mac (deployed_as plan.now) (W.sites world.old)) world.new) number said.now result w }
+    ensures few { result ≡ Turned.On → number ≤ 65536 }
+    ensures sites { W.sites world.new ≡ W.sites world.old }
+    ensures counts { result ≡ Turned.On → W.lines world.new ≡ number }
+{
+    match judge(alloc, &plan.names, said, number) {
+        Ok(line) => tell(output, world, plan, items, text, &line),
+        Err(LineError::Fault(rule)) => Turned::Stop(break_off(alloc, output, rule, number)),
+        Err(LineError::OutOfMemory) => Turned::Stop(OUT_OF_MEMORY),
+    }
+}
+
+/// Runs the lines of a schedule in a world where all was just switched on.
+pub(crate) fn run_lines<S: Source, K: Sink, W: Acts>(
+    alloc: Global,
+    lines: &mut Lines,
+    input: &mut S,
+    output: &mut K,
+    plan: &Deployment,
+    world: &mut W,
+) -> u8
+    requires names { IsTrue (are_valid (deployed_as plan.now).names) }
+    requires new { W.lines world.old ≡ 0 }
+    requires shows { W.shows (setting_at W.mac (deployed_as plan.now) (W.sites world.old)) world.old
+        (switched_on (setting_at W.mac (deployed_as plan.now) (W.sites world.old))) }
+    ensures { Rest S.tells K.tells head_lines lines.old (moment (S.at input.old) (K.at output.old)) (moment (S.at input.new) (K.at output.new)) result
+        (run_from (deployed_as plan.now).names (setting_at W.mac (deployed_as plan.now) (W.sites world.old))
+        (switched_on (setting_at W.mac (deployed_as plan.now) (W.sites world.old))) 1) }
+{
+    let mut into = [0; 4096];
+    let mut items = Vec::new(alloc);
+    let mut text = Vec::new(alloc);
+    let mut number: u32 = 1;
+    'lines: loop {
+        match lines.next(input, &mut into) {
+            LineRead::End => return finish(output, b"end\n", 0),
+            LineRead::TooLong => return break_off(alloc, output, TOO_LONG, number),
+            LineRead::Failed => return finish(output, b"fault read\n", READ_FAILED),
+            LineRead::Text(n) => match turn(
+                alloc,
+                output,
+                world,
+                plan,
+                &mut items,
+                &mut text,
+                &into[..n],
+                number,
+            ) {
+                Turned::On => number += 1,
+                Turned::Stop(status) => return status,
+            },
+        }
+    }
+}
+
+/// The images' lines, `trace`, and the schedule, in a world where all was just switched on.
+pub(crate) fn run_built<S: Source, K: Sink, W: Acts>(
+    alloc: Global,
+    lines: &mut Lines,
+    input: &mut S,
+    output: &mut K,
+    plan: &Deployment,
+    images: &[Image],
+    world: &mut W,
+) -> u8
+    requires names { IsTrue (are_valid (deployed_as plan.now).names) }
+    requires new { W.lines world.old ≡ 0 }
+    requires sites { W.sites world.old ≡ sites_of (deployed_as plan.now).app.parts (deployed_as plan.now).layouts (deployed_as plan.now).providers
+        (map (λ i. i.text.items) images.now) }
+    requires shows { W.shows (setting_at W.mac (deployed_as plan.now) (W.sites world.old)) world.old
+        (switched_on (setting_at W.mac (deployed_as plan.now) (W.sites world.old))) }
+    ensures { Rest S.tells K.tells head_lines lines.old (moment (S.at input.old) (K.at output.old)) (moment (S.at input.new) (K.at output.new)) result
+        (run_found W.mac (map (λ i. i.text.items) images.now) (Ok (deployed_as plan.now))) }
+{
+    match put_images(alloc, &plan.names, images, output) {
+        Turned::Stop(status) => status,
+        Turned::On => run_lines(alloc, lines, input, output, plan, world),
+    }
+}
