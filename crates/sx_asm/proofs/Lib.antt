@@ -11,3 +11,4 @@ pub mod ShownTokens
 pub mod ShownOperands
 pub mod ShownAgain
 pub mod Listings
+pub mod Bytes

@@ -26,7 +26,7 @@ use Rattle.sx_asm.proofs.ShownAgain.{Lined, lined, word_lined, lined_again, all_
 
 -- Bytes and words.
 
-byte_at : (bytes : List ℕ) (k : ℕ) → AreBytes bytes → slice_index bytes k < 256
+pub byte_at : (bytes : List ℕ) (k : ℕ) → AreBytes bytes → slice_index bytes k < 256
 byte_at [] zero h = omega arith
 byte_at [] (suc k) h = omega arith
 byte_at (b ∷ bs) zero h = h.0
@@ -56,7 +56,7 @@ joined (suc n) (b ∷ bs) = ap (λ (t : List ℕ). b ∷ t) (joined n bs)
 two_bytes : (a b w : ℕ) (ws : List ℕ) → a < 256 → b < 256 → w ≡ a + 256 * b → bytes_of (w ∷ ws) ≡ a ∷ b ∷ bytes_of ws
 two_bytes a b w ws h k e =
     let x : w % 256 ≡ a = omega (arith, h, k, e) in
-    let y : w / 256 ≡ b = omega (arith, h, k, e) in
+    let y : w / 256 % 256 ≡ b = omega (arith, h, k, e) in
     rw (x, y) refl
 
 word_here : (bytes : List ℕ) (k : ℕ) → k + 2 ≤ length bytes → word_from bytes k ≡ slice_index bytes k + 256 * slice_index bytes (k + 1)

@@ -116,7 +116,7 @@ words_at labels at (Sancus code) = spelling (instr.Sancus code)
 -- words as bytes, the low byte first
 abbrev pub bytes_of : List ℕ → List ℕ
 bytes_of [] = []
-bytes_of (w ∷ ws) = w % 256 ∷ w / 256 ∷ bytes_of ws
+bytes_of (w ∷ ws) = w % 256 ∷ w / 256 % 256 ∷ bytes_of ws
 
 -- the bytes of entries that stand from an address on
 abbrev pub code_of : List Placed → ℕ → List Entry → List ℕ
