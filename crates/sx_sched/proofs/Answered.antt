@@ -1,37 +1,20 @@
 -- Answers of the code are those that are meant.
-use Rattle.std.proofs.Common.{◌≡◌, ℕ, zero, suc, ◌+◌, ◌*◌, ◌/◌, ◌%◌, ◌<◌, ◌≤◌, Bool, true, false, ◌&&◌, ◌==◌, nat_le, List, [], ◌∷◌, length, Result, Ok, Err, refl, sym, ap, subst, ◌∙◌, arith}
-use Rattle.std.specs.Prelude.{IfErr, IsOkAnd, is_ok, if◌then◌else◌}
+use Rattle.std.proofs.Common.{◌≡◌, ℕ, ◌/◌, ◌%◌, Bool, true, false, ◌&&◌, ◌==◌, nat_le, List, length, Result, Ok, Err, refl, sym, ap, subst, ◌∙◌, arith}
+use Rattle.std.specs.Prelude.{is_ok, if◌then◌else◌, IsTrue}
 use Rattle.std.specs.List.{list_all}
+use Rattle.std.specs.Str.{IsUtf8, is_utf8}
 use Rattle.std.proofs.lemmas.Bool.Decides.{nat_tests}
+use Rattle.std.proofs.lemmas.Str.{IsUtf8-from_is_utf8, is_utf8-from_IsUtf8}
 use Rattle.std.proofs.lemmas.List.Sums.{AllPass-from_list_all, list_all-from_AllPass}
 use Rattle.hex.specs.Hex.{decode_of, is_hex_digit}
 use Rattle.hex.specs.declared.error.FromHexError.{FromHexError}
-use Rattle.hex.proofs.HexLemmas.{decode_of-digits, decode_of-odd, decode_of-ok}
+use Rattle.hex.proofs.HexLemmas.{decode_of-digits, decode_of-ok}
+use Rattle.sx_asm.specs.declared.error.AsmError.{AsmError}
+use Rattle.sx_asm.specs.Assembled.{assembled}
 use Rattle.sx_sched.specs.HexText.{is_hex_text}
-use Rattle.sx_sched.specs.declared.lines.Line.{Line as Read}
 use Rattle.sx_sched.specs.declared.lines.LineError.{LineError}
 use Rattle.sx_sched.specs.declared.lines.LineError.TheVariants.{Fault, OutOfMemory}
-use Rattle.sx_sched.specs.Lines.{Line, line_of}
-use Rattle.sx_sched.specs.Reading.{IsFault, no_bytes, decoded, bytes_of, seen, TakesMemory, Answers, ◌>>=◌}
-
--- an answer that wants no memory
-pub plain_answers : (meant : Result Line LineError) (r : Result Read LineError) → seen r ≡ meant → IfErr r IsFault → Answers line_of TakesMemory meant r
-plain_answers meant (Ok line) e f = sym e
-plain_answers meant (Err (Fault rule)) e f = sym e
-plain_answers meant (Err OutOfMemory) e f = absurd f
-
--- a broken rule
-pub fault_answers : {T V : Type 0} (view : T → V) (Takes : V → Type 0) (meant : Result V LineError) (e : LineError)
-    → meant ≡ Err e → IsFault e → Answers view Takes meant (Err e)
-fault_answers view Takes meant (Fault rule) h f = h
-fault_answers view Takes meant OutOfMemory h f = absurd f
-
--- want of memory for bytes is want of memory for their line
-pub bytes_answer : {T : Type 0} (view : T → List ℕ) (said : Result (List ℕ) LineError) (make : List ℕ → Line) (e : LineError) → ((b : List ℕ) → TakesMemory (make b))
-    → Answers view (λ b. Unit {0}) said (Err e) → Answers line_of TakesMemory (said >>= (λ b. Ok (make b))) (Err e)
-bytes_answer view said make (Fault rule) takes h = ap (λ (r : Result (List ℕ) LineError). r >>= (λ b. Ok (make b))) h
-bytes_answer view (Ok b) make OutOfMemory takes h = takes b
-bytes_answer view (Err e) make OutOfMemory takes h = absurd h
+use Rattle.sx_sched.specs.Reading.{no_bytes, no_code, decoded, bytes_of, code_in, code_of, AreSaid, MayWant, Answers}
 
 one_way : (t : Bool) (b : List ℕ) → is_ok (if t then Ok b else Err no_bytes) ≡ t
 one_way true b = refl
@@ -73,13 +56,13 @@ decoded_only most (Ok b) h = by_test (nat_le 1 (length b) && nat_le (length b) m
 pub says_none : (most : ℕ) (word : List ℕ) → is_hex_text most word ≡ false → bytes_of most word ≡ Err no_bytes
 says_none most word h = decoded_only most (decode_of word) (sym (says_bytes most word) ∙ h)
 
-ok_and : (r : Result (List ℕ) LineError) → is_ok r ≡ true → IsOkAnd r (λ b. Unit {0})
-ok_and (Ok b) h = tt
-ok_and (Err e) h = absurd (cc)
+are_said : (r : Result (List ℕ) LineError) → is_ok r ≡ true → AreSaid r
+are_said (Ok b) h = tt
+are_said (Err e) h = absurd (cc)
 
 -- bytes are said, so memory for them may be wanted
-pub says_some : (most : ℕ) (word : List ℕ) → is_hex_text most word ≡ true → IsOkAnd (bytes_of most word) (λ b. Unit {0})
-says_some most word h = ok_and (bytes_of most word) (sym (says_bytes most word) ∙ h)
+pub says_some : (most : ℕ) (word : List ℕ) → is_hex_text most word ≡ true → AreSaid (bytes_of most word)
+says_some most word h = are_said (bytes_of most word) (sym (says_bytes most word) ∙ h)
 
 pub says_these : (most : ℕ) (word b : List ℕ) → is_hex_text most word ≡ true → decode_of word ≡ Ok b → bytes_of most word ≡ Ok b
 says_these most word b h e = by_test (nat_le 1 (length b) && nat_le (length b) most) refl
@@ -92,3 +75,39 @@ says_these most word b h e = by_test (nat_le 1 (length b) && nat_le (length b) m
     by_test false t =
         let no : bytes_of most word ≡ Err no_bytes = said ∙ rw t refl in
         absurd (let f : true ≡ false = sym h ∙ says_bytes most word ∙ ap (λ (r : Result (List ℕ) LineError). is_ok r) no in cc)
+
+-- What a text says.
+
+abbrev CodeWants : List ℕ → Result (List ℕ) LineError → Type 0
+CodeWants text = MayWant (λ (code : List ℕ). Unit {0}) text
+
+-- a text that is UTF-8 may want memory, whether it has code or not
+may_want : (text : List ℕ) (r : Result (List ℕ) AsmError) → IsTrue (is_utf8 text) → CodeWants text (code_in r)
+may_want text (Err e) u = (refl, u)
+may_want text (Ok code) u = by_test (nat_le 1 (length code) && nat_le (length code) 1024)
+  where
+    by_test : (t : Bool) → CodeWants text (if t then Ok code else Err no_code)
+    by_test true = tt
+    by_test false = (refl, u)
+
+wanted : {T : Type 0} (view : T → List ℕ) (text : List ℕ) (meant : Result (List ℕ) LineError) (r : Result T LineError)
+    → CodeWants text meant → Answers view (λ said. Unit {0}) meant r → Answers view (CodeWants text) meant r
+wanted view text meant (Ok x) w h = h
+wanted view text meant (Err (Fault rule)) w h = h
+wanted view text meant (Err OutOfMemory) w h = w
+
+-- what the assembler gives for a text that is UTF-8
+pub code_given : {T : Type 0} (view : T → List ℕ) (at : ℕ) (text : List ℕ) (r : Result T LineError) → IsUtf8 text
+    → Answers view (λ said. Unit {0}) (code_in (assembled at text)) r → Answers view (CodeWants text) (code_of at text) r
+code_given view at text r u h =
+    let e : is_utf8 text ≡ true = is_utf8-from_IsUtf8 text u in
+    let same : code_in (assembled at text) ≡ code_of at text = rw e refl in
+    subst (λ (meant : Result (List ℕ) LineError). Answers view (CodeWants text) meant r) same
+    (wanted view text (code_in (assembled at text)) r (may_want text (assembled at text) e) h)
+
+pub no_text : (at : ℕ) (text : List ℕ) → (IsUtf8 text → ⊥) → code_of at text ≡ Err no_code
+no_text at text n = by_test (is_utf8 text) refl
+  where
+    by_test : (t : Bool) → is_utf8 text ≡ t → code_of at text ≡ Err no_code
+    by_test false e = rw e refl
+    by_test true e = absurd (n (IsUtf8-from_is_utf8 text e))

@@ -1,21 +1,24 @@
 -- What is said is in form.
-use Rattle.std.proofs.Common.{◌≡◌, ◌≢◌, ℕ, zero, suc, ◌+◌, ◌^◌, ◌<◌, ◌≤◌, Bool, true, false, ◌&&◌, ◌==◌, not, nat_le, nat_lt, List, [], ◌∷◌, length, Option, Some, None, Result, Ok, Err, refl, sym, ap, subst, ◌∙◌, arith}
+use Rattle.std.proofs.Common.{◌≡◌, ◌≢◌, ℕ, ◌<◌, ◌≤◌, Bool, true, false, ◌&&◌, ◌==◌, not, nat_le, nat_lt, List, [], ◌∷◌, length, Option, Some, None, Result, Ok, Err, refl, subst, arith}
 use Rattle.std.specs.Prelude.{IfOk, if◌then◌else◌, option_and_then, slice_get, unwrap_or, ok_or}
 use Rattle.std.specs.List.{list_all}
-use Rattle.std.specs.Str.{bytes_eq}
+use Rattle.std.specs.Str.{bytes_eq, is_utf8}
 use Rattle.std.proofs.lemmas.Bool.Decides.{nat_tests}
 use Rattle.std.proofs.lemmas.List.Quantifiers.{position-Some}
 use Rattle.hex.specs.Hex.{decode_of}
 use Rattle.hex.specs.declared.error.FromHexError.{FromHexError}
 use Rattle.hex.proofs.HexLemmas.{decode_of-ok}
+use Rattle.sx_asm.specs.declared.error.AsmError.{AsmError}
+use Rattle.sx_asm.specs.Assembled.{assembled}
+use Rattle.sx_asm.proofs.Bytes.{assembled_bytes}
+use Rattle.sx_asm.proofs.Listings.{byte_at}
 use Rattle.sx_io.specs.Numbers.{number_of, written_number, up_to}
 use Rattle.sx_trace.specs.Names.{NameLists, place_of, if_sensor, sensor_place}
 use Rattle.sx_sched.specs.declared.lines.Line.{Line as Read}
 use Rattle.sx_sched.specs.declared.lines.LineError.{LineError}
-use Rattle.sx_sched.specs.declared.lines.LineError.TheVariants.{Fault, OutOfMemory}
 use Rattle.sx_sched.specs.Lines.{Line, Blank, Run, Finish, Put, Set, Take, Give, Forge, Sense, Irq, Reset, Ask, Answer, Load, Call, line_of, AreBytes, IsLine}
-use Rattle.sx_sched.specs.Reading.{no_name, no_number, no_bytes, node_of, sensor_of, module_of, registers, register_in, register_of, at_least, number_in, number16, number32, decoded, bytes_of, one_word, two_words, three_words, four_words, one, two, three, four, Kind, plain_kinds, kinds, said_by, is_comment, said_in, said, SaidInForm, TakesMemory, Answers, ◌>>=◌}
-use Rattle.sx_sched.specs.Words.{words_of}
+use Rattle.sx_sched.specs.Reading.{no_name, no_number, no_bytes, no_code, node_of, sensor_of, module_of, registers, register_in, register_of, at_least, number_in, number16, number32, decoded, bytes_of, code_in, code_of, one_word, two_words, three_words, four_words, two_before, one, two, three, four, code_line, Kind, kinds, said_by, is_comment, said_in, said, SaidInForm, MayWant, TakesMemory, Answers, ◌>>=◌}
+use Rattle.sx_sched.specs.Words.{words_of, text_behind}
 
 bind_ok : {A B : Type 0} (r : Result A LineError) (g : A → Result B LineError) (y : B) → (r >>= g) ≡ Ok y → (x : A) × (r ≡ Ok x) × (g x ≡ Ok y)
 bind_ok (Ok x) g y h = (x, refl, h)
@@ -133,6 +136,32 @@ bytes_fit most w b h = by_result (decode_of w) refl h
     by_result (Err x) e f = absurd (cc)
     by_result (Ok b') e f = by_test b' (nat_le 1 (length b') && nat_le (length b') most) e refl f
 
+-- What a text says.
+
+assembled_fit : (at : ℕ) (text b : List ℕ) → code_in (assembled at text) ≡ Ok b → AreBytes 1024 b
+assembled_fit at text b h = by_result (assembled at text) refl h
+  where
+    by_test : (b' : List ℕ) (t : Bool) → assembled at text ≡ Ok b' → (nat_le 1 (length b') && nat_le (length b') 1024) ≡ t
+        → ◌≡◌ {A = Result (List ℕ) LineError} (if t then Ok b' else Err no_code) (Ok b) → AreBytes 1024 b
+    by_test b' true e t f =
+        let both = and_true (nat_le 1 (length b')) (nat_le (length b') 1024) t in
+        let one_or_more : 1 ≤ length b' = let x = both.0 in grind (arith, nat_tests, x) in
+        let few : length b' ≤ 1024 = let x = both.1 in grind (arith, nat_tests, x) in
+        let same : b' ≡ b = cc in
+        subst (AreBytes 1024) same (one_or_more, few, λ i. byte_at b' i (assembled_bytes at text b' e))
+    by_test b' false e t f = absurd (cc)
+
+    by_result : (r : Result (List ℕ) AsmError) → assembled at text ≡ r → code_in r ≡ Ok b → AreBytes 1024 b
+    by_result (Err x) e f = absurd (cc)
+    by_result (Ok b') e f = by_test b' (nat_le 1 (length b') && nat_le (length b') 1024) e refl f
+
+code_fits : (at : ℕ) (text b : List ℕ) → code_of at text ≡ Ok b → AreBytes 1024 b
+code_fits at text b h = by_test (is_utf8 text) h
+  where
+    by_test : (t : Bool) → (if t then code_in (assembled at text) else Err no_code) ≡ Ok b → AreBytes 1024 b
+    by_test true f = assembled_fit at text b f
+    by_test false f = absurd (cc)
+
 -- What kinds of line say.
 
 abbrev KindFits : NameLists → (List (List ℕ) → Result Line LineError) → Type 0
@@ -180,12 +209,22 @@ call_fits n fields line e =
     let output = (number_fits 0 65535 w.0.3 d.0 d.1).1 in
     this_line n (Call a.0 b.0 c.0 d.0) line d.2 (place_fits n.modules w.0.0 a.0 a.1, omega (arith, entry), omega (arith, input), omega (arith, output))
 
+code_line_fits : (n : NameLists) (text : List ℕ) → KindFits n (code_line n text)
+code_line_fits n text fields line e =
+    let w = bind_ok (two_before fields) (λ (word : List ℕ × List ℕ).
+    node_of n word.0 >>= (λ (a : ℕ). number16 word.1 >>= (λ (b : ℕ). code_of b text >>= (λ (c : List ℕ). Ok (Put a b c))))) line e in
+    let a = bind_ok (node_of n w.0.0) (λ (a : ℕ). number16 w.0.1 >>= (λ (b : ℕ). code_of b text >>= (λ (c : List ℕ). Ok (Put a b c)))) line w.2 in
+    let b = bind_ok (number16 w.0.1) (λ (b : ℕ). code_of b text >>= (λ (c : List ℕ). Ok (Put a.0 b c))) line a.2 in
+    let c = bind_ok (code_of b.0 text) (λ (c : List ℕ). Ok (Put a.0 b.0 c)) line b.2 in
+    let at = (number_fits 0 65535 w.0.1 b.0 b.1).1 in
+    this_line n (Put a.0 b.0 c.0) line c.2 (place_fits n.nodes w.0.0 a.0 a.1, omega (arith, at), code_fits b.0 text c.0 c.1)
+
 abbrev AreKindsFit : NameLists → List Kind → Type 0
 AreKindsFit n [] = Unit {0}
 AreKindsFit n (kind ∷ more) = KindFits n kind.1 × AreKindsFit n more
 
-kinds_fit : (n : NameLists) → AreKindsFit n (kinds n)
-kinds_fit n = (put, (forge, (run, (finish, (set_register, (take_bytes, (give, (sense, (irq, (reset, (ask, (answer, (load, (call_fits n, tt))))))))))))))
+kinds_fit : (n : NameLists) (text : List ℕ) → AreKindsFit n (kinds n text)
+kinds_fit n text = (put, (forge, (code_line_fits n text, (run, (finish, (set_register, (take_bytes, (give, (sense, (irq, (reset, (ask, (answer, (load, (call_fits n, tt)))))))))))))))
   where
     put : KindFits n (three (node_of n) number16 (bytes_of 1024) Put)
     put = three_fits n (node_of n) number16 (bytes_of 1024) Put (λ i. i < length n.nodes) (IsBetween 0 65535) (AreBytes 1024)
@@ -241,17 +280,18 @@ said_fits n [] first fields line fit h = absurd (cc)
 said_fits n (kind ∷ more) first fields line fit h =
     either (bytes_eq first kind.0) (kind.1 fields) (said_by more first fields) line (fit.0 fields line) (said_fits n more first fields line fit.1) h
 
-in_words : (n : NameLists) (words : List (List ℕ)) (line : Line) → said_in n words ≡ Ok line → IsLine n line
-in_words n [] line h = this_line n Blank line h tt
-in_words n (first ∷ fields) line h =
-    either (is_comment first) (Ok Blank) (said_by (kinds n) first fields) line (λ e. this_line n Blank line e tt) (said_fits n (kinds n) first fields line (kinds_fit n)) h
+in_words : (n : NameLists) (text : List ℕ) (words : List (List ℕ)) (line : Line) → said_in n text words ≡ Ok line → IsLine n line
+in_words n text [] line h = this_line n Blank line h tt
+in_words n text (first ∷ fields) line h =
+    either (is_comment first) (Ok Blank) (said_by (kinds n text) first fields) line (λ e. this_line n Blank line e tt)
+    (said_fits n (kinds n text) first fields line (kinds_fit n text)) h
 
 pub said_in_form : SaidInForm
 unfolding said
-said_in_form n text line h = in_words n (words_of text) line h
+said_in_form n text line h = in_words n (text_behind 3 text) (words_of text) line h
 
 -- a line that is the answer is in form
-pub answered_in_form : (n : NameLists) (first : List ℕ) (fields : List (List ℕ)) (r : Result Read LineError)
-    → Answers line_of TakesMemory (said_by (kinds n) first fields) r → IfOk r (λ line. IsLine n (line_of line))
-answered_in_form n first fields (Ok line) h = said_fits n (kinds n) first fields (line_of line) (kinds_fit n) h
-answered_in_form n first fields (Err e) h = tt
+pub answered_in_form : (n : NameLists) (text first : List ℕ) (fields : List (List ℕ)) (r : Result Read LineError)
+    → Answers line_of (MayWant TakesMemory text) (said_by (kinds n text) first fields) r → IfOk r (λ line. IsLine n (line_of line))
+answered_in_form n text first fields (Ok line) h = said_fits n (kinds n text) first fields (line_of line) (kinds_fit n text) h
+answered_in_form n text first fields (Err e) h = tt

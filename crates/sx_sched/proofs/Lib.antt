@@ -1,3 +1,4 @@
 pub mod Answered
 pub mod Blanks
 pub mod Form
+pub mod Texts

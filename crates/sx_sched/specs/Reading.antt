@@ -1,19 +1,21 @@
 -- What a text says as a line of a schedule: a line, or the first rule that it breaks.
-use Rattle.std.specs.Prelude.{◌≡◌, ℕ, ◌==◌, nat_le, Bool, false, ◌&&◌, if◌then◌else◌, List, [], ◌∷◌, length, codes, Option, Some, None, Result, Ok, Err, IsOkAnd, ok_or}
+use Rattle.std.specs.Prelude.{◌≡◌, ℕ, ◌==◌, nat_le, Bool, false, ◌&&◌, if◌then◌else◌, List, [], ◌∷◌, length, codes, Option, Some, None, Result, Ok, Err, IsTrue, ok_or}
 use Rattle.std.specs.Borrow.{Bor}
-use Rattle.std.specs.Str.{bytes_eq}
+use Rattle.std.specs.Str.{bytes_eq, is_utf8}
 use Rattle.hex.specs.Hex.{decode_of}
 use Rattle.hex.specs.declared.error.FromHexError.{FromHexError}
+use Rattle.sx_asm.specs.declared.error.AsmError.{AsmError}
+use Rattle.sx_asm.specs.Assembled.{assembled}
 use Rattle.sx_io.specs.Numbers.{number_of}
 use Rattle.sx_trace.specs.Names.{NameLists, place_of, sensor_place}
 use Rattle.sx_sched.specs.declared.lines.Line.{Line as Read}
 use Rattle.sx_sched.specs.declared.lines.LineError.{LineError}
 use Rattle.sx_sched.specs.declared.lines.LineError.TheVariants.{Fault, OutOfMemory}
 use Rattle.sx_sched.specs.Lines.{line_of, IsLine, Line, Blank, Run, Finish, Put, Set, Take, Give, Forge, Sense, Irq, Reset, Ask, Answer, Load, Call}
-use Rattle.sx_sched.specs.Words.{words_of}
+use Rattle.sx_sched.specs.Words.{words_of, text_behind}
 
 -- the rules that a line may break: an unknown first word, an unknown name, no number or one that is out of range,
--- no hexadecimal text of as many bytes as are allowed, a wrong number of words
+-- no hexadecimal text of as many bytes as are allowed, a wrong number of words, no code of 1 to 1,024 bytes
 abbrev pub no_kind : LineError
 no_kind = Fault 3
 
@@ -28,6 +30,9 @@ no_bytes = Fault 6
 
 abbrev pub wrong_count : LineError
 wrong_count = Fault 7
+
+abbrev pub no_code : LineError
+no_code = Fault 8
 
 -- a broken rule, and no want of memory
 abbrev pub IsFault : LineError → Type 0
@@ -98,6 +103,17 @@ decoded most (Ok bytes) = if nat_le 1 (length bytes) && nat_le (length bytes) mo
 abbrev pub bytes_of : ℕ → List ℕ → Result (List ℕ) LineError
 bytes_of most word = decoded most (decode_of word)
 
+-- What a text says.
+
+-- 1 to 1,024 of the bytes that were assembled
+abbrev pub code_in : Result (List ℕ) AsmError → Result (List ℕ) LineError
+code_in (Err e) = Err no_code
+code_in (Ok code) = if nat_le 1 (length code) && nat_le (length code) 1024 then Ok code else Err no_code
+
+-- the code at an address of a text, which is UTF-8
+abbrev pub code_of : ℕ → List ℕ → Result (List ℕ) LineError
+code_of at text = if is_utf8 text then code_in (assembled at text) else Err no_code
+
 -- So many words, and what they say in order.
 
 abbrev pub no_word : List (List ℕ) → Result (Unit {0}) LineError
@@ -119,6 +135,21 @@ three_words (a ∷ rest) = two_words rest >>= (λ w. Ok (a, w.0, w.1))
 abbrev pub four_words : List (List ℕ) → Result (List ℕ × List ℕ × List ℕ × List ℕ) LineError
 four_words [] = Err wrong_count
 four_words (a ∷ rest) = three_words rest >>= (λ w. Ok (a, w.0, w.1, w.2))
+
+-- some words
+abbrev pub some_word : List (List ℕ) → Result (Unit {0}) LineError
+some_word [] = Err wrong_count
+some_word (a ∷ rest) = Ok tt
+
+-- one word before others
+abbrev pub one_before : List (List ℕ) → Result (List ℕ) LineError
+one_before [] = Err wrong_count
+one_before (a ∷ rest) = some_word rest >>= (λ some. Ok a)
+
+-- two words before others
+abbrev pub two_before : List (List ℕ) → Result (List ℕ × List ℕ) LineError
+two_before [] = Err wrong_count
+two_before (a ∷ rest) = one_before rest >>= (λ b. Ok (a, b))
 
 abbrev pub one : {A : Type 0} → (List ℕ → Result A LineError) → (A → Line) → List (List ℕ) → Result Line LineError
 one f make fields = do
@@ -153,7 +184,17 @@ four f g h i make fields = do
   d ← i word.3
   Ok (make a b c d)
 
--- The kinds of line: the first word, and what the words behind it say.
+-- assembled code is put: a node, its address there, and the text, of a word or more
+abbrev pub code_line : NameLists → List ℕ → List (List ℕ) → Result Line LineError
+code_line n text fields = do
+  word ← two_before fields
+  node ← node_of n word.0
+  at ← number16 word.1
+  code ← code_of at text
+  Ok (Put node at code)
+
+-- The kinds of line: the first word, and what the words behind it say. A kind may take the text behind the third word
+-- as it stands.
 
 abbrev pub Kind : Type 0
 Kind = List ℕ × (List (List ℕ) → Result Line LineError)
@@ -174,10 +215,11 @@ plain_kinds n =
     ∷ (codes "call", four (module_of n) number16 number16 number16 Call)
     ∷ []
 
-abbrev pub kinds : NameLists → List Kind
-kinds n =
+abbrev pub kinds : NameLists → List ℕ → List Kind
+kinds n text =
     (codes "put", three (node_of n) number16 (bytes_of 1024) Put)
     ∷ (codes "forge", one (bytes_of 384) Forge)
+    ∷ (codes "asm", code_line n text)
     ∷ plain_kinds n
 
 -- what the kind of this first word says of the words behind it
@@ -191,13 +233,13 @@ is_comment [] = false
 is_comment (c ∷ cs) = c == 35
 
 -- what words say; none say nothing, as a comment does
-abbrev pub said_in : NameLists → List (List ℕ) → Result Line LineError
-said_in n [] = Ok Blank
-said_in n (first ∷ fields) = if is_comment first then Ok Blank else said_by (kinds n) first fields
+abbrev pub said_in : NameLists → List ℕ → List (List ℕ) → Result Line LineError
+said_in n text [] = Ok Blank
+said_in n text (first ∷ fields) = if is_comment first then Ok Blank else said_by (kinds n text) first fields
 
 -- what a text says: one line, or one broken rule
 unfoldable pub said : NameLists → List ℕ → Result Line LineError
-said n text = said_in n (words_of text)
+said n text = said_in n (text_behind 3 text) (words_of text)
 
 -- what is said is in form
 abbrev pub SaidInForm : Type 0
@@ -226,8 +268,20 @@ TakesMemory (Answer m boot packet) = ⊥
 TakesMemory (Load m) = ⊥
 TakesMemory (Call m entry input output) = ⊥
 
--- the answer is the one that is meant; memory may run out only for a value that takes some
-abbrev pub Answers : {T V : Type 0} → (T → V) → (V → Type 0) → Result V LineError → Result T LineError → Type 0
-Answers view Takes meant (Ok x) = meant ≡ Ok (view x)
-Answers view Takes meant (Err (Fault rule)) = meant ≡ Err (Fault rule)
-Answers view Takes meant (Err OutOfMemory) = IsOkAnd meant Takes
+-- bytes are said, for which memory may be wanted
+abbrev pub AreSaid : Result (List ℕ) LineError → Type 0
+AreSaid (Ok bytes) = Unit {0}
+AreSaid (Err e) = ⊥
+
+-- Memory may be wanted for a value that takes some, and to find whether a text that is UTF-8 breaks rule 8. It never hides
+-- another broken rule.
+abbrev pub MayWant : {V : Type 0} → (V → Type 0) → List ℕ → Result V LineError → Type 0
+MayWant Takes text (Ok x) = Takes x
+MayWant Takes text (Err (Fault rule)) = (rule ≡ 8) × IsTrue (is_utf8 text)
+MayWant Takes text (Err OutOfMemory) = ⊥
+
+-- the answer is the one that is meant; memory may run out only where some may be wanted
+abbrev pub Answers : {T V : Type 0} → (T → V) → (Result V LineError → Type 0) → Result V LineError → Result T LineError → Type 0
+Answers view Wants meant (Ok x) = meant ≡ Ok (view x)
+Answers view Wants meant (Err (Fault rule)) = meant ≡ Err (Fault rule)
+Answers view Wants meant (Err OutOfMemory) = Wants meant

@@ -1,5 +1,5 @@
--- The words of a schedule's line.
-use Rattle.std.specs.Prelude.{ℕ, ◌==◌, Bool, ◌||◌, if◌then◌else◌, List, [], ◌∷◌, ◌++◌}
+-- The words of a schedule's line, and the text behind some of them.
+use Rattle.std.specs.Prelude.{ℕ, zero, suc, ◌==◌, Bool, ◌||◌, if◌then◌else◌, List, [], ◌∷◌, ◌++◌}
 
 -- spaces and tabs part words
 abbrev pub is_blank : ℕ → Bool
@@ -18,3 +18,18 @@ words_behind begun (b ∷ bs) = if is_blank b then closed begun (words_behind []
 -- the longest runs of bytes that aren't blanks, in order
 unfoldable pub words_of : List ℕ → List (List ℕ)
 words_of text = words_behind [] text
+
+-- a text behind the blanks that it begins with
+abbrev pub past_blanks : List ℕ → List ℕ
+past_blanks [] = []
+past_blanks (b ∷ bs) = if is_blank b then past_blanks bs else b ∷ bs
+
+-- a text behind the word that it begins with
+abbrev pub past_word : List ℕ → List ℕ
+past_word [] = []
+past_word (b ∷ bs) = if is_blank b then b ∷ bs else past_word bs
+
+-- The text behind so many words and the blanks that follow them. Blanks within it and at its end are its own.
+abbrev pub text_behind : ℕ → List ℕ → List ℕ
+text_behind zero text = past_blanks text
+text_behind (suc k) text = text_behind k (past_word (past_blanks text))

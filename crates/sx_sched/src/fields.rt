@@ -1,15 +1,18 @@
-//! What one word of a line says.
+//! What one word of a line says, and what a text does.
 
 ghost use Rattle.std.specs.Prelude.{◌≡◌, ◌≤◌, ◌<◌, ◌^◌, ℕ, List, map, nat_le, ◌&&◌, Ok, Err, Some, None, IsTrue, IfOk, IfErr};
 ghost use Rattle.std.specs.List.{list_all};
 ghost use Rattle.hex.specs.Hex.{is_hex_digit};
 ghost use Rattle.sx_sched.specs.HexText.{is_hex_text};
 ghost use Rattle.sx_trace.specs.Names.{are_valid};
-ghost use Rattle.sx_sched.specs.Reading.{IsFault, node_of, sensor_of, module_of, entry_of, register_in, register_of, number_in, number16, number32, bytes_of, Answers};
+ghost use Rattle.sx_sched.specs.Reading.{IsFault, node_of, sensor_of, module_of, entry_of, register_in, register_of, number_in, number16, number32, bytes_of, code_in, code_of, AreSaid, MayWant, Answers};
+ghost use Rattle.sx_asm.specs.Assembled.{assembled};
 
-use crate::lines::{LineError, NO_BYTES, NO_NAME, NO_NUMBER};
+use crate::lines::{LineError, NO_BYTES, NO_CODE, NO_NAME, NO_NUMBER};
 use hex::FromHexError;
 use std::alloc::Global;
+use std::str;
+use sx_asm::{AsmError, assemble};
 use sx_io::number;
 use sx_trace::names::Names;
 
@@ -139,7 +142,7 @@ fn are_bytes(most: usize, word: &[u8]) -> bool
 
 /// The bytes that a hexadecimal text writes, 1 to so many. No memory is asked for where it is none.
 pub fn bytes_of(alloc: Global, most: usize, word: &[u8]) -> Result<Vec<u8>, LineError>
-    ensures { Answers (λ v. v.items) (λ bytes. Unit {0}) (bytes_of most word.now) result }
+    ensures { Answers (λ v. v.items) AreSaid (bytes_of most word.now) result }
 {
     if !are_bytes(most, word) {
         return Err(NO_BYTES);
@@ -150,4 +153,25 @@ pub fn bytes_of(alloc: Global, most: usize, word: &[u8]) -> Result<Vec<u8>, Line
         Err(_) => return Err(NO_BYTES),
     };
     Ok(bytes)
+}
+
+/// What the assembler gives for a text at an address, 1 to 1,024 bytes.
+fn code_in(alloc: Global, at: u16, text: &str) -> Result<Vec<u8>, LineError>
+    ensures { Answers (λ v. v.items) (λ said. Unit {0}) (code_in (assembled at text.now)) result }
+{
+    match assemble(alloc, at, text) {
+        Ok(code) if is_between(1, 1024, code.len()) => Ok(code),
+        Err(AsmError::OutOfMemory) => Err(LineError::OutOfMemory),
+        _ => Err(NO_CODE),
+    }
+}
+
+/// The code of a text at an address, 1 to 1,024 bytes. No memory is asked for where the text isn't UTF-8.
+pub fn code_of(alloc: Global, at: u16, text: &[u8]) -> Result<Vec<u8>, LineError>
+    ensures { Answers (λ v. v.items) (MayWant (λ code. Unit {0}) text.now) (code_of at text.now) result }
+{
+    match str::from_utf8(text) {
+        Ok(text) => code_in(alloc, at, text),
+        Err(_) => Err(NO_CODE),
+    }
 }

@@ -85,9 +85,11 @@ pub enum Line {
 pub enum LineError {
     /// The number of the first rule that the text breaks: 3, its first word is unknown; 7, its number
     /// of words is wrong; and then field by field 4, a name or register is unknown; 5, a number is none
-    /// or out of range; 6, a word isn't the hexadecimal text of as many bytes as are allowed.
+    /// or out of range; 6, a word isn't the hexadecimal text of as many bytes as are allowed; and last 8,
+    /// a text isn't assembled to 1 to 1,024 bytes.
     Fault(u8),
-    /// There was no memory for the bytes of a `put` or `forge` that breaks no rule.
+    /// There was no memory for the bytes of a `put` or `forge` that breaks no rule, or to assemble the
+    /// text of an `asm` that breaks none but perhaps rule 8.
     OutOfMemory,
 }
 
@@ -101,3 +103,5 @@ pub(crate) const NO_NUMBER: LineError = LineError::Fault(5);
 pub(crate) const NO_BYTES: LineError = LineError::Fault(6);
 /// The number of words is wrong.
 pub(crate) const WRONG_COUNT: LineError = LineError::Fault(7);
+/// A text isn't assembled to 1 to 1,024 bytes.
+pub(crate) const NO_CODE: LineError = LineError::Fault(8);

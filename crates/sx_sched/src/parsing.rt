@@ -2,15 +2,15 @@
 
 ghost use Rattle.std.specs.Prelude.{◌≡◌, IfOk, IfErr, IsTrue};
 ghost use Rattle.sx_trace.specs.Names.{are_valid};
-ghost use Rattle.sx_sched.specs.Words.{words_of};
+ghost use Rattle.sx_sched.specs.Words.{words_of, text_behind};
 ghost use Rattle.sx_sched.specs.Lines.{line_of, IsLine, Run, Finish, Put, Set, Take, Give, Forge, Sense, Irq, Reset, Ask, Answer, Load, Call};
-ghost use Rattle.sx_sched.specs.Reading.{IsFault, node_of, sensor_of, module_of, register_of, number_in, number16, number32, bytes_of, one, two, three, four, plain_kinds, kinds, said_by, is_comment, said, seen, TakesMemory, Answers};
+ghost use Rattle.sx_sched.specs.Reading.{IsFault, node_of, sensor_of, module_of, register_of, number_in, number16, number32, bytes_of, one, two, three, four, code_line, plain_kinds, kinds, said_by, is_comment, said, seen, TakesMemory, MayWant, Answers};
 
 use crate::fields::{
-    bytes_of, module_of, node_of, number_in, number16, number32, register_of, sensor_of,
+    bytes_of, code_of, module_of, node_of, number_in, number16, number32, register_of, sensor_of,
 };
 use crate::lines::{Line, LineError, NO_KIND};
-use crate::words::{four_words, one_word, split_word, three_words, two_words};
+use crate::words::{four_words, one_word, split_word, three_words, two_before, two_words};
 use std::alloc::Global;
 use sx_trace::names::Names;
 
@@ -217,7 +217,8 @@ fn plain_line(names: &Names, first: &[u8], fields: &[u8]) -> Result<Line, LineEr
 
 fn put_line(alloc: Global, names: &Names, fields: &[u8]) -> Result<Line, LineError>
     requires { IsTrue (are_valid names.now) }
-    ensures { Answers line_of TakesMemory (three (node_of names.now) number16 (bytes_of 1024) Put (words_of fields.now)) result }
+    ensures { Answers line_of (MayWant TakesMemory (text_behind 2 fields.now))
+        (three (node_of names.now) number16 (bytes_of 1024) Put (words_of fields.now)) result }
 {
     let (name, at, text) = three_words(fields)?;
     let node = node_of(names, name)?;
@@ -227,24 +228,42 @@ fn put_line(alloc: Global, names: &Names, fields: &[u8]) -> Result<Line, LineErr
 }
 
 fn forge_line(alloc: Global, fields: &[u8]) -> Result<Line, LineError>
-    ensures { Answers line_of TakesMemory (one (bytes_of 384) Forge (words_of fields.now)) result }
+    ensures { Answers line_of (MayWant TakesMemory (text_behind 2 fields.now))
+        (one (bytes_of 384) Forge (words_of fields.now)) result }
 {
     let text = one_word(fields)?;
     let bytes = bytes_of(alloc, 384, text)?;
     Ok(Line::Forge { bytes })
 }
 
+/// Assembled code is put where it stands.
+fn code_line(alloc: Global, names: &Names, fields: &[u8]) -> Result<Line, LineError>
+    requires { IsTrue (are_valid names.now) }
+    ensures { Answers line_of (MayWant TakesMemory (text_behind 2 fields.now))
+        (code_line names.now (text_behind 2 fields.now) (words_of fields.now)) result }
+{
+    let (name, at, text) = two_before(fields)?;
+    let node = node_of(names, name)?;
+    let at = number16(at)?;
+    let bytes = code_of(alloc, at, text)?;
+    Ok(Line::Put { node, at, bytes })
+}
+
 /// A line of the kind of its first word.
 #[tactic(auto)]
 fn kind_line(alloc: Global, names: &Names, first: &[u8], fields: &[u8]) -> Result<Line, LineError>
     requires { IsTrue (are_valid names.now) }
-    ensures { Answers line_of TakesMemory (said_by (kinds names.now) first.now (words_of fields.now)) result }
+    ensures { Answers line_of (MayWant TakesMemory (text_behind 2 fields.now))
+        (said_by (kinds names.now (text_behind 2 fields.now)) first.now (words_of fields.now)) result }
 {
     if first == b"put".as_slice() {
         return put_line(alloc, names, fields);
     }
     if first == b"forge".as_slice() {
         return forge_line(alloc, fields);
+    }
+    if first == b"asm".as_slice() {
+        return code_line(alloc, names, fields);
     }
     plain_line(names, first, fields)
 }
@@ -258,13 +277,16 @@ fn is_comment(word: &[u8]) -> bool
     }
 }
 
-/// The line that a text says. `Fault` has the number of the first rule that the text breaks: 3, 7, and
-/// then word by word 4, 5 or 6. `OutOfMemory` comes only of a `put` or a `forge` that breaks none. The
-/// line is in form for the names.
+/// The line that a text says. An `asm` says the `put` of its code: what is assembled is all that stands
+/// behind the address and the blanks that follow it. `Fault` has the number of the first rule that the
+/// text breaks: 3, 7, then word by word 4, 5 or 6, and last 8. `OutOfMemory` comes only of a `put` or a
+/// `forge` that breaks none, and of an `asm` that breaks none before rule 8 and whose text is UTF-8:
+/// whether it breaks rule 8 isn't known then. The line is in form for the names.
 #[tactic(auto, unfolding(crate::specs::Reading::said))]
 pub fn parse_line(alloc: Global, names: &Names, text: &[u8]) -> Result<Line, LineError>
     requires { IsTrue (are_valid names.now) }
-    ensures answer { Answers line_of TakesMemory (said names.now text.now) result }
+    ensures answer { Answers line_of (MayWant TakesMemory (text_behind 3 text.now))
+        (said names.now text.now) result }
     ensures in_form { IfOk result (λ line. IsLine names.now (line_of line)) }
 {
     let Some((first, fields)) = split_word(text) else {

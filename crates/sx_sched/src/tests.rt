@@ -217,10 +217,46 @@ fn lines_with_bytes(rt: HostRuntime) -> Result<(), Fail> {
 }
 
 #[test]
+fn lines_with_code(rt: HostRuntime) -> Result<(), Fail> {
+    let alloc = rt.alloc();
+    let names = lighting(alloc)?;
+    if names.valid() {
+        match parse_line(alloc, &names, b"asm a 0x800 mov @r5, r6")? {
+            Line::Put { node, at, bytes } => {
+                assert_eq!(rt; node, 0);
+                assert_eq!(rt; at, 0x800);
+                assert_eq!(rt; bytes.as_slice(), [0x26, 0x45].as_slice());
+            }
+            _ => assert!(rt; false),
+        }
+        match parse_line(
+            alloc,
+            &names,
+            b"\tasm  b 0x4000 \there: jmp here; reti // # ",
+        )? {
+            Line::Put { node, at, bytes } => {
+                assert_eq!(rt; node, 1);
+                assert_eq!(rt; at, 0x4000);
+                assert_eq!(rt; bytes.as_slice(), [0xff, 0x3f, 0x00, 0x13].as_slice());
+            }
+            _ => assert!(rt; false),
+        }
+        match parse_line(alloc, &names, b"asm a 0x800 br: mov 0x900, pc")? {
+            // the distance from the word at 0x802
+            Line::Put { bytes, .. } => {
+                assert_eq!(rt; bytes.as_slice(), [0x10, 0x40, 0xfe, 0x00].as_slice());
+            }
+            _ => assert!(rt; false),
+        }
+    }
+    Ok(())
+}
+
+#[test]
 fn broken_rules(rt: HostRuntime) -> Result<(), Fail> {
     let alloc = rt.alloc();
     let names = lighting(alloc)?;
-    let lines: [(&[u8], u8); 24] = [
+    let lines: [(&[u8], u8); 34] = [
         (b"walk a", 3),
         (b"Run a 1", 3),
         (b"run", 7),
@@ -245,6 +281,16 @@ fn broken_rules(rt: HostRuntime) -> Result<(), Fail> {
         (b"put a 0 0", 6),
         (b"put a 0 0g", 6),
         (b"forge 0x00", 6),
+        (b"asm", 7),
+        (b"asm c x", 7),
+        (b"asm a 0x800 \t", 7),
+        (b"asm c x mov r5", 4),
+        (b"asm a 65536 mov r5", 5),
+        (b"asm a 0x800 mov r5", 8),
+        (b"asm a 0x800 // x", 8),
+        (b"asm a 0x801 reti", 8),
+        (b"asm a 0x800 jmp 0", 8),
+        (b"asm a 0x800 reti // \xff", 8),
     ];
     for (text, rule) in lines {
         breaks(&rt, alloc, &names, text, rule);
@@ -266,5 +312,25 @@ fn too_many_bytes(rt: HostRuntime) -> Result<(), Fail> {
     }
     text.extend_from_slice(b"00")?;
     breaks(&rt, alloc, &names, &text, 6);
+    Ok(())
+}
+
+#[test]
+fn too_much_code(rt: HostRuntime) -> Result<(), Fail> {
+    let alloc = rt.alloc();
+    let names = lighting(alloc)?;
+    let mut text = Vec::new(alloc);
+    text.extend_from_slice(b"asm a 0 .word 0")?;
+    for _ in 0..511 {
+        text.extend_from_slice(b",1")?;
+    }
+    if names.valid() {
+        match parse_line(alloc, &names, &text)? {
+            Line::Put { bytes, .. } => assert_eq!(rt; bytes.len(), 1024),
+            _ => assert!(rt; false),
+        }
+    }
+    text.extend_from_slice(b",2")?;
+    breaks(&rt, alloc, &names, &text, 8);
     Ok(())
 }

@@ -1,8 +1,9 @@
-//! The words of a schedule line: the longest runs of bytes other than spaces and tabs.
+//! The words of a schedule line, the longest runs of bytes other than spaces and tabs, and the text behind
+//! some of them.
 
-ghost use Rattle.std.specs.Prelude.{◌≡◌, ◌<◌, ◌≤◌, ℕ, true, false, [], ◌∷◌, length, slice_index, None, Some, MatchOption, Ok, Err, MatchResult, IfErr};
-ghost use Rattle.sx_sched.specs.Words.{is_blank, words_of};
-ghost use Rattle.sx_sched.specs.Reading.{IsFault, no_word, one_word, two_words, three_words, four_words};
+ghost use Rattle.std.specs.Prelude.{◌≡◌, ◌<◌, ◌≤◌, ℕ, true, false, [], ◌∷◌, length, slice_index, None, Some, MatchOption, IfSome, Ok, Err, MatchResult, IfOk, IfErr};
+ghost use Rattle.sx_sched.specs.Words.{is_blank, words_of, past_blanks, past_word, text_behind};
+ghost use Rattle.sx_sched.specs.Reading.{IsFault, no_word, one_word, two_words, three_words, four_words, some_word, one_before, two_before};
 
 use crate::lines::{LineError, WRONG_COUNT};
 
@@ -31,6 +32,7 @@ fn blanks_before(text: &[u8]) -> usize
 fn past_blanks(text: &[u8]) -> &[u8]
     ensures words { words_of result.now ≡ words_of text.now }
     ensures first { 0 < length result.now → is_blank (slice_index result.now 0) ≡ false }
+    ensures text { result.now ≡ past_blanks text.now }
 {
     &text[blanks_before(text)..]
 }
@@ -51,7 +53,8 @@ fn word_length(text: &[u8]) -> usize
 
 /// The first word and what follows it; None exactly where there is no word.
 pub fn split_word(text: &[u8]) -> Option<(&[u8], &[u8])>
-    ensures { MatchOption result (words_of text.now ≡ []) (λ split. words_of text.now ≡ split.0.now ∷ words_of split.1.now) }
+    ensures words { MatchOption result (words_of text.now ≡ []) (λ split. words_of text.now ≡ split.0.now ∷ words_of split.1.now) }
+    ensures rest { IfSome result (λ split. split.1.now ≡ past_word (past_blanks text.now)) }
 {
     let begun = past_blanks(text);
     if begun.is_empty() {
@@ -127,6 +130,51 @@ pub fn four_words(text: &[u8]) -> Result<(&[u8], &[u8], &[u8], &[u8]), LineError
         Some((a, rest)) => {
             let (b, c, d) = three_words(rest)?;
             Ok((a, b, c, d))
+        }
+    }
+}
+
+/// The text, which has a word, behind the blanks that it begins with.
+fn some_text(text: &[u8]) -> Result<&[u8], LineError>
+    ensures words { MatchResult result (λ begun. some_word (words_of text.now) ≡ Ok tt)
+        (λ e. some_word (words_of text.now) ≡ Err e) }
+    ensures text { IfOk result (λ begun. begun.now ≡ text_behind 0 text.now) }
+    ensures fault { IfErr result IsFault }
+{
+    match split_word(text) {
+        None => Err(WRONG_COUNT),
+        Some(_) => Ok(past_blanks(text)),
+    }
+}
+
+/// A word, and the text behind it and the blanks that follow it, which has a word.
+fn one_before(text: &[u8]) -> Result<(&[u8], &[u8]), LineError>
+    ensures words { MatchResult result (λ w. one_before (words_of text.now) ≡ Ok w.0.now)
+        (λ e. one_before (words_of text.now) ≡ Err e) }
+    ensures text { IfOk result (λ w. w.1.now ≡ text_behind 1 text.now) }
+    ensures fault { IfErr result IsFault }
+{
+    match split_word(text) {
+        None => Err(WRONG_COUNT),
+        Some((a, rest)) => {
+            let begun = some_text(rest)?;
+            Ok((a, begun))
+        }
+    }
+}
+
+/// Two words, and the text behind them and the blanks that follow them, which has a word.
+pub fn two_before(text: &[u8]) -> Result<(&[u8], &[u8], &[u8]), LineError>
+    ensures words { MatchResult result (λ w. two_before (words_of text.now) ≡ Ok (w.0.now, w.1.now))
+        (λ e. two_before (words_of text.now) ≡ Err e) }
+    ensures text { IfOk result (λ w. w.2.now ≡ text_behind 2 text.now) }
+    ensures fault { IfErr result IsFault }
+{
+    match split_word(text) {
+        None => Err(WRONG_COUNT),
+        Some((a, rest)) => {
+            let (b, begun) = one_before(rest)?;
+            Ok((a, b, begun))
         }
     }
 }
