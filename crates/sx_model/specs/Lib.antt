@@ -3,5 +3,9 @@ pub mod Reaction
 pub mod Renewal
 pub mod Step
 pub mod Legal
+pub mod Consequences
 pub mod Worked
 pub mod Laws
+pub mod Changes
+pub mod Sendings
+pub mod Counted

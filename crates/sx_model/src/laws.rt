@@ -1,6 +1,36 @@
-//! Worked runs, by computing. Each law is a function that does nothing: its contract is the law.
+//! What holds of legal traces: of every one, and of worked runs, by computing. Each law is a function that does
+//! nothing: its contract is the law.
 
+ghost use Rattle.std.specs.Prelude.{List};
+ghost use Rattle.sx_mean.specs.Application.{AppTree};
+ghost use Rattle.sx_model.specs.Consequences.{OpensRise, OutsAreCaused, ReadsAreSensed, TakesRise};
 ghost use Rattle.sx_model.specs.Laws.{DoneNeedsEmits, DriverIsAlone, EventsAreTaken, LightingIsLegal, RenewalIsLegal, VouchedAreAttested};
+ghost use Rattle.sx_model.specs.Legal.{Legal};
+ghost use Rattle.sx_trace.specs.declared.items.Item.{Item};
+
+/// In a legal trace the numbers that are taken over a connection rise strictly, so no event of it is taken twice or
+/// behind a later one, whatever is reset or renewed in between.
+pub fn takes_rise()
+    ensures { (app : AppTree) (items : List Item) → Legal app items → TakesRise items }
+{}
+
+/// In a legal trace the epochs with which a module opens one end of a connection rise strictly, so it opens the end at
+/// most once in each epoch, over all boots.
+pub fn opens_rise()
+    ensures { (app : AppTree) (items : List Item) → Legal app items → OpensRise items }
+{}
+
+/// In a legal trace the value that a module reads is the one that its sensor got last. Between the two no driver of
+/// the sensor read it, no other code drained it, and its node wasn't reset.
+pub fn reads_are_sensed()
+    ensures { (app : AppTree) (items : List Item) → Legal app items → ReadsAreSensed app items }
+{}
+
+/// In a legal trace a module writes an output only in an event: it took or read a value before, and since then it
+/// neither was done nor did anything but write, and its node wasn't reset.
+pub fn outs_are_caused()
+    ensures { (app : AppTree) (items : List Item) → Legal app items → OutsAreCaused app items }
+{}
 
 /// The lighting application, from its loading to the lamp's output.
 pub fn lighting_is_legal()
