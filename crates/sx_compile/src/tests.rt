@@ -29,7 +29,7 @@ fn name(text: &str) -> Result<Name, NotMade> {
     Name::new(text.as_bytes()).ok_or(NotMade)
 }
 
-fn checked(m: Module) -> Result<Checked, NotMade> {
+pub(crate) fn checked(m: Module) -> Result<Checked, NotMade> {
     match check(m) {
         Ok(checked) => Ok(checked),
         Err(_) => Err(NotMade),
@@ -37,7 +37,7 @@ fn checked(m: Module) -> Result<Checked, NotMade> {
 }
 
 /// `sensor; output level; sample(v) { send level(v); }`
-fn eye(alloc: Global) -> Result<Checked, Fail> {
+pub(crate) fn eye(alloc: Global) -> Result<Checked, Fail> {
     let level = name("level")?;
     let handler = Handler {
         input: None,
@@ -146,7 +146,12 @@ pub(crate) fn has_sections(m: &Checked, ends: &[End], layout: &Layout) -> bool
         && layout.priv_from % 2 == 0
 }
 
-fn image_of(alloc: Global, m: &Checked, ends: &[End], layout: &Layout) -> Result<Image, Fail>
+pub(crate) fn image_of(
+    alloc: Global,
+    m: &Checked,
+    ends: &[End],
+    layout: &Layout,
+) -> Result<Image, Fail>
     requires { length ends.now ≤ 16 }
 {
     let links = links_of(alloc, ends)?;

@@ -1,7 +1,5 @@
-use Rattle.std.proofs.Common.{◌≡◌, ℕ, List, subst, sym}
+use Rattle.std.proofs.Common.{List, subst, sym}
 use Rattle.sx_mean.specs.declared.apps.Link.{Link}
-use Rattle.sx_mean.specs.Application.{links_from}
-use Rattle.sx_mean.specs.Ends.{senders}
 use Rattle.sx_compile.proofs.Links.{SendSame}
 use Rattle.sx_compile.proofs.tests.image_of.Goals as goal
 

@@ -1,0 +1,396 @@
+//! Compiled modules on nodes do at each event what their sources mean.
+
+ghost use Rattle.std.specs.Prelude.{◌≤◌, length};
+
+use crate::calls::{
+    Compiled, DOWN, Ended, FROM, Loaded, OUT, Outcome, PROTOCOL, TO, UP, called, entry,
+    event_packet, given, holds, load, node, open, sensing, write_of,
+};
+use crate::tests::{NotMade, checked, end, eye, image_of, lamp, logic};
+use std::alloc::{AllocError, Global};
+use std::process::Abort;
+use std::test::Fail;
+use sx_bus::{FlatBus, Kind};
+use sx_check::checked::Checked;
+use sx_lang::sides::Side;
+use sx_lang::sizes::{cost, data_size, weight};
+use sx_machine::Touch;
+use sx_mean::events::{Act, End, SourceEvent};
+use sx_mean::reactions::react;
+use sx_mean::stores::Store;
+use sx_node::Node;
+use sx_parse::parse::parse;
+use sx_rules::Layout;
+use sx_tag::Weak;
+
+/// Where the sections begin.
+const PUBLIC: u16 = 0x4000;
+
+const PRIVATE: u16 = 0x1000;
+
+/// What stands before a handler's body in the modules of the tables.
+const HEAD: &str = "actuator; input a; output b; var x = 5; array xs[3]; on a(v) { ";
+
+/// A module on a node, whose receiving end is open under `UP` and its sending one under `DOWN`.
+#[derive(Drop)]
+struct Called {
+    code: Checked,
+    /// The cells that the source has.
+    store: Store,
+    /// Their first values.
+    first: Store,
+    node: Node<FlatBus, Weak>,
+    module: Loaded,
+    /// The place of the first cell.
+    cells: u16,
+    /// The number of the next event.
+    events: u16,
+    /// The number of the next packet that is sent.
+    packets: u16,
+}
+
+/// What a reaction does outside the module.
+#[derive(Drop)]
+struct Effects {
+    touches: Vec<Touch>,
+    packets: Vec<u8>,
+    sent: u16,
+}
+
+fn layout_of(m: &Checked, ends: &[End]) -> Result<Layout, Fail>
+    requires { length ends.now ≤ 16 }
+{
+    let count = ends.len() as u8;
+    let public = u64::from(PUBLIC) + weight(m.module(), count);
+    let private = u64::from(PRIVATE) + data_size(m.module(), count);
+    Ok(Layout {
+        pub_from: PUBLIC,
+        pub_to: u16::try_from(public)?,
+        priv_from: PRIVATE,
+        priv_to: u16::try_from(private)?,
+    })
+}
+
+fn open_end(
+    rt: &impl Abort,
+    alloc: Global,
+    node: &mut Node<FlatBus, Weak>,
+    module: &Loaded,
+    end: &End,
+) -> Result<(), AllocError> {
+    match end.side {
+        Side::From => open(rt, alloc, node, module, end.link, FROM, &DOWN),
+        Side::To => open(rt, alloc, node, module, end.link, TO, &UP),
+    }
+}
+
+fn load_open(
+    rt: &impl Abort,
+    alloc: Global,
+    code: &Checked,
+    ends: &[End],
+    node: &mut Node<FlatBus, Weak>,
+) -> Result<Loaded, Fail>
+    requires { length ends.now ≤ 16 }
+{
+    let image = image_of(alloc, code, ends, &layout_of(code, ends)?)?;
+    let most = PROTOCOL.saturating_add(cost(code.module()));
+    let module = load(rt, node, &Compiled { image, most });
+    for end in ends {
+        open_end(rt, alloc, node, &module, end)?;
+    }
+    Ok(module)
+}
+
+/// What the acts do outside, where the connection 1 leaves the module and its next packet has this number.
+fn effects_of(
+    alloc: Global,
+    event: SourceEvent,
+    acts: &[Act],
+    number: u16,
+) -> Result<Effects, AllocError> {
+    let mut effects = Effects {
+        touches: Vec::new(alloc),
+        packets: Vec::new(alloc),
+        sent: 0,
+    };
+    if let SourceEvent::Sample(value) = event {
+        effects
+            .touches
+            .push(Touch::DeviceRead { device: 0, value })?;
+    }
+    for act in acts {
+        match act {
+            Act::Send(_, value) => {
+                let number = number.wrapping_add(effects.sent);
+                let packet = event_packet(&Weak, &DOWN, 1, number, *value);
+                effects.packets.extend_from_slice(&packet)?;
+                effects.sent = effects.sent.wrapping_add(1);
+            }
+            Act::Emit(value) => effects.touches.push(write_of(*value))?,
+        }
+    }
+    Ok(effects)
+}
+
+impl Called {
+    fn new(
+        rt: &impl Abort,
+        alloc: Global,
+        code: Checked,
+        ends: &[End],
+        mut node: Node<FlatBus, Weak>,
+    ) -> Result<Called, Fail>
+        requires { length ends.now ≤ 16 }
+    {
+        let module = load_open(rt, alloc, &code, ends, &mut node)?;
+        Ok(Called {
+            store: Store::initial(alloc, &code)?,
+            first: Store::initial(alloc, &code)?,
+            code,
+            node,
+            module,
+            cells: PRIVATE + 512 + 24 * ends.len() as u16,
+            events: 0,
+            packets: 0,
+        })
+    }
+
+    fn call(
+        &mut self,
+        rt: &impl Abort,
+        alloc: Global,
+        event: SourceEvent,
+    ) -> Result<Ended, AllocError> {
+        match event {
+            SourceEvent::Input(_, value) => {
+                let packet = event_packet(&Weak, &UP, 0, self.events, value);
+                self.events = self.events.wrapping_add(1);
+                given(rt, alloc, &mut self.node, &self.module, 2, &packet)
+            }
+            SourceEvent::Sample(_) => called(rt, alloc, &mut self.node, &self.module, &entry(3)),
+        }
+    }
+
+    /// A cell is kept less its first value.
+    fn holds_cells(&self) -> bool {
+        let mut at = self.cells;
+        for (cell, first) in self.store.cells.iter().zip(self.first.cells.iter()) {
+            if !holds(&self.node, at, &cell.wrapping_sub(*first).to_le_bytes()) {
+                return false;
+            }
+            at = at.wrapping_add(2);
+        }
+        true
+    }
+
+    /// The acts of the source at an event, which the module on the node does too.
+    fn react(
+        &mut self,
+        rt: &impl Abort,
+        alloc: Global,
+        event: SourceEvent,
+    ) -> Result<Vec<Act>, Fail> {
+        let acts = react(alloc, &self.code, &mut self.store, event)?;
+        let wanted = effects_of(alloc, event, &acts, self.packets)?;
+        self.packets = self.packets.wrapping_add(wanted.sent);
+        let ended = self.call(rt, alloc, event)?;
+        assert_eq!(rt; ended.outcome, Outcome::Done(1, wanted.sent));
+        assert_eq!(rt; ended.touches.as_slice(), wanted.touches.as_slice());
+        assert!(rt; holds(&self.node, OUT, &wanted.packets));
+        assert!(rt; self.holds_cells());
+        Ok(acts)
+    }
+}
+
+/// The module of the tables whose handler has this body.
+fn handling(rt: &impl Abort, alloc: Global, body: &str) -> Result<Called, Fail> {
+    let mut text = String::from_str(alloc, HEAD)?;
+    text.push_str(body)?;
+    text.push_str(" }")?;
+    let code = checked(parse(alloc, text.as_str())?)?;
+    let node = node(alloc, Weak, Kind::Actuator)?;
+    let ends = [end(0, Side::To), end(1, Side::From)];
+    Called::new(rt, alloc, code, ends.as_slice(), node)
+}
+
+#[test]
+fn operators(rt: HostRuntime) -> Result<(), Fail> {
+    let alloc = rt.alloc();
+    let rows = [
+        ("emit v + 2;", 65535, 1),
+        ("emit 1 - v;", 2, 65535),
+        ("emit 9 - v - 1;", 2, 6),
+        ("emit v * 257;", 300, 11564),
+        ("emit v * v;", 65535, 1),
+        ("emit v | 0x0f0f;", 0x3300, 0x3f0f),
+        ("emit v ^ 0xffff;", 0x1234, 0xedcb),
+        ("emit v & 0x0ff0;", 0xabcd, 0x0bc0),
+        ("emit v | 6 & 3;", 8, 10),
+        ("emit -v;", 1, 65535),
+        ("emit -v;", 0, 0),
+        ("emit ~v;", 0x00ff, 0xff00),
+        ("emit !v;", 0, 1),
+        ("emit !v;", 256, 0),
+        ("emit (x - v) * -(v + ~x);", 2, 12),
+    ];
+    for (body, value, want) in rows.as_slice() {
+        let mut module = handling(&rt, alloc, body)?;
+        let acts = module.react(&rt, alloc, SourceEvent::Input(0, *value))?;
+        assert_eq!(rt; acts.as_slice(), [Act::Emit(*want)].as_slice(), "{body}");
+    }
+    Ok(())
+}
+
+/// Words are compared without a sign.
+#[test]
+fn comparisons(rt: HostRuntime) -> Result<(), Fail> {
+    let alloc = rt.alloc();
+    let rows = [
+        ("emit v == 7;", [0, 1, 0, 0]),
+        ("emit v != 7;", [1, 0, 1, 1]),
+        ("emit v < 7;", [1, 0, 0, 0]),
+        ("emit v <= 7;", [1, 1, 0, 0]),
+        ("emit v > 7;", [0, 0, 1, 1]),
+        ("emit v >= 7;", [0, 1, 1, 1]),
+    ];
+    for (body, wants) in rows.as_slice() {
+        let mut module = handling(&rt, alloc, body)?;
+        for (value, want) in [6, 7, 8, 65535].iter().zip(wants.iter()) {
+            let acts = module.react(&rt, alloc, SourceEvent::Input(0, *value))?;
+            assert_eq!(rt; acts.as_slice(), [Act::Emit(*want)].as_slice(), "{body}");
+        }
+    }
+    Ok(())
+}
+
+#[test]
+fn statements(rt: HostRuntime) -> Result<(), Fail> {
+    let alloc = rt.alloc();
+    let rows: [(&str, u16, &[Act]); 12] = [
+        ("", 1, &[]),
+        ("let y = v + 1; y = y * 2; emit y;", 4, &[Act::Emit(10)]),
+        ("x = x - v; emit x;", 6, &[Act::Emit(65535)]),
+        ("v = x; emit v;", 6, &[Act::Emit(5)]),
+        ("if v { emit 1; } else { emit 2; }", 0, &[Act::Emit(2)]),
+        ("if v { emit 1; } else { emit 2; }", 256, &[Act::Emit(1)]),
+        ("if v > 3 { emit 1; }", 3, &[]),
+        (
+            "let y = 1; repeat 256 { y = y + v; } emit y;",
+            257,
+            &[Act::Emit(257)],
+        ),
+        (
+            "repeat 2 { let y = v; repeat 2 { emit y; y = y + 1; } }",
+            5,
+            &[Act::Emit(5), Act::Emit(6), Act::Emit(5), Act::Emit(6)],
+        ),
+        ("send b(v); emit 3;", 9, &[Act::Send(0, 9), Act::Emit(3)]),
+        (
+            "emit 3; send b(v); send b(v + 1);",
+            65535,
+            &[Act::Emit(3), Act::Send(0, 65535), Act::Send(0, 0)],
+        ),
+        (
+            "if v == 2 { send b(7); } else { emit 7; }",
+            3,
+            &[Act::Emit(7)],
+        ),
+    ];
+    for (body, value, want) in rows.as_slice() {
+        let mut module = handling(&rt, alloc, body)?;
+        let acts = module.react(&rt, alloc, SourceEvent::Input(0, *value))?;
+        assert_eq!(rt; acts.as_slice(), *want, "{body}");
+    }
+    Ok(())
+}
+
+/// Beyond its end an array is 0, and a store there changes nothing.
+#[test]
+fn elements(rt: HostRuntime) -> Result<(), Fail> {
+    let alloc = rt.alloc();
+    let rows = [
+        ("xs[1] = v; emit xs[1];", 9, 9),
+        ("xs[2] = 7; xs[v] = 8; emit xs[2];", 2, 8),
+        ("xs[2] = 7; xs[v] = 8; emit xs[2];", 3, 7),
+        ("xs[0] = 7; xs[v] = 8; emit xs[0];", 65535, 7),
+        ("xs[2] = 7; emit xs[v];", 2, 7),
+        ("xs[2] = 7; emit xs[v];", 3, 0),
+        ("xs[0] = 7; emit xs[v];", 32768, 0),
+        ("xs[0] = 2; xs[xs[0]] = v; emit xs[xs[0]];", 9, 9),
+    ];
+    for (body, value, want) in rows.as_slice() {
+        let mut module = handling(&rt, alloc, body)?;
+        let acts = module.react(&rt, alloc, SourceEvent::Input(0, *value))?;
+        assert_eq!(rt; acts.as_slice(), [Act::Emit(*want)].as_slice(), "{body}");
+    }
+    Ok(())
+}
+
+/// Cells are kept between events, and locals aren't. The packets of an event fill the out-window.
+#[test]
+fn events_follow_one_another(rt: HostRuntime) -> Result<(), Fail> {
+    let alloc = rt.alloc();
+    let body = "let y = x; x = x + v; xs[v] = x; repeat 16 { send b(y); y = y + 1; } emit xs[0];";
+    let mut module = handling(&rt, alloc, body)?;
+    for (value, want) in [(0, 5), (2, 5), (65530, 5), (0, 1), (7, 1)] {
+        let acts = module.react(&rt, alloc, SourceEvent::Input(0, value))?;
+        assert_eq!(rt; acts.len(), 17);
+        assert_eq!(rt; acts.last(), Some(&Act::Emit(want)));
+    }
+    Ok(())
+}
+
+/// Two handlers that don't stand in the order of their inputs, and an output with two ends.
+#[test]
+fn each_input_has_its_handler_and_each_end_its_packet(rt: HostRuntime) -> Result<(), Fail> {
+    let alloc = rt.alloc();
+    let text = "actuator; input a; input c; output b; output d; \
+        on c(v) { emit v + 1; send d(v); send b(7); } on a(v) { emit v; }";
+    let code = checked(parse(alloc, text)?)?;
+    let second = |end| End { port: 1, ..end };
+    let ends = [
+        end(0, Side::To),
+        end(1, Side::From),
+        second(end(2, Side::To)),
+        second(end(3, Side::From)),
+        second(end(4, Side::From)),
+    ];
+    let mut node = node(alloc, Weak, Kind::Actuator)?;
+    let module = load_open(&rt, alloc, &code, ends.as_slice(), &mut node)?;
+    let packet = event_packet(&Weak, &UP, 2, 0, 9);
+    let ended = given(&rt, alloc, &mut node, &module, 2, &packet)?;
+    assert_eq!(rt; ended.outcome, Outcome::Done(1, 3));
+    assert_eq!(rt; ended.touches.as_slice(), [write_of(10)].as_slice());
+    assert!(rt; holds(&node, OUT, &event_packet(&Weak, &DOWN, 3, 0, 9)));
+    assert!(rt; holds(&node, OUT + 24, &event_packet(&Weak, &DOWN, 4, 0, 9)));
+    assert!(rt; holds(&node, OUT + 48, &event_packet(&Weak, &DOWN, 1, 0, 7)));
+    let packet = event_packet(&Weak, &UP, 0, 0, 9);
+    let ended = given(&rt, alloc, &mut node, &module, 2, &packet)?;
+    assert_eq!(rt; ended.outcome, Outcome::Done(1, 0));
+    assert_eq!(rt; ended.touches.as_slice(), [write_of(9)].as_slice());
+    Ok(())
+}
+
+#[test]
+fn examples(rt: HostRuntime) -> Result<(), Fail> {
+    let alloc = rt.alloc();
+    let ends = [end(0, Side::To), end(1, Side::From)];
+    let sensor = node(alloc, Weak, Kind::Sensor)?;
+    let mut logic = Called::new(&rt, alloc, logic(alloc)?, ends.as_slice(), sensor)?;
+    for (value, want) in [(0, 0), (100, 0), (101, 1), (65535, 1)] {
+        let acts = logic.react(&rt, alloc, SourceEvent::Input(0, value))?;
+        assert_eq!(rt; acts.as_slice(), [Act::Send(0, want)].as_slice());
+    }
+    let actuator = node(alloc, Weak, Kind::Actuator)?;
+    let mut lamp = Called::new(&rt, alloc, lamp(alloc)?, &ends[..1], actuator)?;
+    for value in [0, 9, 65535] {
+        let acts = lamp.react(&rt, alloc, SourceEvent::Input(0, value))?;
+        assert_eq!(rt; acts.as_slice(), [Act::Emit(value)].as_slice());
+    }
+    let sensor = sensing(&rt, alloc, 32767)?;
+    let mut eye = Called::new(&rt, alloc, eye(alloc)?, &ends[1..], sensor)?;
+    let acts = eye.react(&rt, alloc, SourceEvent::Sample(32767))?;
+    assert_eq!(rt; acts.as_slice(), [Act::Send(0, 32767)].as_slice());
+    Ok(())
+}
