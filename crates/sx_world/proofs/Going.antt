@@ -162,7 +162,7 @@ or_first : (a b : Bool) → (a || b) ≡ false → a ≡ false
 or_first true b h = h
 or_first false b h = refl
 
-no_reset : (e : Event) (v : Violation) → is_reset e ≡ false → e ≡ Reset v → ⊥
+pub no_reset : (e : Event) (v : Violation) → is_reset e ≡ false → e ≡ Reset v → ⊥
 no_reset e v quiet h = let t : true ≡ false = ap is_reset (sym h) ∙ quiet in cc
 
 -- a step that isn't the last keeps the count of resets

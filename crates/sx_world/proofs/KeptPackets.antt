@@ -1,7 +1,7 @@
 -- Packets that are kept, and what is given of them.
 use Rattle.std.proofs.Common.{◌≡◌, ℕ, suc, ◌<◌, ◌≤◌, List, [], ◌∷◌, ◌++◌, length, map, get_or, Vec, Global, Some, None, Result, Ok, Err, OnOk, OnErr, refl, sym, subst, ap, ◌∙◌}
 use Rattle.std.specs.Prelude.{slice_get}
-use Rattle.std.proofs.lemmas.Option.{slice_get-map, slice_get-get_or, slice_get_past}
+use Rattle.std.proofs.lemmas.Option.{slice_get-map, slice_get-get_or, slice_get_past, get_or_from_slice_get}
 use Rattle.std.specs.Option.{option_map}
 use Rattle.sx_trace.specs.declared.items.Item.{Item}
 use Rattle.sx_trace.specs.declared.items.Item.TheVariants.{Packet, Skip}
@@ -78,15 +78,6 @@ map_long [] = refl
 map_long (x ∷ xs) = ap suc (map_long xs)
 
 -- bytes that were taken are a new packet
-pub took_did : {T E : Type 0} (r : Result T E) (old new : Running) (before after : List Item) (n at len : ℕ) (bytes : List ℕ) (s : State) → slice_get old.nodes n ≡ Some s → (take s at len).shown ≡ Ok bytes
-    → OnOk r ((set : Setting) → Did set old new before after (λ w. with_packet w bytes))
-    → OnOk r ((set : Setting) → Did set old new before after (λ w. at_node w (λ s. took w n (take s at len).shown) (slice_get w.nodes n)))
-took_did (Ok x) old new before after n at len bytes s here shown f = λ set w h.
-    subst (λ o. Shows set new (at_node w (λ s. took w n (take s at len).shown) o).world × (after ≡ before ++ (at_node w (λ s. took w n (take s at len).shown) o).items))
-    (sym (ap (λ ns. slice_get ns n) (sym h.nodes) ∙ here))
-    (subst (λ o. Shows set new (took w n o).world × (after ≡ before ++ (took w n o).items)) (sym shown) (f set w h))
-took_did (Err x) old new before after n at len bytes s here shown f = tt
-
 pub took_wanted : {T E : Type 0} (r : Result T E) (old : Running) (before after : List Item) (n at len : ℕ) (bytes : List ℕ) (s : State) → slice_get old.nodes n ≡ Some s → (take s at len).shown ≡ Ok bytes
     → OnErr r ((set : Setting) → Wanted set old before after (λ w. with_packet w bytes))
     → OnErr r ((set : Setting) → Wanted set old before after (λ w. at_node w (λ s. took w n (take s at len).shown) (slice_get w.nodes n)))
@@ -103,3 +94,7 @@ took_refused (Ok x) old before after n at len why s here shown e = λ set w h.
     (sym (ap (λ ns. slice_get ns n) (sym h.nodes) ∙ here))
     (subst (λ o. Shows set old (took w n o).world × (after ≡ before ++ (took w n o).items)) (sym shown) (h, e))
 took_refused (Err x) old before after n at len why s here shown e = tt
+
+-- the node at a place
+pub node_at : (nodes : List State) (n i : ℕ) (s node : State) → slice_get nodes n ≡ Some s → i ≡ n → node ≡ get_or nodes i node → node ≡ s
+node_at nodes n i s node here same e = e ∙ ap (λ k. get_or nodes k node) same ∙ get_or_from_slice_get nodes n s node here

@@ -54,3 +54,10 @@ pub mod Sent
 pub mod SameGrants
 pub mod Given
 pub mod Confirming
+pub mod Loaded
+pub mod Sampled
+pub mod Prepared
+pub mod Bounds
+pub mod Readying
+pub mod Sited
+pub mod SwitchedOn

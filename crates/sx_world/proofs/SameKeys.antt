@@ -72,7 +72,7 @@ known_as set i site = record {
   ends = ends_of set.app i;
 }
 
-known_at : (set : Setting) (sites : List Site) (i m : ℕ) (site : Site) → slice_get sites m ≡ Some site → slice_get (targets_from set i sites) m ≡ Some (known_as set (i + m) site)
+pub known_at : (set : Setting) (sites : List Site) (i m : ℕ) (site : Site) → slice_get sites m ≡ Some site → slice_get (targets_from set i sites) m ≡ Some (known_as set (i + m) site)
 known_at set [] i m site e = absurd cc
 known_at set (s ∷ sites) i zero site e = ap (λ (o : Option Site). known_of o) e ∙ ap (λ j. Some (known_as set j site)) (omega arith)
   where

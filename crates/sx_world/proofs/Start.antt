@@ -28,12 +28,12 @@ get_map f [] k y e = absurd cc
 get_map f (x ∷ xs) zero y e = (x, refl, sym (some_inj (f x) y e))
 get_map f (x ∷ xs) (suc k) y e = get_map f xs k y e
 
-get_nodes : (set : Setting) (i : ℕ) (keys : List (List ℕ)) (n : ℕ) (s : State) → slice_get (nodes_from set i keys) n ≡ Some s → (key : List ℕ) × (s ≡ node_on key (devices_of set (i + n)))
+pub get_nodes : (set : Setting) (i : ℕ) (keys : List (List ℕ)) (n : ℕ) (s : State) → slice_get (nodes_from set i keys) n ≡ Some s → (key : List ℕ) × (s ≡ node_on key (devices_of set (i + n)))
 get_nodes set i [] n s e = absurd cc
 get_nodes set i (key ∷ keys) zero s e = (key, sym (some_inj _ s e) ∙ ap (λ j. node_on key (devices_of set j)) (omega arith))
 get_nodes set i (key ∷ keys) (suc n) s e = let r = get_nodes set (i + 1) keys n s e in (r.0, r.1 ∙ ap (λ j. node_on r.0 (devices_of set j)) (omega arith))
 
-nodes_long : (set : Setting) (i : ℕ) (keys : List (List ℕ)) → length (nodes_from set i keys) ≡ length keys
+pub nodes_long : (set : Setting) (i : ℕ) (keys : List (List ℕ)) → length (nodes_from set i keys) ≡ length keys
 nodes_long set i [] = refl
 nodes_long set i (key ∷ keys) = ap suc (nodes_long set (i + 1) keys)
 
@@ -52,7 +52,7 @@ get_zero zero k v e = absurd cc
 get_zero (suc n) zero v e = sym (some_inj 0 v e)
 get_zero (suc n) (suc k) v e = get_zero n k v e
 
-on_is_node : (set : Setting) (n : ℕ) (key : List ℕ) → IsSound set → IsNode (node_on key (devices_of set n))
+pub on_is_node : (set : Setting) (n : ℕ) (key : List ℕ) → IsSound set → IsNode (node_on key (devices_of set n))
 on_is_node set n key sound = Rattle.sx_machine.proofs.Stays.power_on_is_node key (devices_of set n) (sound.windows n) (first_samples (windows_at n set.app.devices set.places))
 
 abbrev new_standing : Standing

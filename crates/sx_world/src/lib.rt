@@ -15,16 +15,25 @@
 #![tactic(auto)]
 
 mod attesting;
+mod calling;
 mod devices;
 mod giving;
 mod grants;
 mod headers;
 pub mod laws;
+mod lines;
+mod loading;
 mod observation;
 mod packets;
 mod recording;
+mod registers;
 mod running;
 mod sending;
+mod sensors;
 pub mod sites;
 mod stepping;
+mod targets;
+#[cfg(test)]
+mod tests;
 mod touching;
+pub mod world;

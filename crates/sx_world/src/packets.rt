@@ -1,18 +1,44 @@
-//! Packets, and what is given to nodes.
+//! Packets, and what is given to nodes and taken from them.
 
-ghost use Rattle.std.specs.Prelude.{◌<◌, length, slice_get, OnOk, OnErr};
-ghost use Rattle.sx_world.specs.Acts.{with_packet};
+ghost use Rattle.std.specs.Prelude.{◌≡◌, ◌<◌, ◌≤◌, length, slice_get, Some, Ok, Err, IfOk, IfErr, OnOk, OnErr};
+ghost use Rattle.sx_machine.specs.State.{State};
+ghost use Rattle.sx_machine.specs.Acts as acts;
+ghost use Rattle.sx_world.specs.Acts.{at_node, took, with_packet};
 ghost use Rattle.sx_world.specs.Held.{Did, Wanted};
 ghost use Rattle.sx_world.specs.Run.{give};
 ghost use Rattle.sx_world.specs.Setting.{Setting};
 
 use crate::recording::add;
 use crate::running::Running;
-use crate::touching::{add_answer, put_node};
-use std::alloc::AllocError;
+use crate::touching::{add_answer, put_node, refused_item};
+use std::alloc::{AllocError, Global};
 use sx_bus::Bus;
+use sx_node::{Node, Refused};
 use sx_tag::Tag;
 use sx_trace::items::Item;
+
+/// So many bytes of a node's memory from an address on, or why they are not given.
+fn taken<B: Bus, T: Tag>(
+    alloc: Global,
+    nodes: &[Node<B, T>],
+    n: u8,
+    at: u16,
+    len: u16,
+) -> Result<Result<Vec<u8>, Refused>, AllocError>
+    requires { n < length nodes.now }
+    ensures bytes { IfOk result (λ r. IfOk r (λ bytes. (s : State) → slice_get nodes.now n ≡ Some s
+        → (acts.take s at len).shown ≡ Ok bytes.items)) }
+    ensures long { IfOk result (λ r. IfOk r (λ bytes. length bytes.items ≡ len)) }
+    ensures refused { IfOk result (λ r. IfErr r (λ why. (s : State) → slice_get nodes.now n ≡ Some s
+        → (acts.take s at len).shown ≡ Err why)) }
+{
+    let mut bytes = Vec::new(alloc);
+    bytes.resize(usize::from(len), 0)?;
+    match nodes[usize::from(n)].take(at, &mut bytes) {
+        Ok(()) => Ok(Ok(bytes)),
+        Err(why) => Ok(Err(why)),
+    }
+}
 
 impl<B: Bus, T: Tag> Running<B, T> {
     /// A new packet.
@@ -38,6 +64,28 @@ impl<B: Bus, T: Tag> Running<B, T> {
                 len: bytes.len() as u16,
             },
         )
+    }
+
+    /// Bytes of a node's memory become a new packet.
+    pub(crate) fn take(
+        &mut self,
+        n: u8,
+        at: u16,
+        len: u16,
+        items: &mut Vec<Item>,
+    ) -> Result<(), AllocError>
+        requires node { n < length self.old.nodes }
+        requires few { length self.old.packets < 4294967295 }
+        requires short { len ≤ 384 }
+        ensures done { OnOk result ((set : Setting) → Did set self.old self.new items.old.items items.new.items
+            (λ w. at_node w (λ s. took w n (acts.take s at len).shown) (slice_get w.nodes n))) }
+        ensures front { OnErr result ((set : Setting) → Wanted set self.old items.old.items items.new.items
+            (λ w. at_node w (λ s. took w n (acts.take s at len).shown) (slice_get w.nodes n))) }
+    {
+        match taken(self.alloc, &self.nodes, n, at, len)? {
+            Ok(bytes) => self.new_packet(&bytes, items),
+            Err(why) => add(items, refused_item(n, why)),
+        }
     }
 
     /// A packet is written into a node's memory.

@@ -1,5 +1,7 @@
 //! How a run stands: all nodes, the packets, the deployer and the ledger.
 
+ghost use Rattle.std.specs.Prelude.{◌≡◌, []};
+
 use std::alloc::Global;
 use std::marker::Model;
 use sx_bus::Bus;
@@ -34,4 +36,26 @@ impl<B: Bus, T: Tag> Model for Running<B, T> {
       ledger = r.ledger;
       steps = r.steps;
     } };
+}
+
+impl<B: Bus, T: Tag> Running<B, T> {
+    /// No packet was made and nothing entered into the ledger.
+    pub(crate) fn new(
+        alloc: Global,
+        tag: T,
+        nodes: Vec<Node<B, T>>,
+        deployer: Deployer,
+    ) -> Running<B, T>
+        ensures { result ≡ record { nodes = nodes.items; packets = []; deployer = deployer; ledger = []; steps = 0 } }
+    {
+        Running {
+            alloc,
+            tag,
+            nodes,
+            packets: Vec::new(alloc),
+            deployer,
+            ledger: Ledger::new(alloc),
+            steps: 0,
+        }
+    }
 }

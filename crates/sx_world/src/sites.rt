@@ -1,11 +1,17 @@
 //! Where the deployed modules stand, and which of them a section of a node is.
 
-ghost use Rattle.std.specs.Prelude.{◌≡◌, ◌+◌, ◌-◌, ◌<◌, ◌≤◌, length, bytes_eq, IfSome};
+ghost use Rattle.std.specs.Prelude.{◌≡◌, ◌+◌, ◌-◌, ◌<◌, ◌≤◌, length, map, slice_get, bytes_eq, Some, IfOk};
+ghost use Rattle.sx_deploy.specs.Law.{IsSound};
+ghost use Rattle.sx_deploy.specs.SeenDeployment.{deployed_as};
 ghost use Rattle.sx_machine.specs.Memory.{bytes_from};
+ghost use Rattle.sx_world.specs.Accepted.{sites_of};
 ghost use Rattle.sx_world.specs.Setting.{deployed, is_at_site, module_of, same_layout};
 
+use std::alloc::{AllocError, Global};
 use std::marker::Model;
 use sx_bus::Bus;
+use sx_deploy::deployment::Deployment;
+use sx_image::Image;
 use sx_node::Node;
 use sx_rules::{Layout, Section};
 use sx_tag::Tag;
@@ -95,4 +101,38 @@ pub(crate) fn module_of<B: Bus, T: Tag>(
         Some(section) => deployed(sites, n, node, &section),
         None => None,
     }
+}
+
+/// The site of the m-th module, with the text of its image.
+fn site_at(alloc: Global, plan: &Deployment, images: &[Image], m: usize) -> Result<Site, AllocError>
+    requires sound { IsSound (deployed_as plan.now) }
+    requires images { length images.now ≡ length plan.now.app.parts.items }
+    requires part { m < length images.now }
+    ensures { IfOk result (λ site. slice_get (sites_of (deployed_as plan.now).app.parts (deployed_as plan.now).layouts
+        (deployed_as plan.now).providers (map (λ i. i.text.items) images.now)) m ≡ Some site) }
+{
+    Ok(Site {
+        node: plan.app.parts[m].node,
+        layout: plan.layouts[m],
+        provider: plan.providers[m],
+        text: images[m].text.to_vec(alloc)?,
+    })
+}
+
+/// The sites of a deployment's modules, with the texts of their images.
+pub(crate) fn sites_of(
+    alloc: Global,
+    plan: &Deployment,
+    images: &[Image],
+) -> Result<Vec<Site>, AllocError>
+    requires sound { IsSound (deployed_as plan.now) }
+    requires images { length images.now ≡ length plan.now.app.parts.items }
+    ensures { IfOk result (λ sites. sites.items ≡ sites_of (deployed_as plan.now).app.parts (deployed_as plan.now).layouts
+        (deployed_as plan.now).providers (map (λ i. i.text.items) images.now)) }
+{
+    let mut sites = Vec::new(alloc);
+    for m in 0..images.len() {
+        sites.push(site_at(alloc, plan, images, m)?)?;
+    }
+    Ok(sites)
 }

@@ -7,8 +7,9 @@ ghost use Rattle.sx_machine.specs.State.{State};
 ghost use Rattle.sx_machine.specs.Step.{step};
 ghost use Rattle.sx_machine.specs.Acts.{irq};
 ghost use Rattle.sx_world.specs.Acts.{at_node, interrupted, stepped};
-ghost use Rattle.sx_world.specs.Held.{Did, Wanted, setting};
-ghost use Rattle.sx_world.specs.Run.{is_reset, steps_of};
+ghost use Rattle.sx_world.specs.Held.{Did, Does, Wanted, setting};
+ghost use Rattle.sx_world.specs.Run as run;
+ghost use Rattle.sx_world.specs.Run.{FINISH_STEPS, is_reset, steps_of};
 
 use crate::observation::{add_seen, runner_of};
 use crate::recording::add;
@@ -26,6 +27,14 @@ fn is_reset(event: Event) -> bool
     ensures { result ≡ is_reset event }
 {
     matches!(event, Event::Reset(_))
+}
+
+/// How many steps of a node `finish` takes at most.
+#[tactic(auto, unfolding(crate::specs::Run::FINISH_STEPS))]
+fn finish_steps() -> u32
+    ensures { result ≡ FINISH_STEPS }
+{
+    1_000_000
 }
 
 fn step_node<B: Bus, T: Tag>(nodes: &mut [Node<B, T>], n: u8) -> Seen
@@ -113,6 +122,14 @@ impl<B: Bus, T: Tag> Running<B, T> {
         is_reset(event) || (idle && self.nodes[usize::from(n)].running() == 0)
     }
 
+    /// Whether no module of a node runs.
+    pub(crate) fn is_idle(&self, n: u8) -> bool
+        requires { n < length self.now.nodes }
+        ensures { (s : State) → slice_get self.now.nodes n ≡ Some s → result ≡ (s.cur == 0) }
+    {
+        self.nodes[usize::from(n)].running() == 0
+    }
+
     /// So many steps of a node, or fewer where one ends in a reset or, where `idle` says so, leaves no module running; and this
     /// item where all were taken.
     pub(crate) fn steps_of(
@@ -145,5 +162,25 @@ impl<B: Bus, T: Tag> Running<B, T> {
             Some(item) => add(items, item),
             None => Ok(()),
         }
+    }
+
+    /// A step of a node, and further ones while a module runs, at most a million.
+    pub(crate) fn finish(
+        &mut self,
+        plan: &Deployment,
+        sites: &[Site],
+        n: u8,
+        items: &mut Vec<Item>,
+    ) -> Result<(), AllocError>
+        requires node { n < length self.old.nodes }
+        requires boot { (s : State) → slice_get self.old.nodes n ≡ Some s → s.boot < 4294967295 }
+        requires steps { self.old.steps + FINISH_STEPS ≤ 18446744073709551615 }
+        requires sites { length sites.now ≤ 256 }
+        requires devices { length plan.now.app.devices.items ≤ 256 }
+        ensures { Does (setting T.mac (deployed_as plan.now) sites.now) result self.old self.new items.old.items items.new.items
+            (run.finish (setting T.mac (deployed_as plan.now) sites.now) n) }
+    {
+        let budget = Item::Budget { node: n };
+        self.steps_of(plan, sites, n, finish_steps(), true, Some(budget), items)
     }
 }

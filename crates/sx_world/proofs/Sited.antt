@@ -1,0 +1,13 @@
+-- The sites of a sound deployment with its images are sound.
+use Rattle.std.proofs.Common.{ℕ, List}
+use Rattle.sx_tag.specs.Mac.{Mac, IsTag}
+use Rattle.sx_deploy.specs.Deployment.{Deployed}
+use Rattle.sx_deploy.specs.Law as deployment
+use Rattle.sx_world.specs.Accepted.{AreImages, sites_of}
+use Rattle.sx_world.specs.Held.{setting}
+use Rattle.sx_world.specs.Law.{IsSound}
+use Rattle.sx_world.proofs.Settled.{settled}
+
+pub sited : (mac : Mac) (d : Deployed) (texts : List (List ℕ)) → deployment.IsSound d → IsTag mac → AreImages mac d texts
+    → IsSound (setting mac d (sites_of d.app.parts d.layouts d.providers texts))
+sited mac d texts acc tag images = settled mac d texts acc images tag

@@ -1,0 +1,37 @@
+use Rattle.std.proofs.Common.{◌+◌, List, sym, subst, ap, ◌∙◌}
+use Rattle.sx_deploy.specs.SeenDeployment.{deployed_as}
+use Rattle.sx_sched.specs.Lines.{line_of}
+use Rattle.sx_world.specs.Held.{Held, Running}
+use Rattle.sx_world.specs.Ready.{IsReady}
+use Rattle.sx_world.specs.Setting.{Site}
+use Rattle.sx_world.proofs.Readying.{stands_ready, act_did, act_wanted}
+use Rattle.sx_world.proofs.world.World.act.Goals as goal
+
+-- src/world.rt:106:15
+pub act-requires-clause-ready : goal.act-requires-clause-ready
+act-requires-clause-ready g c =
+    let d = deployed_as c.args.plan.now in
+    let held = c.args.self.now in
+    let view = c.self.view_is in
+    let going = c.requires.going (sym (ap (λ (h : Held). h.wanted) view) ∙ c.if-self.false) in
+    let ready = stands_ready g.T.Tag.mac d held.sites c.requires.sound c.requires.images held going.0 c.requires.few going.1 in
+    subst (λ (s : List Site). IsReady d s c.self.inside.running) (sym (c.deref.ensures.value ∙ ap (λ (h : Held). h.sites) view))
+    (subst (λ (k : Running). IsReady d held.sites k) (sym (ap (λ (h : Held). h.running) view)) ready)
+
+-- src/world.rt:79:5
+pub returns-in-Ok-clause-acted : goal.returns-in-Ok-clause-acted
+returns-in-Ok-clause-acted g c =
+    let held = c.args.self.now in
+    let view = c.self.view_is in
+    act_did g.T.Tag.mac (deployed_as c.args.plan.now) held.sites c.requires.sound c.requires.images held _ c.self.inside.running c.deref.result.now
+    c.args.items.now.items c.act.new.items.items (line_of c.args.line.now) c.requires.form (ap (λ (h : Held). h.lines + 1) view)
+    (c.deref.ensures.value ∙ ap (λ (h : Held). h.sites) view) (ap (λ (h : Held). h.running) view) c.in-Ok.ensures
+
+-- src/world.rt:79:5
+pub returns-in-Err-clause-front : goal.returns-in-Err-clause-front
+returns-in-Err-clause-front g c =
+    let held = c.args.self.now in
+    let view = c.self.view_is in
+    act_wanted g.T.Tag.mac (deployed_as c.args.plan.now) held.sites c.requires.sound c.requires.images held c.self.inside.running c.deref.result.now
+    c.args.items.now.items c.act.new.items.items (line_of c.args.line.now)
+    (c.deref.ensures.value ∙ ap (λ (h : Held). h.sites) view) (ap (λ (h : Held). h.running) view) c.in-Err.ensures

@@ -1,0 +1,21 @@
+-- Where the program's world stands: at the world of a run that some lines lead to.
+use Rattle.std.specs.Prelude.{◌≡◌, ◌*◌, ◌≤◌, false, List, length}
+use Rattle.sx_sched.specs.Lines.{Line}
+use Rattle.sx_world.specs.Setting.{Setting}
+use Rattle.sx_world.specs.State.{World, switched_on}
+use Rattle.sx_world.specs.Run.{run}
+use Rattle.sx_world.specs.Law.{AreInForm}
+use Rattle.sx_world.specs.Held.{Held, Shows}
+
+-- It shows this world of a run: that of as many lines in form as it has acted, each of at most a million steps.
+pub record Stands (set : Setting) (held : Held) (w : World) : Type 0 where
+  pub lines : List Line
+  pub formed : AreInForm set lines
+  pub count : length lines ≡ held.lines
+  pub steps : w.steps ≤ 1000000 * held.lines
+  pub is : w ≡ (run set (switched_on set) lines).world
+  pub shows : Shows set held.running w
+
+-- It stands so, unless it has wanted memory.
+abbrev pub IsGoing : Setting → Held → Type 0
+IsGoing set held = held.wanted ≡ false → (w : World) × Stands set held w

@@ -1,0 +1,92 @@
+//! A deployed module is called.
+
+ghost use Rattle.std.specs.Prelude.{◌≡◌, ℕ, ◌+◌, ◌<◌, ◌≤◌, length, slice_get, Some};
+ghost use Rattle.sx_deploy.specs.SeenDeployment.{deployed_as};
+ghost use Rattle.sx_machine.specs.State.{State};
+ghost use Rattle.sx_world.specs.Acts.{then_};
+ghost use Rattle.sx_world.specs.Held.{Does, setting};
+ghost use Rattle.sx_world.specs.Loading.{AreSettable, call_registers};
+ghost use Rattle.sx_world.specs.Run as run;
+ghost use Rattle.sx_world.specs.Setting.{Site as Placed};
+
+use crate::recording::add;
+use crate::registers::Register;
+use crate::running::Running;
+use crate::sites::Site;
+use std::alloc::AllocError;
+use sx_bus::Bus;
+use sx_deploy::deployment::Deployment;
+use sx_tag::Tag;
+use sx_trace::items::Item;
+
+/// What a called module is given: its entry, its windows, no place to return to, and where its code begins.
+fn call_registers(site: &Site, entry: u16, input: u16, output: u16) -> [Register; 5]
+    ensures { result ≡ call_registers site.now entry input output }
+{
+    [
+        Register::new(12, entry),
+        Register::new(13, input),
+        Register::new(14, output),
+        Register::new(15, 0),
+        Register::new(0, site.layout.pub_from),
+    ]
+}
+
+impl<B: Bus, T: Tag> Running<B, T> {
+    /// A module runs from its entry on, until none of its node runs or the budget is over.
+    fn enter(
+        &mut self,
+        plan: &Deployment,
+        sites: &[Site],
+        site: &Site,
+        registers: &[Register],
+        items: &mut Vec<Item>,
+    ) -> Result<(), AllocError>
+        requires node { site.now.node < length self.old.nodes }
+        requires boot { (s : State) → slice_get self.old.nodes site.now.node ≡ Some s
+            → s.boot < 4294967295 }
+        requires steps { self.old.steps + run.FINISH_STEPS ≤ 18446744073709551615 }
+        requires settable { AreSettable registers.now }
+        requires sites { length sites.now ≤ 256 }
+        requires devices { length plan.now.app.devices.items ≤ 256 }
+        ensures { Does (setting T.mac (deployed_as plan.now) sites.now) result
+            self.old self.new items.old.items items.new.items
+            (λ w. then_ (run.set_all site.now.node registers.now w)
+            (run.finish (setting T.mac (deployed_as plan.now) sites.now) site.now.node)) }
+    {
+        self.set_all(site.node, registers, items)?;
+        self.finish(plan, sites, site.node, items)
+    }
+
+    /// A module is called at an entry with two windows, unless a module of its node runs.
+    pub(crate) fn call(
+        &mut self,
+        plan: &Deployment,
+        sites: &[Site],
+        m: u8,
+        entry: u16,
+        input: u16,
+        output: u16,
+        items: &mut Vec<Item>,
+    ) -> Result<(), AllocError>
+        requires known { m < length sites.now }
+        requires node { (site : Placed) → slice_get sites.now m ≡ Some site
+            → site.node < length self.old.nodes }
+        requires boot { (n : ℕ) (s : State) → slice_get self.old.nodes n ≡ Some s
+            → s.boot < 4294967295 }
+        requires steps { self.old.steps + run.FINISH_STEPS ≤ 18446744073709551615 }
+        requires sites { length sites.now ≤ 256 }
+        requires devices { length plan.now.app.devices.items ≤ 256 }
+        ensures { Does (setting T.mac (deployed_as plan.now) sites.now) result
+            self.old self.new items.old.items items.new.items
+            (λ w. run.call (setting T.mac (deployed_as plan.now) sites.now) w entry input output (slice_get sites.now m)) }
+    {
+        let site = &sites[usize::from(m)];
+        if self.is_idle(site.node) {
+            let registers = call_registers(site, entry, input, output);
+            self.enter(plan, sites, site, &registers, items)
+        } else {
+            add(items, Item::Busy { node: site.node })
+        }
+    }
+}

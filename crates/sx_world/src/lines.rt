@@ -1,0 +1,63 @@
+//! The lines of a schedule as acts.
+
+ghost use Rattle.sx_deploy.specs.Law.{IsSound};
+ghost use Rattle.sx_deploy.specs.SeenDeployment.{deployed_as};
+ghost use Rattle.sx_sched.specs.Lines.{IsLine, line_of};
+ghost use Rattle.sx_world.specs.Held.{Does, setting};
+ghost use Rattle.sx_world.specs.Ready.{IsReady};
+ghost use Rattle.sx_world.specs.Run.{acted};
+
+use crate::running::Running;
+use crate::sites::Site;
+use std::alloc::AllocError;
+use sx_bus::Bus;
+use sx_deploy::deployment::Deployment;
+use sx_sched::lines::Line;
+use sx_tag::Tag;
+use sx_trace::items::Item;
+
+impl<B: Bus, T: Tag> Running<B, T> {
+    /// Acts a line.
+    pub(crate) fn act(
+        &mut self,
+        plan: &Deployment,
+        sites: &[Site],
+        line: &Line,
+        items: &mut Vec<Item>,
+    ) -> Result<(), AllocError>
+        requires sound { IsSound (deployed_as plan.now) }
+        requires ready { IsReady (deployed_as plan.now) sites.now self.old }
+        requires form { IsLine (deployed_as plan.now).names (line_of line.now) }
+        ensures { Does (setting T.mac (deployed_as plan.now) sites.now) result self.old self.new items.old.items items.new.items
+            (λ w. acted (setting T.mac (deployed_as plan.now) sites.now) w (line_of line.now)) }
+    {
+        match line {
+            Line::Blank => Ok(()),
+            Line::Run { node, steps } => {
+                self.steps_of(plan, sites, *node, u32::from(*steps), false, None, items)
+            }
+            Line::Finish { node } => self.finish(plan, sites, *node, items),
+            Line::Put { node, at, bytes } => self.put_on(*node, *at, bytes, items),
+            Line::Set { node, reg, value } => self.set_on(*node, *reg, *value, items),
+            Line::Take { node, at, len } => self.take(*node, *at, *len, items),
+            Line::Give { packet, node, at } => self.give(*packet, *node, *at, items),
+            Line::Forge { bytes } => self.new_packet(bytes, items),
+            Line::Sense { device, value } => self.sense(plan, *device, *value, items),
+            Line::Irq { node, line } => self.irq(plan, sites, *node, *line, items),
+            Line::Reset { node } => self.reset(*node, items),
+            Line::Ask { module } => self.ask(*module, items),
+            Line::Answer {
+                module,
+                boot,
+                packet,
+            } => self.answer(plan, *module, *boot, *packet, items),
+            Line::Load { module } => self.load(plan, sites, *module, items),
+            Line::Call {
+                module,
+                entry,
+                input,
+                output,
+            } => self.call(plan, sites, *module, *entry, *input, *output, items),
+        }
+    }
+}

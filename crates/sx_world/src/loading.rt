@@ -1,0 +1,122 @@
+//! A deployed image is put and protected.
+
+ghost use Rattle.std.specs.Prelude.{◌≡◌, ℕ, ◌+◌, ◌/◌, ◌<◌, ◌≤◌, length, slice_get, Some};
+ghost use Rattle.sx_deploy.specs.SeenDeployment.{deployed_as};
+ghost use Rattle.sx_machine.specs.State.{State};
+ghost use Rattle.sx_world.specs.Held.{Does, boots_of, setting};
+ghost use Rattle.sx_world.specs.Loading.{loaded, protect_registers};
+ghost use Rattle.sx_world.specs.Run as run;
+ghost use Rattle.sx_world.specs.Setting.{Setting, Site as Placed};
+
+use crate::recording::add;
+use crate::registers::Register;
+use crate::running::Running;
+use crate::sites::Site;
+use std::alloc::AllocError;
+use sx_bus::Bus;
+use sx_deploy::deployment::Deployment;
+use sx_tag::Tag;
+use sx_trace::items::Item;
+
+/// How many bytes of an image are put at once.
+const PIECE: usize = 1024;
+
+/// The instruction that protects a module.
+const PROTECT: [u8; 2] = [0x81, 0x13];
+
+/// What the instruction that protects a module is given; it stands at address 0.
+fn protect_registers(site: &Site) -> [Register; 6]
+    ensures { result ≡ protect_registers site.now }
+{
+    let layout = &site.layout;
+    [
+        Register::new(9, site.provider),
+        Register::new(10, layout.pub_from),
+        Register::new(11, layout.pub_to),
+        Register::new(12, layout.priv_from),
+        Register::new(13, layout.priv_to),
+        Register::new(0, 0),
+    ]
+}
+
+impl<B: Bus, T: Tag> Running<B, T> {
+    /// An image is put from an address on, piece by piece.
+    fn put_pieces(
+        &mut self,
+        n: u8,
+        at: u16,
+        bytes: &[u8],
+        items: &mut Vec<Item>,
+    ) -> Result<(), AllocError>
+        requires node { n < length self.old.nodes }
+        requires within { at + length bytes.now ≤ 65536 }
+        ensures does { (set : Setting) → Does set result self.old self.new items.old.items items.new.items
+            (run.put_pieces n ((length bytes.now + 1023) / 1024) at bytes.now) }
+        ensures boots { boots_of self.new.nodes ≡ boots_of self.old.nodes }
+        ensures steps { self.new.steps ≡ self.old.steps }
+    {
+        for i in 0..bytes.len().div_ceil(PIECE) {
+            let start = i * PIECE;
+            let end = bytes.len().min(start + PIECE);
+            let to = (usize::from(at) + start) as u16;
+            self.put_on(n, to, &bytes[start..end], items)?;
+        }
+        Ok(())
+    }
+
+    /// An image is put, and protected by an instruction at address 0.
+    fn put_and_protect(
+        &mut self,
+        plan: &Deployment,
+        sites: &[Site],
+        site: &Site,
+        items: &mut Vec<Item>,
+    ) -> Result<(), AllocError>
+        requires node { site.now.node < length self.old.nodes }
+        requires boot { (s : State) → slice_get self.old.nodes site.now.node ≡ Some s
+            → s.boot < 4294967295 }
+        requires steps { self.old.steps < 18446744073709551615 }
+        requires text { site.now.layout.pub_from + length site.now.text ≤ 65536 }
+        requires sites { length sites.now ≤ 256 }
+        requires devices { length plan.now.app.devices.items ≤ 256 }
+        ensures { Does (setting T.mac (deployed_as plan.now) sites.now) result
+            self.old self.new items.old.items items.new.items
+            (loaded (setting T.mac (deployed_as plan.now) sites.now) site.now) }
+    {
+        let n = site.node;
+        self.put_pieces(n, site.layout.pub_from, &site.text, items)?;
+        self.put_on(n, 0, &PROTECT, items)?;
+        self.set_all(n, &protect_registers(site), items)?;
+        self.steps_of(plan, sites, n, 1, false, None, items)
+    }
+
+    /// A module's image is put and protected, unless a module of its node runs.
+    pub(crate) fn load(
+        &mut self,
+        plan: &Deployment,
+        sites: &[Site],
+        m: u8,
+        items: &mut Vec<Item>,
+    ) -> Result<(), AllocError>
+        requires known { m < length sites.now }
+        requires node { (site : Placed) → slice_get sites.now m ≡ Some site
+            → site.node < length self.old.nodes }
+        requires boot { (n : ℕ) (s : State) → slice_get self.old.nodes n ≡ Some s
+            → s.boot < 4294967295 }
+        requires steps { self.old.steps < 18446744073709551615 }
+        requires text { (site : Placed) → slice_get sites.now m ≡ Some site
+            → site.layout.pub_from + length site.text ≤ 65536 }
+        requires sites { length sites.now ≤ 256 }
+        requires devices { length plan.now.app.devices.items ≤ 256 }
+        ensures { Does (setting T.mac (deployed_as plan.now) sites.now) result
+            self.old self.new items.old.items items.new.items
+            (λ w. run.load (setting T.mac (deployed_as plan.now) sites.now) w (slice_get sites.now m)) }
+    {
+        let site = &sites[usize::from(m)];
+        if self.is_idle(site.node) {
+            self.put_and_protect(plan, sites, site, items)
+        } else {
+            add(items, Item::Busy { node: site.node })
+        }
+    }
+}

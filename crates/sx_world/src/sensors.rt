@@ -1,0 +1,46 @@
+//! Samples of sensors.
+
+ghost use Rattle.std.specs.Prelude.{◌≡◌, ℕ, ◌<◌, List, length, slice_get, Some, true};
+ghost use Rattle.sx_deploy.specs.Law.{IsSound};
+ghost use Rattle.sx_deploy.specs.SeenDeployment.{deployed_as};
+ghost use Rattle.sx_machine.specs.Node.{shapes};
+ghost use Rattle.sx_machine.specs.State.{State};
+ghost use Rattle.sx_world.specs.Held.{Does, setting};
+ghost use Rattle.sx_world.specs.Run.{sense_at};
+ghost use Rattle.sx_world.specs.Setting.{Site, windows_at};
+
+use crate::devices::place_at;
+use crate::running::Running;
+use std::alloc::AllocError;
+use sx_bus::Bus;
+use sx_deploy::deployment::Deployment;
+use sx_tag::Tag;
+use sx_trace::items::Item;
+
+impl<B: Bus, T: Tag> Running<B, T> {
+    /// A sensor of the deployment takes a sample; nothing happens where its node is none of the run's.
+    pub(crate) fn sense(
+        &mut self,
+        plan: &Deployment,
+        d: u8,
+        value: u16,
+        items: &mut Vec<Item>,
+    ) -> Result<(), AllocError>
+        requires sound { IsSound (deployed_as plan.now) }
+        requires windows { (n : ℕ) (s : State) → slice_get self.old.nodes n ≡ Some s
+            → shapes s.devices ≡ windows_at n plan.now.app.devices.items plan.now.places.items }
+        requires device { d < length plan.now.app.devices.items }
+        requires sensor { slice_get (deployed_as plan.now).names.sensors d ≡ Some true }
+        requires value { value < 32768 }
+        ensures { (sites : List Site) → Does (setting T.mac (deployed_as plan.now) sites) result
+            self.old self.new items.old.items items.new.items
+            (λ w. sense_at (setting T.mac (deployed_as plan.now) sites) w d value (slice_get plan.now.app.devices.items d)) }
+    {
+        let n = plan.app.devices[usize::from(d)].node;
+        if usize::from(n) >= self.nodes.len() {
+            return Ok(());
+        }
+        let k = place_at(&plan.app.devices, n, d);
+        self.sense_at(n, k, d, value, items)
+    }
+}

@@ -1,0 +1,141 @@
+//! The world of a deployment: its modules' sites, and how its run stands.
+
+ghost use Rattle.std.specs.Prelude.{◌≡◌, ◌≢◌, ℕ, ◌+◌, ◌<◌, ◌++◌, List, false, true, length, map, slice_get, IfOk, IsErr, OnOk, OnErr, IfSome, Option, option_map};
+ghost use Rattle.sx_deploy.specs.Law as deployment;
+ghost use Rattle.sx_deploy.specs.SeenDeployment.{deployed_as};
+ghost use Rattle.sx_sched.specs.Lines.{IsLine, line_of};
+ghost use Rattle.sx_world.specs.Accepted.{setting_of, sites_of};
+ghost use Rattle.sx_world.specs.Held.{IsFront, setting};
+ghost use Rattle.sx_world.specs.Law.{IsSound};
+ghost use Rattle.sx_world.specs.Run.{acted, counted};
+ghost use Rattle.sx_world.specs.Standing.{IsGoing, Stands};
+ghost use Rattle.sx_world.specs.State.{World as Reached, nodes_from, switched_on};
+
+use crate::running::Running;
+use crate::sites::{Site, sites_of};
+use crate::targets::targets_of;
+use std::alloc::{AllocError, Global};
+use std::marker::Model;
+use sx_bus::Bus;
+use sx_deploy::deployment::Deployment;
+use sx_deployer::Deployer;
+use sx_image::Image;
+use sx_node::Node;
+use sx_sched::lines::Line;
+use sx_tag::Tag;
+use sx_trace::items::Item;
+
+/// A deployment that runs: its nodes, the network, the deployer and the ledger.
+#[derive(Drop)]
+pub struct World<B: Bus, T: Tag> {
+    sites: Vec<Site>,
+    running: Running<B, T>,
+    lines: u32,
+    /// Whether an act has wanted memory: nothing is acted then.
+    wanted: bool,
+}
+
+impl<B: Bus, T: Tag> Model for World<B, T> {
+    ghost use Rattle.sx_world.specs.Held.{Held};
+
+    ghost Value = { Held };
+
+    ghost view = { λ w. record { sites = w.sites.items; running = w.running; lines = w.lines; wanted = w.wanted } };
+}
+
+impl<B: Bus, T: Tag> World<B, T> {
+    /// The world of a deployment with these images of its modules, where all nodes were just switched on. Nothing but want of
+    /// memory is refused.
+    pub fn new(
+        alloc: Global,
+        tag: T,
+        plan: &Deployment,
+        images: &[Image],
+        nodes: Vec<Node<B, T>>,
+    ) -> Result<World<B, T>, AllocError>
+        requires sound { deployment.IsSound (deployed_as plan.now) }
+        requires images { length images.now ≡ length plan.now.app.parts.items }
+        requires nodes { nodes.items ≡ nodes_from (setting_of T.mac (deployed_as plan.now) (map (λ i. i.text.items) images.now)) 0 (deployed_as plan.now).keys }
+        ensures sites { IfOk result (λ world. world.sites ≡ sites_of (deployed_as plan.now).app.parts (deployed_as plan.now).layouts
+            (deployed_as plan.now).providers (map (λ i. i.text.items) images.now)) }
+        ensures stands { IfOk result (λ world. Stands (setting_of T.mac (deployed_as plan.now) (map (λ i. i.text.items) images.now)) world
+            (switched_on (setting_of T.mac (deployed_as plan.now) (map (λ i. i.text.items) images.now)))) }
+        ensures lines { IfOk result (λ world. world.lines ≡ 0) }
+        ensures memory { IfOk result (λ world. world.wanted ≡ false) }
+    {
+        let sites = sites_of(alloc, plan, images)?;
+        let targets = targets_of(alloc, plan, &sites)?;
+        let deployer = Deployer::new(plan.secret, targets);
+        Ok(World {
+            sites,
+            running: Running::new(alloc, tag, nodes, deployer),
+            lines: 0,
+            wanted: false,
+        })
+    }
+
+    /// Acts a line of a schedule, and appends its items. After want of memory the items that were appended are the first of those
+    /// that were due, and no further line is acted.
+    pub fn act(
+        &mut self,
+        plan: &Deployment,
+        line: &Line,
+        items: &mut Vec<Item>,
+    ) -> Result<(), AllocError>
+        requires sound { deployment.IsSound (deployed_as plan.now) }
+        requires images { IsSound (setting T.mac (deployed_as plan.now) self.old.sites) }
+        requires going { IsGoing (setting T.mac (deployed_as plan.now) self.old.sites) self.old }
+        requires few { self.old.lines < 65536 }
+        requires form { IsLine (deployed_as plan.now).names (line_of line.now) }
+        ensures acted { OnOk result ((w : Reached) → Stands (setting T.mac (deployed_as plan.now) self.old.sites) self.old w
+            → Stands (setting T.mac (deployed_as plan.now) self.old.sites) self.new
+            (acted (setting T.mac (deployed_as plan.now) self.old.sites) (counted w) (line_of line.now)).world
+            × (items.new.items ≡ items.old.items ++ (acted (setting T.mac (deployed_as plan.now) self.old.sites) (counted w) (line_of line.now)).items)) }
+        ensures front { OnErr result ((w : Reached) → Stands (setting T.mac (deployed_as plan.now) self.old.sites) self.old w
+            → IsFront items.new.items
+            (items.old.items ++ (acted (setting T.mac (deployed_as plan.now) self.old.sites) (counted w) (line_of line.now)).items)) }
+        ensures wanted { OnErr result (self.new.wanted ≡ true) }
+        ensures goes_on { OnOk result (self.new.wanted ≡ false) }
+        ensures stopped { self.old.wanted ≡ true → IsErr result × (self.new ≡ self.old) × (items.new.items ≡ items.old.items) }
+        ensures sites { self.new.sites ≡ self.old.sites }
+        ensures counts { OnOk result (self.new.lines ≡ self.old.lines + 1) }
+    {
+        if self.wanted {
+            return Err(AllocError);
+        }
+        match self.running.act(plan, &self.sites, line, items) {
+            Ok(()) => {
+                self.lines += 1;
+                Ok(())
+            }
+            Err(error) => {
+                self.wanted = true;
+                Err(error)
+            }
+        }
+    }
+
+    /// How many lines were acted.
+    pub fn lines(&self) -> u32
+        ensures { result ≡ self.now.lines }
+    {
+        self.lines
+    }
+
+    /// How many steps of nodes were taken. A step that ends in a reset counts, an interrupt doesn't.
+    pub fn steps(&self) -> u64
+        ensures { result ≡ self.now.running.steps }
+    {
+        self.running.steps
+    }
+
+    /// The packet of this number; `None` exactly where there is no such packet.
+    pub fn packet(&self, k: u32) -> Option<&[u8]>
+        ensures { option_map (λ p. p.now) result ≡ slice_get self.now.running.packets k }
+    {
+        match self.running.packets.get(k as usize) {
+            Some(packet) => Some(packet),
+            None => None,
+        }
+    }
+}
