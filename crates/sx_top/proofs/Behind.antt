@@ -1,5 +1,5 @@
 -- From a head that was read to what `run` says.
-use Rattle.std.proofs.Common.{◌≡◌, ◌∙◌, ℕ, Bool, List, [], ◌∷◌, refl, sym, ap, subst, Option, Some, None, Ok, Err}
+use Rattle.std.proofs.Common.{◌≡◌, ◌∙◌, inl, inr, ℕ, Bool, List, [], ◌∷◌, refl, sym, ap, subst, Option, Some, None, Ok, Err}
 use Rattle.sx_io.specs.Streams.{SourceAt, SinkAt}
 use Rattle.sx_io.specs.Reading.{Answer}
 use Rattle.sx_io.specs.Next.{Ahead}
@@ -11,10 +11,12 @@ use Rattle.sx_tag.specs.Mac.{Mac, IsTag}
 use Rattle.sx_stage.specs.declared.fault.Place.TheVariants.{Nowhere}
 use Rattle.sx_stage.specs.Fault.{fault}
 use Rattle.sx_head.specs.Head.{Head, Found, TooLong, NoMark, Unread, head, head_lines, HeadRead}
+use Rattle.sx_head.specs.declared.head.HeadFault.{HeadFault}
 use Rattle.sx_head.specs.declared.head.HeadFault.TheVariants as none
 use Rattle.sx_top.specs.Check.{Meaning, refused}
 use Rattle.sx_top.specs.Run.{run_head, run_all}
-use Rattle.sx_top.specs.Runs.{HasHead, RunsBehind, RunSays}
+use Rattle.sx_top.specs.Headless.{EndsHeadless}
+use Rattle.sx_top.specs.Runs.{HasHead, RunsBehind, RunsOrRanOut, RunSays}
 use Rattle.sx_top.proofs.Said.{runs_with, says_with, says_starved}
 
 -- the text of a head behind a one; nothing where there is none
@@ -55,7 +57,7 @@ is_some : (text : List ℕ) → ◌≡◌ {A = Option (List ℕ)} (Some text) No
 is_some text e = cc
 
 -- a head was read, and the rest was done
-pub says_found : {tells to_tell : Bool} {s0 s1 : SourceAt} {k0 : SinkAt} {now : Ahead} {m2 : Moment} {status : ℕ} (mac : Mac) (text : List ℕ) → IsTag mac
+says_found : {tells to_tell : Bool} {s0 s1 : SourceAt} {k0 : SinkAt} {now : Ahead} {m2 : Moment} {status : ℕ} (mac : Mac) (text : List ℕ) → IsTag mac
     → HeadRead tells s0 s1 now (Ok text) → RunsBehind mac tells to_tell now (moment s1 k0) m2 status text → RunSays mac tells to_tell (moment s0 k0) m2 status
 says_found {tells} {to_tell} {s0} {s1} {k0} {now} {m2} {status} mac text tag got runs =
     says_with mac
@@ -75,20 +77,8 @@ says_none {tells} {to_tell} {s0} {s1} {k0} {k1} {status} mac h o tag none e r w 
     (λ meaning is.
     told-reads (run_head mac meaning []) o refl r (λ answers q. (ap (run_head mac meaning []) q ∙ e meaning, let P : Head → Type 0 = HasHead None in subst P (sym q) none)) w))
 
-pub says_too_long : {tells to_tell : Bool} {s0 s1 : SourceAt} {k0 k1 : SinkAt} {status : ℕ} (mac : Mac) (now : Ahead) → IsTag mac → HeadRead tells s0 s1 now (Err none.TooLong)
-    → Ends to_tell k0 k1 status (refused (fault 1 Nowhere)) → (status ≡ out_of_memory → ⊥) → RunSays mac tells to_tell (moment s0 k0) (moment s1 k1) status
-says_too_long mac now tag r w never = says_none mac TooLong (refused (fault 1 Nowhere)) tag tt (λ meaning. refl) r w never
-
-pub says_no_mark : {tells to_tell : Bool} {s0 s1 : SourceAt} {k0 k1 : SinkAt} {status : ℕ} (mac : Mac) (now : Ahead) → IsTag mac → HeadRead tells s0 s1 now (Err none.NoMark)
-    → Ends to_tell k0 k1 status (refused (fault 2 Nowhere)) → (status ≡ out_of_memory → ⊥) → RunSays mac tells to_tell (moment s0 k0) (moment s1 k1) status
-says_no_mark mac now tag r w never = says_none mac NoMark (refused (fault 2 Nowhere)) tag tt (λ meaning. refl) r w never
-
-pub says_failed : {tells to_tell : Bool} {s0 s1 : SourceAt} {k0 k1 : SinkAt} {status : ℕ} (mac : Mac) (now : Ahead) → IsTag mac → HeadRead tells s0 s1 now (Err none.Failed)
-    → Ends to_tell k0 k1 status unread → (status ≡ out_of_memory → ⊥) → RunSays mac tells to_tell (moment s0 k0) (moment s1 k1) status
-says_failed mac now tag r w never = says_none mac Unread unread tag tt (λ meaning. refl) r w never
-
 -- memory ran out behind a head, and nothing was written
-pub says_out_of_memory : {tells to_tell : Bool} {s0 s1 : SourceAt} {k : SinkAt} {now : Ahead} (mac : Mac) (text : List ℕ)
+says_out_of_memory : {tells to_tell : Bool} {s0 s1 : SourceAt} {k : SinkAt} {now : Ahead} (mac : Mac) (text : List ℕ)
     → Got tells head_lines head_lines s0 s1 now head (λ more. Found text more) Unread anything → RunSays mac tells to_tell (moment s0 k) (moment s1 k) out_of_memory
 says_out_of_memory {tells} {to_tell} {s0} {s1} {k} {now} mac text got =
     says_starved mac to_tell (record {
@@ -97,3 +87,19 @@ says_out_of_memory {tells} {to_tell} {s0} {s1} {k} {now} mac text got =
       text = text;
       reads = reads-map (λ answers. HasHead (Some text) (head answers)) (λ (h : Head). h) (λ answers w. w.0) (reads-stop (λ h. HasHead (Some text) h) got (λ more. refl));
     })
+
+-- there is no head, or no memory for one
+pub says_headless : {tells to_tell : Bool} {s0 s1 : SourceAt} {k0 k1 : SinkAt} {status : ℕ} (mac : Mac) (now : Ahead) (why : HeadFault) → IsTag mac → HeadRead tells s0 s1 now (Err why)
+    → EndsHeadless to_tell k0 k1 status why → RunSays mac tells to_tell (moment s0 k0) (moment s1 k1) status
+says_headless {tells} {to_tell} {s0} {s1} {k0} {k1} {status} mac now none.TooLong tag r w =
+    says_none mac TooLong (refused (fault 1 Nowhere)) tag tt (λ meaning. refl) r w.0 w.1
+says_headless {tells} {to_tell} {s0} {s1} {k0} {k1} {status} mac now none.NoMark tag r w =
+    says_none mac NoMark (refused (fault 2 Nowhere)) tag tt (λ meaning. refl) r w.0 w.1
+says_headless {tells} {to_tell} {s0} {s1} {k0} {k1} {status} mac now none.Failed tag r w = says_none mac Unread unread tag tt (λ meaning. refl) r w.0 w.1
+says_headless {tells} {to_tell} {s0} {s1} {k0} {k1} {status} mac now none.OutOfMemory tag (text, got) w = rw (w.0, w.1) (says_out_of_memory {k = k0} {now = now} mac text got)
+
+-- a head was read, and the rest was done, or memory ran out for it
+pub says_behind : {tells to_tell : Bool} {s0 s1 : SourceAt} {k0 : SinkAt} {now : Ahead} {m2 : Moment} {status : ℕ} (mac : Mac) (text : List ℕ) → IsTag mac
+    → HeadRead tells s0 s1 now (Ok text) → RunsOrRanOut mac tells to_tell now (moment s1 k0) m2 status text → RunSays mac tells to_tell (moment s0 k0) m2 status
+says_behind {tells} {to_tell} {s0} {s1} {k0} {now} {m2} {status} mac text tag got (inl out) = rw (out.six, out.same) (says_out_of_memory {k = k0} {now = now} mac text got)
+says_behind {tells} {to_tell} {s0} {s1} {k0} {now} {m2} {status} mac text tag got (inr runs) = says_found {now = now} mac text tag got runs

@@ -14,6 +14,8 @@ use Rattle.sx_mean.specs.declared.apps.Part.{Part}
 use Rattle.sx_mean.proofs.Ends.{ends_counted}
 use Rattle.sx_deploy.specs.Deployment.{Deployed}
 use Rattle.sx_deploy.specs.Law.{IsSound, IsLaid}
+use Rattle.sx_deploy.specs.SeenDeployment.{deployed_as}
+use Rattle.sx_deploy.specs.declared.deployment.Deployment.{Deployment}
 use Rattle.sx_image.specs.declared.image.Image.{Image as Made}
 use Rattle.sx_image.specs.Image.{Image, plain}
 use Rattle.sx_image.specs.Realizes.{Realizes}
@@ -92,7 +94,7 @@ count_texts [] = refl
 count_texts (x ∷ xs) = ap suc (count_texts xs)
 
 -- the texts of images that are built are those of images that realize their modules
-pub are_images : (mac : Mac) (d : Deployed) (images : List Image) → length images ≡ length d.app.parts → AreBuilt mac d images → AreImages mac d (map (λ i. i.text) images)
+are_images : (mac : Mac) (d : Deployed) (images : List Image) → length images ≡ length d.app.parts → AreBuilt mac d images → AreImages mac d (map (λ i. i.text) images)
 are_images mac d images all built = record {
   as_many = count_texts images ∙ all;
   realize = λ p q layout provider text e f g h.
@@ -190,3 +192,14 @@ more_built mac d images new image n e len built one p i h =
 pub one_longer : {X : Type 0} → (xs : List X) (x : X) (n : ℕ) → length xs ≡ n → length (xs ++ x ∷ []) ≡ n + 1
 one_longer [] x n h = omega (arith, h)
 one_longer (y ∷ xs) x n h = let r = one_longer xs x (length xs) refl in omega (arith, h, r)
+
+texts_plain : (images : List Made) → map (λ (i : Image). i.text) (map plain images) ≡ map (λ (i : Made). i.text.items) images
+texts_plain [] = refl
+texts_plain (x ∷ images) = ap (λ (ts : List (List ℕ)). x.text.items ∷ ts) (texts_plain images)
+
+-- the images that were compiled realize the modules of the deployment
+pub are_deployed_images : (mac : Mac) (plan : Deployment) (images : List Made) → length images ≡ length plan.app.parts.items → AreBuilt mac (deployed_as plan) (map plain images)
+    → AreImages mac (deployed_as plan) (map (λ (i : Made). i.text.items) images)
+are_deployed_images mac plan images all built =
+    let many : length (map plain images) ≡ length (map part_as plan.app.parts.items) = count_plain images ∙ all ∙ sym (count_parts plan.app.parts.items) in
+    subst (AreImages mac (deployed_as plan)) (texts_plain images) (are_images mac (deployed_as plan) (map plain images) many built)

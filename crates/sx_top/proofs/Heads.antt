@@ -4,14 +4,17 @@ use Rattle.sx_io.specs.Streams.{SourceAt, SinkAt}
 use Rattle.sx_io.specs.Reading.{Answer}
 use Rattle.sx_io.specs.Next.{Ahead}
 use Rattle.sx_told.specs.Reads.{Reads, Got, anything}
-use Rattle.sx_told.specs.Told.{Output, Ends, Told, moment, out_of_memory}
+use Rattle.sx_told.specs.Told.{Output, Ends, Told, moment, out_of_memory, unread}
 use Rattle.sx_told.proofs.Laws.{begun-got, ends-same, ends-out-of-memory, prefix-none, told-reads, told-stop}
 use Rattle.sx_told.proofs.Takings.{got-also}
 use Rattle.sx_deploy.proofs.Meanings.{some_meaning}
-use Rattle.sx_head.specs.Head.{Head, Found, Unread, head, head_lines, HeadRead}
+use Rattle.sx_stage.specs.declared.fault.Place.TheVariants.{Nowhere}
+use Rattle.sx_stage.specs.Fault.{fault}
+use Rattle.sx_head.specs.Head.{Head, Found, TooLong, NoMark, Unread, head, head_lines, HeadRead}
 use Rattle.sx_head.specs.declared.head.HeadFault.{HeadFault}
-use Rattle.sx_head.specs.declared.head.HeadFault.TheVariants as fault
-use Rattle.sx_top.specs.Check.{Meaning, IsMeaning, checked, check_head, check_all}
+use Rattle.sx_head.specs.declared.head.HeadFault.TheVariants as none
+use Rattle.sx_top.specs.Check.{Meaning, IsMeaning, refused, checked, check_head, check_all}
+use Rattle.sx_top.specs.Headless.{EndsHeadless}
 use Rattle.sx_top.specs.Promises.{IsFound, RunsOutBehindHead}
 
 found_is : (status : ℕ) (text : List ℕ) (answers more : List Answer) → head answers ≡ Found text more → RunsOutBehindHead status answers
@@ -26,21 +29,25 @@ check_found {tells} {to_tell} {s0} {s1} {k0} {k1} {now} {status} meaning text ot
     (λ more. ends-same _ _ _ _ _ _ (ap (λ (t : List ℕ). checked (meaning t)) (sym e)) w)
 
 -- there is none
-pub check_none : {tells to_tell : Bool} {s0 s1 : SourceAt} {k0 k1 : SinkAt} {status : ℕ} (meaning : Meaning) (h : Head) (o : Output) → check_head meaning h ≡ o
+check_none : {tells to_tell : Bool} {s0 s1 : SourceAt} {k0 k1 : SinkAt} {status : ℕ} (meaning : Meaning) (h : Head) (o : Output) → check_head meaning h ≡ o
     → Reads tells head_lines s0 s1 head Unread (λ answers. head answers ≡ h) → Ends to_tell k0 k1 status o → (status ≡ out_of_memory → ⊥)
     → Told tells to_tell head_lines (moment s0 k0) (moment s1 k1) status (check_all meaning) (RunsOutBehindHead status)
 check_none meaning h o e r w never = told-reads (check_head meaning) o refl r (λ answers q. (ap (check_head meaning) q ∙ e, λ six. absurd (never six))) w
 
 -- memory ran out, and nothing was written
-pub check_starved : {tells to_tell : Bool} {s0 s1 : SourceAt} {k : SinkAt} {now : Ahead} (meaning : Meaning) → HeadRead tells s0 s1 now (Err fault.OutOfMemory)
+check_starved : {tells to_tell : Bool} {s0 s1 : SourceAt} {k : SinkAt} {now : Ahead} (meaning : Meaning) → HeadRead tells s0 s1 now (Err none.OutOfMemory)
     → Told tells to_tell head_lines (moment s0 k) (moment s1 k) out_of_memory (check_all meaning) (RunsOutBehindHead out_of_memory)
 check_starved {tells} {to_tell} {s0} {s1} {k} meaning (text, b) =
     told-stop (begun-got (check_head meaning) refl (got-also (RunsOutBehindHead out_of_memory) (found_is out_of_memory text) b))
     (λ more. ends-out-of-memory to_tell k k (checked (meaning text)) (λ t. prefix-none k.written k.written _ refl) refl)
 
--- a fault by its name
-pub head_as : (tells : Bool) (s0 s1 : SourceAt) (now : Ahead) (x y : HeadFault) → x ≡ y → HeadRead tells s0 s1 now (Err x) → HeadRead tells s0 s1 now (Err y)
-head_as tells s0 s1 now x y e r = let P : HeadFault → Type 0 = λ z. HeadRead tells s0 s1 now (Err z) in subst P e r
+-- there is none, or no memory for one
+pub check_headless : {tells to_tell : Bool} {s0 s1 : SourceAt} {k0 k1 : SinkAt} {status : ℕ} (now : Ahead) (meaning : Meaning) (why : HeadFault) → HeadRead tells s0 s1 now (Err why)
+    → EndsHeadless to_tell k0 k1 status why → Told tells to_tell head_lines (moment s0 k0) (moment s1 k1) status (check_all meaning) (RunsOutBehindHead status)
+check_headless {tells} {to_tell} {s0} {s1} {k0} {k1} {status} now meaning none.TooLong r w = check_none meaning TooLong (refused (fault 1 Nowhere)) refl r w.0 w.1
+check_headless {tells} {to_tell} {s0} {s1} {k0} {k1} {status} now meaning none.NoMark r w = check_none meaning NoMark (refused (fault 2 Nowhere)) refl r w.0 w.1
+check_headless {tells} {to_tell} {s0} {s1} {k0} {k1} {status} now meaning none.Failed r w = check_none meaning Unread unread refl r w.0 w.1
+check_headless {tells} {to_tell} {s0} {s1} {k0} {k1} {status} now meaning none.OutOfMemory r w = rw (w.0, w.1) (check_starved {k = k0} {now = now} meaning r)
 
 -- what the texts mean
 abbrev pub known : Meaning

@@ -1,52 +1,37 @@
 -- What follows for a command from what it wrote and read.
-use Rattle.std.proofs.Common.{◌≡◌, ◌≤◌, ◌+◌, ◌∙◌, ◌⊎◌, inl, inr, ℕ, Bool, List, [], ◌++◌, length, sym, ap, arith}
+use Rattle.std.proofs.Common.{◌≡◌, ◌≤◌, ◌+◌, ◌∙◌, inl, inr, ℕ, Bool, List, [], ◌++◌, length, sym, ap, arith}
 use Rattle.std.specs.Prelude.{IsTrue}
 use Rattle.sx_io.specs.Reading.{Answer, Broken, Ended, longest, scan}
-use Rattle.sx_told.specs.Reads.{anything}
-use Rattle.sx_told.specs.Told.{Output, Moment, Told, out_of_memory}
-use Rattle.sx_told.proofs.Laws.{told-all, told-fault, told-quiet, told-some, told-write-fault, told-no-write-fault}
-use Rattle.sx_told.proofs.Endings.{unfinished, faultless}
+use Rattle.sx_told.specs.Told.{Output, Moment, Told}
+use Rattle.sx_told.proofs.Laws.{told-quiet, told-some}
+use Rattle.sx_told.proofs.Endings.{faultless}
 use Rattle.sx_told.proofs.Further.{no-further}
-use Rattle.sx_told.proofs.Due.{streams-by}
 use Rattle.sx_tag.specs.Mac.{Mac}
 use Rattle.sx_head.specs.Head.{Head, head, head_lines}
-use Rattle.sx_top.specs.Output.{run_all}
 use Rattle.sx_top.specs.Check.{Meaning, IsMeaning, check_head, check_all}
-use Rattle.sx_top.specs.Faults.{CameToItsEnd, TellsFaults}
-use Rattle.sx_top.specs.Promises.{CheckTold, IsHead, RunTold, RunsOutBehindHead}
-use Rattle.sx_top.proofs.Due.{due_all}
+use Rattle.sx_top.specs.Run.{run_all}
+use Rattle.sx_top.specs.Runs.{RunSays}
+use Rattle.sx_top.specs.Promises.{CheckTold, IsHead, RunsOutBehindHead}
 use Rattle.sx_top.proofs.Heads.{known, is_known}
-use Rattle.sx_top.proofs.Statuses.{all_zero, all_not_zero, all_not_two, all_not_four, head_zero, head_not_two, check_not_four, checked_not}
+use Rattle.sx_top.proofs.Said.{came, faults_of}
+use Rattle.sx_top.proofs.Statuses.{head_zero, head_not_two, check_not_four, checked_not}
+use Rattle.sx_top.proofs.Stops.{output_status}
+use Rattle.sx_top.proofs.Stops.{not_two as run_not_two}
 
-faults_of : {tells to_tell : Bool} {m0 m1 : Moment} {status : ℕ} {F : List Answer → Output} {also : List Answer → Type 0} → ((bytes : List ℕ) → (F (scan head_lines Ended [] bytes)).status ≡ 4 → ⊥)
-    → Told tells to_tell head_lines m0 m1 status F also → TellsFaults m0 m1 status
-faults_of {tells} {to_tell} {m0} {m1} {status} {F} {also} never told = record {
-  read = λ four. told-fault told (λ five. omega (arith, four, five)) (λ six. omega (arith, four, six)) (λ bytes e. never bytes (sym e ∙ four));
-  write = λ five. told-write-fault told five;
-  no_write = λ other. told-no-write-fault told other;
-}
-
-end_of : (to_tell : Bool) (m0 m1 : Moment) (status : ℕ) (o : Output)
-    → (status ≡ out_of_memory) ⊎ ((status ≡ o.status) × (IsTrue to_tell → m1.sink.written ≡ m0.sink.written ++ o.text)) → o.status ≡ 0 → CameToItsEnd to_tell m0 m1 status o
-end_of to_tell m0 m1 status o (inl six) zero = inl six
-end_of to_tell m0 m1 status o (inr all) zero = inr (all.0 ∙ zero, all.1)
-
-pub run_promise : {tells to_tell : Bool} {m0 m1 : Moment} {status : ℕ} (mac : Mac) → Told tells to_tell head_lines m0 m1 status (run_all mac) anything → RunTold mac tells to_tell m0 m1 status
-run_promise {tells} {to_tell} {m0} {m1} {status} mac told = record {
-  told = told;
-  streams = streams-by longest (run_all mac) (due_all mac) told;
-  faults = faults_of (λ bytes e. all_not_four mac (scan head_lines Ended [] bytes) (faultless head_lines [] bytes) e) told;
-  read_all = λ zero t. told-all told (λ five. omega (arith, zero, five)) (λ six. omega (arith, zero, six))
-      (λ bytes e. all_not_zero mac (scan head_lines Broken [] bytes) (unfinished head_lines [] bytes) (sym e ∙ zero)) t;
-  complete = λ t good quiet.
-      let answers = scan head_lines Ended [] m0.source.rest in
-      end_of to_tell m0 m1 status (run_all mac answers) (told-quiet told t quiet.0 quiet.1) (all_zero mac answers good);
-}
-
-pub run_not_two : {tells to_tell : Bool} {m0 m1 : Moment} {status : ℕ} (mac : Mac) → Told tells to_tell head_lines m0 m1 status (run_all mac) anything → status ≡ 2 → ⊥
-run_not_two mac told two =
+-- a run that was told doesn't end with the status for other words
+with_not_two : {tells to_tell : Bool} {m0 m1 : Moment} {status : ℕ} {also : List Answer → Type 0} (mac : Mac) (meaning : Meaning) (texts : List (List ℕ))
+    → Told tells to_tell head_lines m0 m1 status (run_all mac meaning texts) also → status ≡ 2 → ⊥
+with_not_two mac meaning texts told two =
     let w = told-some told in
-    all_not_two mac w.0 (sym (w.1.0.whole (λ five. omega (arith, two, five)) (λ six. omega (arith, two, six))).0 ∙ two)
+    run_not_two meaning (head w.0)
+    (sym (output_status mac meaning texts w.0) ∙ sym (w.1.0.whole (λ five. omega (arith, two, five)) (λ six. omega (arith, two, six))).0 ∙ two)
+
+pub says_not_two : {tells to_tell : Bool} {m0 m1 : Moment} {status : ℕ} (mac : Mac) → RunSays mac tells to_tell m0 m1 status → status ≡ 2 → ⊥
+says_not_two mac run two =
+    elim run.says [
+      | inl starved ↦ omega (arith, starved.six, two)
+      | inr r ↦ with_not_two mac known r.texts (r.told known is_known) two
+    ]
 
 pub check_not_two : {tells to_tell : Bool} {m0 m1 : Moment} {status : ℕ} → CheckTold tells to_tell m0 m1 status → status ≡ 2 → ⊥
 check_not_two check two =
@@ -67,5 +52,5 @@ check_promise {tells} {to_tell} {m0} {m1} {status} told = record {
   faults = faults_of (λ bytes e. check_not_four known (scan head_lines Ended [] bytes) (faultless head_lines [] bytes) e) (told known is_known);
   complete = λ meaning is t good quiet.
       let answers = scan head_lines Ended [] m0.source.rest in
-      end_of to_tell m0 m1 status (check_all meaning answers) (told-quiet (told meaning is) t quiet.0 quiet.1) (head_zero meaning (head answers) good);
+      came to_tell m0 m1 status (check_all meaning answers) (told-quiet (told meaning is) t quiet.0 quiet.1) (head_zero meaning (head answers) good);
 }

@@ -10,6 +10,7 @@ use Rattle.sx_told.proofs.Due.{streams-by}
 use Rattle.sx_tag.specs.Mac.{Mac, IsTag}
 use Rattle.sx_head.specs.Head.{head, head_lines}
 use Rattle.sx_model.specs.Legal.{Legal, before}
+use Rattle.sx_model.proofs.Telling as telling
 use Rattle.sx_deploy.specs.Deployment.{Deployed}
 use Rattle.sx_world.specs.Accepted.{AreImages, setting_of}
 use Rattle.sx_top.specs.Check.{Meaning, IsMeaning}
@@ -28,7 +29,8 @@ legal_by : (mac : Mac) (deployment : Option (List ℕ)) (texts : List (List ℕ)
 legal_by mac None texts d tag deploys images schedule = absurd deploys
 legal_by mac (Some text) texts d tag deploys images schedule = items_legal mac text d texts tag deploys images schedule
 
-came : (to_tell : Bool) (m0 m1 : Moment) (status : ℕ) (o : Output)
+-- an input that is to be run to its end came to it
+pub came : (to_tell : Bool) (m0 m1 : Moment) (status : ℕ) (o : Output)
     → (status ≡ out_of_memory) ⊎ ((status ≡ o.status) × (IsTrue to_tell → m1.sink.written ≡ m0.sink.written ++ o.text)) → o.status ≡ 0 → CameToItsEnd to_tell m0 m1 status o
 came to_tell m0 m1 status o (inl six) zero = inl six
 came to_tell m0 m1 status o (inr all) zero = inr (all.0 ∙ zero, all.1)
@@ -46,6 +48,8 @@ runs_with {tells} {to_tell} {m0} {m1} {status} mac tag deployment texts headed r
   told = told;
   streams = λ meaning is. streams-by longest (run_all mac meaning texts) (due_all mac meaning texts) (told meaning is);
   legal = λ d deploys schedule. legal_by mac deployment texts d tag deploys (realize d deploys) schedule;
+  tells_reader = λ d deploys schedule.
+      telling.tells d.app (before (items_of mac d texts schedule)) (legal_by mac deployment texts d tag deploys (realize d deploys) schedule);
   guarded = λ d. is_guarded (setting_of mac d texts);
   complete = λ meaning is t good quiet.
       let answers = scan head_lines Ended [] m0.source.rest in
@@ -53,17 +57,21 @@ runs_with {tells} {to_tell} {m0} {m1} {status} mac tag deployment texts headed r
       (output_status mac meaning texts answers ∙ good_zero meaning (head answers) good);
 }
 
-with_faults : {tells to_tell : Bool} {m0 m1 : Moment} {status : ℕ} {also : List Answer → Type 0} (mac : Mac) (meaning : Meaning) (texts : List (List ℕ))
-    → Told tells to_tell head_lines m0 m1 status (run_all mac meaning texts) also → TellsFaults m0 m1 status
-with_faults {tells} {to_tell} {m0} {m1} {status} {also} mac meaning texts told = record {
-  read = λ four.
-      told-fault told (λ five. omega (arith, four, five)) (λ six. omega (arith, four, six))
-      (λ bytes e.
-      let answers = scan head_lines Ended [] bytes in
-      not_four meaning answers (faultless head_lines [] bytes) (sym (output_status mac meaning texts answers) ∙ sym e ∙ four));
+-- a status tells of faults, where no answers of an input without a read that failed give status 4
+pub faults_of : {tells to_tell : Bool} {m0 m1 : Moment} {status : ℕ} {F : List Answer → Output} {also : List Answer → Type 0} → ((bytes : List ℕ) → (F (scan head_lines Ended [] bytes)).status ≡ 4 → ⊥)
+    → Told tells to_tell head_lines m0 m1 status F also → TellsFaults m0 m1 status
+faults_of {tells} {to_tell} {m0} {m1} {status} {F} {also} never told = record {
+  read = λ four. told-fault told (λ five. omega (arith, four, five)) (λ six. omega (arith, four, six)) (λ bytes e. never bytes (sym e ∙ four));
   write = λ five. told-write-fault told five;
   no_write = λ other. told-no-write-fault told other;
 }
+
+with_faults : {tells to_tell : Bool} {m0 m1 : Moment} {status : ℕ} {also : List Answer → Type 0} (mac : Mac) (meaning : Meaning) (texts : List (List ℕ))
+    → Told tells to_tell head_lines m0 m1 status (run_all mac meaning texts) also → TellsFaults m0 m1 status
+with_faults mac meaning texts told =
+    faults_of (λ bytes e.
+    let answers = scan head_lines Ended [] bytes in
+    not_four meaning answers (faultless head_lines [] bytes) (sym (output_status mac meaning texts answers) ∙ e)) told
 
 with_all : {tells to_tell : Bool} {m0 m1 : Moment} {status : ℕ} {also : List Answer → Type 0} (mac : Mac) (meaning : Meaning) (texts : List (List ℕ))
     → Told tells to_tell head_lines m0 m1 status (run_all mac meaning texts) also → status ≡ 0 → IsTrue tells → m1.source.rest ≡ []

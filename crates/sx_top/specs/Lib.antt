@@ -1,13 +1,9 @@
-pub mod Words
-pub mod Orders
-pub mod Items
-pub mod Ran
 pub mod Output
-pub mod Good
 pub mod Built
 pub mod Check
 pub mod Commands
 pub mod Faults
+pub mod Headless
 pub mod Schedule
 pub mod Run
 pub mod Turns

@@ -1,26 +1,15 @@
 -- What the commands promise, each in one record that speaks of its streams at its start (m0) and at its end (m1).
 use Rattle.std.specs.Prelude.{ℕ, ◌+◌, ◌≤◌, ◌≡◌, Bool, true, false, List, [], ◌++◌, IsTrue, length}
 use Rattle.sx_io.specs.Reading.{Answer, Ending, Ended, longest, scan}
-use Rattle.sx_told.specs.Reads.{anything}
 use Rattle.sx_told.specs.Told.{Ends, Moment, Told, out_of_memory}
-use Rattle.sx_told.specs.Further.{HasEnd, Streams}
+use Rattle.sx_told.specs.Further.{HasEnd}
 use Rattle.sx_tag.specs.Mac.{Mac}
 use Rattle.sx_head.specs.Head.{Head, Found, TooLong, NoMark, Unread, head, head_lines}
 use Rattle.sx_top.specs.Check.{Meaning, IsMeaning, check_all}
 use Rattle.sx_top.specs.Commands.{is_run, is_check, IsGoodHead}
 use Rattle.sx_top.specs.Faults.{CameToItsEnd, IsFaultless, TellsFaults}
-use Rattle.sx_top.specs.Good.{IsGoodInput}
-use Rattle.sx_top.specs.Output.{run_all, misused}
-
--- The command `run`. What it wrote, and its status, are those of the bytes that it took (`told`); it took no more than it
--- must (`streams`); status 0 says that the input was read to its end; an input whose lines are all built is run to its end.
-pub record RunTold (mac : Mac) (tells to_tell : Bool) (m0 m1 : Moment) (status : ℕ) : Type 0 where
-  pub told : Told tells to_tell head_lines m0 m1 status (run_all mac) anything
-  pub streams : Streams tells to_tell head_lines m0 m1 (run_all mac)
-  pub faults : TellsFaults m0 m1 status
-  pub read_all : status ≡ 0 → IsTrue tells → m1.source.rest ≡ []
-  pub complete : IsTrue tells → IsGoodInput (scan head_lines Ended [] m0.source.rest) → IsFaultless m0 m1
-      → CameToItsEnd to_tell m0 m1 status (run_all mac (scan head_lines Ended [] m0.source.rest))
+use Rattle.sx_top.specs.Output.{misused}
+use Rattle.sx_top.specs.Runs.{RunSays}
 
 -- these bytes are a head of this text, and the line `%%` behind it with its newline
 abbrev pub IsHead : List ℕ → List ℕ → Type 0
@@ -52,7 +41,7 @@ pub record MisusedTold (to_tell : Bool) (m0 m1 : Moment) (status : ℕ) : Type 0
 
 -- The program: the words name the command. Status 2 comes for other words alone.
 pub record ProgramTold (mac : Mac) (words : List (List ℕ)) (tells to_tell : Bool) (m0 m1 : Moment) (status : ℕ) : Type 0 where
-  pub run : is_run words ≡ true → RunTold mac tells to_tell m0 m1 status
+  pub run : is_run words ≡ true → RunSays mac tells to_tell m0 m1 status
   pub check : is_check words ≡ true → CheckTold tells to_tell m0 m1 status
   pub other : is_run words ≡ false → is_check words ≡ false → MisusedTold to_tell m0 m1 status
   pub usage : status ≡ 2 → (is_run words ≡ false) × (is_check words ≡ false)

@@ -13,7 +13,7 @@ use Rattle.sx_trace.specs.declared.items.Item.{Item}
 use Rattle.sx_trace.specs.Names.{NameLists}
 use Rattle.sx_trace.specs.Items.{item_text}
 use Rattle.sx_deploy.specs.Deployment.{Deployed}
-use Rattle.sx_world.specs.Setting.{Site, Setting}
+use Rattle.sx_world.specs.Setting.{Setting}
 use Rattle.sx_sched.specs.Lines.{Line}
 use Rattle.sx_world.specs.State.{World, Acted, switched_on}
 use Rattle.sx_world.specs.Accepted.{setting_of}
@@ -88,10 +88,6 @@ run_head mac meaning texts Unread = unread
 -- the command `run`
 abbrev pub run_all : Mac → Meaning → List (List ℕ) → List Answer → Output
 run_all mac meaning texts answers = run_head mac meaning texts (head answers)
-
--- the setting of a run: a deployment, and where its modules stand
-abbrev pub setting_at : Mac → Deployed → List Site → Setting
-setting_at mac d sites = record { mac = mac; app = d.app; sites = sites; secret = d.secret; keys = d.keys; places = d.places }
 
 -- the items of the run of a schedule that these answers are
 abbrev pub items_of : Mac → Deployed → List (List ℕ) → List Answer → List Item

@@ -8,6 +8,7 @@ use Rattle.sx_told.specs.Further.{Streams}
 use Rattle.sx_tag.specs.Mac.{Mac}
 use Rattle.sx_head.specs.Head.{Head, Found, TooLong, NoMark, Unread, head, head_lines}
 use Rattle.sx_model.specs.Legal.{Legal, before}
+use Rattle.sx_model.specs.Consequences.{Tells}
 use Rattle.sx_deploy.specs.Deployment.{Deployed, IsRead}
 use Rattle.sx_world.specs.Accepted.{AreImages, setting_of}
 use Rattle.sx_top.specs.Check.{Meaning, IsMeaning}
@@ -34,7 +35,8 @@ Deploys (Some text) d = IsRead text (Ok d)
 
 -- There are images, each of which realizes its module of the deployment that was read, and what was written is the text of the
 -- run with these images (`told`); no more was taken than must be (`streams`). Whatever the schedule is, the items of its run with
--- them are legal up to the first that is forged, and no step of it but a module's own reads or changes its private section. An
+-- them are legal up to the first that is forged, with what a reader may take from that (`tells_reader`), and no step of it but a
+-- module's own reads or changes its private section. An
 -- input that keeps the rules is run to its end. That there is no head is told without memory.
 pub record RunsWith (mac : Mac) (tells to_tell : Bool) (m0 m1 : Moment) (status : ℕ) : Type 0 where
   pub deployment : Option (List ℕ)
@@ -45,6 +47,7 @@ pub record RunsWith (mac : Mac) (tells to_tell : Bool) (m0 m1 : Moment) (status 
       → Told tells to_tell head_lines m0 m1 status (run_all mac meaning texts) (λ answers. HasHead deployment (head answers))
   pub streams : (meaning : Meaning) → IsMeaning meaning → Streams tells to_tell head_lines m0 m1 (run_all mac meaning texts)
   pub legal : (d : Deployed) → Deploys deployment d → (schedule : List Answer) → Legal d.app (before (items_of mac d texts schedule))
+  pub tells_reader : (d : Deployed) → Deploys deployment d → (schedule : List Answer) → Tells d.app (before (items_of mac d texts schedule))
   pub guarded : (d : Deployed) → IsGuarded (setting_of mac d texts)
   pub complete : (meaning : Meaning) → IsMeaning meaning → IsTrue tells → IsGoodInput meaning (head (scan head_lines Ended [] m0.source.rest))
       → IsFaultless m0 m1 → CameToItsEnd to_tell m0 m1 status (run_all mac meaning texts (scan head_lines Ended [] m0.source.rest))
@@ -71,3 +74,11 @@ pub record RunsBehind (mac : Mac) (tells to_tell : Bool) (now : Ahead) (m1 m2 : 
   pub texts : List (List ℕ)
   pub realize : (d : Deployed) → IsRead text (Ok d) → AreImages mac d texts
   pub rest : (meaning : Meaning) → IsMeaning meaning → Rest tells to_tell head_lines now m1 m2 status (run_found mac texts (meaning text))
+
+-- memory ran out before the images were made, and nothing was read or written
+pub record RanOut (m1 m2 : Moment) (status : ℕ) : Type 0 where
+  pub six : status ≡ out_of_memory
+  pub same : m2 ≡ m1
+
+abbrev pub RunsOrRanOut : Mac → Bool → Bool → Ahead → Moment → Moment → ℕ → List ℕ → Type 0
+RunsOrRanOut mac tells to_tell now m1 m2 status text = RanOut m1 m2 status ⊎ RunsBehind mac tells to_tell now m1 m2 status text

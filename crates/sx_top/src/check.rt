@@ -1,24 +1,22 @@
 //! The command `check`: it reads a deployment and says where its modules stand, or which rule it breaks.
 
-ghost use Rattle.std.specs.Prelude.{◌≡◌, ◌≤◌, ◌++◌, ◌∷◌, IfOk, OnOk, Ok, string_bytes};
+ghost use Rattle.std.specs.Prelude.{◌≡◌, ◌++◌, IfOk, OnOk, Ok};
 ghost use Rattle.sx_told.specs.Told.{Told, Ends, moment};
 ghost use Rattle.sx_head.specs.Head.{head_lines};
 ghost use Rattle.sx_deploy.specs.SeenDeployment.{deployed_as};
 ghost use Rattle.sx_top.specs.Output.{end_line};
-ghost use Rattle.sx_top.specs.Check.{Meaning, IsMeaning, digit, address, module_line, module_lines, fault_line, refused, checked, check_all};
+ghost use Rattle.sx_top.specs.Check.{Meaning, IsMeaning, digit, address, module_line, module_lines, checked, check_all};
 ghost use Rattle.sx_top.specs.Promises.{CheckTold, RunsOutBehindHead};
 
+use crate::refusing::{refuse, refuse_head};
 use std::alloc::{AllocError, Global};
+use sx_deploy::DeployError;
 use sx_deploy::deployment::{Deployment, read_deployment};
-use sx_deploy::{DeployError, DeployFault};
-use sx_head::{HeadFault, read_head};
+use sx_head::read_head;
 use sx_io::{Lines, Sink, Source};
 use sx_lang::names::Name;
 use sx_rules::Layout;
-use sx_told::{OUT_OF_MEMORY, READ_FAILED, finish};
-
-/// The exit status for a deployment that breaks a rule.
-const REFUSED: u8 = 1;
+use sx_told::{OUT_OF_MEMORY, finish};
 
 const DIGITS: [u8; 16] = *b"0123456789abcdef";
 
@@ -73,14 +71,6 @@ fn module_lines(alloc: Global, names: &[Name], layouts: &[Layout]) -> Result<Vec
     Ok(text)
 }
 
-/// The line of a broken rule.
-#[tactic(auto, unfolding(crate::specs::Check::fault_line))]
-fn fault_line(alloc: Global, fault: DeployFault) -> Result<String, AllocError>
-    ensures { IfOk result (λ text. string_bytes text ≡ fault_line fault) }
-{
-    format!(in alloc; "fault deployment {fault}\n")
-}
-
 /// The lines of a deployment that keeps the rules.
 #[tactic(auto, unfolding(crate::specs::Output::end_line))]
 fn accepted(alloc: Global, deployment: &Deployment) -> Result<Vec<u8>, AllocError>
@@ -97,16 +87,6 @@ fn accept<K: Sink>(alloc: Global, deployment: &Deployment, output: &mut K) -> u8
 {
     match accepted(alloc, deployment) {
         Ok(text) => finish(output, &text, 0),
-        Err(_) => OUT_OF_MEMORY,
-    }
-}
-
-/// Writes which rule is broken, and where.
-fn refuse<K: Sink>(alloc: Global, fault: DeployFault, output: &mut K) -> u8
-    ensures { Ends K.tells (K.at output.old) (K.at output.new) result (refused fault) }
-{
-    match fault_line(alloc, fault) {
-        Ok(text) => finish(output, text.as_bytes(), REFUSED),
         Err(_) => OUT_OF_MEMORY,
     }
 }
@@ -132,10 +112,7 @@ fn check_told<S: Source, K: Sink>(alloc: Global, input: &mut S, output: &mut K) 
     let mut lines = Lines::new();
     match read_head(alloc, &mut lines, input) {
         Ok(text) => judge(alloc, &text, output),
-        Err(HeadFault::TooLong) => finish(output, b"fault deployment D1 -\n", REFUSED),
-        Err(HeadFault::NoMark) => finish(output, b"fault deployment D2 -\n", REFUSED),
-        Err(HeadFault::Failed) => finish(output, b"fault read\n", READ_FAILED),
-        Err(HeadFault::OutOfMemory) => OUT_OF_MEMORY,
+        Err(fault) => refuse_head(fault, output),
     }
 }
 

@@ -29,11 +29,22 @@ fn is_word(words: &[String], name: &[u8]) -> bool
 /// Does all that the program does, and gives its exit status. `words` are those of the command line
 /// behind the program's name.
 ///
-/// The commands are `check`, which reads a deployment and says where its modules stand, and `run`.
-/// Their output, a fault's line too, goes to `output`; each line's items of a run are written before
-/// the next line is read. The status is 0 at the end, 1 for a deployment that breaks a rule, 2 for
-/// other words, 4 after a read that failed, 5 after a write that failed, 6 for want of memory, and 7
-/// at the first line of a run that isn't built.
+/// The commands are `run` and `check`, each the one word. Both read a deployment and the line `%%`
+/// behind it. `check` writes where each module stands, and `end`. `run` writes each module's image,
+/// `trace`, the items of the schedule that follows, one a line, and `end`; a line's items are written
+/// before the next line is read.
+///
+/// | Status | Last line | When |
+/// |---|---|---|
+/// | 0 | `end` | all was written; `run` read the input to its end |
+/// | 1 | `fault deployment Dk place` | the deployment breaks the rule Dk, the first in order that it breaks |
+/// | 2 | `fault usage` | the words are no command; nothing was read |
+/// | 3 | `fault schedule Sk line` | this line, counted from 1, is the first that breaks a rule, and Sk is the first that it breaks |
+/// | 4 | `fault read` | a read failed |
+/// | 5 | none | a write failed: what was written is a prefix of what is defined |
+/// | 6 | none | memory ran out: what was written is a prefix of what is defined |
+///
+/// Every line, a fault's too, goes to `output` and ends with a newline.
 #[tactic(auto, unfolding(crate::specs::Output::usage_line))]
 pub fn top<S: Source, K: Sink>(alloc: Global, words: &[String], input: &mut S, output: &mut K) -> u8
     // What is written, and the status, are what is defined for the words and for the bytes that were

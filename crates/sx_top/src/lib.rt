@@ -1,33 +1,29 @@
-//! The commands of the program: `check`, and `run` on one node, `n`.
+//! The commands of the program: `check`, and `run`.
 //!
 //! `top` does all that the program does. What it promises is one record, `ProgramTold` of
-//! specs/Promises.antt, and in it one for each command. They say that what is written, and the exit
-//! status, are `run_all` (specs/Output.antt) or `check_all` (specs/Check.antt) of the input: of its
-//! lines (sx_io), what each orders (specs/Orders.antt), what an order does to the node
-//! (specs/Ran.antt, over the node's definitions in sx_machine), and the items that tell of it
-//! (specs/Items.antt); and how far the input was read.
+//! specs/Promises.antt, and in it one for each command: `CheckTold` there, and `RunSays` of specs/Runs.antt.
+//! They say that what is written, and the exit status, are `check_all` (specs/Check.antt) or `run_all`
+//! (specs/Run.antt) of the input: of its head (sx_head), of what the deployment in it means (sx_deploy),
+//! of the texts of its modules' images, and of the lines of its schedule (specs/Schedule.antt), each of which
+//! is an act in a world (sx_world); and how far the input was read.
 //!
-//! What `run` will promise of a deployment is `RunSays` of specs/Runs.antt: its output is `run_all`
-//! (specs/Run.antt) of the lines of its schedule (specs/Schedule.antt), and it is legal and guarded. Its
-//! parts that need no world stand beside the run on one node: `compiling`, `images`, `judging`, `trace`, and
-//! `schedule`, which runs lines on anything that acts as a world does (`acting`). No command calls them yet.
+//! The images are any that realize their modules, and those that `run` writes are such. With them the items of
+//! every schedule are legal in the source up to the first that is forged, and no step of a node but a module's
+//! own reads or changes its private section (specs/Histories.antt).
 #![tactic(auto)]
 
-mod acting;
 mod check;
 mod command;
 mod compiling;
 mod images;
-mod items;
 mod judging;
-mod obey;
-mod order;
+mod nodes;
+mod refusing;
 mod run;
 mod schedule;
 #[cfg(test)]
 mod tests;
 mod trace;
-mod words;
 
 pub use command::top;
 pub use run::run_over;

@@ -7,43 +7,52 @@ ghost use Rattle.sx_sched.specs.Lines.{line_of, IsLine};
 ghost use Rattle.sx_told.specs.Told.{Output, Does, Rest, moment};
 ghost use Rattle.sx_head.specs.Head.{head_lines};
 ghost use Rattle.sx_deploy.specs.SeenDeployment.{deployed_as};
-ghost use Rattle.sx_world.specs.State.{World, switched_on};
+ghost use Rattle.sx_deploy.specs.Law as deployment;
+ghost use Rattle.sx_world.specs.State.{World as Reached, switched_on};
+ghost use Rattle.sx_world.specs.Held.{setting};
+ghost use Rattle.sx_world.specs.Law.{IsSound};
+ghost use Rattle.sx_world.specs.Standing.{IsGoing, Stands};
 ghost use Rattle.sx_world.specs.Accepted.{sites_of};
-ghost use Rattle.sx_top.specs.Run.{done, told_by, run_from, run_found, setting_at};
+ghost use Rattle.sx_top.specs.Run.{done, told_by, run_from, run_found};
 ghost use Rattle.sx_top.specs.Turns.{Turns};
 
-use crate::acting::Acts;
 use crate::images::put_images;
 use crate::judging::{TOO_LONG, break_off, judge};
 use crate::trace::push_items;
 use std::alloc::Global;
+use sx_bus::Bus;
 use sx_deploy::deployment::Deployment;
 use sx_image::Image;
 use sx_io::{LineRead, Lines, Sink, Source};
 use sx_sched::lines::{Line, LineError};
+use sx_tag::Tag;
 use sx_told::{OUT_OF_MEMORY, READ_FAILED, Turned, finish, put_text};
 use sx_trace::items::Item;
+use sx_world::world::World;
 
 /// Acts a line, and writes its items.
-fn tell<K: Sink, W: Acts>(
+fn tell<K: Sink, B: Bus, T: Tag>(
     output: &mut K,
-    world: &mut W,
+    world: &mut World<B, T>,
     plan: &Deployment,
     items: &mut Vec<Item>,
     text: &mut Vec<u8>,
     line: &Line,
 ) -> Turned
+    requires sound { deployment.IsSound (deployed_as plan.now) }
+    requires images { IsSound (setting T.mac (deployed_as plan.now) world.old.sites) }
+    requires going { IsGoing (setting T.mac (deployed_as plan.now) world.old.sites) world.old }
     requires form { IsLine (deployed_as plan.now).names (line_of line.now) }
-    requires few { W.lines world.old < 65536 }
-    ensures does { (w : World) → W.shows (setting_at W.mac (deployed_as plan.now) (W.sites world.old)) world.old w
-        → (left : World → List Answer → Output) → Does K.tells (K.at output.old) (K.at output.new)
-        (λ more. told_by (deployed_as plan.now).names (done (setting_at W.mac (deployed_as plan.now) (W.sites world.old)) w (line_of line.now)) (λ v. left v more))
-        result (left (done (setting_at W.mac (deployed_as plan.now) (W.sites world.old)) w (line_of line.now)).world) }
-    ensures stands { result ≡ Turned.On → (w : World) → W.shows (setting_at W.mac (deployed_as plan.now) (W.sites world.old)) world.old w
-        → W.shows (setting_at W.mac (deployed_as plan.now) (W.sites world.old)) world.new
-        (done (setting_at W.mac (deployed_as plan.now) (W.sites world.old)) w (line_of line.now)).world }
-    ensures sites { W.sites world.new ≡ W.sites world.old }
-    ensures counts { result ≡ Turned.On → W.lines world.new ≡ W.lines world.old + 1 }
+    requires few { world.old.lines < 65536 }
+    ensures does { (w : Reached) → Stands (setting T.mac (deployed_as plan.now) world.old.sites) world.old w
+        → (left : Reached → List Answer → Output) → Does K.tells (K.at output.old) (K.at output.new)
+        (λ more. told_by (deployed_as plan.now).names (done (setting T.mac (deployed_as plan.now) world.old.sites) w (line_of line.now)) (λ v. left v more))
+        result (left (done (setting T.mac (deployed_as plan.now) world.old.sites) w (line_of line.now)).world) }
+    ensures stands { result ≡ Turned.On → (w : Reached) → Stands (setting T.mac (deployed_as plan.now) world.old.sites) world.old w
+        → Stands (setting T.mac (deployed_as plan.now) world.old.sites) world.new
+        (done (setting T.mac (deployed_as plan.now) world.old.sites) w (line_of line.now)).world }
+    ensures sites { world.new.sites ≡ world.old.sites }
+    ensures counts { result ≡ Turned.On → world.new.lines ≡ world.old.lines + 1 }
 {
     items.clear();
     text.clear();
@@ -57,24 +66,27 @@ fn tell<K: Sink, W: Acts>(
 }
 
 /// Does what a line says, and writes its items.
-fn turn<K: Sink, W: Acts>(
+fn turn<K: Sink, B: Bus, T: Tag>(
     alloc: Global,
     output: &mut K,
-    world: &mut W,
+    world: &mut World<B, T>,
     plan: &Deployment,
     items: &mut Vec<Item>,
     text: &mut Vec<u8>,
     said: &[u8],
     number: u32,
 ) -> Turned
+    requires sound { deployment.IsSound (deployed_as plan.now) }
+    requires images { IsSound (setting T.mac (deployed_as plan.now) world.old.sites) }
+    requires going { IsGoing (setting T.mac (deployed_as plan.now) world.old.sites) world.old }
     requires names { IsTrue (are_valid (deployed_as plan.now).names) }
-    requires counted { W.lines world.old + 1 ≡ number }
-    ensures turns { (w : World) → W.shows (setting_at W.mac (deployed_as plan.now) (W.sites world.old)) world.old w
-        → Turns K.tells (K.at output.old) (K.at output.new) (deployed_as plan.now).names (setting_at W.mac (deployed_as plan.now) (W.sites world.old))
-        (W.shows (setting_at W.mac (deployed_as plan.now) (W.sites world.old)) world.new) number said.now result w }
+    requires counted { world.old.lines + 1 ≡ number }
+    ensures turns { (w : Reached) → Stands (setting T.mac (deployed_as plan.now) world.old.sites) world.old w
+        → Turns K.tells (K.at output.old) (K.at output.new) (deployed_as plan.now).names (setting T.mac (deployed_as plan.now) world.old.sites)
+        world.new number said.now result w }
     ensures few { result ≡ Turned.On → number ≤ 65536 }
-    ensures sites { W.sites world.new ≡ W.sites world.old }
-    ensures counts { result ≡ Turned.On → W.lines world.new ≡ number }
+    ensures sites { world.new.sites ≡ world.old.sites }
+    ensures counts { result ≡ Turned.On → world.new.lines ≡ number }
 {
     match judge(alloc, &plan.names, said, number) {
         Ok(line) => tell(output, world, plan, items, text, &line),
@@ -84,21 +96,23 @@ fn turn<K: Sink, W: Acts>(
 }
 
 /// Runs the lines of a schedule in a world where all was just switched on.
-pub(crate) fn run_lines<S: Source, K: Sink, W: Acts>(
+pub(crate) fn run_lines<S: Source, K: Sink, B: Bus, T: Tag>(
     alloc: Global,
     lines: &mut Lines,
     input: &mut S,
     output: &mut K,
     plan: &Deployment,
-    world: &mut W,
+    world: &mut World<B, T>,
 ) -> u8
+    requires sound { deployment.IsSound (deployed_as plan.now) }
+    requires images { IsSound (setting T.mac (deployed_as plan.now) world.old.sites) }
     requires names { IsTrue (are_valid (deployed_as plan.now).names) }
-    requires new { W.lines world.old ≡ 0 }
-    requires shows { W.shows (setting_at W.mac (deployed_as plan.now) (W.sites world.old)) world.old
-        (switched_on (setting_at W.mac (deployed_as plan.now) (W.sites world.old))) }
+    requires new { world.old.lines ≡ 0 }
+    requires stands { Stands (setting T.mac (deployed_as plan.now) world.old.sites) world.old
+        (switched_on (setting T.mac (deployed_as plan.now) world.old.sites)) }
     ensures { Rest S.tells K.tells head_lines lines.old (moment (S.at input.old) (K.at output.old)) (moment (S.at input.new) (K.at output.new)) result
-        (run_from (deployed_as plan.now).names (setting_at W.mac (deployed_as plan.now) (W.sites world.old))
-        (switched_on (setting_at W.mac (deployed_as plan.now) (W.sites world.old))) 1) }
+        (run_from (deployed_as plan.now).names (setting T.mac (deployed_as plan.now) world.old.sites)
+        (switched_on (setting T.mac (deployed_as plan.now) world.old.sites)) 1) }
 {
     let mut into = [0; 4096];
     let mut items = Vec::new(alloc);
@@ -127,23 +141,25 @@ pub(crate) fn run_lines<S: Source, K: Sink, W: Acts>(
 }
 
 /// The images' lines, `trace`, and the schedule, in a world where all was just switched on.
-pub(crate) fn run_built<S: Source, K: Sink, W: Acts>(
+pub(crate) fn run_built<S: Source, K: Sink, B: Bus, T: Tag>(
     alloc: Global,
     lines: &mut Lines,
     input: &mut S,
     output: &mut K,
     plan: &Deployment,
     images: &[Image],
-    world: &mut W,
+    world: &mut World<B, T>,
 ) -> u8
+    requires sound { deployment.IsSound (deployed_as plan.now) }
+    requires images { IsSound (setting T.mac (deployed_as plan.now) world.old.sites) }
     requires names { IsTrue (are_valid (deployed_as plan.now).names) }
-    requires new { W.lines world.old ≡ 0 }
-    requires sites { W.sites world.old ≡ sites_of (deployed_as plan.now).app.parts (deployed_as plan.now).layouts (deployed_as plan.now).providers
+    requires new { world.old.lines ≡ 0 }
+    requires sites { world.old.sites ≡ sites_of (deployed_as plan.now).app.parts (deployed_as plan.now).layouts (deployed_as plan.now).providers
         (map (λ i. i.text.items) images.now) }
-    requires shows { W.shows (setting_at W.mac (deployed_as plan.now) (W.sites world.old)) world.old
-        (switched_on (setting_at W.mac (deployed_as plan.now) (W.sites world.old))) }
+    requires stands { Stands (setting T.mac (deployed_as plan.now) world.old.sites) world.old
+        (switched_on (setting T.mac (deployed_as plan.now) world.old.sites)) }
     ensures { Rest S.tells K.tells head_lines lines.old (moment (S.at input.old) (K.at output.old)) (moment (S.at input.new) (K.at output.new)) result
-        (run_found W.mac (map (λ i. i.text.items) images.now) (Ok (deployed_as plan.now))) }
+        (run_found T.mac (map (λ i. i.text.items) images.now) (Ok (deployed_as plan.now))) }
 {
     match put_images(alloc, &plan.names, images, output) {
         Turned::Stop(status) => status,

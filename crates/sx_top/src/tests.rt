@@ -2,7 +2,6 @@
 
 ghost use Rattle.std.specs.Prelude.{◌≤◌};
 
-use crate::order::{LineError, order_of};
 use crate::top;
 use std::alloc::{AllocError, Global};
 use std::process::Abort;
@@ -42,11 +41,11 @@ fn writes(
     Ok(())
 }
 
+/// Where no node is listed, there is one, `n`.
 #[test]
-fn runs(rt: HostRuntime) -> Result<(), Fail> {
-    let rows: [(&[u8], u8, &[u8]); 10] = [
+fn runs_on_one_node(rt: HostRuntime) -> Result<(), Fail> {
+    let rows: [(&[u8], u8, &[u8]); 9] = [
         (b"%%\n", 0, b"trace\nend\n"),
-        (b"", 7, b"fault unbuilt\n"),
         // MOV @R5,R6
         (
             b"%%\nput n 0x4000 2645\nset n r5 0x5000\nset n pc 0x4000\nrun n 1\n",
@@ -60,8 +59,8 @@ fn runs(rt: HostRuntime) -> Result<(), Fail> {
         ),
         (
             b"%%\nput n 0xffff 0000\nreset n\nfly n\n",
-            7,
-            b"trace\nskip n\nreset n asked\nfault unbuilt\n",
+            3,
+            b"trace\nskip n\nreset n asked\nfault schedule S3 3\n",
         ),
         // SUB #1,R5 and JNE back to it, until R5 is 0; then the word 0, which is illegal
         (
@@ -98,6 +97,50 @@ fn runs(rt: HostRuntime) -> Result<(), Fail> {
         writes(&rt, rt.alloc(), "run", input, status, text)?;
     }
     Ok(())
+}
+
+#[test]
+fn schedules_that_break_a_rule(rt: HostRuntime) -> Result<(), Fail> {
+    let rows: [(&[u8], &[u8]); 7] = [
+        (b"%%\n\n# fly\nfly n\n", b"trace\nfault schedule S3 3\n"),
+        (b"%%\n; n\n", b"trace\nfault schedule S3 1\n"),
+        (b"%%\nrun m 1\n", b"trace\nfault schedule S4 1\n"),
+        (b"%%\nirq n 15\n", b"trace\nfault schedule S5 1\n"),
+        (b"%%\nput n 0 123\n", b"trace\nfault schedule S6 1\n"),
+        (b"%%\nrun n 1 1\n", b"trace\nfault schedule S7 1\n"),
+        (
+            b"%%\nreset n\nreset n n\nreset n\n",
+            b"trace\nreset n asked\nfault schedule S7 2\n",
+        ),
+    ];
+    for (input, text) in rows {
+        writes(&rt, rt.alloc(), "run", input, 3, text)?;
+    }
+    Ok(())
+}
+
+#[test]
+fn lines_up_to_the_limit(rt: HostRuntime) -> Result<(), Fail> {
+    let alloc = rt.alloc();
+    let mut input = Vec::new(alloc);
+    input.extend_from_slice(b"%%\n")?;
+    for _ in 0..65_536 {
+        input.push(b'\n')?;
+    }
+    writes(&rt, alloc, "run", &input, 0, b"trace\nend\n")?;
+    input.push(b'\n')?;
+    writes(
+        &rt,
+        alloc,
+        "run",
+        &input,
+        3,
+        b"trace\nfault schedule S2 65537\n",
+    )?;
+    let mut long = Vec::new(alloc);
+    long.extend_from_slice(b"%%\n\n")?;
+    long.extend_from_slice(&[b'#'; 4097])?;
+    writes(&rt, alloc, "run", &long, 3, b"trace\nfault schedule S1 2\n")
 }
 
 /// A sensor's driver, a module, and what lights the bulb on another node.
@@ -143,7 +186,6 @@ input show;
 on show(v) { emit v; }
 """
 %%
-fly
 "#;
 
 #[test]
@@ -178,8 +220,143 @@ fn checks(rt: HostRuntime) -> Result<(), Fail> {
     ];
     for (input, status, text) in rows {
         writes(&rt, rt.alloc(), "check", input, status, text)?;
+        if status == 1 {
+            writes(&rt, rt.alloc(), "run", input, status, text)?;
+        }
     }
     Ok(())
+}
+
+/// Keys are asked for and given, and a sample of light switches the bulb on.
+const SAMPLE: &[u8] = br#"load eye
+load logic
+load lamp
+ask eye
+give 0 a 0x300
+call eye 1 0x300 0x400
+take a 0x400 16
+answer eye 0 1
+give 2 a 0x300
+call eye 0 0x300 0x400
+ask logic
+give 3 a 0x300
+call logic 1 0x300 0x400
+take a 0x400 16
+answer logic 0 4
+give 5 a 0x300
+call logic 0 0x300 0x400
+give 6 a 0x300
+call logic 0 0x300 0x400
+ask lamp
+give 7 b 0x300
+call lamp 1 0x300 0x400
+take b 0x400 16
+answer lamp 0 8
+give 9 b 0x300
+call lamp 0 0x300 0x400
+sense light 120
+call eye 3 0x300 0x400
+take a 0x400 24
+give 10 a 0x300
+call logic 2 0x300 0x400
+take a 0x400 24
+give 11 b 0x300
+call lamp 2 0x300 0x400
+"#;
+
+const SAMPLED: &[u8] = br#"trace
+protect a eye
+protect a logic
+protect b lamp
+ask eye 0
+packet 0 18
+vouch eye 0
+done eye 1 1
+packet 1 16
+attested eye 0
+packet 2 38
+open eye up from
+done eye 1 0
+ask logic 1
+packet 3 18
+vouch logic 1
+done logic 1 1
+packet 4 16
+attested logic 0
+packet 5 38
+packet 6 38
+open logic up to
+done logic 1 0
+open logic down from
+done logic 1 0
+ask lamp 2
+packet 7 18
+vouch lamp 2
+done lamp 1 1
+packet 8 16
+attested lamp 0
+packet 9 38
+open lamp down to
+done lamp 1 0
+sense light 120
+read eye 120
+done eye 1 1
+packet 10 24
+take logic up 0 120
+done logic 1 1
+packet 11 24
+take lamp down 0 1
+out lamp 1
+done lamp 1 0
+end
+"#;
+
+/// Whether the text ends so.
+fn ends_so(text: &[u8], end: &[u8]) -> bool {
+    end.len() <= text.len() && &text[text.len() - end.len()..] == end
+}
+
+/// What the lines of the images of the lighting's modules take.
+const IMAGES: usize = 15_908;
+
+/// Whether the lighting does what this schedule says.
+fn lights(
+    rt: &impl Abort,
+    alloc: Global,
+    schedule: &[u8],
+    status: u8,
+    text: &[u8],
+) -> Result<(), Fail> {
+    let mut given = Vec::new(alloc);
+    given.extend_from_slice(LIGHTING)?;
+    given.extend_from_slice(schedule)?;
+    let mut input = source(alloc, &given, 4096, 0)?;
+    let mut output = MemSink::new(alloc, 20_000, Vec::new(alloc))?;
+    let answer = top(alloc, &words(alloc, "run")?, &mut input, &mut output);
+    assert_eq!(rt; answer, status);
+    assert!(rt; ends_so(output.written(), text));
+    assert!(rt; output.written().len() == IMAGES + text.len());
+    Ok(())
+}
+
+#[test]
+fn runs_of_the_lighting(rt: HostRuntime) -> Result<(), Fail> {
+    lights(&rt, rt.alloc(), b"", 0, b"trace\nend\n")?;
+    lights(&rt, rt.alloc(), SAMPLE, 0, SAMPLED)?;
+    lights(
+        &rt,
+        rt.alloc(),
+        b"load eye\nload eyes\n",
+        3,
+        b"trace\nprotect a eye\nfault schedule S4 2\n",
+    )?;
+    lights(
+        &rt,
+        rt.alloc(),
+        b"sense bulb 1\n",
+        3,
+        b"trace\nfault schedule S4 1\n",
+    )
 }
 
 #[test]
@@ -215,34 +392,14 @@ fn failing_streams(rt: HostRuntime) -> Result<(), Fail> {
         assert_eq!(rt; top(alloc, &run, &mut input, &mut output), 4);
         assert_eq!(rt; output.written(), text_of);
     }
-    let mut first = Vec::new(alloc);
-    first.push(1)?;
-    let mut input = source(alloc, b"%%\n", 4096, 0)?;
-    let mut output = MemSink::new(alloc, 100, first)?;
-    assert_eq!(rt; top(alloc, &run, &mut input, &mut output), 5);
-    assert_eq!(rt; output.written(), b"".as_slice());
-    Ok(())
-}
-
-#[test]
-fn lines_that_are_not_built(rt: HostRuntime) {
-    let lines: [&[u8]; 14] = [
-        b"fly n",
-        b"run n",
-        b"run m 1",
-        b"run n 0",
-        b"run n 65536",
-        b"run n 1 1",
-        b"put n 0 123",
-        b"put n 0 zz",
-        b"put n 65536 00",
-        b"set n r3 1",
-        b"set n r16 1",
-        b"irq n 15",
-        b"reset n n",
-        b"run,n,1",
-    ];
-    for line in lines {
-        assert!(rt; matches!(order_of(rt.alloc(), line), Err(LineError::Unbuilt)));
+    let rows: [(u64, &[u8]); 2] = [(1, b""), (2, b"trace\n")];
+    for (call, text_of) in rows {
+        let mut calls = Vec::new(alloc);
+        calls.push(call)?;
+        let mut input = source(alloc, b"%%\nreset n\nreset n\n", 4096, 0)?;
+        let mut output = MemSink::new(alloc, 100, calls)?;
+        assert_eq!(rt; top(alloc, &run, &mut input, &mut output), 5);
+        assert_eq!(rt; output.written(), text_of);
     }
+    Ok(())
 }

@@ -3,7 +3,7 @@ use Rattle.std.specs.Prelude.{string_bytes}
 use Rattle.sx_tag.specs.Mac.{hmac_sha256}
 use Rattle.sx_top.specs.Output.{usage_line}
 use Rattle.sx_top.proofs.Statuses.{check_not_run}
-use Rattle.sx_top.proofs.Promised.{run_not_two, check_not_two}
+use Rattle.sx_top.proofs.Promised.{says_not_two, check_not_two}
 use Rattle.sx_top.proofs.command.top.Goals as goal
 
 pub returns-then-is_word-clause-told : goal.returns-then-is_word-clause-told
@@ -13,7 +13,7 @@ returns-then-is_word-clause-told g c =
       run = λ e. c.run_over.ensures;
       check = λ e. absurd (cc (sym is ∙ check_not_run words e));
       other = λ e f. absurd (cc (sym is ∙ e));
-      usage = λ two. absurd (run_not_two hmac_sha256 c.run_over.ensures.told two);
+      usage = λ two. absurd (says_not_two hmac_sha256 c.run_over.ensures two);
     }
 
 pub returns-then-is_word-2-clause-told : goal.returns-then-is_word-2-clause-told

@@ -1,20 +1,20 @@
 use Rattle.std.specs.Prelude.{◌≡◌, ◌≤◌, ◌-◌, ◌+◌}
 use Rattle.sx_told.specs.Told.{moment}
 use Rattle.sx_deploy.specs.SeenDeployment.{deployed_as}
-use Rattle.sx_top.specs.Run.{setting_at}
-use Rattle.sx_top.proofs.Standing.{Stands}
+use Rattle.sx_world.specs.Held.{setting}
+use Rattle.sx_top.proofs.Between.{Between}
 use Rattle.sx_top.proofs.schedule.run_lines.Given as goal
 
 -- Whatever came before, what is left is what is defined from the next line on, in the world that stands now.
 abbrev pub invariant-lines : goal.invariant-lines
 invariant-lines g l =
     let d = deployed_as l.plan in
-    let set = setting_at g.W.Acts.mac d (g.W.Acts.sites l.fn.world) in record {
+    let set = setting g.T.Tag.mac d l.fn.world.sites in record {
       few : l.number ≤ 65537;
-      counted : g.W.Acts.lines l.world + 1 ≡ l.number;
-      sites : g.W.Acts.sites l.world ≡ g.W.Acts.sites l.fn.world;
-      stands : Stands g.S.Source.tells g.K.Sink.tells (moment (g.S.Source.at l.fn.input) (g.K.Sink.at l.fn.output)) (moment (g.S.Source.at l.input) (g.K.Sink.at l.output))
-          l.fn.lines l.lines d.names set (g.W.Acts.shows set l.world) l.number;
+      counted : l.world.lines + 1 ≡ l.number;
+      sites : l.world.sites ≡ l.fn.world.sites;
+      between : Between g.S.Source.tells g.K.Sink.tells (moment (g.S.Source.at l.fn.input) (g.K.Sink.at l.fn.output)) (moment (g.S.Source.at l.input) (g.K.Sink.at l.output))
+          l.fn.lines l.lines d.names set l.world l.number;
     }
 
 abbrev pub decreases-lines : goal.decreases-lines

@@ -1,0 +1,42 @@
+use Rattle.std.proofs.Common.{◌≡◌, ◌∙◌, ℕ, ◌+◌, ◌<◌, List, [], ◌∷◌, ◌++◌, codes, arith, sym, ap, subst}
+use Rattle.std.proofs.lemmas.Fmt.{decimal_digit}
+use Rattle.sx_told.specs.Told.{Output, out_of_memory, read_line, write_failed}
+use Rattle.sx_told.proofs.Laws.{ends-same}
+use Rattle.sx_stage.specs.Fault.{fault}
+use Rattle.sx_stage.specs.declared.fault.Place.TheVariants.{Nowhere}
+use Rattle.sx_head.specs.declared.head.HeadFault.{HeadFault}
+use Rattle.sx_top.specs.Check.{fault_line, refused}
+use Rattle.sx_top.specs.Headless.{EndsHeadless}
+use Rattle.sx_top.specs.Output.{line}
+use Rattle.sx_top.proofs.refusing.refuse_head.Goals as goal
+
+-- a status that finish gives isn't that of want of memory
+not_six : (status ended : ℕ) → ((status ≡ write_failed → ⊥) → status ≡ ended) → (ended ≡ out_of_memory → ⊥) → status ≡ out_of_memory → ⊥
+not_six status ended e n six = n (sym (e (λ five. omega (arith, five, six))) ∙ six)
+
+-- the whole text breaks a rule
+abbrev whole_text : ℕ → List ℕ
+whole_text n = line (codes "fault deployment " ++ (codes "D" ++ ((48 + n) ∷ []) ++ codes " " ++ codes "-"))
+
+refused_whole : (n : ℕ) → n < 10 → refused (fault n Nowhere) ≡ record { text = whole_text n; status = 1 }
+unfolding fault_line
+refused_whole n h =
+    let said : List ℕ → Output = λ d. record { text = line (codes "fault deployment " ++ (codes "D" ++ d ++ codes " " ++ codes "-")); status = 1 } in
+    ap said (decimal_digit n h)
+
+pub returns-in-TooLong : goal.returns-in-TooLong
+returns-in-TooLong g c =
+    let P : HeadFault → Type 0 = λ f. EndsHeadless g.K.Sink.tells (g.K.Sink.at c.args.output.now) (g.K.Sink.at c.finish.new.output) c.finish.result f in
+    subst P (sym c.in-TooLong.is) (ends-same _ _ _ _ _ _ (refused_whole 1 (omega arith)) c.finish.ensures.ends, not_six _ 1 c.finish.ensures.status (λ e. omega (arith, e)))
+
+pub returns-in-NoMark : goal.returns-in-NoMark
+returns-in-NoMark g c =
+    let P : HeadFault → Type 0 = λ f. EndsHeadless g.K.Sink.tells (g.K.Sink.at c.args.output.now) (g.K.Sink.at c.finish-in-NoMark.new.output) c.finish-in-NoMark.result f in
+    subst P (sym c.in-NoMark.is)
+    (ends-same _ _ _ _ _ _ (refused_whole 2 (omega arith)) c.finish-in-NoMark.ensures.ends, not_six _ 1 c.finish-in-NoMark.ensures.status (λ e. omega (arith, e)))
+
+pub returns-in-Failed : goal.returns-in-Failed
+unfolding read_line
+returns-in-Failed g c =
+    let P : HeadFault → Type 0 = λ f. EndsHeadless g.K.Sink.tells (g.K.Sink.at c.args.output.now) (g.K.Sink.at c.finish-in-Failed.new.output) c.finish-in-Failed.result f in
+    subst P (sym c.in-Failed.is) (c.finish-in-Failed.ensures.ends, not_six _ 4 c.finish-in-Failed.ensures.status (λ e. omega (arith, e)))
