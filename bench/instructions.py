@@ -1,12 +1,12 @@
 #!/usr/bin/env python3
-"""The processor's instructions of `sancus check` on the largest deployment and of a `sancus run`, and their allocations.
+"""The processor's instructions of `sancus check` on the largest deployment and of two runs, and their allocations.
 
 Clocks differ from machine to machine and from run to run; these counts don't, so work that nobody needs shows as a
 few lines of difference. valgrind counts: callgrind the instructions, and memcheck's summary the allocations.
 
     bench/instructions.py            counts, and compares with the figures in bench/instructions.json
     bench/instructions.py --store    counts, and writes these figures
-    bench/instructions.py --print check|run    writes the input alone
+    bench/instructions.py --print check|steps|events    writes the input alone
 
 Ends with status 1 where a count differs by more than one part in a hundred from its figure, or has none. The program
 must be built (`./sancus build`). Not a part of the gate.
@@ -66,13 +66,29 @@ def deployment():
     return lines
 
 
-def inputs():
-    """The inputs by the command. `run` takes no deployment yet: a run puts the longest bytes that a line may have, sets
-    and steps on the node n, and resets it, as often as there are modules."""
+def steps():
+    """The node n of an empty deployment: the longest bytes that a line may have are put, and it is set, stepped and reset, as
+    often as there may be modules."""
     schedule = ["%%"]
     for k in range(MODULES):
         schedule += [f"put n 0x4000 {'0345' * 510}ff3f", "set n r5 7", "set n pc 0x4000", "run n 10000", "irq n 3", "reset n"]
-    return {"check": deployment() + ["%%"], "run": schedule}
+    return schedule
+
+
+def events():
+    """The lighting application with its keys set, and 500 samples that are carried to the bulb."""
+    with open(os.path.join(HERE, "..", "examples", "lighting.txt"), encoding="utf-8") as file:
+        lines = [line for line in file.read().split("\n") if not line.startswith("#")]
+    lines = lines[:lines.index("sense light 120")]
+    for k in range(500):
+        lines += [f"sense light {k}", "call eye 3 0x300 0x400", "take a 0x400 24", f"give {10 + 2 * k} a 0x300",
+                  "call logic 2 0x300 0x400", "take a 0x400 24", f"give {11 + 2 * k} b 0x300", "call lamp 2 0x300 0x400"]
+    return lines
+
+
+def inputs():
+    """The command of each case, and its input."""
+    return {"check": ("check", deployment() + ["%%"]), "steps": ("run", steps()), "events": ("run", events())}
 
 
 def valgrind(tool, command, text):
@@ -103,23 +119,23 @@ def counts(command, lines):
 def compared(found, stored):
     """Prints the counts beside their figures; whether each is near its figure."""
     near = True
-    for command, figures in found.items():
+    for case, figures in found.items():
         for what, count in figures.items():
-            figure = stored.get(command, {}).get(what)
+            figure = stored.get(case, {}).get(what)
             change = "no figure" if figure is None else f"{(count - figure) / figure:+.2%}"
             near = near and figure is not None and abs(count - figure) <= TOLERANCE * figure
-            print(f"{command:6} {what:16} {count:15,}   {change}")
+            print(f"{case:6} {what:16} {count:15,}   {change}")
     return near
 
 
 def main():
     words = sys.argv[1:]
     if len(words) == 2 and words[0] == "--print" and words[1] in inputs():
-        print("\n".join(inputs()[words[1]]))
+        print("\n".join(inputs()[words[1]][1]))
         return
     if words not in ([], ["--store"]):
         sys.exit(__doc__)
-    found = {command: counts(command, lines) for command, lines in inputs().items()}
+    found = {case: counts(*given) for case, given in inputs().items()}
     if words:
         with open(FIGURES, "w", encoding="utf-8") as file:
             json.dump(found, file, indent=2)

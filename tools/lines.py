@@ -1,6 +1,7 @@
 #!/usr/bin/env python3
 """Prints the table of lines of docs/PROOFS.md: each crate's src (without tests), specs and proofs."""
 
+import re
 from pathlib import Path
 
 CRATES = Path(__file__).resolve().parent.parent / "crates"
@@ -11,7 +12,9 @@ def lines(files):
 
 
 def counts(crate):
-    src = [file for file in (crate / "src").rglob("*.rt") if "tests" not in file.stem]
+    root = [file.read_text() for file in (crate / "src").glob("lib.rt")]
+    tests = re.findall(r"#\[cfg\(test\)\]\s*mod (\w+);", "".join(root))
+    src = [file for file in (crate / "src").rglob("*.rt") if file.stem not in tests]
     return lines(src), lines((crate / "specs").rglob("*.antt")), lines((crate / "proofs").rglob("*.antt"))
 
 
