@@ -59,5 +59,6 @@ pub mod Sampled
 pub mod Prepared
 pub mod Bounds
 pub mod Readying
+pub mod Continuing
 pub mod Sited
 pub mod SwitchedOn

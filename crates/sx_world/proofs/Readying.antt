@@ -85,11 +85,11 @@ module _ (mac : Mac) (d : Deployed) (sites : List Site) (acc : deployment.IsSoun
   few_steps (Load m) h = omega arith
   few_steps (Call m e input output) h = omega arith
 
-  run_then : (lines : List Line) (line : Line) (w : World) → (run set w (lines ++ line ∷ [])).world ≡ (acted set (counted (run set w lines).world) line).world
+  pub run_then : (lines : List Line) (line : Line) (w : World) → (run set w (lines ++ line ∷ [])).world ≡ (acted set (counted (run set w lines).world) line).world
   run_then [] line w = refl
   run_then (x ∷ lines) line w = run_then lines line (acted set (counted w) x).world
 
-  formed_then : (lines : List Line) (line : Line) → AreInForm set lines → IsInForm set line → AreInForm set (lines ++ line ∷ [])
+  pub formed_then : (lines : List Line) (line : Line) → AreInForm set lines → IsInForm set line → AreInForm set (lines ++ line ∷ [])
   formed_then [] line are is = (is, tt)
   formed_then (x ∷ lines) line are is = (are.0, formed_then lines line are.1 is)
 

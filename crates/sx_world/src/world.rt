@@ -1,15 +1,14 @@
 //! The world of a deployment: its modules' sites, and how its run stands.
 
-ghost use Rattle.std.specs.Prelude.{◌≡◌, ◌≢◌, ℕ, ◌+◌, ◌<◌, ◌++◌, List, false, true, length, map, slice_get, IfOk, IsErr, OnOk, OnErr, IfSome, Option, option_map};
+ghost use Rattle.std.specs.Prelude.{◌≡◌, ◌≢◌, ℕ, ◌+◌, ◌<◌, false, true, length, slice_get, IfOk, IsErr, OnOk, OnErr, IfSome, Option, option_map};
 ghost use Rattle.sx_deploy.specs.Law as deployment;
 ghost use Rattle.sx_deploy.specs.SeenDeployment.{deployed_as};
 ghost use Rattle.sx_sched.specs.Lines.{IsLine, line_of};
-ghost use Rattle.sx_world.specs.Accepted.{setting_of, sites_of};
-ghost use Rattle.sx_world.specs.Held.{IsFront, setting};
+ghost use Rattle.sx_world.specs.Continued.{Acts, ActsInPart, StaysLegal};
+ghost use Rattle.sx_world.specs.InMemory.{image_setting, world_setting};
 ghost use Rattle.sx_world.specs.Law.{IsSound};
-ghost use Rattle.sx_world.specs.Run.{acted, counted};
 ghost use Rattle.sx_world.specs.Standing.{IsGoing, Stands};
-ghost use Rattle.sx_world.specs.State.{World as Reached, nodes_from, switched_on};
+ghost use Rattle.sx_world.specs.State.{nodes_from, switched_on};
 
 use crate::running::Running;
 use crate::sites::{Site, sites_of};
@@ -40,12 +39,17 @@ impl<B: Bus, T: Tag> Model for World<B, T> {
 
     ghost Value = { Held };
 
-    ghost view = { λ w. record { sites = w.sites.items; running = w.running; lines = w.lines; wanted = w.wanted } };
+    ghost view = { λ w. record {
+      sites = w.sites.items;
+      running = w.running;
+      lines = w.lines;
+      wanted = w.wanted;
+    } };
 }
 
 impl<B: Bus, T: Tag> World<B, T> {
-    /// The world of a deployment with these images of its modules, where all nodes were just switched on. Nothing but want of
-    /// memory is refused.
+    /// The world of a deployment with these images of its modules, where all nodes were just switched
+    /// on. Nothing but want of memory is refused.
     pub fn new(
         alloc: Global,
         tag: T,
@@ -55,11 +59,13 @@ impl<B: Bus, T: Tag> World<B, T> {
     ) -> Result<World<B, T>, AllocError>
         requires sound { deployment.IsSound (deployed_as plan.now) }
         requires images { length images.now ≡ length plan.now.app.parts.items }
-        requires nodes { nodes.items ≡ nodes_from (setting_of T.mac (deployed_as plan.now) (map (λ i. i.text.items) images.now)) 0 (deployed_as plan.now).keys }
-        ensures sites { IfOk result (λ world. world.sites ≡ sites_of (deployed_as plan.now).app.parts (deployed_as plan.now).layouts
-            (deployed_as plan.now).providers (map (λ i. i.text.items) images.now)) }
-        ensures stands { IfOk result (λ world. Stands (setting_of T.mac (deployed_as plan.now) (map (λ i. i.text.items) images.now)) world
-            (switched_on (setting_of T.mac (deployed_as plan.now) (map (λ i. i.text.items) images.now)))) }
+        requires nodes { nodes.items
+            ≡ nodes_from (image_setting T.mac plan.now images.now) 0 (deployed_as plan.now).keys }
+        ensures sites { IfOk result (λ world.
+            world.sites ≡ (image_setting T.mac plan.now images.now).sites) }
+        ensures stands { IfOk result (λ world.
+            Stands (image_setting T.mac plan.now images.now) world
+            (switched_on (image_setting T.mac plan.now images.now))) }
         ensures lines { IfOk result (λ world. world.lines ≡ 0) }
         ensures memory { IfOk result (λ world. world.wanted ≡ false) }
     {
@@ -74,8 +80,9 @@ impl<B: Bus, T: Tag> World<B, T> {
         })
     }
 
-    /// Acts a line of a schedule, and appends its items. After want of memory the items that were appended are the first of those
-    /// that were due, and no further line is acted.
+    /// Acts a line of a schedule, and appends its items. The run stays legal up to the first item that
+    /// is forged. After want of memory the items that were appended are the first of those that were
+    /// due, and no further line is acted.
     pub fn act(
         &mut self,
         plan: &Deployment,
@@ -83,20 +90,20 @@ impl<B: Bus, T: Tag> World<B, T> {
         items: &mut Vec<Item>,
     ) -> Result<(), AllocError>
         requires sound { deployment.IsSound (deployed_as plan.now) }
-        requires images { IsSound (setting T.mac (deployed_as plan.now) self.old.sites) }
-        requires going { IsGoing (setting T.mac (deployed_as plan.now) self.old.sites) self.old }
+        requires images { IsSound (world_setting T.mac plan.now self.old) }
+        requires going { IsGoing (world_setting T.mac plan.now self.old) self.old }
         requires few { self.old.lines < 65536 }
         requires form { IsLine (deployed_as plan.now).names (line_of line.now) }
-        ensures acted { OnOk result ((w : Reached) → Stands (setting T.mac (deployed_as plan.now) self.old.sites) self.old w
-            → Stands (setting T.mac (deployed_as plan.now) self.old.sites) self.new
-            (acted (setting T.mac (deployed_as plan.now) self.old.sites) (counted w) (line_of line.now)).world
-            × (items.new.items ≡ items.old.items ++ (acted (setting T.mac (deployed_as plan.now) self.old.sites) (counted w) (line_of line.now)).items)) }
-        ensures front { OnErr result ((w : Reached) → Stands (setting T.mac (deployed_as plan.now) self.old.sites) self.old w
-            → IsFront items.new.items
-            (items.old.items ++ (acted (setting T.mac (deployed_as plan.now) self.old.sites) (counted w) (line_of line.now)).items)) }
+        ensures acted { OnOk result (Acts (world_setting T.mac plan.now self.old)
+            (line_of line.now) self.old self.new items.old.items items.new.items) }
+        ensures legal { OnOk result (StaysLegal (world_setting T.mac plan.now self.old)
+            (line_of line.now) self.old self.new items.old.items items.new.items) }
+        ensures front { OnErr result (ActsInPart (world_setting T.mac plan.now self.old)
+            (line_of line.now) self.old items.old.items items.new.items) }
         ensures wanted { OnErr result (self.new.wanted ≡ true) }
         ensures goes_on { OnOk result (self.new.wanted ≡ false) }
-        ensures stopped { self.old.wanted ≡ true → IsErr result × (self.new ≡ self.old) × (items.new.items ≡ items.old.items) }
+        ensures stopped { self.old.wanted ≡ true
+            → IsErr result × (self.new ≡ self.old) × (items.new.items ≡ items.old.items) }
         ensures sites { self.new.sites ≡ self.old.sites }
         ensures counts { OnOk result (self.new.lines ≡ self.old.lines + 1) }
     {

@@ -4,6 +4,7 @@ use Rattle.sx_sched.specs.Lines.{line_of}
 use Rattle.sx_world.specs.Held.{Held, Running}
 use Rattle.sx_world.specs.Ready.{IsReady}
 use Rattle.sx_world.specs.Setting.{Site}
+use Rattle.sx_world.proofs.Continuing.{goes_on}
 use Rattle.sx_world.proofs.Readying.{stands_ready, act_did, act_wanted}
 use Rattle.sx_world.proofs.world.World.act.Goals as goal
 
@@ -35,3 +36,15 @@ returns-in-Err-clause-front g c =
     act_wanted g.T.Tag.mac (deployed_as c.args.plan.now) held.sites c.requires.sound c.requires.images held c.self.inside.running c.deref.result.now
     c.args.items.now.items c.act.new.items.items (line_of c.args.line.now)
     (c.deref.ensures.value ∙ ap (λ (h : Held). h.sites) view) (ap (λ (h : Held). h.running) view) c.in-Err.ensures
+
+-- src/world.rt:79:5
+pub returns-in-Ok-clause-legal : goal.returns-in-Ok-clause-legal
+returns-in-Ok-clause-legal g c =
+    let held = c.args.self.now in
+    let view = c.self.view_is in
+    let d = deployed_as c.args.plan.now in
+    goes_on g.T.Tag.mac d held.sites c.requires.sound c.requires.images held _ (line_of c.args.line.now) c.args.items.now.items c.act.new.items.items
+    c.requires.form c.requires.few
+    (act_did g.T.Tag.mac d held.sites c.requires.sound c.requires.images held _ c.self.inside.running c.deref.result.now
+    c.args.items.now.items c.act.new.items.items (line_of c.args.line.now) c.requires.form (ap (λ (h : Held). h.lines + 1) view)
+    (c.deref.ensures.value ∙ ap (λ (h : Held). h.sites) view) (ap (λ (h : Held). h.running) view) c.in-Ok.ensures)

@@ -1,0 +1,53 @@
+-- How a run goes on with the line that the program's world acts.
+use Rattle.std.specs.Prelude.{◌≡◌, List, [], ◌∷◌, ◌++◌}
+use Rattle.sx_trace.specs.declared.items.Item.{Item}
+use Rattle.sx_sched.specs.Lines.{Line}
+use Rattle.sx_model.specs.Legal.{Legal, before}
+use Rattle.sx_model.specs.Consequences.{Tells}
+use Rattle.sx_world.specs.Setting.{Setting}
+use Rattle.sx_world.specs.State.{World, Acted, switched_on}
+use Rattle.sx_world.specs.Run.{acted, counted, run}
+use Rattle.sx_world.specs.Law.{AreInForm}
+use Rattle.sx_world.specs.Held.{Held, IsFront}
+use Rattle.sx_world.specs.Standing.{Stands}
+
+-- the next line, counted, in a world
+abbrev pub next : Setting → World → Line → Acted
+next set w line = acted set (counted w) line
+
+-- Whatever world of a run it stands at, it stands at the next one, and the line's items were appended.
+abbrev pub Acts : Setting → Line → Held → Held → List Item → List Item → Type 0
+Acts set line held left old new =
+    (w : World) → Stands set held w
+    → Stands set left (next set w line).world × (new ≡ old ++ (next set w line).items)
+
+-- Memory ran out: a front of the line's items was appended.
+abbrev pub ActsInPart : Setting → Line → Held → List Item → List Item → Type 0
+ActsInPart set line held old new =
+    (w : World) → Stands set held w → IsFront new (old ++ (next set w line).items)
+
+-- the run of a schedule, from power-on
+abbrev pub whole_run : Setting → List Line → Acted
+whole_run set lines = run set (switched_on set) lines
+
+-- These lines lead from power-on to where the program's world stands.
+pub record LeadTo (set : Setting) (lines : List Line) (held : Held) : Type 0 where
+  pub formed : AreInForm set lines
+  pub stands : Stands set held (whole_run set lines).world
+
+-- The run of these lines goes on with one more. The world stands where the longer run leads, and what
+-- the line adds to the run's items was appended. All items of the longer run are legal up to the first
+-- that is forged, with what a reader may take from that.
+pub record GoesOn (set : Setting) (lines : List Line) (line : Line) (left : Held)
+    (old new : List Item) : Type 0 where
+  pub stands : Stands set left (whole_run set (lines ++ line ∷ [])).world
+  pub added : List Item
+  pub appended : new ≡ old ++ added
+  pub items : (whole_run set (lines ++ line ∷ [])).items ≡ (whole_run set lines).items ++ added
+  pub legal : Legal set.app (before (whole_run set (lines ++ line ∷ [])).items)
+  pub tells : Tells set.app (before (whole_run set (lines ++ line ∷ [])).items)
+
+-- Whatever lines led here, their run goes on, and stays legal.
+abbrev pub StaysLegal : Setting → Line → Held → Held → List Item → List Item → Type 0
+StaysLegal set line held left old new =
+    (lines : List Line) → LeadTo set lines held → GoesOn set lines line left old new

@@ -1,0 +1,20 @@
+-- The settings of a deployment and of images that the program has in memory.
+use Rattle.std.specs.Prelude.{ℕ, List, map}
+use Rattle.sx_tag.specs.Mac.{Mac}
+use Rattle.sx_deploy.specs.SeenDeployment.{deployed_as}
+use Rattle.sx_deploy.specs.declared.deployment.Deployment.{Deployment}
+use Rattle.sx_image.specs.declared.image.Image.{Image}
+use Rattle.sx_world.specs.Setting.{Setting}
+use Rattle.sx_world.specs.Accepted.{setting_of}
+use Rattle.sx_world.specs.Held.{Held, setting}
+
+abbrev pub texts_of : List Image → List (List ℕ)
+texts_of images = map (λ i. i.text.items) images
+
+-- the setting of a deployment with these images of its modules
+abbrev pub image_setting : Mac → Deployment → List Image → Setting
+image_setting mac plan images = setting_of mac (deployed_as plan) (texts_of images)
+
+-- the setting of a deployment with its modules at the sites that the program's world keeps
+abbrev pub world_setting : Mac → Deployment → Held → Setting
+world_setting mac plan world = setting mac (deployed_as plan) world.sites
