@@ -12,3 +12,11 @@ pub mod Said
 pub mod Statuses
 pub mod Stops
 pub mod Written
+pub mod AsmPromised
+pub mod Coded
+pub mod Gathering
+pub mod LeftLines
+pub mod Sizes
+pub mod Coming
+pub mod Listed
+pub mod Usage

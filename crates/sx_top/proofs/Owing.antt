@@ -18,7 +18,7 @@ use Rattle.sx_top.specs.Output.{trace_line}
 use Rattle.sx_top.specs.Check.{Meaning, refused}
 use Rattle.sx_top.specs.Schedule.{Stop, AtEnd, Breaks, judged, schedule}
 use Rattle.sx_top.specs.Schedule as sched
-use Rattle.sx_top.specs.Run.{items_text, images_text, stopped, broken, run_from, run_deployed, run_found, run_head, run_all, done}
+use Rattle.sx_top.specs.Run.{items_text, images_text, stopped, broken, run_from, run_schedule, run_found, run_head, run_all, done}
 use Rattle.sx_top.proofs.Written.{run_line, run_breaks, run_unread}
 
 -- ---- where a read failed, its line is the last
@@ -37,7 +37,7 @@ run_ends names set w number more e =
 found_ends : (mac : Mac) (texts : List (List ℕ)) (r : Result Deployed DeployFault) (more : List Answer) → EndsUnread (run_found mac texts r more)
 found_ends mac texts (Err f) more e = absurd (omega (arith, e))
 found_ends mac texts (Ok d) more e =
-    behind-ends (images_text d.names.modules texts ++ trace_line) (run_deployed mac d texts more)
+    behind-ends (images_text d.names.modules texts ++ trace_line) (run_schedule mac d texts more)
     (run_ends d.names (setting_of mac d texts) (switched_on (setting_of mac d texts)) 1 more) e
 
 head_ends : (mac : Mac) (meaning : Meaning) (texts : List (List ℕ)) (h : Head) → EndsUnread (run_head mac meaning texts h)
@@ -70,7 +70,7 @@ due_run names set (l ∷ ls) w number =
 due_found : (mac : Mac) (texts : List (List ℕ)) (r : Result Deployed DeployFault) (ls : List (List ℕ)) → Due (λ more. run_found mac texts r (lines_then ls more))
 due_found mac texts (Err f) ls = inl (refused f, λ x. omega (arith, x), λ more. refl)
 due_found mac texts (Ok d) ls =
-    due-behind (λ more. run_found mac texts (Ok d) (lines_then ls more)) (λ more. run_deployed mac d texts (lines_then ls more))
+    due-behind (λ more. run_found mac texts (Ok d) (lines_then ls more)) (λ more. run_schedule mac d texts (lines_then ls more))
     (images_text d.names.modules texts ++ trace_line) (λ more. refl)
     (due_run d.names (setting_of mac d texts) ls (switched_on (setting_of mac d texts)) 1)
 

@@ -1,15 +1,12 @@
 -- The statuses of `check`.
-use Rattle.std.proofs.Common.{◌≡◌, ℕ, ◌+◌, true, false, List, [], ◌∷◌, length, nat_lt, refl, sym, subst, arith, Result, Ok, Err}
-use Rattle.std.specs.Prelude.{codes, nat_eq, ◌&&◌}
-use Rattle.std.specs.Str.{bytes_eq}
-use Rattle.std.proofs.lemmas.Bool.{and_parts, eqb-true}
+use Rattle.std.proofs.Common.{◌≡◌, ℕ, ◌+◌, List, [], ◌∷◌, length, nat_lt, refl, arith, Result, Ok, Err}
 use Rattle.sx_io.specs.Reading.{Answer, Line, End, Long, Fault}
 use Rattle.sx_told.proofs.Endings.{pick, Faultless}
 use Rattle.sx_head.specs.Head.{Head, Found, TooLong, NoMark, Unread, head_behind, is_mark, most_bytes}
 use Rattle.sx_deploy.specs.Deployment.{Deployed}
 use Rattle.sx_stage.specs.declared.fault.DeployFault.{DeployFault}
 use Rattle.sx_top.specs.Check.{Meaning, checked, check_head, check_all}
-use Rattle.sx_top.specs.Commands.{is_run, is_check, IsAccepted, IsGoodHead}
+use Rattle.sx_top.specs.Commands.{IsAccepted, IsGoodHead}
 
 accepted_zero : (r : Result Deployed DeployFault) → IsAccepted r → (checked r).status ≡ 0
 accepted_zero (Ok d) h = refl
@@ -20,18 +17,6 @@ head_zero meaning (Found text more) g = accepted_zero (meaning text) g
 head_zero meaning TooLong g = absurd g
 head_zero meaning NoMark g = absurd g
 head_zero meaning Unread g = absurd g
-
--- a word that is one command's isn't the other's
-other : (word : List ℕ) → bytes_eq word (codes "check") ≡ true → bytes_eq word (codes "run") ≡ false
-other [] h = refl
-other (a ∷ rest) h =
-    let e : a ≡ 99 = eqb-true a 99 (and_parts (nat_eq a 99) (bytes_eq rest (codes "heck")) h).0 in
-    subst (λ (b : ℕ). (nat_eq b 114 && bytes_eq rest (codes "un")) ≡ false) (sym e) refl
-
-pub check_not_run : (words : List (List ℕ)) → is_check words ≡ true → is_run words ≡ false
-check_not_run [] c = refl
-check_not_run (word ∷ []) c = other word c
-check_not_run (word ∷ next ∷ rest) c = refl
 
 -- ---- other statuses
 

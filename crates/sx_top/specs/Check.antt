@@ -1,5 +1,6 @@
--- What the command `check` writes: a function of the head of the input, and of what a deployment's text means.
-use Rattle.std.specs.Prelude.{ℕ, ◌/◌, ◌%◌, List, [], ◌∷◌, ◌++◌, slice_index, codes, Result, Ok, Err}
+-- What the command `check` writes: a function of the head of the input, and of what a deployment's text
+-- means.
+use Rattle.std.specs.Prelude.{ℕ, List, [], ◌∷◌, ◌++◌, codes, Result, Ok, Err}
 use Rattle.sx_told.specs.Told.{Output, unread}
 use Rattle.sx_rules.specs.declared.section.Layout.{Layout}
 use Rattle.sx_stage.specs.declared.fault.Place.TheVariants.{Nowhere}
@@ -9,28 +10,23 @@ use Rattle.sx_stage.specs.Text.{fault_text}
 use Rattle.sx_head.specs.Head.{Head, Found, TooLong, NoMark, Unread, head}
 use Rattle.sx_deploy.specs.Deployment.{Deployed, IsRead}
 use Rattle.sx_io.specs.Reading.{Answer}
+use Rattle.sx_top.specs.Address.{address}
 use Rattle.sx_top.specs.Output.{line, end_line}
 
 -- what a deployment's text means
 abbrev pub Meaning : Type 0
 Meaning = List ℕ → Result Deployed DeployFault
 
--- it is the deployment of the text, or the first rule that the text breaks; no text has two such meanings
+-- it is the deployment of the text, or the first rule that the text breaks; no text has two such
+-- meanings
 abbrev pub IsMeaning : Meaning → Type 0
 IsMeaning meaning = (text : List ℕ) → IsRead text (meaning text)
-
--- a lower-case hexadecimal digit
-abbrev pub digit : ℕ → ℕ
-digit n = slice_index (codes "0123456789abcdef") (n % 16)
-
-abbrev pub address : ℕ → List ℕ
-address at = codes "0x" ++ digit (at / 4096) ∷ digit (at / 256) ∷ digit (at / 16) ∷ digit at ∷ []
 
 -- a module and the bounds of its sections; an end is the address behind the last byte
 unfoldable pub module_line : List ℕ → Layout → List ℕ
 module_line name l =
-    line (codes "module " ++ name ++ codes " text " ++ address l.pub_from ++ codes " " ++ address l.pub_to
-    ++ codes " data " ++ address l.priv_from ++ codes " " ++ address l.priv_to)
+    line (codes "module " ++ name ++ codes " text " ++ address l.pub_from ++ codes " "
+    ++ address l.pub_to ++ codes " data " ++ address l.priv_from ++ codes " " ++ address l.priv_to)
 
 abbrev pub module_lines : List (List ℕ) → List Layout → List ℕ
 module_lines (name ∷ names) (l ∷ layouts) = module_line name l ++ module_lines names layouts

@@ -1,22 +1,36 @@
--- The words of the commands, and the inputs that the commands take to their end.
-use Rattle.std.specs.Prelude.{ℕ, Bool, false, List, [], ◌∷◌, codes, Result, Ok, Err}
+-- The commands that words name, and the inputs that the commands take to their end.
+use Rattle.std.specs.Prelude.{ℕ, if◌then◌else◌, List, [], ◌∷◌, codes, Option, Some, None, option_map, Result, Ok, Err}
 use Rattle.std.specs.Str.{bytes_eq}
+use Rattle.sx_io.specs.Numbers.{number_of}
 use Rattle.sx_stage.specs.declared.fault.DeployFault.{DeployFault}
 use Rattle.sx_head.specs.Head.{Head, Found, TooLong, NoMark, Unread}
 use Rattle.sx_deploy.specs.Deployment.{Deployed}
+use Rattle.sx_top.specs.declared.words.Command.{Command}
+use Rattle.sx_top.specs.declared.words.Command.TheVariants.{Run, Check, Asm, Dis}
 use Rattle.sx_top.specs.Check.{Meaning}
 
--- the words are this one word
-abbrev pub is_word : List ℕ → List (List ℕ) → Bool
-is_word name [] = false
-is_word name (word ∷ []) = bytes_eq word name
-is_word name (word ∷ next ∷ rest) = false
+abbrev pub plain_command : List ℕ → Option Command
+plain_command word =
+    if bytes_eq word (codes "run") then Some Run else
+    if bytes_eq word (codes "check") then Some Check else
+    None
 
-abbrev pub is_run : List (List ℕ) → Bool
-is_run words = is_word (codes "run") words
+-- an address from 0 to 65,535
+abbrev pub address_in : List ℕ → Option ℕ
+address_in word = number_of word 65535
 
-abbrev pub is_check : List (List ℕ) → Bool
-is_check words = is_word (codes "check") words
+abbrev pub numbered_command : List ℕ → List ℕ → Option Command
+numbered_command word number =
+    if bytes_eq word (codes "asm") then option_map Asm (address_in number) else
+    if bytes_eq word (codes "dis") then option_map Dis (address_in number) else
+    None
+
+-- the command that these words name
+abbrev pub command_of : List (List ℕ) → Option Command
+command_of [] = None
+command_of (word ∷ []) = plain_command word
+command_of (word ∷ number ∷ []) = numbered_command word number
+command_of (word ∷ number ∷ next ∷ rest) = None
 
 abbrev pub IsAccepted : Result Deployed DeployFault → Type 0
 IsAccepted (Ok d) = Unit {0}

@@ -8,9 +8,13 @@ use Rattle.sx_head.specs.declared.head.HeadFault.{HeadFault}
 use Rattle.sx_head.specs.declared.head.HeadFault.TheVariants.{TooLong, NoMark, Failed, OutOfMemory}
 use Rattle.sx_top.specs.Check.{refused}
 
--- That there is no head is told without memory; where there was none for a head, nothing was written.
+-- That there is no head is told without memory; where there was none for a head, nothing was
+-- written.
 abbrev pub EndsHeadless : Bool → SinkAt → SinkAt → ℕ → HeadFault → Type 0
-EndsHeadless to_tell k0 k1 status TooLong = Ends to_tell k0 k1 status (refused (fault 1 Nowhere)) × (status ≡ out_of_memory → ⊥)
-EndsHeadless to_tell k0 k1 status NoMark = Ends to_tell k0 k1 status (refused (fault 2 Nowhere)) × (status ≡ out_of_memory → ⊥)
-EndsHeadless to_tell k0 k1 status Failed = Ends to_tell k0 k1 status unread × (status ≡ out_of_memory → ⊥)
+EndsHeadless to_tell k0 k1 status TooLong =
+    Ends to_tell k0 k1 status (refused (fault 1 Nowhere)) × (status ≡ out_of_memory → ⊥)
+EndsHeadless to_tell k0 k1 status NoMark =
+    Ends to_tell k0 k1 status (refused (fault 2 Nowhere)) × (status ≡ out_of_memory → ⊥)
+EndsHeadless to_tell k0 k1 status Failed =
+    Ends to_tell k0 k1 status unread × (status ≡ out_of_memory → ⊥)
 EndsHeadless to_tell k0 k1 status OutOfMemory = (status ≡ out_of_memory) × (k1 ≡ k0)

@@ -1,8 +1,14 @@
+pub mod Address
 pub mod Output
+pub mod Listing
 pub mod Built
 pub mod Check
 pub mod Commands
 pub mod Faults
+pub mod Assembling
+pub mod Gathering
+pub mod Disassembling
+pub mod Kept
 pub mod Headless
 pub mod Schedule
 pub mod Run

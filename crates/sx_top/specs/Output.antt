@@ -1,5 +1,5 @@
 -- The lines that commands write at their end, or where they begin to run.
-use Rattle.std.specs.Prelude.{ℕ, List, [], ◌∷◌, ◌++◌, codes}
+use Rattle.std.specs.Prelude.{ℕ, List, [], ◌∷◌, ◌++◌, codes, decimal}
 use Rattle.sx_told.specs.Told.{Output}
 
 -- a text and its newline
@@ -18,3 +18,8 @@ usage_line = line (codes "fault usage")
 -- status 2: the words are no command
 abbrev pub misused : Output
 misused = record { text = usage_line; status = 2 }
+
+-- a fault: its words, the number of the rule that is broken, and the number of the first line that breaks it
+abbrev pub fault_output : List ℕ → ℕ → ℕ → ℕ → Output
+fault_output words rule number status =
+    record { text = line (words ++ decimal rule ++ codes " " ++ decimal number); status = status }

@@ -1,19 +1,27 @@
--- What the commands promise, each in one record that speaks of its streams at its start (m0) and at its end (m1).
-use Rattle.std.specs.Prelude.{ℕ, ◌+◌, ◌≤◌, ◌≡◌, Bool, true, false, List, [], ◌++◌, IsTrue, length}
-use Rattle.sx_io.specs.Reading.{Answer, Ending, Ended, longest, scan}
+-- What the commands promise, each in one record that speaks of its streams at its start (m0) and at its
+-- end (m1).
+use Rattle.std.specs.Prelude.{ℕ, ◌+◌, ◌≤◌, ◌≡◌, Bool, List, [], ◌++◌, Option, Some, None, IsTrue, length}
+use Rattle.sx_io.specs.Reading.{Answer, Ending, longest, scan}
 use Rattle.sx_told.specs.Told.{Ends, Moment, Told, out_of_memory}
 use Rattle.sx_told.specs.Further.{HasEnd}
 use Rattle.sx_tag.specs.Mac.{Mac}
 use Rattle.sx_head.specs.Head.{Head, Found, TooLong, NoMark, Unread, head, head_lines}
 use Rattle.sx_top.specs.Check.{Meaning, IsMeaning, check_all}
-use Rattle.sx_top.specs.Commands.{is_run, is_check, IsGoodHead}
+use Rattle.sx_top.specs.declared.words.Command.{Command}
+use Rattle.sx_top.specs.declared.words.Command.TheVariants.{Run, Check, Asm, Dis}
+use Rattle.sx_top.specs.Assembling.{AsmTold}
+use Rattle.sx_top.specs.Commands.{command_of, IsGoodHead}
+use Rattle.sx_top.specs.Disassembling.{DisTold}
 use Rattle.sx_top.specs.Faults.{CameToItsEnd, IsFaultless, TellsFaults}
 use Rattle.sx_top.specs.Output.{misused}
-use Rattle.sx_top.specs.Runs.{RunSays}
+use Rattle.sx_top.specs.Runs.{RunSays, input_of}
 
 -- these bytes are a head of this text, and the line `%%` behind it with its newline
 abbrev pub IsHead : List ℕ → List ℕ → Type 0
-IsHead bytes text = HasEnd bytes × ((e : Ending) (more : List ℕ) → head (scan head_lines e [] (bytes ++ more)) ≡ Found text (scan head_lines e [] more))
+IsHead bytes text =
+    HasEnd bytes
+    × ((e : Ending) (more : List ℕ)
+    → head (scan head_lines e [] (bytes ++ more)) ≡ Found text (scan head_lines e [] more))
 
 abbrev pub IsFound : Head → Type 0
 IsFound (Found text more) = Unit {0}
@@ -25,23 +33,34 @@ IsFound Unread = ⊥
 abbrev pub RunsOutBehindHead : ℕ → List Answer → Type 0
 RunsOutBehindHead status answers = status ≡ out_of_memory → IsFound (head answers)
 
--- The command `check`, whatever a deployment's text is said to mean. At most 4,096 bytes behind the line `%%` are taken.
+-- The command `check`, whatever a deployment's text is said to mean. At most 4,096 bytes behind the line
+-- `%%` are taken.
 pub record CheckTold (tells to_tell : Bool) (m0 m1 : Moment) (status : ℕ) : Type 0 where
-  pub told : (meaning : Meaning) → IsMeaning meaning → Told tells to_tell head_lines m0 m1 status (check_all meaning) (RunsOutBehindHead status)
-  pub no_further : (bytes rest text : List ℕ) → IsTrue tells → m0.source.rest ≡ bytes ++ rest → IsHead bytes text
+  pub told : (meaning : Meaning) → IsMeaning meaning
+      → Told tells to_tell head_lines m0 m1 status (check_all meaning) (RunsOutBehindHead status)
+  pub no_further : (bytes rest text : List ℕ) → IsTrue tells → m0.source.rest ≡ bytes ++ rest
+      → IsHead bytes text
       → length rest ≤ longest + length m1.source.rest
   pub faults : TellsFaults m0 m1 status
-  pub complete : (meaning : Meaning) → IsMeaning meaning → IsTrue tells → IsGoodHead meaning (head (scan head_lines Ended [] m0.source.rest)) → IsFaultless m0 m1
-      → CameToItsEnd to_tell m0 m1 status (check_all meaning (scan head_lines Ended [] m0.source.rest))
+  pub complete : (meaning : Meaning) → IsMeaning meaning → IsTrue tells
+      → IsGoodHead meaning (head (input_of m0)) → IsFaultless m0 m1
+      → CameToItsEnd to_tell m0 m1 status (check_all meaning (input_of m0))
 
 -- Words that are no command: one line says so, and nothing is read.
 pub record MisusedTold (to_tell : Bool) (m0 m1 : Moment) (status : ℕ) : Type 0 where
   pub ends : Ends to_tell m0.sink m1.sink status misused
   pub unread : m1.source ≡ m0.source
 
--- The program: the words name the command. Status 2 comes for other words alone.
-pub record ProgramTold (mac : Mac) (words : List (List ℕ)) (tells to_tell : Bool) (m0 m1 : Moment) (status : ℕ) : Type 0 where
-  pub run : is_run words ≡ true → RunSays mac tells to_tell m0 m1 status
-  pub check : is_check words ≡ true → CheckTold tells to_tell m0 m1 status
-  pub other : is_run words ≡ false → is_check words ≡ false → MisusedTold to_tell m0 m1 status
-  pub usage : status ≡ 2 → (is_run words ≡ false) × (is_check words ≡ false)
+-- what a command promises
+abbrev pub CommandTold : Mac → Option Command → Bool → Bool → Moment → Moment → ℕ → Type 0
+CommandTold mac None tells to_tell m0 m1 status = MisusedTold to_tell m0 m1 status
+CommandTold mac (Some Run) tells to_tell m0 m1 status = RunSays mac tells to_tell m0 m1 status
+CommandTold mac (Some Check) tells to_tell m0 m1 status = CheckTold tells to_tell m0 m1 status
+CommandTold mac (Some (Asm at)) tells to_tell m0 m1 status = AsmTold at tells to_tell m0 m1 status
+CommandTold mac (Some (Dis at)) tells to_tell m0 m1 status = DisTold at tells to_tell m0 m1 status
+
+-- The program: it does the command that the words name. Status 2 comes for other words alone.
+pub record ProgramTold (mac : Mac) (words : List (List ℕ)) (tells to_tell : Bool) (m0 m1 : Moment)
+    (status : ℕ) : Type 0 where
+  pub told : CommandTold mac (command_of words) tells to_tell m0 m1 status
+  pub usage : status ≡ 2 → command_of words ≡ None

@@ -1,5 +1,5 @@
--- What the command `run` writes, and its exit status: a function of what texts of deployments mean, of the texts of the modules'
--- images, and of the answers that the lines of its input give.
+-- What the command `run` writes, and its exit status: a function of what texts of deployments mean, of
+-- the texts of the modules' images, and of the answers that the lines of its input give.
 use Rattle.std.specs.Prelude.{ℕ, List, [], ◌∷◌, ◌++◌, codes, decimal, flat_map, Result, Ok, Err}
 use Rattle.hex.specs.Hex.{encode_lower}
 use Rattle.sx_io.specs.Reading.{Answer}
@@ -38,11 +38,9 @@ item_line names i = line (item_text names i)
 abbrev pub items_text : NameLists → List Item → List ℕ
 items_text names items = flat_map (item_line names) items
 
-abbrev pub broken_text : ℕ → ℕ → List ℕ
-broken_text rule number = codes "S" ++ decimal rule ++ codes " " ++ decimal number
-
 unfoldable pub broken_line : ℕ → ℕ → List ℕ
-broken_line rule number = line (codes "fault schedule " ++ broken_text rule number)
+broken_line rule number =
+    line (codes "fault schedule S" ++ decimal rule ++ codes " " ++ decimal number)
 
 -- status 3: this line is the first that breaks a rule, and this is the first rule that it breaks
 abbrev pub broken : ℕ → ℕ → Output
@@ -70,13 +68,21 @@ told_by names a more = behind (items_text names a.items) (more a.world)
 unfoldable pub run_from : NameLists → Setting → World → ℕ → List Answer → Output
 run_from names set w number answers = written names set w (schedule names number answers)
 
--- what the schedule of a deployment writes, where all is switched on
-abbrev pub run_deployed : Mac → Deployed → List (List ℕ) → List Answer → Output
-run_deployed mac d texts more = run_from d.names (setting_of mac d texts) (switched_on (setting_of mac d texts)) 1 more
+-- what a schedule writes where all is switched on
+abbrev pub run_at_start : NameLists → Setting → List Answer → Output
+run_at_start names set more = run_from names set (switched_on set) 1 more
 
--- the images, `trace`, and what the schedule writes; or the rule that the deployment breaks
+abbrev pub run_schedule : Mac → Deployed → List (List ℕ) → List Answer → Output
+run_schedule mac d texts more = run_at_start d.names (setting_of mac d texts) more
+
+-- the images, `trace`, and what the schedule writes
+abbrev pub run_deployed : Mac → Deployed → List (List ℕ) → List Answer → Output
+run_deployed mac d texts more =
+    behind (images_text d.names.modules texts ++ trace_line) (run_schedule mac d texts more)
+
+-- the run of a deployment, or the rule that it breaks
 abbrev pub run_found : Mac → List (List ℕ) → Result Deployed DeployFault → List Answer → Output
-run_found mac texts (Ok d) more = behind (images_text d.names.modules texts ++ trace_line) (run_deployed mac d texts more)
+run_found mac texts (Ok d) more = run_deployed mac d texts more
 run_found mac texts (Err f) more = refused f
 
 abbrev pub run_head : Mac → Meaning → List (List ℕ) → Head → Output
@@ -91,4 +97,6 @@ run_all mac meaning texts answers = run_head mac meaning texts (head answers)
 
 -- the items of the run of a schedule that these answers are
 abbrev pub items_of : Mac → Deployed → List (List ℕ) → List Answer → List Item
-items_of mac d texts more = (run (setting_of mac d texts) (switched_on (setting_of mac d texts)) (schedule d.names 1 more).lines).items
+items_of mac d texts more =
+    let set = setting_of mac d texts in
+    (run set (switched_on set) (schedule d.names 1 more).lines).items

@@ -33,47 +33,60 @@ abbrev pub Deploys : Option (List ℕ) → Deployed → Type 0
 Deploys None d = ⊥
 Deploys (Some text) d = IsRead text (Ok d)
 
--- There are images, each of which realizes its module of the deployment that was read, and what was written is the text of the
--- run with these images (`told`); no more was taken than must be (`streams`). Whatever the schedule is, the items of its run with
--- them are legal up to the first that is forged, with what a reader may take from that (`tells_reader`), and no step of it but a
--- module's own reads or changes its private section. An
--- input that keeps the rules is run to its end. That there is no head is told without memory.
+-- the answers of all lines of the input, as it stood at the start
+abbrev pub input_of : Moment → List Answer
+input_of m0 = scan head_lines Ended [] m0.source.rest
+
+-- There are images, each of which realizes its module of the deployment that was read, and what was
+-- written is the text of the run with these images (`told`); no more was taken than must be
+-- (`streams`). Whatever the schedule is, the items of its run with them are legal up to the first that
+-- is forged, with what a reader may take from that (`tells_reader`), and no step of it but a module's
+-- own reads or changes its private section (`guarded`). An input that keeps the rules is run to its end
+-- (`complete`). That there is no head is told without memory (`headed`).
 pub record RunsWith (mac : Mac) (tells to_tell : Bool) (m0 m1 : Moment) (status : ℕ) : Type 0 where
   pub deployment : Option (List ℕ)
   pub texts : List (List ℕ)
   pub headed : deployment ≡ None → status ≡ out_of_memory → ⊥
   pub realize : (d : Deployed) → Deploys deployment d → AreImages mac d texts
   pub told : (meaning : Meaning) → IsMeaning meaning
-      → Told tells to_tell head_lines m0 m1 status (run_all mac meaning texts) (λ answers. HasHead deployment (head answers))
-  pub streams : (meaning : Meaning) → IsMeaning meaning → Streams tells to_tell head_lines m0 m1 (run_all mac meaning texts)
-  pub legal : (d : Deployed) → Deploys deployment d → (schedule : List Answer) → Legal d.app (before (items_of mac d texts schedule))
-  pub tells_reader : (d : Deployed) → Deploys deployment d → (schedule : List Answer) → Tells d.app (before (items_of mac d texts schedule))
+      → Told tells to_tell head_lines m0 m1 status (run_all mac meaning texts)
+      (λ answers. HasHead deployment (head answers))
+  pub streams : (meaning : Meaning) → IsMeaning meaning
+      → Streams tells to_tell head_lines m0 m1 (run_all mac meaning texts)
+  pub legal : (d : Deployed) → Deploys deployment d → (schedule : List Answer)
+      → Legal d.app (before (items_of mac d texts schedule))
+  pub tells_reader : (d : Deployed) → Deploys deployment d → (schedule : List Answer)
+      → Tells d.app (before (items_of mac d texts schedule))
   pub guarded : (d : Deployed) → IsGuarded (setting_of mac d texts)
-  pub complete : (meaning : Meaning) → IsMeaning meaning → IsTrue tells → IsGoodInput meaning (head (scan head_lines Ended [] m0.source.rest))
-      → IsFaultless m0 m1 → CameToItsEnd to_tell m0 m1 status (run_all mac meaning texts (scan head_lines Ended [] m0.source.rest))
+  pub complete : (meaning : Meaning) → IsMeaning meaning → IsTrue tells
+      → IsGoodInput meaning (head (input_of m0)) → IsFaultless m0 m1
+      → CameToItsEnd to_tell m0 m1 status (run_all mac meaning texts (input_of m0))
 
 -- memory ran out behind a head and before the images were made, and nothing was written
 pub record Starved (tells : Bool) (m0 m1 : Moment) (status : ℕ) : Type 0 where
   pub six : status ≡ out_of_memory
   pub sink : m1.sink ≡ m0.sink
   pub text : List ℕ
-  pub reads : Reads tells head_lines m0.source m1.source head Unread (λ answers. HasHead (Some text) (head answers))
+  pub reads : Reads tells head_lines m0.source m1.source head Unread
+      (λ answers. HasHead (Some text) (head answers))
 
--- The command `run`. Whatever the images are, its status is that of the input where no read and no write failed and memory
--- sufficed; status 0 says that the input was read to its end.
+-- The command `run`. Whatever the images are, its status is that of the input where no read and no write
+-- failed and memory sufficed; status 0 says that the input was read to its end.
 pub record RunSays (mac : Mac) (tells to_tell : Bool) (m0 m1 : Moment) (status : ℕ) : Type 0 where
   pub says : Starved tells m0 m1 status ⊎ RunsWith mac tells to_tell m0 m1 status
   pub faults : TellsFaults m0 m1 status
   pub read_all : status ≡ 0 → IsTrue tells → m1.source.rest ≡ []
   pub exact : (meaning : Meaning) → IsMeaning meaning → IsTrue tells → IsFaultless m0 m1
-      → (status ≡ out_of_memory) ⊎ (status ≡ run_status meaning (scan head_lines Ended [] m0.source.rest))
+      → (status ≡ out_of_memory) ⊎ (status ≡ run_status meaning (input_of m0))
 
--- What does the rest of the command behind a head of this text: with these images, which realize its modules, it writes what is
--- defined for what is to come.
-pub record RunsBehind (mac : Mac) (tells to_tell : Bool) (now : Ahead) (m1 m2 : Moment) (status : ℕ) (text : List ℕ) : Type 0 where
+-- What does the rest of the command behind a head of this text: with these images, which realize its
+-- modules, it writes what is defined for what is to come.
+pub record RunsBehind (mac : Mac) (tells to_tell : Bool) (now : Ahead) (m1 m2 : Moment) (status : ℕ)
+    (text : List ℕ) : Type 0 where
   pub texts : List (List ℕ)
   pub realize : (d : Deployed) → IsRead text (Ok d) → AreImages mac d texts
-  pub rest : (meaning : Meaning) → IsMeaning meaning → Rest tells to_tell head_lines now m1 m2 status (run_found mac texts (meaning text))
+  pub rest : (meaning : Meaning) → IsMeaning meaning
+      → Rest tells to_tell head_lines now m1 m2 status (run_found mac texts (meaning text))
 
 -- memory ran out before the images were made, and nothing was read or written
 pub record RanOut (m1 m2 : Moment) (status : ℕ) : Type 0 where
@@ -81,4 +94,5 @@ pub record RanOut (m1 m2 : Moment) (status : ℕ) : Type 0 where
   pub same : m2 ≡ m1
 
 abbrev pub RunsOrRanOut : Mac → Bool → Bool → Ahead → Moment → Moment → ℕ → List ℕ → Type 0
-RunsOrRanOut mac tells to_tell now m1 m2 status text = RanOut m1 m2 status ⊎ RunsBehind mac tells to_tell now m1 m2 status text
+RunsOrRanOut mac tells to_tell now m1 m2 status text =
+    RanOut m1 m2 status ⊎ RunsBehind mac tells to_tell now m1 m2 status text

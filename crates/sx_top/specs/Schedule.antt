@@ -1,4 +1,5 @@
--- From the answers that the lines of an input give to the lines of a schedule. Nothing is said here of what is written.
+-- From the answers that the lines of an input give to the lines of a schedule. Nothing is said here of
+-- what is written.
 use Rattle.std.specs.Prelude.{ℕ, ◌+◌, nat_lt, if◌then◌else◌, List, [], ◌∷◌, Result, Ok, Err}
 use Rattle.sx_io.specs.Reading.{Answer, End, Long, Fault}
 use Rattle.sx_io.specs.Reading as answer
@@ -8,7 +9,8 @@ use Rattle.sx_sched.specs.declared.lines.LineError.TheVariants as error
 use Rattle.sx_sched.specs.Lines.{Line}
 use Rattle.sx_sched.specs.Reading.{said}
 
--- where a schedule ends: at the end of the input, at a read that failed, or at the first line that breaks a rule
+-- where a schedule ends: at the end of the input, at a read that failed, or at the first line that
+-- breaks a rule
 pub data Stop : Type 0 where
   AtEnd : Stop
   Unread : Stop
@@ -28,8 +30,8 @@ abbrev pub or_rule : Result Line LineError → Result Line ℕ
 or_rule (Ok line) = Ok line
 or_rule (Err e) = Err (rule_of e)
 
--- The line with this number, counted from 1, or the first rule that it breaks. A schedule has at most 65,536 lines, blank ones
--- counted.
+-- The line with this number, counted from 1, or the first rule that it breaks. A schedule has at most
+-- 65,536 lines, blank ones counted.
 unfoldable pub judged : NameLists → ℕ → List ℕ → Result Line ℕ
 judged names number text = if nat_lt 65536 number then Err 2 else or_rule (said names text)
 
@@ -47,4 +49,5 @@ schedule names number [] = stops AtEnd
 schedule names number (End ∷ more) = stops AtEnd
 schedule names number (Long ∷ more) = stops (Breaks 1 number)
 schedule names number (Fault ∷ more) = stops Unread
-schedule names number (answer.Line text ∷ more) = on_line number (judged names number text) (schedule names (number + 1) more)
+schedule names number (answer.Line text ∷ more) =
+    on_line number (judged names number text) (schedule names (number + 1) more)

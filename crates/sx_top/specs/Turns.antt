@@ -1,19 +1,48 @@
 -- What a line of a schedule does to the program's world, and to its output.
-use Rattle.std.specs.Prelude.{ℕ, ◌+◌, ◌≡◌, Bool, List, ◌∷◌}
+use Rattle.std.specs.Prelude.{ℕ, ◌+◌, ◌≡◌, Bool, List, ◌∷◌, Result, Ok, Err}
 use Rattle.sx_io.specs.Streams.{SinkAt}
-use Rattle.sx_io.specs.Reading.{Line}
-use Rattle.sx_told.specs.Told.{Does}
+use Rattle.sx_io.specs.Reading.{Answer}
+use Rattle.sx_io.specs.Reading as answer
+use Rattle.sx_told.specs.Told.{Output, Does}
 use Rattle.sx_told.specs.declared.turned.Turned.{Turned}
 use Rattle.sx_told.specs.declared.turned.Turned.TheVariants.{On}
 use Rattle.sx_trace.specs.Names.{NameLists}
+use Rattle.sx_sched.specs.Lines.{Line}
 use Rattle.sx_world.specs.Setting.{Setting}
 use Rattle.sx_world.specs.State.{World}
 use Rattle.sx_world.specs.Held.{Held}
 use Rattle.sx_world.specs.Standing.{Stands}
-use Rattle.sx_top.specs.Run.{run_from}
+use Rattle.sx_top.specs.Run.{done, told_by, run_from}
+
+-- Memory may run out at a line that breaks no rule, or only rule 8: its text is assembled before
+-- that is judged. Any other broken rule is found without memory.
+abbrev pub MayRunOut : Result Line ℕ → Type 0
+MayRunOut (Ok line) = Unit {0}
+MayRunOut (Err rule) = rule ≡ 8
+
+-- whatever world it stood at, it stands at the next one
+abbrev pub Advances : Setting → Line → Held → Held → Type 0
+Advances set line held left =
+    (w : World) → Stands set held w → Stands set left (done set w line).world
+
+-- the line's items were written, and what is defined for the next world is left; or the command
+-- ended
+abbrev pub TellsLine : Bool → SinkAt → SinkAt → NameLists → Setting → Line → Held → Turned → Type 0
+TellsLine to_tell k0 k1 names set line held turned =
+    (w : World) → Stands set held w → (left : World → List Answer → Output)
+    → Does to_tell k0 k1 (λ more. told_by names (done set w line) (λ v. left v more)) turned
+    (left (done set w line).world)
 
 -- The line with this number was acted in the world w and told, or the command ended.
-pub record Turns (to_tell : Bool) (k0 k1 : SinkAt) (names : NameLists) (set : Setting) (held : Held) (number : ℕ) (text : List ℕ) (turned : Turned) (w : World) : Type 0 where
+pub record Turns (to_tell : Bool) (k0 k1 : SinkAt) (names : NameLists) (set : Setting) (left : Held)
+    (number : ℕ) (text : List ℕ) (turned : Turned) (w : World) : Type 0 where
   pub next : World
-  pub stands : turned ≡ On → Stands set held next
-  pub does : Does to_tell k0 k1 (λ more. run_from names set w number (Line text ∷ more)) turned (run_from names set next (number + 1))
+  pub stands : turned ≡ On → Stands set left next
+  pub does : Does to_tell k0 k1 (λ more. run_from names set w number (answer.Line text ∷ more))
+      turned (run_from names set next (number + 1))
+
+-- whatever world it stood at
+abbrev pub TurnsFrom : Bool → SinkAt → SinkAt → NameLists → Setting → Held → Held → ℕ → List ℕ
+    → Turned → Type 0
+TurnsFrom to_tell k0 k1 names set held left number text turned =
+    (w : World) → Stands set held w → Turns to_tell k0 k1 names set left number text turned w

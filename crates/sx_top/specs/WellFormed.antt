@@ -16,7 +16,8 @@ IsWellFormed names number [] = ⊥
 IsWellFormed names number (End ∷ more) = Unit {0}
 IsWellFormed names number (Long ∷ more) = ⊥
 IsWellFormed names number (Fault ∷ more) = ⊥
-IsWellFormed names number (Line text ∷ more) = IsOk (judged names number text) × IsWellFormed names (number + 1) more
+IsWellFormed names number (Line text ∷ more) =
+    IsOk (judged names number text) × IsWellFormed names (number + 1) more
 
 abbrev pub IsGoodRun : Result Deployed DeployFault → List Answer → Type 0
 IsGoodRun (Ok d) more = IsWellFormed d.names 1 more

@@ -1,13 +1,15 @@
-//! The command `check`: it reads a deployment and says where its modules stand, or which rule it breaks.
+//! The command `check`: it reads a deployment and says where its modules stand, or which rule it
+//! breaks.
 
 ghost use Rattle.std.specs.Prelude.{◌≡◌, ◌++◌, IfOk, OnOk, Ok};
 ghost use Rattle.sx_told.specs.Told.{Told, Ends, moment};
 ghost use Rattle.sx_head.specs.Head.{head_lines};
 ghost use Rattle.sx_deploy.specs.SeenDeployment.{deployed_as};
 ghost use Rattle.sx_top.specs.Output.{end_line};
-ghost use Rattle.sx_top.specs.Check.{Meaning, IsMeaning, digit, address, module_line, module_lines, checked, check_all};
+ghost use Rattle.sx_top.specs.Check.{Meaning, IsMeaning, module_line, module_lines, checked, check_all};
 ghost use Rattle.sx_top.specs.Promises.{CheckTold, RunsOutBehindHead};
 
+use crate::address::address;
 use crate::refusing::{refuse, refuse_head};
 use std::alloc::{AllocError, Global};
 use sx_deploy::DeployError;
@@ -17,28 +19,6 @@ use sx_io::{Lines, Sink, Source};
 use sx_lang::names::Name;
 use sx_rules::Layout;
 use sx_told::{OUT_OF_MEMORY, finish};
-
-const DIGITS: [u8; 16] = *b"0123456789abcdef";
-
-fn digit(number: u16) -> u8
-    ensures { result ≡ digit number }
-{
-    DIGITS[(number % 16) as usize]
-}
-
-/// An address as `0x` and four digits.
-fn address(at: u16) -> [u8; 6]
-    ensures { result ≡ address at }
-{
-    [
-        b'0',
-        b'x',
-        digit(at / 4096),
-        digit(at / 256),
-        digit(at / 16),
-        digit(at),
-    ]
-}
 
 /// Appends a module's line.
 #[tactic(auto, unfolding(crate::specs::Check::module_line))]
@@ -74,7 +54,8 @@ fn module_lines(alloc: Global, names: &[Name], layouts: &[Layout]) -> Result<Vec
 /// The lines of a deployment that keeps the rules.
 #[tactic(auto, unfolding(crate::specs::Output::end_line))]
 fn accepted(alloc: Global, deployment: &Deployment) -> Result<Vec<u8>, AllocError>
-    ensures { IfOk result (λ text. text.items ≡ module_lines (deployed_as deployment.now).names.modules (deployed_as deployment.now).layouts ++ end_line) }
+    ensures { let d = deployed_as deployment.now in
+        IfOk result (λ text. text.items ≡ module_lines d.names.modules d.layouts ++ end_line) }
 {
     let mut text = module_lines(alloc, &deployment.names.modules, &deployment.layouts)?;
     text.extend_from_slice(b"end\n")?;
@@ -83,7 +64,8 @@ fn accepted(alloc: Global, deployment: &Deployment) -> Result<Vec<u8>, AllocErro
 
 /// Writes where the modules stand.
 fn accept<K: Sink>(alloc: Global, deployment: &Deployment, output: &mut K) -> u8
-    ensures { Ends K.tells (K.at output.old) (K.at output.new) result (checked (Ok (deployed_as deployment.now))) }
+    ensures { Ends K.tells (K.at output.old) (K.at output.new) result
+        (checked (Ok (deployed_as deployment.now))) }
 {
     match accepted(alloc, deployment) {
         Ok(text) => finish(output, &text, 0),
@@ -103,11 +85,13 @@ fn judge<K: Sink>(alloc: Global, text: &[u8], output: &mut K) -> u8
     }
 }
 
-/// What the command `check` writes is that of the head that it took. That there is none takes no memory.
+/// What the command `check` writes is that of the head that it took. That there is none takes no
+/// memory.
 fn check_told<S: Source, K: Sink>(alloc: Global, input: &mut S, output: &mut K) -> u8
     ensures { (meaning : Meaning) → IsMeaning meaning
-        → Told S.tells K.tells head_lines (moment (S.at input.old) (K.at output.old)) (moment (S.at input.new) (K.at output.new))
-        result (check_all meaning) (RunsOutBehindHead result) }
+        → Told S.tells K.tells head_lines (moment (S.at input.old) (K.at output.old))
+        (moment (S.at input.new) (K.at output.new)) result (check_all meaning)
+        (RunsOutBehindHead result) }
 {
     let mut lines = Lines::new();
     match read_head(alloc, &mut lines, input) {
@@ -119,8 +103,8 @@ fn check_told<S: Source, K: Sink>(alloc: Global, input: &mut S, output: &mut K) 
 /// The command `check`: a deployment, and the line `%%`. Gives the exit status, as `top` does for this
 /// command. What stands behind that line isn't judged, and at most 4,096 bytes of it are read.
 pub fn check_over<S: Source, K: Sink>(alloc: Global, input: &mut S, output: &mut K) -> u8
-    ensures { CheckTold S.tells K.tells
-        (moment (S.at input.old) (K.at output.old)) (moment (S.at input.new) (K.at output.new)) result }
+    ensures { CheckTold S.tells K.tells (moment (S.at input.old) (K.at output.old))
+        (moment (S.at input.new) (K.at output.new)) result }
 {
     check_told(alloc, input, output)
 }

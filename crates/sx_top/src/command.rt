@@ -1,13 +1,16 @@
 //! The top call.
 
-ghost use Rattle.std.specs.Prelude.{◌≡◌, false, map, string_bytes};
+ghost use Rattle.std.specs.Prelude.{◌≡◌, map, string_bytes, None};
 ghost use Rattle.sx_told.specs.Told.{moment};
 ghost use Rattle.sx_tag.specs.Mac.{hmac_sha256};
-ghost use Rattle.sx_top.specs.Commands.{is_word, is_run, is_check};
+ghost use Rattle.sx_top.specs.Commands.{command_of};
 ghost use Rattle.sx_top.specs.Promises.{ProgramTold};
 
+use crate::assembling::asm_over;
 use crate::check::check_over;
+use crate::disassembling::dis_over;
 use crate::run::run_over;
+use crate::words::{Command, command_of};
 use std::alloc::Global;
 use sx_io::{Sink, Source};
 use sx_tag::Hmac;
@@ -16,23 +19,14 @@ use sx_told::finish;
 /// The exit status for words that are no command.
 const MISUSED: u8 = 2;
 
-/// Whether the words are this one word.
-fn is_word(words: &[String], name: &[u8]) -> bool
-    ensures { result ≡ is_word name.now (map string_bytes words.now) }
-{
-    match words {
-        [word] => word.as_bytes() == name,
-        _ => false,
-    }
-}
-
 /// Does all that the program does, and gives its exit status. `words` are those of the command line
 /// behind the program's name.
 ///
-/// The commands are `run` and `check`, each the one word. Both read a deployment and the line `%%`
-/// behind it. `check` writes where each module stands, and `end`. `run` writes each module's image,
-/// `trace`, the items of the schedule that follows, one a line, and `end`; a line's items are written
-/// before the next line is read.
+/// The commands are `run`, `check`, `asm A` and `dis A` with an address A. `run` and `check` read a
+/// deployment and the line `%%` behind it. `check` writes where each module stands, and `end`. `run`
+/// writes each module's image, `trace`, the items of the schedule that follows, one a line, and `end`;
+/// a line's items are written before the next line is read. `asm` reads a text of assembly, and `dis`
+/// bytes in hexadecimal; both write the listing of the code at the address, and `end`.
 ///
 /// | Status | Last line | When |
 /// |---|---|---|
@@ -43,6 +37,7 @@ fn is_word(words: &[String], name: &[u8]) -> bool
 /// | 4 | `fault read` | a read failed |
 /// | 5 | none | a write failed: what was written is a prefix of what is defined |
 /// | 6 | none | memory ran out: what was written is a prefix of what is defined |
+/// | 10 | `fault asm Ak line`, `fault hex Bk line` | a text, or the bytes, break the rule Ak or Bk; `-` stands for no line |
 ///
 /// Every line, a fault's too, goes to `output` and ends with a newline.
 #[tactic(auto, unfolding(crate::specs::Output::usage_line))]
@@ -50,16 +45,16 @@ pub fn top<S: Source, K: Sink>(alloc: Global, words: &[String], input: &mut S, o
     // What is written, and the status, are what is defined for the words and for the bytes that were
     // taken, and no more was taken than must be.
     ensures told { ProgramTold hmac_sha256 (map string_bytes words.now) S.tells K.tells
-        (moment (S.at input.old) (K.at output.old)) (moment (S.at input.new) (K.at output.new)) result }
+        (moment (S.at input.old) (K.at output.old))
+        (moment (S.at input.new) (K.at output.new)) result }
     // Other words read nothing.
-    ensures unread { is_run (map string_bytes words.now) ≡ false
-        → is_check (map string_bytes words.now) ≡ false → input.new ≡ input.old }
+    ensures unread { command_of (map string_bytes words.now) ≡ None → input.new ≡ input.old }
 {
-    if is_word(words, b"run") {
-        return run_over(alloc, Hmac, input, output);
+    match command_of(words) {
+        Some(Command::Run) => run_over(alloc, Hmac, input, output),
+        Some(Command::Check) => check_over(alloc, input, output),
+        Some(Command::Asm(at)) => asm_over(alloc, at, input, output),
+        Some(Command::Dis(at)) => dis_over(at, input, output),
+        None => finish(output, b"fault usage\n", MISUSED),
     }
-    if is_word(words, b"check") {
-        return check_over(alloc, input, output);
-    }
-    finish(output, b"fault usage\n", MISUSED)
 }

@@ -26,7 +26,8 @@ fn can_be_compiled(plan: &Deployment, number: u8, part: &Part, ends: &[End], lay
     requires layout { slice_get plan.now.layouts.items number ≡ Some layout.now }
     requires ends { ends.now ≡ ends_of (deployed_as plan.now).app number }
     ensures few { length ends.now ≤ 16 }
-    ensures packets { SendFew (senders ends.now) (source_tree part.now.code) (source_tree part.now.code).handlers }
+    ensures packets { let tree = source_tree part.now.code in
+        SendFew (senders ends.now) tree tree.handlers }
     ensures room { HasSections (source_tree part.now.code) ends.now layout.now }
 {}
 
@@ -57,7 +58,8 @@ pub(crate) fn compile_all<T: Tag>(
 ) -> Result<Vec<Image>, AllocError>
     requires { IsSound (deployed_as plan.now) }
     ensures all { IfOk result (λ images. length images.items ≡ length plan.now.app.parts.items) }
-    ensures built { IfOk result (λ images. AreBuilt T.mac (deployed_as plan.now) (map plain images.items)) }
+    ensures built { IfOk result (λ images.
+        AreBuilt T.mac (deployed_as plan.now) (map plain images.items)) }
 {
     let mut images = Vec::new(alloc);
     let mut number: u8 = 0;

@@ -1,8 +1,9 @@
 //! The lines of images.
 
-ghost use Rattle.std.specs.Prelude.{◌≡◌, ◌++◌, IfOk, OnOk, List, map};
+ghost use Rattle.std.specs.Prelude.{◌≡◌, ◌++◌, IfOk, OnOk, List};
 ghost use Rattle.sx_io.specs.Reading.{Answer};
 ghost use Rattle.sx_told.specs.Told.{Output, Does, behind};
+ghost use Rattle.sx_world.specs.InMemory.{texts_of};
 ghost use Rattle.sx_top.specs.Output.{trace_line};
 ghost use Rattle.sx_top.specs.Run.{image_line, images_text};
 
@@ -22,7 +23,8 @@ fn push_image(
     name: &Name,
     image: &Image,
 ) -> Result<(), AllocError>
-    ensures { OnOk result (text.new.items ≡ text.old.items ++ image_line name.now image.now.text.items) }
+    ensures { OnOk result
+        (text.new.items ≡ text.old.items ++ image_line name.now image.now.text.items) }
 {
     let digits = encode(alloc, image.text.as_slice())?;
     text.extend_from_slice(b"image ")?;
@@ -34,7 +36,7 @@ fn push_image(
 
 /// The lines of all images.
 fn image_lines(alloc: Global, names: &[Name], images: &[Image]) -> Result<Vec<u8>, AllocError>
-    ensures { IfOk result (λ text. text.items ≡ images_text names.now (map (λ i. i.text.items) images.now)) }
+    ensures { IfOk result (λ text. text.items ≡ images_text names.now (texts_of images.now)) }
 {
     let mut text = Vec::new(alloc);
     let mut i = 0;
@@ -48,7 +50,8 @@ fn image_lines(alloc: Global, names: &[Name], images: &[Image]) -> Result<Vec<u8
 /// The lines of all images, and `trace`.
 #[tactic(auto, unfolding(crate::specs::Output::trace_line))]
 fn images_text(alloc: Global, names: &Names, images: &[Image]) -> Result<Vec<u8>, AllocError>
-    ensures { IfOk result (λ text. text.items ≡ images_text names.now.modules (map (λ i. i.text.items) images.now) ++ trace_line) }
+    ensures { IfOk result (λ text.
+        text.items ≡ images_text names.now.modules (texts_of images.now) ++ trace_line) }
 {
     let mut text = image_lines(alloc, &names.modules, images)?;
     text.extend_from_slice(b"trace\n")?;
@@ -63,7 +66,8 @@ pub(crate) fn put_images<K: Sink>(
     output: &mut K,
 ) -> Turned
     ensures { (left : List Answer → Output) → Does K.tells (K.at output.old) (K.at output.new)
-        (λ more. behind (images_text names.now.modules (map (λ i. i.text.items) images.now) ++ trace_line) (left more)) result left }
+        (λ more. behind (images_text names.now.modules (texts_of images.now) ++ trace_line)
+        (left more)) result left }
 {
     match images_text(alloc, names, images) {
         Ok(text) => put_text(output, &text),

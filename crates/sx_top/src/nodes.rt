@@ -1,6 +1,6 @@
 //! The nodes of a deployment.
 
-ghost use Rattle.std.specs.Prelude.{◌≡◌, ℕ, ◌<◌, ◌≤◌, List, IfOk, length};
+ghost use Rattle.std.specs.Prelude.{◌≡◌, ℕ, ◌<◌, List, IfOk};
 ghost use Rattle.sx_deploy.specs.Law.{IsSound};
 ghost use Rattle.sx_deploy.specs.SeenDeployment.{deployed_as};
 ghost use Rattle.sx_bus.specs.Devices.{powered_on};
@@ -55,7 +55,8 @@ fn node_at<T: Tag>(
     key: [u8; 16],
 ) -> Result<Node<FlatBus, T>, AllocError>
     requires sound { IsSound (deployed_as plan.now) }
-    ensures { IfOk result (λ node. node ≡ power_on key (powered_on (windows_at number (deployed_as plan.now).app.devices (deployed_as plan.now).places))) }
+    ensures { let d = deployed_as plan.now in IfOk result (λ node.
+        node ≡ power_on key (powered_on (windows_at number d.app.devices d.places))) }
 {
     let bus = FlatBus::new(alloc)?;
     let places = places_at(alloc, &plan.app.devices, &plan.places, number)?;
@@ -63,15 +64,16 @@ fn node_at<T: Tag>(
     Ok(Node::new(bus, tag, key, windows))
 }
 
-/// All nodes of a deployment, just switched on: each has its key, and its devices in the deployment's order.
+/// All nodes of a deployment, just switched on: each has its key, and its devices in the deployment's
+/// order.
 pub(crate) fn nodes_of<T: Tag + Copy>(
     alloc: Global,
     tag: T,
     plan: &Deployment,
 ) -> Result<Vec<Node<FlatBus, T>>, AllocError>
     requires sound { IsSound (deployed_as plan.now) }
-    ensures { IfOk result (λ nodes. (texts : List (List ℕ))
-        → nodes.items ≡ nodes_from (setting_of T.mac (deployed_as plan.now) texts) 0 (deployed_as plan.now).keys) }
+    ensures { let d = deployed_as plan.now in IfOk result (λ nodes.
+        (texts : List (List ℕ)) → nodes.items ≡ nodes_from (setting_of T.mac d texts) 0 d.keys) }
 {
     let mut nodes = Vec::new(alloc);
     let mut number: u8 = 0;

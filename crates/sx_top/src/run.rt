@@ -1,16 +1,18 @@
-//! The command `run`: it reads a deployment, makes its modules' images, and runs a schedule while it reads it.
+//! The command `run`: it reads a deployment, makes its modules' images, and runs a schedule while it
+//! reads it.
 
-ghost use Rattle.std.specs.Prelude.{◌≡◌, ℕ, List, IfOk, IsTrue, Ok, length, map};
+ghost use Rattle.std.specs.Prelude.{◌≡◌, ℕ, List, IfOk, IsTrue, Ok, length};
 ghost use Rattle.sx_told.specs.Told.{Rest, moment};
 ghost use Rattle.sx_head.specs.Head.{head_lines};
 ghost use Rattle.sx_trace.specs.Names.{are_valid};
 ghost use Rattle.sx_deploy.specs.Deployment.{IsRead};
 ghost use Rattle.sx_deploy.specs.Law.{IsSound};
 ghost use Rattle.sx_deploy.specs.SeenDeployment.{deployed_as};
-ghost use Rattle.sx_world.specs.Accepted.{AreImages, setting_of, sites_of};
+ghost use Rattle.sx_world.specs.Accepted.{AreImages};
+ghost use Rattle.sx_world.specs.InMemory.{image_setting, texts_of};
 ghost use Rattle.sx_world.specs.Standing.{Stands};
 ghost use Rattle.sx_world.specs.State.{switched_on};
-ghost use Rattle.sx_top.specs.Run.{run_found};
+ghost use Rattle.sx_top.specs.Run.{run_deployed};
 ghost use Rattle.sx_top.specs.Runs.{RunSays, RunsOrRanOut};
 
 use crate::compiling::compile_all;
@@ -28,7 +30,8 @@ use sx_tag::Tag;
 use sx_told::OUT_OF_MEMORY;
 use sx_world::world::World;
 
-/// The world of a deployment with these images of its modules, where all nodes were just switched on.
+/// The world of a deployment with these images of its modules, where all nodes were just switched
+/// on.
 fn new_world<T: Tag + Copy>(
     alloc: Global,
     tag: T,
@@ -37,10 +40,10 @@ fn new_world<T: Tag + Copy>(
 ) -> Result<World<FlatBus, T>, AllocError>
     requires sound { IsSound (deployed_as plan.now) }
     requires many { length images.now ≡ length plan.now.app.parts.items }
-    ensures sites { IfOk result (λ world. world.sites ≡ sites_of (deployed_as plan.now).app.parts (deployed_as plan.now).layouts
-        (deployed_as plan.now).providers (map (λ i. i.text.items) images.now)) }
-    ensures stands { IfOk result (λ world. Stands (setting_of T.mac (deployed_as plan.now) (map (λ i. i.text.items) images.now)) world
-        (switched_on (setting_of T.mac (deployed_as plan.now) (map (λ i. i.text.items) images.now)))) }
+    ensures sites { IfOk result (λ world.
+        world.sites ≡ (image_setting T.mac plan.now images.now).sites) }
+    ensures stands { IfOk result (λ world. Stands (image_setting T.mac plan.now images.now) world
+        (switched_on (image_setting T.mac plan.now images.now))) }
     ensures lines { IfOk result (λ world. world.lines ≡ 0) }
 {
     let nodes = nodes_of(alloc, tag, plan)?;
@@ -60,9 +63,11 @@ fn run_images<S: Source, K: Sink, T: Tag + Copy>(
     requires sound { IsSound (deployed_as plan.now) }
     requires names { IsTrue (are_valid (deployed_as plan.now).names) }
     requires many { length images.now ≡ length plan.now.app.parts.items }
-    requires images { AreImages T.mac (deployed_as plan.now) (map (λ i. i.text.items) images.now) }
-    ensures { Rest S.tells K.tells head_lines lines.old (moment (S.at input.old) (K.at output.old)) (moment (S.at input.new) (K.at output.new)) result
-        (run_found T.mac (map (λ i. i.text.items) images.now) (Ok (deployed_as plan.now))) }
+    requires images { AreImages T.mac (deployed_as plan.now) (texts_of images.now) }
+    ensures { Rest S.tells K.tells head_lines lines.old
+        (moment (S.at input.old) (K.at output.old))
+        (moment (S.at input.new) (K.at output.new)) result
+        (run_deployed T.mac (deployed_as plan.now) (texts_of images.now)) }
 {
     match new_world(alloc, tag, plan, images) {
         Ok(mut world) => run_built(alloc, lines, input, output, plan, images, &mut world),
@@ -81,8 +86,9 @@ fn run_deployment<S: Source, K: Sink, T: Tag + Copy>(
 ) -> u8
     requires sound { IsSound (deployed_as plan.now) }
     requires names { IsTrue (are_valid (deployed_as plan.now).names) }
-    ensures { (text : List ℕ) → IsRead text (Ok (deployed_as plan.now)) → RunsOrRanOut T.mac S.tells K.tells lines.old
-        (moment (S.at input.old) (K.at output.old)) (moment (S.at input.new) (K.at output.new)) result text }
+    ensures { (text : List ℕ) → IsRead text (Ok (deployed_as plan.now))
+        → RunsOrRanOut T.mac S.tells K.tells lines.old (moment (S.at input.old) (K.at output.old))
+        (moment (S.at input.new) (K.at output.new)) result text }
 {
     match compile_all(alloc, &tag, plan) {
         Ok(images) => run_images(alloc, tag, lines, input, output, plan, &images),
@@ -100,7 +106,8 @@ fn run_text<S: Source, K: Sink, T: Tag + Copy>(
     output: &mut K,
 ) -> u8
     ensures { RunsOrRanOut T.mac S.tells K.tells lines.old
-        (moment (S.at input.old) (K.at output.old)) (moment (S.at input.new) (K.at output.new)) result text.now }
+        (moment (S.at input.old) (K.at output.old))
+        (moment (S.at input.new) (K.at output.new)) result text.now }
 {
     match read_deployment(alloc, text) {
         Ok(plan) => run_deployment(alloc, tag, lines, input, output, &plan),
@@ -109,16 +116,16 @@ fn run_text<S: Source, K: Sink, T: Tag + Copy>(
     }
 }
 
-/// The command `run` over any tag: a deployment, the line `%%`, and a schedule, whose lines are acted and
-/// told while they are read. Gives the exit status, as `top` does for this command.
+/// The command `run` over any tag: a deployment, the line `%%`, and a schedule, whose lines are acted
+/// and told while they are read. Gives the exit status, as `top` does for this command.
 pub fn run_over<S: Source, K: Sink, T: Tag + Copy>(
     alloc: Global,
     tag: T,
     input: &mut S,
     output: &mut K,
 ) -> u8
-    ensures { RunSays T.mac S.tells K.tells
-        (moment (S.at input.old) (K.at output.old)) (moment (S.at input.new) (K.at output.new)) result }
+    ensures { RunSays T.mac S.tells K.tells (moment (S.at input.old) (K.at output.old))
+        (moment (S.at input.new) (K.at output.new)) result }
 {
     let mut lines = Lines::new();
     match read_head(alloc, &mut lines, input) {

@@ -1,20 +1,20 @@
-//! The lines of a schedule. Each is judged and acted, and its items are written, before the next is read.
+//! The lines of a schedule. Each is judged and acted, and its items are written, before the next is
+//! read.
 
-ghost use Rattle.std.specs.Prelude.{◌≡◌, ℕ, ◌+◌, ◌<◌, ◌≤◌, ◌∷◌, List, Ok, IsTrue, map};
-ghost use Rattle.sx_io.specs.Reading.{Answer};
+ghost use Rattle.std.specs.Prelude.{◌≡◌, ◌+◌, ◌<◌, ◌≤◌, IsTrue};
 ghost use Rattle.sx_trace.specs.Names.{are_valid};
 ghost use Rattle.sx_sched.specs.Lines.{line_of, IsLine};
-ghost use Rattle.sx_told.specs.Told.{Output, Does, Rest, moment};
+ghost use Rattle.sx_told.specs.Told.{Rest, moment, out_of_memory};
 ghost use Rattle.sx_head.specs.Head.{head_lines};
 ghost use Rattle.sx_deploy.specs.SeenDeployment.{deployed_as};
 ghost use Rattle.sx_deploy.specs.Law as deployment;
-ghost use Rattle.sx_world.specs.State.{World as Reached, switched_on};
-ghost use Rattle.sx_world.specs.Held.{setting};
+ghost use Rattle.sx_world.specs.InMemory.{image_setting, texts_of, world_setting};
 ghost use Rattle.sx_world.specs.Law.{IsSound};
 ghost use Rattle.sx_world.specs.Standing.{IsGoing, Stands};
-ghost use Rattle.sx_world.specs.Accepted.{sites_of};
-ghost use Rattle.sx_top.specs.Run.{done, told_by, run_from, run_found};
-ghost use Rattle.sx_top.specs.Turns.{Turns};
+ghost use Rattle.sx_world.specs.State.{switched_on};
+ghost use Rattle.sx_top.specs.Run.{run_at_start, run_deployed};
+ghost use Rattle.sx_top.specs.Schedule.{judged};
+ghost use Rattle.sx_top.specs.Turns.{Advances, MayRunOut, TellsLine, TurnsFrom};
 
 use crate::images::put_images;
 use crate::judging::{TOO_LONG, break_off, judge};
@@ -40,17 +40,15 @@ fn tell<K: Sink, B: Bus, T: Tag>(
     line: &Line,
 ) -> Turned
     requires sound { deployment.IsSound (deployed_as plan.now) }
-    requires images { IsSound (setting T.mac (deployed_as plan.now) world.old.sites) }
-    requires going { IsGoing (setting T.mac (deployed_as plan.now) world.old.sites) world.old }
+    requires images { IsSound (world_setting T.mac plan.now world.old) }
+    requires going { IsGoing (world_setting T.mac plan.now world.old) world.old }
     requires form { IsLine (deployed_as plan.now).names (line_of line.now) }
     requires few { world.old.lines < 65536 }
-    ensures does { (w : Reached) → Stands (setting T.mac (deployed_as plan.now) world.old.sites) world.old w
-        → (left : Reached → List Answer → Output) → Does K.tells (K.at output.old) (K.at output.new)
-        (λ more. told_by (deployed_as plan.now).names (done (setting T.mac (deployed_as plan.now) world.old.sites) w (line_of line.now)) (λ v. left v more))
-        result (left (done (setting T.mac (deployed_as plan.now) world.old.sites) w (line_of line.now)).world) }
-    ensures stands { result ≡ Turned.On → (w : Reached) → Stands (setting T.mac (deployed_as plan.now) world.old.sites) world.old w
-        → Stands (setting T.mac (deployed_as plan.now) world.old.sites) world.new
-        (done (setting T.mac (deployed_as plan.now) world.old.sites) w (line_of line.now)).world }
+    ensures does { TellsLine K.tells (K.at output.old) (K.at output.new)
+        (deployed_as plan.now).names (world_setting T.mac plan.now world.old)
+        (line_of line.now) world.old result }
+    ensures stands { result ≡ Turned.On
+        → Advances (world_setting T.mac plan.now world.old) (line_of line.now) world.old world.new }
     ensures sites { world.new.sites ≡ world.old.sites }
     ensures counts { result ≡ Turned.On → world.new.lines ≡ world.old.lines + 1 }
 {
@@ -77,20 +75,22 @@ fn turn<K: Sink, B: Bus, T: Tag>(
     number: u32,
 ) -> Turned
     requires sound { deployment.IsSound (deployed_as plan.now) }
-    requires images { IsSound (setting T.mac (deployed_as plan.now) world.old.sites) }
-    requires going { IsGoing (setting T.mac (deployed_as plan.now) world.old.sites) world.old }
+    requires images { IsSound (world_setting T.mac plan.now world.old) }
+    requires going { IsGoing (world_setting T.mac plan.now world.old) world.old }
     requires names { IsTrue (are_valid (deployed_as plan.now).names) }
     requires counted { world.old.lines + 1 ≡ number }
-    ensures turns { (w : Reached) → Stands (setting T.mac (deployed_as plan.now) world.old.sites) world.old w
-        → Turns K.tells (K.at output.old) (K.at output.new) (deployed_as plan.now).names (setting T.mac (deployed_as plan.now) world.old.sites)
-        world.new number said.now result w }
+    ensures turns { TurnsFrom K.tells (K.at output.old) (K.at output.new)
+        (deployed_as plan.now).names (world_setting T.mac plan.now world.old) world.old world.new
+        number said.now result }
+    ensures memory { result ≡ Turned.Stop out_of_memory
+        → MayRunOut (judged (deployed_as plan.now).names number said.now) }
     ensures few { result ≡ Turned.On → number ≤ 65536 }
     ensures sites { world.new.sites ≡ world.old.sites }
     ensures counts { result ≡ Turned.On → world.new.lines ≡ number }
 {
     match judge(alloc, &plan.names, said, number) {
         Ok(line) => tell(output, world, plan, items, text, &line),
-        Err(LineError::Fault(rule)) => Turned::Stop(break_off(alloc, output, rule, number)),
+        Err(LineError::Fault(rule)) => Turned::Stop(break_off(output, rule, number)),
         Err(LineError::OutOfMemory) => Turned::Stop(OUT_OF_MEMORY),
     }
 }
@@ -105,14 +105,15 @@ pub(crate) fn run_lines<S: Source, K: Sink, B: Bus, T: Tag>(
     world: &mut World<B, T>,
 ) -> u8
     requires sound { deployment.IsSound (deployed_as plan.now) }
-    requires images { IsSound (setting T.mac (deployed_as plan.now) world.old.sites) }
+    requires images { IsSound (world_setting T.mac plan.now world.old) }
     requires names { IsTrue (are_valid (deployed_as plan.now).names) }
     requires new { world.old.lines ≡ 0 }
-    requires stands { Stands (setting T.mac (deployed_as plan.now) world.old.sites) world.old
-        (switched_on (setting T.mac (deployed_as plan.now) world.old.sites)) }
-    ensures { Rest S.tells K.tells head_lines lines.old (moment (S.at input.old) (K.at output.old)) (moment (S.at input.new) (K.at output.new)) result
-        (run_from (deployed_as plan.now).names (setting T.mac (deployed_as plan.now) world.old.sites)
-        (switched_on (setting T.mac (deployed_as plan.now) world.old.sites)) 1) }
+    requires stands { Stands (world_setting T.mac plan.now world.old) world.old
+        (switched_on (world_setting T.mac plan.now world.old)) }
+    ensures { Rest S.tells K.tells head_lines lines.old
+        (moment (S.at input.old) (K.at output.old))
+        (moment (S.at input.new) (K.at output.new)) result
+        (run_at_start (deployed_as plan.now).names (world_setting T.mac plan.now world.old)) }
 {
     let mut into = [0; 4096];
     let mut items = Vec::new(alloc);
@@ -121,7 +122,7 @@ pub(crate) fn run_lines<S: Source, K: Sink, B: Bus, T: Tag>(
     'lines: loop {
         match lines.next(input, &mut into) {
             LineRead::End => return finish(output, b"end\n", 0),
-            LineRead::TooLong => return break_off(alloc, output, TOO_LONG, number),
+            LineRead::TooLong => return break_off(output, TOO_LONG, number),
             LineRead::Failed => return finish(output, b"fault read\n", READ_FAILED),
             LineRead::Text(n) => match turn(
                 alloc,
@@ -151,15 +152,16 @@ pub(crate) fn run_built<S: Source, K: Sink, B: Bus, T: Tag>(
     world: &mut World<B, T>,
 ) -> u8
     requires sound { deployment.IsSound (deployed_as plan.now) }
-    requires images { IsSound (setting T.mac (deployed_as plan.now) world.old.sites) }
+    requires images { IsSound (world_setting T.mac plan.now world.old) }
     requires names { IsTrue (are_valid (deployed_as plan.now).names) }
     requires new { world.old.lines ≡ 0 }
-    requires sites { world.old.sites ≡ sites_of (deployed_as plan.now).app.parts (deployed_as plan.now).layouts (deployed_as plan.now).providers
-        (map (λ i. i.text.items) images.now) }
-    requires stands { Stands (setting T.mac (deployed_as plan.now) world.old.sites) world.old
-        (switched_on (setting T.mac (deployed_as plan.now) world.old.sites)) }
-    ensures { Rest S.tells K.tells head_lines lines.old (moment (S.at input.old) (K.at output.old)) (moment (S.at input.new) (K.at output.new)) result
-        (run_found T.mac (map (λ i. i.text.items) images.now) (Ok (deployed_as plan.now))) }
+    requires sites { world.old.sites ≡ (image_setting T.mac plan.now images.now).sites }
+    requires stands { Stands (world_setting T.mac plan.now world.old) world.old
+        (switched_on (world_setting T.mac plan.now world.old)) }
+    ensures { Rest S.tells K.tells head_lines lines.old
+        (moment (S.at input.old) (K.at output.old))
+        (moment (S.at input.new) (K.at output.new)) result
+        (run_deployed T.mac (deployed_as plan.now) (texts_of images.now)) }
 {
     match put_images(alloc, &plan.names, images, output) {
         Turned::Stop(status) => status,

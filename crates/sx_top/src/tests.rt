@@ -2,15 +2,22 @@
 
 ghost use Rattle.std.specs.Prelude.{◌≤◌};
 
-use crate::top;
+use crate::{run_over, top};
 use std::alloc::{AllocError, Global};
 use std::process::Abort;
 use std::test::Fail;
 use sx_io::{MemSink, MemSource};
+use sx_tag::Weak;
 
 fn words(alloc: Global, word: &str) -> Result<Vec<String>, AllocError> {
     let mut words = Vec::new(alloc);
     words.push(format!(in alloc; "{word}")?)?;
+    Ok(words)
+}
+
+fn two_words(alloc: Global, word: &str, next: &str) -> Result<Vec<String>, AllocError> {
+    let mut words = words(alloc, word)?;
+    words.push(format!(in alloc; "{next}")?)?;
     Ok(words)
 }
 
@@ -319,6 +326,20 @@ fn ends_so(text: &[u8], end: &[u8]) -> bool {
 /// What the lines of the images of the lighting's modules take.
 const IMAGES: usize = 15_908;
 
+/// The lighting, and a schedule.
+fn lighting(alloc: Global, schedule: &[u8]) -> Result<MemSource, AllocError> {
+    let mut given = Vec::new(alloc);
+    given.extend_from_slice(LIGHTING)?;
+    given.extend_from_slice(schedule)?;
+    source(alloc, &given, 4096, 0)
+}
+
+/// Whether this is what stands behind the images.
+fn is_told(rt: &impl Abort, output: &MemSink, text: &[u8]) {
+    assert!(rt; ends_so(output.written(), text));
+    assert!(rt; output.written().len() == IMAGES + text.len());
+}
+
 /// Whether the lighting does what this schedule says.
 fn lights(
     rt: &impl Abort,
@@ -327,15 +348,11 @@ fn lights(
     status: u8,
     text: &[u8],
 ) -> Result<(), Fail> {
-    let mut given = Vec::new(alloc);
-    given.extend_from_slice(LIGHTING)?;
-    given.extend_from_slice(schedule)?;
-    let mut input = source(alloc, &given, 4096, 0)?;
+    let mut input = lighting(alloc, schedule)?;
     let mut output = MemSink::new(alloc, 20_000, Vec::new(alloc))?;
     let answer = top(alloc, &words(alloc, "run")?, &mut input, &mut output);
     assert_eq!(rt; answer, status);
-    assert!(rt; ends_so(output.written(), text));
-    assert!(rt; output.written().len() == IMAGES + text.len());
+    is_told(rt, &output, text);
     Ok(())
 }
 
@@ -359,6 +376,68 @@ fn runs_of_the_lighting(rt: HostRuntime) -> Result<(), Fail> {
     )
 }
 
+/// A packet that nobody but its author made, and that the lamp takes where tags are weak.
+const FORGE: &[u8] = br#"forge 030001000100999ed6d6d6d6d6d6d6d6d6d6d6d6d6d6d6d6
+give 12 b 0x300
+call lamp 2 0x300 0x400
+"#;
+
+const FORGED: &[u8] = br#"packet 12 24
+forged lamp
+take lamp down 1 7
+out lamp 7
+done lamp 1 0
+end
+"#;
+
+#[test]
+fn forged_packet(rt: HostRuntime) -> Result<(), Fail> {
+    let alloc = rt.alloc();
+    let mut schedule = Vec::new(alloc);
+    schedule.extend_from_slice(SAMPLE)?;
+    schedule.extend_from_slice(FORGE)?;
+    let mut input = lighting(alloc, &schedule)?;
+    let mut output = MemSink::new(alloc, 20_000, Vec::new(alloc))?;
+    assert_eq!(rt; run_over(alloc, Weak, &mut input, &mut output), 0);
+    let mut text = Vec::new(alloc);
+    text.extend_from_slice(&SAMPLED[..SAMPLED.len() - b"end\n".len()])?;
+    text.extend_from_slice(FORGED)?;
+    is_told(&rt, &output, &text);
+    Ok(())
+}
+
+#[test]
+fn words_with_an_address(rt: HostRuntime) -> Result<(), Fail> {
+    let alloc = rt.alloc();
+    let rows: [(&str, &str, &[u8], u8, &[u8]); 5] = [
+        (
+            "asm",
+            "0x4000",
+            b"here: mov #9, &0x1000\nxor.b #1, &0x306\njmp here\n",
+            0,
+            b"0x4000 b24009000010 mov #0x9, &0x1000\n0x4006 d2e30603 xor.b #0x1, &0x306\n0x400a fa3f jmp 0x4000\nend\n",
+        ),
+        (
+            "dis",
+            "16384",
+            b"26453040000000a0\n",
+            0,
+            b"0x4000 2645 mov @r5, r6\n0x4002 30400000 mov ##0x0, pc\n0x4006 00a0 .word 0xa000\nend\n",
+        ),
+        ("asm", "0", b"mov r5\n", 10, b"fault asm A1 1\n"),
+        ("dis", "65536", b"2645\n", 2, b"fault usage\n"),
+        ("run", "0", b"%%\n", 2, b"fault usage\n"),
+    ];
+    for (word, at, text, status, told) in rows {
+        let mut input = source(alloc, text, 4096, 0)?;
+        let mut output = MemSink::new(alloc, 400, Vec::new(alloc))?;
+        let answer = top(alloc, &two_words(alloc, word, at)?, &mut input, &mut output);
+        assert_eq!(rt; answer, status);
+        assert_eq!(rt; output.written(), told);
+    }
+    Ok(())
+}
+
 #[test]
 fn other_words(rt: HostRuntime) -> Result<(), Fail> {
     let alloc = rt.alloc();
@@ -369,8 +448,7 @@ fn other_words(rt: HostRuntime) -> Result<(), Fail> {
         2
     );
     assert_eq!(rt; top(alloc, &[], &mut input, &mut output), 2);
-    let mut more = words(alloc, "check")?;
-    more.push(format!(in alloc; "x")?)?;
+    let more = two_words(alloc, "check", "x")?;
     assert_eq!(rt; top(alloc, &more, &mut input, &mut output), 2);
     assert_eq!(rt;
         output.written(),

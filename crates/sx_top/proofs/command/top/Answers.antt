@@ -1,38 +1,38 @@
-use Rattle.std.proofs.Common.{◌∙◌, map, refl, sym}
+use Rattle.std.proofs.Common.{◌∙◌, map, refl, sym, ap, Some, None}
 use Rattle.std.specs.Prelude.{string_bytes}
 use Rattle.sx_tag.specs.Mac.{hmac_sha256}
+use Rattle.sx_top.specs.declared.words.Command.TheVariants.{Run, Check, Asm, Dis}
 use Rattle.sx_top.specs.Output.{usage_line}
-use Rattle.sx_top.proofs.Statuses.{check_not_run}
 use Rattle.sx_top.proofs.Promised.{says_not_two, check_not_two}
+use Rattle.sx_top.proofs.Usage.{asm_not_two, dis_not_two, program}
 use Rattle.sx_top.proofs.command.top.Goals as goal
 
-pub returns-then-is_word-clause-told : goal.returns-then-is_word-clause-told
-returns-then-is_word-clause-told g c =
-    let words = map string_bytes c.args.words.now in
-    let is = sym c.is_word.ensures ∙ c.if-is_word.true in record {
-      run = λ e. c.run_over.ensures;
-      check = λ e. absurd (cc (sym is ∙ check_not_run words e));
-      other = λ e f. absurd (cc (sym is ∙ e));
-      usage = λ two. absurd (says_not_two hmac_sha256 c.run_over.ensures two);
-    }
+pub returns-in-Some-Run-clause-told : goal.returns-in-Some-Run-clause-told
+returns-in-Some-Run-clause-told g c =
+    program hmac_sha256 (map string_bytes c.args.words.now) (Some Run)
+    (sym c.command_of.ensures ∙ c.in-Some-Run.is ∙ ap Some c.in-Some-Run.field-0-is) c.run_over.ensures
+    (λ two. absurd (says_not_two hmac_sha256 c.run_over.ensures two))
 
-pub returns-then-is_word-2-clause-told : goal.returns-then-is_word-2-clause-told
-returns-then-is_word-2-clause-told g c =
-    let words = map string_bytes c.args.words.now in
-    let is = sym c.is_word-2.ensures ∙ c.if-is_word-2.true in record {
-      run = λ e. absurd (cc (sym e ∙ check_not_run words is));
-      check = λ e. c.check_over.ensures;
-      other = λ e f. absurd (cc (sym is ∙ f));
-      usage = λ two. absurd (check_not_two c.check_over.ensures two);
-    }
+pub returns-in-Some-Check-clause-told : goal.returns-in-Some-Check-clause-told
+returns-in-Some-Check-clause-told g c =
+    program hmac_sha256 (map string_bytes c.args.words.now) (Some Check)
+    (sym c.command_of.ensures ∙ c.in-Some-Check.is ∙ ap Some c.in-Some-Check.field-0-is) c.check_over.ensures
+    (λ two. absurd (check_not_two c.check_over.ensures two))
 
-pub returns-clause-told : goal.returns-clause-told
+pub returns-in-Some-Asm-clause-told : goal.returns-in-Some-Asm-clause-told
+returns-in-Some-Asm-clause-told g c =
+    program hmac_sha256 (map string_bytes c.args.words.now) (Some (Asm c.in-Some-Asm.at))
+    (sym c.command_of.ensures ∙ c.in-Some-Asm.is ∙ ap Some c.in-Some-Asm.field-0-is) c.asm_over.ensures
+    (λ two. absurd (asm_not_two c.in-Some-Asm.at c.asm_over.ensures two))
+
+pub returns-in-Some-Dis-clause-told : goal.returns-in-Some-Dis-clause-told
+returns-in-Some-Dis-clause-told g c =
+    program hmac_sha256 (map string_bytes c.args.words.now) (Some (Dis c.in-Some-Dis.at))
+    (sym c.command_of.ensures ∙ c.in-Some-Dis.is ∙ ap Some c.in-Some-Dis.field-0-is) c.dis_over.ensures
+    (λ two. absurd (dis_not_two c.in-Some-Dis.at c.dis_over.ensures two))
+
+pub returns-in-None-clause-told : goal.returns-in-None-clause-told
 unfolding usage_line
-returns-clause-told g c =
-    let not_run = sym c.is_word.ensures ∙ c.if-is_word.false in
-    let not_check = sym c.is_word-2.ensures ∙ c.if-is_word-2.false in record {
-      run = λ e. absurd (cc (sym e ∙ not_run));
-      check = λ e. absurd (cc (sym e ∙ not_check));
-      other = λ e f. record { ends = c.finish.ensures.ends; unread = refl };
-      usage = λ two. (not_run, not_check);
-    }
+returns-in-None-clause-told g c =
+    program hmac_sha256 (map string_bytes c.args.words.now) None (sym c.command_of.ensures ∙ c.in-None.is)
+    (record { ends = c.finish.ensures.ends; unread = refl }) (λ two. refl)

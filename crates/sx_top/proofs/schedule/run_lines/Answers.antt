@@ -39,7 +39,7 @@ returns-in-TooLong g c = λ limit m0 defined aside noted b.
     let set = setting g.T.Tag.mac d c.args.world.now.sites in
     let st = c.lines.invariant.between in
     told-too-long {f = run_from d.names set st.world c.lines.number} (run_unread d.names set st.world c.lines.number) (st.begun limit m0 defined aside noted b)
-    c.in-TooLong.ensures.next (ends-same _ _ _ _ _ _ (run_too_long d.names set st.world c.lines.number) c.break_off.ensures)
+    c.in-TooLong.ensures.next (ends-same _ _ _ _ _ _ (run_too_long d.names set st.world c.lines.number) c.break_off.ensures.ends)
 
 pub returns-in-Failed : goal.returns-in-Failed
 unfolding read_line

@@ -1,0 +1,76 @@
+-- What follows for `asm` from what it wrote and read.
+use Rattle.std.proofs.Common.{◌≡◌, ◌∙◌, ◌⊎◌, inl, inr, ℕ, ◌+◌, Bool, List, [], ◌∷◌, ◌++◌, length, nat_lt, sym, arith}
+use Rattle.std.specs.Prelude.{IsTrue, Result, Ok, Err}
+use Rattle.sx_io.specs.Reading.{Answer, Line, End, Long, Fault, Ended, scan}
+use Rattle.sx_told.specs.Reads.{anything}
+use Rattle.sx_told.specs.Told.{Output, Moment, Told, out_of_memory}
+use Rattle.sx_told.proofs.Laws.{told-quiet, told-fault, told-write-fault, told-no-write-fault}
+use Rattle.sx_told.proofs.Endings.{pick, Faultless, faultless}
+use Rattle.sx_asm.specs.declared.error.AsmError.{AsmError}
+use Rattle.sx_asm.specs.declared.error.AsmError.TheVariants as error
+use Rattle.sx_top.specs.Assembling.{Gathered, Input, Whole, Unread, broken_at, with_line, asm_lines, most_bytes, gather, input, code_at, refused, told_code, asm_input, asm_all, AsmTold}
+use Rattle.sx_top.specs.Faults.{CameToItsEnd, TellsFaults}
+
+-- ---- statuses
+
+refused_not_four : (e : AsmError) → (refused e).status ≡ 4 → ⊥
+refused_not_four (error.Fault rule number) e = omega (arith, e)
+refused_not_four error.OutOfMemory e = omega (arith, e)
+
+told_not_four : (at : ℕ) (r : Result (List ℕ) AsmError) → (told_code at r).status ≡ 4 → ⊥
+told_not_four at (Ok code) e = omega (arith, e)
+told_not_four at (Err f) e = refused_not_four f e
+
+whole_not_four : (at : ℕ) (g : Gathered) → (asm_input at (Whole g)).status ≡ 4 → ⊥
+whole_not_four at g e = told_not_four at (code_at at g) e
+
+gather_not_four : (at number count : ℕ) (g : Gathered) (answers : List Answer) → Faultless answers
+    → (asm_input at (gather number count g answers)).status ≡ 4 → ⊥
+gather_not_four at number count g [] u e = whole_not_four at g e
+gather_not_four at number count g (End ∷ more) u e = whole_not_four at g e
+gather_not_four at number count g (Long ∷ more) u e = whole_not_four at (broken_at number g) e
+gather_not_four at number count g (Fault ∷ more) u e = u
+gather_not_four at number count g (Line line ∷ more) u e =
+    pick (nat_lt most_bytes (count + (length line + 1))) (Whole (broken_at number g)) _ (λ i. (asm_input at i).status ≡ 4 → ⊥)
+    (whole_not_four at (broken_at number g)) (gather_not_four at (number + 1) (count + (length line + 1)) (with_line number line g) more u) e
+
+-- answers without a read that failed don't give status 4
+asm_not_four : (at : ℕ) (answers : List Answer) → Faultless answers → (asm_all at answers).status ≡ 4 → ⊥
+asm_not_four at answers u e = gather_not_four at 1 0 _ answers u e
+
+-- ---- the promise
+
+asm_faults : {tells to_tell : Bool} {m0 m1 : Moment} {status : ℕ} {also : List Answer → Type 0} (at : ℕ)
+    → Told tells to_tell asm_lines m0 m1 status (asm_all at) also → TellsFaults m0 m1 status
+asm_faults at told = record {
+  read = λ four.
+      told-fault told (λ five. omega (arith, four, five)) (λ six. omega (arith, four, six))
+      (λ bytes e. asm_not_four at (scan asm_lines Ended [] bytes) (faultless asm_lines [] bytes) (sym e ∙ four));
+  write = λ five. told-write-fault told five;
+  no_write = λ other. told-no-write-fault told other;
+}
+
+-- what was told of an input of which nothing failed
+abbrev Quiet : Bool → Moment → Moment → ℕ → Output → Type 0
+Quiet to_tell m0 m1 status o =
+    (status ≡ out_of_memory) ⊎ ((status ≡ o.status) × (IsTrue to_tell → m1.sink.written ≡ m0.sink.written ++ o.text))
+
+came : (to_tell : Bool) (m0 m1 : Moment) (status : ℕ) (o : Output) → Quiet to_tell m0 m1 status o → o.status ≡ 0
+    → CameToItsEnd to_tell m0 m1 status o
+came to_tell m0 m1 status o (inl six) zero = inl six
+came to_tell m0 m1 status o (inr all) zero = inr (all.0 ∙ zero, all.1)
+
+exactly : (to_tell : Bool) (m0 m1 : Moment) (status : ℕ) (o : Output) → Quiet to_tell m0 m1 status o
+    → (status ≡ out_of_memory) ⊎ (status ≡ o.status)
+exactly to_tell m0 m1 status o (inl six) = inl six
+exactly to_tell m0 m1 status o (inr all) = inr all.0
+
+pub asm_promise : {tells to_tell : Bool} {m0 m1 : Moment} {status : ℕ} (at : ℕ)
+    → Told tells to_tell asm_lines m0 m1 status (asm_all at) anything → AsmTold at tells to_tell m0 m1 status
+asm_promise {tells} {to_tell} {m0} {m1} {status} at told =
+    let o = asm_all at (scan asm_lines Ended [] m0.source.rest) in record {
+      told = told;
+      faults = asm_faults at told;
+      complete = λ t zero quiet. came to_tell m0 m1 status o (told-quiet told t quiet.0 quiet.1) zero;
+      exact = λ t quiet. exactly to_tell m0 m1 status o (told-quiet told t quiet.0 quiet.1);
+    }

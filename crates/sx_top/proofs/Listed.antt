@@ -1,0 +1,154 @@
+-- What follows for `dis` from what it wrote and read.
+use Rattle.std.proofs.Common.{◌≡◌, ◌∙◌, ◌⊎◌, inl, inr, ℕ, ◌+◌, Bool, true, false, List, [], ◌∷◌}
+use Rattle.std.proofs.Common.{◌++◌, length, refl, sym, ap, arith, Option, Some, None}
+use Rattle.sx_io.specs.Streams.{SourceAt, SinkAt}
+use Rattle.sx_io.specs.Reading.{Answer, Line, End, Long, Fault, Ended, Broken, scan}
+use Rattle.sx_told.specs.Told.{Ends, Moment, Output, Told, moment}
+use Rattle.sx_told.specs.Told.{out_of_memory, write_failed}
+use Rattle.sx_told.proofs.Laws.{told-all, told-quiet, told-reads}
+use Rattle.sx_told.proofs.Endings.{pick, Faultless, Unfinished, faultless, unfinished}
+use Rattle.sx_top.specs.Output.{end_line}
+use Rattle.sx_top.specs.Listing.{listing}
+use Rattle.sx_top.specs.Disassembling.{Given, Bytes, BadLine, Unread, in_front, on_line, given}
+use Rattle.sx_top.specs.Disassembling.{line_bytes, is_listed, unlisted, dis_lines}
+use Rattle.sx_top.specs.Disassembling.{dis_bytes, dis_given, dis_all, RunsOutInListing, DisTold}
+use Rattle.sx_top.specs.Kept.{ReadsGiven}
+use Rattle.sx_top.proofs.Said.{came, faults_of}
+
+-- ---- what the answers write
+
+abbrev IsUnread : Given → Type 0
+IsUnread (Bytes bytes) = ⊥
+IsUnread (BadLine number) = ⊥
+IsUnread Unread = Unit {0}
+
+abbrev IsBytes : Given → Type 0
+IsBytes (Bytes bytes) = Unit {0}
+IsBytes (BadLine number) = ⊥
+IsBytes Unread = ⊥
+
+unread_in_front : (bytes : List ℕ) (g : Given) → IsUnread (in_front bytes g) → IsUnread g
+unread_in_front bytes (Bytes more) h = h
+unread_in_front bytes (BadLine number) h = h
+unread_in_front bytes Unread h = h
+
+bytes_in_front : (bytes : List ℕ) (g : Given) → IsBytes (in_front bytes g) → IsBytes g
+bytes_in_front bytes (Bytes more) h = h
+bytes_in_front bytes (BadLine number) h = h
+bytes_in_front bytes Unread h = h
+
+unread_line : (number : ℕ) (o : Option (List ℕ)) (g : Given) → IsUnread (on_line number o g)
+    → IsUnread g
+unread_line number None g h = absurd h
+unread_line number (Some bytes) g h = unread_in_front bytes g h
+
+bytes_line : (number : ℕ) (o : Option (List ℕ)) (g : Given) → IsBytes (on_line number o g)
+    → IsBytes g
+bytes_line number None g h = absurd h
+bytes_line number (Some bytes) g h = bytes_in_front bytes g h
+
+-- answers without a read that failed are read
+faultless_read : (number : ℕ) (answers : List Answer) → Faultless answers
+    → IsUnread (given number answers) → ⊥
+faultless_read number [] u h = h
+faultless_read number (End ∷ more) u h = h
+faultless_read number (Long ∷ more) u h = h
+faultless_read number (Fault ∷ more) u h = u
+faultless_read number (Line text ∷ more) u h =
+    faultless_read (number + 1) more u
+    (unread_line number (line_bytes number text) (given (number + 1) more) h)
+
+-- answers that no end of the input ends write no bytes
+unfinished_none : (number : ℕ) (answers : List Answer) → Unfinished answers
+    → IsBytes (given number answers) → ⊥
+unfinished_none number [] u h = u
+unfinished_none number (End ∷ more) u h = u
+unfinished_none number (Long ∷ more) u h = h
+unfinished_none number (Fault ∷ more) u h = h
+unfinished_none number (Line text ∷ more) u h =
+    unfinished_none (number + 1) more u
+    (bytes_line number (line_bytes number text) (given (number + 1) more) h)
+
+-- ---- statuses
+
+bytes_not_four : (at : ℕ) (bytes : List ℕ) → (dis_bytes at bytes).status ≡ 4 → ⊥
+bytes_not_four at bytes e =
+    pick (is_listed at (length bytes)) _ unlisted (λ o. o.status ≡ 4 → ⊥)
+    (λ x. omega (arith, x)) (λ x. omega (arith, x)) e
+
+four_unread : (at : ℕ) (g : Given) → (dis_given at g).status ≡ 4 → IsUnread g
+four_unread at (Bytes bytes) e = absurd (bytes_not_four at bytes e)
+four_unread at (BadLine number) e = absurd (omega (arith, e))
+four_unread at Unread e = tt
+
+zero_bytes : (at : ℕ) (g : Given) → (dis_given at g).status ≡ 0 → IsBytes g
+zero_bytes at (Bytes bytes) e = tt
+zero_bytes at (BadLine number) e = absurd (omega (arith, e))
+zero_bytes at Unread e = absurd (omega (arith, e))
+
+never_four : (at : ℕ) (bytes : List ℕ) → (dis_all at (scan dis_lines Ended [] bytes)).status ≡ 4
+    → ⊥
+never_four at bytes e =
+    let answers = scan dis_lines Ended [] bytes in
+    faultless_read 1 answers (faultless dis_lines [] bytes) (four_unread at (given 1 answers) e)
+
+never_zero : (at : ℕ) (bytes : List ℕ) → (dis_all at (scan dis_lines Broken [] bytes)).status ≡ 0
+    → ⊥
+never_zero at bytes e =
+    let answers = scan dis_lines Broken [] bytes in
+    unfinished_none 1 answers (unfinished dis_lines [] bytes) (zero_bytes at (given 1 answers) e)
+
+pub listed_zero : (at : ℕ) (bytes : List ℕ) → is_listed at (length bytes) ≡ true
+    → (dis_bytes at bytes).status ≡ 0
+listed_zero at bytes e = rw e refl
+
+pub listed_bytes : (at : ℕ) (bytes : List ℕ) → is_listed at (length bytes) ≡ true
+    → dis_bytes at bytes ≡ record { text = listing at bytes ++ end_line; status = 0 }
+listed_bytes at bytes e = rw e refl
+
+pub unlisted_bytes : (at : ℕ) (bytes : List ℕ) → is_listed at (length bytes) ≡ false
+    → dis_bytes at bytes ≡ unlisted
+unlisted_bytes at bytes e = rw e refl
+
+-- a status that `finish` gives isn't that of want of memory
+pub never_six : (status ended : ℕ) → ((status ≡ write_failed → ⊥) → status ≡ ended)
+    → (ended ≡ out_of_memory → ⊥) → status ≡ out_of_memory → ⊥
+never_six status ended e n six = n (sym (e (λ five. omega (arith, five, six))) ∙ six)
+
+-- ---- the command
+
+-- the lines were read, and what they write was told
+pub told_given : {tells to_tell : Bool} {s0 s1 : SourceAt} {k0 k1 : SinkAt} {status : ℕ}
+    (at : ℕ) (g : Given) → ReadsGiven tells s0 s1 g → Ends to_tell k0 k1 status (dis_given at g)
+    → (status ≡ out_of_memory → (dis_given at g).status ≡ 0)
+    → Told tells to_tell dis_lines (moment s0 k0) (moment s1 k1) status (dis_all at)
+    (RunsOutInListing at status)
+told_given {tells} {to_tell} {s0} {s1} {k0} {k1} {status} at g r w six =
+    told-reads (dis_given at) (dis_given at g) refl r
+    (λ answers q. (
+      ap (dis_given at) q,
+      λ out. ap (λ (x : Given). (dis_given at x).status) q ∙ six out,
+    )) w
+
+exactly : (status : ℕ) (A : Type 0) (o : Output)
+    → (status ≡ out_of_memory) ⊎ ((status ≡ o.status) × A)
+    → (status ≡ out_of_memory) ⊎ (status ≡ o.status)
+exactly status A o (inl six) = inl six
+exactly status A o (inr all) = inr all.0
+
+pub dis_promise : {tells to_tell : Bool} {m0 m1 : Moment} {status : ℕ} (at : ℕ)
+    → Told tells to_tell dis_lines m0 m1 status (dis_all at) (RunsOutInListing at status)
+    → DisTold at tells to_tell m0 m1 status
+dis_promise {tells} {to_tell} {m0} {m1} {status} at told = record {
+  told = told;
+  faults = faults_of (never_four at) told;
+  read_all = λ zero.
+      told-all told (λ five. omega (arith, zero, five)) (λ six. omega (arith, zero, six))
+      (λ bytes e. never_zero at bytes (sym e ∙ zero));
+  complete = λ t good quiet.
+      let answers = scan dis_lines Ended [] m0.source.rest in
+      came to_tell m0 m1 status (dis_all at answers) (told-quiet told t quiet.0 quiet.1) good;
+  exact = λ t quiet.
+      let answers = scan dis_lines Ended [] m0.source.rest in
+      exactly status _ (dis_all at answers) (told-quiet told t quiet.0 quiet.1);
+}

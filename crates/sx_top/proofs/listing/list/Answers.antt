@@ -1,0 +1,55 @@
+use Rattle.std.proofs.Common.{◌≡◌, ◌∙◌, ◌<◌, ap, arith, length, drop, ℕ}
+use Rattle.sx_asm.specs.Meaning.{further}
+use Rattle.sx_asm.specs.Shown.{listed}
+use Rattle.sx_top.specs.Output.{end_line}
+use Rattle.sx_top.proofs.LeftLines.{left_new, left_line, left_stop, left_end, some_word, no_word}
+use Rattle.sx_top.proofs.Sizes.{listed_sized}
+use Rattle.sx_top.proofs.listing.list.Goals as goal
+
+pub lines-init : goal.lines-init
+lines-init g c = record { even = c.requires.even; lines = left_new _ _ _ _ }
+
+pub returns-in-Stop : goal.returns-in-Stop
+returns-in-Stop g c =
+    let rest = c.lines.rest.now in
+    let long = some_word rest c.is_empty.result c.is_empty.ensures c.lines-test.true c.lines.invariant.even in
+    left_stop c.lines.address rest c.as_slice.result.now long c.lines.invariant.lines (c.as_slice.ensures.value ∙ c.first_line-line.ensures.line)
+    c.in-Stop.ensures.does
+
+pub split_at-requires : goal.split_at-requires
+split_at-requires g c =
+    let rest = c.lines.rest.now in
+    let long = some_word rest c.is_empty.result c.is_empty.ensures c.lines-test.true c.lines.invariant.even in
+    let sized = listed_sized c.lines.address rest long in
+    omega (arith, sized.within, c.first_line-line.ensures.size)
+
+pub lines-smaller : goal.lines-smaller
+lines-smaller g c =
+    let rest = c.lines.rest.now in
+    let long = some_word rest c.is_empty.result c.is_empty.ensures c.lines-test.true c.lines.invariant.even in
+    let sized = listed_sized c.lines.address rest long in
+    let less : length c.split_at.result.1.now < length rest =
+    omega (arith, sized.some, c.first_line-line.ensures.size, c.from.ensures, c.split_at.ensures.back_len, c.split_at.ensures.front_len) in
+    less
+
+pub lines-preserved : goal.lines-preserved
+lines-preserved g c =
+    let rest = c.lines.rest.now in
+    let long = some_word rest c.is_empty.result c.is_empty.ensures c.lines-test.true c.lines.invariant.even in
+    let sized = listed_sized c.lines.address rest long in
+    let size : c.from.result ≡ (listed c.lines.address rest).1 = c.from.ensures ∙ c.first_line-line.ensures.size in
+    record {
+      even = omega (arith, sized.even, size, c.split_at.ensures.back_len, c.split_at.ensures.front_len, c.lines.invariant.even);
+      lines =
+          left_line c.lines.address _ rest _ c.as_slice.result.now long c.lines.invariant.lines
+          (c.as_slice.ensures.value ∙ c.first_line-line.ensures.line)
+          (ap (further c.lines.address) (c.from-address.ensures ∙ c.first_line-line.ensures.size))
+          (c.split_at.ensures.back ∙ ap (λ (n : ℕ). drop n rest) size)
+          c.in_default.ensures.does;
+    }
+
+pub returns : goal.returns
+unfolding end_line
+returns g c =
+    let rest = c.lines.rest.now in
+    left_end c.lines.address rest (no_word rest c.is_empty.result c.is_empty.ensures c.lines-test.false) c.lines.invariant.lines c.finish.ensures.ends

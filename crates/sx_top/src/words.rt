@@ -1,0 +1,62 @@
+//! The command that the words of a command line name.
+
+ghost use Rattle.std.specs.Prelude.{◌≡◌, map, string_bytes};
+ghost use Rattle.sx_top.specs.Commands.{command_of, plain_command, numbered_command, address_in};
+
+use sx_io::number;
+
+/// A command of the program.
+#[derive(Clone, Copy, Debug, PartialEq, Eq)]
+pub(crate) enum Command {
+    Run,
+    Check,
+    /// The listing of a text's code for this address.
+    Asm(u16),
+    /// The listing of code that stands from this address on.
+    Dis(u16),
+}
+
+/// The command of one word.
+fn plain_command(word: &[u8]) -> Option<Command>
+    ensures { result ≡ plain_command word.now }
+{
+    if word == b"run".as_slice() {
+        Some(Command::Run)
+    } else if word == b"check".as_slice() {
+        Some(Command::Check)
+    } else {
+        None
+    }
+}
+
+/// An address from 0 to 65,535.
+fn address_in(word: &[u8]) -> Option<u16>
+    ensures { result ≡ address_in word.now }
+{
+    let at = number(word, 65_535)?;
+    Some(at as u16)
+}
+
+/// The command of a word and a number.
+fn numbered_command(word: &[u8], number: &[u8]) -> Option<Command>
+    ensures { result ≡ numbered_command word.now number.now }
+{
+    if word == b"asm".as_slice() {
+        Some(Command::Asm(address_in(number)?))
+    } else if word == b"dis".as_slice() {
+        Some(Command::Dis(address_in(number)?))
+    } else {
+        None
+    }
+}
+
+/// The command that these words name.
+pub(crate) fn command_of(words: &[String]) -> Option<Command>
+    ensures { result ≡ command_of (map string_bytes words.now) }
+{
+    match words {
+        [word] => plain_command(word.as_bytes()),
+        [word, number] => numbered_command(word.as_bytes(), number.as_bytes()),
+        _ => None,
+    }
+}
