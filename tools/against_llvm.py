@@ -6,7 +6,7 @@ and the bytes that llvm-mc gives are compared with those of the line.
 
     tools/against_llvm.py PROGRAM WORD..    lists with this program, which gets the address as its last word
 
-The program `sancus` has no command that lists yet; any program that prints what `dis` of the crate sx_asm gives will do.
+For the program that is proved here: tools/against_llvm.py crates/sancus_run/out/sancus_run dis
 
 LLVM takes some operands in another form:
 - a jump's is the number of words behind the next instruction, and not its target;
