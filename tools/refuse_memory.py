@@ -3,7 +3,7 @@
 
 Each run must end with status 6, and what it wrote must be a prefix of what it writes with memory enough. Beside it, the
 n-th allocation alone is refused: the run then ends with status 6, or as if nothing had been refused, where a vector
-that couldn't grow by its usual step asked again for just what it needs.
+that is filled from an iterator asked for room by the iterator's hint, and then again for one element.
 
     tools/refuse_memory.py [PROGRAM]      the proved program; needs a C compiler, and isn't a part of the gate
 """
