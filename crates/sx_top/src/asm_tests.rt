@@ -1,22 +1,10 @@
 //! Texts and their listings worked by hand from the rules, and streams that fail.
 
-ghost use Rattle.std.specs.Prelude.{◌≤◌};
-
 use crate::assembling::asm_over;
-use std::alloc::{AllocError, Global};
+use crate::inputs::{sink, source};
+use std::alloc::Global;
 use std::process::Abort;
 use std::test::Fail;
-use sx_io::{MemSink, MemSource};
-
-fn source(alloc: Global, text: &[u8], piece: usize, failing: u64) -> Result<MemSource, AllocError>
-    requires { 1 ≤ piece }
-{
-    let mut bytes = Vec::new(alloc);
-    bytes.extend_from_slice(text)?;
-    let mut calls = Vec::new(alloc);
-    calls.push(failing)?;
-    Ok(MemSource::new(bytes, piece, calls))
-}
 
 /// Whether the command writes this for the input, and ends with this status.
 fn writes(
@@ -28,7 +16,7 @@ fn writes(
     text: &[u8],
 ) -> Result<(), Fail> {
     let mut input = source(alloc, input, 4096, 0)?;
-    let mut output = MemSink::new(alloc, 400, Vec::new(alloc))?;
+    let mut output = sink(alloc, 400, 0)?;
     assert_eq!(rt; asm_over(alloc, at, &mut input, &mut output), status);
     assert_eq!(rt; output.written(), text);
     Ok(())
@@ -125,16 +113,16 @@ fn streams_that_fail(rt: HostRuntime) -> Result<(), Fail> {
     let alloc = rt.alloc();
     // the third read fails, behind a line that isn't in the grammar
     let mut input = source(alloc, b"mov r5\nreti\n", 4, 3)?;
-    let mut output = MemSink::new(alloc, 400, Vec::new(alloc))?;
+    let mut output = sink(alloc, 400, 0)?;
     assert_eq!(rt; asm_over(alloc, 0, &mut input, &mut output), 4);
     assert_eq!(rt; output.written(), b"fault read\n".as_slice());
     // the sink takes 6 bytes and no more
     let mut input = source(alloc, b"reti\n", 4096, 0)?;
-    let mut output = MemSink::new(alloc, 6, Vec::new(alloc))?;
+    let mut output = sink(alloc, 6, 0)?;
     assert_eq!(rt; asm_over(alloc, 0, &mut input, &mut output), 5);
     assert_eq!(rt; output.written(), b"0x0000".as_slice());
     let mut input = source(alloc, b"mov r5\n", 4096, 0)?;
-    let mut output = MemSink::new(alloc, 5, Vec::new(alloc))?;
+    let mut output = sink(alloc, 5, 0)?;
     assert_eq!(rt; asm_over(alloc, 0, &mut input, &mut output), 5);
     assert_eq!(rt; output.written(), b"fault".as_slice());
     Ok(())

@@ -1,24 +1,10 @@
 //! Inputs of `dis` worked by hand from the rules.
 
-ghost use Rattle.std.specs.Prelude.{◌≤◌};
-
 use crate::disassembling::dis_over;
+use crate::inputs::{sink, source};
 use std::alloc::{AllocError, Global};
 use std::process::Abort;
 use std::test::Fail;
-use sx_io::{MemSink, MemSource};
-
-fn bytes(alloc: Global, text: &[u8]) -> Result<Vec<u8>, AllocError> {
-    let mut bytes = Vec::new(alloc);
-    bytes.extend_from_slice(text)?;
-    Ok(bytes)
-}
-
-fn calls(alloc: Global, failing: u64) -> Result<Vec<u64>, AllocError> {
-    let mut calls = Vec::new(alloc);
-    calls.push(failing)?;
-    Ok(calls)
-}
 
 /// So many times the same text.
 fn repeated(alloc: Global, count: usize, text: &[u8]) -> Result<Vec<u8>, AllocError> {
@@ -38,8 +24,8 @@ fn writes(
     status: u8,
     text: &[u8],
 ) -> Result<(), Fail> {
-    let mut input = MemSource::new(bytes(alloc, input)?, 4096, Vec::new(alloc));
-    let mut output = MemSink::new(alloc, 400, Vec::new(alloc))?;
+    let mut input = source(alloc, input, 4096, 0)?;
+    let mut output = sink(alloc, 400, 0)?;
     assert_eq!(rt; dis_over(at, &mut input, &mut output), status);
     assert_eq!(rt; output.written(), text);
     Ok(())
@@ -117,8 +103,8 @@ fn lines_and_bytes_up_to_the_limit(rt: HostRuntime) -> Result<(), Fail> {
     writes(&rt, alloc, 0, &longer, 10, b"fault hex B1 1\n")?;
     // 8,192 bytes, and 2 more; then a line that breaks its rule
     let mut code = repeated(alloc, 4096, b"0000\n")?;
-    let mut input = MemSource::new(bytes(alloc, &code)?, 4096, Vec::new(alloc));
-    let mut output = MemSink::new(alloc, 100_000, Vec::new(alloc))?;
+    let mut input = source(alloc, &code, 4096, 0)?;
+    let mut output = sink(alloc, 100_000, 0)?;
     assert_eq!(rt; dis_over(0xe000, &mut input, &mut output), 0);
     // a line of 22 bytes for each word 0, and the last line
     assert_eq!(rt; output.written().len(), 4096 * 22 + 4);
@@ -141,15 +127,15 @@ fn reads_and_writes_that_fail(rt: HostRuntime) -> Result<(), Fail> {
         (b"2\n", 2, 10, b"fault hex B1 1\n"),
     ];
     for (text, failing, status, told) in rows {
-        let mut input = MemSource::new(bytes(alloc, text)?, 2, calls(alloc, failing)?);
-        let mut output = MemSink::new(alloc, 400, Vec::new(alloc))?;
+        let mut input = source(alloc, text, 2, failing)?;
+        let mut output = sink(alloc, 400, 0)?;
         assert_eq!(rt; dis_over(0, &mut input, &mut output), status);
         assert_eq!(rt; output.written(), told);
     }
     let rows: [&[u8]; 3] = [b"2645\n", b"2\n", b"26\n"];
     for text in rows {
-        let mut input = MemSource::new(bytes(alloc, text)?, 4096, Vec::new(alloc));
-        let mut output = MemSink::new(alloc, 400, calls(alloc, 1)?)?;
+        let mut input = source(alloc, text, 4096, 0)?;
+        let mut output = sink(alloc, 400, 1)?;
         assert_eq!(rt; dis_over(0, &mut input, &mut output), 5);
         assert_eq!(rt; output.written(), b"".as_slice());
     }

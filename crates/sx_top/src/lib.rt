@@ -37,6 +37,12 @@ pub use run::run_over;
 #[cfg(test)]
 mod asm_tests;
 #[cfg(test)]
+mod attack_tests;
+#[cfg(test)]
 mod dis_tests;
+#[cfg(test)]
+mod inputs;
+#[cfg(test)]
+mod stream_tests;
 #[cfg(test)]
 mod tests;
