@@ -10,11 +10,12 @@ ghost use Rattle.sx_world.specs.Setting.{kind_of, windows_at};
 ghost use Rattle.sx_world.specs.State.{nodes_from};
 
 use std::alloc::{AllocError, Global};
-use sx_bus::{FlatBus, Kind, Windows};
+use sx_bus::{Kind, Windows};
 use sx_deploy::deployment::Deployment;
 use sx_lang::tree::DeviceKind;
 use sx_mean::apps::AppDevice;
 use sx_node::Node;
+use sx_paged::PagedBus;
 use sx_tag::Tag;
 
 fn kind_of(kind: DeviceKind) -> Kind
@@ -53,12 +54,12 @@ fn node_at<T: Tag>(
     plan: &Deployment,
     number: u8,
     key: [u8; 16],
-) -> Result<Node<FlatBus, T>, AllocError>
+) -> Result<Node<PagedBus, T>, AllocError>
     requires sound { IsSound (deployed_as plan.now) }
     ensures { let d = deployed_as plan.now in IfOk result (λ node.
         node ≡ power_on key (powered_on (windows_at number d.app.devices d.places))) }
 {
-    let bus = FlatBus::new(alloc)?;
+    let bus = PagedBus::new(alloc)?;
     let places = places_at(alloc, &plan.app.devices, &plan.places, number)?;
     let windows = Windows::new(alloc, &places)?;
     Ok(Node::new(bus, tag, key, windows))
@@ -70,7 +71,7 @@ pub(crate) fn nodes_of<T: Tag + Copy>(
     alloc: Global,
     tag: T,
     plan: &Deployment,
-) -> Result<Vec<Node<FlatBus, T>>, AllocError>
+) -> Result<Vec<Node<PagedBus, T>>, AllocError>
     requires sound { IsSound (deployed_as plan.now) }
     ensures { let d = deployed_as plan.now in IfOk result (λ nodes.
         (texts : List (List ℕ)) → nodes.items ≡ nodes_from (setting_of T.mac d texts) 0 d.keys) }

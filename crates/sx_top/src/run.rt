@@ -20,12 +20,12 @@ use crate::nodes::nodes_of;
 use crate::refusing::{refuse, refuse_head};
 use crate::schedule::run_built;
 use std::alloc::{AllocError, Global};
-use sx_bus::FlatBus;
 use sx_deploy::DeployError;
 use sx_deploy::deployment::{Deployment, read_deployment};
 use sx_head::read_head;
 use sx_image::Image;
 use sx_io::{Lines, Sink, Source};
+use sx_paged::PagedBus;
 use sx_tag::Tag;
 use sx_told::OUT_OF_MEMORY;
 use sx_world::world::World;
@@ -37,7 +37,7 @@ fn new_world<T: Tag + Copy>(
     tag: T,
     plan: &Deployment,
     images: &[Image],
-) -> Result<World<FlatBus, T>, AllocError>
+) -> Result<World<PagedBus, T>, AllocError>
     requires sound { IsSound (deployed_as plan.now) }
     requires many { length images.now ≡ length plan.now.app.parts.items }
     ensures sites { IfOk result (λ world.
