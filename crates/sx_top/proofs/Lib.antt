@@ -19,4 +19,7 @@ pub mod LeftLines
 pub mod Sizes
 pub mod Coming
 pub mod Listed
+pub mod Tallies
+pub mod Stated
+pub mod Generated
 pub mod Usage

@@ -120,8 +120,11 @@ stop_not_two AtEnd e = omega (arith, e)
 stop_not_two sched.Unread e = omega (arith, e)
 stop_not_two (Breaks rule number) e = omega (arith, e)
 
+pub found_not_two : (r : Result Deployed DeployFault) (more : List Answer) → found_status r more ≡ 2 → ⊥
+found_not_two r more e = found_not 2 r more (λ x. omega (arith, x)) (λ names. stop_not_two (schedule names 1 more).stop) e
+
 pub not_two : (meaning : Meaning) (h : Head) → head_status meaning h ≡ 2 → ⊥
-not_two meaning (Found text more) e = found_not 2 (meaning text) more (λ x. omega (arith, x)) (λ names. stop_not_two (schedule names 1 more).stop) e
+not_two meaning (Found text more) e = found_not_two (meaning text) more e
 not_two meaning TooLong e = omega (arith, e)
 not_two meaning NoMark e = omega (arith, e)
 not_two meaning Unread e = omega (arith, e)

@@ -1,12 +1,12 @@
 -- The commands that words name, and the inputs that the commands take to their end.
-use Rattle.std.specs.Prelude.{ℕ, if◌then◌else◌, List, [], ◌∷◌, codes, Option, Some, None, option_map, Result, Ok, Err}
+use Rattle.std.specs.Prelude.{ℕ, ◌≤◌, ◌==◌, if◌then◌else◌, List, [], ◌∷◌, codes, Option, Some, None, option_map, Result, Ok, Err}
 use Rattle.std.specs.Str.{bytes_eq}
 use Rattle.sx_io.specs.Numbers.{number_of}
 use Rattle.sx_stage.specs.declared.fault.DeployFault.{DeployFault}
 use Rattle.sx_head.specs.Head.{Head, Found, TooLong, NoMark, Unread}
 use Rattle.sx_deploy.specs.Deployment.{Deployed}
 use Rattle.sx_top.specs.declared.words.Command.{Command}
-use Rattle.sx_top.specs.declared.words.Command.TheVariants.{Run, Check, Asm, Dis}
+use Rattle.sx_top.specs.declared.words.Command.TheVariants.{Run, Check, Gen, Asm, Dis}
 use Rattle.sx_top.specs.Check.{Meaning}
 
 abbrev pub plain_command : List ℕ → Option Command
@@ -19,8 +19,17 @@ plain_command word =
 abbrev pub address_in : List ℕ → Option ℕ
 address_in word = number_of word 65535
 
+abbrev pub not_none : Option ℕ → Option ℕ
+not_none None = None
+not_none (Some n) = if n == 0 then None else Some n
+
+-- a number of samples, from 1 to 8,000
+abbrev pub samples_in : List ℕ → Option ℕ
+samples_in word = not_none (number_of word 8000)
+
 abbrev pub numbered_command : List ℕ → List ℕ → Option Command
 numbered_command word number =
+    if bytes_eq word (codes "gen") then option_map Gen (samples_in number) else
     if bytes_eq word (codes "asm") then option_map Asm (address_in number) else
     if bytes_eq word (codes "dis") then option_map Dis (address_in number) else
     None
@@ -31,6 +40,15 @@ command_of [] = None
 command_of (word ∷ []) = plain_command word
 command_of (word ∷ number ∷ []) = numbered_command word number
 command_of (word ∷ number ∷ next ∷ rest) = None
+
+-- a workload carries at most 8,000 samples
+abbrev pub CarriesFew : Option Command → Type 0
+CarriesFew None = Unit {0}
+CarriesFew (Some Run) = Unit {0}
+CarriesFew (Some Check) = Unit {0}
+CarriesFew (Some (Gen n)) = n ≤ 8000
+CarriesFew (Some (Asm at)) = Unit {0}
+CarriesFew (Some (Dis at)) = Unit {0}
 
 abbrev pub IsAccepted : Result Deployed DeployFault → Type 0
 IsAccepted (Ok d) = Unit {0}

@@ -16,4 +16,7 @@ pub mod Turns
 pub mod WellFormed
 pub mod Histories
 pub mod Runs
+pub mod Counts
+pub mod Workload
+pub mod Counting
 pub mod Promises

@@ -8,13 +8,14 @@ use Rattle.sx_tag.specs.Mac.{Mac}
 use Rattle.sx_head.specs.Head.{Head, Found, TooLong, NoMark, Unread, head, head_lines}
 use Rattle.sx_top.specs.Check.{Meaning, IsMeaning, check_all}
 use Rattle.sx_top.specs.declared.words.Command.{Command}
-use Rattle.sx_top.specs.declared.words.Command.TheVariants.{Run, Check, Asm, Dis}
+use Rattle.sx_top.specs.declared.words.Command.TheVariants.{Run, Check, Gen, Asm, Dis}
 use Rattle.sx_top.specs.Assembling.{AsmTold}
 use Rattle.sx_top.specs.Commands.{command_of, IsGoodHead}
 use Rattle.sx_top.specs.Disassembling.{DisTold}
 use Rattle.sx_top.specs.Faults.{CameToItsEnd, IsFaultless, TellsFaults}
 use Rattle.sx_top.specs.Output.{misused}
 use Rattle.sx_top.specs.Runs.{RunSays, input_of}
+use Rattle.sx_top.specs.Workload.{GenTold}
 
 -- these bytes are a head of this text, and the line `%%` behind it with its newline
 abbrev pub IsHead : List ℕ → List ℕ → Type 0
@@ -51,11 +52,17 @@ pub record MisusedTold (to_tell : Bool) (m0 m1 : Moment) (status : ℕ) : Type 0
   pub ends : Ends to_tell m0.sink m1.sink status misused
   pub unread : m1.source ≡ m0.source
 
+-- The command `gen` for n samples. Nothing is read.
+pub record GenSays (mac : Mac) (n : ℕ) (to_tell : Bool) (m0 m1 : Moment) (status : ℕ) : Type 0 where
+  pub told : GenTold mac n to_tell m0.sink m1.sink status
+  pub unread : m1.source ≡ m0.source
+
 -- what a command promises
 abbrev pub CommandTold : Mac → Option Command → Bool → Bool → Moment → Moment → ℕ → Type 0
 CommandTold mac None tells to_tell m0 m1 status = MisusedTold to_tell m0 m1 status
 CommandTold mac (Some Run) tells to_tell m0 m1 status = RunSays mac tells to_tell m0 m1 status
 CommandTold mac (Some Check) tells to_tell m0 m1 status = CheckTold tells to_tell m0 m1 status
+CommandTold mac (Some (Gen n)) tells to_tell m0 m1 status = GenSays mac n to_tell m0 m1 status
 CommandTold mac (Some (Asm at)) tells to_tell m0 m1 status = AsmTold at tells to_tell m0 m1 status
 CommandTold mac (Some (Dis at)) tells to_tell m0 m1 status = DisTold at tells to_tell m0 m1 status
 
@@ -64,3 +71,12 @@ pub record ProgramTold (mac : Mac) (words : List (List ℕ)) (tells to_tell : Bo
     (status : ℕ) : Type 0 where
   pub told : CommandTold mac (command_of words) tells to_tell m0 m1 status
   pub usage : status ≡ 2 → command_of words ≡ None
+
+-- words that are no command, and `gen`, leave the input alone
+abbrev pub LeavesInput : Option Command → Type 0
+LeavesInput None = Unit {0}
+LeavesInput (Some Run) = ⊥
+LeavesInput (Some Check) = ⊥
+LeavesInput (Some (Gen n)) = Unit {0}
+LeavesInput (Some (Asm at)) = ⊥
+LeavesInput (Some (Dis at)) = ⊥

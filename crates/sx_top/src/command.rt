@@ -1,16 +1,17 @@
 //! The top call.
 
-ghost use Rattle.std.specs.Prelude.{◌≡◌, map, string_bytes, None};
+ghost use Rattle.std.specs.Prelude.{◌≡◌, map, string_bytes};
 ghost use Rattle.sx_told.specs.Told.{moment};
 ghost use Rattle.sx_tag.specs.Mac.{hmac_sha256};
 ghost use Rattle.sx_top.specs.Commands.{command_of};
-ghost use Rattle.sx_top.specs.Promises.{ProgramTold};
+ghost use Rattle.sx_top.specs.Promises.{LeavesInput, ProgramTold};
 
 use crate::assembling::asm_over;
 use crate::check::check_over;
 use crate::disassembling::dis_over;
 use crate::run::run_over;
 use crate::words::{Command, command_of};
+use crate::workload::gen_over;
 use std::alloc::Global;
 use sx_io::{Sink, Source};
 use sx_tag::Hmac;
@@ -22,10 +23,12 @@ const MISUSED: u8 = 2;
 /// Does all that the program does, and gives its exit status. `words` are those of the command line
 /// behind the program's name.
 ///
-/// The commands are `run`, `check`, `asm A` and `dis A` with an address A. `run` and `check` read a
-/// deployment and the line `%%` behind it. `check` writes where each module stands, and `end`. `run`
+/// The commands are `run`, `check`, `gen N` for 1 to 8,000 samples, and `asm A` and `dis A` with an
+/// address A. `run` and `check` read a deployment and the line `%%` behind it. `check` writes where each module stands, and `end`. `run`
 /// writes each module's image, `trace`, the items of the schedule that follows, one a line, and `end`;
-/// a line's items are written before the next line is read. `asm` reads a text of assembly, and `dis`
+/// a line's items are written before the next line is read. `gen` reads nothing: it
+/// writes the images of a stated deployment and what it counted in the run of a stated schedule that
+/// carries so many samples, and `end`. `asm` reads a text of assembly, and `dis`
 /// bytes in hexadecimal; both write the listing of the code at the address, and `end`.
 ///
 /// | Status | Last line | When |
@@ -47,12 +50,14 @@ pub fn top<S: Source, K: Sink>(alloc: Global, words: &[String], input: &mut S, o
     ensures told { ProgramTold hmac_sha256 (map string_bytes words.now) S.tells K.tells
         (moment (S.at input.old) (K.at output.old))
         (moment (S.at input.new) (K.at output.new)) result }
-    // Other words read nothing.
-    ensures unread { command_of (map string_bytes words.now) ≡ None → input.new ≡ input.old }
+    // `gen`, and words that are no command, read nothing.
+    ensures unread { LeavesInput (command_of (map string_bytes words.now))
+        → input.new ≡ input.old }
 {
     match command_of(words) {
         Some(Command::Run) => run_over(alloc, Hmac, input, output),
         Some(Command::Check) => check_over(alloc, input, output),
+        Some(Command::Gen(samples)) => gen_over(alloc, Hmac, samples, output),
         Some(Command::Asm(at)) => asm_over(alloc, at, input, output),
         Some(Command::Dis(at)) => dis_over(at, input, output),
         None => finish(output, b"fault usage\n", MISUSED),

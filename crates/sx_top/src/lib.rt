@@ -1,4 +1,4 @@
-//! The commands of the program: `run`, `check`, `asm` and `dis`.
+//! The commands of the program: `run`, `check`, `gen`, `asm` and `dis`.
 //!
 //! `top` does all that the program does. What it promises is one record, `ProgramTold` of
 //! specs/Promises.antt, and in it one for each command: `CheckTold` there, and `RunSays` of
@@ -18,6 +18,8 @@ mod assembling;
 mod check;
 mod command;
 mod compiling;
+mod counting;
+mod counts;
 mod disassembling;
 mod fault;
 mod images;
@@ -30,6 +32,7 @@ mod schedule;
 mod text;
 mod trace;
 mod words;
+mod workload;
 
 pub use command::top;
 pub use run::run_over;
@@ -40,6 +43,8 @@ mod asm_tests;
 mod attack_tests;
 #[cfg(test)]
 mod dis_tests;
+#[cfg(test)]
+mod gen_tests;
 #[cfg(test)]
 mod inputs;
 #[cfg(test)]

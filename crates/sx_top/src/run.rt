@@ -32,7 +32,7 @@ use sx_world::world::World;
 
 /// The world of a deployment with these images of its modules, where all nodes were just switched
 /// on.
-fn new_world<T: Tag + Copy>(
+pub(crate) fn new_world<T: Tag + Copy>(
     alloc: Global,
     tag: T,
     plan: &Deployment,

@@ -1,8 +1,10 @@
 //! The command that the words of a command line name.
 
-ghost use Rattle.std.specs.Prelude.{◌≡◌, map, string_bytes};
-ghost use Rattle.sx_top.specs.Commands.{command_of, plain_command, numbered_command, address_in};
+ghost use Rattle.std.specs.Prelude.{◌≡◌, ◌≤◌, IfSome, map, string_bytes};
+ghost use Rattle.sx_top.specs.Commands.{command_of, plain_command, numbered_command};
+ghost use Rattle.sx_top.specs.Commands.{CarriesFew, address_in, samples_in};
 
+use sx_bulk::MOST_SAMPLES;
 use sx_io::number;
 
 /// A command of the program.
@@ -10,6 +12,8 @@ use sx_io::number;
 pub(crate) enum Command {
     Run,
     Check,
+    /// The run of the workload that carries so many samples.
+    Gen(u32),
     /// The listing of a text's code for this address.
     Asm(u16),
     /// The listing of code that stands from this address on.
@@ -18,7 +22,8 @@ pub(crate) enum Command {
 
 /// The command of one word.
 fn plain_command(word: &[u8]) -> Option<Command>
-    ensures { result ≡ plain_command word.now }
+    ensures command { result ≡ plain_command word.now }
+    ensures few { CarriesFew result }
 {
     if word == b"run".as_slice() {
         Some(Command::Run)
@@ -37,11 +42,25 @@ fn address_in(word: &[u8]) -> Option<u16>
     Some(at as u16)
 }
 
+/// A number of samples, from 1 to 8,000.
+pub(crate) fn samples_in(word: &[u8]) -> Option<u32>
+    ensures samples { result ≡ samples_in word.now }
+    ensures few { IfSome result (λ n. n ≤ MOST_SAMPLES) }
+{
+    match number(word, u64::from(MOST_SAMPLES)) {
+        Some(0) | None => None,
+        Some(samples) => Some(samples as u32),
+    }
+}
+
 /// The command of a word and a number.
 fn numbered_command(word: &[u8], number: &[u8]) -> Option<Command>
-    ensures { result ≡ numbered_command word.now number.now }
+    ensures command { result ≡ numbered_command word.now number.now }
+    ensures few { CarriesFew result }
 {
-    if word == b"asm".as_slice() {
+    if word == b"gen".as_slice() {
+        Some(Command::Gen(samples_in(number)?))
+    } else if word == b"asm".as_slice() {
         Some(Command::Asm(address_in(number)?))
     } else if word == b"dis".as_slice() {
         Some(Command::Dis(address_in(number)?))
@@ -52,7 +71,8 @@ fn numbered_command(word: &[u8], number: &[u8]) -> Option<Command>
 
 /// The command that these words name.
 pub(crate) fn command_of(words: &[String]) -> Option<Command>
-    ensures { result ≡ command_of (map string_bytes words.now) }
+    ensures command { result ≡ command_of (map string_bytes words.now) }
+    ensures few { CarriesFew result }
 {
     match words {
         [word] => plain_command(word.as_bytes()),

@@ -1,38 +1,53 @@
-use Rattle.std.proofs.Common.{◌∙◌, map, refl, sym, ap, Some, None}
+use Rattle.std.proofs.Common.{◌∙◌, map, refl, sym, subst, ap, Option, Some, None}
 use Rattle.std.specs.Prelude.{string_bytes}
 use Rattle.sx_tag.specs.Mac.{hmac_sha256}
-use Rattle.sx_top.specs.declared.words.Command.TheVariants.{Run, Check, Asm, Dis}
+use Rattle.sx_top.specs.declared.words.Command.{Command}
+use Rattle.sx_top.specs.declared.words.Command.TheVariants.{Run, Check, Gen, Asm, Dis}
+use Rattle.sx_top.specs.Commands.{CarriesFew}
 use Rattle.sx_top.specs.Output.{usage_line}
 use Rattle.sx_top.proofs.Promised.{says_not_two, check_not_two}
+use Rattle.sx_top.proofs.Generated.{gen_not_two}
 use Rattle.sx_top.proofs.Usage.{asm_not_two, dis_not_two, program}
 use Rattle.sx_top.proofs.command.top.Goals as goal
 
 pub returns-in-Some-Run-clause-told : goal.returns-in-Some-Run-clause-told
 returns-in-Some-Run-clause-told g c =
     program hmac_sha256 (map string_bytes c.args.words.now) (Some Run)
-    (sym c.command_of.ensures ∙ c.in-Some-Run.is ∙ ap Some c.in-Some-Run.field-0-is) c.run_over.ensures
+    (sym c.command_of.ensures.command ∙ c.in-Some-Run.is ∙ ap Some c.in-Some-Run.field-0-is) c.run_over.ensures
     (λ two. absurd (says_not_two hmac_sha256 c.run_over.ensures two))
 
 pub returns-in-Some-Check-clause-told : goal.returns-in-Some-Check-clause-told
 returns-in-Some-Check-clause-told g c =
     program hmac_sha256 (map string_bytes c.args.words.now) (Some Check)
-    (sym c.command_of.ensures ∙ c.in-Some-Check.is ∙ ap Some c.in-Some-Check.field-0-is) c.check_over.ensures
+    (sym c.command_of.ensures.command ∙ c.in-Some-Check.is ∙ ap Some c.in-Some-Check.field-0-is) c.check_over.ensures
     (λ two. absurd (check_not_two c.check_over.ensures two))
+
+pub gen_over-requires : goal.gen_over-requires
+gen_over-requires g c =
+    let P : Option Command → Type 0 = λ command. CarriesFew command in
+    subst P (c.in-Some-Gen.is ∙ ap Some c.in-Some-Gen.field-0-is) c.command_of.ensures.few
+
+pub returns-in-Some-Gen-clause-told : goal.returns-in-Some-Gen-clause-told
+returns-in-Some-Gen-clause-told g c =
+    program hmac_sha256 (map string_bytes c.args.words.now) (Some (Gen c.in-Some-Gen.samples))
+    (sym c.command_of.ensures.command ∙ c.in-Some-Gen.is ∙ ap Some c.in-Some-Gen.field-0-is)
+    (record { told = c.gen_over.ensures; unread = refl })
+    (λ two. absurd (gen_not_two c.gen_over.ensures two))
 
 pub returns-in-Some-Asm-clause-told : goal.returns-in-Some-Asm-clause-told
 returns-in-Some-Asm-clause-told g c =
     program hmac_sha256 (map string_bytes c.args.words.now) (Some (Asm c.in-Some-Asm.at))
-    (sym c.command_of.ensures ∙ c.in-Some-Asm.is ∙ ap Some c.in-Some-Asm.field-0-is) c.asm_over.ensures
+    (sym c.command_of.ensures.command ∙ c.in-Some-Asm.is ∙ ap Some c.in-Some-Asm.field-0-is) c.asm_over.ensures
     (λ two. absurd (asm_not_two c.in-Some-Asm.at c.asm_over.ensures two))
 
 pub returns-in-Some-Dis-clause-told : goal.returns-in-Some-Dis-clause-told
 returns-in-Some-Dis-clause-told g c =
     program hmac_sha256 (map string_bytes c.args.words.now) (Some (Dis c.in-Some-Dis.at))
-    (sym c.command_of.ensures ∙ c.in-Some-Dis.is ∙ ap Some c.in-Some-Dis.field-0-is) c.dis_over.ensures
+    (sym c.command_of.ensures.command ∙ c.in-Some-Dis.is ∙ ap Some c.in-Some-Dis.field-0-is) c.dis_over.ensures
     (λ two. absurd (dis_not_two c.in-Some-Dis.at c.dis_over.ensures two))
 
 pub returns-in-None-clause-told : goal.returns-in-None-clause-told
 unfolding usage_line
 returns-in-None-clause-told g c =
-    program hmac_sha256 (map string_bytes c.args.words.now) None (sym c.command_of.ensures ∙ c.in-None.is)
+    program hmac_sha256 (map string_bytes c.args.words.now) None (sym c.command_of.ensures.command ∙ c.in-None.is)
     (record { ends = c.finish.ensures.ends; unread = refl }) (λ two. refl)
