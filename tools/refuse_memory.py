@@ -66,6 +66,7 @@ LISTED = b"here: mov #9, &0x1000\nxor.b #1, &0x306\njmp here\n"
 CASES = [
     (["run"], (TOP / "examples/lighting.txt").read_bytes()),
     (["check"], (TOP / "examples/lighting.txt").read_bytes()),
+    (["gen", "4"], b""),
     (["asm", "0x4000"], LISTED),
     (["dis", "0x4000"], b"26453040000000a0\n"),
 ]
