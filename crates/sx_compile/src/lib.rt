@@ -10,19 +10,9 @@
 #![tactic(auto)]
 
 mod bodies;
-#[cfg(test)]
-mod calls;
 mod compiling;
 mod handlers;
 pub mod laws;
-#[cfg(test)]
-mod meanings;
-#[cfg(test)]
-mod protocol;
-#[cfg(test)]
-mod runs;
-#[cfg(test)]
-mod tests;
 
 pub use bodies::Body;
 pub use compiling::compile;

@@ -36,18 +36,3 @@ mod workload;
 
 pub use command::top;
 pub use run::run_over;
-
-#[cfg(test)]
-mod asm_tests;
-#[cfg(test)]
-mod attack_tests;
-#[cfg(test)]
-mod dis_tests;
-#[cfg(test)]
-mod gen_tests;
-#[cfg(test)]
-mod inputs;
-#[cfg(test)]
-mod stream_tests;
-#[cfg(test)]
-mod tests;

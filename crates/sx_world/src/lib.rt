@@ -33,7 +33,5 @@ mod sensors;
 pub mod sites;
 mod stepping;
 mod targets;
-#[cfg(test)]
-mod tests;
 mod touching;
 pub mod world;

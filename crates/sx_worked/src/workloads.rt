@@ -2,13 +2,11 @@
 //! sample, of which one is an output.
 
 use crate::inputs::{IMAGES, lighting, sink, source, two_words};
-use crate::words::samples_in;
-use crate::workload::gen_over;
-use crate::{run_over, top};
 use std::alloc::Global;
 use std::process::Abort;
 use std::test::Fail;
 use sx_tag::Hmac;
+use sx_top::{run_over, top};
 
 /// Whether the text has this part at this place.
 fn has_at(rt: &impl Abort, text: &[u8], at: usize, part: &[u8]) {
@@ -34,8 +32,9 @@ fn counts(rt: &impl Abort, alloc: Global, samples: &str, told: &[u8]) -> Result<
 
 #[test]
 fn workloads(rt: HostRuntime) -> Result<(), Fail> {
-    let rows: [(&str, &[u8]); 3] = [
+    let rows: [(&str, &[u8]); 4] = [
         ("4", b"lines 58\nitems 73\noutputs 4\nlit 1\nsteps "),
+        ("0x4", b"lines 58\nitems 73\noutputs 4\nlit 1\nsteps "),
         (
             "1000",
             b"lines 8026\nitems 10033\noutputs 1000\nlit 495\nsteps ",
@@ -59,7 +58,8 @@ fn images_as_of_a_run(rt: HostRuntime) -> Result<(), Fail> {
     let mut ran = sink(alloc, 20_000, 0)?;
     assert_eq!(rt; run_over(alloc, Hmac, &mut input, &mut ran), 0);
     let mut output = sink(alloc, 20_000, 0)?;
-    assert_eq!(rt; gen_over(alloc, Hmac, 1, &mut output), 0);
+    let words = two_words(alloc, "gen", "1")?;
+    assert_eq!(rt; top(alloc, &words, &mut input, &mut output), 0);
     assert_eq!(rt; output.written().get(..IMAGES), ran.written().get(..IMAGES));
     Ok(())
 }
@@ -67,23 +67,10 @@ fn images_as_of_a_run(rt: HostRuntime) -> Result<(), Fail> {
 #[test]
 fn a_write_fails(rt: HostRuntime) -> Result<(), Fail> {
     let alloc = rt.alloc();
+    let mut input = source(alloc, b"", 1, 0)?;
     let mut output = sink(alloc, 20_000, 1)?;
-    assert_eq!(rt; gen_over(alloc, Hmac, 1, &mut output), 5);
+    let words = two_words(alloc, "gen", "1")?;
+    assert_eq!(rt; top(alloc, &words, &mut input, &mut output), 5);
     assert_eq!(rt; output.written(), b"".as_slice());
     Ok(())
-}
-
-#[test]
-fn numbers_of_samples(rt: HostRuntime) {
-    let rows: [(&[u8], Option<u32>); 6] = [
-        (b"1", Some(1)),
-        (b"8000", Some(8000)),
-        (b"0x10", Some(16)),
-        (b"0", None),
-        (b"8001", None),
-        (b"", None),
-    ];
-    for (word, samples) in rows {
-        assert_eq!(rt; samples_in(word), samples);
-    }
 }

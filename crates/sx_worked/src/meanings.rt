@@ -6,7 +6,7 @@ use crate::calls::{
     Compiled, DOWN, Ended, FROM, Loaded, OUT, Outcome, PROTOCOL, TO, UP, called, entry,
     event_packet, given, holds, load, node, open, sensing, write_of,
 };
-use crate::tests::{NotMade, checked, end, eye, image_of, lamp, logic};
+use crate::modules::{NotMade, checked, end, eye, image_of, lamp, logic};
 use std::alloc::{AllocError, Global};
 use std::process::Abort;
 use std::test::Fail;

@@ -6,7 +6,7 @@ use Rattle.sx_mean.specs.Application.{sends_too_much}
 use Rattle.sx_mean.specs.Places.{IsSized}
 use Rattle.sx_mean.proofs.Kept.{sized}
 use Rattle.sx_compile.proofs.Links.{few_tested}
-use Rattle.sx_compile.proofs.tests.sends_few.Goals as goal
+use Rattle.sx_worked.proofs.modules.sends_few.Goals as goal
 
 pub sends_too_much-requires : goal.sends_too_much-requires
 sends_too_much-requires c =

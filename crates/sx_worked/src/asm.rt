@@ -1,10 +1,16 @@
 //! Texts and their listings worked by hand from the rules, and streams that fail.
 
-use crate::assembling::asm_over;
-use crate::inputs::{sink, source};
+use crate::inputs::{at_address, sink, source};
 use std::alloc::Global;
 use std::process::Abort;
 use std::test::Fail;
+use sx_io::{MemSink, MemSource};
+use sx_top::top;
+
+/// Does the command `asm` at this address, and gives its status.
+fn asm(alloc: Global, at: u16, input: &mut MemSource, output: &mut MemSink) -> Result<u8, Fail> {
+    Ok(top(alloc, &at_address(alloc, "asm", at)?, input, output))
+}
 
 /// Whether the command writes this for the input, and ends with this status.
 fn writes(
@@ -17,7 +23,7 @@ fn writes(
 ) -> Result<(), Fail> {
     let mut input = source(alloc, input, 4096, 0)?;
     let mut output = sink(alloc, 400, 0)?;
-    assert_eq!(rt; asm_over(alloc, at, &mut input, &mut output), status);
+    assert_eq!(rt; asm(alloc, at, &mut input, &mut output)?, status);
     assert_eq!(rt; output.written(), text);
     Ok(())
 }
@@ -114,16 +120,16 @@ fn streams_that_fail(rt: HostRuntime) -> Result<(), Fail> {
     // the third read fails, behind a line that isn't in the grammar
     let mut input = source(alloc, b"mov r5\nreti\n", 4, 3)?;
     let mut output = sink(alloc, 400, 0)?;
-    assert_eq!(rt; asm_over(alloc, 0, &mut input, &mut output), 4);
+    assert_eq!(rt; asm(alloc, 0, &mut input, &mut output)?, 4);
     assert_eq!(rt; output.written(), b"fault read\n".as_slice());
     // the sink takes 6 bytes and no more
     let mut input = source(alloc, b"reti\n", 4096, 0)?;
     let mut output = sink(alloc, 6, 0)?;
-    assert_eq!(rt; asm_over(alloc, 0, &mut input, &mut output), 5);
+    assert_eq!(rt; asm(alloc, 0, &mut input, &mut output)?, 5);
     assert_eq!(rt; output.written(), b"0x0000".as_slice());
     let mut input = source(alloc, b"mov r5\n", 4096, 0)?;
     let mut output = sink(alloc, 5, 0)?;
-    assert_eq!(rt; asm_over(alloc, 0, &mut input, &mut output), 5);
+    assert_eq!(rt; asm(alloc, 0, &mut input, &mut output)?, 5);
     assert_eq!(rt; output.written(), b"fault".as_slice());
     Ok(())
 }

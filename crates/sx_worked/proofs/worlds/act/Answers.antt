@@ -17,7 +17,7 @@ use Rattle.sx_world.specs.Setting.{Site}
 use Rattle.sx_world.specs.Standing.{Stands}
 use Rattle.sx_world.proofs.Lists.{get_within}
 use Rattle.sx_world.proofs.Sited.{sited}
-use Rattle.sx_world.proofs.tests.act.Goals as goal
+use Rattle.sx_worked.proofs.worlds.act.Goals as goal
 
 no_sites : (qs : List PartTree) (ls : List Layout) (ps : List ℕ) → length qs ≡ 0 → sites_of qs ls ps [] ≡ []
 no_sites [] ls ps e = refl

@@ -4,12 +4,12 @@ ghost use Rattle.std.specs.Prelude.{◌≡◌, ◌≤◌, IfSome, length, map, t
 ghost use Rattle.sx_bus.specs.Devices.{ArePlaces};
 ghost use Rattle.sx_machine.specs.Modules.{is_code};
 
-use crate::tests::{LARGE, NotMade, SMALL, end, has_sections, lamp, links_of, logic, sends_few};
-use crate::{Body, body};
+use crate::modules::{LARGE, NotMade, SMALL, end, has_sections, lamp, links_of, logic, sends_few};
 use std::alloc::Global;
 use std::test::Fail;
 use sx_bus::{Bus, FlatBus, Kind, Windows};
 use sx_check::checked::Checked;
+use sx_compile::{Body, body};
 use sx_core::{Core, Touch, word};
 use sx_lang::sides::Side;
 use sx_machine::Exchange;

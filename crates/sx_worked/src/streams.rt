@@ -1,11 +1,11 @@
 //! Inputs that are cut, and streams that fail, at every place of one run.
 
 use crate::inputs::{IMAGES, SAMPLE, SAMPLED, joined, lighting, sink, source, words};
-use crate::top;
 use std::alloc::Global;
 use std::process::Abort;
 use std::test::Fail;
 use sx_bulk::HEAD;
+use sx_top::top;
 
 /// How many items the first lines of the sample have, by the number of lines.
 const ITEMS_AFTER: [usize; 35] = [

@@ -4,7 +4,7 @@ use crate::calls::{
     Call, Compiled, DOWN, FROM, IN, OUT, Outcome, PROTOCOL, TO, UP, called, entry, event_packet,
     given, holds, load, node, open, put, sensing, set, set_key_packet, stepped, through, write_of,
 };
-use crate::tests::{LARGE, SMALL, end, eye, image_of, lamp, logic};
+use crate::modules::{LARGE, SMALL, end, eye, image_of, lamp, logic};
 use std::alloc::Global;
 use std::process::Abort;
 use std::test::Fail;

@@ -9,7 +9,7 @@ use Rattle.sx_tag.specs.Mac.{weak}
 use Rattle.sx_world.specs.Accepted.{setting_of}
 use Rattle.sx_world.specs.Setting.{Setting, windows_at}
 use Rattle.sx_world.specs.State.{nodes_from}
-use Rattle.sx_world.proofs.tests.nodes_of.Goals as goal
+use Rattle.sx_worked.proofs.worlds.nodes_of.Goals as goal
 
 no_windows : (n : ℕ) (ds : List AppDevice) (ats : List ℕ) → length ds ≡ 0 → windows_at n ds ats ≡ []
 no_windows n [] ats e = refl

@@ -1,7 +1,7 @@
 use Rattle.sx_lang.specs.declared.sides.Side.TheVariants.{From}
 use Rattle.sx_mean.specs.declared.events.End.{End}
 use Rattle.sx_compile.proofs.Links.{links_done, links_turn}
-use Rattle.sx_compile.proofs.tests.links_of.Goals as goal
+use Rattle.sx_worked.proofs.modules.links_of.Goals as goal
 
 pub loop-e-preserved : goal.loop-e-preserved
 loop-e-preserved c =

@@ -1,12 +1,12 @@
 //! Inputs and lines worked by hand from the rules.
 
 use crate::inputs::{SAMPLE, SAMPLED, is_told, joined, lighting, sink, source, two_words, words};
-use crate::{run_over, top};
 use std::alloc::Global;
 use std::process::Abort;
 use std::test::Fail;
 use sx_io::MemSink;
 use sx_tag::Weak;
+use sx_top::{run_over, top};
 
 /// Whether the command writes this text for the input, and ends with this status.
 fn writes(

@@ -10,7 +10,6 @@ ghost use Rattle.sx_world.specs.Held.{setting};
 ghost use Rattle.sx_world.specs.Standing.{Stands};
 ghost use Rattle.sx_world.specs.State.{World as Reached, nodes_from};
 
-use crate::world::World;
 use std::alloc::{AllocError, Global};
 use std::process::Abort;
 use std::test::Fail;
@@ -20,6 +19,7 @@ use sx_node::Node;
 use sx_sched::parse_line;
 use sx_tag::Weak;
 use sx_trace::items::{Cause, Item};
+use sx_world::world::World;
 
 const ONE_NODE: &str = "secret = \"000102030405060708090a0b0c0d0e0f\"
 node = [ { name = \"a\", key = \"101112131415161718191a1b1c1d1e1f\" } ]

@@ -1,10 +1,16 @@
 //! Inputs of `dis` worked by hand from the rules.
 
-use crate::disassembling::dis_over;
-use crate::inputs::{sink, source};
+use crate::inputs::{at_address, sink, source};
 use std::alloc::{AllocError, Global};
 use std::process::Abort;
 use std::test::Fail;
+use sx_io::{MemSink, MemSource};
+use sx_top::top;
+
+/// Does the command `dis` at this address, and gives its status.
+fn dis(alloc: Global, at: u16, input: &mut MemSource, output: &mut MemSink) -> Result<u8, Fail> {
+    Ok(top(alloc, &at_address(alloc, "dis", at)?, input, output))
+}
 
 /// So many times the same text.
 fn repeated(alloc: Global, count: usize, text: &[u8]) -> Result<Vec<u8>, AllocError> {
@@ -26,7 +32,7 @@ fn writes(
 ) -> Result<(), Fail> {
     let mut input = source(alloc, input, 4096, 0)?;
     let mut output = sink(alloc, 400, 0)?;
-    assert_eq!(rt; dis_over(at, &mut input, &mut output), status);
+    assert_eq!(rt; dis(alloc, at, &mut input, &mut output)?, status);
     assert_eq!(rt; output.written(), text);
     Ok(())
 }
@@ -105,7 +111,7 @@ fn lines_and_bytes_up_to_the_limit(rt: HostRuntime) -> Result<(), Fail> {
     let mut code = repeated(alloc, 4096, b"0000\n")?;
     let mut input = source(alloc, &code, 4096, 0)?;
     let mut output = sink(alloc, 100_000, 0)?;
-    assert_eq!(rt; dis_over(0xe000, &mut input, &mut output), 0);
+    assert_eq!(rt; dis(alloc, 0xe000, &mut input, &mut output)?, 0);
     // a line of 22 bytes for each word 0, and the last line
     assert_eq!(rt; output.written().len(), 4096 * 22 + 4);
     code.extend_from_slice(b"2645\n")?;
@@ -129,14 +135,14 @@ fn reads_and_writes_that_fail(rt: HostRuntime) -> Result<(), Fail> {
     for (text, failing, status, told) in rows {
         let mut input = source(alloc, text, 2, failing)?;
         let mut output = sink(alloc, 400, 0)?;
-        assert_eq!(rt; dis_over(0, &mut input, &mut output), status);
+        assert_eq!(rt; dis(alloc, 0, &mut input, &mut output)?, status);
         assert_eq!(rt; output.written(), told);
     }
     let rows: [&[u8]; 3] = [b"2645\n", b"2\n", b"26\n"];
     for text in rows {
         let mut input = source(alloc, text, 4096, 0)?;
         let mut output = sink(alloc, 400, 1)?;
-        assert_eq!(rt; dis_over(0, &mut input, &mut output), 5);
+        assert_eq!(rt; dis(alloc, 0, &mut input, &mut output)?, 5);
         assert_eq!(rt; output.written(), b"".as_slice());
     }
     Ok(())

@@ -2,10 +2,10 @@
 //! stands in examples/attacks under the name that is given here.
 
 use crate::inputs::{SAMPLE, SAMPLED, is_told, joined, lighting, sink, source, words};
-use crate::top;
 use std::alloc::Global;
 use std::process::Abort;
 use std::test::Fail;
+use sx_top::top;
 
 /// Whether what is tried behind a schedule's first lines gives these items behind those of the lines.
 fn gives(

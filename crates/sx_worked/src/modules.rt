@@ -7,11 +7,11 @@ ghost use Rattle.sx_mean.specs.Ends.{is_sending, senders};
 ghost use Rattle.sx_lower.specs.Lowering.{SendFew};
 ghost use Rattle.sx_compile.specs.Compiled.{HasSections};
 
-use crate::compile;
 use std::alloc::{AllocError, Global};
 use std::test::Fail;
 use sx_check::checked::Checked;
 use sx_check::checks::check;
+use sx_compile::compile;
 use sx_image::Image;
 use sx_lang::names::Name;
 use sx_lang::sides::Side;

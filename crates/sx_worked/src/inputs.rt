@@ -19,6 +19,13 @@ pub(crate) fn two_words(alloc: Global, word: &str, next: &str) -> Result<Vec<Str
     Ok(words)
 }
 
+/// A command of an address.
+pub(crate) fn at_address(alloc: Global, command: &str, at: u16) -> Result<Vec<String>, AllocError> {
+    let mut words = words(alloc, command)?;
+    words.push(format!(in alloc; "{at}")?)?;
+    Ok(words)
+}
+
 /// A source that gives the text in pieces, and whose call of this number, from 1, fails.
 pub(crate) fn source(
     alloc: Global,
