@@ -3,13 +3,16 @@
 
 Both run the same code: an inner loop of 65,536 turns inside an outer loop. The one loop counts a register, the
 other a word in memory. `sancus` runs each also with a protected section standing, which every access is
-checked against. The program must be built (`rt run` in crates/sancus_run). Not a part of the gate.
+checked against. Each of five rounds times both programs one after the other, so that what else the machine does
+meets both alike. The table has the median of the rates, in million instructions a second of processor time, and
+of their ratios, with the least and the greatest ratio. The program must be built (`./sancus build`). Not a part of
+the gate.
 """
-import os, resource, subprocess, sys
+import os, resource, statistics, subprocess, sys
 
 HERE = os.path.dirname(os.path.abspath(__file__))
 PROGRAM = os.path.join(HERE, "..", "crates", "sancus_run", "out", "sancus_run")
-TURNS = 160
+TURNS, ROUNDS = 160, 5
 
 # R5 is 0 as each inner loop begins. The words: SUB #1,R5 or SUB #1,&0x0300; JNE back; SUB #1,R6; JNE back; JMP to itself.
 LOOPS = {
@@ -30,14 +33,9 @@ def processor_seconds():
 
 
 def seconds(command, text):
-    """The least processor time of a few runs: what else the machine does matters little then."""
-    best = None
-    for _ in range(7):
-        begin = processor_seconds()
-        subprocess.run(command, input=text, stdout=subprocess.DEVNULL, stderr=subprocess.DEVNULL, check=True)
-        taken = processor_seconds() - begin
-        best = taken if best is None else min(best, taken)
-    return best
+    begin = processor_seconds()
+    subprocess.run(command, input=text, stdout=subprocess.DEVNULL, stderr=subprocess.DEVNULL, check=True)
+    return processor_seconds() - begin
 
 
 def ours(words, steps, protected):
@@ -56,14 +54,16 @@ def theirs(words):
 
 
 def main():
+    print(f"{'loop':<10}{'section':<10}{'sancus':>8}{'mspdebug':>10}{'ratio':>7}{'least':>7}{'most':>7}")
     for name, (words, each) in LOOPS.items():
         steps = TURNS * (65536 * each + 2)
-        other = steps / theirs(words)
-        print(f"{name}: mspdebug {other / 1e6:.1f} million instructions a second")
         for protected in (False, True):
-            rate = steps / ours(words, steps, protected)
-            kind = "a protected section" if protected else "no section"
-            print(f"{name}, {kind}: sancus {rate / 1e6:.1f} million, ratio {rate / other:.2f}")
+            rounds = [(steps / ours(words, steps, protected), steps / theirs(words)) for _ in range(ROUNDS)]
+            ratios = sorted(ours_rate / their_rate for ours_rate, their_rate in rounds)
+            ours_rate, their_rate = (statistics.median(rates) / 1e6 for rates in zip(*rounds))
+            section = "standing" if protected else "none"
+            print(f"{name:<10}{section:<10}{ours_rate:>8.1f}{their_rate:>10.1f}"
+                  f"{statistics.median(ratios):>7.2f}{ratios[0]:>7.2f}{ratios[-1]:>7.2f}")
     return 0
 
 
