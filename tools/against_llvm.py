@@ -1,7 +1,7 @@
 #!/usr/bin/env python3
 """Compares listings of sx_asm with LLVM's assembler for the MSP430 (Debian's packages llvm and clang).
 
-Each of the 65,536 first words is listed with two words behind it. Each line of the listing is written as LLVM has it,
+Each of the 65,536 first words is listed with two words after it. Each line of the listing is written as LLVM has it,
 and the bytes that llvm-mc gives are compared with those of the line.
 
     tools/against_llvm.py PROGRAM WORD..    lists with this program, which gets the address as its last word
@@ -9,7 +9,7 @@ and the bytes that llvm-mc gives are compared with those of the line.
 For the program that is proved here: tools/against_llvm.py crates/sancus_run/out/sancus_run dis
 
 LLVM takes some operands in another form:
-- a jump's is the number of words behind the next instruction, and not its target;
+- a jump's is the number of words after the next instruction, and not its target;
 - a symbolic operand's is the distance from its word, and not its address;
 - #0xffff is a word of its own, and #-1 the constant.
 Not compared are data, the module instructions, which LLVM doesn't have, and `##`, which LLVM can't be told.
@@ -20,7 +20,7 @@ with an example. Ends with status 1 where there is such a form that isn't among 
 import re, subprocess, sys, tempfile
 from collections import Counter
 
-# The words behind each first word. Each is a line of its own where the instruction is shorter, so the next first word is
+# The words after each first word. Each is a line of its own where the instruction is shorter, so the next first word is
 # one again. The second pair has constants, which an immediate needs `##` for.
 PAIRS = [(0x1234, 0xf506), (0x0002, 0x0001)]
 # A listing has at most 8,192 bytes, and a line of digits at most 4,096.

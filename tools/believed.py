@@ -7,7 +7,7 @@ CRATES = Path(__file__).resolve().parent.parent / "crates"
 
 GROUPS = [
     ("The source", [
-        ("sx_mean", "Application Ends Meaning React"),
+        ("sx_mean", "Application Ends Places Meaning React"),
         ("sx_model", "State Reaction Renewal Step Legal"),
     ]),
     ("What a reader may take", [("sx_model", "Consequences"), ("sx_trace", "Items")]),
