@@ -3,8 +3,9 @@
 --     in_public, in_private, at_entry      where a byte lies in a section
 --     may      the access table
 --     holder, outside_private, in_order, extends      what a step asks of the byte at PC and of an instruction's bytes
+--     both_bytes      a test of the two bytes of a word
 --     Lives, section_of      a live section, and one by its id
-use Rattle.std.specs.Prelude.{◌≡◌, ◌⊎◌, ℕ, ◌+◌, ◌==◌, nat_lt, nat_le, Bool, ◌&&◌, ◌||◌, not, if◌then◌else◌, List, [], ◌∷◌, Option, find}
+use Rattle.std.specs.Prelude.{◌≡◌, ◌⊎◌, ℕ, ◌+◌, ◌-◌, ◌%◌, ◌==◌, nat_lt, nat_le, Bool, ◌&&◌, ◌||◌, not, if◌then◌else◌, List, [], ◌∷◌, Option, find}
 use Rattle.std.specs.List.{list_all}
 use Rattle.sx_rules.specs.declared.access.Access.{Access}
 use Rattle.sx_rules.specs.declared.access.Access.TheVariants.{Read, Write, Run}
@@ -57,6 +58,10 @@ in_order live cur pc = list_all (λ s. not (in_public s pc) || (cur == s.id || p
 -- public section of `own`
 abbrev pub extends : List Section → ℕ → ℕ → Bool
 extends live own at = list_all (λ s. not (in_private s at) && (not (in_public s at) || own == s.id)) live
+
+-- both bytes of the word at an address, whose bit 0 doesn't count, pass the test
+abbrev pub both_bytes : (ℕ → Bool) → ℕ → Bool
+both_bytes test at = test (at - at % 2) && test (at - at % 2 + 1)
 
 -- the section is one of the live ones
 abbrev pub Lives : List Section → Section → Type 0

@@ -1,4 +1,5 @@
 pub mod Access
 pub mod Admission
+pub mod Pages
 pub mod Placed
 pub mod Unused

@@ -1,7 +1,9 @@
 //! What code may do to a byte.
 
-ghost use Rattle.std.specs.Prelude.{◌≡◌};
-ghost use Rattle.sx_rules.specs.Access.{in_public, in_private, at_entry, allows, may, holder, outside_private, in_order, extends, section_of};
+ghost use Rattle.std.specs.Prelude.{◌≡◌, ◌/◌};
+ghost use Rattle.std.specs.List.{list_all};
+ghost use Rattle.sx_rules.specs.Access.{in_public, in_private, at_entry, allows, holder, section_of};
+ghost use Rattle.sx_rules.specs.Pages.{meeting, answer};
 
 use crate::section::Section;
 
@@ -14,6 +16,19 @@ pub enum Access {
     Write,
     /// Runs it as a part of an instruction.
     Run,
+}
+
+/// What the live sections are asked about a byte.
+#[derive(Clone, Copy)]
+pub enum Question {
+    /// Whether code of the module `own` may access it.
+    Allows { own: u16, access: Access },
+    /// Whether it lies outside the private part.
+    OutsidePrivate,
+    /// Whether an instruction of the module `cur` may lead to it.
+    InOrder { cur: u16 },
+    /// Whether it may belong to an extension word of an instruction of the module `own`.
+    Extends { own: u16 },
 }
 
 /// Why a node was reset.
@@ -67,42 +82,58 @@ impl Section {
             }
         }
     }
+
+    /// What it says to the question about a byte.
+    fn answer(&self, question: Question, at: u16) -> bool
+        ensures { result ≡ answer question at self.now }
+    {
+        match question {
+            Question::Allows { own, access } => self.allows(own, access, at),
+            Question::OutsidePrivate => !self.in_private(at),
+            Question::InOrder { cur } => {
+                !self.in_public(at) || cur == self.id || at == self.layout.pub_from
+            }
+            Question::Extends { own } => {
+                !self.in_private(at) && (!self.in_public(at) || own == self.id)
+            }
+        }
+    }
 }
 
-/// Whether every section allows code of the module `own` the access.
-#[tactic(auto, unfolding(crate::specs::Access::may))]
-pub fn may(live: &[Section], own: u16, access: Access, at: u16) -> bool
-    ensures { result ≡ may live.now own access at }
+/// Whether every section says yes to the question about a byte. Bit i of `near` tells whether the
+/// i-th meets the byte's page; the others aren't asked.
+pub fn all_answer(live: &[Section], near: u8, question: Question, at: u16) -> bool
+    requires { near ≡ meeting (at / 256) live.now }
+    ensures { result ≡ list_all (answer question at) live.now }
 {
-    live.iter().all(|s| s.allows(own, access, at))
+    let mut rest = near;
+    for s in live {
+        if rest == 0 {
+            return true;
+        }
+        if rest % 2 == 1 && !s.answer(question, at) {
+            return false;
+        }
+        rest /= 2;
+    }
+    true
 }
 
-pub fn outside_private(live: &[Section], at: u16) -> bool
-    ensures { result ≡ outside_private live.now at }
-{
-    live.iter().all(|s| !s.in_private(at))
-}
-
-pub fn in_order(live: &[Section], cur: u16, pc: u16) -> bool
-    ensures { result ≡ in_order live.now cur pc }
-{
-    live.iter().all(|s| !s.in_public(pc) || cur == s.id || pc == s.layout.pub_from)
-}
-
-pub fn extends(live: &[Section], own: u16, at: u16) -> bool
-    ensures { result ≡ extends live.now own at }
-{
-    live.iter()
-        .all(|s| !s.in_private(at) && (!s.in_public(at) || own == s.id))
-}
-
-pub fn holder(live: &[Section], at: u16) -> u16
+/// The id of the section whose public part holds the byte, else 0. Only those are looked at whose
+/// bit in `near` is set, as in `all_answer`.
+pub fn holder(live: &[Section], near: u8, at: u16) -> u16
+    requires { near ≡ meeting (at / 256) live.now }
     ensures { result ≡ holder live.now at }
 {
+    let mut rest = near;
     for s in live {
-        if s.in_public(at) {
+        if rest == 0 {
+            return 0;
+        }
+        if rest % 2 == 1 && s.in_public(at) {
             return s.id;
         }
+        rest /= 2;
     }
     0
 }

@@ -1,13 +1,17 @@
 //! The table of live sections.
 
-ghost use Rattle.std.specs.Prelude.{◌≡◌, ◌<◌, ◌≤◌, ◌+◌, ◌-◌, [], ◌∷◌, ◌++◌, take, drop, length, is_some, Option, None, IfOk, OnOk, OnErr, MatchOption, IsSome};
+ghost use Rattle.std.specs.Prelude.{◌≡◌, ◌<◌, ◌≤◌, ◌+◌, ◌-◌, ◌/◌, ℕ, [], ◌∷◌, ◌++◌, take, drop, length, is_some, Option, None, IfOk, OnOk, OnErr, MatchOption, IsSome};
+ghost use Rattle.std.specs.List.{list_all};
+ghost use Rattle.std.specs.Bool.{OnTrue};
 ghost use Rattle.std.specs.Result.{result_err};
-ghost use Rattle.sx_rules.specs.Access.{may, holder, outside_private, in_order, extends, section_of};
+ghost use Rattle.sx_rules.specs.Access.{may, holder, outside_private, in_order, extends, both_bytes, section_of};
 ghost use Rattle.sx_rules.specs.Admission.{refusal, admitted, removed, without};
+ghost use Rattle.sx_rules.specs.Pages.{meeting, is_open, answer, IsFree};
 ghost use Rattle.sx_rules.specs.Unused.{AreUnused};
 
-use crate::access::{self, Access};
+use crate::access::{self, Access, Question};
 use crate::admission::{self, LIVE_LIMIT, Refusal};
+use crate::pages::{self, PAGE_COUNT};
 use crate::section::{Layout, Section};
 use std::marker::Model;
 
@@ -17,18 +21,21 @@ pub struct Table {
     sections: [Section; LIVE_LIMIT],
     live: usize,
     next: u32,
+    /// For each page the sections that meet it.
+    pages: [u8; PAGE_COUNT],
 }
 
 impl Model for Table {
     ghost use Rattle.std.specs.Prelude.{take, ◌≤◌};
     ghost use Rattle.sx_rules.specs.Access.{Sections};
+    ghost use Rattle.sx_rules.specs.Pages.{IsIndex};
     ghost use Rattle.sx_rules.specs.Unused.{AreUnused};
 
     ghost Value = { Sections };
 
     ghost view = { λ t. record { live = take t.live t.sections; next = t.next } };
 
-    ghost invariant = { λ t. (t.live ≤ 8) × (t.next ≤ 65536) × AreUnused t.live t.sections };
+    ghost invariant = { λ t. (t.live ≤ 8) × (t.next ≤ 65536) × AreUnused t.live t.sections × IsIndex t.pages (take t.live t.sections) };
 }
 
 const UNUSED: Section = Section {
@@ -53,6 +60,7 @@ impl Table {
             sections: [UNUSED; LIVE_LIMIT],
             live: 0,
             next: 1,
+            pages: [0; PAGE_COUNT],
         }
     }
 
@@ -91,6 +99,7 @@ impl Table {
         place(&mut self.sections, self.live, section);
         self.live += 1;
         self.next += 1;
+        pages::index(&mut self.pages, &self.sections[..self.live]);
         id
     }
 
@@ -116,6 +125,7 @@ impl Table {
             Some(index) => {
                 remove_at(&mut self.sections[..self.live], index);
                 self.live -= 1;
+                pages::index(&mut self.pages, &self.sections[..self.live]);
                 true
             }
             None => false,
@@ -126,7 +136,7 @@ impl Table {
     pub fn holder(&self, at: u16) -> u16
         ensures { result ≡ holder self.now.live at }
     {
-        access::holder(&self.sections[..self.live], at)
+        access::holder(self.live(), self.near(at), at)
     }
 
     /// The live sections, in the order of their admission.
@@ -145,24 +155,40 @@ impl Table {
 
     /// Whether code of the module `cur`, or code outside every module where it is 0, may access the
     /// byte.
+    #[tactic(auto, unfolding(crate::specs::Access::may))]
     pub fn may(&self, cur: u16, access: Access, at: u16) -> bool
         ensures { result ≡ may self.now.live cur access at }
     {
-        access::may(&self.sections[..self.live], cur, access, at)
+        self.all_answer(Question::Allows { own: cur, access }, at)
+    }
+
+    /// Whether it may access both bytes of the word at an address, whose bit 0 doesn't count.
+    #[tactic(auto, unfolding(crate::specs::Access::may))]
+    pub fn may_word(&self, cur: u16, access: Access, at: u16) -> bool
+        ensures { result ≡ both_bytes (may self.now.live cur access) at }
+    {
+        self.all_answer_word(Question::Allows { own: cur, access }, at)
     }
 
     /// Whether no private section holds the byte.
     pub fn outside_private(&self, at: u16) -> bool
         ensures { result ≡ outside_private self.now.live at }
     {
-        access::outside_private(&self.sections[..self.live], at)
+        self.all_answer(Question::OutsidePrivate, at)
+    }
+
+    /// Whether no private section holds a byte of the word at an address, whose bit 0 doesn't count.
+    pub fn outside_private_word(&self, at: u16) -> bool
+        ensures { result ≡ both_bytes (outside_private self.now.live) at }
+    {
+        self.all_answer_word(Question::OutsidePrivate, at)
     }
 
     /// Whether PC lies in no public section other than that of `cur`, or at the entry of one.
     pub fn in_order(&self, cur: u16, pc: u16) -> bool
         ensures { result ≡ in_order self.now.live cur pc }
     {
-        access::in_order(&self.sections[..self.live], cur, pc)
+        self.all_answer(Question::InOrder { cur }, pc)
     }
 
     /// Whether a byte of an extension word of an instruction of the module `own` may stand here: in
@@ -170,7 +196,48 @@ impl Table {
     pub fn extends(&self, own: u16, at: u16) -> bool
         ensures { result ≡ extends self.now.live own at }
     {
-        access::extends(&self.sections[..self.live], own, at)
+        self.all_answer(Question::Extends { own }, at)
+    }
+
+    /// Whether both bytes of the word at an address, whose bit 0 doesn't count, may stand there as
+    /// an extension word of an instruction of the module `own`.
+    pub fn extends_word(&self, own: u16, at: u16) -> bool
+        ensures { result ≡ both_bytes (extends self.now.live own) at }
+    {
+        self.all_answer_word(Question::Extends { own }, at)
+    }
+
+    /// Whether no section meets the page of the byte. Then every byte of the page is free: no live
+    /// section holds it.
+    pub fn is_open(&self, at: u16) -> bool
+        ensures open { result ≡ is_open self.now.live (at / 256) }
+        ensures free { OnTrue result ((byte : ℕ) → byte / 256 ≡ at / 256 → IsFree self.now.live byte) }
+    {
+        self.near(at) == 0
+    }
+
+    /// The sections that meet the page of the byte: bit i of the result is set where the i-th does.
+    fn near(&self, at: u16) -> u8
+        ensures { result ≡ meeting (at / 256) self.now.live }
+    {
+        self.pages[usize::from(at / 256)]
+    }
+
+    /// Whether every live section says yes to the question about a byte.
+    fn all_answer(&self, question: Question, at: u16) -> bool
+        ensures { result ≡ list_all (answer question at) self.now.live }
+    {
+        access::all_answer(self.live(), self.near(at), question, at)
+    }
+
+    /// The same for both bytes of the word at an address, which lie on one page.
+    fn all_answer_word(&self, question: Question, at: u16) -> bool
+        ensures { result ≡ both_bytes (λ byte. list_all (answer question byte) self.now.live) at }
+    {
+        let even = at - at % 2;
+        let near = self.near(at);
+        access::all_answer(self.live(), near, question, even)
+            && access::all_answer(self.live(), near, question, even + 1)
     }
 
     /// An equal table. Takes no memory.
@@ -181,6 +248,7 @@ impl Table {
             sections: self.sections,
             live: self.live,
             next: self.next,
+            pages: self.pages,
         }
     }
 }

@@ -88,3 +88,32 @@ fn access_table(rt: HostRuntime) {
     assert!(rt; table.in_order(0, 0x600) && !table.in_order(0, 0x602));
     assert!(rt; table.extends(1, 0x602) && !table.extends(0, 0x602));
 }
+
+// A module on three pages and one that shares the last of them; then the first goes.
+#[test]
+fn pages(rt: HostRuntime) {
+    let mut table = Table::new();
+    assert!(rt; table.is_open(0x600));
+    assert!(rt; table.admit(layout(0x5FE, 0x702, 0x800, 0x810), 1, KEY, &[]) == Ok(1));
+    assert!(rt; table.admit(layout(0x702, 0x710, 0x810, 0x820), 1, KEY, &[]) == Ok(2));
+    for (at, id) in [(0x5FD, 0), (0x5FE, 1), (0x6FF, 1), (0x702, 2), (0x710, 0)] {
+        assert_eq!(rt; table.holder(at), id);
+    }
+    for (at, open) in [
+        (0x4FF, true),
+        (0x500, false),
+        (0x6FF, false),
+        (0x8FF, false),
+        (0x900, true),
+    ] {
+        assert!(rt; table.is_open(at) == open);
+    }
+    assert!(rt;
+        table.may_word(1, Access::Write, 0x801) && !table.may_word(2, Access::Write, 0x801)
+    );
+    assert!(rt; table.outside_private_word(0x7FF) && !table.outside_private_word(0x800));
+    assert!(rt; table.extends_word(2, 0x702) && !table.extends_word(2, 0x701));
+    assert!(rt; table.remove(1));
+    assert!(rt; table.is_open(0x600) && !table.is_open(0x700));
+    assert_eq!(rt; [table.holder(0x700), table.holder(0x702)], [0, 2]);
+}
