@@ -1,3 +1,4 @@
 pub mod Bytes
 pub mod Blank
 pub mod Changed
+pub mod Elsewhere

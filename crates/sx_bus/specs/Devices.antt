@@ -2,9 +2,10 @@
 --     ArePlaces      where devices may stand
 --     HaveSamples      what values devices have
 --     powered_on, AreNew, places_of, device_at      a list of devices, that none was used, its places, and the device at a byte
+--     has_place, IsIndex      whether a device stands on a page of 256 bytes, and what is kept of that
 --     sensed, cleared, all_stale      the devices after a sample, after a sensor was read, and after a reset
-use Rattle.std.specs.Prelude.{◌≡◌, ◌≢◌, ℕ, zero, suc, ◌+◌, ◌%◌, ◌<◌, ◌≤◌, nat_lt, nat_le, Bool, true, false, ◌&&◌, List, [], ◌∷◌, length, map, All, AllPairs, Option}
-use Rattle.std.specs.List.{position_from}
+use Rattle.std.specs.Prelude.{◌≡◌, ◌≢◌, ℕ, zero, suc, ◌+◌, ◌/◌, ◌%◌, ◌==◌, ◌<◌, ◌≤◌, nat_lt, nat_le, Bool, true, false, ◌&&◌, List, [], ◌∷◌, length, map, slice_index_or, All, AllPairs, Option}
+use Rattle.std.specs.List.{position_from, list_any}
 use Rattle.sx_bus.specs.declared.devices.Kind.{Kind}
 use Rattle.sx_bus.specs.declared.devices.Window.{Window}
 
@@ -33,6 +34,14 @@ on_word at w = nat_le w.at at && nat_lt at (w.at + 2)
 -- the index of the first device whose word holds the byte
 abbrev pub device_at : List Window → ℕ → Option ℕ
 device_at windows at = position_from (on_word at) 0 windows
+
+-- one of the places lies on the page, which is 256 bytes from a multiple of 256 on
+abbrev pub has_place : ℕ → List ℕ → Bool
+has_place page places = list_any (λ place. place / 256 == page) places
+
+-- what is kept for each of the 256 pages: whether a device stands there
+abbrev pub IsIndex : List Bool → List ℕ → Type 0
+IsIndex pages places = (page : ℕ) → page < 256 → slice_index_or pages page false ≡ has_place page places
 
 -- each value is one that a sensor can give
 abbrev pub HaveSamples : List Window → Type 0

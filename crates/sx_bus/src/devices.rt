@@ -1,11 +1,14 @@
 //! The devices of a node.
 
-ghost use Rattle.std.specs.Prelude.{◌≡◌, ℕ, ◌<◌, ◌≤◌, true, length, map, IfOk, IfSome, slice_get, Option, Some};
+ghost use Rattle.std.specs.Prelude.{◌≡◌, ℕ, ◌<◌, ◌≤◌, true, false, length, map, IfOk, IfSome, slice_get, slice_index_or, Option, Some};
 ghost use Rattle.sx_bus.specs.declared.devices.Kind.TheVariants.{Sensor};
-ghost use Rattle.sx_bus.specs.Devices.{ArePlaces, AreNew, on_word, powered_on, places_of, device_at, sensed, cleared, all_stale};
+ghost use Rattle.sx_bus.specs.Devices.{ArePlaces, AreNew, on_word, powered_on, places_of, device_at, has_place, sensed, cleared, all_stale};
 
 use std::alloc::{AllocError as OutOfMemory, Global};
 use std::marker::Model;
+
+/// How many pages the memory has, of 256 bytes each.
+const PAGE_COUNT: usize = 256;
 
 /// What a device is.
 #[derive(Clone, Copy, Debug, PartialEq, Eq)]
@@ -44,6 +47,8 @@ impl Window {
 pub struct Windows {
     windows: Vec<Window>,
     places: Vec<u16>,
+    /// For each page whether a device stands there.
+    pages: [bool; PAGE_COUNT],
 }
 
 impl Model for Windows {
@@ -52,11 +57,12 @@ impl Model for Windows {
 
     ghost Value = { List Window };
 
-    ghost use Rattle.sx_bus.specs.Devices.{ArePlaces, HaveSamples, places_of};
+    ghost use Rattle.sx_bus.specs.Devices.{ArePlaces, HaveSamples, IsIndex, places_of};
 
     ghost view = { λ w. w.windows.items };
 
-    ghost invariant = { λ w. (w.places.items ≡ places_of w.windows.items) × ArePlaces w.places.items × HaveSamples w.windows.items };
+    ghost invariant = { λ w. (w.places.items ≡ places_of w.windows.items) × ArePlaces w.places.items
+        × HaveSamples w.windows.items × IsIndex w.pages w.places.items };
 }
 
 impl Windows {
@@ -68,7 +74,13 @@ impl Windows {
     {
         let windows = switched_on(alloc, devices)?;
         let places = places(alloc, devices)?;
-        Ok(Windows { windows, places })
+        let mut pages = [false; PAGE_COUNT];
+        index(&mut pages, &places);
+        Ok(Windows {
+            windows,
+            places,
+            pages,
+        })
     }
 
     /// The device whose word holds the byte.
@@ -76,6 +88,9 @@ impl Windows {
         ensures device { result ≡ device_at self.now at }
         ensures within { IfSome result (λ device. device < length self.now) }
     {
+        if !self.pages[usize::from(at / 256)] {
+            return None;
+        }
         first_at(&self.windows, at)
     }
 
@@ -127,7 +142,11 @@ impl Windows {
     {
         let windows = self.windows.to_vec(alloc)?;
         let places = self.places.to_vec(alloc)?;
-        Ok(Windows { windows, places })
+        Ok(Windows {
+            windows,
+            places,
+            pages: self.pages,
+        })
     }
 }
 
@@ -149,6 +168,23 @@ fn places(alloc: Global, devices: &[(u16, Kind)]) -> Result<Vec<u16>, OutOfMemor
     ensures { IfOk result (λ places. places.items ≡ map (λ d. d.0) devices.now) }
 {
     devices.iter().map(|d| d.0).collect(alloc)
+}
+
+fn has_place(places: &[u16], page: u16) -> bool
+    ensures { result ≡ has_place page places.now }
+{
+    places.iter().any(|place| *place / 256 == page)
+}
+
+/// Puts down for each page whether a device stands there.
+fn index(pages: &mut [bool], places: &[u16])
+    requires { length pages.old ≤ 256 }
+    ensures { (page : ℕ) → page < length pages.new →
+        slice_index_or pages.new page false ≡ has_place page places.now }
+{
+    for (page, kept) in pages.iter_mut().enumerate() {
+        *kept = has_place(places, page as u16);
+    }
 }
 
 fn first_at(windows: &[Window], at: u16) -> Option<u8>
