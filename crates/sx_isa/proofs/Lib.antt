@@ -9,3 +9,4 @@ pub mod Operands
 pub mod Sound
 pub mod Spelled
 pub mod StandingLemmas
+pub mod WithWords

@@ -1,5 +1,6 @@
 pub mod Spelling
 pub mod Legal
 pub mod Reading
+pub mod Extending
 pub mod Memory
 pub mod Standing

@@ -2,18 +2,21 @@
 // how they are spelled in words and how words are read.
 //
 // `encode` gives the words of an instruction and `decode` reads them back; `valid` and `length` are
-// the tests that stand before them. None of them takes memory. What must be believed stands in
+// the tests that stand before them. `extended` puts extension words into an instruction that was
+// decoded before they were at hand. None of them takes memory. What must be believed stands in
 // specs/: Spelling.antt (the words of an instruction) and Legal.antt (which instructions there are,
 // and which first words none has). Reading.antt computes the instruction from the fields of its
 // first word, for proofs on words at hand; `laws` shows that it agrees.
 #![tactic(auto)]
 
+mod extension;
 mod fields;
 pub mod instruction;
 pub mod laws;
 pub mod reading;
 pub mod writing;
 
+pub use extension::extended;
 pub use instruction::{Instr, Op1, Op2, Operand, Words};
 pub use reading::{decode, length};
 pub use writing::{encode, valid};

@@ -1,4 +1,4 @@
-use crate::{Instr, Op1, Op2, Operand, decode, encode, length, valid};
+use crate::{Instr, Op1, Op2, Operand, decode, encode, extended, length, valid};
 
 // Words that were assembled by hand from the format's tables.
 #[test]
@@ -33,6 +33,13 @@ fn worked_words(rt: HostRuntime) {
     let words = encode(&both);
     assert_eq!(rt; words.w, [0x5490, 2, 6]);
     assert_eq!(rt; words.len, 3);
+    let moved = Instr::Two {
+        op: Op2::Add,
+        byte: false,
+        src: Operand::Indexed(4, 8),
+        dst: Operand::Symbolic(10),
+    };
+    assert_eq!(rt; extended(both, 8, 10), moved);
     assert!(rt;
         !valid(&Instr::Jump {
             cond: 7,
