@@ -6,8 +6,9 @@
 //! and its next id. It also keeps which sections meet a page, so that a question about a byte goes
 //! to the sections of its page alone.
 //!
-//! The access table is defined in `specs/Access.antt`, the refusals in `specs/Admission.antt`, which
-//! sections meet a page in `specs/Pages.antt`, and what holds of every table that admissions and removals lead to in `specs/Placed.antt`.
+//! The access table is defined in `specs/Access.antt`, the refusals in `specs/Admission.antt`,
+//! which sections meet a page in `specs/Pages.antt`, and what holds of every table that admissions
+//! and removals lead to in `specs/Placed.antt`.
 #![tactic(auto)]
 
 pub use access::{Access, Violation};

@@ -41,7 +41,8 @@ fn meeting(live: &[Section], page: u8) -> u8
 pub fn index(pages: &mut [u8], live: &[Section])
     requires pages { length pages.old ≤ 256 }
     requires room { length live.now ≤ 8 }
-    ensures { (page : ℕ) → page < length pages.new → slice_index pages.new page ≡ meeting page live.now }
+    ensures { (page : ℕ) → page < length pages.new →
+        slice_index pages.new page ≡ meeting page live.now }
 {
     for (page, kept) in pages.iter_mut().enumerate() {
         *kept = meeting(live, page as u8);

@@ -35,7 +35,8 @@ impl Model for Table {
 
     ghost view = { λ t. record { live = take t.live t.sections; next = t.next } };
 
-    ghost invariant = { λ t. (t.live ≤ 8) × (t.next ≤ 65536) × AreUnused t.live t.sections × IsIndex t.pages (take t.live t.sections) };
+    ghost invariant = { λ t. (t.live ≤ 8) × (t.next ≤ 65536) × AreUnused t.live t.sections
+        × IsIndex t.pages (take t.live t.sections) };
 }
 
 const UNUSED: Section = Section {
@@ -177,7 +178,8 @@ impl Table {
         self.all_answer(Question::OutsidePrivate, at)
     }
 
-    /// Whether no private section holds a byte of the word at an address, whose bit 0 doesn't count.
+    /// Whether no private section holds a byte of the word at an address, whose bit 0 doesn't
+    /// count.
     pub fn outside_private_word(&self, at: u16) -> bool
         ensures { result ≡ both_bytes (outside_private self.now.live) at }
     {
@@ -211,7 +213,8 @@ impl Table {
     /// section holds it.
     pub fn is_open(&self, at: u16) -> bool
         ensures open { result ≡ is_open self.now.live (at / 256) }
-        ensures free { OnTrue result ((byte : ℕ) → byte / 256 ≡ at / 256 → IsFree self.now.live byte) }
+        ensures free { OnTrue result ((byte : ℕ) →
+            byte / 256 ≡ at / 256 → IsFree self.now.live byte) }
     {
         self.near(at) == 0
     }
