@@ -1,11 +1,14 @@
 //! Jumps.
 
-ghost use Rattle.std.specs.Prelude.{◌≡◌};
-ghost use Rattle.sx_machine.specs.Plan.{Done};
+ghost use Rattle.std.specs.Prelude.{◌≡◌, if◌then◌else◌};
+ghost use Rattle.sx_machine.specs.Registers.{onward};
 ghost use Rattle.sx_machine.specs.Rows.{taken, distance, jump};
+ghost use Rattle.sx_executor.specs.Machine.{Runs};
 
-use crate::registers::{PC, flags};
 use sx_alu::Flags;
+use sx_bus::Bus;
+use sx_executor::Executor;
+use sx_rules::Violation;
 
 fn taken(condition: u8, flags: Flags) -> bool
     ensures { result ≡ taken condition flags }
@@ -29,13 +32,27 @@ fn distance(offset: i16) -> u16
     offset.cast_unsigned().wrapping_mul(2)
 }
 
-/// A jump; `next` is the address behind it.
-pub fn jump(regs: &mut [u16; 16], condition: u8, offset: i16, next: u16)
-    ensures { jump condition offset regs.old next ≡ Done regs.new }
+/// Where PC goes.
+fn target(is_taken: bool, offset: i16, next: u16) -> u16
+    ensures { result ≡ (if is_taken then onward next (distance offset) else next) }
 {
-    regs[PC] = if taken(condition, flags(regs)) {
+    if is_taken {
         next.wrapping_add(distance(offset))
     } else {
         next
-    };
+    }
+}
+
+/// A jump; `next` is the address behind it.
+pub fn jump<B: Bus>(
+    executor: &mut Executor<B>,
+    condition: u8,
+    offset: i16,
+    next: u16,
+) -> Result<(), Violation>
+    ensures { Runs (jump condition offset executor.old.regs next) executor.old result executor.new }
+{
+    let is_taken = taken(condition, executor.flags());
+    executor.set_pc(target(is_taken, offset, next));
+    Ok(())
 }

@@ -1,10 +1,14 @@
 //! Instructions worked by hand from the tables of TI's MSP430x2xx Family User's Guide, "CPU".
 
-use super::{Core, Touch, word};
+use super::{interrupt, step_plain};
+use std::alloc::Global;
 use std::process::Abort;
 use std::test::Fail;
 use sx_bus::{Bus, FlatBus, Kind, Windows};
-use sx_rules::{Table, Violation};
+use sx_executor::Executor;
+use sx_executor::registers::PC;
+use sx_machine::Touch;
+use sx_rules::Violation;
 
 fn put_words<B: Bus>(bus: &mut B, mut at: u16, words: &[u16]) {
     for word in words {
@@ -12,6 +16,26 @@ fn put_words<B: Bus>(bus: &mut B, mut at: u16, words: &[u16]) {
         bus.put(at | 1, (word / 256) as u8);
         at = at.wrapping_add(2);
     }
+}
+
+fn word<B: Bus>(executor: &Executor<B>, at: u16) -> u16 {
+    let low = executor.byte(at);
+    let high = executor.byte(at | 1);
+    u16::from(low) + 256 * u16::from(high)
+}
+
+fn set_registers<B: Bus>(executor: &mut Executor<B>, regs: &[u16; 16]) {
+    for r in 0..16 {
+        executor.set_word(r, regs[r as usize]);
+    }
+}
+
+/// One step of code outside every module.
+fn stepped<B: Bus>(executor: &mut Executor<B>) -> Result<[Touch; 2], Violation> {
+    executor.begin(0);
+    let first = word(executor, executor.register(PC));
+    step_plain(executor, first)?;
+    Ok(executor.touches())
 }
 
 /// The words of one instruction, R5, R6 and SR before it, and PC, SP, R4, R6, SR and the word at
@@ -26,35 +50,35 @@ fn before(row: [u16; 3]) -> [u16; 16] {
     ]
 }
 
-fn works<B: Bus>(rt: &impl Abort, core: &mut Core<B>, windows: &mut Windows, rows: &[Row]) {
-    let table = Table::new();
+/// An executor over an instruction of a row, without devices.
+fn at_row(alloc: Global, words: &[u16], start: [u16; 3]) -> Result<Executor<FlatBus>, Fail> {
+    let mut bus = FlatBus::new(alloc)?;
+    put_words(&mut bus, 0x1000, words);
+    put_words(&mut bus, 0x200, &[0x8765, 0x4321]);
+    put_words(&mut bus, 0x400, &[0x0103, 0x2000]);
+    let mut executor = Executor::new(bus, Windows::new(alloc, &[])?);
+    set_registers(&mut executor, &before(start));
+    Ok(executor)
+}
+
+fn works(rt: &impl Abort, alloc: Global, rows: &[Row]) -> Result<(), Fail> {
     for (words, start, end) in rows {
-        core.bus.wipe();
-        put_words(&mut core.bus, 0x1000, words);
-        put_words(&mut core.bus, 0x200, &[0x8765, 0x4321]);
-        put_words(&mut core.bus, 0x400, &[0x0103, 0x2000]);
-        core.regs = before(*start);
-        assert!(rt; core.step_plain(&table, 0, windows) == Ok([Touch::Quiet; 2]));
-        let [pc, sp, sr, _, r4, _, r6, ..] = core.regs;
-        assert_eq!(rt; [pc, sp, r4, r6, sr, word(&core.bus, 0x3FE)], *end);
+        let mut executor = at_row(alloc, words, *start)?;
+        assert!(rt; stepped(&mut executor) == Ok([Touch::Quiet; 2]));
+        let [pc, sp, sr, _, r4, _, r6, ..] = *executor.regs();
+        assert_eq!(rt; [pc, sp, r4, r6, sr, word(&executor, 0x3FE)], *end);
     }
+    Ok(())
 }
 
 #[test]
 fn worked_instructions(rt: HostRuntime) -> Result<(), Fail> {
-    let mut windows = Windows::new(rt.alloc(), &[])?;
-    let mut core = Core {
-        regs: [0; 16],
-        bus: FlatBus::new(rt.alloc())?,
-    };
-    works(&rt, &mut core, &mut windows, &TWO_OPERANDS);
-    works(&rt, &mut core, &mut windows, &ONE_OPERAND);
-    works(&rt, &mut core, &mut windows, &JUMPS);
+    works(&rt, rt.alloc(), &TWO_OPERANDS)?;
+    works(&rt, rt.alloc(), &ONE_OPERAND)?;
+    works(&rt, rt.alloc(), &JUMPS)?;
     for illegal in [0x0000, 0xA506, 0x1380] {
-        core.regs = before([0; 3]);
-        put_words(&mut core.bus, 0x1000, &[illegal]);
-        let ended = core.step_plain(&Table::new(), 0, &mut windows);
-        assert!(rt; ended == Err(Violation::Illegal));
+        let mut executor = at_row(rt.alloc(), &[illegal], [0; 3])?;
+        assert!(rt; stepped(&mut executor) == Err(Violation::Illegal));
     }
     Ok(())
 }
@@ -226,31 +250,30 @@ fn devices_and_interrupts(rt: HostRuntime) -> Result<(), Fail> {
         rt.alloc(),
         &[(0x300, Kind::Sensor), (0x302, Kind::Actuator)],
     )?;
-    let mut core = Core {
-        regs: [0; 16],
-        bus: FlatBus::new(rt.alloc())?,
-    };
-    // MOV &0x300, &0x302; MOV.B &0x300, R6
-    put_words(&mut core.bus, 0, &[0x4292, 0x300, 0x302, 0x4256, 0x300]);
     windows.sense(0, 7);
-    let table = Table::new();
+    let mut bus = FlatBus::new(rt.alloc())?;
+    // MOV &0x300, &0x302; MOV.B &0x300, R6
+    put_words(&mut bus, 0, &[0x4292, 0x300, 0x302, 0x4256, 0x300]);
+    put_words(&mut bus, 0xFFE6, &[0x4401]);
+    let mut executor = Executor::new(bus, windows);
     let read = Touch::DeviceRead {
         device: 0,
         value: 7,
     };
     let wrote = |value| Touch::DeviceWrite { device: 1, value };
-    assert!(rt; core.step_plain(&table, 0, &mut windows) == Ok([read, wrote(0x8007)]));
-    core.regs[0] = 0;
-    assert!(rt; core.step_plain(&table, 0, &mut windows) == Ok([wrote(0), Touch::Quiet]));
-    assert!(rt; core.step_plain(&table, 0, &mut windows) == Err(Violation::Device));
-    put_words(&mut core.bus, 0xFFE6, &[0x4401]);
-    core.regs = before([0, 0, 9]);
-    assert!(rt; core.interrupt(&table, 3, &mut windows) == Ok([Touch::Quiet; 2]));
+    assert!(rt; stepped(&mut executor) == Ok([read, wrote(0x8007)]));
+    executor.set_pc(0);
+    assert!(rt; stepped(&mut executor) == Ok([wrote(0), Touch::Quiet]));
+    assert!(rt; stepped(&mut executor) == Err(Violation::Device));
+    set_registers(&mut executor, &before([0, 0, 9]));
+    executor.begin(0);
+    assert!(rt; interrupt(&mut executor, 3).is_ok());
+    assert!(rt; executor.touches() == [Touch::Quiet; 2]);
     assert_eq!(rt;
-        core.regs,
+        *executor.regs(),
         [0x4400, 0x3FC, 0, 0, 0x200, 0, 0, 0, 0, 0, 0, 0, 0, 0, 0, 0]
     );
-    assert_eq!(rt; word(&core.bus, 0x3FE), 0x1000);
-    assert_eq!(rt; word(&core.bus, 0x3FC), 9);
+    assert_eq!(rt; word(&executor, 0x3FE), 0x1000);
+    assert_eq!(rt; word(&executor, 0x3FC), 9);
     Ok(())
 }

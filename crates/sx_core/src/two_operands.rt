@@ -2,20 +2,16 @@
 
 ghost use Rattle.std.specs.Prelude.{◌≡◌, ◌<◌, IsTrue};
 ghost use Rattle.sx_alu.specs.Table.{has_width, limit, row};
-ghost use Rattle.sx_bus.specs.Devices.{all_stale};
-ghost use Rattle.sx_machine.specs.Plan.{Done};
-ghost use Rattle.sx_machine.specs.Run.{exec};
-ghost use Rattle.sx_machine.specs.Registers.{flags};
-ghost use Rattle.sx_machine.specs.Rows.{computed, reads, writes, into_register, into_memory, on_memory, onto, two};
-ghost use Rattle.sx_machine.specs.Answers.{moment, Ends};
+ghost use Rattle.sx_machine.specs.Rows.{computed, reads, writes, two};
+ghost use Rattle.sx_machine.specs.Rows.{into_register, into_memory, on_memory, onto};
+ghost use Rattle.sx_executor.specs.Machine.{Runs};
 
-use crate::Core;
-use crate::access::Rights;
-use crate::registers::{PC, flags, operand, register, set_flags, set_register};
+use crate::operand::read_source;
 use sx_alu::{Calc, Flags, calc};
-use sx_bus::{Bus, Windows};
+use sx_bus::Bus;
+use sx_executor::Executor;
+use sx_executor::registers::PC;
 use sx_isa::{Op2, Operand};
-use sx_machine::Touch;
 use sx_rules::Violation;
 
 /// A calculation on operands that are in range.
@@ -59,123 +55,106 @@ fn writes(op: Op2) -> bool
 }
 
 /// The end of an operation on a register: where the register is SR, the result stands.
-pub fn into_register(regs: &mut [u16; 16], written: bool, r: u8, value: (u16, Flags))
-    ensures { into_register written r value regs.old ≡ Done regs.new }
+pub fn into_register<B: Bus>(
+    executor: &mut Executor<B>,
+    written: bool,
+    r: u8,
+    value: (u16, Flags),
+) -> Result<(), Violation>
+    ensures { Runs (into_register written r value executor.old.regs)
+        executor.old result executor.new }
 {
-    set_flags(regs, value.1);
+    executor.set_flags(value.1);
     if written {
-        set_register(regs, r, value.0);
+        executor.set_register(r, value.0);
+    }
+    Ok(())
+}
+
+/// The end of an operation on a place in memory.
+pub fn into_memory<B: Bus>(
+    executor: &mut Executor<B>,
+    wide: bool,
+    written: bool,
+    at: u16,
+    value: (u16, Flags),
+) -> Result<(), Violation>
+    ensures { Runs (into_memory wide written at value executor.old.regs)
+        executor.old result executor.new }
+{
+    if written {
+        executor.store(wide, at, value.0)?;
+        executor.set_flags(value.1);
+        Ok(())
+    } else {
+        executor.set_flags(value.1);
+        Ok(())
     }
 }
 
-impl<B: Bus> Core<B> {
-    /// The end of an operation on a place in memory.
-    pub fn into_memory(
-        &mut self,
-        rights: &Rights,
-        windows: &Windows,
-        touches: &mut [Touch; 2],
-        wide: bool,
-        written: bool,
-        at: u16,
-        value: (u16, Flags),
-    ) -> Result<(), Violation>
-        ensures { Ends (exec rights.now.table.now rights.now.own (into_memory wide written at value self.old.regs) (moment (B.bytes self.old.bus) windows.now touches.old)) result self.new.regs (moment (B.bytes self.new.bus) windows.now touches.new) }
-    {
-        if written {
-            rights.store(&mut self.bus, windows, touches, wide, at, value.0)?;
-            set_flags(&mut self.regs, value.1);
-            Ok(())
-        } else {
-            set_flags(&mut self.regs, value.1);
-            Ok(())
-        }
+fn on_memory<B: Bus>(
+    executor: &mut Executor<B>,
+    op: Op2,
+    wide: bool,
+    at: u16,
+    src: u16,
+) -> Result<(), Violation>
+    requires { src < limit wide }
+    ensures { Runs (on_memory op wide at src executor.old.regs) executor.old result executor.new }
+{
+    let flags = executor.flags();
+    if reads(op) {
+        let dst = executor.load(wide, at)?;
+        let value = computed(op, wide, src, dst, flags);
+        into_memory(executor, wide, writes(op), at, value)
+    } else {
+        let value = computed(op, wide, src, 0, flags);
+        into_memory(executor, wide, writes(op), at, value)
     }
+}
 
-    fn on_memory(
-        &mut self,
-        rights: &Rights,
-        windows: &mut Windows,
-        touches: &mut [Touch; 2],
-        op: Op2,
-        wide: bool,
-        at: u16,
-        src: u16,
-    ) -> Result<(), Violation>
-        requires { src < limit wide }
-        ensures run { Ends (exec rights.now.table.now rights.now.own (on_memory op wide at src self.old.regs) (moment (B.bytes self.old.bus) windows.old touches.old)) result self.new.regs (moment (B.bytes self.new.bus) windows.new touches.new) }
-        ensures devices { all_stale windows.new ≡ all_stale windows.old }
-    {
-        let flags = flags(&self.regs);
-        if reads(op) {
-            let dst = rights.load(&self.bus, windows, touches, wide, at)?;
-            let value = computed(op, wide, src, dst, flags);
-            self.into_memory(rights, windows, touches, wide, writes(op), at, value)
-        } else {
-            let value = computed(op, wide, src, 0, flags);
-            self.into_memory(rights, windows, touches, wide, writes(op), at, value)
+fn onto<B: Bus>(
+    executor: &mut Executor<B>,
+    op: Op2,
+    wide: bool,
+    dst: Operand,
+    src: u16,
+) -> Result<(), Violation>
+    requires { src < limit wide }
+    ensures { Runs (onto op wide dst src executor.old.regs) executor.old result executor.new }
+{
+    match dst {
+        Operand::Reg(r) => {
+            let old = executor.operand(wide, r);
+            let value = computed(op, wide, src, old, executor.flags());
+            into_register(executor, writes(op), r, value)
         }
-    }
-
-    fn onto(
-        &mut self,
-        rights: &Rights,
-        windows: &mut Windows,
-        touches: &mut [Touch; 2],
-        op: Op2,
-        wide: bool,
-        dst: Operand,
-        src: u16,
-    ) -> Result<(), Violation>
-        requires { src < limit wide }
-        ensures run { Ends (exec rights.now.table.now rights.now.own (onto op wide dst src self.old.regs) (moment (B.bytes self.old.bus) windows.old touches.old)) result self.new.regs (moment (B.bytes self.new.bus) windows.new touches.new) }
-        ensures devices { all_stale windows.new ≡ all_stale windows.old }
-    {
-        match dst {
-            Operand::Reg(r) => {
-                let value = computed(
-                    op,
-                    wide,
-                    src,
-                    operand(&self.regs, wide, r),
-                    flags(&self.regs),
-                );
-                into_register(&mut self.regs, writes(op), r, value);
-                Ok(())
-            }
-            Operand::Indexed(r, x) => {
-                let at = register(&self.regs, r).wrapping_add(x);
-                self.on_memory(rights, windows, touches, op, wide, at, src)
-            }
-            Operand::Symbolic(x) => {
-                let at = self.regs[PC].wrapping_sub(2).wrapping_add(x);
-                self.on_memory(rights, windows, touches, op, wide, at, src)
-            }
-            Operand::Absolute(x) => self.on_memory(rights, windows, touches, op, wide, x, src),
-            Operand::Indirect(_)
-            | Operand::Increment(_)
-            | Operand::Immediate(_)
-            | Operand::Const(_) => Err(Violation::Illegal),
+        Operand::Indexed(r, x) => {
+            let at = executor.register(r).wrapping_add(x);
+            on_memory(executor, op, wide, at, src)
         }
+        Operand::Symbolic(x) => {
+            let at = executor.register(PC).wrapping_sub(2).wrapping_add(x);
+            on_memory(executor, op, wide, at, src)
+        }
+        Operand::Absolute(x) => on_memory(executor, op, wide, x, src),
+        Operand::Indirect(_) | Operand::Increment(_) | Operand::Immediate(_) | Operand::Const(_) =>
+            Err(Violation::Illegal),
     }
+}
 
-    /// An instruction with two operands; `next` is the address behind it.
-    pub fn two(
-        &mut self,
-        rights: &Rights,
-        windows: &mut Windows,
-        touches: &mut [Touch; 2],
-        op: Op2,
-        wide: bool,
-        src: Operand,
-        dst: Operand,
-        next: u16,
-    ) -> Result<(), Violation>
-        ensures run { Ends (exec rights.now.table.now rights.now.own (two op wide src dst self.old.regs next) (moment (B.bytes self.old.bus) windows.old touches.old)) result self.new.regs (moment (B.bytes self.new.bus) windows.new touches.new) }
-        ensures devices { all_stale windows.new ≡ all_stale windows.old }
-    {
-        let value = self.read_source(rights, windows, touches, wide, src)?;
-        self.regs[PC] = next;
-        self.onto(rights, windows, touches, op, wide, dst, value)
-    }
+/// An instruction with two operands; `next` is the address behind it.
+pub fn two<B: Bus>(
+    executor: &mut Executor<B>,
+    op: Op2,
+    wide: bool,
+    src: Operand,
+    dst: Operand,
+    next: u16,
+) -> Result<(), Violation>
+    ensures { Runs (two op wide src dst executor.old.regs next) executor.old result executor.new }
+{
+    let value = read_source(executor, wide, src)?;
+    executor.set_pc(next);
+    onto(executor, op, wide, dst, value)
 }

@@ -1,6 +1,7 @@
 //! What others than the node's code may do to it.
 
-ghost use Rattle.std.specs.Prelude.{◌≡◌, ◌≢◌, ◌<◌, ◌≤◌, ◌+◌, ℕ, length, slice_get, Ok, Err, Option, Some, IfSome, IfErr, OnOk, Result, List};
+ghost use Rattle.std.specs.Prelude.{◌≡◌, ◌≢◌, ◌<◌, ◌≤◌, ◌+◌, ℕ, false, length, slice_get, List};
+ghost use Rattle.std.specs.Prelude.{Ok, Err, Result, Option, Some, IfSome, IfNone, IfErr, OnOk};
 ghost use Rattle.sx_rules.specs.Access.{Lives};
 ghost use Rattle.sx_rules.specs.Placed.{Placed};
 ghost use Rattle.sx_rules.specs.declared.section.Section.{Section};
@@ -8,23 +9,24 @@ ghost use Rattle.sx_bus.specs.declared.devices.Kind.TheVariants.{Sensor};
 ghost use Rattle.sx_machine.specs.State.{reset};
 ghost use Rattle.sx_machine.specs.declared.kinds.Refused.{Refused};
 ghost use Rattle.sx_machine.specs.declared.kinds.Seen.{Seen};
-ghost use Rattle.sx_machine.specs.Acts.{put_refusal, take_refusal, busy, irq_refusal, is_enabled, put, take, set, sense, interrupt, irq};
+ghost use Rattle.sx_machine.specs.Acts.{put_refusal, take_refusal, busy, irq_refusal, is_enabled};
+ghost use Rattle.sx_machine.specs.Acts.{put, take, set, sense, interrupt, irq};
+ghost use Rattle.sx_machine.specs.Ranges.{meets_private, meets_public};
 ghost use Rattle.sx_machine.specs.Run.{exec};
 ghost use Rattle.sx_machine.specs.Step.{start};
 ghost use Rattle.sx_machine.specs.Answers.{Interrupts};
 ghost use Rattle.sx_machine.specs.Guard.{Guarded};
+ghost use Rattle.sx_executor.specs.Machine.{IsClear};
 
 use crate::node::{Node, no_exchange};
 use crate::step::reset_by;
 use sx_bus::Bus;
-use sx_core::set_register;
+use sx_core::interrupt;
+use sx_executor::Range;
+use sx_executor::registers::{PC, SR};
 use sx_machine::{Event, Refused, Seen};
-use sx_rules::{Table, Violation};
-use sx_sancus::memory::{put_bytes, take_bytes};
-use sx_sancus::range::Range;
+use sx_rules::Violation;
 use sx_tag::Tag;
-
-const PC: u8 = 0;
 
 impl<B: Bus, T: Tag> Node<B, T> {
     /// Clears memory, registers, sections and the sensors' fresh marks, sets PC to 0 and raises the
@@ -32,12 +34,10 @@ impl<B: Bus, T: Tag> Node<B, T> {
     pub fn reset(&mut self)
         requires { self.old.boot < 4294967295 }
         ensures state { self.new ≡ reset self.old }
-        ensures guarded { (s : Section) → Guarded (Unit {0}) (λ a. record { state = reset a; shown = tt }) s self.old }
+        ensures guarded { (s : Section)
+            → Guarded (Unit {0}) (λ a. record { state = reset a; shown = tt }) s self.old }
     {
-        self.core.bus.wipe();
-        self.core.regs = [0; 16];
-        self.windows.reset();
-        self.table = Table::new();
+        self.executor.reset();
         self.cur = 0;
         self.last = 0;
         self.caller = 0;
@@ -56,7 +56,11 @@ impl<B: Bus, T: Tag> Node<B, T> {
     }
 
     fn put_refusal(&self, at: u16, count: usize) -> Option<Refused>
-        ensures { result ≡ put_refusal self.now at count }
+        ensures refusal { result ≡ put_refusal self.now at count }
+        ensures within { IfNone result (at + count ≤ 65536) }
+        ensures public { IfNone result (meets_public self.now.sections.live at count ≡ false) }
+        ensures private { IfNone result (meets_private self.now.sections.live at count ≡ false) }
+        ensures memory { IfNone result (IsClear self.now.devices at count) }
     {
         if self.cur != 0 {
             return Some(Refused::Busy);
@@ -64,10 +68,10 @@ impl<B: Bus, T: Tag> Node<B, T> {
         let Some(range) = Range::new(at, count) else {
             return Some(Refused::Guarded);
         };
-        let live = self.table.live();
+        let live = self.executor.table().live();
         if range.meets_public(live)
             || range.meets_private(live)
-            || range.meets_device(self.windows.places())
+            || range.meets_device(self.executor.windows().places())
         {
             return Some(Refused::Guarded);
         }
@@ -75,7 +79,10 @@ impl<B: Bus, T: Tag> Node<B, T> {
     }
 
     fn take_refusal(&self, at: u16, count: usize) -> Option<Refused>
-        ensures { result ≡ take_refusal self.now at count }
+        ensures refusal { result ≡ take_refusal self.now at count }
+        ensures within { IfNone result (at + count ≤ 65536) }
+        ensures private { IfNone result (meets_private self.now.sections.live at count ≡ false) }
+        ensures memory { IfNone result (IsClear self.now.devices at count) }
     {
         if self.cur != 0 {
             return Some(Refused::Busy);
@@ -83,7 +90,9 @@ impl<B: Bus, T: Tag> Node<B, T> {
         let Some(range) = Range::new(at, count) else {
             return Some(Refused::Guarded);
         };
-        if range.meets_private(self.table.live()) || range.meets_device(self.windows.places()) {
+        if range.meets_private(self.executor.table().live())
+            || range.meets_device(self.executor.windows().places())
+        {
             return Some(Refused::Guarded);
         }
         None
@@ -91,30 +100,35 @@ impl<B: Bus, T: Tag> Node<B, T> {
 
     /// Writes bytes from an address on. `Busy` exactly where a module runs; else `Guarded` exactly
     /// where they pass 0xFFFF or meet a public or private section or a device's word.
+    #[tactic(auto, using(sx_executor::proofs::Rights::apart_writable))]
     pub fn put(&mut self, at: u16, bytes: &[u8]) -> Result<(), Refused>
         ensures state { self.new ≡ (put self.old at bytes.now).state }
         ensures answer { result ≡ (put self.old at bytes.now).shown }
-        ensures guarded { (s : Section) → Lives self.old.sections.live s → Guarded (Result (Unit {0}) Refused) (λ a. put a at bytes.now) s self.old }
+        ensures guarded { (s : Section) → Lives self.old.sections.live s
+            → Guarded (Result (Unit {0}) Refused) (λ a. put a at bytes.now) s self.old }
     {
         if let Some(refused) = self.put_refusal(at, bytes.len()) {
             return Err(refused);
         }
-        put_bytes(&mut self.core.bus, at, bytes);
+        self.executor.write_bytes(at, bytes);
         Ok(())
     }
 
     /// Copies the bytes from an address on. `Busy` exactly where a module runs; else `Guarded`
     /// exactly where they pass 0xFFFF or meet a private section or a device's word. `into` is
     /// unchanged where the call is refused.
+    #[tactic(auto, using(sx_executor::proofs::Rights::apart_readable))]
     pub fn take(&self, at: u16, into: &mut [u8]) -> Result<(), Refused>
         ensures taken { OnOk result ((take self.now at (length into.old)).shown ≡ Ok into.new) }
-        ensures refused { IfErr result (λ refused. ((take self.now at (length into.old)).shown ≡ Err refused) × (into.new ≡ into.old)) }
-        ensures guarded { (s : Section) → Lives self.now.sections.live s → Guarded (Result (List ℕ) Refused) (λ a. take a at (length into.old)) s self.now }
+        ensures refused { IfErr result (λ refused.
+            ((take self.now at (length into.old)).shown ≡ Err refused) × (into.new ≡ into.old)) }
+        ensures guarded { (s : Section) → Lives self.now.sections.live s
+            → Guarded (Result (List ℕ) Refused) (λ a. take a at (length into.old)) s self.now }
     {
         if let Some(refused) = self.take_refusal(at, into.len()) {
             return Err(refused);
         }
-        take_bytes(&self.core.bus, at, into);
+        self.executor.read_bytes(at, into);
         Ok(())
     }
 
@@ -125,12 +139,13 @@ impl<B: Bus, T: Tag> Node<B, T> {
         requires settable { reg ≢ 3 }
         ensures state { self.new ≡ (set self.old reg value).state }
         ensures answer { result ≡ (set self.old reg value).shown }
-        ensures guarded { (s : Section) → Lives self.old.sections.live s → Guarded (Result (Unit {0}) Refused) (λ a. set a reg value) s self.old }
+        ensures guarded { (s : Section) → Lives self.old.sections.live s
+            → Guarded (Result (Unit {0}) Refused) (λ a. set a reg value) s self.old }
     {
         if let Some(refused) = self.busy() {
             return Err(refused);
         }
-        set_register(&mut self.core.regs, reg, value);
+        self.executor.set_register(reg, value);
         if reg == PC {
             self.last = 0;
         }
@@ -140,16 +155,18 @@ impl<B: Bus, T: Tag> Node<B, T> {
     /// A sensor takes a sample, and is fresh. `Busy` exactly where a module runs.
     pub fn sense(&mut self, device: u8, value: u16) -> Result<(), Refused>
         requires device { device < length self.old.devices }
-        requires sensor { IfSome (slice_get self.old.devices device) (λ window. window.kind ≡ Sensor) }
+        requires sensor { IfSome (slice_get self.old.devices device)
+            (λ window. window.kind ≡ Sensor) }
         requires value { value < 32768 }
         ensures state { self.new ≡ (sense self.old device value).state }
         ensures answer { result ≡ (sense self.old device value).shown }
-        ensures guarded { (s : Section) → Lives self.old.sections.live s → Guarded (Result (Unit {0}) Refused) (λ a. sense a device value) s self.old }
+        ensures guarded { (s : Section) → Lives self.old.sections.live s
+            → Guarded (Result (Unit {0}) Refused) (λ a. sense a device value) s self.old }
     {
         if let Some(refused) = self.busy() {
             return Err(refused);
         }
-        self.windows.sense(device, value);
+        self.executor.sense(device, value);
         Ok(())
     }
 
@@ -159,7 +176,7 @@ impl<B: Bus, T: Tag> Node<B, T> {
         if self.cur != 0 {
             return Some(Refused::Busy);
         }
-        if (self.core.regs[2] >> 3) & 1 == 1 {
+        if (self.executor.register(SR) >> 3) & 1 == 1 {
             None
         } else {
             Some(Refused::Masked)
@@ -169,26 +186,30 @@ impl<B: Bus, T: Tag> Node<B, T> {
     /// The interrupt of a line, up to its first violation.
     fn interrupt(&mut self, line: u8) -> Result<Seen, Violation>
         requires { line ≤ 14 }
-        ensures { Interrupts self.old (exec self.old.sections 0 (interrupt line self.old.regs) (start self.old)) result self.new }
+        ensures { Interrupts self.old
+            (exec self.old.sections 0 (interrupt line self.old.regs) (start self.old))
+            result self.new }
     {
-        let touch = self.core.interrupt(&self.table, line, &mut self.windows)?;
+        self.executor.begin(0);
+        interrupt(&mut self.executor, line)?;
         self.last = 0;
         Ok(Seen {
-            touch,
+            touch: self.executor.touches(),
             event: Event::Quiet,
         })
     }
 
     /// An interrupt of a line from 0 to 14: PC and then SR are pushed as by code outside every
     /// module, SR becomes 0, and PC is loaded from the vector at 0xFFE0 + 2 `line`. A violation
-    /// resets the node. `Busy` exactly where a module runs; else `Masked` exactly where GIE, bit 3 of
-    /// SR, is 0.
+    /// resets the node. `Busy` exactly where a module runs; else `Masked` exactly where GIE, bit 3
+    /// of SR, is 0.
     pub fn irq(&mut self, line: u8) -> Result<Seen, Refused>
         requires line { line ≤ 14 }
         requires boots { self.old.boot < 4294967295 }
         ensures state { self.new ≡ (irq self.old line).state }
         ensures answer { result ≡ (irq self.old line).shown }
-        ensures guarded { (s : Section) → Placed self.old.sections → Lives self.old.sections.live s → Guarded (Result Seen Refused) (λ a. irq a line) s self.old }
+        ensures guarded { (s : Section) → Placed self.old.sections → Lives self.old.sections.live s
+            → Guarded (Result Seen Refused) (λ a. irq a line) s self.old }
     {
         if let Some(refused) = self.irq_refusal() {
             return Err(refused);

@@ -5,24 +5,17 @@ ghost use Rattle.std.specs.Prelude.{◌≡◌, IfOk};
 use crate::node::Node;
 use std::alloc::{AllocError as OutOfMemory, Global};
 use sx_bus::Copied;
-use sx_core::Core;
 use sx_tag::Tag;
 
 impl<B: Copied, T: Tag + Copy> Node<B, T> {
-    /// A node of its own in an equal state, with the same tag. `OutOfMemory` where there is none for it.
+    /// A node of its own in an equal state, with the same tag. `OutOfMemory` where there is none
+    /// for it.
     pub fn copy(&self, alloc: Global) -> Result<Node<B, T>, OutOfMemory>
         ensures { IfOk result (λ copy. copy ≡ self.now) }
     {
-        let bus = self.core.bus.copy(alloc)?;
-        let windows = self.windows.copy(alloc)?;
-        let core = Core {
-            regs: self.core.regs,
-            bus,
-        };
+        let executor = self.executor.copy(alloc)?;
         Ok(Node {
-            core,
-            windows,
-            table: self.table.copy(),
+            executor,
             cur: self.cur,
             last: self.last,
             caller: self.caller,

@@ -8,17 +8,15 @@ ghost use Rattle.sx_machine.specs.State.{power_on, no_exchange};
 
 use std::marker::Model;
 use sx_bus::{Bus, Windows};
-use sx_core::Core;
+use sx_executor::Executor;
 use sx_machine::Exchange;
-use sx_rules::{Section, Table};
+use sx_rules::Section;
 use sx_tag::Tag;
 
 /// A node over any memory and any tag.
 #[derive(Drop)]
 pub struct Node<B: Bus, T: Tag> {
-    pub(crate) core: Core<B>,
-    pub(crate) windows: Windows,
-    pub(crate) table: Table,
+    pub(crate) executor: Executor<B>,
     pub(crate) cur: u16,
     pub(crate) last: u16,
     pub(crate) caller: u16,
@@ -34,10 +32,10 @@ impl<B: Bus, T: Tag> Model for Node<B, T> {
     ghost Value = { State };
 
     ghost view = { λ n. record {
-      regs = n.core.regs;
-      mem = B.bytes n.core.bus;
-      devices = n.windows;
-      sections = n.table;
+      regs = n.executor.regs;
+      mem = n.executor.mem;
+      devices = n.executor.devices;
+      sections = n.executor.sections;
       cur = n.cur;
       last = n.last;
       caller = n.caller;
@@ -62,17 +60,15 @@ pub(crate) fn no_exchange() -> Exchange
 
 impl<B: Bus, T: Tag> Node<B, T> {
     /// A node when its power is switched on: all registers are 0, no section stands, and the boot
-    /// count is 0. As the conditions say, all bytes are 0, and no device was used. `key` is the node's
-    /// own key.
+    /// count is 0. As the conditions say, all bytes are 0, and no device was used. `key` is the
+    /// node's own key.
     pub fn new(bus: B, tag: T, key: [u8; 16], windows: Windows) -> Node<B, T>
         requires blank { B.bytes bus ≡ blank 65536 }
         requires new { AreNew windows }
         ensures { result ≡ power_on key windows }
     {
         Node {
-            core: Core { regs: [0; 16], bus },
-            windows,
-            table: Table::new(),
+            executor: Executor::new(bus, windows),
             cur: 0,
             last: 0,
             caller: 0,
@@ -83,8 +79,8 @@ impl<B: Bus, T: Tag> Node<B, T> {
         }
     }
 
-    /// The id of the module that runs, or 0: the module of the last instruction runs where PC was in
-    /// its public section afterwards.
+    /// The id of the module that runs, or 0: the module of the last instruction runs where PC was
+    /// in its public section afterwards.
     pub fn running(&self) -> u16
         ensures { result ≡ self.now.cur }
     {
@@ -96,14 +92,14 @@ impl<B: Bus, T: Tag> Node<B, T> {
         requires { reg < 16 }
         ensures { result ≡ slice_index self.now.regs reg }
     {
-        self.core.regs[reg as usize]
+        self.executor.register(reg)
     }
 
     /// The byte at an address.
     pub fn byte(&self, at: u16) -> u8
         ensures { result ≡ slice_index self.now.mem at }
     {
-        self.core.bus.get(at)
+        self.executor.byte(at)
     }
 
     /// How many resets the node has had.
@@ -117,7 +113,7 @@ impl<B: Bus, T: Tag> Node<B, T> {
     pub fn section(&self, id: u16) -> Option<Section>
         ensures { result ≡ section_of self.now.sections.live id }
     {
-        self.table.section(id)
+        self.executor.section(id)
     }
 
     /// The header and the body of the last `Wrapped` or `Unwrapped`.

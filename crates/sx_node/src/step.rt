@@ -1,29 +1,30 @@
 //! One step of a node: the tests of PC, and then the instruction.
 
-ghost use Rattle.std.specs.Prelude.{◌≡◌, ◌==◌, ◌-◌, ◌<◌, ℕ, if◌then◌else◌, MatchOption, true, false};
+ghost use Rattle.std.specs.Prelude.{◌≡◌, ◌==◌, ◌-◌, ◌<◌, ℕ, if◌then◌else◌, true, false};
+ghost use Rattle.std.specs.Prelude.{None, MatchOption};
 ghost use Rattle.sx_rules.specs.Access.{Lives, holder};
 ghost use Rattle.sx_rules.specs.Placed.{Placed};
+ghost use Rattle.sx_bus.specs.Devices.{device_at};
 ghost use Rattle.sx_rules.specs.declared.section.Section.{Section};
 ghost use Rattle.sx_machine.specs.declared.kinds.Seen.{Seen};
 ghost use Rattle.sx_machine.specs.declared.kinds.Event.TheVariants.{Reset};
-ghost use Rattle.sx_machine.specs.Memory.{word};
 ghost use Rattle.sx_machine.specs.Run.{exec, untouched};
 ghost use Rattle.sx_machine.specs.Rows.{program};
 ghost use Rattle.sx_machine.specs.Modules.{is_code, module_instruction};
-ghost use Rattle.sx_machine.specs.Step.{step, attempt, instruction, given, is_module_word, ordered, word_outside, pc_of, own_of, start, entered_from, left};
+ghost use Rattle.sx_machine.specs.Step.{step, attempt, instruction, given, is_module_word, ordered};
+ghost use Rattle.sx_machine.specs.Step.{word_outside, pc_of, own_of, start, entered_from, left};
 ghost use Rattle.sx_machine.specs.Answers.{Attempts};
 ghost use Rattle.sx_machine.specs.Guard.{Guarded, Foreign};
 ghost use Rattle.sx_sancus.specs.Told.{event_of};
 
 use crate::node::Node;
 use sx_bus::Bus;
-use sx_core::word;
+use sx_core::step_plain;
+use sx_executor::registers::PC;
 use sx_machine::{Event, Seen, Touch};
 use sx_rules::Violation;
 use sx_sancus::{SancusEvent, step_sancus};
 use sx_tag::{Tag, boot_key};
-
-const PC: usize = 0;
 
 /// The module instructions are the eight words from here on, but one.
 const FIRST_MODULE_WORD: u16 = 0x1380;
@@ -42,7 +43,8 @@ pub(crate) fn reset_by(violation: Violation) -> Seen
 
 /// The code of the module instruction whose word it is, or None.
 fn code_of(word: u16) -> Option<u8>
-    ensures { MatchOption result (is_module_word word ≡ false) (λ code. (is_module_word word ≡ true) × (code ≡ word - 0x1380) × (is_code code ≡ true)) }
+    ensures { MatchOption result (is_module_word word ≡ false) (λ code.
+        (is_module_word word ≡ true) × (code ≡ word - 0x1380) × (is_code code ≡ true)) }
 {
     if word < FIRST_MODULE_WORD || word >= FIRST_MODULE_WORD + 8 || word == NO_MODULE_WORD {
         return None;
@@ -70,7 +72,8 @@ impl<B: Bus, T: Tag> Node<B, T> {
         requires { self.old.boot < 4294967295 }
         ensures state { self.new ≡ (step T.mac self.old).state }
         ensures seen { result ≡ (step T.mac self.old).shown }
-        ensures guarded { (s : Section) → Placed self.old.sections → Lives self.old.sections.live s → Foreign s self.old → Guarded Seen (step T.mac) s self.old }
+        ensures guarded { (s : Section) → Placed self.old.sections → Lives self.old.sections.live s
+            → Foreign s self.old → Guarded Seen (step T.mac) s self.old }
     {
         match self.attempt() {
             Ok(seen) => seen,
@@ -85,14 +88,14 @@ impl<B: Bus, T: Tag> Node<B, T> {
     fn attempt(&mut self) -> Result<Seen, Violation>
         ensures { Attempts self.old (attempt T.mac self.old) result self.new }
     {
-        let pc = self.core.regs[PC];
+        let pc = self.executor.register(PC);
         if !self.word_outside(pc) {
             return Err(Violation::Fetch);
         }
-        if self.windows.at(pc).is_some() {
+        if let Some(_device) = self.executor.windows().at(pc) {
             return Err(Violation::Device);
         }
-        if !self.table.in_order(self.cur, pc) {
+        if !self.executor.table().in_order(self.cur, pc) {
             return Err(Violation::Order);
         }
         self.instruction()
@@ -103,36 +106,40 @@ impl<B: Bus, T: Tag> Node<B, T> {
         ensures { result ≡ word_outside self.now.sections.live at }
     {
         let even = at - at % 2;
-        self.table.outside_private(even) && self.table.outside_private(even + 1)
+        let table = self.executor.table();
+        table.outside_private(even) && table.outside_private(even + 1)
     }
 
-    /// The instruction at PC, where it may be run.
+    /// The instruction at PC, where it may be run: its word lies in no private section and is no
+    /// device's.
+    #[tactic(auto, using(sx_executor::proofs::Rights::outside_word, sx_executor::proofs::Clear::none_found))]
     fn instruction(&mut self) -> Result<Seen, Violation>
+        requires outside { word_outside self.old.sections.live (pc_of self.old) ≡ true }
+        requires memory { device_at self.old.devices (pc_of self.old) ≡ None }
         ensures { Attempts self.old (instruction T.mac self.old) result self.new }
     {
-        let pc = self.core.regs[PC];
-        let own = self.table.holder(pc);
-        match code_of(word(&self.core.bus, pc)) {
+        let pc = self.executor.register(PC);
+        let own = self.executor.holder(pc);
+        let word = self.executor.read(true, pc);
+        match code_of(word) {
             Some(code) => self.module_instruction(own, code),
-            None => self.plain_instruction(own),
+            None => self.plain_instruction(own, word),
         }
     }
 
     fn module_instruction(&mut self, own: u16, code: u8) -> Result<Seen, Violation>
         requires own { own ≡ own_of self.old }
         requires code { is_code code ≡ true }
-        ensures { Attempts self.old (module_instruction T.mac code (given T.mac self.old) self.old.mem) result self.new }
+        ensures { Attempts self.old
+            (module_instruction T.mac code (given T.mac self.old) self.old.mem) result self.new }
     {
         let caller = self.entered_from(own);
         let base = boot_key(&self.tag, &self.key, self.boot);
+        self.executor.begin(own);
         let event = step_sancus(
+            &mut self.executor,
             code,
-            &mut self.core.regs,
-            own,
             caller,
-            &mut self.table,
-            &self.windows,
-            &mut self.core.bus,
             &self.tag,
             &base,
             &mut self.exchange,
@@ -144,12 +151,16 @@ impl<B: Bus, T: Tag> Node<B, T> {
         })
     }
 
-    fn plain_instruction(&mut self, own: u16) -> Result<Seen, Violation>
+    fn plain_instruction(&mut self, own: u16, word: u16) -> Result<Seen, Violation>
         requires { own ≡ own_of self.old }
-        ensures { Attempts self.old (exec self.old.sections own (program (word self.old.mem (pc_of self.old)) self.old.regs) (start self.old)) result self.new }
+        ensures { Attempts self.old
+            (exec self.old.sections own (program word self.old.regs) (start self.old))
+            result self.new }
     {
         let caller = self.entered_from(own);
-        let touch = self.core.step_plain(&self.table, own, &mut self.windows)?;
+        self.executor.begin(own);
+        step_plain(&mut self.executor, word)?;
+        let touch = self.executor.touches();
         self.settle(own, caller);
         let stays = own == 0 || self.cur == own;
         let event = if stays {
@@ -166,7 +177,7 @@ impl<B: Bus, T: Tag> Node<B, T> {
     {
         if own == self.cur {
             self.caller
-        } else if self.table.section(self.last).is_some() {
+        } else if self.executor.section(self.last).is_some() {
             self.last
         } else {
             0
@@ -181,7 +192,7 @@ impl<B: Bus, T: Tag> Node<B, T> {
           caller = caller;
         } }
     {
-        let holder = self.table.holder(self.core.regs[PC]);
+        let holder = self.executor.holder(self.executor.register(PC));
         self.cur = if holder == own { own } else { 0 };
         self.last = own;
         self.caller = caller;

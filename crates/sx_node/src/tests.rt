@@ -23,19 +23,19 @@ fn stepped(rt: &impl Abort, node: &mut Node<FlatBus, Weak>) -> Seen {
 }
 
 fn sampled(rt: &impl Abort, node: &mut Node<FlatBus, Weak>) -> Result<(), Refused> {
-    let Some(device) = node.windows.at(SENSOR) else {
+    let Some(device) = node.executor.windows().at(SENSOR) else {
         panic!(rt; "no device");
     };
-    let window = node.windows.get(device);
+    let window = node.executor.windows().get(device);
     assert!(rt; matches!(window.kind, Kind::Sensor));
     node.sense(device, 7)
 }
 
 fn is_fresh(rt: &impl Abort, node: &Node<FlatBus, Weak>) -> bool {
-    let Some(device) = node.windows.at(SENSOR) else {
+    let Some(device) = node.executor.windows().at(SENSOR) else {
         panic!(rt; "no device");
     };
-    node.windows.get(device).fresh
+    node.executor.windows().get(device).fresh
 }
 
 fn interrupted(rt: &impl Abort, node: &mut Node<FlatBus, Weak>) -> Result<Seen, Refused> {

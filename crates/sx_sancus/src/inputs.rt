@@ -1,23 +1,25 @@
 //! What wrap and unwrap begin with.
 
-ghost use Rattle.std.specs.Prelude.{◌≡◌, ◌≤◌, ◌&&◌, [], ◌∷◌, nat_le, not, if◌then◌else◌, true, false, IfOk, IfErr, OnOk, slice_index, length, List, ℕ};
+ghost use Rattle.std.specs.Prelude.{◌≡◌, ◌≤◌, [], ◌∷◌, true, false, IfOk, IfErr, OnOk};
+ghost use Rattle.std.specs.Prelude.{slice_index, length, List, ℕ};
+ghost use Rattle.std.specs.Bool.{OnFalse};
 ghost use Rattle.std.specs.List.{list_any};
 ghost use Rattle.sx_rules.specs.declared.access.Violation.TheVariants as bad;
-ghost use Rattle.sx_bus.specs.Devices.{places_of};
+ghost use Rattle.sx_machine.specs.declared.kinds.Exchange.{Exchange};
 ghost use Rattle.sx_machine.specs.Plan.{Plan};
 ghost use Rattle.sx_machine.specs.Ranges.{passes_end, meets_device};
-ghost use Rattle.sx_machine.specs.Given.{untouched_with};
 ghost use Rattle.sx_machine.specs.ModuleRows.{own_key, buffers, with_key, with_inputs};
-ghost use Rattle.sx_machine.specs.Run.{Outcome, Violated, exec};
+ghost use Rattle.sx_machine.specs.Run.{Outcome};
 ghost use Rattle.sx_machine.specs.Answers.{followed};
-ghost use Rattle.sx_bus.specs.declared.devices.Window.{Window};
-ghost use Rattle.sx_machine.specs.declared.kinds.Exchange.{Exchange};
-ghost use Rattle.sx_sancus.specs.Told.{given_by};
+ghost use Rattle.sx_executor.specs.Machine.{IsClear};
+ghost use Rattle.sx_sancus.specs.Told.{ran_of};
+ghost use Rattle.sx_sancus.specs.Parts.{IsNamed, IsBlock, IsKeyPlace, IsOff, IsApart};
+ghost use Rattle.sx_sancus.specs.Parts.{tested_buffers};
 
-use crate::access::Rights;
-use crate::buffer::Buffer;
+use crate::access::{read_block, read_text};
 use crate::text::Text;
 use sx_bus::{Bus, Windows};
+use sx_executor::{Buffer, Executor};
 use sx_rules::{Section, Violation};
 
 /// The buffers that R9 to R15 name; there is no key's where R9 is 0.
@@ -40,13 +42,15 @@ pub fn own_key(regs: &[u16; 16]) -> bool
 impl Buffers {
     /// The buffers, or the violation `Range` where one passes the end of memory.
     fn of_registers(regs: &[u16; 16]) -> Result<Buffers, Violation>
-        ensures range { IfErr result (λ why. (why ≡ bad.Range) × (list_any (λ b. passes_end b.at b.count) (buffers regs.now) ≡ true)) }
-        ensures within { OnOk result (list_any (λ b. passes_end b.at b.count) (buffers regs.now) ≡ false) }
-        ensures key { IfOk result (λ b. (b.key.at ≡ slice_index regs.now 9) × (b.key.count ≡ (if own_key regs.now then 0 else 16))) }
-        ensures header { IfOk result (λ b. (b.header.at ≡ slice_index regs.now 10) × (b.header.count ≡ slice_index regs.now 11)) }
-        ensures text { IfOk result (λ b. (b.text.at ≡ slice_index regs.now 12) × (b.text.count ≡ slice_index regs.now 13)) }
-        ensures output { IfOk result (λ b. (b.output.at ≡ slice_index regs.now 14) × (b.output.count ≡ slice_index regs.now 13)) }
-        ensures tag { IfOk result (λ b. (b.tag.at ≡ slice_index regs.now 15) × (b.tag.count ≡ 16)) }
+        ensures range { IfErr result (λ why. (why ≡ bad.Range)
+            × (list_any (λ b. passes_end b.at b.count) (buffers regs.now) ≡ true)) }
+        ensures within { OnOk result
+            (list_any (λ b. passes_end b.at b.count) (buffers regs.now) ≡ false) }
+        ensures key { IfOk result (λ b. IsKeyPlace regs.now b.key) }
+        ensures header { IfOk result (λ b. IsNamed regs.now 10 11 b.header) }
+        ensures text { IfOk result (λ b. IsNamed regs.now 12 13 b.text) }
+        ensures output { IfOk result (λ b. IsNamed regs.now 14 13 b.output) }
+        ensures tag { IfOk result (λ b. IsBlock regs.now 15 b.tag) }
     {
         let key_count = if own_key(regs) { 0 } else { 16 };
         Ok(Buffers {
@@ -60,23 +64,38 @@ impl Buffers {
 
     /// Whether one of them meets a device.
     fn meet_device(&self, places: &[u16]) -> bool
-        ensures { result ≡ list_any (λ b. meets_device places.now b.at b.count) (self.now.key ∷ self.now.header ∷ self.now.text ∷ self.now.output ∷ self.now.tag ∷ []) }
+        ensures any { result ≡ list_any (λ b. meets_device places.now b.at b.count)
+            (self.now.key ∷ self.now.header ∷ self.now.text ∷ self.now.output ∷ self.now.tag ∷ []) }
+        ensures key { OnFalse result (IsOff places.now self.now.key) }
+        ensures header { OnFalse result (IsOff places.now self.now.header) }
+        ensures text { OnFalse result (IsOff places.now self.now.text) }
+        ensures output { OnFalse result (IsOff places.now self.now.output) }
+        ensures tag { OnFalse result (IsOff places.now self.now.tag) }
     {
-        [self.key, self.header, self.text, self.output, self.tag]
-            .iter()
-            .any(|buffer| buffer.meets_device(places))
+        self.key.meets_device(places)
+            || self.header.meets_device(places)
+            || self.text.meets_device(places)
+            || self.output.meets_device(places)
+            || self.tag.meets_device(places)
     }
 }
 
 /// The buffers, once they were tested: header and text have at most 32 bytes, no buffer passes the
 /// end of memory, and none meets a device.
 fn tested(regs: &[u16; 16], windows: &Windows) -> Result<Buffers, Violation>
-    ensures then { (rest : Outcome) → (if nat_le (slice_index regs.now 11) 32 && nat_le (slice_index regs.now 13) 32 then (if not (list_any (λ b. passes_end b.at b.count) (buffers regs.now)) then (if not (list_any (λ b. meets_device (places_of windows.now) b.at b.count) (buffers regs.now)) then rest else Violated bad.Device) else Violated bad.Range) else Violated bad.Range) ≡ followed result (λ b. rest) }
-    ensures key { IfOk result (λ b. (b.key.at ≡ slice_index regs.now 9) × (b.key.count ≡ (if own_key regs.now then 0 else 16))) }
-    ensures header { IfOk result (λ b. (b.header.at ≡ slice_index regs.now 10) × ((b.header.count ≡ slice_index regs.now 11) × (b.header.count ≤ 32))) }
-    ensures text { IfOk result (λ b. (b.text.at ≡ slice_index regs.now 12) × ((b.text.count ≡ slice_index regs.now 13) × (b.text.count ≤ 32))) }
-    ensures output { IfOk result (λ b. (b.output.at ≡ slice_index regs.now 14) × (b.output.count ≡ slice_index regs.now 13)) }
-    ensures tag { IfOk result (λ b. (b.tag.at ≡ slice_index regs.now 15) × (b.tag.count ≡ 16)) }
+    ensures then { (rest : Outcome)
+        → tested_buffers regs.now windows.now rest ≡ followed result (λ b. rest) }
+    ensures key { IfOk result (λ b. IsKeyPlace regs.now b.key) }
+    ensures header { IfOk result (λ b. IsNamed regs.now 10 11 b.header) }
+    ensures text { IfOk result (λ b. IsNamed regs.now 12 13 b.text) }
+    ensures output { IfOk result (λ b. IsNamed regs.now 14 13 b.output) }
+    ensures tag { IfOk result (λ b. IsBlock regs.now 15 b.tag) }
+    ensures short { IfOk result (λ b. (b.header.count ≤ 32) × (b.text.count ≤ 32)) }
+    ensures key_apart { IfOk result (λ b. IsApart windows.now b.key) }
+    ensures header_apart { IfOk result (λ b. IsApart windows.now b.header) }
+    ensures text_apart { IfOk result (λ b. IsApart windows.now b.text) }
+    ensures output_apart { IfOk result (λ b. IsApart windows.now b.output) }
+    ensures tag_apart { IfOk result (λ b. IsApart windows.now b.tag) }
 {
     if regs[11] > 32 || regs[13] > 32 {
         return Err(Violation::Range);
@@ -101,41 +120,42 @@ pub struct Inputs {
 
 /// The key of the module, or the one at R9.
 fn read_key<B: Bus>(
-    rights: &Rights,
-    bus: &B,
-    regs: &[u16; 16],
+    executor: &Executor<B>,
     place: Buffer,
     own: &Section,
 ) -> Result<[u8; 16], Violation>
-    requires at { place.at ≡ slice_index regs.now 9 }
-    requires count { place.count ≡ (if own_key regs.now then 0 else 16) }
-    ensures { (devices : List Window) (caller : ℕ) (base : List ℕ) (exchange : Exchange) (rest : List ℕ → Plan) → let given = given_by regs.now devices rights.now.table.now rights.now.own caller base exchange in exec given.sections given.own (with_key given own.now rest) (untouched_with given (B.bytes bus.now)) ≡ followed result (λ key. exec given.sections given.own (rest key) (untouched_with given (B.bytes bus.now))) }
+    requires at { IsKeyPlace executor.now.regs place }
+    requires memory { IsApart executor.now.devices place }
+    ensures { (caller : ℕ) (base : List ℕ) (exchange : Exchange) (rest : List ℕ → Plan)
+        → ran_of (λ g. with_key g own.now rest) executor.now caller base exchange
+        ≡ followed result (λ key. ran_of (λ g. rest key) executor.now caller base exchange) }
 {
-    if own_key(regs) {
+    if own_key(executor.regs()) {
         Ok(own.key)
     } else {
-        rights.read_block(bus, place)
+        read_block(executor, place)
     }
 }
 
 /// Reads what both instructions read, once all buffers were tested; any plan may follow.
-pub fn read_inputs<B: Bus>(
-    rights: &Rights,
-    windows: &Windows,
-    bus: &B,
-    regs: &[u16; 16],
-    own: &Section,
-) -> Result<Inputs, Violation>
-    ensures then { (caller : ℕ) (base : List ℕ) (exchange : Exchange) (rest : List ℕ → List ℕ → List ℕ → Plan) → let given = given_by regs.now windows.now rights.now.table.now rights.now.own caller base exchange in exec given.sections given.own (with_inputs given own.now rest) (untouched_with given (B.bytes bus.now)) ≡ followed result (λ i. exec given.sections given.own (rest i.key i.header i.text) (untouched_with given (B.bytes bus.now))) }
+pub fn read_inputs<B: Bus>(executor: &Executor<B>, own: &Section) -> Result<Inputs, Violation>
+    ensures then { (caller : ℕ) (base : List ℕ) (exchange : Exchange)
+        (rest : List ℕ → List ℕ → List ℕ → Plan)
+        → ran_of (λ g. with_inputs g own.now rest) executor.now caller base exchange
+        ≡ followed result
+        (λ i. ran_of (λ g. rest i.key i.header i.text) executor.now caller base exchange) }
     ensures header { IfOk result (λ i. length i.header ≤ 32) }
-    ensures text { IfOk result (λ i. (length i.text ≡ slice_index regs.now 13) × (length i.text ≤ 32)) }
-    ensures output { IfOk result (λ i. (i.output.at ≡ slice_index regs.now 14) × (i.output.count ≡ slice_index regs.now 13)) }
-    ensures tag { IfOk result (λ i. (i.tag.at ≡ slice_index regs.now 15) × (i.tag.count ≡ 16)) }
+    ensures text { IfOk result (λ i. length i.text ≡ slice_index executor.now.regs 13) }
+    ensures short { IfOk result (λ i. length i.text ≤ 32) }
+    ensures output { IfOk result (λ i. IsNamed executor.now.regs 14 13 i.output) }
+    ensures tag { IfOk result (λ i. IsBlock executor.now.regs 15 i.tag) }
+    ensures output_apart { IfOk result (λ i. IsApart executor.now.devices i.output) }
+    ensures tag_apart { IfOk result (λ i. IsApart executor.now.devices i.tag) }
 {
-    let buffers = tested(regs, windows)?;
-    let key = read_key(rights, bus, regs, buffers.key, own)?;
-    let header = rights.read_text(bus, buffers.header)?;
-    let text = rights.read_text(bus, buffers.text)?;
+    let buffers = tested(executor.regs(), executor.windows())?;
+    let key = read_key(executor, buffers.key, own)?;
+    let header = read_text(executor, buffers.header)?;
+    let text = read_text(executor, buffers.text)?;
     Ok(Inputs {
         key,
         header,

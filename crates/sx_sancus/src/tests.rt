@@ -7,9 +7,10 @@ use super::{SancusEvent, step_sancus};
 use std::alloc::Global;
 use std::process::Abort;
 use std::test::Fail;
-use sx_bus::{Bus, FlatBus, Kind, Windows};
+use sx_bus::{FlatBus, Kind, Windows};
+use sx_executor::Executor;
 use sx_machine::Exchange;
-use sx_rules::{Layout, Table, Violation};
+use sx_rules::{Layout, Violation};
 use sx_tag::Weak;
 
 const OWN: Layout = Layout {
@@ -36,27 +37,29 @@ const NO_EXCHANGE: Exchange = Exchange {
 
 const CALLER: u16 = 9;
 
-/// The parts of a node with a sensor at 0x1000.
+/// An executor with a sensor at 0x1000, and what was exchanged.
 #[derive(Drop)]
 struct Parts {
-    regs: [u16; 16],
-    table: Table,
-    windows: Windows,
-    bus: FlatBus,
+    executor: Executor<FlatBus>,
     exchange: Exchange,
+}
+
+fn admit(rt: &impl Abort, executor: &mut Executor<FlatBus>, layout: Layout, key: [u8; 16]) -> u16 {
+    match executor.test(layout) {
+        Ok(()) => executor.admit(layout, 7, key),
+        Err(_) => panic!(rt; "refused"),
+    }
 }
 
 impl Parts {
     /// With the modules 1 at OWN, whose key is sixteen ones, and 2 at OTHER.
     fn new(rt: &impl Abort, alloc: Global) -> Result<Parts, Fail> {
-        let mut table = Table::new();
-        assert!(rt; table.admit(OWN, 7, [1; 16], &[]) == Ok(1));
-        assert!(rt; table.admit(OTHER, 7, [2; 16], &[]) == Ok(2));
+        let windows = Windows::new(alloc, &[(0x1000, Kind::Sensor)])?;
+        let mut executor = Executor::new(FlatBus::new(alloc)?, windows);
+        assert_eq!(rt; admit(rt, &mut executor, OWN, [1; 16]), 1);
+        assert_eq!(rt; admit(rt, &mut executor, OTHER, [2; 16]), 2);
         Ok(Parts {
-            regs: [0; 16],
-            table,
-            windows: Windows::new(alloc, &[(0x1000, Kind::Sensor)])?,
-            bus: FlatBus::new(alloc)?,
+            executor,
             exchange: NO_EXCHANGE,
         })
     }
@@ -65,38 +68,43 @@ impl Parts {
     fn run(&mut self, own: u16, code: u8, operands: [u16; 7]) -> Result<SancusEvent, Violation>
         requires { is_code code ≡ true }
     {
-        let [a, b, c, d, e, f, g] = operands;
-        self.regs = [0x600, 0, 0, 0, 0, 0, 0, 0, 0, a, b, c, d, e, f, g];
-        let (table, bus, exchange) = (&mut self.table, &mut self.bus, &mut self.exchange);
+        self.executor.begin(own);
+        self.executor.set_pc(0x600);
+        for r in 0..7u8 {
+            self.executor.set_word(9 + r, operands[r as usize]);
+        }
         step_sancus(
+            &mut self.executor,
             code,
-            &mut self.regs,
-            own,
             CALLER,
-            table,
-            &self.windows,
-            bus,
             &Weak,
             &[0; 16],
-            exchange,
+            &mut self.exchange,
         )
     }
 
-    fn put(&mut self, mut at: u16, bytes: &[u8]) {
+    /// Writes bytes as code of the module `own`.
+    fn put(&mut self, own: u16, mut at: u16, bytes: &[u8]) {
+        self.executor.begin(own);
         for byte in bytes {
-            self.bus.put(at, *byte);
+            let _ = self.executor.store(false, at, u16::from(*byte));
             at = at.wrapping_add(1);
         }
     }
 
     fn holds(&self, mut at: u16, bytes: &[u8]) -> bool {
         for byte in bytes {
-            if self.bus.get(at) != *byte {
+            if self.executor.byte(at) != *byte {
                 return false;
             }
             at = at.wrapping_add(1);
         }
         true
+    }
+
+    /// PC and R15.
+    fn answer(&self) -> [u16; 2] {
+        [self.executor.register(0), self.executor.register(15)]
     }
 }
 
@@ -136,14 +144,14 @@ fn violations(rt: HostRuntime) -> Result<(), Fail> {
 #[test]
 fn wrap_and_unwrap(rt: HostRuntime) -> Result<(), Fail> {
     let mut parts = Parts::new(&rt, rt.alloc())?;
-    parts.put(0x200, &[0xC4; 16]);
-    parts.put(0x210, &[3, 0, 1, 0, 1, 0]);
-    parts.put(0x220, &[7, 0]);
+    parts.put(0, 0x200, &[0xC4; 16]);
+    parts.put(0, 0x210, &[3, 0, 1, 0, 1, 0]);
+    parts.put(0, 0x220, &[7, 0]);
     let wrapped = parts.run(1, 4, [0x200, 0x210, 6, 0x220, 2, 0x230, 0x240]);
     assert!(rt; wrapped == Ok(SancusEvent::Wrapped));
     assert!(rt; parts.holds(0x230, &[0x99, 0x9E, 0]));
     assert!(rt; parts.holds(0x240, &[0xD6; 16]));
-    assert_eq!(rt; [parts.regs[0], parts.regs[15]], [0x602, 1]);
+    assert_eq!(rt; parts.answer(), [0x602, 1]);
     let made = parts.exchange;
     assert_eq!(rt;
         [made.ad_len, made.ad[0], made.body_len, made.body[0]],
@@ -153,13 +161,13 @@ fn wrap_and_unwrap(rt: HostRuntime) -> Result<(), Fail> {
     let unwrap = [0x200, 0x210, 6, 0x230, 2, 0x250, 0x240];
     assert!(rt; parts.run(1, 5, unwrap) == Ok(SancusEvent::Unwrapped));
     assert!(rt; parts.holds(0x250, &[7, 0]));
-    assert_eq!(rt; parts.regs[15], 1);
-    parts.put(0x24F, &[0xD7]);
-    parts.put(0x250, &[5]);
+    assert_eq!(rt; parts.executor.register(15), 1);
+    parts.put(0, 0x24F, &[0xD7]);
+    parts.put(0, 0x250, &[5]);
     parts.exchange = NO_EXCHANGE;
     assert!(rt; parts.run(1, 5, unwrap) == Ok(SancusEvent::Quiet));
     assert!(rt; parts.holds(0x250, &[5, 0]));
-    assert_eq!(rt; [parts.regs[0], parts.regs[15]], [0x602, 0]);
+    assert_eq!(rt; parts.answer(), [0x602, 0]);
     assert_eq!(rt; parts.exchange, NO_EXCHANGE);
     Ok(())
 }
@@ -168,7 +176,7 @@ fn wrap_and_unwrap(rt: HostRuntime) -> Result<(), Fail> {
 fn attest_and_ids(rt: HostRuntime) -> Result<(), Fail> {
     let mut parts = Parts::new(&rt, rt.alloc())?;
     // the key's sum is 0x10, the label 0x41, and the sum of the layout of OTHER 0x6A
-    parts.put(0x200, &[0xBB; 16]);
+    parts.put(0, 0x200, &[0xBB; 16]);
     for (own, code, at, answer) in [
         (1, 2, 0x807, 2),
         (1, 2, 0x607, 0),
@@ -182,7 +190,7 @@ fn attest_and_ids(rt: HostRuntime) -> Result<(), Fail> {
         assert!(rt; is_code(code));
         let ended = parts.run(own, code, [at, 0x200, 0, 0, 0, 0, 0]);
         assert!(rt; ended == Ok(SancusEvent::Quiet));
-        assert_eq!(rt; [parts.regs[0], parts.regs[15]], [0x602, answer]);
+        assert_eq!(rt; parts.answer(), [0x602, answer]);
     }
     Ok(())
 }
@@ -190,25 +198,31 @@ fn attest_and_ids(rt: HostRuntime) -> Result<(), Fail> {
 #[test]
 fn protect_and_unprotect(rt: HostRuntime) -> Result<(), Fail> {
     let mut parts = Parts::new(&rt, rt.alloc())?;
-    parts.put(0x73F, &[5, 6]);
+    parts.put(1, 0x73F, &[5, 6]);
     assert!(rt; parts.run(0, 0, [0; 7]) == Ok(SancusEvent::Quiet));
-    assert_eq!(rt; parts.regs[15], 0);
+    assert_eq!(rt; parts.executor.register(15), 0);
     assert!(rt; parts.run(1, 0, [0; 7]) == Ok(SancusEvent::Removed(1)));
-    assert_eq!(rt; parts.regs[15], 1);
+    assert_eq!(rt; parts.executor.register(15), 1);
     assert!(rt; parts.holds(0x73F, &[0, 6]));
-    assert!(rt; parts.table.section(1).is_none());
+    assert!(rt; parts.executor.section(1).is_none());
     let protect = [7, 0x600, 0x608, 0x700, 0x742, 0, 0];
     assert!(rt; parts.run(0, 1, protect) == Ok(SancusEvent::Protected(3)));
-    assert_eq!(rt; [parts.regs[14], parts.regs[15]], [0, 3]);
+    assert_eq!(rt;
+        [parts.executor.register(14), parts.executor.register(15)],
+        [0, 3]
+    );
     assert!(rt; parts.holds(0x740, &[0]));
     // the provider's key is sixteen times 0x4B + 7; its sum 0x20, 0x4B and the layout's sum 0x64
     assert!(rt;
         parts
-            .table
+            .executor
             .section(3)
             .is_some_and(|section| section.key == [0xCF; 16])
     );
     assert!(rt; parts.run(0, 1, protect) == Ok(SancusEvent::Quiet));
-    assert_eq!(rt; [parts.regs[14], parts.regs[15]], [2, 0]);
+    assert_eq!(rt;
+        [parts.executor.register(14), parts.executor.register(15)],
+        [2, 0]
+    );
     Ok(())
 }

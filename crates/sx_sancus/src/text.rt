@@ -1,13 +1,14 @@
 //! Short texts.
 
-ghost use Rattle.std.specs.Prelude.{◌≡◌, ◌≤◌, length, take};
+ghost use Rattle.std.specs.Prelude.{◌≡◌, ◌≤◌, true, length, take};
+ghost use Rattle.sx_rules.specs.declared.access.Access.TheVariants.{Read};
 ghost use Rattle.sx_machine.specs.Memory.{bytes_from};
+ghost use Rattle.sx_executor.specs.Machine.{reaches, IsClear};
 ghost use Rattle.sx_tag.specs.Wrap.{padded};
 
-use crate::buffer::Buffer;
-use crate::memory::take_bytes;
 use std::marker::Model;
 use sx_bus::Bus;
+use sx_executor::{Buffer, Executor};
 
 /// At most 32 bytes: a header, a body or a cipher.
 #[derive(Drop)]
@@ -42,15 +43,17 @@ impl Text {
         }
     }
 
-    /// The bytes of a buffer.
-    pub fn read<B: Bus>(bus: &B, buffer: Buffer) -> Text
-        requires { buffer.count ≤ 32 }
-        ensures bytes { result ≡ bytes_from (B.bytes bus.now) buffer.at buffer.count }
+    /// The bytes of a buffer, which may be read and meets no device.
+    pub fn read<B: Bus>(executor: &Executor<B>, buffer: Buffer) -> Text
+        requires count { buffer.count ≤ 32 }
+        requires right { reaches executor.now Read buffer.at buffer.count ≡ true }
+        requires memory { IsClear executor.now.devices buffer.at buffer.count }
+        ensures bytes { result ≡ bytes_from executor.now.mem buffer.at buffer.count }
         ensures count { length result ≡ buffer.count }
     {
         let mut bytes = [0; 32];
         let count = usize::from(buffer.count);
-        take_bytes(bus, buffer.at, &mut bytes[..count]);
+        executor.read_bytes(buffer.at, &mut bytes[..count]);
         Text::front(&bytes, count)
     }
 

@@ -10,11 +10,13 @@ use std::test::Fail;
 use sx_bus::{Bus, FlatBus, Kind, Windows};
 use sx_check::checked::Checked;
 use sx_compile::{Body, body};
-use sx_core::{Core, Touch, word};
+use sx_core::step_plain;
+use sx_executor::Executor;
+use sx_executor::registers::{PC, SP};
 use sx_lang::sides::Side;
-use sx_machine::Exchange;
+use sx_machine::{Exchange, Touch};
 use sx_mean::events::End;
-use sx_rules::{Layout, Table, Violation};
+use sx_rules::{Layout, Violation};
 use sx_sancus::step_sancus;
 use sx_tag::Weak;
 
@@ -43,9 +45,7 @@ fn body_of(alloc: Global, m: &Checked, ends: &[End], layout: &Layout) -> Result<
 /// A node, its running module, and what the steps showed at the actuator.
 #[derive(Drop)]
 struct Node {
-    core: Core<FlatBus>,
-    table: Table,
-    windows: Windows,
+    executor: Executor<FlatBus>,
     exchange: Exchange,
     own: u16,
     written: [u16; 4],
@@ -64,43 +64,46 @@ impl Node {
         requires { ArePlaces (map (λ d. d.0) devices.now) }
     {
         let windows = Windows::new(alloc, devices)?;
-        let mut table = Table::new();
-        let own = match table.admit(*layout, 7, [1; 16], windows.places()) {
-            Ok(own) => own,
+        let mut bus = FlatBus::new(alloc)?;
+        let mut at = layout.pub_from;
+        for byte in &body.text {
+            bus.put(at, *byte);
+            at = at.wrapping_add(1);
+        }
+        let mut executor = Executor::new(bus, windows);
+        let own = match executor.test(*layout) {
+            Ok(()) => executor.admit(*layout, 7, [1; 16]),
             Err(_) => Err(NotMade)?,
         };
         let mut node = Node {
-            core: Core {
-                regs: [0; 16],
-                bus: FlatBus::new(alloc)?,
-            },
-            table,
-            windows,
+            executor,
             exchange: NO_EXCHANGE,
             own,
             written: [0; 4],
             writes: 0,
         };
         let from = body.from.first().copied().unwrap_or(0);
-        node.put(layout.pub_from, &body.text);
-        node.core.regs[0] = layout.pub_from.wrapping_add(from);
-        node.core.regs[1] = layout.priv_from.wrapping_add(512);
+        node.executor.set_pc(layout.pub_from.wrapping_add(from));
+        node.executor
+            .set_word(SP, layout.priv_from.wrapping_add(512));
         let [low, high] = value.to_le_bytes();
         node.put(layout.priv_from.wrapping_add(2), &[low, high, 0, 0]);
         node.put(layout.priv_from.wrapping_add(10), &[0x00, 0x04]);
         Ok(node)
     }
 
+    /// Writes bytes as code of the module.
     fn put(&mut self, mut at: u16, bytes: &[u8]) {
+        self.executor.begin(self.own);
         for byte in bytes {
-            self.core.bus.put(at, *byte);
+            let _ = self.executor.store(false, at, u16::from(*byte));
             at = at.wrapping_add(1);
         }
     }
 
     fn holds(&self, mut at: u16, bytes: &[u8]) -> bool {
         for byte in bytes {
-            if self.core.bus.get(at) != *byte {
+            if self.executor.byte(at) != *byte {
                 return false;
             }
             at = at.wrapping_add(1);
@@ -117,27 +120,29 @@ impl Node {
         }
     }
 
+    /// The word at PC.
+    fn first_word(&self) -> u16 {
+        let pc = self.executor.register(PC);
+        u16::from_le_bytes([self.executor.byte(pc), self.executor.byte(pc | 1)])
+    }
+
     fn step(&mut self) -> Result<(), Violation> {
-        let first = word(&self.core.bus, self.core.regs[0]);
+        self.executor.begin(self.own);
+        let first = self.first_word();
         match module_code(first) {
             Some(code) => {
                 step_sancus(
+                    &mut self.executor,
                     code,
-                    &mut self.core.regs,
-                    self.own,
                     0,
-                    &mut self.table,
-                    &self.windows,
-                    &mut self.core.bus,
                     &Weak,
                     &[0; 16],
                     &mut self.exchange,
                 )?;
             }
             None => {
-                let [first, second] = self
-                    .core
-                    .step_plain(&self.table, self.own, &mut self.windows)?;
+                step_plain(&mut self.executor, first)?;
+                let [first, second] = self.executor.touches();
                 self.see(first);
                 self.see(second);
             }
@@ -150,12 +155,12 @@ impl Node {
         let to = body.to.first().copied().unwrap_or(0);
         let end = layout.pub_from.wrapping_add(to);
         for _step in 0..most {
-            if self.core.regs[0] == end {
+            if self.executor.register(PC) == end {
                 return Ok(true);
             }
             self.step()?;
         }
-        Ok(self.core.regs[0] == end)
+        Ok(self.executor.register(PC) == end)
     }
 }
 
@@ -193,7 +198,7 @@ fn logic_sends_one(rt: HostRuntime) -> Result<(), Fail> {
     assert!(rt; node.holds(OUT + 8, &[0xD7; 16]));
     assert!(rt; node.holds(OUT + 24, &[0; 8]));
     assert!(rt; node.holds(LARGE.priv_from + 536, &[1, 0, 1, 0, 1, 0]));
-    assert_eq!(rt; node.core.regs[1], LARGE.priv_from + 512);
+    assert_eq!(rt; node.executor.register(SP), LARGE.priv_from + 512);
     assert_eq!(rt; node.writes, 0);
     Ok(())
 }

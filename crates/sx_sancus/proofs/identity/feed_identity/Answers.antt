@@ -8,9 +8,9 @@ use Rattle.sx_sancus.proofs.identity.feed_identity.Goals as goal
 pub returns : goal.returns
 unfolding identity
 returns g c = λ answer fed h.
-    let mem = g.B.Bus.bytes c.args.bus.now in
+    let mem = c.args.executor.now.mem in
     let public = bytes_from mem c.between-public.result.at c.between-public.result.count in
-    let taken = c.feed_answer.ensures answer (fed ++ public) (c.feed_buffer.ensures answer fed h) in
+    let taken = c.feed_answer.ensures answer (fed ++ public) (c.feed_public.ensures answer fed h) in
     let together = append_assoc fed public c.layout_bytes-bounds.result in
     let at = c.between-public.ensures.at in
     let count = c.between-public.ensures.count in

@@ -1,9 +1,10 @@
-use Rattle.std.proofs.Common.{rules, ◌≡◌, List, ℕ, slice_index, ◌∙◌}
+use Rattle.std.proofs.Common.{rules, ◌≡◌, List, ℕ, slice_index, subst, ◌∙◌}
+use Rattle.sx_bus.specs.declared.devices.Window.{Window}
 use Rattle.sx_machine.specs.Plan.{Plan, Bytes}
 use Rattle.sx_machine.specs.ModuleRows.{with_key}
-use Rattle.sx_machine.specs.Run.{exec, untouched}
-use Rattle.sx_machine.specs.Answers.{moment}
-use Rattle.sx_sancus.specs.Told.{given_by}
+use Rattle.sx_machine.specs.Run.{Outcome}
+use Rattle.sx_sancus.specs.Told.{ran_of}
+use Rattle.sx_sancus.specs.Parts.{tested_buffers}
 use Rattle.sx_sancus.proofs.inputs.read_inputs.Goals as goal
 
 -- what follows the key
@@ -11,28 +12,28 @@ abbrev texts : List ℕ → (List ℕ → List ℕ → List ℕ → Plan) → Li
 texts regs rest key =
     Bytes (slice_index regs 10) (slice_index regs 11) (λ ad. Bytes (slice_index regs 12) (slice_index regs 13) (λ text. rest key ad text))
 
+-- tests of buffers that are passed are those of the machine's own registers and devices
+passed : (regs regs' : List ℕ) (devices devices' : List Window) (rest : Outcome) → regs ≡ regs' → devices ≡ devices'
+    → tested_buffers regs devices rest ≡ rest → tested_buffers regs' devices' rest ≡ rest
+passed regs regs' devices devices' rest e f h =
+    subst (λ (rs : List ℕ). tested_buffers rs devices' rest ≡ rest) e
+    (subst (λ (ws : List Window). tested_buffers regs ws rest ≡ rest) f h)
+
 pub returns-in_err-key-clause-then : goal.returns-in_err-key-clause-then
 returns-in_err-key-clause-then g c = λ caller base exchange rest.
-    let t = c.args.rights.now.table.now in
-    let own = c.args.rights.now.own in
-    let regs = c.args.regs.now in
-    let devices = c.args.windows.now in
-    let before = moment (g.B.Bus.bytes c.args.bus.now) devices untouched in
-    let keyed = with_key (given_by regs devices t own caller base exchange) c.args.own.now (texts regs rest) in
-    c.in_ok-buffers.ensures.then (exec t own keyed before)
-    ∙ c.in_err-key.ensures devices caller base exchange (texts regs rest)
+    let m = c.args.executor.now in
+    let keyed = ran_of (λ given. with_key given c.args.own.now (texts m.regs rest)) m caller base exchange in
+    passed c.regs.result.now m.regs c.windows.result.now m.devices keyed c.regs.ensures c.windows.ensures (c.in_ok-buffers.ensures.then keyed)
+    ∙ c.in_err-key.ensures caller base exchange (texts m.regs rest)
     ∙ search rules
 
 pub returns-clause-then : goal.returns-clause-then
 returns-clause-then g c = λ caller base exchange rest.
-    let t = c.args.rights.now.table.now in
-    let own = c.args.rights.now.own in
-    let regs = c.args.regs.now in
-    let devices = c.args.windows.now in
-    let before = moment (g.B.Bus.bytes c.args.bus.now) devices untouched in
-    let keyed = with_key (given_by regs devices t own caller base exchange) c.args.own.now (texts regs rest) in
+    let m = c.args.executor.now in
+    let keyed = ran_of (λ given. with_key given c.args.own.now (texts m.regs rest)) m caller base exchange in
     let key = c.in_ok-key.key in
-    let read : exec t own (texts regs rest key) before ≡ exec t own (rest key c.in_ok-header.header c.in_ok-text.text) before = search rules in
-    c.in_ok-buffers.ensures.then (exec t own keyed before)
-    ∙ c.in_ok-key.ensures devices caller base exchange (texts regs rest)
+    let read : ran_of (λ given. texts m.regs rest key) m caller base exchange
+    ≡ ran_of (λ given. rest key c.in_ok-header.header c.in_ok-text.text) m caller base exchange = search rules in
+    passed c.regs.result.now m.regs c.windows.result.now m.devices keyed c.regs.ensures c.windows.ensures (c.in_ok-buffers.ensures.then keyed)
+    ∙ c.in_ok-key.ensures caller base exchange (texts m.regs rest)
     ∙ read

@@ -1,0 +1,148 @@
+-- What a test of PC, of an extension word, of a range or of a layout says of the access table.
+use Rattle.std.proofs.Common.{◌≡◌, ℕ, ◌+◌, ◌-◌, ◌<◌, ◌≤◌, Bool, true, false, not, ◌&&◌, ◌||◌, ◌==◌, leb, ltb, List, [], ◌∷◌, Option, None, refl, sym, ◌∙◌, inl, inr, arith}
+use Rattle.std.proofs.lemmas.Bool.{and_parts, or_cases, not-true, leb-true, ltb-true, lt-ltb, true≢false, false_from_ne_true}
+use Rattle.std.specs.List.{list_all, list_any}
+use Rattle.sx_rules.specs.declared.access.Access.TheVariants.{Read, Write}
+use Rattle.sx_rules.specs.declared.section.Section.{Section}
+use Rattle.sx_rules.specs.declared.section.Layout.{Layout}
+use Rattle.sx_rules.specs.Access.{Sections, may, allows, extends, outside_private, in_private, in_public}
+use Rattle.sx_rules.specs.Admission.{refusal, apart, clear_of, no_overlap, parts_apart}
+use Rattle.sx_rules.proofs.Admits.{admits}
+use Rattle.sx_machine.specs.Memory.{even}
+use Rattle.sx_machine.specs.Ranges.{meets, meets_private, meets_public}
+use Rattle.sx_machine.specs.Run.{may_at, may_range}
+use Rattle.sx_machine.specs.Step.{word_outside}
+use Rattle.sx_executor.proofs.Reach.{both_true, all_open}
+
+pub or_left : (a b : Bool) → (a || b) ≡ false → a ≡ false
+or_left true b h = absurd (true≢false h)
+or_left false b h = refl
+
+pub or_right : (a b : Bool) → (a || b) ≡ false → b ≡ false
+or_right true b h = absurd (true≢false h)
+or_right false b h = h
+
+unless_true : (a b : Bool) → a ≡ false → (not a || b) ≡ true
+unless_true true b h = absurd (true≢false h)
+unless_true false b h = refl
+
+false_not : (a : Bool) → a ≡ false → not a ≡ true
+false_not true h = absurd (true≢false h)
+false_not false h = refl
+
+-- what all pass that implies another test
+all_weaker : (t u : Section → Bool) → ((s : Section) → t s ≡ true → u s ≡ true) → (xs : List Section) → list_all t xs ≡ true → list_all u xs ≡ true
+all_weaker t u f [] h = refl
+all_weaker t u f (x ∷ xs) h =
+    let parts = and_parts (t x) (list_all t xs) h in
+    both_true (u x) (list_all u xs) (f x parts.0) (all_weaker t u f xs parts.1)
+
+-- what none meets that implies another test
+none_weaker : (t u : Section → Bool) → ((s : Section) → t s ≡ false → u s ≡ true) → (xs : List Section) → list_any t xs ≡ false → list_all u xs ≡ true
+none_weaker t u f [] h = refl
+none_weaker t u f (x ∷ xs) h =
+    both_true (u x) (list_all u xs) (f x (or_left (t x) (list_any t xs) h)) (none_weaker t u f xs (or_right (t x) (list_any t xs) h))
+
+-- a byte outside every private section may be read
+outside_readable : (live : List Section) (own at : ℕ) → outside_private live at ≡ true → may live own Read at ≡ true
+unfolding may
+outside_readable live own at h =
+    all_weaker (λ s. not (in_private s at)) (allows own Read at)
+    (λ s e. unless_true (in_private s at) (own == s.id) (not-true (in_private s at) e)) live h
+
+extends_outside : (live : List Section) (own at : ℕ) → extends live own at ≡ true → outside_private live at ≡ true
+extends_outside live own at h =
+    all_weaker (λ s. not (in_private s at) && (not (in_public s at) || own == s.id)) (λ s. not (in_private s at))
+    (λ s e. (and_parts (not (in_private s at)) (not (in_public s at) || own == s.id) e).0) live h
+
+-- a word outside every private section may be read
+pub outside_word : (live : List Section) (own at : ℕ) → word_outside live at ≡ true → may_at true live own Read at ≡ true
+outside_word live own at h =
+    let parts = and_parts (outside_private live (even at)) (outside_private live (even at + 1)) h in
+    both_true (may live own Read (even at)) (may live own Read (even at + 1))
+    (outside_readable live own (even at) parts.0) (outside_readable live own (even at + 1) parts.1)
+
+-- a word where an extension word may stand
+pub extends_readable : (live : List Section) (own at : ℕ) → (extends live own (even at) && extends live own (even at + 1)) ≡ true
+    → may_at true live own Read at ≡ true
+extends_readable live own at h =
+    let parts = and_parts (extends live own (even at)) (extends live own (even at + 1)) h in
+    outside_word live own at
+    (both_true (outside_private live (even at)) (outside_private live (even at + 1))
+    (extends_outside live own (even at) parts.0) (extends_outside live own (even at + 1) parts.1))
+
+-- a byte of a range that doesn't meet another one
+pub byte_apart : (at n from to i : ℕ) → meets at n from to ≡ false → i < n → (leb from (at + i) && ltb (at + i) to) ≡ false
+byte_apart at n from to i h below =
+    false_from_ne_true (leb from (at + i) && ltb (at + i) to) (λ e.
+    let parts = and_parts (leb from (at + i)) (ltb (at + i) to) e in
+    let low = leb-true from (at + i) parts.0 in
+    let high = ltb-true (at + i) to parts.1 in
+    let some : 0 < n = omega arith in
+    let before : at < to = omega arith in
+    let behind : from < at + n = omega arith in
+    true≢false (sym (both_true (ltb 0 n) (ltb at to && ltb from (at + n)) (lt-ltb 0 n some)
+    (both_true (ltb at to) (ltb from (at + n)) (lt-ltb at to before) (lt-ltb from (at + n) behind))) ∙ h))
+
+-- a range that meets no private section may be read
+pub apart_readable : (live : List Section) (own at n : ℕ) → meets_private live at n ≡ false → may_range live own Read at n ≡ true
+unfolding may
+apart_readable live own at n h =
+    all_open live own Read at n (λ i below.
+    none_weaker (λ s. meets at n s.layout.priv_from s.layout.priv_to) (allows own Read (at + i))
+    (λ s e. unless_true (in_private s (at + i)) (own == s.id) (byte_apart at n s.layout.priv_from s.layout.priv_to i e below)) live h)
+
+byte_writable : (live : List Section) (own at n i : ℕ) → i < n → meets_public live at n ≡ false → meets_private live at n ≡ false
+    → list_all (allows own Write (at + i)) live ≡ true
+byte_writable [] own at n i below public private = refl
+byte_writable (s ∷ rest) own at n i below public private =
+    let in_none = or_left (meets at n s.layout.pub_from s.layout.pub_to) (meets_public rest at n) public in
+    let in_no_private = or_left (meets at n s.layout.priv_from s.layout.priv_to) (meets_private rest at n) private in
+    both_true (allows own Write (at + i) s) (list_all (allows own Write (at + i)) rest)
+    (both_true (not (in_public s (at + i))) (not (in_private s (at + i)) || own == s.id)
+    (false_not (in_public s (at + i)) (byte_apart at n s.layout.pub_from s.layout.pub_to i in_none below))
+    (unless_true (in_private s (at + i)) (own == s.id) (byte_apart at n s.layout.priv_from s.layout.priv_to i in_no_private below)))
+    (byte_writable rest own at n i below (or_right (meets at n s.layout.pub_from s.layout.pub_to) (meets_public rest at n) public)
+    (or_right (meets at n s.layout.priv_from s.layout.priv_to) (meets_private rest at n) private))
+
+-- one that meets no section may be written
+pub apart_writable : (live : List Section) (own at n : ℕ) → meets_public live at n ≡ false → meets_private live at n ≡ false
+    → may_range live own Write at n ≡ true
+unfolding may
+apart_writable live own at n public private =
+    all_open live own Write at n (λ i below. byte_writable live own at n i below public private)
+
+-- a byte of a part that stands apart from another
+part_apart : (from to other end i : ℕ) → apart from to other end ≡ true → i < to - from → (leb other (from + i) && ltb (from + i) end) ≡ false
+part_apart from to other end i h below =
+    false_from_ne_true (leb other (from + i) && ltb (from + i) end) (λ e.
+    let parts = and_parts (leb other (from + i)) (ltb (from + i) end) e in
+    let low = leb-true other (from + i) parts.0 in
+    let high = ltb-true (from + i) end parts.1 in
+    elim (or_cases (leb to other) (leb end from) h) [
+      | inl before ↦ let b = leb-true to other before in absurd (omega arith)
+      | inr behind ↦ let b = leb-true end from behind in absurd (omega arith)
+    ])
+
+second : (a b c d : Bool) → (a && (b && (c && d))) ≡ true → b ≡ true
+second true true c d h = refl
+second true false c d h = absurd (true≢false (sym h))
+second false b c d h = absurd (true≢false (sym h))
+
+-- a layout that is clear of a section: its public part and the section's private part stand apart
+private_apart : (l : Layout) (s : Section) → clear_of l s ≡ true → apart l.pub_from l.pub_to s.layout.priv_from s.layout.priv_to ≡ true
+private_apart l s h =
+    second (apart l.pub_from l.pub_to s.layout.pub_from s.layout.pub_to) (apart l.pub_from l.pub_to s.layout.priv_from s.layout.priv_to)
+    (apart l.priv_from l.priv_to s.layout.pub_from s.layout.pub_to) (apart l.priv_from l.priv_to s.layout.priv_from s.layout.priv_to) h
+
+-- the public section of a layout that no rule refuses may be read, whatever code runs
+pub admitted_readable : (t : Sections) (own : ℕ) (l : Layout) (places : List ℕ) → refusal t l places ≡ None
+    → may_range t.live own Read l.pub_from (l.pub_to - l.pub_from) ≡ true
+unfolding may
+admitted_readable t own l places h =
+    let clear = (and_parts (parts_apart l) (list_all (clear_of l) t.live) (admits t l places h).overlap).1 in
+    all_open t.live own Read l.pub_from (l.pub_to - l.pub_from) (λ i below.
+    all_weaker (clear_of l) (allows own Read (l.pub_from + i))
+    (λ s e.
+    unless_true (in_private s (l.pub_from + i)) (own == s.id)
+    (part_apart l.pub_from l.pub_to s.layout.priv_from s.layout.priv_to i (private_apart l s e) below)) t.live clear)

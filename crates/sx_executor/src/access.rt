@@ -1,0 +1,171 @@
+//! Reads and writes of an instruction: the access table first, and then the device at the place.
+
+ghost use Rattle.std.specs.Prelude.{◌≡◌, ◌<◌, true, None, length, IsTrue, IfOk, IfSome};
+ghost use Rattle.sx_alu.specs.Table.{limit};
+ghost use Rattle.sx_rules.specs.declared.access.Access.TheVariants.{Read, Write};
+ghost use Rattle.sx_machine.specs.Memory.{read_at, write_at};
+ghost use Rattle.sx_machine.specs.Run.{may_at, noted, device_of, fetch, sampled};
+ghost use Rattle.sx_executor.specs.Machine.{moment_of, extends_word, Keeps, Loads, Stores};
+
+use crate::executor::Executor;
+use sx_bus::{Bus, Kind, Window};
+use sx_machine::Touch;
+use sx_rules::{Access, Violation};
+
+/// Puts a touch into the first place that is quiet.
+fn note(touches: &mut [Touch; 2], touch: Touch)
+    ensures { touches.new ≡ noted touches.old touch }
+{
+    match *touches {
+        [Touch::Quiet, _] => touches[0] = touch,
+        [_, Touch::Quiet] => touches[1] = touch,
+        [_, _] => {}
+    }
+}
+
+impl<B: Bus> Executor<B> {
+    /// The word at an address, whose bit 0 doesn't count, or in byte form the byte. It may be read,
+    /// and is no device's.
+    pub fn read(&self, wide: bool, at: u16) -> u16
+        requires right { may_at wide self.now.sections.live self.now.own Read at ≡ true }
+        requires memory { device_of self.now.devices at ≡ None }
+        ensures value { result ≡ read_at wide self.now.mem at }
+        ensures below { result < limit wide }
+    {
+        if wide {
+            let even = at - at % 2;
+            let low = self.bus.get(even);
+            let high = self.bus.get(even + 1);
+            u16::from(low) + 256 * u16::from(high)
+        } else {
+            u16::from(self.bus.get(at))
+        }
+    }
+
+    /// Writes the word at an address, or in byte form the byte. It may be written, and is no
+    /// device's.
+    pub fn write(&mut self, wide: bool, at: u16, value: u16)
+        requires right { may_at wide self.old.sections.live self.old.own Write at ≡ true }
+        requires memory { device_of self.old.devices at ≡ None }
+        ensures { self.new ≡ record self.old { mem = write_at wide self.old.mem at value } }
+    {
+        if wide {
+            let even = at - at % 2;
+            self.bus.put(even, (value % 256) as u8);
+            self.bus.put(even + 1, (value / 256) as u8);
+        } else {
+            self.bus.put(at, (value % 256) as u8);
+        }
+    }
+
+    /// Whether the running code may access the word, or in byte form the byte.
+    pub(crate) fn may(&self, wide: bool, access: Access, at: u16) -> bool
+        ensures { result ≡ may_at wide self.now.sections.live self.now.own access at }
+    {
+        if wide {
+            let even = at - at % 2;
+            self.table.may(self.own, access, even) && self.table.may(self.own, access, even + 1)
+        } else {
+            self.table.may(self.own, access, at)
+        }
+    }
+
+    /// The device whose word holds the byte, with its index.
+    fn device_of(&self, at: u16) -> Option<(u8, Window)>
+        ensures device { result ≡ device_of self.now.devices at }
+        ensures within { IfSome result (λ d. d.0 < length self.now.devices) }
+        ensures value { IfSome result (λ d. d.1.value < 32768) }
+    {
+        let device = self.windows.at(at)?;
+        Some((device, self.windows.get(device)))
+    }
+
+    /// Keeps a touch.
+    fn touch(&mut self, touch: Touch)
+        ensures { self.new ≡ record self.old { touches = noted self.old.touches touch } }
+    {
+        note(&mut self.touches, touch);
+    }
+
+    /// A sensor's answer to a read of its word.
+    #[tactic(auto, using(sx_bus::proofs::Changed::all_stale_cleared))]
+    fn sample(&mut self, device: u8, window: &Window) -> u16
+        requires device { device < length self.old.devices }
+        requires value { window.now.value < 32768 }
+        ensures run { (result, moment_of self.new)
+            ≡ sampled device window.now (moment_of self.old) }
+        ensures regs { self.new.regs ≡ self.old.regs }
+        ensures kept { Keeps self.old self.new }
+    {
+        if !window.fresh {
+            return 0;
+        }
+        self.windows.clear(device);
+        let value = window.value;
+        note(&mut self.touches, Touch::DeviceRead { device, value });
+        0x8000 + value
+    }
+
+    /// Reads a word, or in byte form a byte.
+    pub fn load(&mut self, wide: bool, at: u16) -> Result<u16, Violation>
+        ensures run { Loads wide at self.old result self.new }
+        ensures below { IfOk result (λ v. v < limit wide) }
+    {
+        if !self.may(wide, Access::Read, at) {
+            return Err(Violation::Read);
+        }
+        match self.device_of(at) {
+            None => Ok(self.read(wide, at)),
+            Some((device, window)) => match window.kind {
+                Kind::Sensor if wide => Ok(self.sample(device, &window)),
+                Kind::Sensor | Kind::Actuator => Err(Violation::Device),
+            },
+        }
+    }
+
+    /// Writes a word, or in byte form a byte.
+    pub fn store(&mut self, wide: bool, at: u16, value: u16) -> Result<(), Violation>
+        ensures { Stores wide at value self.old result self.new }
+    {
+        if !self.may(wide, Access::Write, at) {
+            return Err(Violation::Write);
+        }
+        match self.device_of(at) {
+            None => {
+                self.write(wide, at, value);
+                Ok(())
+            }
+            Some((device, window)) => match window.kind {
+                Kind::Actuator if wide => {
+                    self.touch(Touch::DeviceWrite { device, value });
+                    Ok(())
+                }
+                Kind::Sensor | Kind::Actuator => Err(Violation::Device),
+            },
+        }
+    }
+
+    /// Whether an extension word of the running code may stand at the place.
+    #[tactic(auto, using(crate::proofs::Rights::extends_readable))]
+    fn may_extend(&self, at: u16) -> bool
+        ensures word { result ≡ extends_word self.now at }
+        ensures readable { IsTrue result
+            → may_at true self.now.sections.live self.now.own Read at ≡ true }
+    {
+        let even = at - at % 2;
+        self.table.extends(self.own, even) && self.table.extends(self.own, even + 1)
+    }
+
+    /// Fetches an extension word.
+    pub fn fetch(&self, at: u16) -> Result<u16, Violation>
+        ensures { fetch self.now.sections.live self.now.own at (moment_of self.now) ≡ result }
+    {
+        if !self.may_extend(at) {
+            return Err(Violation::Fetch);
+        }
+        match self.device_of(at) {
+            None => Ok(self.read(true, at)),
+            Some(_) => Err(Violation::Device),
+        }
+    }
+}

@@ -1,0 +1,89 @@
+//! Reads and writes of whole buffers: the access table is asked for each byte before the first is
+//! touched.
+
+ghost use Rattle.std.specs.Prelude.{◌≡◌, ◌+◌, ◌<◌, ◌≤◌, true, false, length, IfErr, OnOk};
+ghost use Rattle.std.specs.Prelude.{slice_index};
+ghost use Rattle.sx_rules.specs.declared.access.Access.TheVariants.{Read, Write};
+ghost use Rattle.sx_rules.specs.declared.access.Violation.TheVariants as bad;
+ghost use Rattle.sx_machine.specs.Memory.{bytes_from};
+ghost use Rattle.sx_executor.specs.Machine.{reaches, written, IsClear};
+
+use crate::buffer::Buffer;
+use crate::executor::Executor;
+use sx_bus::Bus;
+use sx_rules::{Access, Violation};
+
+impl<B: Bus> Executor<B> {
+    /// Whether the running code may reach each byte of the buffer.
+    #[tactic(auto, using(crate::proofs::Reach::one_closed))]
+    fn may_range(&self, access: Access, buffer: Buffer) -> bool
+        ensures { result ≡ reaches self.now access buffer.at buffer.count }
+    {
+        for i in 0..buffer.count {
+            if !self.may(false, access, buffer.at + i) {
+                return false;
+            }
+        }
+        true
+    }
+
+    /// The violation `Read` where the running code may not read each byte of the buffer.
+    pub fn readable(&self, buffer: Buffer) -> Result<(), Violation>
+        ensures closed { IfErr result (λ why. (why ≡ bad.Read)
+            × (reaches self.now Read buffer.at buffer.count ≡ false)) }
+        ensures open { OnOk result (reaches self.now Read buffer.at buffer.count ≡ true) }
+    {
+        if !self.may_range(Access::Read, buffer) {
+            return Err(Violation::Read);
+        }
+        Ok(())
+    }
+
+    /// The violation `Write` where the running code may not write each byte of the buffer.
+    pub fn writable(&self, buffer: Buffer) -> Result<(), Violation>
+        ensures closed { IfErr result (λ why. (why ≡ bad.Write)
+            × (reaches self.now Write buffer.at buffer.count ≡ false)) }
+        ensures open { OnOk result (reaches self.now Write buffer.at buffer.count ≡ true) }
+    {
+        if !self.may_range(Access::Write, buffer) {
+            return Err(Violation::Write);
+        }
+        Ok(())
+    }
+
+    /// Copies the bytes from an address on. They may be read, and no device meets them.
+    #[tactic(auto, unfolding(sx_machine::specs::Memory::bytes_from), using(crate::proofs::Reach::each_open, crate::proofs::Clear::each_clear, std::proofs::lemmas::List::take_more_set))]
+    pub fn read_bytes(&self, at: u16, into: &mut [u8])
+        requires within { at + length into.old ≤ 65536 }
+        requires right { reaches self.now Read at (length into.old) ≡ true }
+        requires memory { IsClear self.now.devices at (length into.old) }
+        ensures { into.new ≡ bytes_from self.now.mem at (length into.old) }
+    {
+        for i in 0..into.len() {
+            into[i] = self.read(false, (at as usize + i) as u16) as u8;
+        }
+    }
+
+    /// Writes bytes from an address on. Their places may be written, and no device meets them.
+    #[tactic(auto, using(crate::proofs::Reach::each_open, crate::proofs::Clear::each_clear))]
+    pub fn write_bytes(&mut self, at: u16, bytes: &[u8])
+        requires within { at + length bytes.now ≤ 65536 }
+        requires right { reaches self.old Write at (length bytes.now) ≡ true }
+        requires memory { IsClear self.old.devices at (length bytes.now) }
+        ensures { self.new ≡ written self.old at bytes.now }
+    {
+        for (i, byte) in bytes.iter().enumerate() {
+            self.write(false, (at as usize + i) as u16, u16::from(*byte));
+        }
+    }
+
+    /// A byte of a public section, which may be read. No device stands there, since no module is
+    /// admitted over one.
+    pub fn public_byte(&self, section: Buffer, i: u16) -> u8
+        requires right { reaches self.now Read section.at section.count ≡ true }
+        requires within { i < section.count }
+        ensures { result ≡ slice_index self.now.mem (section.at + i) }
+    {
+        self.bus.get(section.at + i)
+    }
+}

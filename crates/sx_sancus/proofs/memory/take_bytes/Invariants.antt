@@ -1,6 +1,0 @@
-use Rattle.std.proofs.Common.{◌≡◌, take}
-use Rattle.sx_machine.specs.Memory.{bytes_from}
-use Rattle.sx_sancus.proofs.memory.take_bytes.Given as goal
-
-abbrev pub invariant-loop-i : goal.invariant-loop-i
-invariant-loop-i g l = take l.i l.into ≡ bytes_from (g.B.Bus.bytes l.bus) l.at l.i
