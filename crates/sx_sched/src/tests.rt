@@ -22,13 +22,12 @@ fn names_of(alloc: Global, texts: &[&str]) -> Result<Vec<Name>, Fail> {
 /// Nodes a and b, the sensor light, the actuator bulb, modules eye, logic and lamp, connections up
 /// and down.
 fn lighting(alloc: Global) -> Result<Names, Fail> {
-    Ok(Names {
-        nodes: names_of(alloc, &["a", "b"])?,
-        devices: names_of(alloc, &["light", "bulb"])?,
-        sensors: vec![in alloc; true, false]?,
-        modules: names_of(alloc, &["eye", "logic", "lamp"])?,
-        links: names_of(alloc, &["up", "down"])?,
-    })
+    let nodes = names_of(alloc, &["a", "b"])?;
+    let devices = names_of(alloc, &["light", "bulb"])?;
+    let sensors = vec![in alloc; true, false]?;
+    let modules = names_of(alloc, &["eye", "logic", "lamp"])?;
+    let links = names_of(alloc, &["up", "down"])?;
+    Ok(Names::new(alloc, nodes, devices, sensors, modules, links)?)
 }
 
 /// Whether the text breaks this rule.

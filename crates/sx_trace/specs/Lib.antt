@@ -1,3 +1,4 @@
 pub mod Finding
+pub mod Index
 pub mod Items
 pub mod Names

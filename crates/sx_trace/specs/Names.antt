@@ -12,6 +12,11 @@ pub record NameLists : Type 0 where
   pub modules : List (List ℕ)
   pub links : List (List ℕ)
 
+-- these names of nodes, devices, modules and connections, and whether each device is a sensor
+abbrev pub named : List (List ℕ) → List (List ℕ) → List Bool → List (List ℕ) → List (List ℕ) → NameLists
+named nodes devices sensors modules links =
+    record { nodes = nodes; devices = devices; sensors = sensors; modules = modules; links = links }
+
 -- the name stands in the list
 abbrev pub has_name : List (List ℕ) → List ℕ → Bool
 has_name names text = list_any (λ name. bytes_eq name text) names

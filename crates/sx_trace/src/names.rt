@@ -1,16 +1,19 @@
-ghost use Rattle.std.specs.Prelude.{◌≡◌, ◌≤◌, ◌<◌, length, IsTrue, IfSome};
+ghost use Rattle.std.specs.Prelude.{◌≡◌, ◌<◌, length, IsTrue, IfOk, IfSome};
 ghost use Rattle.std.specs.List.{list_all};
 ghost use Rattle.std.specs.Str.{bytes_eq};
 ghost use Rattle.sx_lang.specs.Form.{is_name};
-ghost use Rattle.sx_trace.specs.Names.{are_names, are_valid, deployer, has_name, if_sensor, no_repeat, place_of, sensor_place};
+ghost use Rattle.sx_trace.specs.Names.{are_names, are_valid, deployer, has_name, if_sensor, named, no_repeat, place_of, sensor_place};
 
+use crate::index::NameIndex;
+use std::alloc::{AllocError, Global};
 use std::marker::Model;
 use sx_lang::names::{Name, has_form};
 
 /// The name of the deployer, which no module has.
 pub const DEPLOYER: [u8; 8] = *b"deployer";
 
-/// The names of nodes, devices, modules and connections, each list in the deployment's order.
+/// The names of nodes, devices, modules and connections, each list in the deployment's order, with an index of
+/// each list.
 #[derive(Drop)]
 pub struct Names {
     pub nodes: Vec<Name>,
@@ -19,10 +22,14 @@ pub struct Names {
     pub sensors: Vec<bool>,
     pub modules: Vec<Name>,
     pub links: Vec<Name>,
+    node_index: NameIndex,
+    device_index: NameIndex,
+    module_index: NameIndex,
+    link_index: NameIndex,
 }
 
 impl Model for Names {
-    ghost use Rattle.sx_lang.specs.Form.{is_name};
+    ghost use Rattle.sx_trace.specs.Index.{IsIndex};
     ghost use Rattle.sx_trace.specs.Names.{NameLists};
 
     ghost Value = { NameLists };
@@ -34,6 +41,12 @@ impl Model for Names {
       modules = n.modules.items;
       links = n.links.items;
     } };
+
+    ghost invariant = { λ n.
+        IsIndex n.node_index n.nodes.items
+        × IsIndex n.device_index n.devices.items
+        × IsIndex n.module_index n.modules.items
+        × IsIndex n.link_index n.links.items };
 }
 
 fn have_form(names: &[Name]) -> bool
@@ -74,19 +87,12 @@ fn is_called(name: &Name, text: &[u8]) -> bool
     name.bytes() == text
 }
 
-fn index_of(names: &[Name], text: &[u8]) -> Option<usize>
-    ensures place { result ≡ place_of names.now text.now }
-    ensures within { IfSome result (λ place. place < length names.now) }
+/// A place of a list of at most 64 names, as a byte.
+fn byte(place: Option<usize>) -> Option<u8>
+    requires { IfSome place (λ place. place < 64) }
+    ensures { result ≡ place }
 {
-    names.iter().position(|name| is_called(name, text))
-}
-
-fn place_of(names: &[Name], text: &[u8]) -> Option<u8>
-    requires { length names.now ≤ 64 }
-    ensures place { result ≡ place_of names.now text.now }
-    ensures within { IfSome result (λ place. place < length names.now) }
-{
-    match index_of(names, text) {
+    match place {
         Some(place) => Some(place as u8),
         None => None,
     }
@@ -102,6 +108,35 @@ fn if_sensor(sensors: &[bool], device: u8) -> Option<u8>
 }
 
 impl Names {
+    /// These lists of names, with their indexes.
+    pub fn new(
+        alloc: Global,
+        nodes: Vec<Name>,
+        devices: Vec<Name>,
+        sensors: Vec<bool>,
+        modules: Vec<Name>,
+        links: Vec<Name>,
+    ) -> Result<Names, AllocError>
+        ensures { IfOk result (λ n.
+            n ≡ named nodes.items devices.items sensors.items modules.items links.items) }
+    {
+        let node_index = NameIndex::of(alloc, &nodes)?;
+        let device_index = NameIndex::of(alloc, &devices)?;
+        let module_index = NameIndex::of(alloc, &modules)?;
+        let link_index = NameIndex::of(alloc, &links)?;
+        Ok(Names {
+            nodes,
+            devices,
+            sensors,
+            modules,
+            links,
+            node_index,
+            device_index,
+            module_index,
+            link_index,
+        })
+    }
+
     /// Whether these are names that a deployment may have: each has the form of a name, no list
     /// repeats one, no module is named `deployer`, each device has an entry in `sensors`, and there
     /// are at most 16 nodes, 32 devices, 32 modules and 64 connections.
@@ -123,7 +158,7 @@ impl Names {
         ensures place { result ≡ place_of self.now.nodes text.now }
         ensures within { IfSome result (λ place. place < length self.now.nodes) }
     {
-        place_of(&self.nodes, text)
+        byte(self.node_index.place_of(text))
     }
 
     /// The place of the device of this name.
@@ -132,7 +167,7 @@ impl Names {
         ensures place { result ≡ place_of self.now.devices text.now }
         ensures within { IfSome result (λ place. place < length self.now.devices) }
     {
-        place_of(&self.devices, text)
+        byte(self.device_index.place_of(text))
     }
 
     /// The place among the devices of the sensor of this name.
@@ -141,7 +176,7 @@ impl Names {
         ensures place { result ≡ sensor_place self.now text.now }
         ensures within { IfSome result (λ place. place < length self.now.devices) }
     {
-        let device = place_of(&self.devices, text)?;
+        let device = self.device(text)?;
         if_sensor(&self.sensors, device)
     }
 
@@ -151,7 +186,7 @@ impl Names {
         ensures place { result ≡ place_of self.now.modules text.now }
         ensures within { IfSome result (λ place. place < length self.now.modules) }
     {
-        place_of(&self.modules, text)
+        byte(self.module_index.place_of(text))
     }
 
     /// The place of the connection of this name.
@@ -160,6 +195,6 @@ impl Names {
         ensures place { result ≡ place_of self.now.links text.now }
         ensures within { IfSome result (λ place. place < length self.now.links) }
     {
-        place_of(&self.links, text)
+        byte(self.link_index.place_of(text))
     }
 }

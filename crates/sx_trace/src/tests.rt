@@ -24,13 +24,12 @@ fn names_of(alloc: Global, texts: &[&str]) -> Result<Vec<Name>, Fail> {
 /// Nodes a and b, the sensor light, the actuator bulb, modules eye, logic and lamp, connections up
 /// and down.
 fn lighting(alloc: Global) -> Result<Names, Fail> {
-    Ok(Names {
-        nodes: names_of(alloc, &["a", "b"])?,
-        devices: names_of(alloc, &["light", "bulb"])?,
-        sensors: vec![in alloc; true, false]?,
-        modules: names_of(alloc, &["eye", "logic", "lamp"])?,
-        links: names_of(alloc, &["up", "down"])?,
-    })
+    let nodes = names_of(alloc, &["a", "b"])?;
+    let devices = names_of(alloc, &["light", "bulb"])?;
+    let sensors = vec![in alloc; true, false]?;
+    let modules = names_of(alloc, &["eye", "logic", "lamp"])?;
+    let links = names_of(alloc, &["up", "down"])?;
+    Ok(Names::new(alloc, nodes, devices, sensors, modules, links)?)
 }
 
 /// Whether the line is the item's, and the item the line's.
@@ -234,5 +233,43 @@ fn lines_of_no_item(rt: HostRuntime) -> Result<(), Fail> {
         }
     }
     assert!(rt; names.valid());
+    Ok(())
+}
+
+/// So many names: `node_0`, `node_1` and so on.
+fn numbered(alloc: Global, kind: &str, count: u8) -> Result<Vec<Name>, Fail> {
+    let mut names = Vec::new(alloc);
+    for number in 0..count {
+        let text = format!(in alloc; "{kind}_{number}")?;
+        names.push(Name::new(text.as_bytes()).ok_or(NoName)?)?;
+    }
+    Ok(names)
+}
+
+/// As many names as a deployment may have.
+fn largest(alloc: Global) -> Result<Names, Fail> {
+    let nodes = numbered(alloc, "node", 16)?;
+    let devices = numbered(alloc, "port", 32)?;
+    let sensors = vec![in alloc; true; 32]?;
+    let modules = numbered(alloc, "part", 32)?;
+    let links = numbered(alloc, "link", 64)?;
+    Ok(Names::new(alloc, nodes, devices, sensors, modules, links)?)
+}
+
+#[test]
+fn the_place_of_each_of_the_most_names(rt: HostRuntime) -> Result<(), Fail> {
+    let names = largest(rt.alloc())?;
+    assert!(rt; names.valid());
+    if names.valid() {
+        assert_eq!(rt; names.node(b"node_15"), Some(15));
+        assert_eq!(rt; names.device(b"port_31"), Some(31));
+        assert_eq!(rt; names.sensor(b"port_0"), Some(0));
+        assert_eq!(rt; names.module(b"part_31"), Some(31));
+        assert_eq!(rt; names.link(b"link_0"), Some(0));
+        assert_eq!(rt; names.link(b"link_63"), Some(63));
+        assert_eq!(rt; names.link(b"link_64"), None);
+        assert_eq!(rt; names.link(b"link_00000000000_"), None);
+        assert_eq!(rt; names.link(b""), None);
+    }
     Ok(())
 }

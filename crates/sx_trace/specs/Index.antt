@@ -1,0 +1,19 @@
+-- What it is that an index is one of a list of names.
+use Rattle.std.specs.Prelude.{◌≡◌, ℕ, ◌<◌, ◌≤◌, List, [], ◌∷◌, ◌++◌, length, Some}
+use Rattle.std.specs.Str.{bytes_eq}
+use Rattle.indexmap.specs.IndexMap.{get}
+use Rattle.sx_trace.specs.Names.{place_of}
+use Rattle.sx_trace.specs.declared.index.NameIndex.{NameIndex}
+
+-- the index gives the place of each name, and no name of the list is empty or too long for one
+pub record IsIndex (index : NameIndex) (names : List (List ℕ)) : Type 0 where
+  pub gives : (text : List ℕ) → get bytes_eq index.places text ≡ place_of names text
+  pub sized : (text : List ℕ) (i : ℕ) → place_of names text ≡ Some i → (0 < length text) × (length text ≤ 16)
+
+-- where the old index is one of a list, the new is one of the list with the name behind it
+abbrev pub Grows : NameIndex → NameIndex → List ℕ → ℕ → Type 0
+Grows old new name place = (names : List (List ℕ)) → length names ≡ place → IsIndex old names → IsIndex new (names ++ name ∷ [])
+
+-- where the old index is one of a list, so is the new
+abbrev pub Keeps : NameIndex → NameIndex → Type 0
+Keeps old new = (names : List (List ℕ)) → IsIndex old names → IsIndex new names

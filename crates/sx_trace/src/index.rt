@@ -1,0 +1,62 @@
+//! The first place of each name of a list, found without going through the list.
+ghost use Rattle.std.specs.Prelude.{◌≡◌, ℕ, List, [], IfOk, OnOk, OnErr};
+ghost use Rattle.sx_trace.specs.Index.{Grows, IsIndex, Keeps};
+ghost use Rattle.sx_trace.specs.Names.{place_of};
+
+use crate::keys::NameKey;
+use indexmap::IndexMap;
+use std::alloc::{AllocError, Global};
+use sx_lang::names::Name;
+
+/// The first place of each name of a list. It doesn't hold the list: its contracts speak of any list that it is
+/// the index of.
+#[derive(Drop)]
+pub struct NameIndex {
+    places: IndexMap<NameKey, usize>,
+}
+
+impl NameIndex {
+    /// The index of no names.
+    pub fn new(alloc: Global) -> NameIndex
+        ensures { IsIndex result [] }
+    {
+        NameIndex {
+            places: IndexMap::new(alloc),
+        }
+    }
+
+    /// The index of these names.
+    pub fn of(alloc: Global, names: &[Name]) -> Result<NameIndex, AllocError>
+        ensures { IfOk result (λ index. IsIndex index names.now) }
+    {
+        let mut index = NameIndex::new(alloc);
+        for place in 0..names.len() {
+            index.push(names[place], place)?;
+        }
+        Ok(index)
+    }
+
+    /// Takes in the name that comes next, at this place. A name that stands before keeps its first place.
+    pub fn push(&mut self, name: Name, place: usize) -> Result<(), AllocError>
+        ensures grows { OnOk result (Grows self.old self.new name place) }
+        ensures kept { OnErr result (Keeps self.old self.new) }
+    {
+        if self.place_of(name.bytes()).is_some() {
+            return Ok(());
+        }
+        match self.places.insert(NameKey::of(name), place) {
+            Ok(_) => Ok(()),
+            Err(_) => Err(AllocError),
+        }
+    }
+
+    /// The first place of the name that a text is.
+    pub fn place_of(&self, text: &[u8]) -> Option<usize>
+        ensures { (names : List (List ℕ)) → IsIndex self.now names → result ≡ place_of names text.now }
+    {
+        match Name::new(text) {
+            Some(name) => self.places.get(&NameKey::of(name)).copied(),
+            None => None,
+        }
+    }
+}
