@@ -124,13 +124,7 @@ fn names(alloc: Global, e: &Entries) -> Result<Names, AllocError>
     let sensors = sensors(alloc, &e.devices)?;
     let modules = module_names(alloc, &e.modules)?;
     let links = link_names(alloc, &e.links)?;
-    Ok(Names {
-        nodes,
-        devices,
-        sensors,
-        modules,
-        links,
-    })
+    Names::new(alloc, nodes, devices, sensors, modules, links)
 }
 
 /// The deployment of these entries.
