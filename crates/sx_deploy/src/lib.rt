@@ -19,6 +19,7 @@ mod ends;
 #[cfg(test)]
 mod heights;
 pub mod laws;
+mod owners;
 mod placing;
 mod sources;
 #[cfg(test)]

@@ -1,21 +1,21 @@
 //! Rule 9: modules fit their devices, connections their modules, and nothing is overloaded.
-ghost use Rattle.std.specs.Prelude.{◌≡◌, ◌+◌, map, nat_lt, option_map, slice_get};
+ghost use Rattle.std.specs.Prelude.{◌≡◌, ◌+◌, map, nat_lt, option_map};
 ghost use Rattle.std.specs.Option.{option_copied};
 ghost use Rattle.sx_mean.specs.Application.{ends_from, ends_to, sends_too_much};
 ghost use Rattle.sx_check.specs.Source.{source_tree};
 ghost use Rattle.sx_stage.specs.Fault.{Gives};
 ghost use Rattle.sx_stage.specs.Lines.{entries};
 ghost use Rattle.sx_stage.specs.declared.fault.Sort.TheVariants.{Module};
-ghost use Rattle.sx_entries.specs.Entries.{place_among};
 ghost use Rattle.sx_trace.specs.Names.{place_of};
 ghost use Rattle.sx_deploy.specs.Seen.{checked_as};
 ghost use Rattle.sx_deploy.specs.SeenPort.{port_as};
 ghost use Rattle.sx_deploy.specs.Ties.{byte, device_of, has_many_ends, is_mistied, link_of, links_of, makes_many_packets, port_in, port_names, port_of, port_place, tied};
 
 use crate::checks::CheckedModule;
+use crate::owners::Owners;
 use std::alloc::Global;
 use sx_check::checked::Checked;
-use sx_entries::entries::{HasName, LinkEntry, Start, place_among};
+use sx_entries::entries::{LinkEntry, Start};
 use sx_entries::rows::EndRow;
 use sx_lang::names::Name;
 use sx_lang::tree::Decl;
@@ -63,26 +63,6 @@ fn mistied(devices: &[AppDevice], modules: &[CheckedModule]) -> Option<DeployFau
     entries(9, Sort::Module, &Misties { devices }, modules)
 }
 
-impl HasName for CheckedModule {
-    ghost name_of = { λ m. m.name };
-
-    fn name(&self) -> &Name {
-        &self.name
-    }
-}
-
-fn owner_place(modules: &[CheckedModule], name: &Option<Name>) -> Option<usize>
-    ensures { result ≡ place_among (λ m. m.name) (map checked_as modules.now) name.now }
-{
-    place_among(modules, name)
-}
-
-fn module_at(modules: &[CheckedModule], place: usize) -> Option<&CheckedModule>
-    ensures { option_map (λ m. checked_as m.now) result ≡ slice_get (map checked_as modules.now) place }
-{
-    modules.get(place)
-}
-
 fn port_in(output: bool, d: &Decl) -> Option<&Name>
     ensures { option_copied result ≡ port_in output d.now }
 {
@@ -125,11 +105,11 @@ struct Port {
     port: u8,
 }
 
-fn port_of(output: bool, modules: &[CheckedModule], row: &EndRow) -> Option<Port>
-    ensures { option_map port_as result ≡ port_of output (map checked_as modules.now) row.now }
+fn port_of(output: bool, owners: &Owners, row: &EndRow) -> Option<Port>
+    ensures { option_map port_as result ≡ port_of output (map checked_as owners.now) row.now }
 {
-    let owner = owner_place(modules, &row.owner)?;
-    let module = module_at(modules, owner)?;
+    let owner = owners.place_of(&row.owner)?;
+    let module = owners.at(owner)?;
     let port = port_place(output, &module.code, &row.port)?;
     Some(Port {
         owner: byte(owner),
@@ -137,11 +117,11 @@ fn port_of(output: bool, modules: &[CheckedModule], row: &EndRow) -> Option<Port
     })
 }
 
-fn link_of(modules: &[CheckedModule], row: &LinkEntry) -> Option<Link>
-    ensures { result ≡ link_of (map checked_as modules.now) row.now }
+fn link_of(owners: &Owners, row: &LinkEntry) -> Option<Link>
+    ensures { result ≡ link_of (map checked_as owners.now) row.now }
 {
-    let from = port_of(true, modules, &row.from)?;
-    let to = port_of(false, modules, &row.to)?;
+    let from = port_of(true, owners, &row.from)?;
+    let to = port_of(false, owners, &row.to)?;
     Some(Link {
         from: from.owner,
         output: from.port,
@@ -152,14 +132,14 @@ fn link_of(modules: &[CheckedModule], row: &LinkEntry) -> Option<Link>
 
 #[derive(Drop)]
 struct Tier<'a> {
-    modules: &'a [CheckedModule],
+    owners: &'a Owners<'a>,
 }
 
 impl Derive<LinkEntry, Link> for Tier<'_> {
-    ghost derives = { λ s. tied (map checked_as s.modules.now) };
+    ghost derives = { λ s. tied (map checked_as s.owners.now) };
 
     fn derive(&self, _alloc: Global, done: &[Link], row: &LinkEntry) -> Result<Link, DeployError> {
-        in_entry(9, Sort::Connection, done.len(), link_of(self.modules, row))
+        in_entry(9, Sort::Connection, done.len(), link_of(self.owners, row))
     }
 }
 
@@ -231,7 +211,10 @@ pub fn links_of(
     ensures { Gives (λ v. v.items) result (links_of devices.now (map checked_as modules.now) rows.now) }
 {
     passes(mistied(devices, modules))?;
-    let links = derived(alloc, &Tier { modules }, rows)?;
+    let Ok(owners) = Owners::new(alloc, modules) else {
+        return Err(DeployError::OutOfMemory);
+    };
+    let links = derived(alloc, &Tier { owners: &owners }, rows)?;
     passes(many_ends(&links, modules))?;
     passes(many_packets(&links, modules))?;
     Ok(links)
