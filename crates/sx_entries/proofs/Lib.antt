@@ -1,5 +1,6 @@
 pub mod FieldLemmas
 pub mod Texts
 pub mod RowForms
+pub mod Listing
 pub mod Kept
 pub mod Made

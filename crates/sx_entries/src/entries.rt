@@ -1,19 +1,18 @@
 //! Rule 5: names are in form, new in their array, and name an entry where they should.
-ghost use Rattle.std.specs.Prelude.{◌≡◌, ℕ, List, Result, position};
-ghost use Rattle.std.specs.Str.{bytes_eq};
-ghost use Rattle.toml.specs.View.{table_view};
+ghost use Rattle.std.specs.Prelude.{◌≡◌, length};
 ghost use Rattle.sx_stage.specs.Fault.{Gives};
-ghost use Rattle.sx_entries.specs.Entries.{device_made, device_named, entries_of, fresh, has_entry, link_made, link_named, module_made, module_named, node_made, node_named, not_reserved, place_among, start_named};
+ghost use Rattle.sx_entries.specs.Entries.{device_made, device_named, entries_of, fresh, link_made, module_made, module_named, node_made, node_named, not_reserved, start_named};
 
 use crate::arrays::Rows;
 use crate::fields::Source;
+use crate::listed::{HasName, Listed, Make, made};
 use crate::rows::{DeviceRow, EndRow, LinkRow, ModuleRow, NodeRow, StartRow};
 use std::alloc::Global;
 use std::marker::Model;
 use sx_lang::names::Name;
 use sx_lang::tree::DeviceKind;
-use sx_stage::fault::{DeployError, Sort};
-use sx_stage::stages::{Make, in_entry, made};
+use sx_stage::fault::{DeployError, DeployFault, Sort, nth};
+use sx_stage::stages::in_entry;
 use sx_trace::names::DEPLOYER;
 
 #[derive(Drop)]
@@ -77,54 +76,12 @@ impl<'a> Model for Entries<'a> {
     } };
 }
 
-/// A type of entry with a name.
-pub trait HasName {
-    ghost name_of: { Self → List ℕ };
-
-    fn name(&self) -> &Name
-        ensures { result.now ≡ name_of self.now };
-}
-
-fn is_called<T: HasName>(entry: &T, name: &Name) -> bool
-    ensures { result ≡ bytes_eq (T.name_of entry.now) name.now }
-{
-    entry.name().bytes() == name.bytes()
-}
-
-pub fn has_entry<T: HasName>(entries: &[T], name: &Name) -> bool
-    ensures { result ≡ has_entry T.name_of entries.now name.now }
-{
-    entries.iter().any(|e| is_called(e, name))
-}
-
-fn index_named<T: HasName>(entries: &[T], name: &Name) -> Option<usize>
-    ensures { result ≡ position (λ e. bytes_eq (T.name_of e) name.now) entries.now }
-{
-    entries.iter().position(|e| is_called(e, name))
-}
-
 /// The name, where it is in form and new.
-fn fresh<T: HasName>(entries: &[T], name: Option<Name>) -> Option<Name>
-    ensures { result ≡ fresh T.name_of entries.now name }
+fn fresh<T: HasName>(done: &Listed<T>, name: Option<Name>) -> Option<Name>
+    ensures { result ≡ fresh T.name_of done.now name }
 {
     match name {
-        Some(name) => {
-            if has_entry(entries, &name) {
-                None
-            } else {
-                Some(name)
-            }
-        }
-        None => None,
-    }
-}
-
-/// The place of the entry of this name.
-pub fn place_among<T: HasName>(entries: &[T], name: &Option<Name>) -> Option<usize>
-    ensures { result ≡ place_among T.name_of entries.now name.now }
-{
-    match name {
-        Some(name) => index_named(entries, name),
+        Some(name) => { if done.has(&name) { None } else { Some(name) } }
         None => None,
     }
 }
@@ -161,7 +118,7 @@ impl HasName for LinkEntry {
     }
 }
 
-fn node_named(done: &[NodeEntry], row: NodeRow) -> Option<NodeEntry>
+fn node_named(done: &Listed<NodeEntry>, row: NodeRow) -> Option<NodeEntry>
     ensures { result ≡ node_named done.now row }
 {
     let NodeRow { name, key } = row;
@@ -169,7 +126,11 @@ fn node_named(done: &[NodeEntry], row: NodeRow) -> Option<NodeEntry>
     Some(NodeEntry { name, key })
 }
 
-fn device_named(nodes: &[NodeEntry], done: &[DeviceEntry], row: DeviceRow) -> Option<DeviceEntry>
+fn device_named(
+    nodes: &Listed<NodeEntry>,
+    done: &Listed<DeviceEntry>,
+    row: DeviceRow,
+) -> Option<DeviceEntry>
     ensures { result ≡ device_named nodes.now done.now row }
 {
     let DeviceRow {
@@ -179,7 +140,7 @@ fn device_named(nodes: &[NodeEntry], done: &[DeviceEntry], row: DeviceRow) -> Op
         at,
     } = row;
     let name = fresh(done, name)?;
-    let node = place_among(nodes, &node)?;
+    let node = nodes.place_of(&node)?;
     Some(DeviceEntry {
         name,
         node,
@@ -188,12 +149,12 @@ fn device_named(nodes: &[NodeEntry], done: &[DeviceEntry], row: DeviceRow) -> Op
     })
 }
 
-fn start_named(devices: &[DeviceEntry], start: StartRow) -> Option<Start>
+fn start_named(devices: &Listed<DeviceEntry>, start: StartRow) -> Option<Start>
     ensures { result ≡ start_named devices.now start }
 {
     match start {
         StartRow::At(at) => Some(Start::At(at)),
-        StartRow::Device(name) => match place_among(devices, &name) {
+        StartRow::Device(name) => match devices.place_of(&name) {
             Some(index) => Some(Start::Device(index)),
             None => None,
         },
@@ -211,9 +172,9 @@ fn not_reserved(name: Name) -> Option<Name>
 }
 
 fn module_named<'a>(
-    nodes: &[NodeEntry],
-    devices: &[DeviceEntry],
-    done: &[ModuleEntry],
+    nodes: &Listed<NodeEntry>,
+    devices: &Listed<DeviceEntry>,
+    done: &Listed<ModuleEntry>,
     row: ModuleRow<'a>,
 ) -> Option<ModuleEntry<'a>>
     ensures { result ≡ module_named nodes.now devices.now done.now row.entry }
@@ -228,7 +189,7 @@ fn module_named<'a>(
     } = row;
     let name = fresh(done, name)?;
     let name = not_reserved(name)?;
-    let node = place_among(nodes, &node)?;
+    let node = nodes.place_of(&node)?;
     let start = start_named(devices, start)?;
     Some(ModuleEntry {
         name,
@@ -240,12 +201,18 @@ fn module_named<'a>(
     })
 }
 
-fn link_named(done: &[LinkEntry], row: LinkRow) -> Option<LinkEntry>
-    ensures { result ≡ link_named done.now row }
+fn link_made(done: &Listed<LinkEntry>, place: usize, row: LinkRow) -> Result<LinkEntry, DeployError>
+    requires { place ≡ length done.now }
+    ensures { Gives (λ l. l) result (link_made done.now row) }
 {
     let LinkRow { name, from, to } = row;
-    let name = fresh(done, name)?;
-    Some(LinkEntry { name, from, to })
+    match fresh(done, name) {
+        Some(name) => Ok(LinkEntry { name, from, to }),
+        None => Err(DeployError::Fault(DeployFault {
+            rule: 5,
+            place: nth(Sort::Connection, place),
+        })),
+    }
 }
 
 #[derive(Drop)]
@@ -256,17 +223,17 @@ impl Make<NodeRow, NodeEntry> for Nodes {
 
     fn make(
         &self,
-        alloc: Global,
-        done: &[NodeEntry],
+        done: &Listed<NodeEntry>,
+        place: usize,
         row: NodeRow,
     ) -> Result<NodeEntry, DeployError> {
-        in_entry(5, Sort::Node, done.len(), node_named(done, row))
+        in_entry(5, Sort::Node, place, node_named(done, row))
     }
 }
 
 #[derive(Drop)]
 struct Devices<'a> {
-    nodes: &'a [NodeEntry],
+    nodes: &'a Listed<NodeEntry>,
 }
 
 impl Make<DeviceRow, DeviceEntry> for Devices<'_> {
@@ -274,23 +241,18 @@ impl Make<DeviceRow, DeviceEntry> for Devices<'_> {
 
     fn make(
         &self,
-        alloc: Global,
-        done: &[DeviceEntry],
+        done: &Listed<DeviceEntry>,
+        place: usize,
         row: DeviceRow,
     ) -> Result<DeviceEntry, DeployError> {
-        in_entry(
-            5,
-            Sort::Device,
-            done.len(),
-            device_named(self.nodes, done, row),
-        )
+        in_entry(5, Sort::Device, place, device_named(self.nodes, done, row))
     }
 }
 
 #[derive(Drop)]
 struct Modules<'a> {
-    nodes: &'a [NodeEntry],
-    devices: &'a [DeviceEntry],
+    nodes: &'a Listed<NodeEntry>,
+    devices: &'a Listed<DeviceEntry>,
 }
 
 impl<'a> Make<ModuleRow<'a>, ModuleEntry<'a>> for Modules<'_> {
@@ -298,14 +260,14 @@ impl<'a> Make<ModuleRow<'a>, ModuleEntry<'a>> for Modules<'_> {
 
     fn make(
         &self,
-        alloc: Global,
-        done: &[ModuleEntry<'a>],
+        done: &Listed<ModuleEntry<'a>>,
+        place: usize,
         row: ModuleRow<'a>,
     ) -> Result<ModuleEntry<'a>, DeployError> {
         in_entry(
             5,
             Sort::Module,
-            done.len(),
+            place,
             module_named(self.nodes, self.devices, done, row),
         )
     }
@@ -319,11 +281,11 @@ impl Make<LinkRow, LinkEntry> for Links {
 
     fn make(
         &self,
-        alloc: Global,
-        done: &[LinkEntry],
+        done: &Listed<LinkEntry>,
+        place: usize,
         row: LinkRow,
     ) -> Result<LinkEntry, DeployError> {
-        in_entry(5, Sort::Connection, done.len(), link_named(done, row))
+        link_made(done, place, row)
     }
 }
 
@@ -339,27 +301,18 @@ pub fn entries_of<'a>(alloc: Global, rows: Rows<'a>) -> Result<Entries<'a>, Depl
         links,
     } = rows;
     let nodes = made(alloc, &Nodes, nodes)?;
-    let devices = made(
-        alloc,
-        &Devices {
-            nodes: nodes.as_slice(),
-        },
-        devices,
-    )?;
-    let modules = made(
-        alloc,
-        &Modules {
-            nodes: nodes.as_slice(),
-            devices: devices.as_slice(),
-        },
-        modules,
-    )?;
+    let devices = made(alloc, &Devices { nodes: &nodes }, devices)?;
+    let named = Modules {
+        nodes: &nodes,
+        devices: &devices,
+    };
+    let modules = made(alloc, &named, modules)?;
     let links = made(alloc, &Links, links)?;
     Ok(Entries {
         secret,
-        nodes,
-        devices,
-        modules,
-        links,
+        nodes: nodes.into_entries(),
+        devices: devices.into_entries(),
+        modules: modules.into_entries(),
+        links: links.into_entries(),
     })
 }

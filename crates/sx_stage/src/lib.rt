@@ -1,7 +1,7 @@
 //! The form of the deployment's rules: faults with their places, and stages that end at the first fault.
 //!
 //! A deployment is read in stages. A stage makes entries of one type into entries of another, in order
-//! (`stages::made`), or tries lines of the table of rules on entries that stay (`lines::entries`,
+//! (`stages::derived`), or tries lines of the table of rules on entries that stay (`lines::entries`,
 //! `lines::whole`). Each ends at the first fault, with the rule's number and the place.
 //!
 //! `specs/Fault.antt` says what it is that an answer is the one that is meant, want of memory apart;

@@ -7,32 +7,6 @@ ghost use Rattle.sx_stage.specs.Stage.{in_entry, made_after};
 use crate::fault::{DeployError, DeployFault, Sort, nth};
 use std::alloc::Global;
 
-/// What an entry becomes, after those before it.
-pub trait Make<A, B> {
-    ghost makes: { Self → List B → A → Result B FaultSeen };
-
-    fn make(&self, alloc: Global, done: &[B], row: A) -> Result<B, DeployError>
-        ensures { Gives (λ b. b) result (makes self.now done.now row) };
-}
-
-/// What the entries become, in order, or the first fault.
-pub fn made<A: Drop, B: Drop, M: Make<A, B>>(
-    alloc: Global,
-    maker: &M,
-    rows: Vec<A>,
-) -> Result<Vec<B>, DeployError>
-    ensures { Gives (λ v. v.items) result (made_after (M.makes maker.now) [] rows.items) }
-{
-    let mut done = Vec::new(alloc);
-    for row in rows {
-        let one = maker.make(alloc, done.as_slice(), row)?;
-        if done.push(one).is_err() {
-            return Err(DeployError::OutOfMemory);
-        }
-    }
-    Ok(done)
-}
-
 /// What an entry that stays gives, after what those before it gave.
 pub trait Derive<A, B> {
     ghost derives: { Self → List B → A → Result B FaultSeen };
