@@ -3,9 +3,11 @@
 use Rattle.std.specs.Prelude.{ℕ, ◌+◌, ◌*◌, ◌/◌, ◌%◌, ◌==◌, Bool, if◌then◌else◌}
 use Rattle.sx_alu.specs.declared.flags.Flags.{Flags}
 
+-- true as 1, false as 0
 abbrev pub bit : Bool → ℕ
 bit b = if b then 1 else 0
 
+-- the flags that a status register holds: C in bit 0, Z in bit 1, N in bit 2, V in bit 8
 abbrev pub flags_of : ℕ → Flags
 flags_of sr =
     record { c = sr % 2 == 1; z = sr / 2 % 2 == 1; n = sr / 4 % 2 == 1; v = sr / 256 % 2 == 1 }

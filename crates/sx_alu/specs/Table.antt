@@ -14,6 +14,7 @@ limit wide = if wide then 65536 else 256
 abbrev pub half : Bool → ℕ
 half wide = if wide then 32768 else 128
 
+-- whether the top bit is set, so that the value is negative as a signed number
 abbrev pub is_negative : Bool → ℕ → Bool
 is_negative wide x = nat_le (half wide) x
 
@@ -25,6 +26,7 @@ signed wide x = if is_negative wide x then negsuc (limit wide - 1 - x) else pos 
 abbrev pub inverse : Bool → ℕ → ℕ
 inverse wide x = limit wide - 1 - x
 
+-- exclusive or
 abbrev pub differ : Bool → Bool → Bool
 differ a b = if a then not b else b
 

@@ -1,4 +1,4 @@
-// The table of calculations.
+//! The table of calculations.
 
 ghost use Rattle.std.specs.Prelude.{◌≡◌, ◌%◌, ◌<◌, ◌&&◌, IsTrue};
 ghost use Rattle.sx_alu.specs.Status.{bit};

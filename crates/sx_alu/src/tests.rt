@@ -1,3 +1,5 @@
+//! Rows of the calculation table worked by hand, and flags in status registers.
+
 use crate::{Calc, Flags, calc};
 
 const CLEAR: Flags = Flags {

@@ -18,6 +18,8 @@ use Rattle.sx_asm.specs.Meaning.{size, further, distance, number, is_label, oper
 
 -- Rule 2: operands.
 
+-- a register that can be the base of an index or of an increment: not PC, SR or R3, whose modes
+-- have other meanings
 abbrev pub is_general : ℕ → Bool
 is_general r = nat_lt r 16 && not (r == 0) && not (r == 2) && not (r == 3)
 
@@ -48,16 +50,19 @@ has_form (Jump cond target) = nat_lt cond 8
 has_form (Sancus code) = nat_lt code 8 && not (code == 3)
 has_form _ = true
 
+-- rule 2: each instruction has a form that the processor has; else the first line that breaks it
 abbrev pub formed : List Entry → Result (Unit {0}) AsmError
 formed [] = Ok tt
 formed (e ∷ es) = if has_form e.item then formed es else Err (Fault 2 e.line)
 
 -- Rule 3: names.
 
+-- a number, or the name of a label that stands in the text
 abbrev pub is_known : List Placed → Value → Bool
 is_known labels (Number n) = true
 is_known labels (Name s) = is_label labels s
 
+-- each label that an operand names stands in the text
 abbrev pub operand_known : List Placed → Written → Bool
 operand_known labels (Reg r) = true
 operand_known labels (Indexed v r) = is_known labels v
@@ -83,6 +88,8 @@ abbrev pub label_count : Item → ℕ
 label_count (Label s) = 1
 label_count _ = 0
 
+-- rule 3: each name is that of a label, and no label stands twice; else the first line that breaks
+-- it
 abbrev pub named : List Placed → ℕ → List Entry → Result (Unit {0}) AsmError
 named labels before [] = Ok tt
 named labels before (e ∷ es) =
@@ -96,10 +103,12 @@ abbrev pub in_reach : ℕ → ℕ → Bool
 in_reach next target =
     target % 2 == 0 && (nat_le (distance next target) 1022 || nat_le 64512 (distance next target))
 
+-- a jump's target is within its reach
 abbrev pub reaches : List Placed → ℕ → Item → Bool
 reaches labels at (Jump cond target) = in_reach (further at 2) (number labels target)
 reaches labels at _ = true
 
+-- rule 4: each jump reaches its target; else the first line that breaks it
 abbrev pub reached : List Placed → ℕ → List Entry → Result (Unit {0}) AsmError
 reached labels at [] = Ok tt
 reached labels at (e ∷ es) =
@@ -120,6 +129,7 @@ stands at es = if at % 2 == 0 then fitted (min 8192 (65536 - at)) es else Err (F
 
 -- The rules in their order, each over the whole text, and then the code.
 
+-- the rules 2 to 5 in their order, and then the code
 abbrev pub code_with : List Placed → ℕ → List Entry → Result (List ℕ) AsmError
 code_with labels at es = do
   a ← formed es
@@ -128,9 +138,12 @@ code_with labels at es = do
   d ← stands at es
   Ok (code_of labels at es)
 
+-- the code of a text's items from an address on, or the first rule that they break
 abbrev pub code_or_fault : ℕ → List Entry → Result (List ℕ) AsmError
 code_or_fault at es = code_with (labels_of at es) at es
 
+-- the code of a text from an address on, or the first rule that it breaks and the first line that
+-- breaks it
 unfoldable pub assembled : ℕ → List ℕ → Result (List ℕ) AsmError
 assembled at text = read text >>= code_or_fault at
 

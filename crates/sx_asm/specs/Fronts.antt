@@ -9,9 +9,11 @@ abbrev pub run_front : ℕ → List ℕ → ℕ
 run_front a [] = 0
 run_front a (b ∷ bs) = if joins a b then suc (run_front b bs) else 0
 
+-- the value of a byte that is a digit in this base
 abbrev pub digit_of : ℕ → ℕ → Option ℕ
 digit_of base b = if is_digit base b then Some (digit_value b) else None
 
+-- a number that is a word
 abbrev pub up_to : ℕ → Option ℕ
 up_to n = if nat_le n 65535 then Some n else None
 
@@ -24,6 +26,7 @@ abbrev pub digits_from : ℕ → ℕ → List ℕ → Option ℕ
 digits_from base n [] = Some n
 digits_from base n (b ∷ bs) = option_and_then (λ m. digits_from base m bs) (with_digit base n b)
 
+-- the number that a text of digits writes in this base, if it is a word
 abbrev pub numeral_of : ℕ → List ℕ → Option ℕ
 numeral_of base text = if is_number base text then Some (value base 0 text) else None
 

@@ -21,6 +21,7 @@ abbrev pub alone : {A : Type 0} → Option A → List Token → Option A
 alone said [] = said
 alone said (t ∷ ts) = None
 
+-- the value that the tokens write, if they are one token
 abbrev pub value_of : List Token → Option Value
 value_of [] = None
 value_of (t ∷ ts) = alone (value t) ts
@@ -50,18 +51,22 @@ operand_from token.HashHash ts = option_map Immediate (value_of ts)
 operand_from token.Ampersand ts = option_map Absolute (value_of ts)
 operand_from t ts = option_and_then (memory ts) (value t)
 
+-- the operand that the tokens write
 abbrev pub operand_of : List Token → Option Written
 operand_of [] = None
 operand_of (t ∷ ts) = operand_from t ts
 
+-- the token `,`
 abbrev pub is_comma : Token → Bool
 is_comma token.Comma = true
 is_comma _ = false
 
+-- the token `;`
 abbrev pub is_semicolon : Token → Bool
 is_semicolon token.Semicolon = true
 is_semicolon _ = false
 
+-- the token `:`
 abbrev pub is_colon : Token → Bool
 is_colon token.Colon = true
 is_colon _ = false
@@ -71,6 +76,7 @@ abbrev pub parted : List Token → Option (List Token × List Token)
 parted [] = None
 parted (t ∷ ts) = if is_comma t then Some ([], ts) else option_map (λ p. (t ∷ p.0, p.1)) (parted ts)
 
+-- an item of two operands, where both are written
 abbrev pub both : Option Written → Option Written → (Written → Written → Item) → Option Item
 both (Some a) (Some b) make = Some (make a b)
 both None b make = None
@@ -107,6 +113,7 @@ abbrev pub statement_from : Token → List Token → Option (List Item)
 statement_from token.Word ts = data_of ts
 statement_from t ts = first (instruction_from t ts) (Some [])
 
+-- the items of a statement: none, or an instruction, or what a directive gives
 abbrev pub statement_of : List Token → Option (List Item)
 statement_of [] = Some []
 statement_of (t ∷ ts) = statement_from t ts
@@ -121,6 +128,7 @@ abbrev pub piece_from : Token → List Token → Option (List Item)
 piece_from (token.Name s) ts = labelled s ts
 piece_from t ts = statement_from t ts
 
+-- the items between two semicolons: the labels, and then a statement
 abbrev pub piece_of : List Token → Option (List Item)
 piece_of [] = Some []
 piece_of (t ∷ ts) = piece_from t ts

@@ -19,6 +19,7 @@ abbrev pub Reassembles : Type 0
 Reassembles = (i : Instr) (at : ℕ) → IsInstruction i → at % 2 ≡ 0 → at + 2 * length (spelling i) ≤ 65536
     → assembled at (shown i at) ≡ Ok (bytes_of (spelling i))
 
+-- each number is a byte
 abbrev pub AreBytes : List ℕ → Type 0
 AreBytes [] = Unit {0}
 AreBytes (b ∷ bs) = (b < 256) × AreBytes bs

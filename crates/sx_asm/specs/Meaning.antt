@@ -51,6 +51,7 @@ further at n = (at + n) % 65536
 abbrev pub distance : ℕ → ℕ → ℕ
 distance at to = (to + (65536 - at)) % 65536
 
+-- a label at its address, in front of other labels
 abbrev pub labels_at : Item → ℕ → List Placed → List Placed
 labels_at (Label s) at more = record { name = s; address = at } ∷ more
 labels_at _ at more = more
@@ -60,6 +61,7 @@ abbrev pub labels_of : ℕ → List Entry → List Placed
 labels_of at [] = []
 labels_of at (e ∷ es) = labels_at e.item at (labels_of (further at (size e.item)) es)
 
+-- whether a label has this name
 abbrev pub is_label : List Placed → List ℕ → Bool
 is_label [] name = not true
 is_label (label ∷ more) name = bytes_eq label.name name || is_label more name
@@ -69,10 +71,13 @@ abbrev pub address_of : List Placed → List ℕ → ℕ
 address_of [] name = 0
 address_of (label ∷ more) name = if bytes_eq label.name name then label.address else address_of more name
 
+-- the number that a value stands for: a name is its label's address
 abbrev pub number : List Placed → Value → ℕ
 number labels (Number n) = n
 number labels (Name s) = address_of labels s
 
+-- the operand `#X`: a constant without an extension word where there is one; a name always has a
+-- word
 abbrev pub hash_operand : List Placed → Value → Operand
 hash_operand labels (Number n) = if is_constant n then operand.Const n else operand.Immediate n
 hash_operand labels (Name s) = operand.Immediate (address_of labels s)
@@ -92,14 +97,18 @@ operand_at labels at (Symbolic v) = operand.Symbolic (distance at (number labels
 abbrev pub offset : ℕ → ℤ
 offset d = if nat_lt d 32768 then pos (d / 2) else negsuc ((65535 - d) / 2)
 
+-- the instruction with two operands at an address; an operand's address is that of its extension
+-- word
 abbrev pub two_at : List Placed → ℕ → Op2 → Bool → Written → Written → Instr
 two_at labels at op byte src dst =
     instr.Two op byte (operand_at labels (further at 2) src)
     (operand_at labels (further at (2 + 2 * extension src)) dst)
 
+-- the instruction with one operand at an address
 abbrev pub one_at : List Placed → ℕ → Op1 → Bool → Written → Instr
 one_at labels at op byte arg = instr.One op byte (operand_at labels (further at 2) arg)
 
+-- the jump at an address, whose offset counts words from the next instruction
 abbrev pub jump_at : List Placed → ℕ → ℕ → Value → Instr
 jump_at labels at cond target = instr.Jump cond (offset (distance (further at 2) (number labels target)))
 

@@ -24,11 +24,13 @@ abbrev pub parts : {A : Type 0} → (A → Bool) → List A → List (List A)
 parts at [] = [] ∷ []
 parts at (x ∷ xs) = if at x then [] ∷ parts at xs else onto_first x (parts at xs)
 
+-- both lists of items, where both are written
 abbrev pub append : Option (List Item) → Option (List Item) → Option (List Item)
 append (Some is) (Some js) = Some (is ++ js)
 append None js = None
 append (Some is) None = None
 
+-- the items of a line's pieces, in order
 abbrev pub items_in : List (List Token) → Option (List Item)
 items_in [] = Some []
 items_in (piece ∷ more) = append (piece_of piece) (items_in more)
@@ -37,6 +39,7 @@ items_in (piece ∷ more) = append (piece_of piece) (items_in more)
 abbrev pub items_of : List ℕ → Option (List Item)
 items_of line = items_in (parts is_semicolon (tokens_of line))
 
+-- items with the number of their line
 abbrev pub placed : ℕ → List Item → List Entry
 placed n [] = []
 placed n (i ∷ is) = record { line = n; item = i } ∷ placed n is
@@ -46,6 +49,7 @@ abbrev pub taken : List ℕ → List (List ℕ) → ℕ
 taken line [] = length line
 taken line (next ∷ more) = length line + 1
 
+-- the fault of rule 1 at a line
 abbrev pub not_written : ℕ → AsmError
 not_written n = Fault 1 n
 
@@ -63,6 +67,7 @@ read_lines n left (line ∷ more) =
     Ok (placed n items ++ entries)))
     ) else Err (not_written n)
 
+-- the byte that ends a line
 abbrev pub is_newline : ℕ → Bool
 is_newline b = b == 10
 

@@ -26,6 +26,7 @@ hex_digits n =
     if nat_lt n 4096 then digit n 256 ∷ digit n 16 ∷ digit n 1 ∷ [] else
     digit n 4096 ∷ digit n 256 ∷ digit n 16 ∷ digit n 1 ∷ []
 
+-- a number as `0x` and hexadecimal digits
 abbrev pub hex : ℕ → List ℕ
 hex n = codes "0x" ++ hex_digits n
 
@@ -45,6 +46,7 @@ abbrev pub target : ℕ → ℤ → ℕ
 target next (pos n) = further next (2 * n)
 target next (negsuc n) = further next (65536 - 2 * (n + 1))
 
+-- how many bytes of extension word the source has
 abbrev pub source_size : Operand → ℕ
 source_size src = 2 * length (place_of src).words
 
@@ -58,6 +60,7 @@ shown Reti at = codes "reti"
 shown (Jump cond offset) at = jump_name cond ++ codes " " ++ hex (target (further at 2) offset)
 shown (Sancus code) at = sancus_name code
 
+-- the directive that writes a word
 abbrev pub word_text : ℕ → List ℕ
 word_text w = codes ".word " ++ hex w
 

@@ -40,6 +40,7 @@ value_token (Some (kind.Number n)) = Number n
 value_token (Some (kind.Name s)) = Name s
 value_token _ = Bad
 
+-- the first token, or the second where there is none
 abbrev pub or_else : Option Token → Token → Token
 or_else None t = t
 or_else (Some t) u = t
@@ -62,6 +63,7 @@ tokens_in (run ∷ more) =
     if begins_comment run then [] else
     if is_gap run then tokens_in more else token_of run ∷ tokens_in more
 
+-- the tokens of a line
 unfoldable pub tokens_of : List ℕ → List Token
 tokens_of line = tokens_in (runs line)
 

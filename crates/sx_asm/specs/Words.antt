@@ -21,6 +21,7 @@ op2_name Bis = codes "bis"
 op2_name Xor = codes "xor"
 op2_name And = codes "and"
 
+-- the names of the operations on one operand
 abbrev pub op1_name : Op1 → List ℕ
 op1_name Rrc = codes "rrc"
 op1_name Rra = codes "rra"
@@ -77,11 +78,13 @@ register_name r =
 abbrev pub Table : Type 0
 Table = List (List ℕ × Token)
 
+-- the signs and their tokens
 abbrev pub signs : Table
 signs =
     (codes ":", Colon) ∷ (codes ",", Comma) ∷ (codes ";", Semicolon) ∷ (codes "(", Open) ∷ (codes ")", Close)
     ∷ (codes "@", At) ∷ (codes "+", Plus) ∷ (codes "#", Hash) ∷ (codes "##", HashHash) ∷ (codes "&", Ampersand) ∷ []
 
+-- the names of the registers and their tokens
 abbrev pub registers : Table
 registers =
     (codes "pc", Reg 0) ∷ (codes "sp", Reg 1) ∷ (codes "sr", Reg 2) ∷ (codes "r0", Reg 0) ∷ (codes "r1", Reg 1)
@@ -94,18 +97,22 @@ abbrev pub two_names : List Op2 → Table
 two_names [] = []
 two_names (op ∷ ops) = (sized (op2_name op) false, Two op false) ∷ (sized (op2_name op) true, Two op true) ∷ two_names ops
 
+-- the names of operations on one operand, for words and for bytes
 abbrev pub one_names : List Op1 → Table
 one_names [] = []
 one_names (op ∷ ops) = (sized (op1_name op) false, One op false) ∷ (sized (op1_name op) true, One op true) ∷ one_names ops
 
+-- the names of jumps under these conditions
 abbrev pub jump_names : List ℕ → Table
 jump_names [] = []
 jump_names (c ∷ cs) = (jump_name c, Jump c) ∷ jump_names cs
 
+-- the names of module instructions of these numbers
 abbrev pub sancus_names : List ℕ → Table
 sancus_names [] = []
 sancus_names (c ∷ cs) = (sancus_name c, Sancus c) ∷ sancus_names cs
 
+-- the names of all instructions
 abbrev pub instructions : Table
 instructions =
     two_names (Mov ∷ Add ∷ Addc ∷ Subc ∷ Sub ∷ Cmp ∷ Bit ∷ Bic ∷ Bis ∷ Xor ∷ And ∷ [])

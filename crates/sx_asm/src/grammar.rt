@@ -88,6 +88,7 @@ pub fn operand_of(tokens: &[Token]) -> Option<Written>
     operand_from(first, rest)
 }
 
+/// Whether the token is a comma.
 pub fn is_comma(token: &Token) -> bool
     ensures { result ≡ is_comma token.now }
 {
@@ -97,6 +98,7 @@ pub fn is_comma(token: &Token) -> bool
     }
 }
 
+/// Whether the token is a semicolon.
 pub fn is_semicolon(token: &Token) -> bool
     ensures { result ≡ is_semicolon token.now }
 {
@@ -106,6 +108,7 @@ pub fn is_semicolon(token: &Token) -> bool
     }
 }
 
+/// Whether the token is a colon.
 pub fn is_colon(token: &Token) -> bool
     ensures { result ≡ is_colon token.now }
 {

@@ -13,6 +13,8 @@ use std::alloc::Global;
 use sx_isa::{Instr, Op1, Op2, Operand, valid};
 use sx_lang::names::Name;
 
+/// Whether a constant generator gives this number, so that it needs no extension word: 0, 1, 2, 4,
+/// 8 or 0xFFFF.
 pub fn is_constant(n: u16) -> bool
     ensures { result ≡ is_constant n }
 {
@@ -57,12 +59,14 @@ pub fn size(item: &Item) -> u16
     }
 }
 
+/// The address `n` bytes further on, modulo 65,536.
 pub fn further(at: u16, n: u16) -> u16
     ensures { result ≡ further at n }
 {
     at.wrapping_add(n)
 }
 
+/// The number of bytes from one address up to another, modulo 65,536.
 pub fn distance(at: u16, to: u16) -> u16
     ensures { result ≡ distance at to }
 {
@@ -210,6 +214,8 @@ fn destination_at(labels: &[Label], at: u16, written: &Written) -> Operand
     operand_at(labels, at, written)
 }
 
+/// The instruction with two operands at an address, with the labels' addresses in place of their
+/// names. The operands must be a source and a destination.
 pub fn two_at(labels: &[Label], at: u16, op: Op2, byte: bool, src: &Written, dst: &Written) -> Instr
     requires { (is_source (operand_at [] 0 src.now) && is_destination (operand_at [] 0 dst.now))
         ≡ true }
@@ -225,6 +231,8 @@ pub fn two_at(labels: &[Label], at: u16, op: Op2, byte: bool, src: &Written, dst
     }
 }
 
+/// The instruction with one operand at an address, with the labels' addresses in place of their
+/// names. The operation must allow the operand.
 #[tactic(auto, using(crate::proofs::Forms::allowed_at))]
 pub fn one_at(labels: &[Label], at: u16, op: Op1, byte: bool, arg: &Written) -> Instr
     requires { (is_source (operand_at [] 0 arg.now)

@@ -51,7 +51,9 @@ pub enum Token {
 /// A number, or the name of a label that stands for its address.
 #[derive(Clone, Copy)]
 pub enum Value {
+    /// This number.
     Number(u16),
+    /// The address of the label of this name.
     Name(Name),
 }
 
@@ -110,13 +112,17 @@ pub enum Item {
 /// An item and the line that it stands on, from 1.
 #[derive(Clone, Copy)]
 pub struct Entry {
+    /// The line's number, from 1.
     pub line: u32,
+    /// What stands there.
     pub item: Item,
 }
 
 /// A label and its address.
 #[derive(Clone, Copy)]
 pub struct Label {
+    /// The label's name.
     pub name: Name,
+    /// The address of the item behind it.
     pub address: u16,
 }

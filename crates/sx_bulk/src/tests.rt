@@ -1,3 +1,5 @@
+//! The lines of the workload at chosen numbers, and how many there are.
+
 use crate::{HEAD, MOST_SAMPLES, head, line, lines};
 
 #[test]

@@ -24,6 +24,7 @@ powered_on devices = map (λ d. record { at = d.0; kind = d.1; value = 0; fresh 
 abbrev pub AreNew : List Window → Type 0
 AreNew windows = All (λ w. (w.value ≡ 0) × (w.fresh ≡ false)) windows
 
+-- the addresses of the devices
 abbrev pub places_of : List Window → List ℕ
 places_of windows = map (λ w. w.at) windows
 

@@ -58,6 +58,7 @@ abbrev mutual
   block_counts Done = []
   block_counts (Then s b) = statement_counts s ++ block_counts b
 
+-- a count of a `repeat` that is not 1 to 256
 abbrev pub is_miscounted : ℕ → Bool
 is_miscounted n = not (nat_le 1 n) || not (nat_le n 256)
 
@@ -91,6 +92,7 @@ abbrev mutual
   block_emits Done = false
   block_emits (Then s b) = statement_emits s || block_emits b
 
+-- a declaration of an input
 abbrev pub is_input : Decl → Bool
 is_input (Device kind) = false
 is_input (Input x) = true
@@ -98,6 +100,7 @@ is_input (Output x) = false
 is_input (Var x n) = false
 is_input (Array x n) = false
 
+-- a declaration of an output
 abbrev pub is_output : Decl → Bool
 is_output (Device kind) = false
 is_output (Input x) = false

@@ -7,6 +7,7 @@ use Rattle.sx_lang.specs.declared.tree.Decl.{Decl}
 use Rattle.sx_lang.specs.declared.tree.Decl.TheVariants.{Device, Input, Output, Var, Array}
 use Rattle.sx_lang.specs.Tree.{Statement, Defines, Assigns, Stores, Chooses, Repeats, Sends, Emits, Block, Done, Then, HandlerTree}
 
+-- two names are equal
 abbrev pub same : List ℕ → List ℕ → Bool
 same x y = pointwise nat_eq x y
 
@@ -18,6 +19,7 @@ declares x (Output y) = same x y
 declares x (Var y n) = same x y
 declares x (Array y n) = same x y
 
+-- a declaration of a device
 abbrev pub is_device : Decl → Bool
 is_device (Device kind) = true
 is_device (Input y) = false
@@ -25,6 +27,7 @@ is_device (Output y) = false
 is_device (Var y n) = false
 is_device (Array y n) = false
 
+-- a declaration of a sensor
 abbrev pub is_sensor : Decl → Bool
 is_sensor (Device Sensor) = true
 is_sensor (Device Actuator) = false
@@ -33,6 +36,7 @@ is_sensor (Output y) = false
 is_sensor (Var y n) = false
 is_sensor (Array y n) = false
 
+-- a declaration of an actuator
 abbrev pub is_actuator : Decl → Bool
 is_actuator (Device Sensor) = false
 is_actuator (Device Actuator) = true
@@ -41,6 +45,7 @@ is_actuator (Output y) = false
 is_actuator (Var y n) = false
 is_actuator (Array y n) = false
 
+-- a declaration has this name
 abbrev pub is_declared : List Decl → List ℕ → Bool
 is_declared ds x = list_any (declares x) ds
 
@@ -85,9 +90,11 @@ locals h = h.param ∷ block_lets h.body
 unfoldable pub is_taken : List Decl → HandlerTree → List ℕ → Bool
 is_taken ds h x = is_declared ds x || nat_lt 1 (count_by (same x) (locals h))
 
+-- a local of the handler has a name that is taken
 unfoldable pub has_taken : List Decl → HandlerTree → Bool
 has_taken ds h = list_any (is_taken ds h) (locals h)
 
+-- two handlers are for the same event: the same input, or both for samples
 abbrev pub same_input : Option (List ℕ) → Option (List ℕ) → Bool
 same_input None None = true
 same_input None (Some y) = false
@@ -98,5 +105,6 @@ same_input (Some x) (Some y) = same x y
 unfoldable pub is_handled_twice : List HandlerTree → HandlerTree → Bool
 is_handled_twice hs h = nat_lt 1 (count_by (λ g. same_input h.input g.input) hs)
 
+-- a handler of the sensor's samples
 abbrev pub is_sample : HandlerTree → Bool
 is_sample h = same_input None h.input

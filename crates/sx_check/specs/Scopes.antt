@@ -14,11 +14,13 @@ abbrev pub definitions : Block → List (List ℕ)
 definitions Done = []
 definitions (Then s b) = defined s ++ definitions b
 
+-- the names of the locals that a place can see, outer ones first
 abbrev pub seen_in : Scope → List (List ℕ)
 seen_in Module = []
 seen_in (Handler x) = x.now ∷ []
 seen_in (Block' p outer earlier) = seen_in outer ++ definitions (block_of earlier.now)
 
+-- whether a use has this flaw
 unfoldable pub is_flawed : Flaw → List Decl → Use → Bool
 is_flawed Unknown ds u = is_unknown ds u
 is_flawed Misused ds u = is_misused ds u

@@ -12,6 +12,7 @@ use Rattle.sx_check.specs.Names.{same, is_declared, defined}
 pub data Use : Type 0 where
   used : Role → List ℕ → List (List ℕ) → Use
 
+-- the names that an expression uses, each with its role and the locals that are seen there
 abbrev pub expression_uses : List (List ℕ) → Expression → List Use
 expression_uses seen (Constant n) = []
 expression_uses seen (Variable x) = used Word x seen ∷ []
@@ -34,13 +35,16 @@ abbrev mutual
   block_uses seen Done = []
   block_uses seen (Then s b) = statement_uses seen s ++ block_uses (seen ++ defined s) b
 
+-- the use of an input's name by its handler
 abbrev pub input_uses : Option (List ℕ) → List Use
 input_uses None = []
 input_uses (Some x) = used Handling x [] ∷ []
 
+-- the uses of a handler: its input's name, and those of its body, which sees the parameter
 abbrev pub handler_uses : HandlerTree → List Use
 handler_uses h = input_uses h.input ++ block_uses (h.param ∷ []) h.body
 
+-- the uses of all handlers in order
 abbrev pub handlers_uses : List HandlerTree → List Use
 handlers_uses [] = []
 handlers_uses (h ∷ hs) = handler_uses h ++ handlers_uses hs
@@ -53,6 +57,7 @@ declares_as Sending x (Output y) = same x y
 declares_as Handling x (Input y) = same x y
 declares_as role x d = false
 
+-- a name is among the locals that are seen
 abbrev pub is_seen : List (List ℕ) → List ℕ → Bool
 is_seen seen x = list_any (same x) seen
 

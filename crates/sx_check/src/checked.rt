@@ -1,3 +1,5 @@
+//! A module that keeps all ten rules.
+
 ghost use Rattle.std.specs.Prelude.{◌≡◌, None};
 ghost use Rattle.sx_lang.specs.View.{module_of};
 ghost use Rattle.sx_check.specs.Rules.{first_broken};

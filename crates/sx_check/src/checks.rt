@@ -1,3 +1,5 @@
+//! The test of a module by the rules, in their order.
+
 ghost use Rattle.std.specs.Prelude.{◌≡◌, None, Some, IfErr, IfOk};
 ghost use Rattle.std.specs.List.{find};
 ghost use Rattle.sx_lang.specs.View.{module_of};

@@ -22,6 +22,7 @@ pub enum Role {
     Handling,
 }
 
+/// Whether the declaration gives this name to something.
 pub fn is_of(d: &Decl, x: &Name) -> bool
     ensures { result ≡ declares x.now d.now }
 {
@@ -43,6 +44,7 @@ fn is_of_role(d: &Decl, role: Role, x: &Name) -> bool
     }
 }
 
+/// Whether a declaration gives this name to something.
 pub fn has_name(decls: &[Decl], x: &Name) -> bool
     ensures { result ≡ is_declared decls.now x.now }
 {
@@ -54,6 +56,7 @@ pub fn has_name(decls: &[Decl], x: &Name) -> bool
     false
 }
 
+/// Whether a declaration gives this name to something that can be used so.
 pub fn has_role(decls: &[Decl], role: Role, x: &Name) -> bool
     ensures { result ≡ list_any (declares_as role x.now) decls.now }
 {
@@ -124,6 +127,7 @@ fn is_a_sensor(d: &Decl) -> bool
     matches!(d, Decl::Device(DeviceKind::Sensor))
 }
 
+/// Whether the module declares a sensor.
 pub fn has_sensor(decls: &[Decl]) -> bool
     ensures { result ≡ list_any is_sensor decls.now }
 {
@@ -141,6 +145,7 @@ fn is_an_actuator(d: &Decl) -> bool
     matches!(d, Decl::Device(DeviceKind::Actuator))
 }
 
+/// Whether the module declares an actuator.
 pub fn has_actuator(decls: &[Decl]) -> bool
     ensures { result ≡ list_any is_actuator decls.now }
 {

@@ -1,3 +1,5 @@
+//! The ten rules and their order.
+
 /// The rules, in the order in which they are tried.
 #[derive(Clone, Copy, PartialEq, Eq, Debug)]
 pub enum Rule {

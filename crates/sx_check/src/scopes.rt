@@ -1,3 +1,5 @@
+//! Which locals a place in a handler can see.
+
 ghost use Rattle.std.specs.Prelude.{◌≡◌, ℕ};
 ghost use Rattle.sx_lang.specs.View.{block_of, statement_of};
 ghost use Rattle.sx_check.specs.Names.{defined, same};

@@ -1,3 +1,5 @@
+//! For each rule a module that breaks it, and a module that keeps them all.
+
 use crate::checks::check;
 use crate::rules::Rule;
 use std::alloc::{AllocError, Global};

@@ -50,6 +50,7 @@ body_text l tree ends = bytes_of (text_words_of l (body_ops tree ends) (body_par
 abbrev pub part_start : List Ir → ℕ × ℕ → ℕ
 part_start ops part = offset ops part.0
 
+-- where the instructions of a part's last operation begin, its return
 abbrev pub part_return : List Ir → ℕ × ℕ → ℕ
 part_return ops part = offset ops (part.1 - 1)
 

@@ -27,8 +27,10 @@ abbrev pub unless_broken : {A : Type 0} → ℕ → A → Option Rule → Result
 unless_broken n m None = Ok m
 unless_broken n m (Some rule) = Err (fault 8 (Broken (cut n) (number rule)))
 
+-- rule 8 on the module of this number
 abbrev pub checked_nth : ℕ → Coded → Result Coded DeployFault
 checked_nth n m = unless_broken n m (first_broken m.tree)
 
+-- rule 8: all modules, or the first that breaks a rule of the language
 abbrev pub checked_all : List Coded → Result (List Coded) DeployFault
 checked_all modules = made_after (λ done m. checked_nth (length done) m) [] modules

@@ -11,6 +11,7 @@ use Rattle.sx_entries.specs.declared.entries.ModuleEntry.{ModuleEntry}
 abbrev pub is_crowded : List ModuleEntry → List NodeEntry → NodeEntry → Bool
 is_crowded modules earlier node = nat_lt 8 (count_by (λ m. m.node == length earlier) modules)
 
+-- rule 6: the first count that is too large
 abbrev pub counts_fault : EntryLists → Option DeployFault
 counts_fault d = first_of (
     whole 6 Node (nat_lt 16 (length d.nodes))

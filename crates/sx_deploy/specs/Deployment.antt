@@ -29,10 +29,12 @@ pub record Deployed : Type 0 where
   pub layouts : List Layout
   pub providers : List ℕ
 
+-- whether a kind is a sensor
 abbrev pub is_sensor : DeviceKind → Bool
 is_sensor Sensor = true
 is_sensor Actuator = false
 
+-- the names of a deployment's entries
 abbrev pub names_of : EntryLists → NameLists
 names_of e = record {
   nodes = map (λ n. n.name) e.nodes;
@@ -42,12 +44,15 @@ names_of e = record {
   links = map (λ l. l.name) e.links;
 }
 
+-- a module as a part of the application
 abbrev pub part_of : Coded → PartTree
 part_of m = record { node = byte m.node; device = device_of m.start; tree = m.tree }
 
+-- the application: nodes, devices, parts and connections
 abbrev pub app_of : EntryLists → List Coded → List Link → AppTree
 app_of e modules links = record { nodes = byte (length e.nodes); devices = map app_device e.devices; parts = map part_of modules; links = links }
 
+-- the deployment that entries, modules, connections and places give
 abbrev pub arranged : EntryLists → List Coded → List Link → List Placement → Deployed
 arranged e modules links placements = record {
   app = app_of e modules links;
@@ -83,6 +88,7 @@ pub record IsDeployed (e : EntryLists) (outcome : Result Deployed DeployFault) :
   pub are_coded : AreCoded 0 e.modules coded
   pub comes : outcome ≡ (coded >>= deployed e)
 
+-- what comes of a text's entries, or of the fault in them
 abbrev pub IsFrom : Result EntryLists DeployFault → Result Deployed DeployFault → Type 0
 IsFrom (Ok e) outcome = IsDeployed e outcome
 IsFrom (Err f) outcome = outcome ≡ Err f

@@ -38,6 +38,7 @@ pub record Word : Type 0 where
   pub node : ℕ
   pub at : ℕ
 
+-- the words of the devices, each with its node
 abbrev pub words_of : List AppDevice → List ℕ → List Word
 words_of (d ∷ ds) (at ∷ ats) = record { node = d.node; at = at } ∷ words_of ds ats
 words_of _ _ = []

@@ -3,6 +3,7 @@ use Rattle.sx_mean.specs.View.{app_as}
 use Rattle.sx_deploy.specs.Deployment.{Deployed}
 use Rattle.sx_deploy.specs.declared.deployment.Deployment.{Deployment}
 
+-- the code's deployment as plain data
 abbrev pub deployed_as : Deployment → Deployed
 deployed_as d = record {
   app = app_as d.app;

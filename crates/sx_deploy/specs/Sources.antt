@@ -18,6 +18,7 @@ pub record Coded : Type 0 where
   pub start : Start
   pub tree : ModuleTree
 
+-- an entry with the tree of its source
 abbrev pub coded : ModuleEntry → ModuleTree → Coded
 coded m tree = record { name = m.name; node = m.node; provider = m.provider; text = m.text; start = m.start; tree = tree }
 

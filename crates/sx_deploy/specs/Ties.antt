@@ -24,9 +24,11 @@ use Rattle.sx_deploy.specs.Sources.{Coded}
 abbrev pub byte : ℕ → ℕ
 byte n = min n 255
 
+-- a device as the application has it
 abbrev pub app_device : DeviceEntry → AppDevice
 app_device d = record { node = byte d.node; kind = d.kind }
 
+-- the device that a module drives
 abbrev pub device_of : Start → Option ℕ
 device_of (start.At at) = None
 device_of (start.Device n) = Some (byte n)
@@ -49,6 +51,7 @@ abbrev pub port_names : Bool → List Decl → List (List ℕ)
 port_names output [] = []
 port_names output (d ∷ ds) = cons_option (port_in output d) (port_names output ds)
 
+-- the number of the output or the input of this name
 abbrev pub port_place : Bool → List Decl → Option (List ℕ) → Option ℕ
 port_place output ds None = None
 port_place output ds (Some name) = place_of (port_names output ds) name
@@ -58,6 +61,7 @@ pub record Port : Type 0 where
   pub owner : ℕ
   pub port : ℕ
 
+-- goes on with the value, where there is one
 infixr 10 ◌>>?◌
 abbrev pub ◌>>?◌ : {A B : Type 0} → Option A → (A → Option B) → Option B
 o >>? f = option_and_then f o
@@ -70,12 +74,14 @@ port_of output modules row =
     port_place output m.tree.decls row.port >>? (λ port.
     Some (record { owner = byte owner; port = byte port }))))
 
+-- a connection between an output and an input that are there
 abbrev pub link_of : List Coded → LinkEntry → Option Link
 link_of modules row =
     port_of true modules row.from >>? (λ from.
     port_of false modules row.to >>? (λ to.
     Some (record { from = from.owner; output = from.port; to = to.owner; input = to.port })))
 
+-- rule 9 on the next connection
 abbrev pub tied : List Coded → List Link → LinkEntry → Result Link DeployFault
 tied modules done row = in_entry 9 Connection (length done) (link_of modules row)
 

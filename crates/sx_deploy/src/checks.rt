@@ -16,11 +16,17 @@ use sx_stage::fault::{DeployError, DeployFault, Place, cut};
 /// A module whose source keeps the rules of the language.
 #[derive(Drop)]
 pub struct CheckedModule {
+    /// The module's name.
     pub name: Name,
+    /// The place of its node among the nodes.
     pub node: usize,
+    /// The number of its provider.
     pub provider: u16,
+    /// The address at which its public section begins.
     pub text: u16,
+    /// Where its private section begins.
     pub start: Start,
+    /// Its source as a checked module.
     pub code: Checked,
 }
 

@@ -31,7 +31,9 @@ use toml::Table;
 /// An application with what its nodes, devices and modules need to run.
 #[derive(Drop)]
 pub struct Deployment {
+    /// The modules with their devices and connections.
     pub app: App,
+    /// The names of nodes, devices, modules and connections.
     pub names: Names,
     /// What the keys of connections are derived from.
     pub secret: [u8; 16],

@@ -41,6 +41,7 @@ fn names_of(alloc: Global, modules: &[CheckedModule]) -> Result<NameIndex, Alloc
 }
 
 impl<'a> Owners<'a> {
+    /// These modules, with an index of their names. The error says that memory ran out.
     pub fn new(alloc: Global, modules: &'a [CheckedModule]) -> Result<Owners<'a>, AllocError>
         ensures { IfOk result (λ owners. owners ≡ modules.now) }
     {

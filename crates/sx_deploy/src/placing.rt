@@ -24,7 +24,9 @@ use sx_stage::stages::{Derive, derived, in_entry, passes};
 /// Where a module stands: its node and its sections.
 #[derive(Clone, Copy, Drop)]
 pub struct Placement {
+    /// The place of the module's node among the nodes.
     pub node: usize,
+    /// The bounds of its two sections.
     pub layout: Layout,
 }
 

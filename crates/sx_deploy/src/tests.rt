@@ -1,3 +1,5 @@
+//! A deployment that is accepted, and the first fault after one or two changes of its text.
+
 use crate::deployment::{Deployment, read_deployment};
 use std::alloc::Global;
 use std::test::Fail;

@@ -17,6 +17,7 @@ use Rattle.sx_deployer.specs.Keeping.{Known, Keeping, key_of, target_at, atteste
 abbrev pub connection_key : Mac → List ℕ → ℕ → List ℕ
 connection_key mac secret link = kdf mac secret (little_bytes 2 link)
 
+-- a side as a set-key packet has it
 abbrev pub side_number : Side → ℕ
 side_number From = 0
 side_number To = 1

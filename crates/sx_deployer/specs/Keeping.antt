@@ -99,9 +99,11 @@ nobody = record { node_key = []; provider = 0; identity = []; ends = [] }
 abbrev pub target_at : Keeping → ℕ → Known
 target_at d m = get_or d.targets m nobody
 
+-- a module's open ask
 abbrev pub open_ask : Keeping → ℕ → Option (List ℕ)
 open_ask d m = get_or d.open_asks m None
 
+-- the boot at which a module was last attested
 abbrev pub attested_at : Keeping → ℕ → Option ℕ
 attested_at d m = get_or d.attested m None
 

@@ -1,3 +1,5 @@
+//! The deployer: its open asks, what it accepted, and the epochs of the connections.
+
 ghost use Rattle.std.specs.Prelude.{◌≡◌, ℕ, ◌<◌, ◌≤◌, if◌then◌else◌, IfOk, IsSome, None, length, map, option_map, slice_get, slice_index};
 ghost use Rattle.sx_deployer.specs.Keeping as spec;
 ghost use Rattle.sx_deployer.specs.Granting as grants;
@@ -13,7 +15,9 @@ use sx_tag::Tag;
 /// What the deployer says to an answer.
 #[derive(Clone, Copy, PartialEq, Eq, Debug)]
 pub enum Verdict {
+    /// The answer is accepted.
     Attested,
+    /// The answer is not accepted, and nothing changed.
     Denied,
 }
 

@@ -1,3 +1,5 @@
+//! The modules that the deployer asks and gives keys.
+
 ghost use Rattle.std.specs.Prelude.{◌≡◌, IfOk};
 ghost use Rattle.sx_deployer.specs.Keeping.{known};
 
@@ -9,6 +11,7 @@ use sx_mean::events::End;
 pub struct Target {
     /// The key of the module's node.
     pub node_key: [u8; 16],
+    /// The number of the module's provider.
     pub provider: u16,
     /// The bytes of the public section, then the layout.
     pub identity: Vec<u8>,

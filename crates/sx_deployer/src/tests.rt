@@ -1,3 +1,5 @@
+//! A deployer that judges answers, gives keys and renews them, with tags that are sums of bytes.
+
 ghost use Rattle.std.specs.Prelude.{◌≡◌, IfOk, length};
 
 use crate::keys::grant;

@@ -22,6 +22,7 @@ pub record RowLists : Type 0 where
   pub modules : List ModuleRow
   pub links : List LinkRow
 
+-- goes on with the value, where there is one
 infixr 10 ◌>>?◌
 abbrev pub ◌>>?◌ : {A B : Type 0} → Option A → (A → Option B) → Option B
 o >>? f = option_and_then f o
@@ -40,6 +41,7 @@ array_of (Some d) = as_array d
 abbrev pub secret_of : Members → Option (List ℕ)
 secret_of t = if is_some (get_member (codes "secret") t) then key_at (codes "secret") t else Some (replicate 16 0)
 
+-- the arrays of a document, before their entries are read
 pub record Arrays : Type 0 where
   pub secret : List ℕ
   pub nodes : Items
@@ -47,6 +49,7 @@ pub record Arrays : Type 0 where
   pub modules : Items
   pub links : Items
 
+-- a step that goes on only where the test holds
 abbrev pub holds : Bool → Option (Unit {0})
 holds b = if b then Some tt else None
 
@@ -61,6 +64,7 @@ arrays_of t =
     array_of (get_member (codes "connection") t) >>? (λ links.
     Some (record { secret = secret; nodes = nodes; devices = devices; modules = modules; links = links })))))))
 
+-- a value at the top of the document, or the fault of rule 4 there
 abbrev pub in_top : {A : Type 0} → Option A → Result A DeployFault
 in_top None = Err (fault 4 (Kind Top))
 in_top (Some x) = Ok x

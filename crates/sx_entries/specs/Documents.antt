@@ -7,6 +7,7 @@ use Rattle.sx_stage.specs.Fault.{fault}
 use Rattle.sx_stage.specs.declared.fault.Place.TheVariants.{Nowhere}
 use Rattle.sx_stage.specs.declared.fault.DeployFault.{DeployFault}
 
+-- rule 3: the document, or the fault of a text that is none
 abbrev pub document_of : Option Members → Result Members DeployFault
 document_of None = Err (fault 3 Nowhere)
 document_of (Some t) = Ok t

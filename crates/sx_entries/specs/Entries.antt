@@ -55,6 +55,7 @@ device_named nodes done row =
     place_among (λ e. e.name) nodes row.node >>? (λ node.
     Some (record { name = name; node = node; kind = row.kind; at = row.at })))
 
+-- where a private section begins, with the device found by its name
 abbrev pub start_named : List DeviceEntry → StartRow → Option Start
 start_named devices (row_start.At at) = Some (start.At at)
 start_named devices (row_start.Device name) = option_map start.Device (place_among (λ e. e.name) devices name)
@@ -76,15 +77,19 @@ module_named nodes devices done row =
 abbrev pub link_named : List LinkEntry → LinkRow → Option LinkEntry
 link_named done row = fresh (λ e. e.name) done row.name >>? (λ name. Some (record { name = name; from = row.from; to = row.to }))
 
+-- rule 5 on the next node
 abbrev pub node_made : List NodeEntry → NodeRow → Result NodeEntry DeployFault
 node_made done row = in_entry 5 Node (length done) (node_named done row)
 
+-- rule 5 on the next device
 abbrev pub device_made : List NodeEntry → List DeviceEntry → DeviceRow → Result DeviceEntry DeployFault
 device_made nodes done row = in_entry 5 Device (length done) (device_named nodes done row)
 
+-- rule 5 on the next module
 abbrev pub module_made : List NodeEntry → List DeviceEntry → List ModuleEntry → ModuleRow → Result ModuleEntry DeployFault
 module_made nodes devices done row = in_entry 5 Module (length done) (module_named nodes devices done row)
 
+-- rule 5 on the next connection
 abbrev pub link_made : List LinkEntry → LinkRow → Result LinkEntry DeployFault
 link_made done row = in_entry 5 Connection (length done) (link_named done row)
 

@@ -19,6 +19,7 @@ name_of text = if is_name text then Some text else None
 abbrev pub name_at : List ℕ → Members → Option (Option (List ℕ))
 name_at key t = option_map name_of (text_at key t)
 
+-- an integer from 0 to 65,535
 abbrev pub word_of : ℤ → Option ℕ
 word_of (pos n) = if nat_lt n 65536 then Some n else None
 word_of (negsuc n) = None
@@ -31,6 +32,7 @@ word_at key t = option_and_then word_of (option_and_then as_integer (get_member 
 abbrev pub key_at : List ℕ → Members → Option (List ℕ)
 key_at key t = option_and_then (λ text. result_ok (decode_sized text 16)) (text_at key t)
 
+-- whether a key is one of these
 abbrev pub knows : List (List ℕ) → List ℕ → Bool
 knows keys key = list_any (λ k. bytes_eq k key) keys
 

@@ -20,6 +20,8 @@ abbrev pub IsThere : Start → ℕ → Type 0
 IsThere (start.At at) devices = Unit {0}
 IsThere (start.Device n) devices = n < devices
 
+-- what the rules 4 and 5 ask of entries: names that are in form and differ, places that are there,
+-- numbers that are words
 pub record AreEntries (e : EntryLists) : Type 0 where
   pub nodes : AreNamed (map (λ n. n.name) e.nodes)
   pub devices : AreNamed (map (λ d. d.name) e.devices)

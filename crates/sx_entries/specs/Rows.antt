@@ -13,13 +13,16 @@ use Rattle.sx_entries.specs.declared.rows.ModuleRow.{ModuleRow}
 use Rattle.sx_entries.specs.declared.rows.EndRow.{EndRow}
 use Rattle.sx_entries.specs.declared.rows.LinkRow.{LinkRow}
 
+-- goes on with the value, where there is one
 infixl 10 ◌>>=◌
 abbrev pub ◌>>=◌ : {A B : Type 0} → Option A → (A → Option B) → Option B
 o >>= f = option_and_then f o
 
+-- a step that goes on only where the test holds
 abbrev pub holds : Bool → Option (Unit {0})
 holds b = if b then Some tt else None
 
+-- a table as a node: exactly the keys `name` and `key`
 abbrev pub node_row : Members → Option NodeRow
 node_row t = do
   known ← holds (has_only (codes "name" ∷ codes "key" ∷ []) t)
@@ -27,15 +30,18 @@ node_row t = do
   key ← key_at (codes "key") t
   Some (record { name = name; key = key })
 
+-- `sensor` or `actuator`
 abbrev pub kind_of : List ℕ → Option DeviceKind
 kind_of text =
     if bytes_eq text (codes "sensor") then Some Sensor
     else if bytes_eq text (codes "actuator") then Some Actuator
     else None
 
+-- the kind of device at a key
 abbrev pub kind_at : List ℕ → Members → Option DeviceKind
 kind_at key t = option_and_then kind_of (text_at key t)
 
+-- a table as a device: exactly the keys `name`, `node`, `kind` and `at`
 abbrev pub device_row : Members → Option DeviceRow
 device_row t = do
   known ← holds (has_only (codes "name" ∷ codes "node" ∷ codes "kind" ∷ codes "at" ∷ []) t)
@@ -52,6 +58,8 @@ start_row t =
     then word_at (codes "data") t >>= (λ data_at. if is_some (get_member (codes "device") t) then None else Some (At data_at))
     else name_at (codes "device") t >>= (λ device. Some (Device device))
 
+-- a table as a module: `name`, `node`, `provider`, `text`, `source`, and exactly one of `data` and
+-- `device`
 abbrev pub module_row : Members → Option ModuleRow
 module_row t = do
   known ← holds (has_only (codes "name" ∷ codes "node" ∷ codes "provider" ∷ codes "text" ∷ codes "data" ∷ codes "device" ∷ codes "source" ∷ []) t)
@@ -69,9 +77,11 @@ end_of text = position (λ b. b == 46) text >>= (λ dot.
     if is_some (position (λ b. b == 46) (drop (dot + 1) text)) then None
     else Some (record { owner = name_of (take dot text); port = name_of (drop (dot + 1) text) }))
 
+-- the end of a connection at a key
 abbrev pub end_at : List ℕ → Members → Option EndRow
 end_at key t = text_at key t >>= end_of
 
+-- a table as a connection: exactly the keys `name`, `from` and `to`
 abbrev pub link_row : Members → Option LinkRow
 link_row t = do
   known ← holds (has_only (codes "name" ∷ codes "from" ∷ codes "to" ∷ []) t)

@@ -21,10 +21,15 @@ use toml::{Table, Value};
 /// The rows of a document's arrays.
 #[derive(Drop)]
 pub struct Rows<'a> {
+    /// The deployer's secret, from which the keys of connections are derived.
     pub secret: [u8; 16],
+    /// The array `node`.
     pub nodes: Vec<NodeRow>,
+    /// The array `device`.
     pub devices: Vec<DeviceRow>,
+    /// The array `module`.
     pub modules: Vec<ModuleRow<'a>>,
+    /// The array `connection`.
     pub links: Vec<LinkRow>,
 }
 

@@ -15,50 +15,77 @@ use sx_stage::fault::{DeployError, DeployFault, Sort, nth};
 use sx_stage::stages::in_entry;
 use sx_trace::names::DEPLOYER;
 
+/// A node, under a name of its own.
 #[derive(Drop)]
 pub struct NodeEntry {
+    /// The node's name.
     pub name: Name,
+    /// The node's key.
     pub key: [u8; 16],
 }
 
+/// A device, under a name of its own and at a node that is there.
 #[derive(Drop)]
 pub struct DeviceEntry {
+    /// The device's name.
     pub name: Name,
+    /// The place of its node among the nodes.
     pub node: usize,
+    /// Whether it is a sensor or an actuator.
     pub kind: DeviceKind,
+    /// The address of its word.
     pub at: u16,
 }
 
 /// Where a module's private section begins: at a number, or at the place of a device.
 #[derive(Clone, Copy, Drop)]
 pub enum Start {
+    /// At this address.
     At(u16),
+    /// At the word of the device at this place among the devices.
     Device(usize),
 }
 
+/// A module, under a name of its own and at a node that is there.
 #[derive(Drop)]
 pub struct ModuleEntry<'a> {
+    /// The module's name.
     pub name: Name,
+    /// The place of its node among the nodes.
     pub node: usize,
+    /// The number of its provider.
     pub provider: u16,
+    /// The address at which its public section begins.
     pub text: u16,
+    /// Where its private section begins.
     pub start: Start,
+    /// Its source text, not yet parsed.
     pub source: Source<'a>,
 }
 
+/// A connection, under a name of its own. Its ends are still names.
 #[derive(Drop)]
 pub struct LinkEntry {
+    /// The connection's name.
     pub name: Name,
+    /// The output that it comes from.
     pub from: EndRow,
+    /// The input that it goes to.
     pub to: EndRow,
 }
 
+/// The entries of a deployment, each array in the order of the document.
 #[derive(Drop)]
 pub struct Entries<'a> {
+    /// The deployer's secret, from which the keys of connections are derived.
     pub secret: [u8; 16],
+    /// The nodes.
     pub nodes: Vec<NodeEntry>,
+    /// The devices.
     pub devices: Vec<DeviceEntry>,
+    /// The modules.
     pub modules: Vec<ModuleEntry<'a>>,
+    /// The connections.
     pub links: Vec<LinkEntry>,
 }
 

@@ -16,6 +16,7 @@ use sx_trace::index::NameIndex;
 pub trait HasName {
     ghost name_of: { Self → List ℕ };
 
+    /// The name of this entry.
     fn name(&self) -> &Name
         ensures { result.now ≡ name_of self.now };
 }
@@ -39,6 +40,7 @@ impl<T: HasName> Model for Listed<T> {
 }
 
 impl<T: HasName> Listed<T> {
+    /// No entries. It takes no memory.
     pub fn new(alloc: Global) -> Listed<T>
         ensures { result ≡ [] }
     {
@@ -48,6 +50,7 @@ impl<T: HasName> Listed<T> {
         }
     }
 
+    /// How many entries there are.
     pub fn len(&self) -> usize
         ensures { result ≡ length self.now }
     {

@@ -13,49 +13,68 @@ use toml::Table;
 /// A node as it stands in the document.
 #[derive(Drop)]
 pub struct NodeRow {
+    /// The key `name`.
     pub name: Option<Name>,
+    /// The key `key`.
     pub key: [u8; 16],
 }
 
 /// A device as it stands in the document.
 #[derive(Drop)]
 pub struct DeviceRow {
+    /// The key `name`.
     pub name: Option<Name>,
+    /// The key `node`.
     pub node: Option<Name>,
+    /// The key `kind`.
     pub kind: DeviceKind,
+    /// The key `at`, the address of the device's word.
     pub at: u16,
 }
 
 /// Where a module's private section begins: at a number, or at the place of the named device.
 #[derive(Drop)]
 pub enum StartRow {
+    /// The key `data`: this address.
     At(u16),
+    /// The key `device`: the device of this name.
     Device(Option<Name>),
 }
 
 /// A module as it stands in the document.
 #[derive(Drop)]
 pub struct ModuleRow<'a> {
+    /// The key `name`.
     pub name: Option<Name>,
+    /// The key `node`.
     pub node: Option<Name>,
+    /// The key `provider`.
     pub provider: u16,
+    /// The key `text`, the address at which the public section begins.
     pub text: u16,
+    /// The key `data` or `device`.
     pub start: StartRow,
+    /// The key `source`.
     pub source: Source<'a>,
 }
 
 /// `module.port`, the end of a connection.
 #[derive(Drop)]
 pub struct EndRow {
+    /// The module's name.
     pub owner: Option<Name>,
+    /// The name of its output or input.
     pub port: Option<Name>,
 }
 
 /// A connection as it stands in the document.
 #[derive(Drop)]
 pub struct LinkRow {
+    /// The key `name`.
     pub name: Option<Name>,
+    /// The key `from`.
     pub from: EndRow,
+    /// The key `to`.
     pub to: EndRow,
 }
 

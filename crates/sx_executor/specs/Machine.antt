@@ -34,6 +34,7 @@ pub record Machine : Type 0 where
   pub own : ℕ
   pub touches : List Touch
 
+-- what the definitions' executor works on: memory, devices and touches
 abbrev pub moment_of : Machine → Moment
 moment_of m = record { mem = m.mem; devices = m.devices; touches = m.touches }
 

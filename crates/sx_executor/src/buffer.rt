@@ -10,7 +10,9 @@ use sx_rules::Violation;
 /// So many bytes from an address on, which don't pass the end of memory.
 #[derive(Clone, Copy)]
 pub struct Buffer {
+    /// The address of the first byte.
     pub at: u16,
+    /// How many bytes it has.
     pub count: u16,
     ghost within: { at + count ≤ 65536 },
 }

@@ -11,6 +11,7 @@ use Rattle.sx_lex.specs.declared.tokens.Kind.TheVariants.{Number, Name, Sensor, 
 use Rattle.sx_lex.specs.declared.tokens.Placed.{Placed}
 use Rattle.sx_grammar.specs.Tokens.{Token, token, given, added, fits, unary_operator, factor_operator, addend_operator, comparison_operator}
 
+-- the forms of expressions, from the smallest to the largest
 pub data Form : Type 0 where
   Primary : Form
   Unary : Form
@@ -20,6 +21,8 @@ pub data Form : Type 0 where
   Addends : ℕ → Expression → Form  -- the same of a sum
   Whole : Form
 
+-- tokens are an expression of a form, inside so many open brackets and unary operators, with a rest
+-- behind it
 pub data Stands : Form → ℕ → List Token → Expression → List Token → Type 0 where
   number : {d n : ℕ} {a : Bool} {rest : List Token} → Stands Primary d (token (Number n) a ∷ rest) (Constant n) rest
   name : {d : ℕ} {x : List ℕ} {a : Bool} {rest : List Token} → Stands Primary d (token (Name x) a ∷ rest) (Variable x) rest
@@ -83,16 +86,19 @@ pub data IsDeclaration : List Token → Decl → List Token → Type 0 where
   array : {n : ℕ} {x : List ℕ} {a b c f g h : Bool} {rest : List Token}
       → IsDeclaration (token Array a ∷ token (Name x) b ∷ token OpenSquare c ∷ token (Number n) f ∷ token CloseSquare g ∷ token Semicolon h ∷ rest) (Decl.Array x n) rest
 
+-- tokens are declarations, with a rest behind them
 pub data AreDeclarations : List Token → List Decl → List Token → Type 0 where
   no_declaration : {rest : List Token} → AreDeclarations rest [] rest
   declaration : {ts us rest : List Token} {x : Decl} {xs : List Decl} → IsDeclaration ts x us → AreDeclarations us xs rest → AreDeclarations ts (x ∷ xs) rest
 
+-- tokens are a handler, with a rest behind it
 pub data IsHandler : ℕ → List Token → HandlerTree → List Token → Type 0 where
   on_input : {d : ℕ} {x v : List ℕ} {a b c f g : Bool} {ts rest : List Token} {body : Block} → IsBlock d ts body rest
       → IsHandler d (token On a ∷ token (Name x) b ∷ token Open c ∷ token (Name v) f ∷ token Close g ∷ ts) (record { input = Some x; param = v; body = body }) rest
   on_sample : {d : ℕ} {v : List ℕ} {a b c f : Bool} {ts rest : List Token} {body : Block} → IsBlock d ts body rest
       → IsHandler d (token Sample a ∷ token Open b ∷ token (Name v) c ∷ token Close f ∷ ts) (record { input = None; param = v; body = body }) rest
 
+-- tokens are handlers, with a rest behind them
 pub data AreHandlers : ℕ → List Token → List HandlerTree → List Token → Type 0 where
   no_handler : {d : ℕ} {rest : List Token} → AreHandlers d rest [] rest
   handler : {d : ℕ} {ts us rest : List Token} {h : HandlerTree} {hs : List HandlerTree} → IsHandler d ts h us → AreHandlers d us hs rest → AreHandlers d ts (h ∷ hs) rest

@@ -11,6 +11,7 @@ use Rattle.sx_lex.specs.declared.tokens.Kind.TheVariants.{Number, Name, Sensor, 
 use Rattle.sx_lex.specs.declared.tokens.Placed.{Placed}
 use Rattle.sx_grammar.specs.Tokens.{Token, token, fits, factor_operator, addend_operator, comparison_operator}
 
+-- the signs that the grammar asks for by themselves
 pub data Sign : Type 0 where
   An_open : Sign
   A_close : Sign
@@ -50,6 +51,7 @@ pub data Purpose : Type 0 where
   For_initial : List ℕ → Purpose
   For_length : List ℕ → Purpose
 
+-- what is still to be read, or to be done with what was read
 pub data Symbol : Type 0 where
   Want : Sign → Symbol
   Say : Act → Symbol
@@ -71,14 +73,17 @@ pub data Symbol : Type 0 where
   Declarations : Symbol
   Handlers : Symbol
 
+-- what was read so far: a tree that is being made
 pub data Value : Type 0 where
   Of_expression : Expression → Value
   Of_block : Block → Value
   Of_module : ModuleTree → Value
 
+-- what is still to be read, the next first, and what was read, the last first
 abbrev pub State : Type 0
 State = List Symbol × List Value
 
+-- a token is this sign
 abbrev pub is_sign : Sign → Kind → Bool
 is_sign An_open Open = true
 is_sign A_close Close = true
@@ -88,6 +93,7 @@ is_sign A_semicolon Semicolon = true
 is_sign An_equals Equals = true
 is_sign _ _ = false
 
+-- a closing bracket that is still to be read stands for one more that is open
 abbrev pub opened_by : Sign → ℕ → ℕ
 opened_by An_open n = n
 opened_by A_close n = n + 1
@@ -104,18 +110,22 @@ opens (Unary_of op ∷ st) = opens st + 1
 opens (Statements ∷ st) = opens st + 1
 opens (_ ∷ st) = opens st
 
+-- a block with one more statement at its end
 abbrev pub snoc : Block → Statement → Block
 snoc Done s = Then s Done
 snoc (Then t b) s = Then t (snoc b s)
 
+-- a change of the expression that was read last
 abbrev pub on_expression : List Value → (Expression → List Value → List Value) → List Value
 on_expression (Of_expression e ∷ vs) f = f e vs
 on_expression vs f = vs
 
+-- a change of the block that was read last
 abbrev pub on_block : List Value → (Block → List Value → List Value) → List Value
 on_block (Of_block b ∷ vs) f = f b vs
 on_block vs f = vs
 
+-- a change of the module
 abbrev pub on_module : List Value → (ModuleTree → List Value → List Value) → List Value
 on_module (Of_module m ∷ vs) f = f m vs
 on_module vs f = vs
@@ -124,6 +134,7 @@ on_module vs f = vs
 abbrev pub append : Statement → List Value → List Value
 append s vs = on_block vs (λ b vs. Of_block (snoc b s) ∷ vs)
 
+-- what an act does with the trees that were read
 abbrev pub act : Act → List Value → List Value
 act (Do_index x) vs = on_expression vs (λ e vs. Of_expression (Indexed x e) ∷ vs)
 act (Do_combine op) vs = on_expression vs (λ r vs. on_expression vs (λ l vs. Of_expression (Combined op l r) ∷ vs))
@@ -137,25 +148,31 @@ act Do_emit vs = on_expression vs (λ e vs. append (Emits e) vs)
 act (Do_declare d) vs = on_module vs (λ m vs. Of_module (record m { decls = m.decls ++ d ∷ [] }) ∷ vs)
 act (Do_handle i v) vs = on_block vs (λ b vs. on_module vs (λ m vs. Of_module (record m { handlers = m.handlers ++ record { input = i; param = v; body = b } ∷ [] }) ∷ vs))
 
+-- a unary operator on the expression that was read last
 abbrev pub apply : UnOp → List Value → List Value
 apply op vs = on_expression vs (λ e vs. Of_expression (Applied op e) ∷ vs)
 
+-- one way where there is a value, another where there is none
 abbrev pub choose : {A C : Type 0} → Option A → C → (A → C) → C
 choose None other f = other
 choose (Some a) other f = f a
 
+-- a state, where the test holds
 abbrev pub when : Bool → List Symbol → List Value → Option State
 when true st vs = Some (st, vs)
 when false st vs = None
 
+-- the name that a token is
 abbrev pub name_of : Kind → Option (List ℕ)
 name_of (Name x) = Some x
 name_of _ = None
 
+-- the number that a token is
 abbrev pub number_of : Kind → Option ℕ
 number_of (Number n) = Some n
 number_of _ = None
 
+-- what comes behind a name, by what the name is for
 abbrev pub follow : After → List ℕ → List Symbol → List Symbol
 follow After_let x st = Want An_equals ∷ An_expression ∷ Want A_semicolon ∷ Say (Do_define x) ∷ st
 follow After_send x st = Argument_of x ∷ st
@@ -166,6 +183,7 @@ follow After_array x st = Want An_open_square ∷ A_number (For_length x) ∷ st
 follow After_on x st = Want An_open ∷ A_name (After_open (Some x)) ∷ st
 follow (After_open i) x st = Want A_close ∷ A_block ∷ Say (Do_handle i x) ∷ st
 
+-- what comes behind a number, by what the number is for
 abbrev pub follow_number : Purpose → ℕ → List Symbol → List Symbol
 follow_number For_repeat n st = A_block ∷ Say (Do_repeat n) ∷ st
 follow_number (For_initial x) n st = Want A_semicolon ∷ Say (Do_declare (Decl.Var x n)) ∷ st
@@ -209,11 +227,13 @@ initial x st vs Semicolon = Some (st, act (Do_declare (Decl.Var x 0)) vs)
 initial x st vs Equals = Some (A_number (For_initial x) ∷ st, vs)
 initial x st vs _ = None
 
+-- a token where a handler may begin
 abbrev pub handlers : List Symbol → List Value → Kind → Option State
 handlers st vs On = Some (A_name After_on ∷ Handlers ∷ st, vs)
 handlers st vs Sample = Some (Want An_open ∷ A_name (After_open None) ∷ Handlers ∷ st, vs)
 handlers st vs _ = None
 
+-- a token where a declaration may begin
 abbrev pub declarations : List Symbol → List Value → Kind → Option State
 declarations st vs Sensor = Some (Want A_semicolon ∷ Say (Do_declare (Decl.Device DeviceKind.Sensor)) ∷ Declarations ∷ st, vs)
 declarations st vs Actuator = Some (Want A_semicolon ∷ Say (Do_declare (Decl.Device DeviceKind.Actuator)) ∷ Declarations ∷ st, vs)
@@ -223,14 +243,17 @@ declarations st vs Var = Some (A_name After_var ∷ Declarations ∷ st, vs)
 declarations st vs Array = Some (A_name After_array ∷ Declarations ∷ st, vs)
 declarations st vs k = handlers st vs k
 
+-- a token where a block begins, if one more bracket may be open
 abbrev pub open_block : (ℕ → Bool) → List Symbol → List Value → Kind → Option State
 open_block room st vs OpenBrace = when (room (opens st)) (Statements ∷ st) (Of_block Done ∷ vs)
 open_block room st vs _ = None
 
+-- an opening square bracket
 abbrev pub is_square : Kind → Bool
 is_square OpenSquare = true
 is_square _ = false
 
+-- the word `else`
 abbrev pub is_else : Kind → Bool
 is_else Else = true
 is_else _ = false
@@ -272,10 +295,12 @@ finish (Declarations ∷ st) vs = finish st vs
 finish (Handlers ∷ st) vs = finish st vs
 finish (_ ∷ st) vs = None
 
+-- how the reading of tokens ends
 pub data Outcome : Type 0 where
   Read : List Value → Outcome
   Refused : Option Placed → Outcome  -- the first token that can't follow, or the end
 
+-- the outcome at the end of the tokens
 abbrev pub ended : Option (List Value) → Outcome
 ended (Some vs) = Read vs
 ended None = Refused None
@@ -290,8 +315,10 @@ abbrev pub reads : List Symbol → List Value → List Token → Option (List Va
 reads st vs [] = finish st vs
 reads st vs (token k c ∷ ts) = choose (step (fits c) st vs k) None (λ s. reads s.0 s.1 ts)
 
+-- what is to be read of a module
 abbrev pub begun : List Symbol
 begun = Declarations ∷ []
 
+-- the module in which nothing was read
 abbrev pub nothing : List Value
 nothing = Of_module (record { decls = []; handlers = [] }) ∷ []

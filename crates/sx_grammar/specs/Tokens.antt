@@ -8,6 +8,7 @@ use Rattle.sx_lex.specs.declared.tokens.Kind.{Kind}
 use Rattle.sx_lex.specs.declared.tokens.Kind.TheVariants.{EqualsEquals, NotEquals, Less, LessEquals, Greater, GreaterEquals, Plus, Minus, Bar, Caret, Star, Ampersand, Tilde, Bang}
 use Rattle.sx_lex.specs.declared.tokens.Placed.{Placed}
 
+-- the unary operator that a token is
 abbrev pub unary_operator : Kind → Option UnOp
 unary_operator Minus = Some Neg
 unary_operator Tilde = Some Inv
@@ -28,6 +29,7 @@ addend_operator Bar = Some Or
 addend_operator Caret = Some Xor
 addend_operator _ = None
 
+-- the comparison that a token is
 abbrev pub comparison_operator : Kind → Option BinOp
 comparison_operator EqualsEquals = Some Eq
 comparison_operator NotEquals = Some Ne
@@ -42,10 +44,12 @@ comparison_operator _ = None
 pub data Token : Type 0 where
   token : Kind → Bool → Token
 
+-- a text's own tokens, of which the bounds are asked
 abbrev pub given : List Placed → List Token
 given [] = []
 given (t ∷ ts) = token t.kind true ∷ given ts
 
+-- tokens that are added in thought, of which no bound is asked
 abbrev pub added : List Kind → List Token
 added [] = []
 added (k ∷ ks) = token k false ∷ added ks

@@ -23,6 +23,7 @@ pub record ModuleState : Type 0 where
 abbrev pub epoch_of : ℕ → ℕ
 epoch_of field = field / 256
 
+-- the connection of a connection field
 abbrev pub link_of : ℕ → ℕ
 link_of field = field % 256
 

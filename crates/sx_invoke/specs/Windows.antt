@@ -13,6 +13,7 @@ use Rattle.sx_invoke.specs.Setup.{Setup}
 abbrev pub in_window_size : ℕ
 in_window_size = 40
 
+-- how many bytes the out-window has
 abbrev pub out_window_size : ℕ
 out_window_size = 384
 

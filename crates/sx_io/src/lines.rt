@@ -29,9 +29,13 @@ pub enum LineRead {
 /// What a reader of lines may still give: more lines, or only the last answer again.
 #[derive(Clone, Copy, Debug, PartialEq, Eq)]
 pub enum ReaderState {
+    /// More lines may come.
     Open,
+    /// The input ended.
     AtEnd,
+    /// A line was too long.
     TooLong,
+    /// A read failed.
     Failed,
 }
 

@@ -70,6 +70,7 @@ operated op.Not c = on_top c.stack (λ x rest. Goes (next c (apply unary.Not x �
 abbrev pub element : List ℕ → ℕ → ℕ → ℕ → ℕ
 element priv o n i = if nat_lt i n then word priv (o + 2 * i) else 0
 
+-- the private section with an element of an array stored; past the array's end nothing is stored
 abbrev pub with_element : List ℕ → ℕ → ℕ → ℕ → ℕ → List ℕ
 with_element priv o n i v = if nat_lt i n then put_word priv (o + 2 * i) v else priv
 

@@ -68,6 +68,7 @@ is_sound_part ops part = nat_lt part.0 ops && nat_le part.1 ops
 abbrev pub public_size : Layout → ℕ
 public_size l = l.pub_to - l.pub_from
 
+-- how many bytes the private section has
 abbrev pub private_size : Layout → ℕ
 private_size l = l.priv_to - l.priv_from
 

@@ -5,18 +5,27 @@ ghost use Rattle.std.specs.Prelude.{◌≡◌, ℕ, ◌<◌, length, Some, slice
 /// An operation on words that leaves one word on the stack. Where it takes two, the upper is the right operand.
 #[derive(Clone, Copy, PartialEq, Eq, Debug)]
 pub enum IrOp {
+    /// The sum modulo 65,536.
     Add,
+    /// The difference modulo 65,536.
     Sub,
+    /// The product modulo 65,536.
     Mul,
+    /// And, bit by bit.
     And,
+    /// Or, bit by bit.
     Or,
+    /// Exclusive or, bit by bit.
     Xor,
     /// Whether they are equal, 1 or 0.
     Eq,
     /// Whether the lower one is below the top one, 1 or 0.
     Lt,
+    /// The negative modulo 65,536.
     Neg,
+    /// Each of the 16 bits inverted.
     Inv,
+    /// 1 where the word is 0, else 0.
     Not,
 }
 
@@ -79,7 +88,9 @@ pub enum Ir {
 /// Stack code, and the first place and the place after the last of each handler's part.
 #[derive(Drop)]
 pub struct Code {
+    /// The operations; the place of one is its index.
     pub ops: Vec<Ir>,
+    /// For each handler, the first place of its part and the place after its last.
     pub parts: Vec<(u16, u16)>,
 }
 

@@ -1,3 +1,5 @@
+//! Sizes and soundness of small codes, and the joining of two.
+
 use crate::{Code, Ir, bytes, join, offset, sound};
 use std::alloc::{AllocError, Global};
 use std::test::Fail;

@@ -7,6 +7,7 @@ use Rattle.sx_isa.specs.declared.instruction.Operand.TheVariants.{Reg, Indexed, 
 use Rattle.sx_isa.specs.declared.instruction.Instr.{Instr}
 use Rattle.sx_isa.specs.declared.instruction.Instr.TheVariants.{Two, One, Reti, Jump, Sancus}
 
+-- whether an operand has an extension word
 abbrev pub has_word : Operand → Bool
 has_word (Reg r) = false
 has_word (Indexed r x) = true
@@ -17,6 +18,7 @@ has_word (Absolute x) = true
 has_word (Immediate x) = true
 has_word (Const c) = false
 
+-- the operand with this extension word, if it has one
 abbrev pub with_word : Operand → ℕ → Operand
 with_word (Reg r) x = Reg r
 with_word (Indexed r y) x = Indexed r x

@@ -8,6 +8,7 @@ use Rattle.sx_isa.specs.declared.instruction.Instr.{Instr}
 use Rattle.sx_isa.specs.declared.instruction.Instr.TheVariants.{Two, One, Reti, Jump, Sancus}
 use Rattle.sx_isa.specs.Spelling.{spelling}
 
+-- a number of 16 bits
 abbrev pub IsWord : ℕ → Type 0
 IsWord x = x < 65536
 
@@ -15,6 +16,7 @@ IsWord x = x < 65536
 abbrev pub IsGeneral : ℕ → Type 0
 IsGeneral r = (r < 16) × (r ≢ 0) × (r ≢ 2) × (r ≢ 3)
 
+-- a number that a constant generator gives
 abbrev pub is_constant : ℕ → Bool
 is_constant c = (c == 0) || (c == 1) || (c == 2) || (c == 4) || (c == 8) || (c == 65535)
 
@@ -40,6 +42,7 @@ IsDestination (Increment r) = ⊥
 IsDestination (Immediate x) = ⊥
 IsDestination (Const c) = ⊥
 
+-- whether the operation can be on bytes
 abbrev pub has_byte_form : Op1 → Bool
 has_byte_form Rrc = true
 has_byte_form Swpb = false

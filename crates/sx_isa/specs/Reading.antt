@@ -43,6 +43,7 @@ destination_at register ad x =
 abbrev pub takes_word : ℕ → ℕ → Bool
 takes_word register mode = ((mode == 1) && not (register == 3)) || ((mode == 3) && (register == 0))
 
+-- the operation on two operands of this code
 abbrev pub op2_at : ℕ → Option Op2
 op2_at code =
     if code == 4 then Some Mov else
@@ -57,6 +58,7 @@ op2_at code =
     if code == 14 then Some Xor else
     if code == 15 then Some And else None
 
+-- the operation on one operand of this code
 abbrev pub op1_at : ℕ → Option Op1
 op1_at code =
     if code == 0 then Some Rrc else
@@ -76,6 +78,7 @@ two_of None byte src dst n = None
 two_of (Some op) byte src None n = None
 two_of (Some op) byte src (Some dst) n = Some (Two op byte src dst, n)
 
+-- the instruction, where the operation allows its operand
 abbrev pub one_of : Option Op1 → Bool → Operand → ℕ → Option (Instr × ℕ)
 one_of None byte arg n = None
 one_of (Some op) byte arg n = if is_allowed op byte arg then Some (One op byte arg, n) else None

@@ -16,6 +16,7 @@ pub record Place : Type 0 where
   pub mode : ℕ
   pub words : List ℕ
 
+-- a place from its parts
 abbrev pub at : ℕ → ℕ → List ℕ → Place
 at register mode words = record { register = register; mode = mode; words = words }
 
@@ -56,6 +57,7 @@ op2_code Bis = 13
 op2_code Xor = 14
 op2_code And = 15
 
+-- the codes of the operations on one operand
 abbrev pub op1_code : Op1 → ℕ
 op1_code Rrc = 0
 op1_code Swpb = 1
@@ -70,6 +72,7 @@ abbrev pub packed : ℕ → List (ℕ × ℕ) → ℕ
 packed high [] = high
 packed high (field ∷ fields) = packed (high * 2 ^ field.0 + field.1) fields
 
+-- true as 1, false as 0
 abbrev pub bit : Bool → ℕ
 bit b = if b then 1 else 0
 
@@ -101,9 +104,11 @@ spelling Reti = 0x1300 ∷ []
 spelling (Jump cond offset) = packed 0b001 ((3, cond) ∷ (10, offset_field offset) ∷ []) ∷ []
 spelling (Sancus code) = (0x1380 + code) ∷ []
 
+-- the first of some words, or 0
 abbrev pub head_or_zero : List ℕ → ℕ
 head_or_zero [] = 0
 head_or_zero (x ∷ xs) = x
 
+-- the first word of an instruction
 abbrev pub first_word : Instr → ℕ
 first_word i = head_or_zero (spelling i)

@@ -23,10 +23,12 @@ abbrev pub AllStand : List ℕ → ℕ → List Instr → Type 0
 AllStand bytes a [] = Unit {0}
 AllStand bytes a (i ∷ is) = Stands bytes a i × AllStand bytes (a + 2 * length (spelling i)) is
 
+-- each can be written in words
 abbrev pub AreInstructions : List Instr → Type 0
 AreInstructions [] = Unit {0}
 AreInstructions (i ∷ is) = IsInstruction i × AreInstructions is
 
+-- the words of instructions one behind the other
 abbrev pub words_of : List Instr → List ℕ
 words_of [] = []
 words_of (i ∷ is) = spelling i ++ words_of is

@@ -1,4 +1,4 @@
-// The extension words of a decoded instruction.
+//! The extension words of a decoded instruction.
 
 ghost use Rattle.std.specs.Prelude.{◌≡◌, ℕ, Some, if◌then◌else◌};
 ghost use Rattle.sx_isa.specs.Reading.{instruction_at};

@@ -1,4 +1,4 @@
-// The fields of first words, and what they name.
+//! The fields of first words, and what they name.
 
 ghost use Rattle.std.specs.Prelude.{◌≡◌, ◌/◌, ◌%◌, ◌<◌, ◌==◌, IsTrue};
 ghost use Rattle.sx_isa.specs.Reading.{takes_word, source_at, destination_at, op2_at, op1_at, offset_at};
@@ -9,14 +9,21 @@ use crate::instruction::{Op1, Op2, Operand};
 /// The fields of a first word with two operands.
 #[derive(Clone, Copy)]
 pub struct TwoFields {
+    /// Bits 15 to 12: the operation.
     pub op: u8,
+    /// Bits 11 to 8: the source's register.
     pub source: u8,
+    /// Bit 7: the destination's addressing mode.
     pub ad: u8,
+    /// Bit 6: on bytes.
     pub byte: bool,
+    /// Bits 5 and 4: the source's addressing mode.
     pub mode: u8,
+    /// Bits 3 to 0: the destination's register.
     pub destination: u8,
 }
 
+/// The fields of a word as one with two operands.
 pub fn two_fields(w: u16) -> TwoFields
     ensures op { result.op ≡ w / 4096 }
     ensures source { result.source ≡ w / 256 % 16 }
@@ -38,12 +45,17 @@ pub fn two_fields(w: u16) -> TwoFields
 /// The fields of a first word with one operand.
 #[derive(Clone, Copy)]
 pub struct OneFields {
+    /// Bits 9 to 7: the operation.
     pub op: u8,
+    /// Bit 6: on bytes.
     pub byte: bool,
+    /// Bits 5 and 4: the addressing mode.
     pub mode: u8,
+    /// Bits 3 to 0: the register.
     pub register: u8,
 }
 
+/// The fields of a word as one with one operand.
 pub fn one_fields(w: u16) -> OneFields
     ensures op { result.op ≡ w / 128 % 8 }
     ensures byte { result.byte ≡ w / 64 % 2 == 1 }
@@ -100,6 +112,8 @@ pub fn destination(register: u8, ad: u8, x: u16) -> Option<Operand>
     }
 }
 
+/// The operation on two operands of this code. `None` exactly where there is none: below 4, and 10,
+/// which is DADD in TI's guide and no instruction here.
 pub fn op2(code: u8) -> Option<Op2>
     ensures { result ≡ op2_at code }
 {
@@ -119,6 +133,7 @@ pub fn op2(code: u8) -> Option<Op2>
     }
 }
 
+/// The operation on one operand of this code, `None` for 6 and above.
 pub fn op1(code: u8) -> Option<Op1>
     ensures { result ≡ op1_at code }
 {

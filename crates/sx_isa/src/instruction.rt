@@ -1,4 +1,4 @@
-// Instructions, apart from their words.
+//! Instructions, apart from their words.
 
 /// What an instruction reads or writes. The first number of a variant with two, and the one of
 /// `Reg`, `Indirect` and `Increment`, is a register, 0 to 15.
@@ -98,6 +98,8 @@ pub enum Instr {
 /// One to three instruction words: the first `len` of `w`. Those past them are 0.
 #[derive(Clone, Copy, Debug, PartialEq, Eq)]
 pub struct Words {
+    /// The words, and zeros after them.
     pub w: [u16; 3],
+    /// How many words the instruction has, 1 to 3.
     pub len: u8,
 }

@@ -1,4 +1,4 @@
-// Laws of the definitions, for those who reason on words without a call.
+//! Laws of the definitions, for those who reason on words without a call.
 
 ghost use Rattle.std.specs.Prelude.{◌≡◌, ℕ, ◌+◌, ◌*◌, ◌%◌, ◌<◌, List, ◌∷◌, [], ◌++◌, ◌↔◌, length};
 ghost use Rattle.sx_isa.specs.Legal.{IsWord, IsInstruction, IsIllegal, Begins};

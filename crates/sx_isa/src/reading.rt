@@ -1,4 +1,4 @@
-// The reading of instruction words.
+//! The reading of instruction words.
 
 ghost use Rattle.std.specs.Prelude.{◌≡◌, ℕ, ◌<◌, ◌≤◌, ◌∷◌, [], ◌↔◌, IfSome, IsNone, length};
 ghost use Rattle.sx_isa.specs.Legal.{Begins, IsInstruction, IsIllegal};

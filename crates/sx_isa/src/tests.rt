@@ -1,3 +1,5 @@
+//! Words worked by hand from the format tables, and how many first words are legal.
+
 use crate::{Instr, Op1, Op2, Operand, decode, encode, extended, length, valid};
 
 // Words that were assembled by hand from the format's tables.

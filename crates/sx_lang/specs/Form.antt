@@ -2,9 +2,11 @@
 use Rattle.std.specs.Prelude.{ℕ, Bool, false, ◌&&◌, ◌||◌, List, [], ◌∷◌, length, nat_le, ◌==◌}
 use Rattle.std.specs.List.{list_all}
 
+-- a lower-case letter
 abbrev pub is_lower : ℕ → Bool
 is_lower b = nat_le 97 b && nat_le b 122
 
+-- a digit
 abbrev pub is_decimal_digit : ℕ → Bool
 is_decimal_digit b = nat_le 48 b && nat_le b 57
 

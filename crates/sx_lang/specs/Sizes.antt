@@ -8,6 +8,7 @@ use Rattle.sx_lang.specs.Tree.{Expression, Constant, Variable, Indexed, Applied,
 
 -- Nodes: the variables, arrays, handlers, statements and expressions, each subexpression counted.
 
+-- one node for each number, name and operator of an expression
 abbrev pub expression_nodes : Expression → ℕ
 expression_nodes (Constant n) = 1
 expression_nodes (Variable x) = 1
@@ -15,6 +16,7 @@ expression_nodes (Indexed x e) = 1 + expression_nodes e
 expression_nodes (Applied op e) = 1 + expression_nodes e
 expression_nodes (Combined op a b) = 1 + expression_nodes a + expression_nodes b
 
+-- one node for each statement, with those of its expressions and blocks
 abbrev mutual
   pub statement_nodes : Statement → ℕ
   statement_nodes (Defines x e) = 1 + expression_nodes e
@@ -29,6 +31,7 @@ abbrev mutual
   block_nodes Done = 0
   block_nodes (Then s b) = statement_nodes s + block_nodes b
 
+-- one node for each variable and each array
 abbrev pub declaration_nodes : Decl → ℕ
 declaration_nodes (Device kind) = 0
 declaration_nodes (Input x) = 0
@@ -36,19 +39,23 @@ declaration_nodes (Output x) = 0
 declaration_nodes (Var x n) = 1
 declaration_nodes (Array x n) = 1
 
+-- the nodes of all declarations
 abbrev pub declarations_nodes : List Decl → ℕ
 declarations_nodes [] = 0
 declarations_nodes (d ∷ ds) = declaration_nodes d + declarations_nodes ds
 
+-- one node for each handler, with those of its body
 abbrev pub handlers_nodes : List HandlerTree → ℕ
 handlers_nodes [] = 0
 handlers_nodes (h ∷ hs) = 1 + block_nodes h.body + handlers_nodes hs
 
+-- the nodes of a module
 abbrev pub module_nodes : ModuleTree → ℕ
 module_nodes m = declarations_nodes m.decls + handlers_nodes m.handlers
 
 -- Cells: one for each variable and each element of an array.
 
+-- a variable has one cell, an array one for each element
 abbrev pub declaration_cells : Decl → ℕ
 declaration_cells (Device kind) = 0
 declaration_cells (Input x) = 0
@@ -56,20 +63,24 @@ declaration_cells (Output x) = 0
 declaration_cells (Var x n) = 1
 declaration_cells (Array x n) = n
 
+-- the cells of all declarations
 abbrev pub declared_cells : List Decl → ℕ
 declared_cells [] = 0
 declared_cells (d ∷ ds) = declaration_cells d + declared_cells ds
 
 -- Weight and data size: the bytes of a compiled module's two sections, where it has so many ends of connections.
 
+-- how many bytes the public section of a module with so many ends of connections has
 abbrev pub module_weight : ModuleTree → ℕ → ℕ
 module_weight m ends = 2048 + 192 * ends + 64 * module_nodes m
 
+-- how many bytes the private section of a module with so many ends of connections has
 abbrev pub module_data_size : ModuleTree → ℕ → ℕ
 module_data_size m ends = 512 + 24 * ends + 2 * declared_cells m.decls
 
 -- Cost: a bound on the instructions of an event.
 
+-- the cost of an operator, without those of its operands
 abbrev pub operator_cost : BinOp → ℕ
 operator_cost Mul = 512
 operator_cost Add = 32
@@ -84,6 +95,7 @@ operator_cost Le = 32
 operator_cost Gt = 32
 operator_cost Ge = 32
 
+-- the cost of an expression
 abbrev pub expression_cost : Expression → ℕ
 expression_cost (Constant n) = 32
 expression_cost (Variable x) = 32
@@ -91,6 +103,7 @@ expression_cost (Indexed x e) = 64 + expression_cost e
 expression_cost (Applied op e) = 32 + expression_cost e
 expression_cost (Combined op a b) = operator_cost op + expression_cost a + expression_cost b
 
+-- the cost of a statement and of a block
 abbrev mutual
   pub statement_cost : Statement → ℕ
   statement_cost (Defines x e) = 64 + expression_cost e
@@ -105,6 +118,7 @@ abbrev mutual
   block_cost Done = 0
   block_cost (Then s b) = statement_cost s + block_cost b
 
+-- the cost of a handler
 abbrev pub handler_cost : HandlerTree → ℕ
 handler_cost h = 64 + block_cost h.body
 
@@ -113,5 +127,6 @@ abbrev pub handlers_cost : List HandlerTree → ℕ
 handlers_cost [] = 0
 handlers_cost (h ∷ hs) = max (handler_cost h) (handlers_cost hs)
 
+-- the cost of a module: that of its most costly handler
 abbrev pub module_cost : ModuleTree → ℕ
 module_cost m = handlers_cost m.handlers

@@ -4,6 +4,8 @@ pub use Rattle.sx_lang.specs.declared.tree.UnOp.{UnOp}
 pub use Rattle.sx_lang.specs.declared.tree.BinOp.{BinOp}
 pub use Rattle.sx_lang.specs.declared.tree.Decl.{Decl}
 
+-- an expression: a number, a variable or local, an element of an array, or an operator with its
+-- operands
 pub data Expression : Type 0 where
   Constant : ℕ → Expression
   Variable : List ℕ → Expression
@@ -25,11 +27,13 @@ mutual
     Done : Block
     Then : Statement → Block → Block
 
+-- a handler: the input that it is for, or none for samples; its parameter; its body
 pub record HandlerTree : Type 0 where
   pub input : Option (List ℕ)
   pub param : List ℕ
   pub body : Block
 
+-- a module: its declarations and its handlers, in order
 pub record ModuleTree : Type 0 where
   pub decls : List Decl
   pub handlers : List HandlerTree

@@ -6,6 +6,7 @@ use Rattle.sx_lang.specs.declared.tree.Handler.{Handler}
 use Rattle.sx_lang.specs.declared.tree.Module.{Module}
 use Rattle.sx_lang.specs.Tree.{Expression, Constant, Variable, Indexed, Applied, Combined, Statement, Defines, Assigns, Stores, Chooses, Repeats, Sends, Emits, Block, Done, Then, HandlerTree, ModuleTree}
 
+-- the code's expression as plain data
 abbrev pub expression_of : Expr → Expression
 expression_of (Number n) = Constant n
 expression_of (Read x) = Variable x
@@ -13,6 +14,7 @@ expression_of (At' x p e) = Indexed x (expression_of e)
 expression_of (Unary' op p e) = Applied op (expression_of e)
 expression_of (Binary' op p a q b) = Combined op (expression_of a) (expression_of b)
 
+-- the code's statements as plain data
 abbrev mutual
   pub statement_of : Stmt → Statement
   statement_of (Let x e) = Defines x (expression_of e)
@@ -27,12 +29,15 @@ abbrev mutual
   block_of_row end_of-Stmt = Done
   block_of_row (more_of-Stmt s rest) = Then (statement_of s) (block_of_row rest)
 
+-- the code's block as plain data
 abbrev pub block_of : List Stmt → Block
 block_of [] = Done
 block_of (s ∷ rest) = Then (statement_of s) (block_of rest)
 
+-- the code's handler as plain data
 abbrev pub handler_of : Handler → HandlerTree
 handler_of h = record { input = h.input; param = h.param; body = block_of h.body.items }
 
+-- the code's module as plain data
 abbrev pub module_of : Module → ModuleTree
 module_of m = record { decls = m.decls.items; handlers = map handler_of m.handlers.items }

@@ -31,6 +31,7 @@ abbrev mutual
   BlockHasWords Done = Unit {0}
   BlockHasWords (Then s b) = HasWords s × BlockHasWords b
 
+-- each number in the handlers is a word
 abbrev pub HandlersHaveWords : List HandlerTree → Type 0
 HandlersHaveWords [] = Unit {0}
 HandlersHaveWords (h ∷ hs) = BlockHasWords h.body × HandlersHaveWords hs
@@ -43,10 +44,12 @@ DeclHasWords (Output x) = Unit {0}
 DeclHasWords (Var x n) = IsWord n
 DeclHasWords (Array x n) = IsWord n
 
+-- each number in the declarations is a word
 abbrev pub DeclsHaveWords : List Decl → Type 0
 DeclsHaveWords [] = Unit {0}
 DeclsHaveWords (d ∷ ds) = DeclHasWords d × DeclsHaveWords ds
 
+-- each number in the module is a word
 pub record TreeHasWords (m : ModuleTree) : Type 0 where
   pub decls : DeclsHaveWords m.decls
   pub handlers : HandlersHaveWords m.handlers

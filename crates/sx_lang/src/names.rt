@@ -1,3 +1,5 @@
+//! Names of the handler language: their form, and how they are stored.
+
 ghost use Rattle.std.specs.Prelude.{◌≡◌, ℕ, ◌<◌, ◌≤◌, length, nat_eq, SomeIff};
 ghost use Rattle.std.specs.List.{list_all};
 ghost use Rattle.std.specs.Cmp.{partial_equiv_from_equiv};

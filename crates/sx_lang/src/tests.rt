@@ -1,3 +1,5 @@
+//! The sizes of three modules, and names of 1 to 16 bytes.
+
 use crate::names::Name;
 use crate::sides::Side;
 use crate::sizes::{cost, data_size, nodes, weight};

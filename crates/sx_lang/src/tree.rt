@@ -1,9 +1,13 @@
+//! The tree of a module: declarations, handlers, statements and expressions.
+
 use crate::names::Name;
 
 /// The kind of device that a driver module has.
 #[derive(Clone, Copy, PartialEq, Eq, Debug)]
 pub enum DeviceKind {
+    /// A device that gives values.
     Sensor,
+    /// A device that takes values.
     Actuator,
 }
 
@@ -21,29 +25,44 @@ pub enum UnOp {
 /// An operator with two operands.
 #[derive(Clone, Copy, PartialEq, Eq, Debug)]
 pub enum BinOp {
+    /// `+`, the sum modulo 65,536.
     Add,
+    /// `-`, the difference modulo 65,536.
     Sub,
+    /// `|`, bit by bit.
     Or,
+    /// `^`, bit by bit.
     Xor,
+    /// `*`, the product modulo 65,536.
     Mul,
+    /// `&`, bit by bit.
     And,
+    /// `==`, 1 or 0.
     Eq,
+    /// `!=`, 1 or 0.
     Ne,
+    /// `<` of unsigned numbers, 1 or 0.
     Lt,
+    /// `<=` of unsigned numbers, 1 or 0.
     Le,
+    /// `>` of unsigned numbers, 1 or 0.
     Gt,
+    /// `>=` of unsigned numbers, 1 or 0.
     Ge,
 }
 
 /// An expression, which is worth a 16-bit word.
 #[derive(Drop)]
 pub enum Expr {
+    /// This number.
     Number(u16),
     /// A local or a variable.
     Read(Name),
     /// An element of an array.
     At(Name, Box<Expr>),
+    /// An operator and its operand.
     Unary(UnOp, Box<Expr>),
+    /// An operator and its operands, the left one first.
     Binary(BinOp, Box<Expr>, Box<Expr>),
 }
 
@@ -69,8 +88,11 @@ pub enum Stmt {
 /// What a module declares.
 #[derive(Drop)]
 pub enum Decl {
+    /// The module's device.
     Device(DeviceKind),
+    /// An input.
     Input(Name),
+    /// An output.
     Output(Name),
     /// A variable and its first value.
     Var(Name, u16),
@@ -85,12 +107,15 @@ pub struct Handler {
     pub input: Option<Name>,
     /// The local that holds the event's value.
     pub param: Name,
+    /// Its statements.
     pub body: Vec<Stmt>,
 }
 
 /// A module: its declarations and its handlers, in order.
 #[derive(Drop)]
 pub struct Module {
+    /// What it declares.
     pub decls: Vec<Decl>,
+    /// What it does at events.
     pub handlers: Vec<Handler>,
 }

@@ -1,9 +1,12 @@
+//! Entries of the ledger: a header and a body, with who made them and for whom.
+
 ghost use Rattle.std.specs.Prelude.{◌≡◌, ◌≤◌, length};
 ghost use Rattle.sx_ledger.specs.Made.{entry_of, made, padded};
 
 /// Who made a tag.
 #[derive(Clone, Copy, PartialEq, Eq, PartialOrd, Ord, Debug)]
 pub enum Maker {
+    /// The deployer.
     Deployer,
     /// The module of this index.
     Module(u8),
@@ -12,14 +15,19 @@ pub enum Maker {
 /// A header and a plain body that a holder of the key wrapped. Bytes past the lengths are 0.
 #[derive(Clone, Copy, PartialEq, Eq, PartialOrd, Ord, Debug)]
 pub struct Entry {
+    /// Who wrapped it.
     pub maker: Maker,
     /// The module that a set-key packet is for, else 255.
     pub target: u8,
     /// The boot that a set-key packet is for, or at which an ask was answered; 0 of an event.
     pub boot: u32,
+    /// The header.
     pub ad: [u8; 32],
+    /// How many bytes the header has, at most 32.
     pub ad_len: u8,
+    /// The plain body.
     pub body: [u8; 32],
+    /// How many bytes the body has, at most 32.
     pub body_len: u8,
 }
 

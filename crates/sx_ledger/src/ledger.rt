@@ -1,3 +1,5 @@
+//! The set of entries that were made.
+
 ghost use Rattle.std.specs.Prelude.{◌≡◌, ◌↔◌, List, [], IsTrue, OnErr, OnOk};
 ghost use Rattle.std.specs.List.{Contains};
 ghost use Rattle.sx_ledger.specs.Made.{Adds};

@@ -1,3 +1,5 @@
+//! Entries that were made are found, and no others.
+
 use crate::*;
 
 fn event(header: u8) -> Entry {

@@ -18,6 +18,7 @@ along at n = record { line = at.line; column = up at.column n }
 abbrev pub below : Place → Place
 below at = record { line = up at.line 1; column = 1 }
 
+-- the place of a text's first byte
 abbrev pub start : Place
 start = record { line = 1; column = 1 }
 
@@ -25,6 +26,7 @@ start = record { line = 1; column = 1 }
 abbrev pub is_space : ℕ → Bool
 is_space b = b == 32 || b == 9
 
+-- two slashes, which begin a comment
 abbrev pub begins_comment : List ℕ → Bool
 begins_comment (a ∷ b ∷ bs) = a == 47 && b == 47
 begins_comment _ = false

@@ -19,6 +19,7 @@ signs =
     ∷ (codes "==", EqualsEquals) ∷ (codes "!=", NotEquals) ∷ (codes "<", Less) ∷ (codes "<=", LessEquals) ∷ (codes ">", Greater) ∷ (codes ">=", GreaterEquals)
     ∷ (codes "+", Plus) ∷ (codes "-", Minus) ∷ (codes "|", Bar) ∷ (codes "^", Caret) ∷ (codes "*", Star) ∷ (codes "&", Ampersand) ∷ (codes "~", Tilde) ∷ (codes "!", Bang) ∷ []
 
+-- the token of a word in a table of words
 abbrev pub found_in : List (List ℕ × Kind) → List ℕ → Option Kind
 found_in [] w = None
 found_in (q ∷ qs) w = if pointwise nat_eq w q.0 then Some q.1 else found_in qs w
@@ -30,6 +31,7 @@ digit_value b =
     (if nat_le 97 b && nat_le b 102 then b - 87 else
     (if nat_le 65 b && nat_le b 70 then b - 55 else 16))
 
+-- whether a byte is a digit in this base
 abbrev pub is_digit : ℕ → ℕ → Bool
 is_digit base b = nat_le (suc (digit_value b)) base
 
@@ -48,6 +50,7 @@ abbrev pub is_hexadecimal : List ℕ → Bool
 is_hexadecimal (a ∷ b ∷ bs) = (a == 48 && b == 120) && is_number 16 bs
 is_hexadecimal _ = false
 
+-- the first kind, or the second where there is none
 abbrev pub or_else : Option Kind → Kind → Kind
 or_else None k = k
 or_else (Some j) k = j

@@ -1,3 +1,5 @@
+//! The language's own words and signs.
+
 ghost use Rattle.std.specs.Prelude.{◌≡◌, List, [], ◌∷◌};
 ghost use Rattle.sx_lex.specs.Words.{found_in, keywords, signs};
 

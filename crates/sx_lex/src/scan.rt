@@ -1,3 +1,5 @@
+//! The longest token at the start of a text.
+
 ghost use Rattle.std.specs.Prelude.{◌≡◌, ℕ, ◌+◌, ◌*◌, ◌<◌, ◌≤◌, ◌&&◌, true, false, List, length, take, IfSome, IfNone, nat_le};
 ghost use Rattle.sx_lex.specs.Words.{is_lower, digit_value, is_digit, value, name_front, number_front, found_in, keywords, or_else, first_is, NoHexadecimal, NoPair, IsLongest, NoToken};
 
@@ -8,7 +10,9 @@ use sx_lang::names::{Name, is_name_byte};
 /// A token at the front of a text, and how many bytes it has.
 #[derive(Clone, Copy)]
 pub struct Word {
+    /// What the token is.
     pub kind: Kind,
+    /// How many bytes it has.
     pub count: usize,
 }
 

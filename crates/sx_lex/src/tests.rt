@@ -1,3 +1,5 @@
+//! The tokens of a dozen texts, with their places.
+
 use crate::reading::tokens_of;
 use crate::tokens::{Kind, Place, Placed};
 use std::test::Fail;

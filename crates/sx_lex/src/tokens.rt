@@ -1,3 +1,5 @@
+//! Tokens, their kinds and their places.
+
 use sx_lang::names::Name;
 
 /// What a token is.
@@ -86,14 +88,18 @@ pub enum Kind {
 /// A place in a text: line and byte column from 1. One above 4,294,967,295 is given as that number.
 #[derive(Clone, Copy, PartialEq, Eq, Debug)]
 pub struct Place {
+    /// The line.
     pub line: u32,
+    /// The byte of the line.
     pub column: u32,
 }
 
 /// A token and the place of its first byte.
 #[derive(Clone, Copy, PartialEq, Eq)]
 pub struct Placed {
+    /// What the token is.
     pub kind: Kind,
+    /// Where its first byte stands.
     pub place: Place,
 }
 
@@ -101,6 +107,8 @@ pub struct Placed {
 /// byte, or at the token `Bad`.
 #[derive(Drop)]
 pub struct Tokens {
+    /// The tokens.
     pub list: Vec<Placed>,
+    /// Where the reading ended.
     pub end: Place,
 }

@@ -29,12 +29,14 @@ variable_code ds n names x =
     then ir.Load (local_at (index_of names x)) ∷ []
     else ir.Load (cell_at n (place ds x)) ∷ ir.Push (first_value ds x) ∷ ir.Op op.Add ∷ []
 
+-- the code that stores the top word in a local, or else in a variable's cell
 abbrev pub assign_code : List Decl → ℕ → List (List ℕ) → List ℕ → List Ir
 assign_code ds n names x =
     if nat_lt (index_of names x) (length names)
     then ir.Store (local_at (index_of names x)) ∷ []
     else ir.Push (first_value ds x) ∷ ir.Op op.Sub ∷ ir.Store (cell_at n (place ds x)) ∷ []
 
+-- the operation of a unary operator
 abbrev pub unary_op : UnOp → IrOp
 unary_op Neg = op.Neg
 unary_op Inv = op.Inv
@@ -55,6 +57,7 @@ is_turned Le = true
 is_turned Gt = true
 is_turned Ge = false
 
+-- the operations of an operator, behind those of its operands
 abbrev pub operator_code : BinOp → List Ir
 operator_code Add = ir.Op op.Add ∷ []
 operator_code Sub = ir.Op op.Sub ∷ []
@@ -69,6 +72,7 @@ operator_code Le = ir.Op op.Lt ∷ ir.Op op.Not ∷ []
 operator_code Gt = ir.Op op.Lt ∷ []
 operator_code Ge = ir.Op op.Lt ∷ ir.Op op.Not ∷ []
 
+-- the code of an operator and its operands, which are exchanged for some comparisons
 abbrev pub combined_code : BinOp → List Ir → List Ir → List Ir
 combined_code o a b = if is_turned o then b ++ (a ++ operator_code o) else a ++ (b ++ operator_code o)
 
@@ -82,9 +86,11 @@ expression_code ds n names (Combined o a b) = combined_code o (expression_code d
 
 -- the code of a definition, a write to an array's element and a send
 
+-- the code of a `let`
 abbrev pub define_code : List Decl → ℕ → List (List ℕ) → Expression → List Ir
 define_code ds n names e = expression_code ds n names e ++ ir.Store (local_at (length names)) ∷ []
 
+-- the code of an assignment to an element
 abbrev pub element_code : List Decl → ℕ → List (List ℕ) → List ℕ → Expression → Expression → List Ir
 element_code ds n names x i e =
     expression_code ds n names i ++ (expression_code ds n names e ++ ir.StoreAt (cell_at n (place ds x)) (array_length ds x) ∷ [])
@@ -94,6 +100,7 @@ abbrev pub packets_code : ℕ → List End → ℕ → List Ir
 packets_code k [] output = []
 packets_code k (e ∷ es) output = if is_sending output e.side e.port then ir.Packet k ∷ packets_code (k + 1) es output else packets_code (k + 1) es output
 
+-- the code of a `send`
 abbrev pub send_code : List Decl → List End → List (List ℕ) → List ℕ → Expression → List Ir
 send_code ds ends names x e = expression_code ds (length ends) names e ++ (packets_code 0 ends (output_number ds x) ++ ir.Drop ∷ [])
 
@@ -131,6 +138,7 @@ abbrev mutual
 abbrev pub handler_code : List Decl → List End → ℕ → HandlerTree → List Ir
 handler_code ds ends p h = ir.Load event_at ∷ ir.Store (local_at 0) ∷ (block_code ds ends (p + 2) (h.param ∷ []) h.body ++ ir.Stop ∷ [])
 
+-- the code of the handlers, one behind the other from a place on
 abbrev pub handlers_code : List Decl → List End → ℕ → List HandlerTree → List Ir
 handlers_code ds ends p [] = []
 handlers_code ds ends p (h ∷ hs) =

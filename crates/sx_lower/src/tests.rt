@@ -1,3 +1,5 @@
+//! The code of one module, worked by hand.
+
 use crate::handlers::code_of;
 use std::alloc::Global;
 use std::test::Fail;

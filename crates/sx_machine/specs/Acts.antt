@@ -36,9 +36,11 @@ abbrev pub unless : {T : Type 0} → Option Refused → State → Shows T → Sh
 unless None s done = record { state = done.state; shown = Ok done.shown }
 unless (Some refused) s done = record { state = s; shown = Err refused }
 
+-- bytes are put into memory from outside
 abbrev pub put : State → ℕ → List ℕ → Shows (Result (Unit {0}) Refused)
 put s at bytes = unless (put_refusal s at (length bytes)) s (record { state = record s { mem = put_bytes s.mem at bytes }; shown = tt })
 
+-- bytes are taken from memory from outside
 abbrev pub take : State → ℕ → ℕ → Shows (Result (List ℕ) Refused)
 take s at n = unless (take_refusal s at n) s (record { state = s; shown = bytes_from s.mem at n })
 
@@ -47,6 +49,7 @@ abbrev pub set : State → ℕ → ℕ → Shows (Result (Unit {0}) Refused)
 set s r v =
     unless (busy s) s (record { state = record s { regs = set_reg s.regs r v; last = if r == 0 then 0 else s.last }; shown = tt })
 
+-- a sensor gets a value
 abbrev pub sense : State → ℕ → ℕ → Shows (Result (Unit {0}) Refused)
 sense s device v = unless (busy s) s (record { state = record s { devices = sensed s.devices device v }; shown = tt })
 
@@ -54,6 +57,7 @@ sense s device v = unless (busy s) s (record { state = record s { devices = sens
 abbrev pub is_enabled : List ℕ → Bool
 is_enabled regs = (slice_index regs 2 / 8 % 2) == 1
 
+-- why an interrupt is refused: a module runs, or interrupts are masked
 abbrev pub irq_refusal : State → Option Refused
 irq_refusal s = if not (s.cur == 0) then Some Busy else if is_enabled s.regs then None else Some Masked
 
@@ -74,5 +78,6 @@ interrupted s (Finished regs x) = record {
 }
 interrupted s (Module regs x sections event exchange) = record { state = s; shown = record { touch = untouched; event = Quiet } }
 
+-- an interrupt on this line
 abbrev pub irq : State → ℕ → Shows (Result Seen Refused)
 irq s line = unless (irq_refusal s) s (interrupted s (exec s.sections 0 (interrupt line s.regs) (start s)))

@@ -12,6 +12,7 @@ use Rattle.sx_machine.specs.declared.kinds.Event.{Event}
 use Rattle.sx_machine.specs.declared.kinds.Exchange.{Exchange}
 use Rattle.sx_machine.specs.Run.{Moment, untouched, Outcome, Finished, Violated, Module}
 
+-- memory, devices and touches in mid-instruction
 abbrev pub moment : List ℕ → List Window → List Touch → Moment
 moment mem devices touches = record { mem = mem; devices = devices; touches = touches }
 

@@ -20,6 +20,7 @@ use Rattle.sx_machine.specs.Guard.{Act, Step, Restart, Put, Set, Take, Sense, In
 abbrev pub private_bytes : Layout → List ℕ → List ℕ
 private_bytes l mem = bytes_from mem l.priv_from (l.priv_to - l.priv_from)
 
+-- the bytes of a public section
 abbrev pub public_bytes : Layout → List ℕ → List ℕ
 public_bytes l mem = bytes_from mem l.pub_from (l.pub_to - l.pub_from)
 

@@ -54,5 +54,6 @@ HaveKeys mac a = (s : Section) → Lives a.sections.live s → s.key ≡ chain_k
 abbrev pub KeepsKeys : Type 0
 KeepsKeys = (mac : Mac) (acts : List Act) (a : State) → Placed a.sections → HaveKeys mac a → HaveKeys mac (acted_all mac acts a).state
 
+-- at power-on each live section has its key
 abbrev pub PowerOnHasKeys : Type 0
 PowerOnHasKeys = (mac : Mac) (key : List ℕ) (devices : List Window) → HaveKeys mac (power_on key devices)

@@ -56,9 +56,11 @@ pub data Sight : Type 0 where
   Took : Result (List ℕ) Refused → Sight
   Interrupted : Result Seen Refused → Sight
 
+-- the same state, with what is shown in another form
 abbrev pub shown_as : {T : Type 0} → (T → Sight) → Shows T → Shows Sight
 shown_as view x = record { state = x.state; shown = view x.shown }
 
+-- the state after an act, and what the act shows
 abbrev pub acted : Mac → Act → State → Shows Sight
 acted mac Step a = shown_as Stepped (step mac a)
 acted mac Restart a = record { state = reset a; shown = Restarted }

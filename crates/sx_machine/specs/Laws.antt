@@ -12,6 +12,7 @@ use Rattle.sx_machine.specs.Guard.{Kept, Guarded, Act, Sight, acted, acted_all, 
 abbrev pub PowerOnPlaced : Type 0
 PowerOnPlaced = (key : List ℕ) (devices : List Window) → Placed (power_on key devices).sections
 
+-- whatever acts come, sections that do not meet at first never meet
 abbrev pub StaysPlaced : Type 0
 StaysPlaced = (mac : Mac) (acts : List Act) (a : State) → Placed a.sections → Placed (acted_all mac acts a).state.sections
 

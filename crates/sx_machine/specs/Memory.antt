@@ -2,6 +2,7 @@
 use Rattle.std.specs.Prelude.{ℕ, zero, suc, ◌+◌, ◌/◌, ◌%◌, Bool, if◌then◌else◌, List, [], ◌∷◌, ◌++◌, slice_index, slice_set}
 pub use Rattle.sx_isa.specs.Memory.{even, word}
 
+-- the memory with a word written, the low byte first; an odd address counts as the even one below
 abbrev pub put_word : List ℕ → ℕ → ℕ → List ℕ
 put_word mem at v = slice_set (slice_set mem (even at) (v % 256)) (even at + 1) (v / 256)
 
@@ -9,6 +10,7 @@ put_word mem at v = slice_set (slice_set mem (even at) (v % 256)) (even at + 1) 
 abbrev pub read_at : Bool → List ℕ → ℕ → ℕ
 read_at wide mem at = if wide then word mem at else slice_index mem at
 
+-- the memory with a word or a byte written
 abbrev pub write_at : Bool → List ℕ → ℕ → ℕ → List ℕ
 write_at wide mem at v = if wide then put_word mem at v else slice_set mem at (v % 256)
 

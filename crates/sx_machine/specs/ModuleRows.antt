@@ -37,14 +37,18 @@ tested g buffers rest =
 -- Attest: R9 is an address, and R10 the place of 16 bytes. R15 is the id of the module whose public section holds the
 -- address, where these bytes are the tag over its identity under the key of the module whose code this is; else 0.
 
+-- the tag is the caller's over a section's identity
 abbrev pub vouches : Mac → Section → List ℕ → Section → List ℕ → Bool
 vouches mac own tag s text = bytes_eq tag (attest_tag mac own.key (identity text s.layout.pub_from s.layout.pub_to s.layout.priv_from s.layout.priv_to))
 
+-- the answer: the id of the section at the address, where the tag is over its identity, else 0
 abbrev pub attested : Mac → Given → Section → List ℕ → Option Section → Plan
 attested mac g own tag None = answer g 0
 attested mac g own tag (Some s) =
     Bytes s.layout.pub_from (s.layout.pub_to - s.layout.pub_from) (λ text. answer g (if vouches mac own tag s text then s.id else 0))
 
+-- the instruction `attest`: it reads the tag, and then the public bytes of the section at the
+-- address
 abbrev pub attest : Mac → Given → Section → Plan
 attest mac g own =
     tested g (record { at = slice_index g.regs 10; count = 16 } ∷ [])
@@ -57,6 +61,7 @@ attest mac g own =
 abbrev pub own_key : List ℕ → Bool
 own_key regs = slice_index regs 9 == 0
 
+-- the buffers that wrap and unwrap name: key, header, and twice the length of the body
 abbrev pub buffers : List ℕ → List Buffer
 buffers regs =
     record { at = slice_index regs 9; count = if own_key regs then 0 else 16 }
@@ -65,6 +70,7 @@ buffers regs =
     ∷ record { at = slice_index regs 14; count = slice_index regs 13 }
     ∷ record { at = slice_index regs 15; count = 16 } ∷ []
 
+-- the module's own key, or the one at R9
 abbrev pub with_key : Given → Section → (List ℕ → Plan) → Plan
 with_key g own rest = if own_key g.regs then rest own.key else Bytes (slice_index g.regs 9) 16 rest
 

@@ -51,6 +51,7 @@ IsInForm (Take at n) = Unit {0}
 IsInForm (Sense device v) = v < 32768
 IsInForm (Interrupt line) = Unit {0}
 
+-- each act is in form
 abbrev pub AreInForm : List Act → Type 0
 AreInForm [] = Unit {0}
 AreInForm (act ∷ acts) = IsInForm act × AreInForm acts

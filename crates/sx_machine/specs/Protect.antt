@@ -25,6 +25,7 @@ layout_in regs = record { pub_from = slice_index regs 10; pub_to = slice_index r
 abbrev pub provider_in : List ℕ → ℕ
 provider_in regs = slice_index regs 9
 
+-- the number of a refusal, as R14 gives it
 abbrev pub number_of : Refusal → ℕ
 number_of Bounds = 1
 number_of Overlap = 2
@@ -44,6 +45,7 @@ wiped mem l = zeroed mem l.priv_from (l.priv_to - l.priv_from)
 abbrev pub key_for : Mac → Given → List ℕ → Layout → List ℕ
 key_for mac g mem l = section_key mac g.base (provider_in g.regs) (identity_at mem l)
 
+-- the outcome of `protect`: a new section, or why there is none
 abbrev pub protected_if : Mac → Given → List ℕ → Layout → Option Refusal → Outcome
 protected_if mac g mem l None =
     Module (answered g.regs g.sections.next 0) (untouched_with g (wiped mem l))
@@ -58,6 +60,7 @@ protect mac g mem =
     let l = layout_in g.regs in
     protected_if mac g mem l (refusal g.sections l (places_of g.devices))
 
+-- the outcome of `unprotect`: the caller's section is gone and zero, or nothing where it has none
 abbrev pub removed_if : Given → List ℕ → Option Section → Outcome
 removed_if g mem None = Module (concluded g.regs 0) (untouched_with g mem) g.sections Quiet g.exchange
 removed_if g mem (Some own) =

@@ -11,9 +11,11 @@ meets at n from to = nat_lt 0 n && (nat_lt at to && nat_lt from (at + n))
 abbrev pub passes_end : ℕ → ℕ → Bool
 passes_end at n = nat_lt 65536 (at + n)
 
+-- a range has a byte in common with a private section
 abbrev pub meets_private : List Section → ℕ → ℕ → Bool
 meets_private live at n = list_any (λ s. meets at n s.layout.priv_from s.layout.priv_to) live
 
+-- a range has a byte in common with a public section
 abbrev pub meets_public : List Section → ℕ → ℕ → Bool
 meets_public live at n = list_any (λ s. meets at n s.layout.pub_from s.layout.pub_to) live
 

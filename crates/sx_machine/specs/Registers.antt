@@ -12,6 +12,7 @@ cut wide v = v % limit wide
 abbrev pub onward : ℕ → ℕ → ℕ
 onward at n = (at + n) % 65536
 
+-- the value of a register
 abbrev pub reg : List ℕ → ℕ → ℕ
 reg regs r = slice_index regs (r % 16)
 
@@ -20,6 +21,7 @@ reg regs r = slice_index regs (r % 16)
 abbrev pub kept_in : ℕ → ℕ → ℕ
 kept_in r v = if (r == 0) || (r == 1) then v - v % 2 else if r == 2 then v % 512 else if r == 3 then 0 else v
 
+-- the registers with one set to what it keeps of a value
 abbrev pub set_reg : List ℕ → ℕ → ℕ → List ℕ
 set_reg regs r v = slice_set regs (r % 16) (kept_in (r % 16) v)
 
@@ -31,6 +33,7 @@ at_pc regs pc = slice_set regs 0 pc
 abbrev pub flags : List ℕ → Flags
 flags regs = flags_of (slice_index regs 2)
 
+-- the registers with these flags in SR
 abbrev pub set_flags : List ℕ → Flags → List ℕ
 set_flags regs f = slice_set regs 2 (with_flags_in (slice_index regs 2) f)
 

@@ -82,6 +82,8 @@ abbrev pub into_memory : Bool → Bool → ℕ → ℕ × Flags → List ℕ →
 into_memory wide written at result regs =
     if written then Store wide at result.0 (Done (set_flags regs result.1)) else Done (set_flags regs result.1)
 
+-- an operation whose destination is in memory: it is read where the operation needs it, and written
+-- where the operation writes
 abbrev pub on_memory : Op2 → Bool → ℕ → ℕ → List ℕ → Plan
 on_memory op wide at s regs =
     if reads op then Load wide at (λ d. into_memory wide (writes op) at (computed op wide s d (flags regs)) regs)
@@ -116,6 +118,7 @@ abbrev pub in_memory : Calc → Bool → ℕ → List ℕ → Plan
 in_memory kind wide at regs =
     Load wide at (λ v. into_memory wide true at (alu.row kind wide v 0 (flags regs)) regs)
 
+-- a calculation on one operand, whose result replaces the operand
 abbrev pub in_place : Calc → Bool → Operand → List ℕ → ℕ → Plan
 in_place kind wide (Reg r) regs next = into_register true r (alu.row kind wide (cut wide (reg regs r)) 0 (flags regs)) (at_pc regs next)
 in_place kind wide (Indexed r x) regs next = in_memory kind wide (onward (reg regs r) x) (at_pc regs next)
@@ -155,6 +158,7 @@ abbrev pub distance : ℤ → ℕ
 distance (pos n) = 2 * n
 distance (negsuc n) = 65536 - 2 * (n + 1)
 
+-- a jump: PC goes to the target where the condition holds
 abbrev pub jump : ℕ → ℤ → List ℕ → ℕ → Plan
 jump cond offset regs next = Done (at_pc regs (if taken cond (flags regs) then onward next (distance offset) else next))
 
@@ -166,6 +170,7 @@ row Reti regs next = reti regs
 row (Jump cond offset) regs next = jump cond offset regs next
 row (Sancus code) regs next = Stop bad.Illegal
 
+-- the plan of the instruction that was read, or the violation of an illegal word
 abbrev pub row_of : Option (Instr × ℕ) → List ℕ → ℕ → Plan
 row_of None regs pc = Stop bad.Illegal
 row_of (Some i) regs pc = row i.0 regs (onward pc (2 * i.1))

@@ -55,10 +55,12 @@ abbrev pub may_each : List Section → ℕ → Access → ℕ → List ℕ → B
 may_each live own access at [] = true
 may_each live own access at (b ∷ bs) = may live own access at && may_each live own access (at + 1) bs
 
+-- a device with its number
 abbrev pub with_window : ℕ → Option Window → Option (ℕ × Window)
 with_window device None = None
 with_window device (Some w) = Some (device, w)
 
+-- the device of this number, if there is one
 abbrev pub found : List Window → Option ℕ → Option (ℕ × Window)
 found devices None = None
 found devices (Some device) = with_window device (slice_get devices device)
@@ -79,6 +81,7 @@ read_device true device w Sensor x = Ok (sampled device w x)
 read_device false device w Sensor x = Err bad.Device
 read_device wide device w Actuator x = Err bad.Device
 
+-- a read at an address: the device there decides, or else memory
 abbrev pub read_place : Bool → ℕ → Option (ℕ × Window) → Moment → Result (ℕ × Moment) Violation
 read_place wide at None x = Ok (read_at wide x.mem at, x)
 read_place wide at (Some d) x = read_device wide d.0 d.1 d.1.kind x
@@ -94,6 +97,7 @@ write_device true device v Actuator x = Ok (record x { touches = noted x.touches
 write_device false device v Actuator x = Err bad.Device
 write_device wide device v Sensor x = Err bad.Device
 
+-- a write at an address: the device there decides, or else memory
 abbrev pub write_place : Bool → ℕ → ℕ → Option (ℕ × Window) → Moment → Result Moment Violation
 write_place wide at v None x = Ok (record x { mem = write_at wide x.mem at v })
 write_place wide at v (Some d) x = write_device wide d.0 v d.1.kind x
@@ -103,6 +107,7 @@ abbrev pub store : List Section → ℕ → Bool → ℕ → ℕ → Moment → 
 store live own wide at v x =
     if may_at wide live own Write at then write_place wide at v (device_of x.devices at) x else Err bad.Write
 
+-- a word is fetched from memory, never from a device
 abbrev pub fetch_place : ℕ → Option (ℕ × Window) → Moment → Result ℕ Violation
 fetch_place at None x = Ok (word x.mem at)
 fetch_place at (Some d) x = Err bad.Device
@@ -112,14 +117,17 @@ abbrev pub fetch : List Section → ℕ → ℕ → Moment → Result ℕ Violat
 fetch live own at x =
     if extends live own (even at) && extends live own (even at + 1) then fetch_place at (device_of x.devices at) x else Err bad.Fetch
 
+-- goes on with what was read, or stops at the violation
 abbrev pub after_read : Result (ℕ × Moment) Violation → (ℕ → Moment → Outcome) → Outcome
 after_read (Ok r) then_ = then_ r.0 r.1
 after_read (Err v) then_ = Violated v
 
+-- goes on after a write, or stops at the violation
 abbrev pub after_write : Result Moment Violation → (Moment → Outcome) → Outcome
 after_write (Ok x) then_ = then_ x
 after_write (Err v) then_ = Violated v
 
+-- goes on with the word that was fetched, or stops at the violation
 abbrev pub after_fetch : Result ℕ Violation → (ℕ → Outcome) → Outcome
 after_fetch (Ok w) then_ = then_ w
 after_fetch (Err v) then_ = Violated v

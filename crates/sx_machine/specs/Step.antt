@@ -22,6 +22,7 @@ pub record Shows (T : Type 0) : Type 0 where
   pub state : State
   pub shown : T
 
+-- PC of a state
 abbrev pub pc_of : State → ℕ
 pc_of s = slice_index s.regs 0
 
@@ -115,5 +116,6 @@ settled s (Module regs x sections event exchange) = record {
   shown = record { touch = x.touches; event = event };
 }
 
+-- one step of a node: the attempt, settled, so that a violation resets the node
 abbrev pub step : Mac → State → Shows Seen
 step mac s = settled s (attempt mac s)

@@ -17,6 +17,7 @@ pub enum Touch {
 /// The event of one step; the numbers are ids of sections.
 #[derive(Clone, Copy, Debug, PartialEq, Eq)]
 pub enum Event {
+    /// None of these.
     Quiet,
     /// A violation reset the node.
     Reset(Violation),
@@ -36,7 +37,9 @@ pub enum Event {
 /// event.
 #[derive(Clone, Copy, Debug, PartialEq, Eq)]
 pub struct Seen {
+    /// The touches; those that did not come are `Quiet`.
     pub touch: [Touch; 2],
+    /// The event.
     pub event: Event,
 }
 
@@ -44,9 +47,13 @@ pub struct Seen {
 /// 0; before the first one, and after a reset, all fields are 0 and false.
 #[derive(Clone, Copy, Debug, PartialEq, Eq)]
 pub struct Exchange {
+    /// The header.
     pub ad: [u8; 32],
+    /// How many bytes the header has, at most 32.
     pub ad_len: u8,
+    /// The plain body.
     pub body: [u8; 32],
+    /// How many bytes the body has, at most 32.
     pub body_len: u8,
     /// Whether it was under the module's own key.
     pub own_key: bool,

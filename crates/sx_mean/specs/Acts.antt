@@ -10,5 +10,6 @@ pub record Grows (a b : State) : Type 0 where
   pub more : List Act
   pub all : a.acts ++ more ≡ b.acts
 
+-- a block only adds acts
 abbrev pub ActsGrow : Type 0
 ActsGrow = (ds : List Decl) (b : Block) (st : State) → Grows st (after_block ds b st)

@@ -33,6 +33,7 @@ declared_kind (Output x ∷ ds) = declared_kind ds
 declared_kind (Var x n ∷ ds) = declared_kind ds
 declared_kind (Array x n ∷ ds) = declared_kind ds
 
+-- two kinds are equal
 abbrev pub same_kind : DeviceKind → DeviceKind → Bool
 same_kind Sensor Sensor = true
 same_kind Sensor Actuator = false
@@ -51,6 +52,7 @@ is_driven es node None (Some kind) = false
 is_driven es node (Some d) None = false
 is_driven es node (Some d) (Some kind) = is_at es d node kind
 
+-- two parts drive one device
 abbrev pub same_device : Option ℕ → Option ℕ → Bool
 same_device None d = false
 same_device (Some a) None = false
@@ -71,6 +73,7 @@ abbrev mutual
   block_packets links ds Done = 0
   block_packets links ds (Then s b) = statement_packets links ds s + block_packets links ds b
 
+-- a connection comes from this output of a part
 abbrev pub leaves : ℕ → ℕ → Link → Bool
 leaves p output l = (l.from == p) && (l.output == output)
 
@@ -82,15 +85,19 @@ links_from ls p output = count_by (leaves p output) ls
 abbrev pub ends_from : List Link → ℕ → ℕ
 ends_from ls p = count_by (λ l. l.from == p) ls
 
+-- how many connections go to a part
 abbrev pub ends_to : List Link → ℕ → ℕ
 ends_to ls p = count_by (λ l. l.to == p) ls
 
+-- a handler of the part can make more than 16 packets
 abbrev pub sends_too_much : List Link → ℕ → ModuleTree → Bool
 sends_too_much ls p m = list_any (λ h. nat_lt 16 (block_packets (links_from ls p) m.decls h.body)) m.handlers
 
+-- how many parts a node has
 abbrev pub parts_at : List PartTree → ℕ → ℕ
 parts_at parts node = count_by (λ q. q.node == node) parts
 
+-- how many parts drive a device
 abbrev pub parts_with : List PartTree → Option ℕ → ℕ
 parts_with parts device = count_by (λ q. same_device device q.device) parts
 
@@ -98,12 +105,15 @@ parts_with parts device = count_by (λ q. same_device device q.device) parts
 unfoldable pub is_misplaced : AppTree → PartTree → Bool
 is_misplaced a part = not (nat_lt part.node a.nodes) || not (is_driven a.devices part.node part.device (declared_kind part.tree.decls))
 
+-- the part's node has more than 8 parts, or its device another part
 unfoldable pub is_crowded : AppTree → PartTree → Bool
 is_crowded a part = nat_lt 8 (parts_at a.parts part.node) || nat_lt 1 (parts_with a.parts part.device)
 
+-- the part has more than 16 ends of connections, or makes too many packets at an event
 unfoldable pub is_overloaded : AppTree → ℕ → PartTree → Bool
 is_overloaded a p part = nat_lt 16 (ends_from a.links p + ends_to a.links p) || sends_too_much a.links p part.tree
 
+-- the part breaks one of the rules
 unfoldable pub is_wrong : AppTree → ℕ → PartTree → Bool
 is_wrong a p part = is_misplaced a part || (is_crowded a part || is_overloaded a p part)
 
@@ -121,12 +131,15 @@ abbrev pub has_port : (Decl → Bool) → List PartTree → ℕ → ℕ → Bool
 has_port is_port [] p port = false
 has_port is_port (part ∷ parts) p port = if p == 0 then nat_lt port (count_by is_port part.tree.decls) else has_port is_port parts (p - 1) port
 
+-- a connection whose output or input is not there
 unfoldable pub is_loose : AppTree → Link → Bool
 is_loose a l = not (has_port (is_port true) a.parts l.from l.output) || not (has_port (is_port false) a.parts l.to l.input)
 
+-- a device whose node is not there
 abbrev pub is_stray : AppTree → AppDevice → Bool
 is_stray a d = not (nat_lt d.node a.nodes)
 
+-- there are more than 16 nodes, 32 devices, 32 parts or 64 connections
 unfoldable pub is_too_large : AppTree → Bool
 is_too_large a = nat_lt 16 a.nodes || (nat_lt 32 (length a.devices) || (nat_lt 32 (length a.parts) || nat_lt 64 (length a.links)))
 

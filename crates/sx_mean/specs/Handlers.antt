@@ -11,6 +11,7 @@ use Rattle.sx_mean.specs.React.{handler_at, input_names, nth}
 abbrev pub handler_number : List HandlerTree → Option (List ℕ) → Option ℕ
 handler_number hs input = position_from (λ h. same_input input h.input) 0 hs
 
+-- the number of the handler of an input's name
 abbrev pub number_of_name : List HandlerTree → Option (List ℕ) → Option ℕ
 number_of_name hs None = None
 number_of_name hs (Some x) = handler_number hs (Some x)
@@ -25,5 +26,6 @@ abbrev pub IsNumbered : ModuleTree → SourceEvent → Option ℕ → Type 0
 IsNumbered m e None = handler_at m e ≡ None
 IsNumbered m e (Some k) = (h : HandlerTree) × (handler_at m e ≡ Some h) × (slice_get m.handlers k ≡ Some h)
 
+-- the handler of an event and its number fit together in every module
 abbrev pub HandlersNumbered : Type 0
 HandlersNumbered = (m : ModuleTree) (e : SourceEvent) → IsNumbered m e (number_of m e)

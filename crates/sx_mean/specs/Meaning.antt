@@ -19,9 +19,11 @@ pub record State : Type 0 where
   pub cells : List ℕ
   pub acts : List Act
 
+-- true as 1, false as 0
 abbrev pub truth : Bool → ℕ
 truth b = if b then 1 else 0
 
+-- a unary operator on a word
 abbrev pub apply : UnOp → ℕ → ℕ
 apply Neg a = (65536 - a) % 65536
 apply Inv a = 65535 - a
@@ -42,10 +44,12 @@ combine Le a b = truth (nat_le a b)
 combine Gt a b = truth (nat_lt b a)
 combine Ge a b = truth (nat_le b a)
 
+-- the value of a local, if there is one of this name
 abbrev pub look_up : List Local → List ℕ → Option ℕ
 look_up [] x = None
 look_up (l ∷ ls) x = if same x l.name then Some l.value else look_up ls x
 
+-- a local's value, or else a cell's
 abbrev pub or_cell : Option ℕ → ℕ → ℕ
 or_cell None cell = cell
 or_cell (Some value) cell = value
@@ -58,6 +62,7 @@ word ds st x = or_cell (look_up st.locals x) (slice_index st.cells (place ds x))
 abbrev pub element : List Decl → State → List ℕ → ℕ → ℕ
 element ds st x i = if nat_lt i (array_length ds x) then slice_index st.cells (place ds x + i) else 0
 
+-- the value of an expression
 abbrev pub value : List Decl → State → Expression → ℕ
 value ds st (Constant n) = n
 value ds st (Variable x) = word ds st x
@@ -65,15 +70,19 @@ value ds st (Indexed x e) = element ds st x (value ds st e)
 value ds st (Applied op e) = apply op (value ds st e)
 value ds st (Combined op a b) = combine op (value ds st a) (value ds st b)
 
+-- the place of a local among the locals, or their number where there is none
 abbrev pub local_place : List Local → List ℕ → ℕ
 local_place ls x = position_or_len (λ l. same x l.name) ls
 
+-- a local with its value
 abbrev pub new_local : List ℕ → ℕ → Local
 new_local x v = record { name = x; value = v }
 
+-- the state with one more local
 abbrev pub define : List ℕ → ℕ → State → State
 define x v st = record st { locals = st.locals ++ new_local x v ∷ [] }
 
+-- the state with a new value of a local, or else of a variable
 abbrev pub assign : List Decl → List ℕ → ℕ → State → State
 assign ds x v st =
     if nat_lt (local_place st.locals x) (length st.locals)
@@ -84,6 +93,7 @@ assign ds x v st =
 abbrev pub assign_element : List Decl → List ℕ → ℕ → ℕ → State → State
 assign_element ds x i v st = if nat_lt i (array_length ds x) then record st { cells = slice_set st.cells (place ds x + i) v } else st
 
+-- the state with one more act
 abbrev pub act : Act → State → State
 act a st = record st { acts = st.acts ++ a ∷ [] }
 
@@ -91,10 +101,12 @@ act a st = record st { acts = st.acts ++ a ∷ [] }
 abbrev pub forget : ℕ → State → State
 forget n st = record st { locals = take n st.locals }
 
+-- a change made so many times
 abbrev pub times : ℕ → (State → State) → State → State
 times zero f st = st
 times (suc n) f st = times n f (f st)
 
+-- the state after a statement and after a block
 abbrev mutual
   pub after_statement : List Decl → Statement → State → State
   after_statement ds (Defines x e) st = define x (value ds st e) st
@@ -109,5 +121,6 @@ abbrev mutual
   after_block ds Done st = st
   after_block ds (Then s b) st = after_block ds b (after_statement ds s st)
 
+-- the state after a block whose locals are gone
 abbrev pub in_block : List Decl → Block → State → State
 in_block ds b st = forget (length st.locals) (after_block ds b st)

@@ -36,6 +36,7 @@ plain_at = 56
 abbrev pub locals_at : ℕ
 locals_at = 72
 
+-- the i-th local
 abbrev pub local_at : ℕ → ℕ
 local_at i = locals_at + 2 * i
 
@@ -48,9 +49,11 @@ scratch_at = 104
 abbrev pub stack_from : ℕ
 stack_from = 152
 
+-- where the stack begins, behind its first word
 abbrev pub stack_to : ℕ
 stack_to = 512
 
+-- how many words the stack holds
 abbrev pub stack_words : ℕ
 stack_words = 160
 
@@ -59,12 +62,15 @@ stack_words = 160
 abbrev pub end_at : ℕ → ℕ
 end_at k = 512 + 24 * k
 
+-- the number in the slot of the k-th end
 abbrev pub end_number_at : ℕ → ℕ
 end_number_at k = end_at k + 2
 
+-- whether the k-th end is open
 abbrev pub end_open_at : ℕ → ℕ
 end_open_at k = end_at k + 4
 
+-- the key in the slot of the k-th end
 abbrev pub end_key_at : ℕ → ℕ
 end_key_at k = end_at k + 8
 

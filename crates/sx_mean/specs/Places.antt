@@ -11,6 +11,7 @@ abbrev pub place : List Decl → List ℕ → ℕ
 place [] x = 0
 place (d ∷ ds) x = if declares x d then 0 else declaration_cells d + place ds x
 
+-- the length of an array of this name, else 0
 abbrev pub own_length : List ℕ → Decl → ℕ
 own_length x (Device kind) = 0
 own_length x (Input y) = 0
@@ -23,6 +24,7 @@ abbrev pub array_length : List Decl → List ℕ → ℕ
 array_length [] x = 0
 array_length (d ∷ ds) x = if declares x d then own_length x d else array_length ds x
 
+-- 1 for an output, 0 for another declaration
 abbrev pub outputs_in : Decl → ℕ
 outputs_in (Device kind) = 0
 outputs_in (Input y) = 0
@@ -43,6 +45,7 @@ first_cells (Output y) = []
 first_cells (Var y n) = n ∷ []
 first_cells (Array y n) = replicate n 0
 
+-- the first values of all cells
 abbrev pub initial_cells : List Decl → List ℕ
 initial_cells [] = []
 initial_cells (d ∷ ds) = first_cells d ++ initial_cells ds

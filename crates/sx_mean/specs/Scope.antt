@@ -22,6 +22,7 @@ pub record IsIndexed (ls : List Local) (x : List ℕ) : Type 0 where
   pub place : local_place ls x ≡ index_of (names_of ls) x
   pub value : look_up ls x ≡ option_map (λ l. l.value) (slice_get ls (index_of (names_of ls) x))
 
+-- the place of a local is found by its name, in every list of locals
 abbrev pub LocalsIndexed : Type 0
 LocalsIndexed = (ls : List Local) (x : List ℕ) → IsIndexed ls x
 
@@ -31,5 +32,6 @@ pub record KeepsScope (ds : List Decl) (st : State) : Type 0 where
   pub within_block : (b : Block) → names_of (after_block ds b st).locals ≡ names_of st.locals ++ definitions b
   pub block : (b : Block) → names_of (in_block ds b st).locals ≡ names_of st.locals
 
+-- statements and blocks keep the locals that were there before
 abbrev pub ScopesKept : Type 0
 ScopesKept = (ds : List Decl) (st : State) → KeepsScope ds st

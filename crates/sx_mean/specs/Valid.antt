@@ -18,6 +18,7 @@ pub record IsTied (app : AppTree) (l : Link) : Type 0 where
   pub output : has_port (is_port true) app.parts l.from l.output ≡ true
   pub input : has_port (is_port false) app.parts l.to l.input ≡ true
 
+-- what the limits and rules of a valid application say, clause by clause
 pub record IsApplication (app : AppTree) : Type 0 where
   pub few_nodes : app.nodes ≤ 16
   pub few_devices : length app.devices ≤ 32
@@ -27,5 +28,6 @@ pub record IsApplication (app : AppTree) : Type 0 where
   pub parts : (p : ℕ) (q : PartTree) → slice_get app.parts p ≡ Some q → IsPlaced app p q
   pub links : All (IsTied app) app.links
 
+-- what passes the test `is_valid` is a valid application
 abbrev pub ValidApplications : Type 0
 ValidApplications = (app : AppTree) → is_valid app ≡ true → IsApplication app

@@ -18,6 +18,7 @@ own_value (Output y) = 0
 own_value (Var y v) = v
 own_value (Array y n) = 0
 
+-- the first value of the variable of this name
 abbrev pub first_value : List Decl → List ℕ → ℕ
 first_value [] x = 0
 first_value (d ∷ ds) x = if declares x d then own_value d else first_value ds x
@@ -38,6 +39,7 @@ IsKnown ds names x = nat_lt (index_of names x) (length names) ≡ false → IsVa
 
 -- numbers are words, and words are known
 
+-- each number is a word, and each name that is read is a local or a variable
 abbrev pub FineExpression : List Decl → List (List ℕ) → Expression → Type 0
 FineExpression ds names (Constant v) = IsWord v
 FineExpression ds names (Variable x) = IsKnown ds names x

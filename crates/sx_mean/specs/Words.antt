@@ -12,9 +12,11 @@ use Rattle.sx_mean.specs.Meaning.{State, value}
 use Rattle.sx_mean.specs.Places.{initial_cells}
 use Rattle.sx_mean.specs.React.{react, value_of}
 
+-- a local's value is a word
 abbrev pub IsLocalWord : Local → Type 0
 IsLocalWord l = IsWord l.value
 
+-- what an act sends or emits is a word
 abbrev pub ActsOnWord : Act → Type 0
 ActsOnWord (Send output v) = IsWord v
 ActsOnWord (Emit v) = IsWord v
@@ -34,6 +36,7 @@ pub record AreCells (ds : List Decl) (cells : List ℕ) : Type 0 where
   pub count : length cells ≡ declared_cells ds
   pub words : All IsWord cells
 
+-- the first values of cells are words, one for each cell
 abbrev pub CellsBegin : Type 0
 CellsBegin = (ds : List Decl) → DeclsHaveWords ds → AreCells ds (initial_cells ds)
 
@@ -42,5 +45,6 @@ pub record ReactsInWords (m : ModuleTree) (e : SourceEvent) (cells : List ℕ) :
   pub cells_stay : AreCells m.decls (react m e cells).cells
   pub acts : All ActsOnWord (react m e cells).acts
 
+-- a reaction to a word leaves words in the cells and acts on words
 abbrev pub ReactionsKeepWords : Type 0
 ReactionsKeepWords = (m : ModuleTree) (e : SourceEvent) (cells : List ℕ) → TreeHasWords m → IsWord (value_of e) → AreCells m.decls cells → ReactsInWords m e cells

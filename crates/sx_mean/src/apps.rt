@@ -1,3 +1,5 @@
+//! Applications: modules on nodes, their devices and connections, and whether these fit together.
+
 ghost use Rattle.std.specs.Prelude.{◌≡◌, ℕ, ◌+◌, ◌*◌, ◌≤◌, ◌<◌, ◌==◌, ◌&&◌, Bool, count_by, length, map, min, nat_lt, not};
 ghost use Rattle.std.specs.List.{list_any};
 ghost use Rattle.sx_check.specs.Source.{source_tree};
@@ -13,34 +15,46 @@ use sx_lang::tree::{Decl, DeviceKind, Module, Stmt};
 /// A sensor or an actuator of a node.
 #[derive(Clone, Copy)]
 pub struct AppDevice {
+    /// The place of its node.
     pub node: u8,
+    /// Whether it is a sensor or an actuator.
     pub kind: DeviceKind,
 }
 
 /// A module of an application, at its node.
 #[derive(Drop)]
 pub struct Part {
+    /// The place of its node.
     pub node: u8,
     /// The device that the module drives, by its place among the application's devices.
     pub device: Option<u8>,
+    /// The module itself.
     pub code: Checked,
 }
 
 /// A connection from an output of one part to an input of another, each by its number.
 #[derive(Clone, Copy)]
 pub struct Link {
+    /// The place of the part that sends.
     pub from: u8,
+    /// The number of its output.
     pub output: u8,
+    /// The place of the part that receives.
     pub to: u8,
+    /// The number of its input.
     pub input: u8,
 }
 
 /// Modules that are connected, without addresses or keys. Connection order is the order in `links`.
 #[derive(Drop)]
 pub struct App {
+    /// How many nodes there are.
     pub nodes: u8,
+    /// The devices.
     pub devices: Vec<AppDevice>,
+    /// The modules.
     pub parts: Vec<Part>,
+    /// The connections.
     pub links: Vec<Link>,
 }
 

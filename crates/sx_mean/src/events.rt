@@ -1,3 +1,5 @@
+//! Events, acts, and the ends of connections.
+
 use sx_lang::sides::Side;
 
 /// What a module reacts to.
@@ -21,7 +23,9 @@ pub enum Act {
 /// One end of a connection in a module. A module's ends stand in connection order, `From` before `To`.
 #[derive(Clone, Copy, PartialEq, Eq, Debug)]
 pub struct End {
+    /// The number of the connection.
     pub link: u8,
+    /// The side of the connection that the module holds.
     pub side: Side,
     /// The number of the output on the side `From`, of the input on the side `To`.
     pub port: u8,

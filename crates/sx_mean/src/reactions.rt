@@ -1,3 +1,5 @@
+//! What a module does at an event.
+
 ghost use Rattle.std.specs.Prelude.{◌≡◌, ℕ, ◌-◌, ◌∷◌, List, [], IfOk, None, OnErr, OnOk, Some, map};
 ghost use Rattle.std.specs.List.{find};
 ghost use Rattle.sx_check.specs.Names.{same_input};

@@ -1,3 +1,5 @@
+//! The words that a module keeps between events.
+
 ghost use Rattle.std.specs.Prelude.{◌≡◌, ℕ, ◌++◌, IfOk, OnOk, replicate};
 ghost use Rattle.sx_check.specs.Source.{source_tree};
 ghost use Rattle.sx_mean.specs.Places.{first_cells, initial_cells};
@@ -10,6 +12,7 @@ use sx_lang::tree::Decl;
 /// array, in order of declaration.
 #[derive(Drop)]
 pub struct Store {
+    /// The words in that order.
     pub cells: Vec<u16>,
 }
 

@@ -1,3 +1,5 @@
+//! What small modules do at events, and an application that is valid or not.
+
 use crate::apps::{App, AppDevice, Link, Part};
 use crate::events::{Act, SourceEvent};
 use crate::reactions::react;

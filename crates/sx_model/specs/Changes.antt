@@ -29,6 +29,7 @@ if_so b o = if b then o else None
 abbrev pub on_module : Model → ℕ → (Standing → Option Standing) → Option Model
 on_module s m change = at_index s.modules m change >>? (λ xs. Some (record s { modules = xs }))
 
+-- the state after a change of one device
 abbrev pub on_device : Model → ℕ → (Reading → Option Reading) → Option Model
 on_device s d change = at_index s.devices d change >>? (λ rs. Some (record s { devices = rs }))
 
@@ -40,6 +41,7 @@ on_present change x = x.present >>? (λ p. change p >>? (λ q. Some (record x { 
 abbrev pub takes_fresh : Bool → Reading → Option Reading
 takes_fresh is_free r = if_so (is_free && r.fresh) (Some (record r { fresh = false }))
 
+-- a fresh reading of a sensor that no present module drives is taken by other code
 abbrev pub drains : AppTree → Model → ℕ → Option Model
 drains app s d = on_device s d (takes_fresh (kind_is is_sensor (slice_get app.devices d) && undriven app.parts s.modules d))
 
@@ -47,6 +49,7 @@ drains app s d = on_device s d (takes_fresh (kind_is is_sensor (slice_get app.de
 abbrev pub writes : ℕ → Pending → Option Pending
 writes v owed = without_first v owed.emits owed.pieces
 
+-- a module that is present writes the first emit that it owes
 abbrev pub writes_present : ℕ → Present → Option Present
 writes_present v p = p.pending >>? (λ owed. writes v owed >>? (λ left. Some (with_pending p (Some left))))
 
@@ -54,6 +57,7 @@ writes_present v p = p.pending >>? (λ owed. writes v owed >>? (λ left. Some (w
 abbrev pub is_finished : ℕ → Pending → Bool
 is_finished k owed = is_nothing owed.emits && (k == owed.pieces)
 
+-- a module that owes no emit is done with its event, with so many pieces
 abbrev pub finishes : ℕ → Present → Option Present
 finishes k p = p.pending >>? (λ owed. if_so (is_finished k owed) (Some (with_pending p None)))
 
@@ -61,10 +65,12 @@ finishes k p = p.pending >>? (λ owed. if_so (is_finished k owed) (Some (with_pe
 abbrev pub may_refuse : ℕ → ℕ → Bool → Present → Bool
 may_refuse status k waiting p = (nat_le 2 status && nat_le status 8) && ((k == 0) && (is_none p.pending && (not (status == 8) || waiting)))
 
+-- a module that is present may be refused so
 abbrev pub refuses : ℕ → ℕ → Bool → Option Present → Bool
 refuses status k waiting None = false
 refuses status k waiting (Some p) = may_refuse status k waiting p
 
+-- a module may be refused so: it is present, and the status and the pieces fit
 abbrev pub is_refused : ℕ → ℕ → Bool → Option Standing → Bool
 is_refused status k waiting None = false
 is_refused status k waiting (Some x) = refuses status k waiting x.present
@@ -73,6 +79,7 @@ is_refused status k waiting (Some x) = refuses status k waiting x.present
 abbrev pub opens_ask : ℕ → Standing → Option Standing
 opens_ask a x = Some (record x { asked = Some a })
 
+-- the deployer asks a module; challenges are counted
 abbrev pub asks : Model → ℕ → ℕ → Option Model
 asks s m a = if_so (a == s.asks) (on_module s m (opens_ask a) >>? (λ t. Some (record t { asks = t.asks + 1 })))
 
@@ -120,11 +127,13 @@ resets app s n = if_so (nat_lt n (length s.boots)) (Some (record s {
 abbrev pub opens_standing : ℕ → ℕ → ℕ → Side → ℕ → List End → Standing → Option Standing
 opens_standing boot now c side epoch es x = on_present (opens_end (may_open x.attested boot c epoch now) epoch c side es) x
 
+-- a module opens an end, at the boot of its node and in an epoch
 abbrev pub opens_in : AppTree → Model → ℕ → ℕ → Side → ℕ → Option Model
 opens_in app s m c side epoch =
     slice_get app.parts m >>? (λ q. slice_get s.boots q.node >>? (λ boot.
     on_module s m (opens_standing boot (slice_index s.epochs c) c side epoch (ends_of app m))))
 
+-- a module vouches for a challenge at the boot of its node
 abbrev pub vouches_in : AppTree → Model → ℕ → ℕ → Option Model
 vouches_in app s m a = slice_get app.parts m >>? (λ q. slice_get s.boots q.node >>? (λ boot. on_module s m (vouches a boot)))
 
@@ -137,6 +146,7 @@ abbrev pub answers : Option ℕ → ℕ → List Vouched → Bool
 answers None b xs = false
 answers (Some a) b xs = is_vouched a b xs
 
+-- the deployer may accept the module's answer at a boot
 abbrev pub is_accepted : ℕ → List Link → List ℕ → ℕ → Standing → Bool
 is_accepted m ls es b x = answers x.asked b x.vouched && may_attest m ls es (boot_of x.attested) b
 
@@ -144,6 +154,7 @@ is_accepted m ls es b x = answers x.asked b x.vouched && may_attest m ls es (boo
 abbrev pub accepts : ℕ → List ℕ → Standing → Option Standing
 accepts b epochs x = Some (record x { asked = None; attested = Some (record { boot = b; floors = epochs }) })
 
+-- the deployer accepts a module's answer, and these are the epochs behind it
 abbrev pub accepts_with : Model → ℕ → ℕ → List ℕ → Option Model
 accepts_with s m b epochs = on_module s m (accepts b epochs) >>? (λ t. Some (record t { epochs = epochs }))
 
@@ -151,6 +162,7 @@ accepts_with s m b epochs = on_module s m (accepts b epochs) >>? (λ t. Some (re
 abbrev pub renewal : List Link → Model → ℕ → ℕ → Option (List ℕ)
 renewal ls s m b = slice_get s.modules m >>? (λ x. if_so (is_accepted m ls s.epochs b x) (Some (renewed m ls (boot_of x.attested) s.epochs)))
 
+-- the deployer accepts a module's answer and renews its connections, where it may
 abbrev pub attests : AppTree → Model → ℕ → ℕ → Option Model
 attests app s m b = renewal app.links s m b >>? (λ epochs. accepts_with s m b epochs)
 
@@ -164,6 +176,7 @@ is_done_in app s m status k =
 abbrev pub puts : Present → Standing → Option Standing
 puts p x = Some (record x { present = Some p })
 
+-- the state with a module that is present so
 abbrev pub with_module : Model → ℕ → Present → Model
 with_module s m p = unwrap_or (on_module s m (puts p)) s
 
@@ -178,9 +191,11 @@ abbrev pub is_readable : AppTree → ℕ → ℕ → Option Reading → Bool
 is_readable app d v None = false
 is_readable app d v (Some r) = kind_is is_sensor (slice_get app.devices d) && is_fresh_with v r
 
+-- a reading that is no longer fresh
 abbrev pub staled : Reading → Option Reading
 staled r = Some (record r { fresh = false })
 
+-- the state in which a device's reading is no longer fresh
 abbrev pub with_stale : ℕ → Model → Model
 with_stale d s = unwrap_or (on_device s d staled) s
 
@@ -190,6 +205,7 @@ reads_from app s m q d v =
     if_so (is_readable app d v (slice_get s.devices d))
     ((slice_get s.modules m >>? idle) >>? (λ p. Some (with_stale d (reacted q.tree (ends_of app m) (event.Sample v) s m p))))
 
+-- a driver takes its sensor's fresh value and reacts to it
 abbrev pub reads : AppTree → Model → ℕ → ℕ → Option Model
 reads app s m v = slice_get app.parts m >>? (λ q. q.device >>? (λ d. reads_from app s m q d v))
 
@@ -206,9 +222,11 @@ abbrev pub takes_idle : AppTree → Model → ℕ → PartTree → ℕ → ℕ �
 takes_idle app s m q c i input v p =
     takes_present c i (ends_of app m) p >>? (λ next. Some (reacted q.tree (ends_of app m) (event.Input input v) s m next))
 
+-- a module that owes nothing takes a word at an input
 abbrev pub takes_at : AppTree → Model → ℕ → PartTree → ℕ → ℕ → ℕ → ℕ → Option Model
 takes_at app s m q c i input v = (slice_get s.modules m >>? idle) >>? (λ p. takes_idle app s m q c i input v p)
 
+-- a module takes the word of this number from a connection, and reacts to it
 abbrev pub takes_in : AppTree → Model → ℕ → ℕ → ℕ → ℕ → Option Model
 takes_in app s m c i v =
     slice_get app.parts m >>? (λ q. slice_get app.links c >>? (λ l. if_so (is_word v (word_at s.sent c i)) (takes_at app s m q c i l.input v)))

@@ -12,6 +12,7 @@ use Rattle.sx_model.specs.Worked.{lighting, loaded, sent, taken, shown, again, r
 abbrev pub allows : List Item → Bool
 allows items = is_some (after lighting (power_on lighting) items)
 
+-- the run that is shown is legal
 abbrev pub LightingIsLegal : Type 0
 LightingIsLegal = allows shown ≡ true
 

@@ -15,6 +15,7 @@ use Rattle.sx_model.specs.Reaction.{MOST_SENT, field_of, sends}
 abbrev pub sending_of : End → EndView → ℕ → ℕ → Option Sending
 sending_of e view output v = if sends output e view then Some (record { field = field_of e view; value = v }) else None
 
+-- what all ends send of what is sent to an output
 abbrev pub to_send : List End → List EndView → ℕ → ℕ → List Sending
 to_send [] views output v = []
 to_send (e ∷ es) [] output v = []
@@ -25,6 +26,7 @@ abbrev pub act_to_send : List End → List EndView → Act → List Sending
 act_to_send es views (Send output v) = to_send es views output v
 act_to_send es views (Emit v) = []
 
+-- what all acts are sent as
 abbrev pub all_to_send : List End → List EndView → List Act → List Sending
 all_to_send es views [] = []
 all_to_send es views (a ∷ acts) = act_to_send es views a ++ all_to_send es views acts
@@ -34,6 +36,7 @@ abbrev pub emits_of_act : Act → List ℕ
 emits_of_act (Send output v) = []
 emits_of_act (Emit v) = v ∷ []
 
+-- what all acts emit
 abbrev pub emits_of : List Act → List ℕ
 emits_of [] = []
 emits_of (a ∷ acts) = emits_of_act a ++ emits_of acts
@@ -43,6 +46,7 @@ abbrev pub has_room : Option (List ℕ) → Bool
 has_room None = false
 has_room (Some words) = nat_lt (length words) MOST_SENT
 
+-- the words with one more at a field, where there is room
 abbrev pub with_word : ℕ → ℕ → Option (List ℕ) → List (List ℕ) → List (List ℕ)
 with_word c v None sent = sent
 with_word c v (Some words) sent = if nat_lt (length words) MOST_SENT then slice_set sent c (words ++ v ∷ []) else sent
@@ -56,6 +60,7 @@ abbrev pub sent_words : List Sending → List (List ℕ) → List (List ℕ)
 sent_words [] sent = sent
 sent_words (x ∷ xs) sent = sent_words xs (sent_one x sent)
 
+-- how many of them there is room for
 abbrev pub sent_pieces : List Sending → List (List ℕ) → ℕ
 sent_pieces [] sent = 0
 sent_pieces (x ∷ xs) sent = (if has_room (slice_get sent x.field) then 1 else 0) + sent_pieces xs (sent_one x sent)

@@ -10,9 +10,11 @@ use Rattle.sx_parse.specs.declared.stop.Stop.TheVariants.{Fault, Memory}
 pub record Adds (want : List Symbol → List Symbol) (depth : ℕ) (ts : List Placed) (s : Statement) (rest : List Placed) : Type 0 where
   pub adds : (st : List Symbol) (vs : List Value) (front : Block) → opens (Statements ∷ st) ≡ depth → read (want (Statements ∷ st)) (Of_block front ∷ vs) ts ≡ read (Statements ∷ st) (Of_block (snoc front s) ∷ vs) rest
 
+-- the grammar refuses the tokens at this one, where this is required in a block
 pub record Fails (want : List Symbol → List Symbol) (depth : ℕ) (ts : List Placed) (t : Option Placed) : Type 0 where
   pub fails : (st : List Symbol) (vs : List Value) → opens (Statements ∷ st) ≡ depth → read (want (Statements ∷ st)) vs ts ≡ Refused t
 
+-- a call stops where the grammar does, or since memory ran out
 abbrev pub FailsAs : (List Symbol → List Symbol) → ℕ → List Placed → Stop → Type 0
 FailsAs want depth ts (Fault t) = Fails want depth ts t
 FailsAs want depth ts Memory = Unit {0}

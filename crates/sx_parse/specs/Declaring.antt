@@ -9,6 +9,7 @@ use Rattle.sx_grammar.specs.Machine.{Symbol, Value, read, Outcome, Read, Refused
 use Rattle.sx_parse.specs.declared.stop.Stop.{Stop}
 use Rattle.sx_parse.specs.declared.stop.Stop.TheVariants.{Fault, Memory}
 
+-- a module in the making
 abbrev pub holding : List Decl → List HandlerTree → List Value
 holding ds hs = Of_module (record { decls = ds; handlers = hs }) ∷ []
 
@@ -33,9 +34,11 @@ pub record Handles (want : List Symbol → List Symbol) (hs : List HandlerTree) 
 pub record Ends (ts : List Placed) (hs : List HandlerTree) : Type 0 where
   pub ends : (ds : List Decl) → read (Handlers ∷ []) (holding ds []) ts ≡ Read (holding ds hs)
 
+-- the grammar refuses the tokens at this one, where handlers are required
 pub record Breaks (ts : List Placed) (t : Option Placed) : Type 0 where
   pub breaks : (ds : List Decl) → read (Handlers ∷ []) (holding ds []) ts ≡ Refused t
 
+-- a call stops where the grammar does, or since memory ran out
 abbrev pub BreaksAs : List Placed → Stop → Type 0
 BreaksAs ts (Fault t) = Breaks ts t
 BreaksAs ts Memory = Unit {0}
@@ -44,9 +47,11 @@ BreaksAs ts Memory = Unit {0}
 pub record Answers (ts : List Placed) (o : Outcome) : Type 0 where
   pub answers : read begun nothing ts ≡ o
 
+-- the tokens are this module
 abbrev pub Reaches : List Placed → Module → Type 0
 Reaches ts m = Answers ts (Read (Of_module (module_of m) ∷ []))
 
+-- a call stops at the token that the grammar refuses, or since memory ran out
 abbrev pub Refuses : List Placed → Stop → Type 0
 Refuses ts (Fault t) = Answers ts (Refused t)
 Refuses ts Memory = Unit {0}

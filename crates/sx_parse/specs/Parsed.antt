@@ -11,6 +11,7 @@ use Rattle.sx_parse.specs.declared.error.ParseError.{ParseError}
 use Rattle.sx_parse.specs.declared.error.ParseError.TheVariants.{Fault, OutOfMemory}
 use Rattle.sx_parse.specs.declared.error.ParseFault.{ParseFault}
 
+-- the place of a fault
 abbrev pub at : ParseFault → Place
 at f = record { line = f.line; column = f.column }
 
@@ -21,12 +22,14 @@ IsError text OutOfMemory = Unit {0}
 
 -- The same of the grammar's machine.
 
+-- the text is this module, by its tokens
 pub record Read (text : List ℕ) (m : Module) : Type 0 where
   pub tokens : List Placed
   pub end : Place
   pub lexed : Lexed start text tokens end
   pub reaches : Reaches tokens m
 
+-- the text has its first fault at this place, by its tokens
 pub record Stopped (text : List ℕ) (f : ParseFault) : Type 0 where
   pub tokens : List Placed
   pub end : Place
@@ -36,9 +39,11 @@ pub record Stopped (text : List ℕ) (f : ParseFault) : Type 0 where
   pub line : f.line ≡ (place_of end token).line
   pub column : f.column ≡ (place_of end token).column
 
+-- a call's error is the text's first fault, or that memory ran out
 abbrev pub StopsAt : List ℕ → ParseError → Type 0
 StopsAt text (Fault f) = Stopped text f
 StopsAt text OutOfMemory = Unit {0}
 
+-- a call's answer is what the text is
 abbrev pub Told : List ℕ → Result Module ParseError → Type 0
 Told text r = MatchResult r (λ m. Read text m) (λ e. StopsAt text e)

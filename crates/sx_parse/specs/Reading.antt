@@ -12,16 +12,20 @@ use Rattle.sx_parse.specs.declared.stop.Stop.TheVariants.{Fault, Memory}
 pub record Reads (want : List Symbol → List Symbol) (depth : ℕ) (ts : List Placed) (v : Value) (to : List Symbol → List Symbol) (rest : List Placed) : Type 0 where
   pub reads : (st : List Symbol) (vs : List Value) → opens st ≡ depth → read (want st) vs ts ≡ read (to st) (v ∷ vs) rest
 
+-- the grammar refuses the tokens at this one, where this is required
 pub record Stops (want : List Symbol → List Symbol) (depth : ℕ) (ts : List Placed) (t : Option Placed) : Type 0 where
   pub stops : (st : List Symbol) (vs : List Value) → opens st ≡ depth → read (want st) vs ts ≡ Refused t
 
+-- a call stops where the grammar does, or since memory ran out
 abbrev pub StopsAs : (List Symbol → List Symbol) → ℕ → List Placed → Stop → Type 0
 StopsAs want depth ts (Fault t) = Stops want depth ts t
 StopsAs want depth ts Memory = Unit {0}
 
+-- nothing is required before the rest
 abbrev pub done : List Symbol → List Symbol
 done st = st
 
+-- the code's sign as the grammar has it
 abbrev pub sign_of : Sign → machine.Sign
 sign_of Open = An_open
 sign_of Close = A_close
@@ -34,9 +38,11 @@ sign_of Equals = An_equals
 pub record Takes (f : machine.Sign) (ts rest : List Placed) : Type 0 where
   pub takes : (st : List Symbol) (vs : List Value) → read (Want f ∷ st) vs ts ≡ read st vs rest
 
+-- the grammar refuses the tokens at this one, where the sign is required
 pub record Misses (f : machine.Sign) (ts : List Placed) (t : Option Placed) : Type 0 where
   pub misses : (st : List Symbol) (vs : List Value) → read (Want f ∷ st) vs ts ≡ Refused t
 
+-- the sign does not stand here; this call takes no memory
 abbrev pub Lacks : machine.Sign → List Placed → Stop → Type 0
 Lacks f ts (Fault t) = Misses f ts t
 Lacks f ts Memory = ⊥
@@ -45,9 +51,11 @@ Lacks f ts Memory = ⊥
 pub record Named (ts : List Placed) (x : List ℕ) (rest : List Placed) : Type 0 where
   pub named : (w : After) (st : List Symbol) (vs : List Value) → read (A_name w ∷ st) vs ts ≡ read (follow w x st) vs rest
 
+-- the grammar refuses the tokens at this one, where a name is required
 pub record NoName (ts : List Placed) (t : Option Placed) : Type 0 where
   pub no_name : (w : After) (st : List Symbol) (vs : List Value) → read (A_name w ∷ st) vs ts ≡ Refused t
 
+-- no name stands here; this call takes no memory
 abbrev pub NameLacks : List Placed → Stop → Type 0
 NameLacks ts (Fault t) = NoName ts t
 NameLacks ts Memory = ⊥
@@ -56,9 +64,11 @@ NameLacks ts Memory = ⊥
 pub record Numbered (ts : List Placed) (n : ℕ) (rest : List Placed) : Type 0 where
   pub numbered : (w : Purpose) (st : List Symbol) (vs : List Value) → read (A_number w ∷ st) vs ts ≡ read (follow_number w n st) vs rest
 
+-- the grammar refuses the tokens at this one, where a number is required
 pub record NoNumber (ts : List Placed) (t : Option Placed) : Type 0 where
   pub no_number : (w : Purpose) (st : List Symbol) (vs : List Value) → read (A_number w ∷ st) vs ts ≡ Refused t
 
+-- no number stands here; this call takes no memory
 abbrev pub NumberLacks : List Placed → Stop → Type 0
 NumberLacks ts (Fault t) = NoNumber ts t
 NumberLacks ts Memory = ⊥

@@ -1,3 +1,5 @@
+//! Parsing of declarations.
+
 ghost use Rattle.std.specs.Prelude.{◌<◌, ◌∷◌, length, MatchResult, IfOk, IfSome, MatchOption};
 ghost use Rattle.sx_grammar.specs.Machine.{Want, Say, A_semicolon, An_open_square, A_number, For_length, Initial_of, Do_declare, Declarations, Handlers};
 ghost use Rattle.sx_parse.specs.Reading.{StopsAs, done};

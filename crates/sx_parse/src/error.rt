@@ -1,3 +1,5 @@
+//! Why a text is not parsed, and where.
+
 ghost use Rattle.std.specs.Prelude.{◌≡◌};
 
 use std::alloc::AllocError;
@@ -6,7 +8,9 @@ use std::alloc::AllocError;
 /// that number.
 #[derive(Clone, Copy, PartialEq, Eq, Debug)]
 pub struct ParseFault {
+    /// The line.
     pub line: u32,
+    /// The byte of the line.
     pub column: u32,
 }
 
@@ -16,6 +20,7 @@ pub enum ParseError {
     /// The text is no module. The fault is its first token that can't follow the tokens before it, or
     /// that breaks a bound; the end of the text counts as a token.
     Fault(ParseFault),
+    /// Memory ran out.
     OutOfMemory,
 }
 

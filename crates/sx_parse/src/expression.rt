@@ -1,3 +1,5 @@
+//! Parsing of expressions.
+
 ghost use Rattle.std.specs.Prelude.{◌≡◌, ◌+◌, ◌<◌, ◌≤◌, ◌∷◌, length, MatchResult, IfOk};
 ghost use Rattle.sx_lang.specs.Tree.{Indexed, Applied, Combined};
 ghost use Rattle.sx_lang.specs.View.{expression_of};

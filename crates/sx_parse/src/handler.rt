@@ -1,3 +1,5 @@
+//! Parsing of handlers.
+
 ghost use Rattle.std.specs.Prelude.{◌≡◌, ◌<◌, [], ◌∷◌, length, map, MatchResult, IfOk, IfSome, MatchOption};
 ghost use Rattle.sx_lang.specs.View.{handler_of};
 ghost use Rattle.sx_grammar.specs.Machine.{Want, An_open, A_name, After_open, Handlers};

@@ -1,9 +1,12 @@
+//! Which operators tokens are.
+
 ghost use Rattle.std.specs.Prelude.{◌≡◌};
 ghost use Rattle.sx_grammar.specs.Tokens as tokens;
 
 use sx_lang::tree::{BinOp, UnOp};
 use sx_lex::tokens::Kind;
 
+/// The unary operator that a token is.
 pub fn unary_operator(kind: Kind) -> Option<UnOp>
     ensures { result ≡ tokens.unary_operator kind }
 {
@@ -15,6 +18,7 @@ pub fn unary_operator(kind: Kind) -> Option<UnOp>
     }
 }
 
+/// The operator between factors that a token is: `*` or `&`.
 pub fn factor_operator(kind: Kind) -> Option<BinOp>
     ensures { result ≡ tokens.factor_operator kind }
 {
@@ -25,6 +29,7 @@ pub fn factor_operator(kind: Kind) -> Option<BinOp>
     }
 }
 
+/// The operator between addends that a token is: `+`, `-`, `|` or `^`.
 pub fn addend_operator(kind: Kind) -> Option<BinOp>
     ensures { result ≡ tokens.addend_operator kind }
 {
@@ -37,6 +42,7 @@ pub fn addend_operator(kind: Kind) -> Option<BinOp>
     }
 }
 
+/// The comparison that a token is.
 pub fn comparison_operator(kind: Kind) -> Option<BinOp>
     ensures { result ≡ tokens.comparison_operator kind }
 {

@@ -1,3 +1,5 @@
+//! From the text of a module to its tree.
+
 ghost use Rattle.std.specs.Prelude.{◌≡◌, MatchResult, IfOk, IfErr};
 ghost use Rattle.sx_lang.specs.Tree.{ModuleTree};
 ghost use Rattle.sx_lang.specs.View.{module_of};

@@ -11,11 +11,17 @@ use sx_lex::tokens::{Kind, Placed};
 /// A sign that must stand somewhere.
 #[derive(Clone, Copy)]
 pub enum Sign {
+    /// `(`
     Open,
+    /// `)`
     Close,
+    /// `[`
     OpenSquare,
+    /// `]`
     CloseSquare,
+    /// `;`
     Semicolon,
+    /// `=`
     Equals,
 }
 

@@ -1,3 +1,5 @@
+//! Parsing of statements and blocks.
+
 ghost use Rattle.std.specs.Prelude.{◌≡◌, ◌<◌, ◌≤◌, ◌∷◌, length, MatchResult, IfOk, MatchOption};
 ghost use Rattle.sx_lang.specs.Tree.{Chooses, Repeats};
 ghost use Rattle.sx_lang.specs.View.{expression_of, statement_of, block_of};

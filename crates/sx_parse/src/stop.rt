@@ -1,3 +1,5 @@
+//! Why parsing stops.
+
 ghost use Rattle.std.specs.Prelude.{◌≡◌};
 
 use std::alloc::{AllocError, AllocFailed};
@@ -8,6 +10,7 @@ use sx_lex::tokens::Placed;
 pub enum Stop {
     /// At this token, or at the end of the text.
     Fault(Option<Placed>),
+    /// Memory ran out.
     Memory,
 }
 

@@ -1,3 +1,5 @@
+//! Texts without a fault, the places of first faults, and the bounds at their limits.
+
 use crate::error::ParseError;
 use crate::parse::parse;
 use crate::printed::reread;

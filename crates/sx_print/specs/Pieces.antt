@@ -13,12 +13,15 @@ use Rattle.sx_lex.specs.declared.tokens.Kind.TheVariants.{Number, Name, Sensor, 
 use Rattle.sx_print.specs.declared.words.Gap.{Gap}
 use Rattle.sx_print.specs.declared.words.Gap.TheVariants.{Nothing, Space, Line}
 
+-- a part of a printed text: a name, a number or a word of the language, with what stands behind it,
+-- or a margin
 pub data Piece : Type 0 where
   name : List ℕ → Gap → Piece
   number : ℕ → Gap → Piece
   quoted : Kind → Gap → Piece  -- one of the language's own words or signs
   indent : Piece
 
+-- the text of a token that is neither a number nor a name
 abbrev pub spelling : Kind → List ℕ
 spelling (Number n) = []
 spelling (Name x) = []
@@ -60,26 +63,31 @@ spelling Tilde = codes "~"
 spelling Bang = codes "!"
 spelling Bad = []
 
+-- the text that stands behind a word
 abbrev pub gap_bytes : Gap → List ℕ
 gap_bytes Nothing = []
 gap_bytes Space = codes " "
 gap_bytes Line = 10 ∷ []
 
+-- the text of a piece
 abbrev pub piece_bytes : Piece → List ℕ
 piece_bytes (name x g) = x ++ gap_bytes g
 piece_bytes (number n g) = decimal n ++ gap_bytes g
 piece_bytes (quoted k g) = spelling k ++ gap_bytes g
 piece_bytes indent = codes "    "
 
+-- the text of pieces one behind the other
 abbrev pub text_of : List Piece → List ℕ
 text_of [] = []
 text_of (p ∷ ps) = piece_bytes p ++ text_of ps
 
+-- the token of a unary operator
 abbrev pub unary_sign : UnOp → Kind
 unary_sign Neg = Minus
 unary_sign Inv = Tilde
 unary_sign Not = Bang
 
+-- the token of an operator between two operands
 abbrev pub binary_sign : BinOp → Kind
 binary_sign Add = Plus
 binary_sign Sub = Minus
@@ -115,6 +123,7 @@ deeper depth = min (depth + 1) 48
 abbrev pub value_pieces : Expression → List Piece → List Piece
 value_pieces e rest = quoted Equals Space ∷ expression_pieces Nothing e (quoted Semicolon Line ∷ rest)
 
+-- the pieces of statements, each on lines of its own inside so many blocks
 abbrev mutual
   pub statement_pieces : ℕ → Statement → List Piece → List Piece
   statement_pieces depth (Defines x e) rest = quoted Let Space ∷ name x Space ∷ value_pieces e rest
@@ -140,6 +149,7 @@ abbrev mutual
 abbrev pub block_pieces : ℕ → Block → List Piece → List Piece
 block_pieces depth b rest = quoted OpenBrace Line ∷ statements_pieces (deeper depth) b (margin depth rest)
 
+-- the word of a kind of device
 abbrev pub device_word : DeviceKind → Kind
 device_word DeviceKind.Sensor = Sensor
 device_word DeviceKind.Actuator = Actuator
@@ -152,20 +162,25 @@ declared_pieces (Decl.Output x) rest = quoted Output Space ∷ name x Nothing �
 declared_pieces (Decl.Var x n) rest = quoted Var Space ∷ name x Space ∷ quoted Equals Space ∷ number n Nothing ∷ rest
 declared_pieces (Decl.Array x n) rest = quoted Array Space ∷ name x Nothing ∷ quoted OpenSquare Nothing ∷ number n Nothing ∷ quoted CloseSquare Nothing ∷ rest
 
+-- the pieces of declarations, one on a line
 abbrev pub declarations_pieces : List Decl → List Piece → List Piece
 declarations_pieces [] rest = rest
 declarations_pieces (d ∷ ds) rest = declared_pieces d (quoted Semicolon Line ∷ declarations_pieces ds rest)
 
+-- the pieces of a handler's event
 abbrev pub event_pieces : Option (List ℕ) → List Piece → List Piece
 event_pieces None rest = quoted Sample Nothing ∷ rest
 event_pieces (Some x) rest = quoted On Space ∷ name x Nothing ∷ rest
 
+-- the pieces of a handler
 abbrev pub handler_pieces : HandlerTree → List Piece → List Piece
 handler_pieces h rest = event_pieces h.input (quoted Open Nothing ∷ name h.param Nothing ∷ quoted Close Space ∷ block_pieces 0 h.body (quoted CloseBrace Line ∷ rest))
 
+-- the pieces of all handlers
 abbrev pub handlers_pieces : List HandlerTree → List Piece → List Piece
 handlers_pieces [] rest = rest
 handlers_pieces (h ∷ hs) rest = handler_pieces h (handlers_pieces hs rest)
 
+-- the pieces of a module
 abbrev pub module_pieces : ModuleTree → List Piece
 module_pieces m = declarations_pieces m.decls (handlers_pieces m.handlers [])

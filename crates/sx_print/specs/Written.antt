@@ -9,6 +9,7 @@ is_short (name x g) = true
 is_short (quoted k g) = true
 is_short indent = true
 
+-- each number among the pieces is a word
 abbrev pub are_short : List Piece → Bool
 are_short [] = true
 are_short (p ∷ ps) = is_short p && are_short ps

@@ -227,7 +227,7 @@ fn text(bytes: Vec<u8>) -> String
 /// A text that reads back as this module: a declaration or a statement a line, indented by four spaces for
 /// each block that it stands in, each binary expression in a pair of brackets and no other in any.
 ///
-/// The condition is `conditions::printable`. The error is the memory's.
+/// The condition is `conditions::printable`. The error says that memory ran out.
 pub fn print(alloc: Global, m: &Module) -> Result<String, OutOfMemory>
     requires { is_printable (module_of m.now) ≡ true }
     ensures text { IfOk result (λ t. string_bytes t ≡ text_of (module_pieces (module_of m.now))) }

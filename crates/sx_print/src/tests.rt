@@ -1,3 +1,5 @@
+//! The texts of two modules, and which modules can be printed.
+
 use crate::conditions::printable;
 use crate::printing::print;
 use std::alloc::{AllocError, Global};

@@ -14,8 +14,11 @@ use sx_lex::tokens::Kind;
 /// What stands behind a word.
 #[derive(Clone, Copy)]
 pub enum Gap {
+    /// Nothing: the next word follows at once.
     Nothing,
+    /// A space.
     Space,
+    /// A newline.
     Line,
 }
 
@@ -123,6 +126,7 @@ pub fn deeper(depth: u8) -> u8
     if depth < 48 { depth + 1 } else { 48 }
 }
 
+/// The token of a unary operator.
 pub fn unary_sign(op: UnOp) -> Kind
     ensures { result ≡ unary_sign op }
 {
@@ -133,6 +137,7 @@ pub fn unary_sign(op: UnOp) -> Kind
     }
 }
 
+/// The token of an operator between two operands.
 pub fn binary_sign(op: BinOp) -> Kind
     ensures { result ≡ binary_sign op }
 {

@@ -13,6 +13,7 @@ use Rattle.sx_rules.specs.Access.{Sections}
 abbrev pub apart : ℕ → ℕ → ℕ → ℕ → Bool
 apart from to start end = nat_le to start || nat_le end from
 
+-- an even number
 abbrev pub even : ℕ → Bool
 even n = (n % 2) == 0
 

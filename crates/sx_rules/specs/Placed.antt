@@ -18,10 +18,12 @@ pub record Beside (s u : Section) : Type 0 where
   pub parts : clear_of s.layout u ≡ true
   pub ids : s.id ≢ u.id
 
+-- each section is sound
 abbrev pub AllSound : ℕ → List Section → Type 0
 AllSound next [] = Unit {0}
 AllSound next (s ∷ rest) = Sound next s × AllSound next rest
 
+-- a section stands beside each of these
 abbrev pub BesideAll : Section → List Section → Type 0
 BesideAll s [] = Unit {0}
 BesideAll s (u ∷ rest) = Beside s u × BesideAll s rest
@@ -65,5 +67,6 @@ PlacedBeside = (t : Sections) (s u : Section) → Placed t → Lives t.live s �
 abbrev pub PlacedFound : Type 0
 PlacedFound = (t : Sections) (s : Section) → Placed t → Lives t.live s → section_of t.live s.id ≡ Some s
 
+-- a byte of a live section's public part belongs to that section alone
 abbrev pub PlacedHolds : Type 0
 PlacedHolds = (t : Sections) (s : Section) (at : ℕ) → Placed t → Lives t.live s → in_public s at ≡ true → holder t.live at ≡ s.id

@@ -138,6 +138,7 @@ pub fn holder(live: &[Section], near: u8, at: u16) -> u16
     0
 }
 
+/// The section with this id. `None` exactly where no module has it.
 pub fn section_of(live: &[Section], id: u16) -> Option<Section>
     ensures { result ≡ section_of live.now id }
 {

@@ -43,6 +43,7 @@ event_of own (Removed id) = event.Removed id
 event_of own Wrapped = event.Wrapped own
 event_of own Unwrapped = event.Unwrapped own
 
+-- the answer of a module instruction as the node shows it
 abbrev pub told : ℕ → Result SancusEvent Violation → Result Event Violation
 told own (Ok e) = Ok (event_of own e)
 told own (Err v) = Err v

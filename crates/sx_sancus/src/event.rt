@@ -1,6 +1,9 @@
+//! What a module instruction tells the node that runs it.
+
 /// What a module instruction did, for the node that runs it.
 #[derive(Clone, Copy, Debug, PartialEq, Eq)]
 pub enum SancusEvent {
+    /// Nothing that others must know.
     Quiet,
     /// A module was protected under this id.
     Protected(u16),

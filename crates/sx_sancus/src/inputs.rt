@@ -110,11 +110,15 @@ fn tested(regs: &[u16; 16], windows: &Windows) -> Result<Buffers, Violation>
 /// What both instructions read, and where they write.
 #[derive(Drop)]
 pub struct Inputs {
+    /// The key to wrap or unwrap with.
     pub key: [u8; 16],
+    /// The header.
     pub header: Text,
     /// The body or the cipher.
     pub text: Text,
+    /// Where the cipher or the body is written.
     pub output: Buffer,
+    /// Where the tag is written or read.
     pub tag: Buffer,
 }
 

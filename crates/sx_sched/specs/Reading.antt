@@ -19,18 +19,23 @@ use Rattle.sx_sched.specs.Words.{words_of, text_behind}
 abbrev pub no_kind : LineError
 no_kind = Fault 3
 
+-- rule 4: a word is no name that is there
 abbrev pub no_name : LineError
 no_name = Fault 4
 
+-- rule 5: a word is no number in its range
 abbrev pub no_number : LineError
 no_number = Fault 5
 
+-- rule 6: a word is not bytes in hexadecimal, or too many of them
 abbrev pub no_bytes : LineError
 no_bytes = Fault 6
 
+-- rule 7: there are too many or too few words
 abbrev pub wrong_count : LineError
 wrong_count = Fault 7
 
+-- rule 8: the text of an `asm` line gives no code
 abbrev pub no_code : LineError
 no_code = Fault 8
 
@@ -88,9 +93,11 @@ at_least low (Some k) = if nat_le low k then Some k else None
 abbrev pub number_in : ℕ → ℕ → List ℕ → Result ℕ LineError
 number_in low high word = ok_or (at_least low (number_of word high)) no_number
 
+-- a number from 0 to 65,535
 abbrev pub number16 : List ℕ → Result ℕ LineError
 number16 word = number_in 0 65535 word
 
+-- a number from 0 to 4,294,967,295
 abbrev pub number32 : List ℕ → Result ℕ LineError
 number32 word = number_in 0 4294967295 word
 
@@ -116,22 +123,27 @@ code_of at text = if is_utf8 text then code_in (assembled at text) else Err no_c
 
 -- So many words, and what they say in order.
 
+-- no word stands behind the first
 abbrev pub no_word : List (List ℕ) → Result (Unit {0}) LineError
 no_word [] = Ok tt
 no_word (a ∷ rest) = Err wrong_count
 
+-- exactly one word
 abbrev pub one_word : List (List ℕ) → Result (List ℕ) LineError
 one_word [] = Err wrong_count
 one_word (a ∷ rest) = no_word rest >>= (λ none. Ok a)
 
+-- exactly two words
 abbrev pub two_words : List (List ℕ) → Result (List ℕ × List ℕ) LineError
 two_words [] = Err wrong_count
 two_words (a ∷ rest) = one_word rest >>= (λ b. Ok (a, b))
 
+-- exactly three words
 abbrev pub three_words : List (List ℕ) → Result (List ℕ × List ℕ × List ℕ) LineError
 three_words [] = Err wrong_count
 three_words (a ∷ rest) = two_words rest >>= (λ w. Ok (a, w.0, w.1))
 
+-- exactly four words
 abbrev pub four_words : List (List ℕ) → Result (List ℕ × List ℕ × List ℕ × List ℕ) LineError
 four_words [] = Err wrong_count
 four_words (a ∷ rest) = three_words rest >>= (λ w. Ok (a, w.0, w.1, w.2))
@@ -151,12 +163,14 @@ abbrev pub two_before : List (List ℕ) → Result (List ℕ × List ℕ) LineEr
 two_before [] = Err wrong_count
 two_before (a ∷ rest) = one_before rest >>= (λ b. Ok (a, b))
 
+-- a line of one field, which is read by the first function
 abbrev pub one : {A : Type 0} → (List ℕ → Result A LineError) → (A → Line) → List (List ℕ) → Result Line LineError
 one f make fields = do
   word ← one_word fields
   a ← f word
   Ok (make a)
 
+-- a line of two fields, each read by a function of its own
 abbrev pub two : {A B : Type 0} → (List ℕ → Result A LineError) → (List ℕ → Result B LineError)
     → (A → B → Line) → List (List ℕ) → Result Line LineError
 two f g make fields = do
@@ -165,6 +179,7 @@ two f g make fields = do
   b ← g word.1
   Ok (make a b)
 
+-- a line of three fields, each read by a function of its own
 abbrev pub three : {A B C : Type 0} → (List ℕ → Result A LineError) → (List ℕ → Result B LineError) → (List ℕ → Result C LineError)
     → (A → B → C → Line) → List (List ℕ) → Result Line LineError
 three f g h make fields = do
@@ -174,6 +189,7 @@ three f g h make fields = do
   c ← h word.2
   Ok (make a b c)
 
+-- a line of four fields, each read by a function of its own
 abbrev pub four : {A B C D : Type 0} → (List ℕ → Result A LineError) → (List ℕ → Result B LineError) → (List ℕ → Result C LineError)
     → (List ℕ → Result D LineError) → (A → B → C → D → Line) → List (List ℕ) → Result Line LineError
 four f g h i make fields = do
@@ -196,9 +212,11 @@ code_line n text fields = do
 -- The kinds of line: the first word, and what the words behind it say. A kind may take the text behind the third word
 -- as it stands.
 
+-- a kind of line: its first word, and the line that the other words give
 abbrev pub Kind : Type 0
 Kind = List ℕ × (List (List ℕ) → Result Line LineError)
 
+-- the kinds of line that are read from the names alone
 abbrev pub plain_kinds : NameLists → List Kind
 plain_kinds n =
     (codes "run", two (node_of n) (number_in 1 65535) Run)
@@ -215,6 +233,7 @@ plain_kinds n =
     ∷ (codes "call", four (module_of n) number16 number16 number16 Call)
     ∷ []
 
+-- all kinds of line; `text` is the line's text, which an `asm` line reads as a whole
 abbrev pub kinds : NameLists → List ℕ → List Kind
 kinds n text =
     (codes "put", three (node_of n) number16 (bytes_of 1024) Put)

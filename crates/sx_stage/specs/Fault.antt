@@ -13,6 +13,7 @@ Gives view (Ok x) meant = meant ≡ Ok (view x)
 Gives view (Err OutOfMemory) meant = Unit {0}
 Gives view (Err (Fault f)) meant = meant ≡ Err f
 
+-- a rule that is broken, and where
 abbrev pub fault : ℕ → Place → DeployFault
 fault rule place = record { rule = rule; place = place }
 

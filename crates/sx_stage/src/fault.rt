@@ -9,9 +9,13 @@ use std::fmt;
 pub enum Sort {
     /// The document's own keys.
     Top,
+    /// The array `node`.
     Node,
+    /// The array `device`.
     Device,
+    /// The array `module`.
     Module,
+    /// The array `connection`.
     Connection,
 }
 
@@ -69,6 +73,7 @@ impl fmt::Display for Place {
 pub struct DeployFault {
     /// The rule's number, from 1 to 10.
     pub rule: u8,
+    /// Where the rule is broken.
     pub place: Place,
 }
 
@@ -88,7 +93,9 @@ impl fmt::Display for DeployFault {
 /// Why a text gives no deployment.
 #[derive(Clone, Copy, PartialEq, Eq, Debug, Drop)]
 pub enum DeployError {
+    /// The text breaks a rule.
     Fault(DeployFault),
+    /// Memory ran out.
     OutOfMemory,
 }
 

@@ -8,6 +8,7 @@ use crate::fault::{DeployFault, Place, Sort, nth};
 pub trait Line<T> {
     ghost bad: { Self → List T → T → Bool };
 
+    /// Whether the entry breaks the line, by itself or with those before it.
     fn is_bad(&self, earlier: &[T], row: &T) -> bool
         ensures { result ≡ bad self.now earlier.now row.now };
 }

@@ -1,3 +1,5 @@
+//! How many operations the protocol has for small modules, and that it is sound.
+
 ghost use Rattle.std.specs.Prelude.{◌≤◌, length};
 
 use crate::stub;

@@ -23,6 +23,7 @@ padded_key key = key ++ replicate (64 - length key) 0
 abbrev pub inner_key : List ℕ → List ℕ
 inner_key key = map (λ b. bit_xor b 0x36) (padded_key key)
 
+-- the outer padded key: each byte exclusive or 0x5C (RFC 2104)
 abbrev pub outer_key : List ℕ → List ℕ
 outer_key key = map (λ b. bit_xor b 0x5C) (padded_key key)
 

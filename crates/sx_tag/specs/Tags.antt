@@ -43,8 +43,10 @@ weak-bytes : (key message : List ℕ) → All (λ b. b < 256) (weak key message)
 unfolding weak
 weak-bytes key message = All-replicate (λ b. b < 256) 32 ((sum key + sum message) % 256) (mod_below (sum key + sum message) 256 (lit< tt))
 
+-- HMAC-SHA-256 is a tag
 pub hmac_sha256-is_tag : IsTag hmac_sha256
 hmac_sha256-is_tag = record { width = hmac_sha256-width; bytes = hmac_sha256-bytes }
 
+-- the tag for tests is a tag
 pub weak-is_tag : IsTag weak
 weak-is_tag = record { width = weak-width; bytes = weak-bytes }

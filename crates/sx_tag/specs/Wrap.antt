@@ -25,6 +25,7 @@ pub record Wrapped : Type 0 where
   pub cipher : List ℕ
   pub tag : List ℕ
 
+-- a body wrapped with its header: the cipher, and the tag of both
 abbrev pub wrapped : Mac → List ℕ → List ℕ → List ℕ → Wrapped
 wrapped mac key ad body = record { cipher = crypt mac key ad body; tag = wrap_tag mac key ad (crypt mac key ad body) }
 

@@ -14,6 +14,8 @@ use Rattle.sx_tmpl.specs.Text.{part_place, places_of}
 abbrev pub AreSealed : (base k h hn b bn : ℕ) → Type 0
 AreSealed base k h hn b bn = (base + k < 65536) × (base + (h + hn + bn) < 65536) × (base + b < 65536)
 
+-- the addresses and places of an operation are within their bounds, so that its template is made of
+-- words
 abbrev pub Fits : Layout → Code → Ir → Type 0
 Fits l code (ir.Push n) = Unit {0}
 Fits l code (ir.Load o) = l.priv_from + o < 65536

@@ -70,9 +70,11 @@ fixed_at s n result = record {
   r3 = slice_index n.regs 3;
 }
 
+-- the table of sections in mid-run
 abbrev pub sections_of : Fixed → Sections
 sections_of f = record { live = f.setup.live; next = f.next }
 
+-- the sixteen registers as a list
 abbrev pub regs16 : Fixed → Regs → List ℕ
 regs16 f r = r.pc ∷ r.sp ∷ r.sr ∷ f.r3 ∷ r.r4 ∷ r.r5 ∷ r.r6 ∷ r.r7 ∷ r.r8 ∷ r.r9 ∷ r.r10 ∷ r.r11 ∷ r.r12 ∷ r.r13 ∷ r.r14 ∷ r.r15 ∷ []
 

@@ -44,6 +44,7 @@ pub record Shows (f : Fixed) (at : ℕ → ℕ) (c : Conf) (r : Regs) (d : Data)
   pub devices : d.devices ≡ c.devices
   pub marks : d.marks ≡ c.marks
 
+-- the node, as it is watched, stands for the configuration, and did nothing so far that it may not
 pub record Stood (f : Fixed) (all : List Mark) (at : ℕ → ℕ) (c : Conf) (w : Watched) : Type 0 where
   pub regs : Regs
   pub rest : Data

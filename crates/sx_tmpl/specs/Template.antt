@@ -24,6 +24,7 @@ pub record Addresses : Type 0 where
 abbrev pub multiply_words : List ℕ
 multiply_words = 0x413c ∷ 0x413d ∷ 0x430e ∷ 0x403f ∷ 16 ∷ 0x5e0e ∷ 0x5c0c ∷ 0x2801 ∷ 0x5d0e ∷ 0x831f ∷ 0x23fa ∷ 0x120e ∷ []
 
+-- the words of each operation on words
 abbrev pub operator_words : IrOp → List ℕ
 -- ADD @SP+, 0(SP), and SUB, AND, BIS and XOR likewise
 operator_words op.Add = 0x51b1 ∷ 0 ∷ []

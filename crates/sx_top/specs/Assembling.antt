@@ -29,6 +29,7 @@ pub record Gathered : Type 0 where
   pub text : List ℕ
   pub bad : Option ℕ
 
+-- no line has come yet
 abbrev pub nothing : Gathered
 nothing = record { text = []; bad = None }
 
@@ -36,6 +37,7 @@ nothing = record { text = []; bad = None }
 abbrev pub broken_at : ℕ → Gathered → Gathered
 broken_at number g = record { text = g.text; bad = option_or g.bad (Some number) }
 
+-- the text with one more line, where it is UTF-8 and no line before it breaks rule 1
 abbrev pub with_text : ℕ → List ℕ → Option ℕ → List ℕ → Gathered
 with_text number text (Some bad) line = record { text = text; bad = Some bad }
 with_text number text None line =
@@ -62,6 +64,7 @@ gather number count g (Line line ∷ more) =
     if nat_lt most_bytes (count + (length line + 1)) then Whole (broken_at number g)
     else gather (number + 1) (count + (length line + 1)) (with_line number line g) more
 
+-- the whole input
 abbrev pub input : List Answer → Input
 input answers = gather 1 0 nothing answers
 
@@ -73,6 +76,7 @@ first_bad bad (Ok code) = bad
 first_bad bad (Err (error.Fault rule number)) = if rule == 1 then number else bad
 first_bad bad (Err error.OutOfMemory) = bad
 
+-- the code, or the fault of rule 1 where a line breaks it
 abbrev pub judged : Option ℕ → Result (List ℕ) AsmError → Result (List ℕ) AsmError
 judged None code = code
 judged (Some bad) code = Err (error.Fault 1 (first_bad bad code))
@@ -86,10 +90,12 @@ abbrev pub refused : AsmError → Output
 refused (error.Fault rule number) = fault_output (codes "fault asm A") rule number 10
 refused error.OutOfMemory = record { text = []; status = out_of_memory }
 
+-- the listing of the code, or the fault
 abbrev pub told_code : ℕ → Result (List ℕ) AsmError → Output
 told_code at (Ok code) = record { text = listing at code ++ end_line; status = 0 }
 told_code at (Err e) = refused e
 
+-- what `asm` writes of what was read
 abbrev pub asm_input : ℕ → Input → Output
 asm_input at (Whole g) = told_code at (code_at at g)
 asm_input at Unread = unread

@@ -28,11 +28,13 @@ module_line name l =
     line (codes "module " ++ name ++ codes " text " ++ address l.pub_from ++ codes " "
     ++ address l.pub_to ++ codes " data " ++ address l.priv_from ++ codes " " ++ address l.priv_to)
 
+-- the lines of all modules
 abbrev pub module_lines : List (List ℕ) → List Layout → List ℕ
 module_lines (name ∷ names) (l ∷ layouts) = module_line name l ++ module_lines names layouts
 module_lines [] layouts = []
 module_lines (name ∷ names) [] = []
 
+-- the line of a deployment's fault
 unfoldable pub fault_line : DeployFault → List ℕ
 fault_line f = line (codes "fault deployment " ++ fault_text f)
 
@@ -40,10 +42,12 @@ fault_line f = line (codes "fault deployment " ++ fault_text f)
 abbrev pub refused : DeployFault → Output
 refused f = record { text = fault_line f; status = 1 }
 
+-- what `check` writes of a deployment, or of its fault
 abbrev pub checked : Result Deployed DeployFault → Output
 checked (Ok d) = record { text = module_lines d.names.modules d.layouts ++ end_line; status = 0 }
 checked (Err f) = refused f
 
+-- what `check` writes of an input's head
 abbrev pub check_head : Meaning → Head → Output
 check_head meaning (Found text more) = checked (meaning text)
 check_head meaning TooLong = refused (fault 1 Nowhere)

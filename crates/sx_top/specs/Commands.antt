@@ -9,6 +9,7 @@ use Rattle.sx_top.specs.declared.words.Command.{Command}
 use Rattle.sx_top.specs.declared.words.Command.TheVariants.{Run, Check, Gen, Asm, Dis}
 use Rattle.sx_top.specs.Check.{Meaning}
 
+-- the commands without a number
 abbrev pub plain_command : List ℕ → Option Command
 plain_command word =
     if bytes_eq word (codes "run") then Some Run else
@@ -19,6 +20,7 @@ plain_command word =
 abbrev pub address_in : List ℕ → Option ℕ
 address_in word = number_of word 65535
 
+-- a number that is not 0
 abbrev pub not_none : Option ℕ → Option ℕ
 not_none None = None
 not_none (Some n) = if n == 0 then None else Some n
@@ -27,6 +29,7 @@ not_none (Some n) = if n == 0 then None else Some n
 abbrev pub samples_in : List ℕ → Option ℕ
 samples_in word = not_none (number_of word 8000)
 
+-- the commands with a number: of samples, or an address
 abbrev pub numbered_command : List ℕ → List ℕ → Option Command
 numbered_command word number =
     if bytes_eq word (codes "gen") then option_map Gen (samples_in number) else
@@ -50,6 +53,7 @@ CarriesFew (Some (Gen n)) = n ≤ 8000
 CarriesFew (Some (Asm at)) = Unit {0}
 CarriesFew (Some (Dis at)) = Unit {0}
 
+-- the text means a deployment
 abbrev pub IsAccepted : Result Deployed DeployFault → Type 0
 IsAccepted (Ok d) = Unit {0}
 IsAccepted (Err f) = ⊥

@@ -21,6 +21,7 @@ abbrev pub counts : List Item → Counts
 counts items =
     record { items = length items; outputs = count_by is_output items; lit = count_by is_lit items }
 
+-- the sums of two counts
 abbrev pub plus : Counts → Counts → Counts
 plus a b =
     record { items = a.items + b.items; outputs = a.outputs + b.outputs; lit = a.lit + b.lit }

@@ -30,6 +30,7 @@ pub data Given : Type 0 where
   BadLine : (number : ℕ) → Given
   Unread : Given
 
+-- the bytes, if the text was hexadecimal
 abbrev pub decoded : Result (List ℕ) FromHexError → Option (List ℕ)
 decoded (Ok bytes) = Some bytes
 decoded (Err e) = None
@@ -45,6 +46,7 @@ in_front bytes (Bytes more) = Bytes (bytes ++ more)
 in_front bytes (BadLine number) = BadLine number
 in_front bytes Unread = Unread
 
+-- what a line and those behind it write
 abbrev pub on_line : ℕ → Option (List ℕ) → Given → Given
 on_line number None rest = BadLine number
 on_line number (Some bytes) rest = in_front bytes rest
@@ -63,6 +65,7 @@ abbrev pub is_listed : ℕ → ℕ → Bool
 is_listed at count =
     count % 2 == 0 && at % 2 == 0 && nat_le count most_code && nat_le (at + count) 65536
 
+-- the line that says that the bytes cannot be listed
 unfoldable pub unlisted_line : List ℕ
 unlisted_line = line (codes "fault hex B2 -")
 
@@ -74,11 +77,13 @@ broken_line number = fault_output (codes "fault hex B") 1 number 10
 abbrev pub unlisted : Output
 unlisted = record { text = unlisted_line; status = 10 }
 
+-- the listing of the bytes, if they can be listed
 abbrev pub dis_bytes : ℕ → List ℕ → Output
 dis_bytes at bytes =
     if is_listed at (length bytes) then record { text = listing at bytes ++ end_line; status = 0 }
     else unlisted
 
+-- what `dis` writes of what was read
 abbrev pub dis_given : ℕ → Given → Output
 dis_given at (Bytes bytes) = dis_bytes at bytes
 dis_given at (BadLine number) = broken_line number

@@ -21,6 +21,7 @@ pub record HasLived (mac : Mac) (v w : World) (n : ℕ) (b : State) : Type 0 whe
   pub there : slice_get v.nodes n ≡ Some was
   pub lived : Lived mac was b
 
+-- each node of the one world has lived its acts since the other
 abbrev pub AllLived : Mac → World → World → Type 0
 AllLived mac v w = (n : ℕ) (b : State) → slice_get w.nodes n ≡ Some b → HasLived mac v w n b
 

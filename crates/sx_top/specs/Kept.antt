@@ -12,6 +12,7 @@ abbrev pub KeptOf : (is_over : Bool) → (kept bytes : List ℕ) → Type 0
 KeptOf false kept bytes = kept ≡ bytes
 KeptOf true kept bytes = most_code < length bytes
 
+-- the code's kept bytes are those of these lines
 abbrev pub Keeps : Code → List ℕ → Type 0
 Keeps code bytes = KeptOf code.is_over code.kept.items bytes
 

@@ -6,12 +6,15 @@ use Rattle.sx_told.specs.Told.{Output}
 abbrev pub line : List ℕ → List ℕ
 line text = text ++ 10 ∷ []
 
+-- the line behind the images
 unfoldable pub trace_line : List ℕ
 trace_line = line (codes "trace")
 
+-- the last line of an output without a fault
 unfoldable pub end_line : List ℕ
 end_line = line (codes "end")
 
+-- the line of a command line that names no command
 unfoldable pub usage_line : List ℕ
 usage_line = line (codes "fault usage")
 

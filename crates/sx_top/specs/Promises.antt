@@ -24,6 +24,7 @@ IsHead bytes text =
     × ((e : Ending) (more : List ℕ)
     → head (scan head_lines e [] (bytes ++ more)) ≡ Found text (scan head_lines e [] more))
 
+-- the input has a head
 abbrev pub IsFound : Head → Type 0
 IsFound (Found text more) = Unit {0}
 IsFound TooLong = ⊥

@@ -27,17 +27,21 @@ use Rattle.sx_top.specs.Schedule as sched
 unfoldable pub image_line : List ℕ → List ℕ → List ℕ
 image_line name text = line (codes "image " ++ name ++ codes " " ++ encode_lower text)
 
+-- the lines of all images
 abbrev pub images_text : List (List ℕ) → List (List ℕ) → List ℕ
 images_text (name ∷ names) (text ∷ texts) = image_line name text ++ images_text names texts
 images_text [] texts = []
 images_text (name ∷ names) [] = []
 
+-- the line of an item
 unfoldable pub item_line : NameLists → Item → List ℕ
 item_line names i = line (item_text names i)
 
+-- the lines of items
 abbrev pub items_text : NameLists → List Item → List ℕ
 items_text names items = flat_map (item_line names) items
 
+-- the line of a schedule's rule that a line breaks
 unfoldable pub broken_line : ℕ → ℕ → List ℕ
 broken_line rule number =
     line (codes "fault schedule S" ++ decimal rule ++ codes " " ++ decimal number)
@@ -72,6 +76,7 @@ run_from names set w number answers = written names set w (schedule names number
 abbrev pub run_at_start : NameLists → Setting → List Answer → Output
 run_at_start names set more = run_from names set (switched_on set) 1 more
 
+-- what the schedule of a deployment writes
 abbrev pub run_schedule : Mac → Deployed → List (List ℕ) → List Answer → Output
 run_schedule mac d texts more = run_at_start d.names (setting_of mac d texts) more
 
@@ -85,6 +90,7 @@ abbrev pub run_found : Mac → List (List ℕ) → Result Deployed DeployFault �
 run_found mac texts (Ok d) more = run_deployed mac d texts more
 run_found mac texts (Err f) more = refused f
 
+-- what `run` writes of an input's head
 abbrev pub run_head : Mac → Meaning → List (List ℕ) → Head → Output
 run_head mac meaning texts (Found text more) = run_found mac texts (meaning text) more
 run_head mac meaning texts TooLong = refused (fault 1 Nowhere)

@@ -93,6 +93,7 @@ pub record RanOut (m1 m2 : Moment) (status : ℕ) : Type 0 where
   pub six : status ≡ out_of_memory
   pub same : m2 ≡ m1
 
+-- the rest of the command, or that memory ran out before the images were made
 abbrev pub RunsOrRanOut : Mac → Bool → Bool → Ahead → Moment → Moment → ℕ → List ℕ → Type 0
 RunsOrRanOut mac tells to_tell now m1 m2 status text =
     RanOut m1 m2 status ⊎ RunsBehind mac tells to_tell now m1 m2 status text

@@ -26,6 +26,7 @@ abbrev pub rule_of : LineError → ℕ
 rule_of (error.Fault rule) = rule
 rule_of error.OutOfMemory = 0
 
+-- a line, or the number of the rule that it breaks
 abbrev pub or_rule : Result Line LineError → Result Line ℕ
 or_rule (Ok line) = Ok line
 or_rule (Err e) = Err (rule_of e)
@@ -39,6 +40,7 @@ judged names number text = if nat_lt 65536 number then Err 2 else or_rule (said 
 abbrev pub stops : Stop → Schedule
 stops stop = record { lines = []; stop = stop }
 
+-- the schedule that begins with this line, or stops at it
 abbrev pub on_line : ℕ → Result Line ℕ → Schedule → Schedule
 on_line number (Err rule) rest = stops (Breaks rule number)
 on_line number (Ok line) rest = record { lines = line ∷ rest.lines; stop = rest.stop }

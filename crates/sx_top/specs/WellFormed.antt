@@ -19,6 +19,7 @@ IsWellFormed names number (Fault ∷ more) = ⊥
 IsWellFormed names number (Line text ∷ more) =
     IsOk (judged names number text) × IsWellFormed names (number + 1) more
 
+-- a deployment that keeps the rules, and a schedule that does
 abbrev pub IsGoodRun : Result Deployed DeployFault → List Answer → Type 0
 IsGoodRun (Ok d) more = IsWellFormed d.names 1 more
 IsGoodRun (Err f) more = ⊥
@@ -30,15 +31,18 @@ IsGoodInput meaning TooLong = ⊥
 IsGoodInput meaning NoMark = ⊥
 IsGoodInput meaning Unread = ⊥
 
+-- the exit status by where a schedule stops
 abbrev pub stop_status : Stop → ℕ
 stop_status AtEnd = 0
 stop_status sched.Unread = read_failed
 stop_status (Breaks rule number) = 3
 
+-- the exit status by the deployment and the schedule
 abbrev pub found_status : Result Deployed DeployFault → List Answer → ℕ
 found_status (Ok d) more = stop_status (schedule d.names 1 more).stop
 found_status (Err f) more = 1
 
+-- the exit status by an input's head
 abbrev pub head_status : Meaning → Head → ℕ
 head_status meaning (Found text more) = found_status (meaning text) more
 head_status meaning TooLong = 1

@@ -47,6 +47,7 @@ abbrev pub gen_deployed : Mac → List (List ℕ) → ℕ → Deployed → Outpu
 gen_deployed mac texts n d =
     behind (images_text d.names.modules texts) (gen_run n d.names (setting_of mac d texts))
 
+-- what `gen` writes of its deployment
 abbrev pub gen_found : Mac → List (List ℕ) → ℕ → Result Deployed DeployFault → Output
 gen_found mac texts n (Ok d) = gen_deployed mac texts n d
 gen_found mac texts n (Err f) = refused f
@@ -67,6 +68,7 @@ pub record GenWith (mac : Mac) (n : ℕ) (to_tell : Bool) (k0 k1 : SinkAt) (stat
   pub ends : (meaning : Meaning) → IsMeaning meaning
       → Ends to_tell k0 k1 status (gen_all mac meaning texts n)
 
+-- the command `gen` wrote what is defined, or memory ran out before the images were made
 abbrev pub GenWrote : Mac → ℕ → Bool → SinkAt → SinkAt → ℕ → Type 0
 GenWrote mac n to_tell k0 k1 status =
     GenStarved k0 k1 status ⊎ GenWith mac n to_tell k0 k1 status

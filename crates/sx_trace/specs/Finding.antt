@@ -16,9 +16,11 @@ abbrev pub ◌>>=◌ : {A B : Type 0} → Option A → (A → Option B) → Opti
 Some x >>= f = f x
 None >>= f = None
 
+-- the byte that ends a word
 abbrev pub is_space : ℕ → Bool
 is_space b = b == 32
 
+-- a text cut at a place, whose byte is dropped
 abbrev pub cut_at : List ℕ → Option ℕ → List ℕ × List ℕ
 cut_at text None = (text, [])
 cut_at text (Some i) = (take i text, drop (i + 1) text)
@@ -32,6 +34,7 @@ abbrev pub with_digit : ℕ → ℕ → Option ℕ
 with_digit n b =
     if nat_le 48 b && nat_le b 57 && nat_lt (n * 10 + (b - 48)) (2 ^ 128) then Some (n * 10 + (b - 48)) else None
 
+-- the number with more digits, within 128 bits
 abbrev pub with_digits : ℕ → List ℕ → Option ℕ
 with_digits n [] = Some n
 with_digits n (b ∷ bs) = with_digit n b >>= (λ more. with_digits more bs)
@@ -40,11 +43,13 @@ with_digits n (b ∷ bs) = with_digit n b >>= (λ more. with_digits more bs)
 unfoldable pub number_of : List ℕ → Option ℕ
 number_of text = with_digits 0 text
 
+-- the number that a text writes, if it is at most this
 abbrev pub up_to : ℕ → List ℕ → Option ℕ
 up_to most text = do
   n ← number_of text
   if nat_le n most then Some n else None
 
+-- none where the word is the other one, else the place of the name
 abbrev pub index_or_none : List ℕ → List (List ℕ) → List ℕ → Option (Option ℕ)
 index_or_none other names word =
     if bytes_eq word other then Some None
@@ -52,6 +57,7 @@ index_or_none other names word =
       i ← place_of names word
       Some (Some i)
 
+-- the cause that a word names
 abbrev pub cause_of : List ℕ → Option Cause
 cause_of word =
     if bytes_eq word (codes "order") then Some cause.Order
@@ -64,6 +70,7 @@ cause_of word =
     else if bytes_eq word (codes "asked") then Some cause.Asked
     else None
 
+-- the side that a word names
 abbrev pub side_of : List ℕ → Option Side
 side_of word =
     if bytes_eq word (codes "from") then Some From
@@ -78,6 +85,7 @@ open_in n m fields = do
   epoch ← up_to 255 (cut (cut fields).1).1
   Some (Open m link side epoch)
 
+-- the item `take` of these words
 abbrev pub take_in : NameLists → ℕ → List ℕ → Option Item
 take_in n m fields = do
   link ← place_of n.links (cut fields).0
@@ -85,12 +93,14 @@ take_in n m fields = do
   value ← up_to 65535 (cut (cut fields).1).1
   Some (Take m link number value)
 
+-- the item `done` of these words
 abbrev pub done_in : ℕ → List ℕ → Option Item
 done_in m fields = do
   status ← up_to 65535 (cut fields).0
   pieces ← up_to 65535 (cut fields).1
   Some (Done m status pieces)
 
+-- the item `packet` of these words
 abbrev pub packet_in : List ℕ → Option Item
 packet_in fields = do
   number ← up_to 4294967295 (cut fields).0
@@ -134,6 +144,7 @@ node_in n kind node fields =
     else if bytes_eq kind (codes "budget") then Some (Budget node)
     else None
 
+-- a kind of item whose next word names a node
 abbrev pub is_of_node : List ℕ → Bool
 is_of_node kind =
     if bytes_eq kind (codes "reset") then true
@@ -142,6 +153,7 @@ is_of_node kind =
     else if bytes_eq kind (codes "skip") then true
     else bytes_eq kind (codes "budget")
 
+-- a kind of item whose next word names a device
 abbrev pub is_of_device : List ℕ → Bool
 is_of_device kind =
     if bytes_eq kind (codes "sense") then true

@@ -18,6 +18,7 @@ abbrev pub name_or : List ℕ → List (List ℕ) → Option ℕ → List ℕ
 name_or other names None = other
 name_or other names (Some i) = name_at names i
 
+-- the word of a cause
 abbrev pub cause_word : Cause → List ℕ
 cause_word cause.Order = codes "order"
 cause_word cause.Fetch = codes "fetch"
@@ -28,6 +29,7 @@ cause_word cause.Illegal = codes "illegal"
 cause_word cause.Range = codes "range"
 cause_word cause.Asked = codes "asked"
 
+-- the word of a side
 abbrev pub side_word : Side → List ℕ
 side_word From = codes "from"
 side_word To = codes "to"

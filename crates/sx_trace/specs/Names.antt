@@ -21,6 +21,7 @@ named nodes devices sensors modules links =
 abbrev pub has_name : List (List ℕ) → List ℕ → Bool
 has_name names text = list_any (λ name. bytes_eq name text) names
 
+-- no name stands twice
 abbrev pub no_repeat : List (List ℕ) → Bool
 no_repeat [] = true
 no_repeat (x ∷ xs) = not (has_name xs x) && no_repeat xs
@@ -33,6 +34,8 @@ are_names most names = nat_le (length names) most && (list_all is_name names && 
 abbrev pub deployer : List ℕ
 deployer = codes "deployer"
 
+-- names that a deployment may have: each list is in form, repeats none and is short, and no module
+-- is named `deployer`
 unfoldable pub are_valid : NameLists → Bool
 are_valid n =
     (are_names 16 n.nodes && are_names 32 n.devices)

@@ -5,13 +5,21 @@ use sx_lang::sides::Side;
 /// Why a node was reset: the first rule that its code broke, or a line of the schedule.
 #[derive(Clone, Copy, PartialEq, Eq, Debug)]
 pub enum Cause {
+    /// A module was entered elsewhere than at its entry.
     Order,
+    /// An instruction was fetched from a place where it may not stand.
     Fetch,
+    /// A byte was read that may not be read.
     Read,
+    /// A byte was written that may not be written.
     Write,
+    /// A device was used otherwise than its kind allows.
     Device,
+    /// The word was no legal instruction.
     Illegal,
+    /// A buffer passed the end of memory, or had more bytes than it may.
     Range,
+    /// A line of the schedule asked for it.
     Asked,
 }
 
@@ -20,6 +28,7 @@ pub enum Cause {
 /// bytes are those of the deployed module.
 #[derive(Clone, Copy, PartialEq, Eq, Debug)]
 pub enum Item {
+    /// A node was reset.
     Reset {
         node: u8,
         cause: Cause,

@@ -1,3 +1,5 @@
+//! The names of a deployment.
+
 ghost use Rattle.std.specs.Prelude.{◌≡◌, ◌<◌, length, IsTrue, IfOk, IfSome};
 ghost use Rattle.std.specs.List.{list_all};
 ghost use Rattle.std.specs.Str.{bytes_eq};
@@ -16,11 +18,15 @@ pub const DEPLOYER: [u8; 8] = *b"deployer";
 /// each list.
 #[derive(Drop)]
 pub struct Names {
+    /// The names of the nodes.
     pub nodes: Vec<Name>,
+    /// The names of the devices.
     pub devices: Vec<Name>,
     /// Whether each device is a sensor.
     pub sensors: Vec<bool>,
+    /// The names of the modules.
     pub modules: Vec<Name>,
+    /// The names of the connections.
     pub links: Vec<Name>,
     node_index: NameIndex,
     device_index: NameIndex,

@@ -11,6 +11,7 @@ pub record IsEvent (p : EventPacket) : Type 0 where
   pub cipher : length p.cipher ≡ 2
   pub mac : length p.mac ≡ 16
 
+-- the fields of a set-key packet have their widths
 pub record IsSetKey (p : SetKeyPacket) : Type 0 where
   pub link : p.link < 65536
   pub «end» : p.«end» < 65536
@@ -21,8 +22,10 @@ pub record IsSetKey (p : SetKeyPacket) : Type 0 where
 abbrev pub EventSpelledOnce : Type 0
 EventSpelledOnce = (p q : EventPacket) → IsEvent p → IsEvent q → event_packet p ≡ event_packet q → p ≡ q
 
+-- two set-key packets with the same bytes are equal
 abbrev pub SetKeySpelledOnce : Type 0
 SetKeySpelledOnce = (p q : SetKeyPacket) → IsSetKey p → IsSetKey q → set_key_packet p ≡ set_key_packet q → p ≡ q
 
+-- two challenges with the same ask packet are equal
 abbrev pub AskSpelledOnce : Type 0
 AskSpelledOnce = (a b : List ℕ) → ask_packet a ≡ ask_packet b → a ≡ b

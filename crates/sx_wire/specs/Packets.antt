@@ -40,8 +40,10 @@ begins kind bytes = (slice_index bytes 0 == kind) && (slice_index bytes 1 == 0)
 abbrev pub is_set_key : List ℕ → Bool
 is_set_key bytes = (length bytes == 38) && begins 1 bytes
 
+-- bytes with the length and the first two bytes of an ask
 abbrev pub is_ask : List ℕ → Bool
 is_ask bytes = (length bytes == 18) && begins 2 bytes
 
+-- bytes with the length and the first two bytes of an event
 abbrev pub is_event : List ℕ → Bool
 is_event bytes = (length bytes == 24) && begins 3 bytes

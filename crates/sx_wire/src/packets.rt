@@ -1,3 +1,5 @@
+//! The packets as structs.
+
 /// An event: a word that is sent over a connection.
 #[derive(Clone, Copy, PartialEq, Eq, Debug)]
 pub struct EventPacket {

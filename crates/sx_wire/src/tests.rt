@@ -1,3 +1,5 @@
+//! Packets worked by hand.
+
 use crate::*;
 
 // The bytes of an event that the sum tag accepts, made by hand.

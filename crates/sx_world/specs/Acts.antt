@@ -24,6 +24,7 @@ only w items = record { world = w; items = items }
 abbrev pub then_ : Acted → (World → Acted) → Acted
 then_ a rest = record { world = (rest a.world).world; items = a.items ++ (rest a.world).items }
 
+-- the world with a node in this state, with this ledger and so many steps
 abbrev pub with_node : World → ℕ → State → List Made → ℕ → World
 with_node w n s ledger steps = record { nodes = slice_set w.nodes n s; packets = w.packets; deployer = w.deployer; ledger = ledger; lines = w.lines; steps = steps }
 
@@ -39,6 +40,7 @@ stepped set w n s =
     let o = observed set n (module_of set.sites n s (own_of s)) r.state r.shown w.ledger in
     record { world = with_node w n r.state o.ledger (w.steps + 1); items = o.items }
 
+-- the item of an act that a node refuses
 abbrev pub refused_item : ℕ → Refused → Item
 refused_item n Busy = item.Busy n
 refused_item n Guarded = item.Skip n
@@ -49,15 +51,18 @@ abbrev pub or_refused : ℕ → List Item → Result (Unit {0}) Refused → List
 or_refused n items (Ok u) = items
 or_refused n items (Err why) = refused_item n why ∷ []
 
+-- an act on a node from outside, with its item or that of its refusal
 abbrev pub done_on : World → ℕ → List Item → Shows (Result (Unit {0}) Refused) → Acted
 done_on w n items r = record { world = with_node w n r.state w.ledger w.steps; items = or_refused n items r.shown }
 
+-- the world with one more packet, and its item
 abbrev pub with_packet : World → List ℕ → Acted
 with_packet w bytes = record {
   world = record { nodes = w.nodes; packets = w.packets ++ bytes ∷ []; deployer = w.deployer; ledger = w.ledger; lines = w.lines; steps = w.steps };
   items = item.Packet (length w.packets) (length bytes) ∷ [];
 }
 
+-- the bytes that were taken become a packet, or the refusal's item is shown
 abbrev pub took : World → ℕ → Result (List ℕ) Refused → Acted
 took w n (Ok bytes) = with_packet w bytes
 took w n (Err why) = only w (refused_item n why ∷ [])
@@ -69,6 +74,7 @@ interrupted set w n s (Ok seen) =
     record { world = with_node w n s o.ledger w.steps; items = o.items }
 interrupted set w n s (Err why) = only w (refused_item n why ∷ [])
 
+-- the world with the deployer in this state and this ledger
 abbrev pub with_deployer : World → DeployerState → List Made → World
 with_deployer w d ledger = record { nodes = w.nodes; packets = w.packets; deployer = d; ledger = ledger; lines = w.lines; steps = w.steps }
 
@@ -83,6 +89,7 @@ abbrev pub key_given : Setting → World → Grant → Option Site → Acted
 key_given set w g None = only w []
 key_given set w g (Some site) = with_packet (with_deployer w w.deployer (w.ledger ++ set_key_entry set g ∷ [])) (set_key set site g)
 
+-- set-key packets for all grants, one after the other
 abbrev pub keys_given : Setting → List Grant → World → Acted
 keys_given set [] w = only w []
 keys_given set (g ∷ gs) w = then_ (key_given set w g (slice_get set.sites g.holder)) (keys_given set gs)
@@ -96,6 +103,7 @@ attested set w m boot ask last =
       items = unless_made None (is_made w.ledger (made (maker.Module m) NO_TARGET boot ask [])) (item.Attested m boot);
     }) (keys_given set (grants_after set.app d m boot last))
 
+-- the deployer accepts no answer
 abbrev pub denied : World → ℕ → Acted
 denied w m = only w (item.Denied m ∷ [])
 
@@ -104,10 +112,12 @@ abbrev pub open_ask : Option (Option (List ℕ)) → Option (List ℕ)
 open_ask None = None
 open_ask (Some ask) = ask
 
+-- the boot at which a module was last attested, none where there is none
 abbrev pub attested_at : Option (Option ℕ) → Option ℕ
 attested_at None = None
 attested_at (Some boot) = boot
 
+-- an answer is accepted or denied; without an open ask it is denied
 abbrev pub judged : Setting → World → ℕ → Site → ℕ → List ℕ → Option (List ℕ) → Acted
 judged set w m site boot answer None = denied w m
 judged set w m site boot answer (Some ask) =

@@ -55,6 +55,7 @@ accepted links d m boot last = record {
   epochs = renewed m links last d.epochs;
 }
 
+-- a side as a set-key packet has it
 abbrev pub side_number : Side → ℕ
 side_number From = 0
 side_number To = 1
@@ -70,6 +71,7 @@ pub record Grant : Type 0 where
   pub «end» : End
   pub epoch : ℕ
 
+-- the header of a grant's set-key packet
 abbrev pub grant_header : Grant → List ℕ
 grant_header g = set_key_header g.«end».link g.epoch (side_number g.«end».side)
 
@@ -79,12 +81,15 @@ set_key set site g =
     let w = wrapped set.mac (key_of set site g.boot) (grant_header g) (connection_key set g.«end».link g.epoch) in
     grant_header g ++ w.cipher ++ w.tag
 
+-- the ledger's entry of a grant's set-key packet
 abbrev pub set_key_entry : Setting → Grant → Made
 set_key_entry set g = made maker.Deployer g.holder g.boot (grant_header g) (connection_key set g.«end».link g.epoch)
 
+-- the grant for an end of a module, in the present epoch of its connection
 abbrev pub grant : List ℕ → ℕ → ℕ → End → Grant
 grant epochs m boot e = record { holder = m; boot = boot; «end» = e; epoch = slice_index epochs e.link }
 
+-- the grants for the ends that a module holds
 abbrev pub grants_of : List ℕ → ℕ → ℕ → List End → List Grant
 grants_of epochs m boot [] = []
 grants_of epochs m boot (e ∷ es) = grant epochs m boot e ∷ grants_of epochs m boot es
@@ -103,6 +108,7 @@ grant_beyond d m n l =
     else if l.to == m then grant_to d.epochs l.from (slice_get d.attested l.from) (record { link = n; side = From; port = l.output })
     else []
 
+-- the grants for the other ends of the module's connections, from the n-th connection on
 abbrev pub grants_beyond : DeployerState → ℕ → ℕ → List Link → List Grant
 grants_beyond d m n [] = []
 grants_beyond d m n (l ∷ ls) = grant_beyond d m n l ++ grants_beyond d m (n + 1) ls

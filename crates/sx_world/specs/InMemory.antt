@@ -8,6 +8,7 @@ use Rattle.sx_world.specs.Setting.{Setting}
 use Rattle.sx_world.specs.Accepted.{setting_of}
 use Rattle.sx_world.specs.Held.{Held, setting}
 
+-- the texts of images
 abbrev pub texts_of : List Image → List (List ℕ)
 texts_of images = map (λ i. i.text.items) images
 

@@ -88,6 +88,7 @@ IsInForm set (Answer m boot k) = Unit {0}
 IsInForm set (Load m) = Unit {0}
 IsInForm set (Call m e input output) = (e < 65536) × (input < 65536) × (output < 65536)
 
+-- each line is in form
 abbrev pub AreInForm : Setting → List Line → Type 0
 AreInForm set [] = Unit {0}
 AreInForm set (line ∷ lines) = IsInForm set line × AreInForm set lines

@@ -10,12 +10,14 @@ pub use Rattle.sx_ledger.specs.Made.{Made, NO_TARGET}
 abbrev pub made : Maker → ℕ → ℕ → List ℕ → List ℕ → Made
 made maker target boot header body = record { maker = maker; target = target; boot = boot; header = header; body = body }
 
+-- the makers are the same
 abbrev pub same_maker : Maker → Maker → Bool
 same_maker Deployer Deployer = true
 same_maker Deployer (Module m) = false
 same_maker (Module m) Deployer = false
 same_maker (Module m) (Module k) = m == k
 
+-- the entries are the same
 abbrev pub same_entry : Made → Made → Bool
 same_entry a b =
     same_maker a.maker b.maker && ((a.target == b.target) && ((a.boot == b.boot) && (bytes_eq a.header b.header && bytes_eq a.body b.body)))
@@ -28,5 +30,6 @@ is_made ledger e = list_any (same_entry e) ledger
 abbrev pub header_of : Exchange → List ℕ
 header_of x = take x.ad_len x.ad
 
+-- the body of an exchange
 abbrev pub body_of : Exchange → List ℕ
 body_of x = take x.body_len x.body

@@ -30,6 +30,7 @@ pub record Observed : Type 0 where
   pub items : List Item
   pub ledger : List Made
 
+-- the cause of a reset by a violation
 abbrev pub cause_of : Violation → Cause
 cause_of bad.Order = cause.Order
 cause_of bad.Fetch = cause.Fetch
@@ -49,12 +50,15 @@ abbrev pub number_of : Option ℕ → ℕ
 number_of None = 0
 number_of (Some m) = m
 
+-- the item of a read of a fresh sensor: the driver's `read`, or other code's `drain`
 abbrev pub read_item : AppTree → Option ℕ → ℕ → ℕ → Item
 read_item app runner d v = if is_driver app runner d then item.Read (number_of runner) v else item.Drain d
 
+-- the item of a write to an actuator: the driver's `out`, or other code's `raw`
 abbrev pub write_item : AppTree → Option ℕ → ℕ → ℕ → Item
 write_item app runner d v = if is_driver app runner d then item.Out (number_of runner) v else item.Raw d v
 
+-- the items of touches, in order
 abbrev pub touch_items : AppTree → ℕ → Option ℕ → List Touch → List Item
 touch_items app n runner [] = []
 touch_items app n runner (touch.Quiet ∷ ts) = touch_items app n runner ts
@@ -74,9 +78,11 @@ has_wrapped m boot header body own ledger =
 abbrev pub unless_made : Option ℕ → Bool → Item → List Item
 unless_made who made i = if made then i ∷ [] else item.Forged who ∷ i ∷ []
 
+-- the side that a set-key header is for
 abbrev pub side_in : List ℕ → Side
 side_in header = if last_in header == 0 then From else To
 
+-- the end is that of the connection and the side
 abbrev pub is_end : ℕ → Side → End → Bool
 is_end link side e = (e.link == link) && same_side e.side side
 
@@ -89,6 +95,7 @@ abbrev pub from_of : Option Link → ℕ
 from_of None = 0
 from_of (Some l) = l.from
 
+-- the module at the sending side of a connection
 abbrev pub sender_of : AppTree → ℕ → ℕ
 sender_of app link = from_of (slice_get app.links link)
 
@@ -102,6 +109,7 @@ has_unwrapped app m boot header body ledger =
     (item.Take m (link_in header) (65536 * epoch_in header + last_in header) (value_in body))
     else []
 
+-- the item of a protect: the deployed module that it made, if any
 abbrev pub protect_item : Setting → ℕ → State → ℕ → Item
 protect_item set n s id = item.Protect n (module_of set.sites n s id)
 

@@ -15,6 +15,7 @@ use Rattle.sx_world.specs.Setting.{Site, Setting, devices_at}
 use Rattle.sx_world.specs.State.{World, Acted}
 use Rattle.sx_world.specs.Acts.{only, then_, with_node, at_node, stepped, done_on, with_packet, took, interrupted, ask, answered}
 
+-- the step's event is a reset
 abbrev pub is_reset : Event → Bool
 is_reset event.Quiet = false
 is_reset (event.Reset v) = true
@@ -33,6 +34,7 @@ steps_of set stops items n (suc k) w =
     else then_ (stepped set w n s) (steps_of set stops items n k))
     (slice_get w.nodes n)
 
+-- the most steps of one `finish` or `call`
 unfoldable pub FINISH_STEPS : ℕ
 FINISH_STEPS = 1000000
 
@@ -40,16 +42,20 @@ FINISH_STEPS = 1000000
 abbrev pub finish : Setting → ℕ → World → Acted
 finish set n w = steps_of set (λ s. s.cur == 0) (item.Budget n ∷ []) n FINISH_STEPS w
 
+-- bytes are put into a node's memory
 abbrev pub put_on : ℕ → ℕ → List ℕ → World → Acted
 put_on n at bytes w = at_node w (λ s. done_on w n [] (put s at bytes)) (slice_get w.nodes n)
 
+-- a register of a node is set
 abbrev pub set_on : ℕ → ℕ → ℕ → World → Acted
 set_on n r v w = at_node w (λ s. done_on w n [] (set s r v)) (slice_get w.nodes n)
 
+-- a packet is put into a node's memory, where there is such a packet
 abbrev pub give : World → ℕ → ℕ → Option (List ℕ) → Acted
 give w n at None = only w (item.Skip n ∷ [])
 give w n at (Some bytes) = put_on n at bytes w
 
+-- the number, or 0
 abbrev pub or_else : Option ℕ → ℕ
 or_else None = 0
 or_else (Some k) = k
@@ -58,6 +64,7 @@ or_else (Some k) = k
 abbrev pub place_at : Setting → ℕ → ℕ → ℕ
 place_at set n d = or_else (position_from (λ k. k == d) 0 (devices_at n 0 set.app.devices))
 
+-- a sensor gets a value, where there is such a device
 abbrev pub sense_at : Setting → World → ℕ → ℕ → Option AppDevice → Acted
 sense_at set w d v None = only w []
 sense_at set w d v (Some x) =
@@ -73,10 +80,12 @@ pub record Register : Type 0 where
   pub number : ℕ
   pub value : ℕ
 
+-- registers of a node are set, one after the other
 abbrev pub set_all : ℕ → List Register → World → Acted
 set_all n [] w = only w []
 set_all n (r ∷ rs) w = then_ (set_on n r.number r.value w) (set_all n rs)
 
+-- a register's number and its value
 abbrev pub register : ℕ → ℕ → Register
 register r v = record { number = r; value = v }
 
@@ -121,6 +130,7 @@ acted set w (Answer m boot k) = answered set w m boot (slice_get set.sites m) (s
 acted set w (Load m) = load set w (slice_get set.sites m)
 acted set w (Call m e input output) = call set w e input output (slice_get set.sites m)
 
+-- the world with one more line counted
 abbrev pub counted : World → World
 counted w = record { nodes = w.nodes; packets = w.packets; deployer = w.deployer; ledger = w.ledger; lines = w.lines + 1; steps = w.steps }
 

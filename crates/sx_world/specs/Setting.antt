@@ -30,6 +30,7 @@ pub record Setting : Type 0 where
   pub keys : List (List ℕ)
   pub places : List ℕ
 
+-- the layouts are the same
 abbrev pub same_layout : Layout → Layout → Bool
 same_layout a b = (a.pub_from == b.pub_from) && ((a.pub_to == b.pub_to) && ((a.priv_from == b.priv_from) && (a.priv_to == b.priv_to)))
 
@@ -60,6 +61,7 @@ device_number app n k = slice_index (devices_at n 0 app.devices) k
 abbrev pub device_of : AppTree → ℕ → Option ℕ
 device_of app m = option_and_then (λ q. q.device) (slice_get app.parts m)
 
+-- the kind of device as the machine has it
 abbrev pub kind_of : DeviceKind → Kind
 kind_of declared_kind.Sensor = Sensor
 kind_of declared_kind.Actuator = Actuator

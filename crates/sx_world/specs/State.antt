@@ -7,6 +7,8 @@ use Rattle.sx_machine.specs.State.{State, power_on}
 use Rattle.sx_world.specs.Setting.{Setting, windows_at}
 use Rattle.sx_world.specs.Deployer.{DeployerState}
 
+-- where a run stands: its nodes, packets, deployer and ledger, and how many lines and steps there
+-- were
 pub record World : Type 0 where
   pub nodes : List State
   pub packets : List (List ℕ)
@@ -25,6 +27,7 @@ abbrev pub nodes_from : Setting → ℕ → List (List ℕ) → List State
 nodes_from set n [] = []
 nodes_from set n (key ∷ keys) = power_on key (powered_on (windows_at n set.app.devices set.places)) ∷ nodes_from set (n + 1) keys
 
+-- the world in which each node is switched on, and nothing has happened
 abbrev pub switched_on : Setting → World
 switched_on set = record {
   nodes = nodes_from set 0 set.keys;

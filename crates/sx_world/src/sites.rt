@@ -19,9 +19,13 @@ use sx_tag::Tag;
 /// Where a module is deployed: its node, its layout, its provider, and the text of its image.
 #[derive(Drop)]
 pub struct Site {
+    /// The place of its node.
     pub node: u8,
+    /// The bounds of its two sections.
     pub layout: Layout,
+    /// The number of its provider.
     pub provider: u16,
+    /// The bytes of its public section.
     pub text: Vec<u8>,
 }
 
