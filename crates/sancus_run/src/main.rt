@@ -10,7 +10,7 @@ use sx_top::top;
 /// The exit status where there is no memory for the words.
 const OUT_OF_MEMORY: u8 = 6;
 
-/// The words of the command line behind the program's name.
+/// The words of the command line after the program's name.
 fn words(rt: &HostRuntime) -> io::Result<Vec<String>> {
     let mut words = Vec::new(rt.alloc());
     for word in env::args(rt)?.skip(1) {

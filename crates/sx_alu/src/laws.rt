@@ -6,8 +6,8 @@ ghost use Rattle.sx_alu.specs.Table.{limit, row, signed, differ, sum_row, differ
 ghost use Rattle.sx_alu.specs.declared.flags.Flags.{Flags};
 ghost use Rattle.sx_alu.specs.declared.calculation.Calc.TheVariants.{Sub};
 
-/// After a subtraction of s from d, as for a comparison: C says that s is at most d, Z that they are
-/// equal, and N differs from V exactly where d is below s as signed numbers. The value is the
+/// After a subtraction of s from d, as for a comparison: C says that s is at most d, Z that they
+/// are equal, and N differs from V exactly where d is below s as signed numbers. The value is the
 /// difference modulo the width.
 pub fn comparison()
     ensures carry { (wide : Bool) (s d : ℕ) (f : Flags) → s < limit wide → d < limit wide →

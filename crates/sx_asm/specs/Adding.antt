@@ -6,7 +6,7 @@ use Rattle.sx_asm.specs.declared.error.AsmError.{AsmError}
 use Rattle.sx_asm.specs.declared.error.AsmError.TheVariants.{Fault, OutOfMemory}
 use Rattle.sx_asm.specs.Reading.{placed, not_written, ◌>>=◌}
 
--- entries, and behind them what is meant
+-- entries, and after them what is meant
 abbrev pub grown : List Entry → ℕ → Option (List Item) → Option (List Entry)
 grown before n meant = option_map (λ items. before ++ placed n items) meant
 
@@ -16,6 +16,6 @@ Adds meant n before after (Ok u) = grown before n meant ≡ Some after
 Adds meant n before after (Err (Fault rule line)) = (meant ≡ None) × (Fault rule line ≡ not_written n)
 Adds meant n before after (Err OutOfMemory) = Unit {0}
 
--- entries in front of those that are meant
+-- entries before those that are meant
 abbrev pub continued : List Entry → Result (List Entry) AsmError → Result (List Entry) AsmError
 continued before meant = meant >>= (λ entries. Ok (before ++ entries))

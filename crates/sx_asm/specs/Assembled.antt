@@ -73,7 +73,7 @@ operand_known labels (Immediate v) = is_known labels v
 operand_known labels (Absolute v) = is_known labels v
 operand_known labels (Symbolic v) = is_known labels v
 
--- a label is the first of its name, where so many stand before it; other names have a label
+-- a label is the first of its name, where this many stand before it; other names have a label
 abbrev pub names_known : List Placed → ℕ → Item → Bool
 names_known labels before (Label s) = not (is_label (take before labels) s)
 names_known labels before (Word v) = is_known labels v
@@ -98,7 +98,7 @@ named labels before (e ∷ es) =
 
 -- Rule 4: jumps.
 
--- an even target, -512 to 511 words from the word behind the jump
+-- an even target, -512 to 511 words from the word after the jump
 abbrev pub in_reach : ℕ → ℕ → Bool
 in_reach next target =
     target % 2 == 0 && (nat_le (distance next target) 1022 || nat_le 64512 (distance next target))
@@ -117,7 +117,7 @@ reached labels at (e ∷ es) =
 
 -- Rule 5: the place of the code.
 
--- so many bytes may still stand
+-- this many bytes may still stand
 abbrev pub fitted : ℕ → List Entry → Result (Unit {0}) AsmError
 fitted room [] = Ok tt
 fitted room (e ∷ es) =

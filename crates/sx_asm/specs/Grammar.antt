@@ -31,7 +31,7 @@ abbrev pub in_brackets : List Token → Option ℕ
 in_brackets (token.Open ∷ token.Reg r ∷ token.Close ∷ []) = Some r
 in_brackets _ = None
 
--- REG [ "+" ], behind "@"
+-- REG [ "+" ], after "@"
 abbrev pub indirect : List Token → Option Written
 indirect (token.Reg r ∷ []) = Some (Indirect r)
 indirect (token.Reg r ∷ token.Plus ∷ []) = Some (Increment r)
@@ -71,7 +71,7 @@ abbrev pub is_colon : Token → Bool
 is_colon token.Colon = true
 is_colon _ = false
 
--- the tokens before and behind the first comma
+-- the tokens before and after the first comma
 abbrev pub parted : List Token → Option (List Token × List Token)
 parted [] = None
 parted (t ∷ ts) = if is_comma t then Some ([], ts) else option_map (λ p. (t ∷ p.0, p.1)) (parted ts)
@@ -96,7 +96,7 @@ instruction_from token.Reti ts = alone (Some Reti) ts
 instruction_from (token.Sancus code) ts = alone (Some (Sancus code)) ts
 instruction_from _ ts = None
 
--- an item in front of others
+-- an item before others
 abbrev pub first : Option Item → Option (List Item) → Option (List Item)
 first (Some i) (Some is) = Some (i ∷ is)
 first None is = None

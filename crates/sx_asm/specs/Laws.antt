@@ -24,7 +24,8 @@ abbrev pub AreBytes : List ℕ → Type 0
 AreBytes [] = Unit {0}
 AreBytes (b ∷ bs) = (b < 256) × AreBytes bs
 
--- the line of the first instruction of some bytes, assembled at their address, gives the bytes that it stands for
+-- the line of the first instruction of some bytes, assembled at their address, gives the bytes that
+-- it stands for
 abbrev pub ReassemblesLine : Type 0
 ReassemblesLine = (bytes : List ℕ) (at : ℕ) → AreBytes bytes → 2 ≤ length bytes → at % 2 ≡ 0
     → at + length bytes ≤ 65536 → assembled at (listed at bytes).0 ≡ Ok (take (listed at bytes).1 bytes)

@@ -51,7 +51,7 @@ further at n = (at + n) % 65536
 abbrev pub distance : ℕ → ℕ → ℕ
 distance at to = (to + (65536 - at)) % 65536
 
--- a label at its address, in front of other labels
+-- a label at its address, before other labels
 abbrev pub labels_at : Item → ℕ → List Placed → List Placed
 labels_at (Label s) at more = record { name = s; address = at } ∷ more
 labels_at _ at more = more

@@ -14,7 +14,7 @@ abbrev pub ◌>>=◌ : {A B : Type 0} → Result A AsmError → (A → Result B 
 Ok x >>= f = f x
 Err e >>= f = Err e
 
--- an element in front of the first part
+-- an element before the first part
 abbrev pub onto_first : {A : Type 0} → A → List (List A) → List (List A)
 onto_first x [] = (x ∷ []) ∷ []
 onto_first x (part ∷ more) = (x ∷ part) ∷ more
@@ -57,7 +57,7 @@ not_written n = Fault 1 n
 abbrev pub line_fits : ℕ → List ℕ → List (List ℕ) → Bool
 line_fits left line more = nat_le (length line) 4096 && nat_le (taken line more) left
 
--- the lines from the one with this number on, where so many bytes are left
+-- the lines from the one with this number on, where this many bytes are left
 abbrev pub read_lines : ℕ → ℕ → List (List ℕ) → Result (List Entry) AsmError
 read_lines n left [] = Ok []
 read_lines n left (line ∷ more) =

@@ -30,7 +30,8 @@ hex_digits n =
 abbrev pub hex : ℕ → List ℕ
 hex n = codes "0x" ++ hex_digits n
 
--- an operand whose extension word stands at this address, if it has one; `##` where `#` would be a constant
+-- an operand whose extension word stands at this address, if it has one; `##` where `#` would be a
+-- constant
 abbrev pub operand_text : ℕ → Operand → List ℕ
 operand_text at (Reg r) = register_name r
 operand_text at (Indexed r x) = hex x ++ codes "(" ++ register_name r ++ codes ")"
@@ -41,7 +42,7 @@ operand_text at (Absolute x) = codes "&" ++ hex x
 operand_text at (Immediate x) = (if is_constant x then codes "##" else codes "#") ++ hex x
 operand_text at (Const c) = codes "#" ++ hex c
 
--- so many words further, modulo 65,536
+-- this many words further, modulo 65,536
 abbrev pub target : ℕ → ℤ → ℕ
 target next (pos n) = further next (2 * n)
 target next (negsuc n) = further next (65536 - 2 * (n + 1))
@@ -79,11 +80,12 @@ line_of at bytes None = (word_text (word_from bytes 0), 2)
 line_of at bytes (Some f) =
     if nat_le (2 * f.1) (length bytes) then (shown f.0 at, 2 * f.1) else (word_text (word_from bytes 0), 2)
 
--- the line of the instruction at the front of bytes
+-- the line of the instruction at the start of bytes
 unfoldable pub listed : ℕ → List ℕ → Line
 listed at bytes = line_of at bytes (instruction_at (word_from bytes 0) (word_from bytes 2) (word_from bytes 4))
 
--- the listing of bytes from an address on, a line for each instruction; at most so many lines, and no last byte alone
+-- the listing of bytes from an address on, a line for each instruction; at most this many lines,
+-- and no last byte alone
 abbrev pub listing : ℕ → ℕ → List ℕ → List ℕ
 listing zero at bytes = []
 listing (suc k) at bytes =

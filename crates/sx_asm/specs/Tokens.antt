@@ -18,7 +18,7 @@ is_word_byte b = is_name_byte b || (nat_le 65 b && nat_le b 90) || b == 46
 abbrev pub joins : ℕ → ℕ → Bool
 joins a b = (is_word_byte a && is_word_byte b) || (a == b && (a == 35 || a == 47))
 
--- a byte in front of runs
+-- a byte before runs
 abbrev pub onto : ℕ → List (List ℕ) → List (List ℕ)
 onto a [] = (a ∷ []) ∷ []
 onto a ([] ∷ more) = (a ∷ []) ∷ more

@@ -30,7 +30,7 @@ op1_name Swpb = codes "swpb"
 op1_name Sxt = codes "sxt"
 op1_name Call = codes "call"
 
--- `.b` behind the name of an operation on bytes
+-- `.b` after the name of an operation on bytes
 abbrev pub sized : List ℕ → Bool → List ℕ
 sized name byte = if byte then name ++ codes ".b" else name
 
@@ -92,7 +92,7 @@ registers =
     ∷ (codes "r7", Reg 7) ∷ (codes "r8", Reg 8) ∷ (codes "r9", Reg 9) ∷ (codes "r10", Reg 10) ∷ (codes "r11", Reg 11)
     ∷ (codes "r12", Reg 12) ∷ (codes "r13", Reg 13) ∷ (codes "r14", Reg 14) ∷ (codes "r15", Reg 15) ∷ []
 
--- each name of an operation, and with `.b` behind it
+-- each name of an operation, and with `.b` after it
 abbrev pub two_names : List Op2 → Table
 two_names [] = []
 two_names (op ∷ ops) = (sized (op2_name op) false, Two op false) ∷ (sized (op2_name op) true, Two op true) ∷ two_names ops

@@ -59,7 +59,7 @@ fn operand_known(labels: &[Label], written: &Written) -> bool
     }
 }
 
-/// The first labels, so many.
+/// The first labels, this many.
 fn first_labels(labels: &[Label], count: usize) -> &[Label]
     ensures { result.now ≡ take count labels.now }
 {
@@ -70,8 +70,8 @@ fn first_labels(labels: &[Label], count: usize) -> &[Label]
     }
 }
 
-/// Whether the item's names have a label, or a label is the first of its name, where so many stand
-/// before it.
+/// Whether the item's names have a label, or a label is the first of its name, where this many
+/// stand before it.
 fn names_known(labels: &[Label], before: usize, item: &Item) -> bool
     ensures { result ≡ names_known labels.now before item.now }
 {
@@ -231,8 +231,8 @@ fn code_of(alloc: Global, labels: &[Label], at: u16, entries: &[Entry]) -> Resul
     Ok(code)
 }
 
-/// The code of a text that stands at an address. A fault is the first of the five rules that the text
-/// breaks, each tried on the whole text, and the first line that breaks it, from 1.
+/// The code of a text that stands at an address. A fault is the first of the five rules that the
+/// text breaks, each tried on the whole text, and the first line that breaks it, from 1.
 #[tactic(auto, unfolding(crate::specs::Assembled::assembled))]
 pub fn assemble(alloc: Global, at: u16, text: &str) -> Result<Vec<u8>, AsmError>
     ensures { Answers (λ code. code.items) (assembled at text.now) result }

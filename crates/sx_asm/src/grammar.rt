@@ -40,7 +40,7 @@ fn in_brackets(tokens: &[Token]) -> Option<u8>
     }
 }
 
-/// What stands behind `@`.
+/// What follows `@`.
 fn indirect(tokens: &[Token]) -> Option<Written>
     ensures { result ≡ indirect tokens.now }
 {
@@ -51,7 +51,7 @@ fn indirect(tokens: &[Token]) -> Option<Written>
     }
 }
 
-/// A value, and what stands behind it.
+/// A value, and what follows it.
 fn memory(value: Value, tokens: &[Token]) -> Option<Written>
     ensures { result ≡ memory tokens.now value }
 {

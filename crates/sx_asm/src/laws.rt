@@ -12,8 +12,8 @@ pub fn reassembles()
     ensures { Reassembles }
 {}
 
-/// The line that `dis` shows, assembled at its even address, gives the bytes that it stands for; and
-/// so do the lines of a whole listing, joined by newlines.
+/// The line that `dis` shows, assembled at its even address, gives the bytes that it stands for;
+/// and so do the lines of a whole listing, joined by newlines.
 pub fn relists()
     ensures line { ReassemblesLine }
     ensures listing { ReassemblesListing }

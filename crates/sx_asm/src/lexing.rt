@@ -147,7 +147,7 @@ fn joins(a: u8, b: u8) -> bool
     is_word_byte(a) && is_word_byte(b) || a == b && (a == b'#' || a == b'/')
 }
 
-/// How many bytes at the front go on the run of the byte before them.
+/// How many bytes at the start go on the run of the byte before them.
 fn run_length(before: u8, text: &[u8]) -> usize
     ensures front { result ≡ run_front before text.now }
     ensures within { result ≤ length text.now }
@@ -201,7 +201,7 @@ fn with_digit(base: u32, number: u16, byte: u8) -> Option<u16>
     Some(next as u16)
 }
 
-/// The number that digits write behind a number, at most 65,535.
+/// The number that digits write after a number, at most 65,535.
 fn digits(base: u32, text: &[u8]) -> Option<u16>
     requires { base ≤ 16 }
     ensures { result ≡ digits_from base 0 text.now }

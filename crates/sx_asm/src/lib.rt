@@ -1,13 +1,13 @@
 //! An assembler and a disassembler of the instructions of sx_isa.
 //!
-//! `assemble` gives the bytes of a text, or the first of five rules that it breaks and the first line
-//! that breaks it. `show` writes the text of an instruction, and `dis` that of the first instruction of
-//! some bytes. What they write is assembled to the same bytes (`laws`).
+//! `assemble` gives the bytes of a text, or the first of five rules that it breaks and the first
+//! line that breaks it. `show` writes the text of an instruction, and `dis` that of the first
+//! instruction of some bytes. What they write is assembled to the same bytes (`laws`).
 //!
 //! What must be believed stands in specs/: Words.antt and Tokens.antt (names, signs and tokens),
-//! Grammar.antt (statements), Reading.antt (lines; rule 1), Meaning.antt (addresses and instructions),
-//! Assembled.antt (rules 2 to 5, and their order) and Shown.antt (what is shown). Fronts.antt,
-//! Adding.antt and Forms.antt are forms that code computes with.
+//! Grammar.antt (statements), Reading.antt (lines; rule 1), Meaning.antt (addresses and
+//! instructions), Assembled.antt (rules 2 to 5, and their order) and Shown.antt (what is shown).
+//! Fronts.antt, Adding.antt and Forms.antt are forms that code computes with.
 #![tactic(auto)]
 
 mod assembling;

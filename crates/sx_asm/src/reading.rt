@@ -113,7 +113,7 @@ fn add_piece(line: u32, tokens: &[Token], entries: &mut Vec<Entry>) -> Result<()
     }
 }
 
-/// The tokens before the first semicolon, and those behind it.
+/// The tokens before the first semicolon, and those after it.
 fn split_piece(tokens: &[Token]) -> (&[Token], Option<&[Token]>)
     ensures parts { parts is_semicolon tokens.now
         ≡ result.0.now ∷ behind is_semicolon (option_map (λ more. more.now) result.1) }
@@ -154,7 +154,7 @@ fn add_line(
     add_pieces(number, &tokens, entries)
 }
 
-/// The bytes before the first newline, and those behind it.
+/// The bytes before the first newline, and those after it.
 fn split_line(text: &[u8]) -> (&[u8], Option<&[u8]>)
     ensures parts { parts is_newline text.now
         ≡ result.0.now ∷ behind is_newline (option_map (λ more. more.now) result.1) }

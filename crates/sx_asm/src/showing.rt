@@ -170,7 +170,7 @@ fn put_hex(text: &mut Text, n: u16)
     put_digits(text, n);
 }
 
-/// A sign, and a number behind it.
+/// A sign, and a number after it.
 fn put_signed(text: &mut Text, sign: &[u8], n: u16)
     requires room { length text.old.items + 8 ≤ 64 }
     requires sign { length sign.now ≤ 2 }
@@ -276,7 +276,7 @@ fn put_one(text: &mut Text, at: u16, op: Op1, byte: bool, arg: &Operand)
     put_operand(text, further(at, 2), arg);
 }
 
-/// The address so many words further.
+/// The address this many words further.
 fn target(next: u16, offset: i16) -> u16
     requires { IsOffset offset }
     ensures { result ≡ target next offset }
@@ -311,7 +311,7 @@ fn put_shown(text: &mut Text, at: u16, instruction: &Instr)
     }
 }
 
-/// Writes a text into the front of a buffer.
+/// Writes a text at the start of a buffer.
 fn written(text: &[u8], into: &mut [u8; 64]) -> usize
     requires { length text.now ≤ 64 }
     ensures text { into.new ≡ text.now ++ drop result into.old }
@@ -321,8 +321,9 @@ fn written(text: &[u8], into: &mut [u8; 64]) -> usize
     text.len()
 }
 
-/// Writes the text of an instruction that stands at an address into the front of the buffer, and gives
-/// its length. The rest of the buffer stays. The instruction can be written in words (`sx_isa::valid`).
+/// Writes the text of an instruction that stands at an address at the start of the buffer, and
+/// gives its length. The rest of the buffer stays. The instruction can be written in words
+/// (`sx_isa::valid`).
 pub fn show(i: &Instr, at: u16, into: &mut [u8; 64]) -> usize
     requires { IsInstruction i.now }
     ensures text { into.new ≡ shown i.now at ++ drop result into.old }
@@ -356,9 +357,9 @@ fn word_from(bytes: &[u8], place: usize) -> u16
     }
 }
 
-/// Writes the text of the first instruction of some bytes that stand at an address into the front of
-/// the buffer, and gives the text's length and the instruction's in bytes. Where no instruction has the
-/// first word, or the bytes don't hold it whole, the text is `.word` and that word, of 2 bytes.
+/// Writes the text of the first instruction of some bytes that stand at an address at the start of
+/// the buffer, and gives the text's length and the instruction's in bytes. Where no instruction has
+/// the first word, or the bytes don't hold it whole, the text is `.word` and that word, of 2 bytes.
 #[tactic(auto, unfolding(crate::specs::Shown::listed))]
 pub fn dis(at: u16, bytes: &[u8], into: &mut [u8; 64]) -> (usize, u8)
     requires { 2 ≤ length bytes.now }

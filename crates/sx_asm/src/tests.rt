@@ -22,7 +22,7 @@ fn gives(rt: &impl Abort, alloc: Global, at: u16, text: &str, bytes: &[u8]) {
     }
 }
 
-/// Whether the bytes are shown so, as an instruction of so many bytes.
+/// Whether the bytes are shown so, as an instruction of this many bytes.
 fn shows(rt: &impl Abort, at: u16, bytes: &[u8], text: &[u8], size: u8) {
     if bytes.len() >= 2 {
         let mut into = [0; 64];

@@ -123,6 +123,6 @@ pub struct Entry {
 pub struct Label {
     /// The label's name.
     pub name: Name,
-    /// The address of the item behind it.
+    /// The address of the item after it.
     pub address: u16,
 }

@@ -53,7 +53,7 @@ event i =
     ∷ codes "call lamp 2 0x300 0x400"
     ∷ []
 
--- the line of this number in a list, counted from 0; behind its end an empty one
+-- the line of this number in a list, counted from 0; after its end an empty one
 abbrev pub line_at : List (List ℕ) → ℕ → List ℕ
 line_at those k = unwrap_or (slice_get those k) []
 

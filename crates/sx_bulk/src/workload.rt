@@ -125,7 +125,7 @@ pub fn lines(n: u32) -> u32
 }
 
 /// Writes the i-th line of those that carry n samples, counted from 0, without its newline, at the
-/// start of the buffer, and answers how many bytes it has. The bytes behind it stay. A line is the
+/// start of the buffer, and answers how many bytes it has. The bytes after it stay. A line is the
 /// same for every n that has it.
 pub fn line(n: u32, i: u32, into: &mut [u8; 64]) -> usize
     requires few { n ≤ MOST_SAMPLES }

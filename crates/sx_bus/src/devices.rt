@@ -41,8 +41,8 @@ impl Window {
     }
 }
 
-/// The devices of a node, at most 32. A device is named by its index in the order in which `new` was
-/// given them.
+/// The devices of a node, at most 32. A device is named by its index in the order in which `new`
+/// was given them.
 #[derive(Drop)]
 pub struct Windows {
     windows: Vec<Window>,

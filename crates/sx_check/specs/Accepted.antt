@@ -1,4 +1,5 @@
--- What holds of each module that breaks no rule: its bounds, and that each name in it is known and used as what it is.
+-- What holds of each module that breaks no rule: its bounds, and that each name in it is known and
+-- used as what it is.
 use Rattle.std.specs.Prelude.{◌≡◌, ◌≢◌, ℕ, ◌≤◌, ◌⊎◌, true, false, List, None, All, AllPairs, count_by, length}
 use Rattle.std.specs.List.{list_any}
 use Rattle.sx_lang.specs.declared.tree.Decl.{Decl}

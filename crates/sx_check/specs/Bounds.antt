@@ -62,7 +62,7 @@ abbrev mutual
 abbrev pub is_miscounted : ℕ → Bool
 is_miscounted n = not (nat_le 1 n) || not (nat_le n 256)
 
--- how often it can send: the greater branch of an `if`, and a `repeat`'s block so many times
+-- how often it can send: the greater branch of an `if`, and a `repeat`'s block this many times
 abbrev mutual
   pub statement_sends : Statement → ℕ
   statement_sends (Defines x e) = 0

@@ -1,5 +1,5 @@
-//! The rules on how high, how deep and how long the code is. Numbers are cut where no rule tells them
-//! apart any more, so that they are numbers for every tree.
+//! The rules on how high, how deep and how long the code is. Numbers are cut where no rule tells
+//! them apart any more, so that they are numbers for every tree.
 
 ghost use Rattle.std.specs.Prelude.{◌≡◌, ℕ, ◌+◌, ◌*◌, ◌≤◌, length, map, max, min, nat_lt};
 ghost use Rattle.std.specs.List.{list_any};

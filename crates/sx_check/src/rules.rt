@@ -3,12 +3,13 @@
 /// The rules, in the order in which they are tried.
 #[derive(Clone, Copy, PartialEq, Eq, Debug)]
 pub enum Rule {
-    /// A name is declared twice, taken by a local though it is in use, or handled twice; or there are two
-    /// device declarations.
+    /// A name is declared twice, taken by a local though it is in use, or handled twice; or there
+    /// are two device declarations.
     Duplicate,
     /// A name isn't declared, or a local is used before its `let` or after its block.
     Unknown,
-    /// A name is used as another kind; or the module samples without a sensor, or emits without an actuator.
+    /// A name is used as another kind; or the module samples without a sensor, or emits without an
+    /// actuator.
     Kind,
     /// An expression is higher than 32, or a block stands in more than 15 others.
     Depth,

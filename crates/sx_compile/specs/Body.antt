@@ -118,7 +118,7 @@ pub record HasHandled (s : Setup) (out : ℕ) (course : Course) (before : State)
   pub pieces : Stand w.node.mem out progress.pieces
   pub marks : w.marks ≡ progress.marks
 
--- From one offset of the text the node comes within so many instructions to the other, or it is
+-- From one offset of the text the node comes within this many instructions to the other, or it is
 -- reset with the course's violation.
 abbrev pub DoesHandler : Setup → List ℕ → ℕ → ℕ → ℕ → SourceEvent → State → Type 0
 DoesHandler s text from to cost e n =

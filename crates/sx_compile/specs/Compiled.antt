@@ -14,7 +14,7 @@ use Rattle.sx_lower.specs.Lowered.{handlers_code, handlers_parts}
 use Rattle.sx_stub.specs.Stub.{stub_ops}
 use Rattle.sx_tmpl.specs.Text.{bytes_of, text_words_of}
 
--- the operations of the entry protocol, and behind them the parts of the handlers
+-- the operations of the entry protocol, and after them the parts of the handlers
 unfoldable pub compiled_ops : ModuleTree → List End → List Ir
 compiled_ops tree ends =
     let stub = stub_ops tree ends in
@@ -24,7 +24,7 @@ compiled_ops tree ends =
 unfoldable pub compiled_parts : ModuleTree → List End → List (ℕ × ℕ)
 compiled_parts tree ends = handlers_parts tree.decls ends (length (stub_ops tree ends)) tree.handlers
 
--- bytes, and behind them zeros up to a length
+-- bytes, and after them zeros up to a length
 abbrev pub padded : ℕ → List ℕ → List ℕ
 padded n bytes = bytes ++ replicate (n - length bytes) 0
 

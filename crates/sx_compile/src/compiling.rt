@@ -18,7 +18,7 @@ use sx_stub::{links_fit, stub};
 use sx_tag::Tag;
 use sx_tmpl::emit;
 
-/// Appends so many zeros.
+/// Appends this many zeros.
 fn put_zeros(text: &mut Vec<u8>, count: usize) -> Result<(), OutOfMemory>
     ensures { OnOk result (text.new.items ≡ text.old.items ++ replicate count 0) }
 {
@@ -45,7 +45,7 @@ pub(crate) fn lowerable(m: &Checked, ends: &[End])
     words(m.module());
 }
 
-/// The module's stack code: the entry protocol, and behind it the parts of the handlers.
+/// The module's stack code: the entry protocol, and after it the parts of the handlers.
 fn code_of<T: Tag>(
     alloc: Global,
     tag: &T,
@@ -63,12 +63,13 @@ fn code_of<T: Tag>(
     join(alloc, tag, &protocol, &handlers)
 }
 
-/// Compiles a module with these ends of connections: its entry protocol and its handlers as stack code, the
-/// text of their instructions, and zeros up to the end of the public section. The layout has sections of
-/// exactly the module's weight and data size, at even addresses below 65,536, and no handler makes more than
-/// 16 packets. The image is exactly `compiled_image`, and it realizes the module: on every node where it stands
-/// protected, a call that enters it does what the entry protocol and the handlers say, within the module's cost.
-/// The bytes are the same for every tag. Nothing but want of memory is refused.
+/// Compiles a module with these ends of connections: its entry protocol and its handlers as stack
+/// code, the text of their instructions, and zeros up to the end of the public section. The layout
+/// has sections of exactly the module's weight and data size, at even addresses below 65,536, and
+/// no handler makes more than 16 packets. The image is exactly `compiled_image`, and it realizes
+/// the module: on every node where it stands protected, a call that enters it does what the entry
+/// protocol and the handlers say, within the module's cost. The bytes are the same for every tag.
+/// It fails only where memory runs out.
 pub fn compile<T: Tag>(
     alloc: Global,
     tag: &T,

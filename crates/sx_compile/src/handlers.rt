@@ -17,11 +17,12 @@ use sx_rules::Layout;
 use sx_tag::Tag;
 use sx_tmpl::emit;
 
-/// Compiles the handlers of a module alone, with these ends of connections, for tests and tools that begin a
-/// handler themselves. The conditions are those of `compile`. The text is that of the handlers' code alone,
-/// without entry protocol and padding. Where it stands at the start of a public section of this layout and the
-/// module is at a handler's `from`, it does the handler within the handler's cost and comes to the handler's
-/// `to` (`specs/Body.antt`). Nothing but want of memory is refused.
+/// Compiles the handlers of a module alone, with these ends of connections, for tests and tools
+/// that begin a handler themselves. The conditions are those of `compile`. The text is that of the
+/// handlers' code alone, without entry protocol and padding. Where it stands at the start of a
+/// public section of this layout and the module is at a handler's `from`, it does the handler
+/// within the handler's cost and comes to the handler's `to` (`specs/Body.antt`). It fails only
+/// where memory runs out.
 pub fn body<T: Tag>(
     alloc: Global,
     tag: &T,

@@ -1,4 +1,5 @@
-//! What holds of compiled modules. Each law is a function that does nothing: its contract is the law.
+//! What holds of compiled modules. Each law is a function that does nothing: its contract is the
+//! law.
 
 ghost use Rattle.sx_compile.specs.Laws.{CompiledRealizes, FewPieces, ZerosInitial};
 

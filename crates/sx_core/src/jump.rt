@@ -43,7 +43,7 @@ fn target(is_taken: bool, offset: i16, next: u16) -> u16
     }
 }
 
-/// A jump; `next` is the address behind it.
+/// A jump; `next` is the address after it.
 pub fn jump<B: Bus>(
     executor: &mut Executor<B>,
     condition: u8,

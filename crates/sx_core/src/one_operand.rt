@@ -16,8 +16,8 @@ use sx_executor::registers::{PC, SP, SR};
 use sx_isa::{Op1, Operand};
 use sx_rules::Violation;
 
-/// An operation that writes its result where its operand was read, at a place in memory. PC stands
-/// behind the instruction.
+/// An operation that writes its result where its operand was read, at a place in memory. PC is
+/// after the instruction.
 fn operate<B: Bus>(
     executor: &mut Executor<B>,
     kind: Calc,
@@ -32,7 +32,7 @@ fn operate<B: Bus>(
     into_memory(executor, wide, true, at, value)
 }
 
-/// The same from the instruction's first word on; `next` is the address behind it.
+/// The same from the instruction's first word on; `next` is the address after it.
 fn in_memory<B: Bus>(
     executor: &mut Executor<B>,
     kind: Calc,
@@ -119,7 +119,7 @@ fn push<B: Bus>(
     write_at_sp(executor, wide, value, pc)
 }
 
-/// An instruction with one operand; `next` is the address behind it.
+/// An instruction with one operand; `next` is the address after it.
 pub fn one<B: Bus>(
     executor: &mut Executor<B>,
     op: Op1,

@@ -43,8 +43,8 @@ fn fetch_instruction<B: Bus>(
     }
 }
 
-/// Executes a decoded instruction; PC stands behind its first word, and `next` is the address
-/// behind the whole.
+/// Executes a decoded instruction; PC is after its first word, and `next` is the address after the
+/// whole.
 fn execute<B: Bus>(
     executor: &mut Executor<B>,
     instruction: Instr,

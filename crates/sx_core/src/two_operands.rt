@@ -143,7 +143,7 @@ fn onto<B: Bus>(
     }
 }
 
-/// An instruction with two operands; `next` is the address behind it.
+/// An instruction with two operands; `next` is the address after it.
 pub fn two<B: Bus>(
     executor: &mut Executor<B>,
     op: Op2,

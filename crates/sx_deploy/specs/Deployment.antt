@@ -19,7 +19,8 @@ use Rattle.sx_deploy.specs.Ties.{byte, app_device, device_of, links_of}
 use Rattle.sx_deploy.specs.Places.{placements_of}
 use Rattle.sx_deploy.specs.declared.placing.Placement.{Placement}
 
--- a deployment: the application, its names, and by node, device and module the keys, places, layouts and providers
+-- a deployment: the application, its names, and by node, device and module the keys, places,
+-- layouts and providers
 pub record Deployed : Type 0 where
   pub app : AppTree
   pub names : NameLists

@@ -12,7 +12,8 @@ use Rattle.sx_deploy.specs.Ties.{byte}
 abbrev pub end_as : End → End
 end_as e = record { link = byte e.link; side = e.side; port = e.port }
 
--- these are the ends of the p-th part, and where there are at most 256 connections, with their own numbers
+-- these are the ends of the p-th part, and where there are at most 256 connections, with their own
+-- numbers
 pub record AreHeld (app : AppTree) (p : ℕ) (ends : List End) : Type 0 where
   pub all : ends ≡ map end_as (ends_of app p)
   pub few : length app.links ≤ 256 → ends ≡ ends_of app p

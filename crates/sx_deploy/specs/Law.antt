@@ -48,8 +48,9 @@ abbrev pub standing : List PartTree → List Layout → List Placement
 standing (q ∷ qs) (l ∷ ls) = record { node = q.node; layout = l } ∷ standing qs ls
 standing _ _ = []
 
--- the p-th module's place: its sections are as long as the sizes say, in the range and apart; a driver's private section
--- begins with its device's word, and no other word of the node lies in a section
+-- the p-th module's place: its sections are as long as the sizes say, in the range and apart; a
+-- driver's private section begins with its device's word, and no other word of the node lies in a
+-- section
 pub record IsLaid (d : Deployed) (p : ℕ) (q : PartTree) (l : Layout) : Type 0 where
   pub weight : l.pub_to ≡ l.pub_from + module_weight q.tree (ends_from d.app.links p + ends_to d.app.links p)
   pub data_size : l.priv_to ≡ l.priv_from + module_data_size q.tree (ends_from d.app.links p + ends_to d.app.links p)
@@ -66,8 +67,9 @@ AreLaid d p [] [] = Unit {0}
 AreLaid d p (q ∷ qs) (l ∷ ls) = IsLaid d p q l × AreLaid d (p + 1) qs ls
 AreLaid d p _ _ = ⊥
 
--- The p-th module keeps the rules of the language, and its numbers are words. It is at a node of the application, drives a device exactly
--- where it declares one, of that kind and at its node, and has neither too many ends nor sends too much.
+-- The p-th module keeps the rules of the language, and its numbers are words. It is at a node of
+-- the application, drives a device exactly where it declares one, of that kind and at its node, and
+-- has neither too many ends nor sends too much.
 pub record IsPart (d : Deployed) (p : ℕ) (q : PartTree) : Type 0 where
   pub checked : first_broken q.tree ≡ None
   pub words : TreeHasWords q.tree

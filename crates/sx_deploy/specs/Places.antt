@@ -32,7 +32,7 @@ pub record Span : Type 0 where
   pub from : ℕ
   pub to : ℕ
 
--- so many bytes from an address on
+-- this many bytes from an address on
 abbrev pub span : ℕ → ℕ → Span
 span from size = record { from = from; to = from + size }
 
@@ -71,9 +71,9 @@ sections_of devices links p m = record {
   data_part = span (start_of devices m.start) (module_data_size m.tree (ends_of links p));
 }
 
--- Second: a module's section has an odd start, begins below 0x0200, ends above 0xFFE0, meets the module's own other
--- section or one of an earlier module of its node, or holds a device word. The module's own device at its private start
--- is allowed.
+-- Second: a module's section has an odd start, begins below 0x0200, ends above 0xFFE0, meets the
+-- module's own other section or one of an earlier module of its node, or holds a device word. The
+-- module's own device at its private start is allowed.
 
 -- some byte is in both
 abbrev pub meet : Span → Span → Bool

@@ -22,12 +22,14 @@ pub record Coded : Type 0 where
 abbrev pub coded : ModuleEntry → ModuleTree → Coded
 coded m tree = record { name = m.name; node = m.node; provider = m.provider; text = m.text; start = m.start; tree = tree }
 
--- what the n-th module is: it has the tree that its source spells, or a fault at the place of the source's first
+-- what the n-th module is: it has the tree that its source spells, or a fault at the place of the
+-- source's first
 abbrev pub IsCoded : ℕ → ModuleEntry → Result Coded DeployFault → Type 0
 IsCoded n m (Ok c) = (tree : ModuleTree) × Spells m.source tree × (c ≡ coded m tree)
 IsCoded n m (Err f) = (at : Place) × IsFault m.source at × (f ≡ fault 7 (Source (cut n) at.line at.column))
 
--- what the modules become from the n-th on: each has a tree, or the first that has none is the fault
+-- what the modules become from the n-th on: each has a tree, or the first that has none is the
+-- fault
 pub data AreCoded : ℕ → List ModuleEntry → Result (List Coded) DeployFault → Type 0 where
   none_left : {n : ℕ} → AreCoded n [] (Ok [])
   each : {n : ℕ} {m : ModuleEntry} {ms : List ModuleEntry} {c : Coded} {cs : List Coded}

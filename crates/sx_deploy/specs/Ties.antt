@@ -33,8 +33,8 @@ abbrev pub device_of : Start → Option ℕ
 device_of (start.At at) = None
 device_of (start.Device n) = Some (byte n)
 
--- First: a module and its device differ in node, its declaration isn't its device's kind, or only the declaration or
--- only the device is there.
+-- First: a module and its device differ in node, its declaration isn't its device's kind, or only
+-- the declaration or only the device is there.
 abbrev pub is_mistied : List AppDevice → List Coded → Coded → Bool
 is_mistied devices earlier m = not (is_driven devices (byte m.node) (device_of m.start) (declared_kind m.tree.decls))
 

@@ -1,5 +1,5 @@
-//! The highest expressions and the deepest blocks go through parse, check, sizes and react. A body that
-//! goes over both operands twice would do so some 2 ^ 32 times here.
+//! The highest expressions and the deepest blocks go through parse, check, sizes and react. A body
+//! that goes over both operands twice would do so some 2 ^ 32 times here.
 
 use std::alloc::Global;
 use std::test::Fail;
@@ -23,7 +23,7 @@ fn checked(module: Module) -> Result<Checked, Refused> {
     }
 }
 
-/// The text, with the first part so many times before its middle and the last as often behind it.
+/// The text, with the first part this many times before its middle and the last as often after it.
 fn nested(alloc: Global, first: &str, times: u8, middle: &str, last: &str) -> Result<String, Fail> {
     let mut text = String::new(alloc);
     for _time in 0..times {

@@ -289,7 +289,7 @@ fn texts_without_entries(rt: HostRuntime) -> Result<(), Fail> {
     Ok(())
 }
 
-/// So many entries, each with a name and what follows it.
+/// This many entries, each with a name and what follows it.
 fn listed(
     alloc: Global,
     head: &str,

@@ -22,15 +22,16 @@ abbrev pub side_number : Side → ℕ
 side_number From = 0
 side_number To = 1
 
--- the set-key packet for an end that a module holds, at a boot of the module's node, in an epoch: the connection key,
--- wrapped under the module key
+-- the set-key packet for an end that a module holds, at a boot of the module's node, in an epoch:
+-- the connection key, wrapped under the module key
 abbrev pub set_key : Mac → List ℕ → Known → ℕ → End → ℕ → List ℕ
 set_key mac secret t boot e epoch =
     let header = set_key_header (field e.link epoch) (side_number e.side) in
     let w = wrapped mac (key_of mac t boot) header (connection_key mac secret (field e.link epoch)) in
     header ++ w.cipher ++ w.tag
 
--- what a set-key packet is for: an end of a module, a boot of the module's node, and an epoch of the connection
+-- what a set-key packet is for: an end of a module, a boot of the module's node, and an epoch of
+-- the connection
 pub record Grant : Type 0 where
   pub holder : ℕ
   pub boot : ℕ
@@ -75,8 +76,8 @@ abbrev pub grants_beyond : Keeping → ℕ → ℕ → List Link → List Grant
 grants_beyond d m n [] = []
 grants_beyond d m n (l ∷ ls) = grant_beyond d m n l ++ grants_beyond d m (n + 1) ls
 
--- the packets that follow an answer of a module that was last attested at a boot, if any: those of its own ends, and where
--- it was attested before those of the ends beyond
+-- the packets that follow an answer of a module that was last attested at a boot, if any: those of
+-- its own ends, and where it was attested before those of the ends beyond
 abbrev pub grants_after : AppTree → Keeping → ℕ → ℕ → Option ℕ → List Grant
 grants_after app d m boot None = map (grant d m boot) (ends_of app m)
 grants_after app d m boot (Some last) = map (grant d m boot) (ends_of app m) ++ grants_beyond d m 0 app.links

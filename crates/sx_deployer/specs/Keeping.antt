@@ -22,8 +22,8 @@ pub record Known : Type 0 where
 abbrev pub known : Target → Known
 known t = record { node_key = t.node_key; provider = t.provider; identity = t.identity.items; ends = t.ends.items }
 
--- the secret and the modules; the number of asks; each module's open ask, and the boot at which it was last attested;
--- and each connection's epoch
+-- the secret and the modules; the number of asks; each module's open ask, and the boot at which it
+-- was last attested; and each connection's epoch
 pub record Keeping : Type 0 where
   pub secret : List ℕ
   pub targets : List Known
@@ -67,7 +67,7 @@ has_link es c = list_any (λ e. e.link == c) es
 abbrev pub is_spent : List End → List ℕ → Bool
 is_spent es epochs = list_any (λ e. nat_le 255 (slice_index epochs e.link)) es
 
--- the epoch of the c-th connection behind an attestation of a module with these ends
+-- the epoch of the c-th connection after an attestation of a module with these ends
 abbrev pub next_epoch : List End → ℕ → ℕ → ℕ
 next_epoch es c epoch = if has_link es c then epoch + 1 else epoch
 
@@ -86,7 +86,7 @@ abbrev pub IsRenewable : List End → List ℕ → Option ℕ → Type 0
 IsRenewable es epochs None = Unit {0}
 IsRenewable es epochs (Some last) = is_spent es epochs ≡ false
 
--- the epochs behind it: where the module was attested before, its connections are renewed
+-- the epochs after it: where the module was attested before, its connections are renewed
 abbrev pub renewed : List End → Option ℕ → List ℕ → List ℕ
 renewed es None epochs = epochs
 renewed es (Some last) epochs = raised_from 0 es epochs
@@ -125,7 +125,7 @@ accepted d m boot = record d {
   epochs = renewed (target_at d m).ends (attested_at d m) d.epochs;
 }
 
--- the deployer behind an answer
+-- the deployer after an answer
 abbrev pub judged : Mac → Keeping → ℕ → ℕ → List ℕ → Keeping
 judged mac d m boot answer = if accepts mac d m boot answer then accepted d m boot else d
 

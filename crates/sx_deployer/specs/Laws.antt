@@ -8,8 +8,8 @@ use Rattle.sx_model.specs.Worked.{lighting}
 use Rattle.sx_deployer.specs.Keeping.{Keeping, may_attest, renewed}
 use Rattle.sx_deployer.specs.Granting.{grants_after}
 
--- where the deployer keeps a module's ends in an application, it may attest the module where the model may, and then
--- raises the epochs that the model raises
+-- where the deployer keeps a module's ends in an application, it may attest the module where the
+-- model may, and then raises the epochs that the model raises
 abbrev pub RenewsAsTheModel : Type 0
 RenewsAsTheModel = (app : AppTree) (m : ℕ) (last : Option ℕ) (boot : ℕ) (epochs : List ℕ) →
     (may_attest (ends_of app m) epochs last boot ≡ model.may_attest m app.links epochs last boot)

@@ -44,7 +44,8 @@ impl Model for Deployer {
 }
 
 impl Deployer {
-    /// The deployer with this secret and these modules, which asked nothing yet. It takes no memory.
+    /// The deployer with this secret and these modules, which asked nothing yet. It takes no
+    /// memory.
     pub fn new(secret: [u8; 16], targets: Vec<Target>) -> Deployer
         requires { length targets.items ≤ 32 }
         ensures { result ≡ spec.first secret (map spec.known targets.items) }
@@ -74,10 +75,10 @@ impl Deployer {
     }
 
     /// Judges an answer of a module at a boot of its node. `Denied` exactly where the module has no
-    /// open ask, the tag isn't the one expected at that boot, the module was attested at this boot or
-    /// a later one, or it was attested before and one of its connections has epoch 255; the deployer
-    /// is then as before. `Attested` closes the ask, and raises the epochs of the connections of a
-    /// module that was attested before.
+    /// open ask, the tag isn't the one expected at that boot, the module was attested at this boot
+    /// or a later one, or it was attested before and one of its connections has epoch 255; the
+    /// deployer is then as before. `Attested` closes the ask, and raises the epochs of the
+    /// connections of a module that was attested before.
     pub fn answer<T: Tag>(&mut self, tag: &T, module: u8, boot: u32, mac: &[u8]) -> Verdict
         requires { «module» < length self.old.targets }
         ensures verdict { result ≡ spec.verdict T.mac self.old «module» boot mac.now }

@@ -1,4 +1,4 @@
-//! Whether a module may be attested, and the epochs behind it.
+//! Whether a module may be attested, and the epochs after it.
 
 ghost use Rattle.std.specs.Prelude.{◌≡◌, ◌+◌, ◌<◌, true, false, if◌then◌else◌, slice_index};
 ghost use Rattle.sx_deployer.specs.Keeping as spec;
@@ -17,7 +17,8 @@ fn is_spent(ends: &[End], epochs: &[u8; 64]) -> bool
     ends.iter().any(|e| epochs.get(usize::from(e.link)).copied().unwrap_or(0) >= 255)
 }
 
-/// Whether a module with these ends that was last attested at a boot, if any, may be attested at this one.
+/// Whether a module with these ends that was last attested at a boot, if any, may be attested at
+/// this one.
 pub fn may_attest(ends: &[End], epochs: &[u8; 64], last: Option<u32>, boot: u32) -> bool
     ensures { result ≡ spec.may_attest ends.now epochs.now last boot }
 {
@@ -27,7 +28,7 @@ pub fn may_attest(ends: &[End], epochs: &[u8; 64], last: Option<u32>, boot: u32)
     }
 }
 
-/// The epochs behind an attestation.
+/// The epochs after an attestation.
 pub fn renewed(ends: &[End], epochs: &[u8; 64], last: Option<u32>) -> [u8; 64]
     requires { spec.IsRenewable ends.now epochs.now last }
     ensures { result ≡ spec.renewed ends.now last epochs.now }

@@ -27,7 +27,8 @@ infixr 10 ◌>>?◌
 abbrev pub ◌>>?◌ : {A B : Type 0} → Option A → (A → Option B) → Option B
 o >>? f = option_and_then f o
 
--- the rows of an array, after those that are done: the first entry that is no table in form is a fault
+-- the rows of an array, after those that are done: the first entry that is no table in form is a
+-- fault
 abbrev pub made_in : {R : Type 0} → (Members → Option R) → Sort → List R → Items → Result (List R) DeployFault
 made_in row sort done no_items = Ok done
 made_in row sort done (item d ds) = in_entry 4 sort (length done) (option_and_then row (as_table d)) >>= (λ r. made_in row sort (done ++ r ∷ []) ds)

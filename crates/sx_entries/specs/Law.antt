@@ -15,7 +15,7 @@ pub record AreNamed (names : List (List ℕ)) : Type 0 where
   pub form : list_all is_name names ≡ true
   pub apart : no_repeat names ≡ true
 
--- where a module drives a device, it is one of so many
+-- where a module drives a device, it is one of this many
 abbrev pub IsThere : Start → ℕ → Type 0
 IsThere (start.At at) devices = Unit {0}
 IsThere (start.Device n) devices = n < devices

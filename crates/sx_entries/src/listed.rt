@@ -57,7 +57,7 @@ impl<T: HasName> Listed<T> {
         self.entries.len()
     }
 
-    /// Puts the entry behind the others.
+    /// Puts the entry after the others.
     pub fn push(&mut self, entry: T) -> Result<(), AllocError>
     where
         T: Drop,

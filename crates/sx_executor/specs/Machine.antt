@@ -3,7 +3,7 @@
 --     moment_of, ran      its moment, and the outcome of a plan on it
 --     switched_on, cleared_by_reset      as the power is switched on, and after a reset
 --     extends_word      an extension word may stand there
---     reaches, reaches_each, IsClear      so many bytes may be reached, and are no device's
+--     reaches, reaches_each, IsClear      this many bytes may be reached, and are no device's
 --     written      bytes were written
 --     Keeps      what every part of an instruction keeps
 --     Runs, Gives      what a plan, and a part of one, answers and leaves

@@ -7,7 +7,7 @@ ghost use Rattle.sx_machine.specs.Ranges.{passes_end, meets_device};
 use crate::range::Range;
 use sx_rules::Violation;
 
-/// So many bytes from an address on, which don't pass the end of memory.
+/// This many bytes from an address on, which don't pass the end of memory.
 #[derive(Clone, Copy)]
 pub struct Buffer {
     /// The address of the first byte.

@@ -17,7 +17,7 @@ pub struct Range {
 }
 
 impl Range {
-    /// So many bytes from an address on, or None where they pass the end of memory.
+    /// This many bytes from an address on, or None where they pass the end of memory.
     pub fn new(at: u16, count: usize) -> Option<Range>
         ensures passes { MatchOption result
             (passes_end at count ≡ true) (λ range. passes_end at count ≡ false) }

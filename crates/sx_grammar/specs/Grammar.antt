@@ -1,5 +1,6 @@
--- The grammar. `Stands form d ts e rest` says: an expression e of this form stands at the front of the tokens ts, inside d
--- open brackets and unary operators, and rest follows it. The other relations say the same of their parts.
+-- The grammar. `Stands form d ts e rest` says: an expression e of this form stands at the start of
+-- the tokens ts, inside d open brackets and unary operators, and rest follows it. The other
+-- relations say the same of their parts.
 use Rattle.std.specs.Prelude.{◌≡◌, ℕ, ◌+◌, List, [], ◌∷◌, ◌++◌, ◌⊎◌, Bool, true, Option, Some, None}
 use Rattle.sx_lang.specs.Tree.{Expression, Constant, Variable, Indexed, Applied, Combined, Statement, Defines, Assigns, Stores, Chooses, Repeats, Sends, Emits, Block, Done, Then, HandlerTree, ModuleTree}
 use Rattle.sx_lang.specs.declared.tree.UnOp.{UnOp}
@@ -21,8 +22,8 @@ pub data Form : Type 0 where
   Addends : ℕ → Expression → Form  -- the same of a sum
   Whole : Form
 
--- tokens are an expression of a form, inside so many open brackets and unary operators, with a rest
--- behind it
+-- tokens are an expression of a form, inside this many open brackets and unary operators, with a
+-- rest after it
 pub data Stands : Form → ℕ → List Token → Expression → List Token → Type 0 where
   number : {d n : ℕ} {a : Bool} {rest : List Token} → Stands Primary d (token (Number n) a ∷ rest) (Constant n) rest
   name : {d : ℕ} {x : List ℕ} {a : Bool} {rest : List Token} → Stands Primary d (token (Name x) a ∷ rest) (Variable x) rest
@@ -74,7 +75,8 @@ mutual
     no_statement : {d : ℕ} {a : Bool} {rest : List Token} → AreStatements d (token CloseBrace a ∷ rest) Done rest
     statement : {d : ℕ} {ts us rest : List Token} {s : Statement} {x : Block} → IsStatement d ts s us → AreStatements d us x rest → AreStatements d ts (Then s x) rest
 
--- A declaration stands outside of all brackets, so its own break no bound; nor do those of a handler's head.
+-- A declaration stands outside of all brackets, so its own break no bound; nor do those of a
+-- handler's head.
 pub data IsDeclaration : List Token → Decl → List Token → Type 0 where
   sensor : {a b : Bool} {rest : List Token} → IsDeclaration (token Sensor a ∷ token Semicolon b ∷ rest) (Decl.Device DeviceKind.Sensor) rest
   actuator : {a b : Bool} {rest : List Token} → IsDeclaration (token Actuator a ∷ token Semicolon b ∷ rest) (Decl.Device DeviceKind.Actuator) rest
@@ -86,34 +88,35 @@ pub data IsDeclaration : List Token → Decl → List Token → Type 0 where
   array : {n : ℕ} {x : List ℕ} {a b c f g h : Bool} {rest : List Token}
       → IsDeclaration (token Array a ∷ token (Name x) b ∷ token OpenSquare c ∷ token (Number n) f ∷ token CloseSquare g ∷ token Semicolon h ∷ rest) (Decl.Array x n) rest
 
--- tokens are declarations, with a rest behind them
+-- tokens are declarations, with a rest after them
 pub data AreDeclarations : List Token → List Decl → List Token → Type 0 where
   no_declaration : {rest : List Token} → AreDeclarations rest [] rest
   declaration : {ts us rest : List Token} {x : Decl} {xs : List Decl} → IsDeclaration ts x us → AreDeclarations us xs rest → AreDeclarations ts (x ∷ xs) rest
 
--- tokens are a handler, with a rest behind it
+-- tokens are a handler, with a rest after it
 pub data IsHandler : ℕ → List Token → HandlerTree → List Token → Type 0 where
   on_input : {d : ℕ} {x v : List ℕ} {a b c f g : Bool} {ts rest : List Token} {body : Block} → IsBlock d ts body rest
       → IsHandler d (token On a ∷ token (Name x) b ∷ token Open c ∷ token (Name v) f ∷ token Close g ∷ ts) (record { input = Some x; param = v; body = body }) rest
   on_sample : {d : ℕ} {v : List ℕ} {a b c f : Bool} {ts rest : List Token} {body : Block} → IsBlock d ts body rest
       → IsHandler d (token Sample a ∷ token Open b ∷ token (Name v) c ∷ token Close f ∷ ts) (record { input = None; param = v; body = body }) rest
 
--- tokens are handlers, with a rest behind them
+-- tokens are handlers, with a rest after them
 pub data AreHandlers : ℕ → List Token → List HandlerTree → List Token → Type 0 where
   no_handler : {d : ℕ} {rest : List Token} → AreHandlers d rest [] rest
   handler : {d : ℕ} {ts us rest : List Token} {h : HandlerTree} {hs : List HandlerTree} → IsHandler d ts h us → AreHandlers d us hs rest → AreHandlers d ts (h ∷ hs) rest
 
--- the tokens are a module's: its declarations, then its handlers, and nothing behind them
+-- the tokens are a module's: its declarations, then its handlers, and nothing after them
 pub record IsModule (ts : List Token) (m : ModuleTree) : Type 0 where
   pub middle : List Token
   pub declarations : AreDeclarations ts m.decls middle
   pub handlers : AreHandlers 0 middle m.handlers []
 
--- these tokens of a text begin a module: some tokens behind them make one
+-- these tokens of a text begin a module: some tokens after them make one
 abbrev pub CanGoOn : List Placed → Type 0
 CanGoOn front = (more : List Kind) × (m : ModuleTree) × IsModule (given front ++ added more) m
 
--- the first token that can't follow those before it, or that breaks a bound; or the end, where the text may not end there
+-- the first token that can't follow those before it, or that breaks a bound; or the end, where the
+-- text may not end there
 abbrev pub IsFaultAt : List Placed → Option Placed → Type 0
 IsFaultAt ts (Some t) = (front back : List Placed) × (ts ≡ front ++ t ∷ back) × CanGoOn front × ¬ CanGoOn (front ++ t ∷ [])
 IsFaultAt ts None = CanGoOn ts × ((m : ModuleTree) → ¬ IsModule (given ts) m)

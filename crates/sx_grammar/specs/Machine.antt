@@ -1,5 +1,6 @@
--- A second form of the grammar, to compute with: what a front of a text still wants, as a stack, and how a token changes
--- it. Nothing here has to be believed: the laws of this crate tie it to the grammar.
+-- A second form of the grammar, to compute with: what a prefix of a text still requires, as a
+-- stack, and how a token changes it. Nothing here has to be believed: the laws of this crate tie it
+-- to the grammar.
 use Rattle.std.specs.Prelude.{ℕ, ◌+◌, List, [], ◌∷◌, ◌++◌, Bool, true, false, Option, Some, None, if◌then◌else◌}
 use Rattle.sx_lang.specs.Tree.{Expression, Constant, Variable, Indexed, Applied, Combined, Statement, Defines, Assigns, Stores, Chooses, Repeats, Sends, Emits, Block, Done, Then, ModuleTree}
 use Rattle.sx_lang.specs.declared.tree.UnOp.{UnOp}
@@ -34,7 +35,7 @@ pub data Act : Type 0 where
   Do_declare : Decl → Act
   Do_handle : Option (List ℕ) → List ℕ → Act
 
--- what a name was wanted behind
+-- after what a name is required
 pub data After : Type 0 where
   After_let : After
   After_send : After
@@ -45,7 +46,7 @@ pub data After : Type 0 where
   After_on : After
   After_open : Option (List ℕ) → After  -- a handler's parameter, with its input
 
--- what a number was wanted for
+-- for what a number is required
 pub data Purpose : Type 0 where
   For_repeat : Purpose
   For_initial : List ℕ → Purpose
@@ -130,7 +131,7 @@ abbrev pub on_module : List Value → (ModuleTree → List Value → List Value)
 on_module (Of_module m ∷ vs) f = f m vs
 on_module vs f = vs
 
--- a statement behind those of its block
+-- a statement after those of its block
 abbrev pub append : Statement → List Value → List Value
 append s vs = on_block vs (λ b vs. Of_block (snoc b s) ∷ vs)
 
@@ -172,7 +173,7 @@ abbrev pub number_of : Kind → Option ℕ
 number_of (Number n) = Some n
 number_of _ = None
 
--- what comes behind a name, by what the name is for
+-- what comes after a name, by what the name is for
 abbrev pub follow : After → List ℕ → List Symbol → List Symbol
 follow After_let x st = Want An_equals ∷ An_expression ∷ Want A_semicolon ∷ Say (Do_define x) ∷ st
 follow After_send x st = Argument_of x ∷ st
@@ -183,7 +184,7 @@ follow After_array x st = Want An_open_square ∷ A_number (For_length x) ∷ st
 follow After_on x st = Want An_open ∷ A_name (After_open (Some x)) ∷ st
 follow (After_open i) x st = Want A_close ∷ A_block ∷ Say (Do_handle i x) ∷ st
 
--- what comes behind a number, by what the number is for
+-- what comes after a number, by what the number is for
 abbrev pub follow_number : Purpose → ℕ → List Symbol → List Symbol
 follow_number For_repeat n st = A_block ∷ Say (Do_repeat n) ∷ st
 follow_number (For_initial x) n st = Want A_semicolon ∷ Say (Do_declare (Decl.Var x n)) ∷ st
@@ -199,7 +200,7 @@ operand room st vs Tilde = when (room (opens st)) (Operand ∷ Unary_of UnOp.Inv
 operand room st vs Bang = when (room (opens st)) (Operand ∷ Unary_of UnOp.Not ∷ st) vs
 operand room st vs _ = None
 
--- the first token of a statement, or the brace behind the last
+-- the first token of a statement, or the brace after the last
 abbrev pub statement : List Symbol → List Value → Kind → Option State
 statement st vs CloseBrace = Some (st, vs)
 statement st vs Let = Some (A_name After_let ∷ Statements ∷ st, vs)
@@ -258,7 +259,8 @@ abbrev pub is_else : Kind → Bool
 is_else Else = true
 is_else _ = false
 
--- what is wanted once a token was read, if it may stand here: a part that may be left out is passed by a token that isn't its
+-- what is required once a token was read, if it may stand here: a part that may be left out is
+-- passed by a token that isn't its
 abbrev pub step : (ℕ → Bool) → List Symbol → List Value → Kind → Option State
 step room [] vs k = None
 step room (Want f ∷ st) vs k = when (is_sign f k) st vs
@@ -281,7 +283,7 @@ step room (Initial_of x ∷ st) vs k = initial x st vs k
 step room (Declarations ∷ st) vs k = declarations st vs k
 step room (Handlers ∷ st) vs k = handlers st vs k
 
--- A text's end: what may be left out is left out, and nothing else may be wanted.
+-- A text's end: what may be left out is left out, and nothing else may be required.
 abbrev pub finish : List Symbol → List Value → Option (List Value)
 finish [] vs = Some vs
 finish (Say a ∷ st) vs = finish st (act a vs)

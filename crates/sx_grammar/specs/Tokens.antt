@@ -39,8 +39,9 @@ comparison_operator Greater = Some Gt
 comparison_operator GreaterEquals = Some Ge
 comparison_operator _ = None
 
--- A token and whether the bounds are asked of it: they are asked of a text's own tokens, and not of those that are added
--- in thought to tell whether a text's front can go on. (Which names and numbers those are makes no difference to the grammar.)
+-- A token and whether the bounds are asked of it: they are asked of a text's own tokens, and not of
+-- those that are added in thought to tell whether a text's prefix can go on. (Which names and
+-- numbers those are makes no difference to the grammar.)
 pub data Token : Type 0 where
   token : Kind → Bool → Token
 
@@ -54,8 +55,9 @@ abbrev pub added : List Kind → List Token
 added [] = []
 added (k ∷ ks) = token k false ∷ added ks
 
--- The bound: where it is asked, one more of these may stand where n stand already only if n is below 48. It is the same
--- for brackets and unary operators that are open at a time, and for operators in one sum and in one term.
+-- The bound: where it is asked, one more of these may stand where n stand already only if n is
+-- below 48. It is the same for brackets and unary operators that are open at a time, and for
+-- operators in one sum and in one term.
 abbrev pub fits : Bool → ℕ → Bool
 fits true n = nat_lt n 48
 fits false n = true

@@ -25,7 +25,7 @@ use Rattle.sx_image.specs.Image.{Image, Enters, private_bytes, setup_at, call_at
 abbrev pub is_piece_address : Setup → ℕ → List (List ℕ) → ℕ → Bool
 is_piece_address s out pieces at = nat_le out at && (nat_lt at (out + bytes_in pieces) && may s.live s.section.id Write at)
 
--- the pieces stand in memory, one behind the other
+-- the pieces stand in memory, one after the other
 abbrev pub Stand : List ℕ → ℕ → List (List ℕ) → Type 0
 Stand mem at [] = Unit {0}
 Stand mem at (piece ∷ pieces) = (bytes_from mem at (length piece) ≡ piece) × Stand mem (at + length piece) pieces
@@ -35,21 +35,23 @@ abbrev pub KeepsOutside : Setup → ℕ → List (List ℕ) → List ℕ → Lis
 KeepsOutside s out pieces before after =
     (at : ℕ) → in_private s.section at ≡ false → is_piece_address s out pieces at ≡ false → slice_index after at ≡ slice_index before at
 
--- What holds at every moment until the exit: PC is in the module's public section, the table of sections is as before, and
--- so are the bytes outside but those where pieces go, and the marks so far are a prefix of the invocation's.
+-- What holds at every moment until the exit: PC is in the module's public section, the table of
+-- sections is as before, and so are the bytes outside but those where pieces go, and the marks so
+-- far are a prefix of the invocation's.
 pub record Underway (s : Setup) (result : Invoked) (before : State) (w : Watched) : Type 0 where
   pub inside : own_of w.node ≡ s.section.id
   pub sections : w.node.sections ≡ before.sections
   pub outside : KeepsOutside s (call_at before).output (pieces_in result) before.mem w.node.mem
   pub marks : HasPrefix (marks_in result) w.marks
 
--- the registers at the exit: R12 the status, R13 the number of pieces, SP the caller's, PC the return address; all others 0
+-- the registers at the exit: R12 the status, R13 the number of pieces, SP the caller's, PC the
+-- return address; all others 0
 abbrev pub exit_registers : State → ℕ → ℕ → List ℕ
 exit_registers before status count =
     even (call_at before).back ∷ slice_index before.regs 1 ∷ 0 ∷ slice_index before.regs 3 ∷ (replicate 8 0 ++ status ∷ count ∷ 0 ∷ 0 ∷ [])
 
--- The module left its public section by a plain instruction, and the invocation returns: the private section represents
--- the new state, and the pieces stand in the out-window.
+-- The module left its public section by a plain instruction, and the invocation returns: the
+-- private section represents the new state, and the pieces stand in the out-window.
 pub record Exited (s : Setup) (result : Invoked) (before : State) (w : Watched) : Type 0 where
   pub status : ℕ
   pub progress : Progress
@@ -73,15 +75,15 @@ pub record Aborted (result : Invoked) (w : Watched) (v : Violation) : Type 0 whe
 abbrev pub begins : State → Watched
 begins n = record { node = n; marks = []; event = event.Quiet }
 
--- from this state the node does the invocation, in so many instructions
+-- from this state the node does the invocation, in this many instructions
 abbrev pub DoesInvocation : Setup → State → Type 0
 DoesInvocation s n =
     let result = invoke s (call_at n) (progress_at s n) in
     Comes Watched Violation (watch s.mac) (λ w. 1) (Underway s result n) (Aborted result) (Exited s result n)
     (4096 + module_cost s.tree) (begins n)
 
--- The image's text has exactly the module's weight, a private section of zeros represents the initial state, and from
--- every state that enters the module the node does the invocation.
+-- The image's text has exactly the module's weight, a private section of zeros represents the
+-- initial state, and from every state that enters the module the node does the invocation.
 pub record Realizes (mac : Mac) (tree : ModuleTree) (ends : List End) (image : Image) : Type 0 where
   pub weight : length image.text ≡ module_weight tree (length ends)
   pub zeros : state_of tree ends (replicate (module_data_size tree (length ends)) 0) ≡ initial_state tree ends

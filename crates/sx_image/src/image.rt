@@ -18,8 +18,9 @@ pub struct Image {
     pub provider: u16,
 }
 
-/// The identity of a module that is protected from this image: its text, and then its layout's four bounds of
-/// two bytes each. The module's key is derived from it (Sancus 2.0). Nothing but want of memory is refused.
+/// The identity of a module that is protected from this image: its text, and then its layout's four
+/// bounds of two bytes each. The module's key is derived from it (Sancus 2.0). It fails only where
+/// memory runs out.
 #[tactic(auto, unfolding(sx_tag::specs::Keys::identity))]
 pub fn identity(alloc: Global, image: &Image) -> Result<Vec<u8>, OutOfMemory>
     ensures { IfOk result (λ bytes. bytes.items ≡ identity_of (plain image.now)) }

@@ -45,7 +45,8 @@ abbrev pub end_on : ℕ → List End → Option Side → Option (ℕ × End)
 end_on link ends None = None
 end_on link ends (Some side) = end_found link side 0 ends
 
--- The fields of packets: the connection field, the end field or the number, and the header with them.
+-- The fields of packets: the connection field, the end field or the number, and the header with
+-- them.
 abbrev pub field_in : List ℕ → ℕ
 field_in packet = word packet 2
 

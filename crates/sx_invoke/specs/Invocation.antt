@@ -1,4 +1,5 @@
--- One invocation of a module, by the entry protocol (own): its steps in order, each as a definition.
+-- One invocation of a module, by the entry protocol (own): its steps in order, each as a
+-- definition.
 use Rattle.std.specs.Prelude.{◌==◌, nat_lt, Bool, true, false, ◌&&◌, ◌||◌, not, if◌then◌else◌, Option, Some, None}
 use Rattle.sx_lang.specs.declared.tree.DeviceKind.{DeviceKind}
 use Rattle.sx_lang.specs.declared.tree.DeviceKind.TheVariants.{Sensor, Actuator}

@@ -18,7 +18,7 @@ abbrev pub NoUnwrap : List Mark → Type 0
 NoUnwrap [] = Unit {0}
 NoUnwrap (m ∷ ms) = (is_unwrap m ≡ false) × NoUnwrap ms
 
--- no mark behind the first is an unwrap
+-- no mark after the first is an unwrap
 abbrev pub FirstAlone : List Mark → Type 0
 FirstAlone [] = Unit {0}
 FirstAlone (m ∷ ms) = NoUnwrap ms

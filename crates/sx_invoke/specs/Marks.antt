@@ -1,8 +1,9 @@
 -- Marks: what a module does that others can rely on.
 use Rattle.std.specs.Prelude.{◌≡◌, ℕ, ◌+◌, Bool, true, false, List, [], ◌∷◌, ◌++◌}
 
--- a wrap, or an unwrap that was accepted, each with its header, its plain body and whether it was under the module's own
--- key; a read of a fresh sensor, or a write to an actuator, each with the device and the value
+-- a wrap, or an unwrap that was accepted, each with its header, its plain body and whether it was
+-- under the module's own key; a read of a fresh sensor, or a write to an actuator, each with the
+-- device and the value
 pub data Mark : Type 0 where
   Wrapped : List ℕ → List ℕ → Bool → Mark
   Unwrapped : List ℕ → List ℕ → Bool → Mark
@@ -13,7 +14,8 @@ pub data Mark : Type 0 where
 abbrev pub HasPrefix : List Mark → List Mark → Type 0
 HasPrefix all seen = (rest : List Mark) × (seen ++ rest ≡ all)
 
--- the bytes of the piece that a mark makes: an answer's tag under the module's own key, or an event's packet
+-- the bytes of the piece that a mark makes: an answer's tag under the module's own key, or an
+-- event's packet
 abbrev pub piece_size : Mark → ℕ
 piece_size (Wrapped header body true) = 16
 piece_size (Wrapped header body false) = 24

@@ -1,4 +1,5 @@
--- A module's state, as the bytes of its private section represent it: every content represents exactly one.
+-- A module's state, as the bytes of its private section represent it: every content represents
+-- exactly one.
 use Rattle.std.specs.Prelude.{ℕ, zero, suc, ◌+◌, ◌%◌, ◌/◌, ◌==◌, Bool, false, not, List, [], ◌∷◌, length, replicate}
 use Rattle.sx_lang.specs.Tree.{ModuleTree}
 use Rattle.sx_mean.specs.declared.events.End.{End}
@@ -6,8 +7,9 @@ use Rattle.sx_mean.specs.Places.{initial_cells}
 use Rattle.sx_machine.specs.Memory.{word, bytes_from}
 use Rattle.sx_mean.specs.Offsets.{end_at, end_number_at, end_open_at, end_key_at, cell_at}
 
--- One end of a connection: whether it is open, the connection field of its set-key packet, which is 256 times its epoch
--- plus the connection's number, the number that is next, or that counts the events sent, and the connection's key.
+-- One end of a connection: whether it is open, the connection field of its set-key packet, which is
+-- 256 times its epoch plus the connection's number, the number that is next, or that counts the
+-- events sent, and the connection's key.
 pub record EndState : Type 0 where
   pub is_open : Bool
   pub field : ℕ

@@ -5,8 +5,8 @@ use Rattle.sx_bus.specs.declared.devices.Window.{Window}
 use Rattle.sx_invoke.specs.ModuleState.{ModuleState}
 use Rattle.sx_invoke.specs.Marks.{Mark}
 
--- how far an invocation is: the module's state, the memory outside its private section, the node's devices, the marks so
--- far, and the pieces made so far
+-- how far an invocation is: the module's state, the memory outside its private section, the node's
+-- devices, the marks so far, and the pieces made so far
 pub record Progress : Type 0 where
   pub state : ModuleState
   pub mem : List ℕ
@@ -14,7 +14,8 @@ pub record Progress : Type 0 where
   pub marks : List Mark
   pub pieces : List (List ℕ)
 
--- How it ends: with a status, or with a violation. The last piece is then the one whose copy was refused.
+-- How it ends: with a status, or with a violation. The last piece is then the one whose copy was
+-- refused.
 pub data Invoked : Type 0 where
   Returns : ℕ → Progress → Invoked
   Violates : Violation → Progress → Invoked

@@ -1,4 +1,5 @@
-//! What holds of every invocation. Each law is a function that does nothing: its contract is the law.
+//! What holds of every invocation. Each law is a function that does nothing: its contract is the
+//! law.
 
 ghost use Rattle.sx_invoke.specs.Laws.{PiecesMarked, UnwrapsOnce};
 
@@ -7,8 +8,8 @@ pub fn unwraps_once()
     ensures { UnwrapsOnce }
 {}
 
-/// The pieces that were made have the bytes that the marks make: 24 for each wrap of an event, 16 for each wrap
-/// under the module's own key.
+/// The pieces that were made have the bytes that the marks make: 24 for each wrap of an event, 16
+/// for each wrap under the module's own key.
 pub fn pieces_marked()
     ensures { PiecesMarked }
 {}

@@ -9,7 +9,7 @@ use Rattle.sx_io.specs.declared.line_parts.Part.TheVariants as part
 use Rattle.sx_io.specs.declared.lines.Turn.{Turn}
 use Rattle.sx_io.specs.declared.lines.Turn.TheVariants as turn
 
--- one part of a line is moved behind the bytes that have come of it, out of the bytes that are held
+-- one part of a line is moved after the bytes that have come of it, out of the bytes that are held
 abbrev pub Moves : ℕ → List ℕ → List ℕ → Part → List ℕ → List ℕ → Type 0
 Moves limit begun held (part.Whole n) into held' =
     (n ≤ limit) × (line : List ℕ) × IsPlain line × (length line ≤ limit) × (begun ++ held ≡ line ++ newline ∷ held') × (take n into ≡ without_return line)

@@ -1,9 +1,11 @@
--- The outside at one moment: what a source and a sink are to contracts, and how one call changes them.
+-- The outside at one moment: what a source and a sink are to contracts, and how one call changes
+-- them.
 use Rattle.std.specs.Prelude.{ℕ, ◌≡◌, List, []}
 use Rattle.sx_io.specs.Counts.{counted}
 
--- A source: the bytes not yet read, its count of faults, what was left at the last fault, what was left when it was last read,
--- and how many reads found the end of the input. Where it doesn't tell its bytes, only the count of faults means something.
+-- A source: the bytes not yet read, its count of faults, what was left at the last fault, what was
+-- left when it was last read, and how many reads found the end of the input. Where it doesn't tell
+-- its bytes, only the count of faults means something.
 pub record SourceAt : Type 0 where
   pub rest : List ℕ
   pub faults : ℕ
@@ -11,8 +13,8 @@ pub record SourceAt : Type 0 where
   pub asked : List ℕ
   pub ends : ℕ
 
--- A sink: the bytes that it took, its count of faults, and how many writes of no bytes it was given. Where it doesn't tell its
--- bytes, only the count of faults means something.
+-- A sink: the bytes that it took, its count of faults, and how many writes of no bytes it was
+-- given. Where it doesn't tell its bytes, only the count of faults means something.
 pub record SinkAt : Type 0 where
   pub written : List ℕ
   pub faults : ℕ

@@ -16,7 +16,7 @@ pub const LONGEST: usize = 4096;
 /// The answer to a call for the next line.
 #[derive(Clone, Copy, Debug, PartialEq, Eq)]
 pub enum LineRead {
-    /// A line's text, so many bytes of it.
+    /// A line's text, this many bytes of it.
     Text(usize),
     /// The end of the input.
     End,
@@ -39,7 +39,7 @@ pub enum ReaderState {
     Failed,
 }
 
-/// What one turn of reading makes of the line: an answer, or so many bytes of it.
+/// What one turn of reading makes of the line: an answer, or this many bytes of it.
 #[derive(Clone, Copy)]
 enum Turn {
     Done(LineRead),
@@ -54,7 +54,8 @@ enum Filled {
     Failed,
 }
 
-/// Reads lines from a source, without memory. A line ends at a newline, or at the end of a rest that isn't empty.
+/// Reads lines from a source, without memory. A line ends at a newline, or at the end of a rest
+/// that isn't empty.
 #[derive(Drop)]
 pub struct Lines {
     held: [u8; LONGEST],
@@ -87,8 +88,9 @@ impl Lines {
         }
     }
 
-    /// The next line, without its newline and one carriage return before it: its text stands at the front of `into`.
-    /// It reads only where it holds no newline, and never behind the end of the input or a failed read.
+    /// The next line, without its newline and one carriage return before it: its text stands at the
+    /// start of `into`. It reads only where it holds no newline, and never after the end of the
+    /// input or a failed read.
     pub fn next<S: Source>(&mut self, source: &mut S, into: &mut [u8; LONGEST]) -> LineRead
         // The answer is what stands next in the input, and what isn't given stays held.
         ensures next { Next longest S.tells (S.at source.old) (S.at source.new) self.old self.new into.new result }
@@ -218,7 +220,7 @@ impl Lines {
         }
     }
 
-    /// Moves what is held of the line behind the bytes that have come of it.
+    /// Moves what is held of the line after the bytes that have come of it.
     fn move_part(&mut self, into: &mut [u8], filled: usize) -> Part
         requires filled { filled ≤ length into.old }
         requires plain { IsPlain (take filled into.old) }

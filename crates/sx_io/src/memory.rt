@@ -51,7 +51,8 @@ impl Plan {
     }
 }
 
-/// Bytes in memory, which are read in pieces, and whose reads fail at calls that are chosen beforehand.
+/// Bytes in memory, which are read in pieces, and whose reads fail at calls that are chosen
+/// beforehand.
 #[derive(Drop)]
 pub struct MemSource {
     bytes: Vec<u8>,
@@ -84,8 +85,8 @@ impl Model for MemSource {
 }
 
 impl MemSource {
-    /// A source of these bytes, which gives at most `piece` of them a call, and fails at the calls whose numbers,
-    /// from 1, stand in `failing`.
+    /// A source of these bytes, which gives at most `piece` of them a call, and fails at the calls
+    /// whose numbers, from 1, stand in `failing`.
     pub fn new(bytes: Vec<u8>, piece: usize, failing: Vec<u64>) -> MemSource
         requires { 0 < piece }
         ensures { result ≡ record { rest = bytes.items; piece = piece; failing = failing.items; calls = 0; faults = 0; left = bytes.items; asked = bytes.items; ends = 0 } }
@@ -154,7 +155,7 @@ impl Source for MemSource {
     }
 }
 
-/// Writes bytes at the front.
+/// Writes bytes at the start.
 fn copy_front(into: &mut [u8], from: &[u8])
     requires { length from.now ≤ length into.old }
     ensures { take (length from.now) into.new ≡ from.now }
@@ -162,7 +163,8 @@ fn copy_front(into: &mut [u8], from: &[u8])
     into[..from.len()].copy_from_slice(from);
 }
 
-/// Room in memory for bytes, which can be full, and whose writes fail at calls that are chosen beforehand.
+/// Room in memory for bytes, which can be full, and whose writes fail at calls that are chosen
+/// beforehand.
 #[derive(Drop)]
 pub struct MemSink {
     bytes: Vec<u8>,
@@ -190,8 +192,8 @@ impl Model for MemSink {
 }
 
 impl MemSink {
-    /// A sink with room for `capacity` bytes, all of which is taken here. It fails at the calls whose numbers, from 1,
-    /// stand in `failing`.
+    /// A sink with room for `capacity` bytes, all of which is taken here. It fails at the calls
+    /// whose numbers, from 1, stand in `failing`.
     pub fn new(alloc: Global, capacity: usize, failing: Vec<u64>) -> Result<MemSink, AllocError>
         ensures { IfOk result (λ sink. sink ≡ record { written = []; capacity = capacity; failing = failing.items; calls = 0; faults = 0; idle = 0 }) }
     {
@@ -226,7 +228,8 @@ impl Sink for MemSink {
         ensures taken { IfOk result (λ n. self.new.written ≡ self.old.written ++ take n from.now) }
         ensures unchanged { OnErr result (self.new.written ≡ self.old.written) }
 
-        // A listed call is a fault, and so is a call that finds no room for a piece that isn't empty.
+        // A listed call is a fault, and so is a call that finds no room for a piece that isn't
+        // empty.
         ensures stuck { IfOk result (λ n. n ≡ 0 → 0 < length from.now → self.new.faults ≡ counted self.old.faults) }
         ensures fault { OnErr result (self.new.faults ≡ counted self.old.faults) }
         ensures faultless { IfOk result (λ n. (n ≡ 0 → length from.now ≡ 0) → self.new.faults ≡ self.old.faults) }

@@ -14,11 +14,13 @@ pub trait Source {
     /// Whether the source tells the bytes that are not yet read.
     ghost tells: { Bool };
 
-    /// What it is now: the bytes that are not yet read, its count of faults, which never falls and stops at the last
-    /// value of 64 bits, what was left at the last fault and at the last read, and how many reads found the end.
+    /// What it is now: the bytes that are not yet read, its count of faults, which never falls and
+    /// stops at the last value of 64 bits, what was left at the last fault and at the last read,
+    /// and how many reads found the end.
     ghost at: { Self → SourceAt };
 
-    /// Takes bytes from the front of the rest, and writes them at the front of `into`. `Ok(0)` is the end of the input.
+    /// Takes bytes from the start of the rest, and writes them at the start of `into`. `Ok(0)` is
+    /// the end of the input.
     fn read(&mut self, into: &mut [u8]) -> Result<usize, Failed>
         requires { 0 < length into.old }
         ensures within { IfOk result (λ n. n ≤ length into.old) }
@@ -38,8 +40,8 @@ pub trait Sink {
     /// Whether the sink tells the bytes that it took.
     ghost tells: { Bool };
 
-    /// What it is now: the bytes that it took, its count of faults, as a source's, and how many writes of no bytes
-    /// it was given.
+    /// What it is now: the bytes that it took, its count of faults, as a source's, and how many
+    /// writes of no bytes it was given.
     ghost at: { Self → SinkAt };
 
     /// Takes a prefix of the bytes, and says how many. It takes none of some only where it fails.
@@ -55,8 +57,8 @@ pub trait Sink {
         ensures kept { (at self.old).faults ≤ (at self.new).faults };
 }
 
-/// Writes all of the bytes, and never a piece without any. After `Failed`, which is one fault, a prefix of them was
-/// written; without it none came.
+/// Writes all of the bytes, and never a piece without any. After `Failed`, which is one fault, a
+/// prefix of them was written; without it none came.
 pub fn put_all<K: Sink>(sink: &mut K, bytes: &[u8]) -> Result<(), Failed>
     ensures ok { OnOk result (IsTrue K.tells → (K.at sink.new).written ≡ (K.at sink.old).written ++ bytes.now) }
     ensures failed { OnErr result (IsTrue K.tells → AppendsPrefix (K.at sink.old).written (K.at sink.new).written bytes.now) }

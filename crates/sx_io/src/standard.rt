@@ -7,7 +7,8 @@ use crate::outside::{Failed, Sink, Source};
 use std::io::{Read, Write};
 use std::marker::Model;
 
-/// A stream that is read, as standard input. It tells nothing of its bytes; contracts see it as its count of faults.
+/// A stream that is read, as standard input. It tells nothing of its bytes; contracts see it as its
+/// count of faults.
 #[derive(Drop)]
 pub struct StdSource<R: Read + Drop> {
     stream: R,
@@ -52,7 +53,8 @@ impl<R: Read + Drop> Source for StdSource<R> {
     }
 }
 
-/// A stream that is written, as standard output. It tells nothing of its bytes; contracts see it as its count of faults.
+/// A stream that is written, as standard output. It tells nothing of its bytes; contracts see it as
+/// its count of faults.
 #[derive(Drop)]
 pub struct StdSink<W: Write + Drop> {
     stream: W,
@@ -84,7 +86,8 @@ impl<W: Write + Drop> Sink for StdSink<W> {
     fn write(&mut self, from: &[u8]) -> Result<usize, Failed>
         ensures within { IfOk result (λ n. n ≤ length from.now) }
 
-        // An error of the stream is a fault, and so is a piece that isn't empty and of which nothing was taken.
+        // An error of the stream is a fault, and so is a piece that isn't empty and of which
+        // nothing was taken.
         ensures stuck { IfOk result (λ n. n ≡ 0 → 0 < length from.now → self.new ≡ counted self.old) }
         ensures rose { OnErr result (self.new ≡ counted self.old) }
         ensures faultless { IfOk result (λ n. (n ≡ 0 → length from.now ≡ 0) → self.new ≡ self.old) }

@@ -1,4 +1,4 @@
--- The templates' counts: each operation's template takes at most so many instructions.
+-- The templates' counts: each operation's template takes at most this many instructions.
 use Rattle.std.specs.Prelude.{ℕ, ◌+◌, ◌*◌}
 use Rattle.sx_ir.specs.declared.ir.IrOp.{IrOp}
 use Rattle.sx_ir.specs.declared.ir.IrOp.TheVariants as op

@@ -43,14 +43,15 @@ abbrev pub GoesOn : Course → (Progress → Type 0) → Type 0
 GoesOn (Going p) Q = Q p
 GoesOn (Broken v p) Q = ⊥
 
--- The code does this course within so many instructions: where it goes on, it comes to a configuration that stands for it
--- and of which `at` holds; where it breaks, it ends with that violation, after the course's marks.
+-- The code does this course within this many instructions: where it goes on, it comes to a
+-- configuration that stands for it and of which `at` holds; where it breaks, it ends with that
+-- violation, after the course's marks.
 abbrev pub Does : Setup → Call → (ℕ → Conf → After) → (ℕ → ℕ) → List Ir → Course → (Conf → Type 0) → ℕ → Conf → Type 0
 Does s call handle given code course at n c =
     Reaches s handle given code (Breaks course) (λ t. GoesOn course (λ p. Represents s call p t × at t)) n c
 
--- where a handler may begin: the event's value is in its place, no piece was made, the stack is empty, the out-window is one
--- that a caller may give, and the module's devices are there
+-- where a handler may begin: the event's value is in its place, no piece was made, the stack is
+-- empty, the out-window is one that a caller may give, and the module's devices are there
 pub record Begins (s : Setup) (call : Call) (e : SourceEvent) (p : Progress) (c : Conf) : Type 0 where
   pub represents : Represents s call p c
   pub value : word c.priv event_at ≡ value_of e

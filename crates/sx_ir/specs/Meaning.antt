@@ -106,8 +106,8 @@ packed c k e mem = record (next c c.stack) {
 abbrev pub sealed_event : Conf → EndState → ℕ → Conf
 sealed_event c e v = record c { marks = c.marks ++ mark.Wrapped (event_header e) (two v) false ∷ [] }
 
--- A packet's bytes lie in the out-window, and behind no more bytes than the marks have made. So what is written before the exit
--- lies where the pieces go.
+-- A packet's bytes lie in the out-window, and after no more bytes than the marks have made. So what
+-- is written before the exit lies where the pieces go.
 abbrev pub has_packet_room : Conf → Bool
 has_packet_room c = nat_le (24 * pieces c + 24) out_window_size && nat_le (24 * pieces c) (made c.marks)
 
@@ -188,7 +188,7 @@ opened c k ad b bn None = pushed c 0
 opened c k ad b bn (Some body) =
     pushed (record c { priv = put_bytes c.priv b (take bn body); marks = c.marks ++ mark.Unwrapped ad (take bn body) (k == 0) ∷ [] }) 1
 
--- an unwrap of the cipher and tag behind a header
+-- an unwrap of the cipher and tag after a header
 abbrev pub unseal : Setup → Conf → ℕ → ℕ → ℕ → ℕ → ℕ → After
 unseal s c k h hn b bn =
     let ad = bytes_from c.priv h hn in
@@ -217,8 +217,8 @@ jump_zero c p (suc v) rest = Goes (next c rest)
 abbrev pub is_saved : ℕ → Bool
 is_saved r = nat_le 12 r && nat_le r 15
 
--- The operation at a configuration's place. What `Handler` does is given: `handle` has the handler's number and the
--- configuration with a count of pieces of 0.
+-- The operation at a configuration's place. What `Handler` does is given: `handle` has the
+-- handler's number and the configuration with a count of pieces of 0.
 abbrev pub do_op : Setup → (ℕ → Conf → After) → Ir → Conf → After
 do_op s handle (ir.Push n) c = pushed c n
 do_op s handle (ir.Load o) c = pushed c (word c.priv o)
@@ -264,11 +264,13 @@ abbrev pub count_at : (ℕ → ℕ) → Option Ir → ℕ
 count_at given None = 0
 count_at given (Some i) = count_of i + handler_count given i
 
--- the instructions of the operation at a configuration's place, and those that a given handler takes
+-- the instructions of the operation at a configuration's place, and those that a given handler
+-- takes
 unfoldable pub op_count : (ℕ → ℕ) → List Ir → Conf → ℕ
 op_count given code c = count_at given (slice_get code c.place)
 
--- The part of a handler, in joined code: it is begun with the place to return to, and `Stop` returns there.
+-- The part of a handler, in joined code: it is begun with the place to return to, and `Stop`
+-- returns there.
 abbrev pub part_from : List (ℕ × ℕ) → ℕ → Conf → After
 part_from [] h c = stuck
 part_from (part ∷ parts) zero c = Goes (record c { place = part.0; back = Some (c.place + 1) })
@@ -297,8 +299,8 @@ abbrev pub OnViolation : (Violation → List Mark → Type 0) → Conf → Halt 
 OnViolation B c (Violates v marks) = B v marks
 OnViolation B c Stuck = ⊥
 
--- From this configuration the code comes to one of Q, or ends with a violation and marks of B, within so many
--- instructions, and meets no operation without meaning.
+-- From this configuration the code comes to one of Q, or ends with a violation and marks of B,
+-- within this many instructions, and meets no operation without meaning.
 abbrev pub Reaches : Setup → (ℕ → Conf → After) → (ℕ → ℕ) → List Ir → (Violation → List Mark → Type 0) → (Conf → Type 0) → ℕ → Conf → Type 0
 Reaches s handle given code B Q n c =
     Comes Conf Halt (op_step s handle code) (op_count given code) (λ c. Unit {0}) (OnViolation B) Q n c

@@ -8,8 +8,8 @@ use Rattle.sx_ir.specs.declared.ir.Ir.TheVariants as ir
 use Rattle.sx_ir.specs.Meaning.{is_saved}
 use Rattle.sx_ir.specs.Sizes.{bytes}
 
--- n bytes at an offset lie in a private section of this size, past its first word, and before what only templates use
--- or behind the stack's place
+-- n bytes at an offset lie in a private section of this size, past its first word, and before what
+-- only templates use or after the stack's place
 abbrev pub is_free : ℕ → ℕ → ℕ → Bool
 is_free size o n = nat_le (o + n) size && (nat_le 2 o && (nat_le (o + n) scratch_at || nat_le stack_to o))
 
@@ -29,12 +29,12 @@ has_slot size k = nat_le (end_at k + 24) size
 abbrev pub is_key : ℕ → ℕ → Bool
 is_key size k = k == 0 || is_free size k 16
 
--- Header and body have at most 32 bytes each. Behind the header stand the cipher and the tag.
+-- Header and body have at most 32 bytes each. After the header stand the cipher and the tag.
 abbrev pub are_sealed : ℕ → ℕ → ℕ → ℕ → ℕ → ℕ → Bool
 are_sealed size k h hn b bn =
     is_key size k && (is_free size h (hn + bn + 16) && (is_free size b bn && (nat_le hn 32 && nat_le bn 32)))
 
--- an operation of code with so many operations and parts, in a private section of this size
+-- an operation of code with this many operations and parts, in a private section of this size
 abbrev pub is_sound_op : ℕ → ℕ → ℕ → Ir → Bool
 is_sound_op ops parts size (ir.Push n) = true
 is_sound_op ops parts size (ir.Load o) = is_even o && is_free size o 2
@@ -60,7 +60,7 @@ is_sound_op ops parts size ir.Sense = true
 is_sound_op ops parts size (ir.Handler h) = nat_lt h parts
 is_sound_op ops parts size ir.Leave = true
 
--- a part begins at an operation and ends there, or behind the last
+-- a part begins at an operation and ends there, or after the last
 abbrev pub is_sound_part : ℕ → ℕ × ℕ → Bool
 is_sound_part ops part = nat_lt part.0 ops && nat_le part.1 ops
 
@@ -72,8 +72,8 @@ public_size l = l.pub_to - l.pub_from
 abbrev pub private_size : Layout → ℕ
 private_size l = l.priv_to - l.priv_from
 
--- The code has fewer than 65,536 operations; places, offsets and registers are there, and offsets free; and the text has
--- room in the public section.
+-- The code has fewer than 65,536 operations; places, offsets and registers are there, and offsets
+-- free; and the text has room in the public section.
 abbrev pub is_sound : List Ir → List (ℕ × ℕ) → Layout → Bool
 is_sound ops parts l =
     nat_lt (length ops) 65536

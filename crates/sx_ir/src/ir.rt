@@ -2,7 +2,8 @@
 
 ghost use Rattle.std.specs.Prelude.{◌≡◌, ℕ, ◌<◌, length, Some, slice_get};
 
-/// An operation on words that leaves one word on the stack. Where it takes two, the upper is the right operand.
+/// An operation on words that leaves one word on the stack. Where it takes two, the upper is the
+/// right operand.
 #[derive(Clone, Copy, PartialEq, Eq, Debug)]
 pub enum IrOp {
     /// The sum modulo 65,536.
@@ -29,8 +30,8 @@ pub enum IrOp {
     Not,
 }
 
-/// An operation of stack code. Words and bytes of the private section are named by their offsets, operations by
-/// their places, ends and handlers by their indices.
+/// An operation of stack code. Words and bytes of the private section are named by their offsets,
+/// operations by their places, ends and handlers by their indices.
 #[derive(Clone, Copy, PartialEq, Eq, Debug)]
 pub enum Ir {
     /// Pushes this word.
@@ -39,10 +40,11 @@ pub enum Ir {
     Load(u16),
     /// Takes the top word and stores it at this offset.
     Store(u16),
-    /// Takes an index and pushes that element of the array at this offset with so many words, 0 past its end.
+    /// Takes an index and pushes that element of the array at this offset with this many words, 0
+    /// past its end.
     LoadAt(u16, u16),
-    /// Takes a value and then an index, and stores that element of the array at this offset with so many
-    /// words; past its end nothing is stored.
+    /// Takes a value and then an index, and stores that element of the array at this offset with
+    /// this many words; past its end nothing is stored.
     StoreAt(u16, u16),
     /// Takes its operands and pushes the result.
     Op(IrOp),
@@ -50,8 +52,8 @@ pub enum Ir {
     Jump(u16),
     /// Takes the top word, and goes on at this place where it is 0.
     JumpZero(u16),
-    /// Makes the packet of this end from the top word, which stays, where the end is open and its number below
-    /// 65,535.
+    /// Makes the packet of this end from the top word, which stays, where the end is open and its
+    /// number below 65,535.
     Packet(u8),
     /// Takes the top word.
     Drop,
@@ -63,15 +65,16 @@ pub enum Ir {
     Saved(u8),
     /// The violation `illegal` where the return address lies in the public section.
     Inside,
-    /// Pushes 1 where the window at this saved register, of this length, passes the end of memory or meets the
-    /// private section, else 0.
+    /// Pushes 1 where the window at this saved register, of this length, passes the end of memory
+    /// or meets the private section, else 0.
     Meets(u8, u16),
-    /// Copies so many bytes from the in-window to an offset.
+    /// Copies this many bytes from the in-window to an offset.
     CopyIn(u16, u16),
-    /// Takes the out-window's offset, and copies so many bytes to it from this offset of the private section.
+    /// Takes the out-window's offset, and copies this many bytes to it from this offset of the
+    /// private section.
     CopyOut(u16, u16),
-    /// Wraps: the key's offset, 0 for the module's own key; header and length; body and length. The cipher and
-    /// then the tag come to stand behind the header.
+    /// Wraps: the key's offset, 0 for the module's own key; header and length; body and length. The
+    /// cipher and then the tag are put after the header.
     Seal(u16, u16, u8, u16, u8),
     /// Unwraps, with the same operands, and pushes 1, or 0 where the tag differs.
     Open(u16, u16, u8, u16, u8),

@@ -45,9 +45,10 @@ fn put_moved_parts(
     Ok(())
 }
 
-/// One code: the operations of the entry protocol, and then those of the handlers' parts, whose jumps and
-/// parts are moved behind them. What each `Handler` of the first does is then what its part of the second
-/// does. The code is the same for every tag. Nothing but want of memory is refused.
+/// One code: the operations of the entry protocol, and then those of the handlers' parts, whose
+/// jumps and parts are moved after them. What each `Handler` of the first does is then what its
+/// part of the second does. The code is the same for every tag. It fails only where memory runs
+/// out.
 pub fn join<T: Tag>(
     alloc: Global,
     _tag: &T,

@@ -99,8 +99,8 @@ fn all_routines(ops: &[Ir]) -> u64
     count
 }
 
-/// The length in bytes of the text that is made of code: the entry, each operation's template, the exit and
-/// the routines, of which one stands for each end that some operation makes a packet of.
+/// The length in bytes of the text that is made of code: the entry, each operation's template, the
+/// exit and the routines, of which one stands for each end that some operation makes a packet of.
 pub fn bytes(code: &Code) -> u64
     requires { length code.now.ops.items < 65536 }
     ensures { result ≡ bytes code.now.ops.items }

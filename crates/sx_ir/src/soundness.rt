@@ -117,11 +117,12 @@ fn are_sound_parts(ops: u64, parts: &[(u16, u16)]) -> bool
     parts.iter().all(|part| is_sound_part(ops, *part))
 }
 
-/// Whether templates can be made for code in sections of this layout. It holds exactly where the code has
-/// fewer than 65,536 operations; each place, part, end's slot and register that it names is there; each
-/// offset with its length lies in the private section, beside its first word, the stack's place and what
-/// only templates use, and is even where it names words; no operation writes the caller's saved registers; a
-/// wrap's header and body have at most 32 bytes each; and the text has room in the public section.
+/// Whether templates can be made for code in sections of this layout. It holds exactly where the
+/// code has fewer than 65,536 operations; each place, part, end's slot and register that it names
+/// is there; each offset with its length lies in the private section, beside its first word, the
+/// stack's place and what only templates use, and is even where it names words; no operation writes
+/// the caller's saved registers; a wrap's header and body have at most 32 bytes each; and the text
+/// has room in the public section.
 pub fn sound(code: &Code, layout: &Layout) -> bool
     ensures { result ≡ is_sound code.now.ops.items code.now.parts.items layout.now }
 {

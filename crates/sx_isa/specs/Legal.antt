@@ -111,6 +111,6 @@ IsIllegal w =
     ⊎ (w / 4096 ≡ 10)
     ⊎ ((0x4000 ≤ w) × (w / 128 % 2 ≡ 1) × (w % 16 ≡ 3))
 
--- the instruction's n words stand at the front of ws
+-- the instruction's n words stand at the start of ws
 abbrev pub Begins : List ℕ → Instr → ℕ → Type 0
 Begins ws i n = IsInstruction i × (n ≡ length (spelling i)) × (take n ws ≡ spelling i)

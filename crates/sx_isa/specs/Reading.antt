@@ -1,5 +1,5 @@
--- The instruction at the front of some words, computed from the fields of its first word. Own: a
--- second reading of what `spelling` writes, for proofs that compute on words at hand. That the two
+-- The instruction at the start of some words, computed from the fields of its first word. Own: a
+-- second reading of what `spelling` writes, for proofs that compute on given words. That the two
 -- agree is shown by `laws::reading`.
 use Rattle.std.specs.Prelude.{ℕ, ◌+◌, ◌-◌, ◌/◌, ◌%◌, ◌==◌, Bool, ◌&&◌, ◌||◌, not, nat_lt, nat_le, ℤ, pos, negsuc, Option, Some, None, option_map, if◌then◌else◌}
 use Rattle.sx_isa.specs.declared.instruction.Operand.{Operand}
@@ -108,7 +108,7 @@ one_at w0 w1 =
 abbrev pub is_sancus : ℕ → Bool
 is_sancus w0 = nat_le 0x1380 w0 && nat_le w0 0x1387 && not (w0 == 0x1383)
 
--- The instruction at the front of the words w0, w1, w2, and how many of them are its own. None
+-- The instruction at the start of the words w0, w1, w2, and how many of them are its own. None
 -- where w0 is illegal.
 unfoldable pub instruction_at : ℕ → ℕ → ℕ → Option (Instr × ℕ)
 instruction_at w0 w1 w2 =

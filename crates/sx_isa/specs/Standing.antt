@@ -28,7 +28,7 @@ abbrev pub AreInstructions : List Instr → Type 0
 AreInstructions [] = Unit {0}
 AreInstructions (i ∷ is) = IsInstruction i × AreInstructions is
 
--- the words of instructions one behind the other
+-- the words of instructions one after the other
 abbrev pub words_of : List Instr → List ℕ
 words_of [] = []
 words_of (i ∷ is) = spelling i ++ words_of is

@@ -55,8 +55,8 @@ fn with_words(instruction: Instr, w1: u16, w2: u16) -> Instr
 }
 
 /// The instruction with these words in place of its extension words, the first of them first. So an
-/// instruction that was decoded before its extension words were at hand isn't decoded again: it is
-/// what `decode` finds where these words stand behind its first one.
+/// instruction that was decoded before its extension words were available isn't decoded again: it
+/// is what `decode` finds where these words follow its first one.
 pub fn extended(instruction: Instr, w1: u16, w2: u16) -> Instr
     ensures words { result ≡ extended instruction w1 w2 }
     ensures read { (w0 v1 v2 n : ℕ) →

@@ -13,7 +13,7 @@ pub fn one_spelling()
         (x y : List ℕ) → spelling i ++ x ≡ spelling j ++ y → i ≡ j }
 {}
 
-/// The computing reading finds an instruction exactly where its words stand in front, and nothing
+/// The computing reading finds an instruction exactly where its words come first, and nothing
 /// exactly where the first word is illegal.
 pub fn reading()
     ensures found { (w0 w1 w2 n : ℕ) (i : Instr) → IsWord w0 → IsWord w1 → IsWord w2 →

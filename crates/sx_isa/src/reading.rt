@@ -73,7 +73,7 @@ fn length_at(w0: u16) -> Option<u8>
     Some(front(w0, 0, 0)?.1)
 }
 
-/// The instruction at the front of three words, and how many of them are its own, 1 to 3. None
+/// The instruction at the start of three words, and how many of them are its own, 1 to 3. None
 /// exactly where no instruction has the first word. The words past the instruction don't matter.
 pub fn decode(w0: u16, w1: u16, w2: u16) -> Option<(Instr, u8)>
     ensures computed { result ≡ instruction_at w0 w1 w2 }

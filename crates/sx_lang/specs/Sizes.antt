@@ -68,13 +68,14 @@ abbrev pub declared_cells : List Decl → ℕ
 declared_cells [] = 0
 declared_cells (d ∷ ds) = declaration_cells d + declared_cells ds
 
--- Weight and data size: the bytes of a compiled module's two sections, where it has so many ends of connections.
+-- Weight and data size: the bytes of a compiled module's two sections, where it has this many ends
+-- of connections.
 
--- how many bytes the public section of a module with so many ends of connections has
+-- how many bytes the public section of a module with this many ends of connections has
 abbrev pub module_weight : ModuleTree → ℕ → ℕ
 module_weight m ends = 2048 + 192 * ends + 64 * module_nodes m
 
--- how many bytes the private section of a module with so many ends of connections has
+-- how many bytes the private section of a module with this many ends of connections has
 abbrev pub module_data_size : ModuleTree → ℕ → ℕ
 module_data_size m ends = 512 + 24 * ends + 2 * declared_cells m.decls
 

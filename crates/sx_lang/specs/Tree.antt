@@ -1,4 +1,5 @@
--- The syntax tree as plain data: the types of src/tree.rt without where they lie in memory. A name is the list of its bytes.
+-- The syntax tree as plain data: the types of src/tree.rt without where they lie in memory. A name
+-- is the list of its bytes.
 use Rattle.std.specs.Prelude.{ℕ, List, Option}
 pub use Rattle.sx_lang.specs.declared.tree.UnOp.{UnOp}
 pub use Rattle.sx_lang.specs.declared.tree.BinOp.{BinOp}

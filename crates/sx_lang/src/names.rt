@@ -29,8 +29,8 @@ fn are_name_bytes(bytes: &[u8]) -> bool
     true
 }
 
-/// Whether a text has the form of a name: a lower-case letter and up to 15 lower-case letters, digits
-/// or `_`.
+/// Whether a text has the form of a name: a lower-case letter and up to 15 lower-case letters,
+/// digits or `_`.
 pub fn has_form(text: &[u8]) -> bool
     ensures { result ≡ is_name text.now }
 {

@@ -77,7 +77,7 @@ pub enum Stmt {
     Element(Name, Expr, Expr),
     /// The first block where the condition isn't 0, else the second.
     If(Expr, Vec<Stmt>, Vec<Stmt>),
-    /// The block, so many times.
+    /// The block, this many times.
     Repeat(u16, Vec<Stmt>),
     /// A value for an output.
     Send(Name, Expr),

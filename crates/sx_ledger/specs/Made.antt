@@ -4,8 +4,8 @@ use Rattle.std.specs.List.{Contains}
 use Rattle.sx_ledger.specs.declared.entry.Maker.{Maker}
 use Rattle.sx_ledger.specs.declared.entry.Entry.{Entry}
 
--- who made a header and a plain body; the module that a set-key packet is for, else 255; and the boot that it is
--- for or was made at, 0 of an event
+-- who made a header and a plain body; the module that a set-key packet is for, else 255; and the
+-- boot that it is for or was made at, 0 of an event
 pub record Made : Type 0 where
   pub maker : Maker
   pub target : ℕ
@@ -21,7 +21,7 @@ made maker target boot header body = record { maker = maker; target = target; bo
 abbrev pub NO_TARGET : ℕ
 NO_TARGET = 255
 
--- the bytes with zeros behind them up to 32
+-- the bytes with zeros after them up to 32
 abbrev pub padded : List ℕ → List ℕ
 padded bytes = bytes ++ replicate (32 - length bytes) 0
 
@@ -37,10 +37,10 @@ entry_of m = record {
   body_len = length m.body;
 }
 
--- the header and the body of an entry, without the room behind them
+-- the header and the body of an entry, without the room after them
 abbrev pub made_of : Entry → Made
 made_of e = record { maker = e.maker; target = e.target; boot = e.boot; header = take e.ad_len e.ad; body = take e.body_len e.body }
 
--- the ledger's entries behind the making of one: those before, and that one
+-- the ledger's entries after the making of one: those before, and that one
 abbrev pub Adds : List Entry → List Entry → Entry → Type 0
 Adds old new entry = (e : Entry) → Contains new e ↔ (Contains old e ⊎ (e ≡ entry))

@@ -10,7 +10,7 @@ use Rattle.sx_lex.specs.Words.{line_length, IsLongest, NoToken}
 abbrev pub up : ℕ → ℕ → ℕ
 up n k = min (n + k) 4294967295
 
--- so many bytes further in the line
+-- this many bytes further in the line
 abbrev pub along : Place → ℕ → Place
 along at n = record { line = at.line; column = up at.column n }
 
@@ -31,7 +31,8 @@ abbrev pub begins_comment : List ℕ → Bool
 begins_comment (a ∷ b ∷ bs) = a == 47 && b == 47
 begins_comment _ = false
 
--- `Lexed at text tokens end`: the text that begins at this place has these tokens, and its reading ends there
+-- `Lexed at text tokens end`: the text that begins at this place has these tokens, and its reading
+-- ends there
 pub data Lexed : Place → List ℕ → List Placed → Place → Type 0 where
   at_end : {at : Place} → Lexed at [] [] at
   space : {at end : Place} {b : ℕ} {bs : List ℕ} {ts : List Placed} → is_space b ≡ true → Lexed (along at 1) bs ts end → Lexed at (b ∷ bs) ts end

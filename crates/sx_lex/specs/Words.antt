@@ -35,7 +35,7 @@ digit_value b =
 abbrev pub is_digit : ℕ → ℕ → Bool
 is_digit base b = nat_le (suc (digit_value b)) base
 
--- the number that digits stand for behind a number
+-- the number that digits stand for after a number
 abbrev pub value : ℕ → ℕ → List ℕ → ℕ
 value base v [] = v
 value base v (b ∷ bs) = value base (v * base + digit_value b) bs
@@ -63,13 +63,13 @@ kind_of w =
     (if is_hexadecimal w then Some (Number (value 16 0 (drop 2 w))) else
     found_in signs w))
 
--- the first n bytes are a token, and no longer front is one
+-- the first n bytes are a token, and no longer prefix is one
 pub record IsLongest (text : List ℕ) (n : ℕ) (k : Kind) : Type 0 where
   pub here : kind_of (take n text) ≡ Some k
   pub inside : n ≤ length text
   pub longest : (m : ℕ) → n < m → m ≤ length text → kind_of (take m text) ≡ None
 
--- no front is a token
+-- no prefix is a token
 pub record NoToken (text : List ℕ) : Type 0 where
   pub none : (m : ℕ) → m ≤ length text → kind_of (take m text) ≡ None
 
@@ -78,26 +78,26 @@ abbrev pub first_is : (ℕ → Bool) → List ℕ → Bool
 first_is sort [] = false
 first_is sort (b ∷ bs) = sort b
 
--- no front is a number in base 16
+-- no prefix is a number in base 16
 pub record NoHexadecimal (text : List ℕ) : Type 0 where
   pub none : (m : ℕ) → m ≤ length text → is_hexadecimal (take m text) ≡ false
 
--- no sign of two bytes stands at the front
+-- no sign of two bytes stands at the start
 pub record NoPair (text : List ℕ) : Type 0 where
   pub none : 2 ≤ length text → found_in signs (take 2 text) ≡ None
 
--- how many bytes at the front are name bytes, at most so many
+-- how many bytes at the start are name bytes, at most this many
 abbrev pub name_front : ℕ → List ℕ → ℕ
 name_front zero bs = 0
 name_front (suc k) [] = 0
 name_front (suc k) (b ∷ bs) = if is_name_byte b then suc (name_front k bs) else 0
 
--- how many digits at the front can go on a number
+-- how many digits at the start can go on a number
 abbrev pub number_front : ℕ → ℕ → List ℕ → ℕ
 number_front base v [] = 0
 number_front base v (b ∷ bs) = if is_digit base b && nat_le (v * base + digit_value b) 65535 then suc (number_front base (v * base + digit_value b) bs) else 0
 
--- so many digits were read, of this value, and the rest is still to be read
+-- this many digits were read, of this value, and the rest is still to be read
 pub record Counted (text : List ℕ) (base count v : ℕ) (rest : List ℕ) : Type 0 where
   pub fronts : number_front base 0 text ≡ count + number_front base v rest
   pub values : value base 0 (take (number_front base 0 text) text) ≡ value base v (take (number_front base v rest) rest)
@@ -108,7 +108,7 @@ abbrev pub line_length : List ℕ → ℕ
 line_length [] = 0
 line_length (b ∷ bs) = if b == 10 then 0 else suc (line_length bs)
 
--- so many bytes of a line were passed, and the rest is still to be read
+-- this many bytes of a line were passed, and the rest is still to be read
 pub record Passed (text : List ℕ) (count : ℕ) (rest : List ℕ) : Type 0 where
   pub passed : line_length text ≡ count + line_length rest
   pub inside : count + length rest ≡ length text

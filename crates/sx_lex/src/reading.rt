@@ -74,9 +74,9 @@ fn line_end(text: &[u8]) -> usize
 
 /// The tokens of a text, each the longest possible, and the place where their reading ended.
 ///
-/// Spaces, tabs, newlines and `//` to the line's end stand between tokens. Where no token can begin, the
-/// reading ends with the token `Bad` at that place, else behind the text's last byte. The error is the
-/// memory's.
+/// Spaces, tabs, newlines and `//` to the line's end stand between tokens. Where no token can
+/// begin, the reading ends with the token `Bad` at that place, else after the text's last byte. The
+/// error says that memory ran out.
 #[tactic(auto, using(crate::proofs::Turns::begins, crate::proofs::Turns::passes_space, crate::proofs::Turns::passes_line, crate::proofs::Turns::passes_comment, crate::proofs::Turns::adds_token, crate::proofs::Turns::adds_bad, crate::proofs::Turns::ends_here))]
 pub fn tokens_of(alloc: Global, text: &[u8]) -> Result<Tokens, AllocError>
     ensures { IfOk result (λ t. Lexed start text.now t.list.items t.end) }

@@ -7,7 +7,7 @@ use crate::quoted::{keyword, sign, sign_of_two};
 use crate::tokens::Kind;
 use sx_lang::names::{Name, is_name_byte};
 
-/// A token at the front of a text, and how many bytes it has.
+/// A token at the start of a text, and how many bytes it has.
 #[derive(Clone, Copy)]
 pub struct Word {
     /// What the token is.
@@ -16,14 +16,14 @@ pub struct Word {
     pub count: usize,
 }
 
-/// Digits at the front of a text: how many, and the number that they stand for.
+/// Digits at the start of a text: how many, and the number that they stand for.
 #[derive(Clone, Copy)]
 struct Digits {
     count: usize,
     number: u16,
 }
 
-/// How many bytes at the front may belong to a name, at most so many.
+/// How many bytes at the start may belong to a name, at most this many.
 fn name_run(text: &[u8], most: u8) -> u8
     ensures front { result ≡ name_front most text.now }
     ensures within { result ≤ most }
@@ -101,7 +101,7 @@ fn appended(number: u16, byte: u8, base: u32) -> Option<u16>
     Some(next as u16)
 }
 
-/// The digits at the front that belong to one number.
+/// The digits at the start that belong to one number.
 #[tactic(auto, using(crate::proofs::Numbers::begins, crate::proofs::Numbers::counts, crate::proofs::Numbers::stops_count, crate::proofs::Numbers::stops_value, crate::proofs::Numbers::ends_count, crate::proofs::Numbers::ends_value))]
 fn digits_at(text: &[u8], base: u32) -> Digits
     requires { base ≤ 16 }
@@ -210,7 +210,7 @@ fn sign_at(text: &[u8]) -> Option<Word>
     Some(Word { kind, count: 1 })
 }
 
-/// The longest token at the front of a text.
+/// The longest token at the start of a text.
 pub fn word_at(text: &[u8]) -> Option<Word>
     ensures found { IfSome result (λ w. IsLongest text.now w.count w.kind) }
     ensures inside { IfSome result (λ w. (0 < w.count) × (w.count ≤ length text.now)) }

@@ -103,8 +103,8 @@ pub struct Placed {
     pub place: Place,
 }
 
-/// The tokens of a text in their order, and the place where the reading ended: after the text's last
-/// byte, or at the token `Bad`.
+/// The tokens of a text in their order, and the place where the reading ended: after the text's
+/// last byte, or at the token `Bad`.
 #[derive(Drop)]
 pub struct Tokens {
     /// The tokens.

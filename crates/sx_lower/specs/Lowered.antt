@@ -1,4 +1,5 @@
--- The stack code of a module's handlers. Nobody has to believe it: what the code does is said in Lowering.
+-- The stack code of a module's handlers. Nobody has to believe it: what the code does is said in
+-- Lowering.
 use Rattle.std.specs.Prelude.{◌≡◌, ℕ, ◌≤◌, ◌+◌, Bool, true, false, if◌then◌else◌, nat_lt, List, [], ◌∷◌, ◌++◌, length}
 use Rattle.sx_lang.specs.declared.tree.Decl.{Decl}
 use Rattle.sx_lang.specs.declared.tree.UnOp.{UnOp}
@@ -57,7 +58,7 @@ is_turned Le = true
 is_turned Gt = true
 is_turned Ge = false
 
--- the operations of an operator, behind those of its operands
+-- the operations of an operator, after those of its operands
 abbrev pub operator_code : BinOp → List Ir
 operator_code Add = ir.Op op.Add ∷ []
 operator_code Sub = ir.Op op.Sub ∷ []
@@ -76,7 +77,8 @@ operator_code Ge = ir.Op op.Lt ∷ ir.Op op.Not ∷ []
 abbrev pub combined_code : BinOp → List Ir → List Ir → List Ir
 combined_code o a b = if is_turned o then b ++ (a ++ operator_code o) else a ++ (b ++ operator_code o)
 
--- an expression's code pushes its value, where there are so many ends and these locals are in scope
+-- an expression's code pushes its value, where there are this many ends and these locals are in
+-- scope
 abbrev pub expression_code : List Decl → ℕ → List (List ℕ) → Expression → List Ir
 expression_code ds n names (Constant v) = ir.Push v ∷ []
 expression_code ds n names (Variable x) = variable_code ds n names x
@@ -108,7 +110,8 @@ send_code ds ends names x e = expression_code ds (length ends) names e ++ (packe
 abbrev pub choice_code : ℕ → List Ir → List Ir → List Ir → List Ir
 choice_code p test a b = test ++ (ir.JumpZero (p + length a + 1) ∷ (a ++ (ir.Jump (p + length a + 1 + length b) ∷ b)))
 
--- the code of a loop at this place. The turns still to do are the word on the stack below the block.
+-- the code of a loop at this place. The turns still to do are the word on the stack below the
+-- block.
 abbrev pub loop_code : ℕ → ℕ → List Ir → List Ir
 loop_code p n a =
     ir.Push n ∷ ir.Store turns_at ∷ ir.Load turns_at ∷ ir.Load turns_at ∷ ir.JumpZero (p + 5 + length a + 3)
@@ -138,14 +141,14 @@ abbrev mutual
 abbrev pub handler_code : List Decl → List End → ℕ → HandlerTree → List Ir
 handler_code ds ends p h = ir.Load event_at ∷ ir.Store (local_at 0) ∷ (block_code ds ends (p + 2) (h.param ∷ []) h.body ++ ir.Stop ∷ [])
 
--- the code of the handlers, one behind the other from a place on
+-- the code of the handlers, one after the other from a place on
 abbrev pub handlers_code : List Decl → List End → ℕ → List HandlerTree → List Ir
 handlers_code ds ends p [] = []
 handlers_code ds ends p (h ∷ hs) =
     let first = handler_code ds ends p h in
     first ++ handlers_code ds ends (p + length first) hs
 
--- the first place of each handler's part, and the place behind its last
+-- the first place of each handler's part, and the place after its last
 abbrev pub handlers_parts : List Decl → List End → ℕ → List HandlerTree → List (ℕ × ℕ)
 handlers_parts ds ends p [] = []
 handlers_parts ds ends p (h ∷ hs) =

@@ -27,7 +27,7 @@ abbrev pub SendFew : (ℕ → ℕ) → ModuleTree → List HandlerTree → Type 
 SendFew links m [] = Unit {0}
 SendFew links m (h ∷ hs) = (block_packets links m.decls h.body ≤ 16) × SendFew links m hs
 
--- a checked module with so many ends
+-- a checked module with this many ends
 pub record IsLowerable (m : ModuleTree) (ends : List End) : Type 0 where
   pub checked : first_broken m ≡ None
   pub words : TreeHasWords m
@@ -38,7 +38,8 @@ pub record IsLowerable (m : ModuleTree) (ends : List End) : Type 0 where
 abbrev pub IsSender : List End → ℕ → Type 0
 IsSender ends k = (e : End) × (slice_get ends k ≡ Some e) × (e.side ≡ From)
 
--- an operation of a handler's part: it is none of the entry protocol, and a packet is of a sending end
+-- an operation of a handler's part: it is none of the entry protocol, and a packet is of a sending
+-- end
 abbrev pub IsHandlerOp : List End → Ir → Type 0
 IsHandlerOp ends (ir.Push v) = Unit {0}
 IsHandlerOp ends (ir.Load o) = Unit {0}
@@ -59,15 +60,16 @@ abbrev pub AreHandlerOps : List End → List Ir → Type 0
 AreHandlerOps ends [] = Unit {0}
 AreHandlerOps ends (i ∷ ops) = IsHandlerOp ends i × AreHandlerOps ends ops
 
--- Code of a module's handlers, in code with so many operations and parts: it is sound, has handlers' operations alone, and
--- takes bytes for the module's nodes alone.
+-- Code of a module's handlers, in code with this many operations and parts: it is sound, has
+-- handlers' operations alone, and takes bytes for the module's nodes alone.
 pub record Fits (m : ModuleTree) (ends : List End) (ops parts : ℕ) (code : List Ir) : Type 0 where
   pub sound : list_all (is_sound_op ops parts (module_data_size m (length ends))) code ≡ true
   pub plain : AreHandlerOps ends code
   pub light : ops_bytes code ≤ 64 * module_nodes m
 
--- What the code of a module and the places of its parts are to be: few operations, which fit; and one part for each
--- handler, which does the handler within its cost. What `Handler` does is left open.
+-- What the code of a module and the places of its parts are to be: few operations, which fit; and
+-- one part for each handler, which does the handler within its cost. What `Handler` does is left
+-- open.
 pub record Lowers (m : ModuleTree) (ends : List End) (ops : List Ir) (listed : List (ℕ × ℕ)) : Type 0 where
   pub short : length ops < 65536
   pub fits : Fits m ends (length ops) (length listed) ops
@@ -86,7 +88,8 @@ abbrev pub LoweredFits : Type 0
 LoweredFits = (m : ModuleTree) (ends : List End) (place ops parts : ℕ) → IsLowerable m ends → let code = handlers_code m.decls ends place m.handlers in
     place + length code ≤ ops → Fits m ends ops parts code
 
--- Behind and before any other code, the part of an event's handler does the handler, within its cost.
+-- After and before any other code, the part of an event's handler does the handler, within its
+-- cost.
 abbrev pub LoweredReacts : Type 0
 LoweredReacts = (s : Setup) (handle : ℕ → Conf → After) (given : ℕ → ℕ) (before after : List Ir) (e : SourceEvent) (h : HandlerTree) (k from to : ℕ)
     → IsLowerable s.tree s.ends → handler_at s.tree e ≡ Some h → slice_get s.tree.handlers k ≡ Some h

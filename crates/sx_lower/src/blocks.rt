@@ -205,7 +205,7 @@ fn put_statement(
     }
 }
 
-/// Appends the code of a block. The locals that the block defines go out of scope behind it. The
+/// Appends the code of a block. The locals that the block defines go out of scope after it. The
 /// error says that memory ran out.
 #[cycle(blocks)]
 pub fn put_block(

@@ -95,7 +95,7 @@ fn put_operator(code: &mut Vec<Ir>, op: BinOp) -> Result<(), AllocError>
     }
 }
 
-/// Appends the code of an expression, where there are so many ends.
+/// Appends the code of an expression, where there are this many ends.
 pub fn put_expression(
     code: &mut Vec<Ir>,
     decls: &[Decl],

@@ -103,8 +103,8 @@ fn facts_of(m: &Checked)
     words(m.module());
 }
 
-/// The stack code of a module's handlers, where no handler makes more than 16 packets. What it does is the
-/// same for every tag. Nothing but want of memory is refused.
+/// The stack code of a module's handlers, where no handler makes more than 16 packets. What it does
+/// is the same for every tag. It fails only where memory runs out.
 pub fn lower<T: Tag>(alloc: Global, _tag: &T, m: &Checked, ends: &[End]) -> Result<Code, AllocError>
     requires few { length ends.now ≤ 16 }
     requires packets { SendFew (senders ends.now) (source_tree m.now) (source_tree m.now).handlers }

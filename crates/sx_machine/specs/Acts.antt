@@ -1,4 +1,5 @@
--- What others than the node's code may do to it: an act is done or refused, and a refused act changes nothing.
+-- What others than the node's code may do to it: an act is done or refused, and a refused act
+-- changes nothing.
 use Rattle.std.specs.Prelude.{ℕ, ◌+◌, ◌*◌, ◌==◌, Bool, true, ◌||◌, not, if◌then◌else◌, List, length, slice_index, slice_set, ◌/◌, ◌%◌, Option, Some, None, Result, Ok, Err}
 use Rattle.sx_bus.specs.Devices.{sensed, places_of}
 use Rattle.sx_machine.specs.declared.kinds.Refused.{Refused}
@@ -61,7 +62,8 @@ is_enabled regs = (slice_index regs 2 / 8 % 2) == 1
 abbrev pub irq_refusal : State → Option Refused
 irq_refusal s = if not (s.cur == 0) then Some Busy else if is_enabled s.regs then None else Some Masked
 
--- An interrupt pushes PC and then SR as code outside every module, clears SR, and then loads PC from its vector.
+-- An interrupt pushes PC and then SR as code outside every module, clears SR, and then loads PC
+-- from its vector.
 unfoldable pub interrupt : ℕ → List ℕ → Plan
 interrupt line regs =
     let first = onward (slice_index regs 1) 65534 in

@@ -1,4 +1,5 @@
--- What code answers and leaves where an outcome is due; after a violation nothing is said of registers and memory.
+-- What code answers and leaves where an outcome is due; after a violation nothing is said of
+-- registers and memory.
 use Rattle.std.specs.Prelude.{◌≡◌, ℕ, List, Result, Ok, Err}
 use Rattle.sx_rules.specs.declared.access.Violation.{Violation}
 use Rattle.sx_bus.specs.declared.devices.Window.{Window}
@@ -32,7 +33,8 @@ Touches (Finished r x) (Err w) regs mem devices = ⊥
 Touches (Violated v) (Ok touches) regs mem devices = ⊥
 Touches (Module r x t e c) u regs mem devices = ⊥
 
--- a module instruction: its answer, and the registers, memory, sections and exchange that it leaves; it touches no device
+-- a module instruction: its answer, and the registers, memory, sections and exchange that it
+-- leaves; it touches no device
 abbrev pub Tells : List Window → Outcome → Result Event Violation → List ℕ → List ℕ → Sections → Exchange → Type 0
 Tells devices (Module r x t e c) (Ok event) regs mem sections exchange = (event ≡ e) × (regs ≡ r) × (moment mem devices untouched ≡ x) × (sections ≡ t) × (exchange ≡ c)
 Tells devices (Violated v) (Err w) regs mem sections exchange = w ≡ v
@@ -40,7 +42,8 @@ Tells devices (Module r x t e c) (Err w) regs mem sections exchange = ⊥
 Tells devices (Violated v) (Ok event) regs mem sections exchange = ⊥
 Tells devices (Finished r x) answer regs mem sections exchange = ⊥
 
--- an attempt at a step: its answer and the node that it leaves; a reset makes the same of that as of the node before
+-- an attempt at a step: its answer and the node that it leaves; a reset makes the same of that as
+-- of the node before
 abbrev pub Attempts : State → Outcome → Result Seen Violation → State → Type 0
 Attempts s (Finished r x) (Ok seen) t = (t ≡ (settled s (Finished r x)).state) × (seen ≡ (settled s (Finished r x)).shown)
 Attempts s (Module r x u e c) (Ok seen) t = (t ≡ (settled s (Module r x u e c)).state) × (seen ≡ (settled s (Module r x u e c)).shown)

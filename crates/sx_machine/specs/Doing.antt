@@ -14,7 +14,8 @@ use Rattle.sx_machine.specs.Modules.{module_instruction}
 use Rattle.sx_machine.specs.Step.{pc_of, own_of, start, given, is_let_run, attempt}
 use Rattle.sx_machine.specs.Node.{AreRegisters}
 
--- a plain instruction's row, as code of its module; PC stands behind the first word, and the next instruction behind all
+-- a plain instruction's row, as code of its module; PC is after the first word, and the next
+-- instruction after all
 abbrev pub done_plainly : State → Instr → Outcome
 done_plainly a i =
     exec a.sections (own_of a) (row i (at_pc a.regs (onward (pc_of a) 2)) (onward (pc_of a) (2 * length (spelling i)))) (start a)
@@ -27,7 +28,8 @@ done mac a (One op byte arg) = done_plainly a (One op byte arg)
 done mac a Reti = done_plainly a Reti
 done mac a (Jump cond offset) = done_plainly a (Jump cond offset)
 
--- a step that is let run does the instruction that stands at PC, or may not take one of its extension words
+-- a step that is let run does the instruction that stands at PC, or may not take one of its
+-- extension words
 abbrev pub DoesWhatStands : Type 0
 DoesWhatStands = (mac : Mac) (a : State) (i : Instr) → AreRegisters a.regs → Stands a.mem (pc_of a) i → is_let_run a ≡ true
     → (attempt mac a ≡ done mac a i) ⊎ ((attempt mac a ≡ Violated bad.Fetch) ⊎ (attempt mac a ≡ Violated bad.Device))

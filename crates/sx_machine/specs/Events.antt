@@ -1,4 +1,4 @@
--- What the event of a step says of the node before and behind it.
+-- What the event of a step says of the node before and after it.
 use Rattle.std.specs.Prelude.{◌≡◌, ◌≢◌, ℕ, ◌-◌, ◌⊎◌, true, List, replicate, Some, None}
 use Rattle.sx_rules.specs.declared.section.Section.{Section}
 use Rattle.sx_rules.specs.declared.section.Layout.{Layout}
@@ -39,8 +39,9 @@ pub record IsCodeOf (live : List Section) (id at : ℕ) : Type 0 where
   pub named : section.id ≡ id
   pub holds : in_public section at ≡ true
 
--- The section that R9 to R13 name wasn't refused, and stands under the next id: with its provider and layout, the key
--- of the bytes as they were, and zeros in its private part. No other byte changed.
+-- The section that R9 to R13 name wasn't refused, and stands under the next id: with its provider
+-- and layout, the key of the bytes as they were, and zeros in its private part. No other byte
+-- changed.
 pub record IsAdmitted (mac : Mac) (a b : State) (id : ℕ) : Type 0 where
   pub next : id ≡ a.sections.next
   pub admits : refusal a.sections (layout_in a.regs) (places_of a.devices) ≡ None
@@ -48,7 +49,8 @@ pub record IsAdmitted (mac : Mac) (a b : State) (id : ℕ) : Type 0 where
   pub memory : b.mem ≡ wiped a.mem (layout_in a.regs)
   pub zeros : IsZeroed (layout_in a.regs) b.mem
 
--- the module whose code the instruction is was removed, with zeros left in its private part; no other byte changed
+-- the module whose code the instruction is was removed, with zeros left in its private part; no
+-- other byte changed
 pub record IsRemoved (a b : State) (id : ℕ) : Type 0 where
   pub code : IsCodeOf a.sections.live id (pc_of a)
   pub sections : b.sections ≡ removed a.sections id

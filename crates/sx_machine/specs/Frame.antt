@@ -1,4 +1,5 @@
--- What a step leaves of memory, what it had the right to run, and the keys of the sections that stand.
+-- What a step leaves of memory, what it had the right to run, and the keys of the sections that
+-- stand.
 use Rattle.std.specs.Prelude.{◌≡◌, ◌≢◌, ℕ, ◌⊎◌, true, false, List, slice_index, Ok}
 use Rattle.sx_rules.specs.declared.access.Access.TheVariants.{Write, Run}
 use Rattle.sx_rules.specs.declared.access.Violation.TheVariants as bad
@@ -40,8 +41,8 @@ abbrev pub PublicKept : Type 0
 PublicKept = (mac : Mac) (act : Act) (a : State) (s : Section) → Placed a.sections → Lives a.sections.live s
     → KeptPublic s a.mem (acted mac act a).state.mem ⊎ ((acted mac act a).state ≡ reset a)
 
--- a step that ends in neither `fetch` nor `order` had the right to run its word by the access table, as code of the
--- module that ran
+-- a step that ends in neither `fetch` nor `order` had the right to run its word by the access
+-- table, as code of the module that ran
 abbrev pub RunsByTable : Type 0
 RunsByTable = (mac : Mac) (a : State) → IsNode a → (step mac a).shown.event ≢ Reset bad.Fetch
     → (step mac a).shown.event ≢ Reset bad.Order → may_at true a.sections.live a.cur Run (pc_of a) ≡ true

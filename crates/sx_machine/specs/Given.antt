@@ -7,8 +7,9 @@ use Rattle.sx_machine.specs.declared.kinds.Exchange.{Exchange}
 use Rattle.sx_machine.specs.Registers.{onward}
 use Rattle.sx_machine.specs.Run.{Moment, untouched}
 
--- The registers, devices and sections; the module whose code the instruction is, else 0, and the module that entered
--- it; the node's key in this boot; and the last header and body that were wrapped or unwrapped.
+-- The registers, devices and sections; the module whose code the instruction is, else 0, and the
+-- module that entered it; the node's key in this boot; and the last header and body that were
+-- wrapped or unwrapped.
 pub record Given : Type 0 where
   pub regs : List ℕ
   pub devices : List Window

@@ -23,7 +23,8 @@ pub record Twins (s : Section) (a b : State) : Type 0 where
 abbrev pub Kept : Section → List ℕ → List ℕ → Type 0
 Kept s m n = (k : ℕ) → in_private s k ≡ true → slice_index n k ≡ slice_index m k
 
--- s still stands with its private bytes as before, or the node was reset, which makes all of its memory 0
+-- s still stands with its private bytes as before, or the node was reset, which makes all of its
+-- memory 0
 abbrev pub Untouched : Section → State → State → Type 0
 Untouched s a b = (Kept s a.mem b.mem × Lives b.sections.live s) ⊎ (b ≡ reset a)
 
@@ -31,10 +32,12 @@ Untouched s a b = (Kept s a.mem b.mem × Lives b.sections.live s) ⊎ (b ≡ res
 pub record Guarded (T : Type 0) (act : State → Shows T) (s : Section) (a : State) : Type 0 where
   -- it changes none of them
   pub kept : Untouched s a (act a).state
-  -- it reads none of them: nodes that differ in them alone show the same and differ in them alone afterwards
+  -- it reads none of them: nodes that differ in them alone show the same and differ in them alone
+  -- afterwards
   pub blind : (b : State) → Twins s a b → ((act a).shown ≡ (act b).shown) × Twins s (act a).state (act b).state
 
--- the step is no instruction of s that is let run: PC stands elsewhere, or where s may not be entered
+-- the step is no instruction of s that is let run: PC stands elsewhere, or where s may not be
+-- entered
 abbrev pub Foreign : Section → State → Type 0
 Foreign s a = (own_of a ≢ s.id) ⊎ (is_let_run a ≡ false)
 
@@ -98,7 +101,8 @@ AllFromOutside mac s (act ∷ acts) a =
 abbrev pub Same : Section → State → State → Type 0
 Same s a b = (Lives a.sections.live s × Twins s a b) ⊎ (a ≡ b)
 
--- each act of a list is guarded, for each section that stands before it, unless it is a step of the section's own code
+-- each act of a list is guarded, for each section that stands before it, unless it is a step of the
+-- section's own code
 abbrev pub AreGuarded : Mac → List Act → State → Type 0
 AreGuarded mac [] a = Unit {0}
 AreGuarded mac (act ∷ acts) a =
@@ -109,8 +113,8 @@ AreGuarded mac (act ∷ acts) a =
 pub record GuardedRun (mac : Mac) (acts : List Act) (a : State) : Type 0 where
   -- each of its acts is
   pub each : AreGuarded mac acts a
-  -- where none is a step of s's own code, nodes that differ in the private bytes of s alone show the same all along, and
-  -- at the end still differ in them alone, or not at all
+  -- where none is a step of s's own code, nodes that differ in the private bytes of s alone show
+  -- the same all along, and at the end still differ in them alone, or not at all
   pub blind : (s : Section) (b : State) → AllFromOutside mac s acts a → Same s a b
       → ((acted_all mac acts a).shown ≡ (acted_all mac acts b).shown) × Same s (acted_all mac acts a).state (acted_all mac acts b).state
   -- and s stands with its private bytes as before, or the node was reset

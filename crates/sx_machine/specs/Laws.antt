@@ -20,8 +20,8 @@ StaysPlaced = (mac : Mac) (acts : List Act) (a : State) → Placed a.sections �
 abbrev pub ActsGuarded : Type 0
 ActsGuarded = (mac : Mac) (s : Section) (act : Act) (a : State) → Placed a.sections → Lives a.sections.live s → FromOutside s act a → Guarded Sight (acted mac act) s a
 
--- Every run reads nothing of the private bytes of s: nodes that differ in them alone show the same all along, and at
--- the end still differ in them alone, or not at all.
+-- Every run reads nothing of the private bytes of s: nodes that differ in them alone show the same
+-- all along, and at the end still differ in them alone, or not at all.
 abbrev pub RunsBlind : Type 0
 RunsBlind = (mac : Mac) (s : Section) (acts : List Act) (a b : State) → Placed a.sections → AllFromOutside mac s acts a → Same s a b
     → ((acted_all mac acts a).shown ≡ (acted_all mac acts b).shown) × Same s (acted_all mac acts a).state (acted_all mac acts b).state

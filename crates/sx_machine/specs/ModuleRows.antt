@@ -1,4 +1,5 @@
--- The rows of the other module instructions: the plan of each (Sancus 2.0; registers and order of the tests are own).
+-- The rows of the other module instructions: the plan of each (Sancus 2.0; registers and order of
+-- the tests are own).
 use Rattle.std.specs.Prelude.{ℕ, ◌-◌, ◌==◌, nat_le, Bool, ◌&&◌, not, if◌then◌else◌, List, [], ◌∷◌, length, slice_index, take, bytes_eq, Option, Some, None}
 use Rattle.std.specs.List.{list_any}
 use Rattle.sx_tag.specs.Mac.{Mac}
@@ -23,19 +24,21 @@ abbrev pub within : Given → (Section → Plan) → Option Section → Plan
 within g row None = answer g 0
 within g row (Some own) = row own
 
--- so many bytes from an address on
+-- this many bytes from an address on
 pub record Buffer : Type 0 where
   pub at : ℕ
   pub count : ℕ
 
--- The tests of all buffers come before anything is read: none passes the end of memory, and none meets a device.
+-- The tests of all buffers come before anything is read: none passes the end of memory, and none
+-- meets a device.
 abbrev pub tested : Given → List Buffer → Plan → Plan
 tested g buffers rest =
     Need (not (list_any (λ b. passes_end b.at b.count) buffers)) bad.Range
     (Need (not (list_any (λ b. meets_device (places_of g.devices) b.at b.count) buffers)) bad.Device rest)
 
--- Attest: R9 is an address, and R10 the place of 16 bytes. R15 is the id of the module whose public section holds the
--- address, where these bytes are the tag over its identity under the key of the module whose code this is; else 0.
+-- Attest: R9 is an address, and R10 the place of 16 bytes. R15 is the id of the module whose public
+-- section holds the address, where these bytes are the tag over its identity under the key of the
+-- module whose code this is; else 0.
 
 -- the tag is the caller's over a section's identity
 abbrev pub vouches : Mac → Section → List ℕ → Section → List ℕ → Bool
@@ -54,8 +57,9 @@ attest mac g own =
     tested g (record { at = slice_index g.regs 10; count = 16 } ∷ [])
     (Bytes (slice_index g.regs 10) 16 (λ tag. attested mac g own tag (section_of g.sections.live (holder g.sections.live (slice_index g.regs 9)))))
 
--- Wrap and unwrap: R9 is the place of the key, 0 for the module's own; R10 the header and R11 its length; R12 the body,
--- or the cipher, and R13 its length; R14 the place of the cipher, or of the body; R15 the place of the tag.
+-- Wrap and unwrap: R9 is the place of the key, 0 for the module's own; R10 the header and R11 its
+-- length; R12 the body, or the cipher, and R13 its length; R14 the place of the cipher, or of the
+-- body; R15 the place of the tag.
 
 -- the module's own key is used
 abbrev pub own_key : List ℕ → Bool
@@ -74,8 +78,8 @@ buffers regs =
 abbrev pub with_key : Given → Section → (List ℕ → Plan) → Plan
 with_key g own rest = if own_key g.regs then rest own.key else Bytes (slice_index g.regs 9) 16 rest
 
--- what both begin with: header and body have at most 32 bytes, the buffers' tests, and then the key, the header, and
--- the body or the cipher are read
+-- what both begin with: header and body have at most 32 bytes, the buffers' tests, and then the
+-- key, the header, and the body or the cipher are read
 abbrev pub with_inputs : Given → Section → (List ℕ → List ℕ → List ℕ → Plan) → Plan
 with_inputs g own rest =
     Need (nat_le (slice_index g.regs 11) 32 && nat_le (slice_index g.regs 13) 32) bad.Range
@@ -106,7 +110,8 @@ unwrap mac g own =
     with_inputs g own (λ key ad cipher. Bytes (slice_index g.regs 15) 16 (λ tag.
     Writable (slice_index g.regs 14) (slice_index g.regs 13) (opened g ad (unwrapped mac key ad cipher tag))))
 
--- the plan of the module instruction with this code: 2 attest, 4 wrap, 5 unwrap, 6 get-id, 7 get-caller-id
+-- the plan of the module instruction with this code: 2 attest, 4 wrap, 5 unwrap, 6 get-id, 7
+-- get-caller-id
 unfoldable pub module_row : Mac → ℕ → Given → Plan
 module_row mac code g =
     if code == 2 then within g (attest mac g) (own_section g)

@@ -13,7 +13,8 @@ use Rattle.sx_machine.specs.State.{State}
 use Rattle.sx_machine.specs.Step.{own_of}
 use Rattle.sx_machine.specs.Guard.{Act, Step, Restart, Put, Set, Take, Sense, Interrupt}
 
--- sixteen registers, each with a word that it keeps: PC and SP are even, SR is below 512, and R3 is 0
+-- sixteen registers, each with a word that it keeps: PC and SP are even, SR is below 512, and R3 is
+-- 0
 pub record AreRegisters (regs : List ℕ) : Type 0 where
   pub sixteen : length regs ≡ 16
   pub words : (r : ℕ) → slice_index regs r < 65536
@@ -23,9 +24,9 @@ pub record AreRegisters (regs : List ℕ) : Type 0 where
 abbrev pub AreApart : List ℕ → List Section → Type 0
 AreApart places live = (s : Section) → Lives live s → no_device places s.layout ≡ true
 
--- Registers, memory and the ids that it remembers are in range; devices stand at places of their own, in no public
--- section, with values that a sensor can give; the sections are placed; and a module runs only where its public section
--- holds PC.
+-- Registers, memory and the ids that it remembers are in range; devices stand at places of their
+-- own, in no public section, with values that a sensor can give; the sections are placed; and a
+-- module runs only where its public section holds PC.
 pub record IsNode (n : State) : Type 0 where
   pub registers : AreRegisters n.regs
   pub memory : AreBytes n.mem

@@ -4,8 +4,8 @@ use Rattle.sx_rules.specs.declared.access.Violation.{Violation}
 use Rattle.sx_machine.specs.declared.kinds.Event.{Event}
 use Rattle.sx_machine.specs.declared.kinds.Exchange.{Exchange}
 
--- A plan asks for one access after the other; what it reads decides how it goes on. It never sees the memory,
--- the sections or the devices: only the executor does.
+-- A plan asks for one access after the other; what it reads decides how it goes on. It never sees
+-- the memory, the sections or the devices: only the executor does.
 pub data Plan : Type 0 where
   -- the end of a plain instruction, with the registers
   Done : List ℕ → Plan
@@ -19,8 +19,8 @@ pub data Plan : Type 0 where
   Store : Bool → ℕ → ℕ → Plan → Plan
   -- a test, and the violation where it fails
   Need : Bool → Violation → Plan → Plan
-  -- so many bytes from an address on must be open to writes
+  -- this many bytes from an address on must be open to writes
   Writable : ℕ → ℕ → Plan → Plan
-  -- so many bytes from an address on are read, or these bytes are written there
+  -- this many bytes from an address on are read, or these bytes are written there
   Bytes : ℕ → ℕ → (List ℕ → Plan) → Plan
   Put : ℕ → List ℕ → Plan → Plan

@@ -17,7 +17,8 @@ use Rattle.sx_machine.specs.Run.{Outcome, Module}
 abbrev pub identity_at : List ℕ → Layout → List ℕ
 identity_at mem l = identity (bytes_from mem l.pub_from (l.pub_to - l.pub_from)) l.pub_from l.pub_to l.priv_from l.priv_to
 
--- R10 and R11 are the start and the end of the public section, R12 and R13 those of the private section
+-- R10 and R11 are the start and the end of the public section, R12 and R13 those of the private
+-- section
 abbrev pub layout_in : List ℕ → Layout
 layout_in regs = record { pub_from = slice_index regs 10; pub_to = slice_index regs 11; priv_from = slice_index regs 12; priv_to = slice_index regs 13 }
 
@@ -53,8 +54,8 @@ protected_if mac g mem l None =
 protected_if mac g mem l (Some why) =
     Module (answered g.regs 0 (number_of why)) (untouched_with g mem) g.sections Quiet g.exchange
 
--- The module is admitted under the next id, its private section is zeroed and its key derived; or it is refused, and
--- nothing but the registers changes.
+-- The module is admitted under the next id, its private section is zeroed and its key derived; or
+-- it is refused, and nothing but the registers changes.
 unfoldable pub protect : Mac → Given → List ℕ → Outcome
 protect mac g mem =
     let l = layout_in g.regs in
@@ -66,6 +67,7 @@ removed_if g mem None = Module (concluded g.regs 0) (untouched_with g mem) g.sec
 removed_if g mem (Some own) =
     Module (concluded g.regs 1) (untouched_with g (wiped mem own.layout)) (removed g.sections g.own) (Removed g.own) g.exchange
 
--- The module whose code it is is removed, and its private section zeroed. Outside every module only R15 becomes 0.
+-- The module whose code it is is removed, and its private section zeroed. Outside every module only
+-- R15 becomes 0.
 unfoldable pub unprotect : Given → List ℕ → Outcome
 unprotect g mem = removed_if g mem (own_section g)

@@ -16,8 +16,8 @@ onward at n = (at + n) % 65536
 abbrev pub reg : List ℕ → ℕ → ℕ
 reg regs r = slice_index regs (r % 16)
 
--- What a register keeps of a value: bit 0 of PC and of SP stays 0, bits 9 to 15 of SR read 0, and the constant
--- generator R3 reads 0 and drops what is written.
+-- What a register keeps of a value: bit 0 of PC and of SP stays 0, bits 9 to 15 of SR read 0, and
+-- the constant generator R3 reads 0 and drops what is written.
 abbrev pub kept_in : ℕ → ℕ → ℕ
 kept_in r v = if (r == 0) || (r == 1) then v - v % 2 else if r == 2 then v % 512 else if r == 3 then 0 else v
 

@@ -18,8 +18,9 @@ use Rattle.sx_rules.specs.declared.access.Violation.TheVariants as bad
 use Rattle.sx_machine.specs.Plan.{Plan, Done, Stop, Fetch, Load, Store}
 use Rattle.sx_machine.specs.Registers.{cut, onward, reg, set_reg, at_pc, flags, set_flags, incremented}
 
--- The source operand is read, and its register goes on where the mode says so; what follows gets the value and the
--- registers. PC already stands behind the first word, where the source's extension word is.
+-- The source operand is read, and its register goes on where the mode says so; what follows gets
+-- the value and the registers. PC is already after the first word, where the source's extension
+-- word is.
 abbrev pub from_source : Bool → Operand → List ℕ → (ℕ → List ℕ → Plan) → Plan
 from_source wide (Reg r) regs k = k (cut wide (reg regs r)) regs
 from_source wide (Indexed r x) regs k = Load wide (onward (reg regs r) x) (λ v. k v regs)
@@ -72,7 +73,8 @@ writes op2.Bis = true
 writes op2.Xor = true
 writes op2.And = true
 
--- The end of an operation on a register: the flags, and then the result, which stands where the register is SR.
+-- The end of an operation on a register: the flags, and then the result, which stands where the
+-- register is SR.
 abbrev pub into_register : Bool → ℕ → ℕ × Flags → List ℕ → Plan
 into_register written r result regs =
     if written then Done (set_reg (set_flags regs result.1) r result.0) else Done (set_flags regs result.1)
@@ -89,8 +91,8 @@ on_memory op wide at s regs =
     if reads op then Load wide at (λ d. into_memory wide (writes op) at (computed op wide s d (flags regs)) regs)
     else into_memory wide (writes op) at (computed op wide s 0 (flags regs)) regs
 
--- An operation with its source read, at the destination. PC already stands behind the instruction, and an extension
--- word of the destination is its last word.
+-- An operation with its source read, at the destination. PC is already after the instruction, and
+-- an extension word of the destination is its last word.
 abbrev pub onto : Op2 → Bool → Operand → ℕ → List ℕ → Plan
 onto op wide (Reg r) s regs = into_register (writes op) r (computed op wide s (cut wide (reg regs r)) (flags regs)) regs
 onto op wide (Indexed r x) s regs = on_memory op wide (onward (reg regs r) x) s regs
@@ -101,7 +103,7 @@ onto op wide (Increment r) s regs = Stop bad.Illegal
 onto op wide (Immediate x) s regs = Stop bad.Illegal
 onto op wide (Const c) s regs = Stop bad.Illegal
 
--- an instruction with two operands; `next` is the address behind it
+-- an instruction with two operands; `next` is the address after it
 abbrev pub two : Op2 → Bool → Operand → Operand → List ℕ → ℕ → Plan
 two op wide src dst regs next = from_source wide src regs (λ s r. onto op wide dst s (at_pc r next))
 
@@ -129,7 +131,7 @@ in_place kind wide (Increment r) regs next = in_memory kind wide (reg regs r) (a
 in_place kind wide (Immediate x) regs next = Stop bad.Illegal
 in_place kind wide (Const c) regs next = Stop bad.Illegal
 
--- PUSH stores its operand. CALL stores the address behind it, and goes to its operand.
+-- PUSH stores its operand. CALL stores the address after it, and goes to its operand.
 abbrev pub one : Op1 → Bool → Operand → List ℕ → ℕ → Plan
 one op1.Rrc wide arg regs next = in_place calc.Rrc wide arg regs next
 one op1.Swpb wide arg regs next = in_place calc.Swap true arg regs next
@@ -162,7 +164,7 @@ distance (negsuc n) = 65536 - 2 * (n + 1)
 abbrev pub jump : ℕ → ℤ → List ℕ → ℕ → Plan
 jump cond offset regs next = Done (at_pc regs (if taken cond (flags regs) then onward next (distance offset) else next))
 
--- the plan of an instruction; PC stands behind its first word, and `next` is the address behind the whole
+-- the plan of an instruction; PC is after its first word, and `next` is the address after the whole
 abbrev pub row : Instr → List ℕ → ℕ → Plan
 row (Two op byte src dst) regs next = two op (not byte) src dst regs next
 row (One op byte arg) regs next = one op (not byte) arg regs next
@@ -175,7 +177,7 @@ abbrev pub row_of : Option (Instr × ℕ) → List ℕ → ℕ → Plan
 row_of None regs pc = Stop bad.Illegal
 row_of (Some i) regs pc = row i.0 regs (onward pc (2 * i.1))
 
--- a first word with so many words: the extension words are fetched, and then its row
+-- a first word with this many words: the extension words are fetched, and then its row
 abbrev pub with_words : Option ℕ → ℕ → List ℕ → ℕ → Plan
 with_words None w regs pc = Stop bad.Illegal
 with_words (Some n) w regs pc =

@@ -34,7 +34,8 @@ noted (Quiet ∷ rest) t = t ∷ rest
 noted (DeviceRead d v ∷ rest) t = DeviceRead d v ∷ noted rest t
 noted (DeviceWrite d v ∷ rest) t = DeviceWrite d v ∷ noted rest t
 
--- how an instruction ends: a plain one, a violation, or a module instruction with its sections, event and exchange
+-- how an instruction ends: a plain one, a violation, or a module instruction with its sections,
+-- event and exchange
 pub data Outcome : Type 0 where
   Finished : List ℕ → Moment → Outcome
   Violated : Violation → Outcome
@@ -69,7 +70,8 @@ found devices (Some device) = with_window device (slice_get devices device)
 abbrev pub device_of : List Window → ℕ → Option (ℕ × Window)
 device_of devices at = found devices (device_at devices at)
 
--- A read of a sensor gives 0x8000 plus its value and makes it stale where it is fresh, and gives 0 where it isn't.
+-- A read of a sensor gives 0x8000 plus its value and makes it stale where it is fresh, and gives 0
+-- where it isn't.
 abbrev pub sampled : ℕ → Window → Moment → ℕ × Moment
 sampled device w x =
     if w.fresh then (0x8000 + w.value, record { mem = x.mem; devices = cleared x.devices device; touches = noted x.touches (DeviceRead device w.value) })

@@ -6,9 +6,10 @@ use Rattle.sx_bus.specs.Devices.{all_stale}
 use Rattle.sx_rules.specs.Access.{Sections}
 use Rattle.sx_machine.specs.declared.kinds.Exchange.{Exchange}
 
--- A node: its registers R0 to R15, its 65,536 bytes, its devices, its live sections, the module that runs, the
--- module of the last instruction, the module that entered the one that runs (0 where there is none), the
--- number of resets, the node's key, and the last header and body that were wrapped or unwrapped.
+-- A node: its registers R0 to R15, its 65,536 bytes, its devices, its live sections, the module
+-- that runs, the module of the last instruction, the module that entered the one that runs (0 where
+-- there is none), the number of resets, the node's key, and the last header and body that were
+-- wrapped or unwrapped.
 pub record State : Type 0 where
   pub regs : List ℕ
   pub mem : List ℕ

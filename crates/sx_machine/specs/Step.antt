@@ -42,7 +42,8 @@ is_module_word w = nat_le 0x1380 w && is_code (w - 0x1380)
 abbrev pub is_live : List Section → ℕ → Bool
 is_live live id = is_some (section_of live id)
 
--- the module that entered `own`: one that begins to run was entered from that of the last instruction, if it still stands
+-- the module that entered `own`: one that begins to run was entered from that of the last
+-- instruction, if it still stands
 abbrev pub entered_from : State → ℕ → ℕ
 entered_from s own = if own == s.cur then s.caller else if is_live s.sections.live s.last then s.last else 0
 

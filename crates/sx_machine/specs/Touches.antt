@@ -15,8 +15,9 @@ use Rattle.sx_machine.specs.Step.{step, own_of}
 use Rattle.sx_machine.specs.Acts.{irq}
 use Rattle.sx_machine.specs.Node.{IsNode}
 
--- The touches of code of `own`, one after the other, and the devices before and behind: each read is of a fresh sensor
--- that is stale from then on, each write of an actuator, and the access table lets it.
+-- The touches of code of `own`, one after the other, and the devices before and after: each read is
+-- of a fresh sensor that is stale from then on, each write of an actuator, and the access table
+-- lets it.
 abbrev pub Replays : List Section → ℕ → List Touch → List Window → List Window → Type 0
 Replays live own [] a b = b ≡ a
 Replays live own (Quiet ∷ ts) a b = Replays live own ts a b

@@ -18,7 +18,8 @@ pub fn stays_placed()
     ensures { StaysPlaced }
 {}
 
-/// Each thing that can happen to a node, but a step of a section's own code that is let run, is guarded.
+/// Each thing that can happen to a node, but a step of a section's own code that is let run, is
+/// guarded.
 pub fn acts_guarded()
     ensures { ActsGuarded }
 {}
@@ -58,7 +59,8 @@ pub fn keeps_key()
     ensures { KeepsKey }
 {}
 
-/// Whatever happened to a node since it was switched on, every list of acts from there on is guarded.
+/// Whatever happened to a node since it was switched on, every list of acts from there on is
+/// guarded.
 pub fn runs_guarded()
     ensures { RunsGuarded }
 {}

@@ -126,7 +126,7 @@ any_part test p (part ∷ parts) = test p part || any_part test (p + 1) parts
 abbrev pub is_port : Bool → Decl → Bool
 is_port output d = if output then is_output d else is_input d
 
--- the part of this place has so many ports of a kind that the number names one
+-- the part of this place has this many ports of a kind that the number names one
 abbrev pub has_port : (Decl → Bool) → List PartTree → ℕ → ℕ → Bool
 has_port is_port [] p port = false
 has_port is_port (part ∷ parts) p port = if p == 0 then nat_lt port (count_by is_port part.tree.decls) else has_port is_port parts (p - 1) port
@@ -143,7 +143,7 @@ is_stray a d = not (nat_lt d.node a.nodes)
 unfoldable pub is_too_large : AppTree → Bool
 is_too_large a = nat_lt 16 a.nodes || (nat_lt 32 (length a.devices) || (nat_lt 32 (length a.parts) || nat_lt 64 (length a.links)))
 
--- The counts keep the limits; each device is at a node; each part is at a node, with its device and within
--- the limits; and each connection goes from an output to an input.
+-- The counts keep the limits; each device is at a node; each part is at a node, with its device and
+-- within the limits; and each connection goes from an output to an input.
 unfoldable pub is_valid : AppTree → Bool
 is_valid a = not (is_too_large a || (list_any (is_stray a) a.devices || (any_part (is_wrong a) 0 a.parts || list_any (is_loose a) a.links)))

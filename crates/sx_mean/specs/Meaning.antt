@@ -101,7 +101,7 @@ act a st = record st { acts = st.acts ++ a ∷ [] }
 abbrev pub forget : ℕ → State → State
 forget n st = record st { locals = take n st.locals }
 
--- a change made so many times
+-- a change made this many times
 abbrev pub times : ℕ → (State → State) → State → State
 times zero f st = st
 times (suc n) f st = times n f (f st)

@@ -9,7 +9,7 @@
 --     72       sixteen locals
 --     104      what only templates use
 --     152      the stack, which grows down from 512
---     512      a slot of 24 bytes for each end, and behind the slots the cells
+--     512      a slot of 24 bytes for each end, and after the slots the cells
 use Rattle.std.specs.Prelude.{ℕ, ◌+◌, ◌-◌, ◌*◌}
 
 -- the event's value
@@ -24,7 +24,7 @@ pieces_at = 4
 abbrev pub saved_at : ℕ → ℕ
 saved_at r = 2 * r - 18
 
--- the copied packet, 40 bytes, and behind an ask its cipher and tag
+-- the copied packet, 40 bytes, and after an ask its cipher and tag
 abbrev pub packet_at : ℕ
 packet_at = 16
 
@@ -44,12 +44,12 @@ local_at i = locals_at + 2 * i
 abbrev pub scratch_at : ℕ
 scratch_at = 104
 
--- The stack grows down from its end. It holds at most 160 words; below them is room for the return addresses of
--- routines.
+-- The stack grows down from its end. It holds at most 160 words; below them is room for the return
+-- addresses of routines.
 abbrev pub stack_from : ℕ
 stack_from = 152
 
--- where the stack begins, behind its first word
+-- where the stack begins, after its first word
 abbrev pub stack_to : ℕ
 stack_to = 512
 
@@ -57,8 +57,8 @@ stack_to = 512
 abbrev pub stack_words : ℕ
 stack_words = 160
 
--- the slot of the k-th end, 24 bytes: the connection field, the number, whether it is open (0 or not), two free bytes
--- and the key
+-- the slot of the k-th end, 24 bytes: the connection field, the number, whether it is open (0 or
+-- not), two free bytes and the key
 abbrev pub end_at : ℕ → ℕ
 end_at k = 512 + 24 * k
 
@@ -74,6 +74,6 @@ end_open_at k = end_at k + 4
 abbrev pub end_key_at : ℕ → ℕ
 end_key_at k = end_at k + 8
 
--- the i-th cell, behind the slots of so many ends
+-- the i-th cell, after the slots of this many ends
 abbrev pub cell_at : ℕ → ℕ → ℕ
 cell_at ends i = 512 + 24 * ends + 2 * i

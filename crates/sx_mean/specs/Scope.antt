@@ -1,4 +1,5 @@
--- The locals in scope: a local is found by the index of its name, and statements keep the scope that the check sees.
+-- The locals in scope: a local is found by the index of its name, and statements keep the scope
+-- that the check sees.
 use Rattle.std.specs.Prelude.{◌≡◌, ℕ, List, [], ◌∷◌, ◌++◌, option_map, slice_get}
 use Rattle.std.specs.List.{position_or_len}
 use Rattle.sx_lang.specs.declared.tree.Decl.{Decl}
@@ -26,7 +27,8 @@ pub record IsIndexed (ls : List Local) (x : List ℕ) : Type 0 where
 abbrev pub LocalsIndexed : Type 0
 LocalsIndexed = (ls : List Local) (x : List ℕ) → IsIndexed ls x
 
--- a statement adds the names that it defines itself, and a block ends with the names that it began with
+-- a statement adds the names that it defines itself, and a block ends with the names that it began
+-- with
 pub record KeepsScope (ds : List Decl) (st : State) : Type 0 where
   pub statement : (s : Statement) → names_of (after_statement ds s st).locals ≡ names_of st.locals ++ defined s
   pub within_block : (b : Block) → names_of (after_block ds b st).locals ≡ names_of st.locals ++ definitions b

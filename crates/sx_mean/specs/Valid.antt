@@ -3,8 +3,9 @@ use Rattle.std.specs.Prelude.{◌≡◌, ℕ, ◌+◌, ◌<◌, ◌≤◌, true,
 use Rattle.sx_mean.specs.declared.apps.Link.{Link}
 use Rattle.sx_mean.specs.Application.{AppTree, PartTree, declared_kind, ends_from, ends_to, has_port, is_driven, is_port, is_valid, parts_at, parts_with, sends_too_much}
 
--- The p-th part is at a node of the application with at most 8 parts; it has a device exactly where its module declares one, at its
--- node, of that kind and of no other part; and it has neither too many ends nor sends too much.
+-- The p-th part is at a node of the application with at most 8 parts; it has a device exactly where
+-- its module declares one, at its node, of that kind and of no other part; and it has neither too
+-- many ends nor sends too much.
 pub record IsPlaced (app : AppTree) (p : ℕ) (q : PartTree) : Type 0 where
   pub node : q.node < app.nodes
   pub driven : is_driven app.devices q.node q.device (declared_kind q.tree.decls) ≡ true

@@ -1,5 +1,6 @@
--- The cell of a variable or an element, and its first value. Nobody has to believe these: they are forms for code that is
--- made from a module, which finds a name that is no local by its first declaration.
+-- The cell of a variable or an element, and its first value. Nobody has to believe these: they are
+-- forms for code that is made from a module, which finds a name that is no local by its first
+-- declaration.
 use Rattle.std.specs.Prelude.{◌≡◌, ℕ, ◌+◌, ◌<◌, false, if◌then◌else◌, List, [], ◌∷◌, ◌++◌, length, get_or, nat_lt}
 use Rattle.sx_lang.specs.declared.tree.Decl.{Decl}
 use Rattle.sx_lang.specs.declared.tree.Decl.TheVariants.{Device, Input, Output, Var, Array}

@@ -1,4 +1,5 @@
--- Values, cells and acts are 16-bit words where the source's numbers are, and a module keeps its number of cells.
+-- Values, cells and acts are 16-bit words where the source's numbers are, and a module keeps its
+-- number of cells.
 use Rattle.std.specs.Prelude.{◌≡◌, ℕ, List, All, length}
 use Rattle.sx_lang.specs.declared.tree.Decl.{Decl}
 use Rattle.sx_lang.specs.Sizes.{declared_cells}

@@ -371,9 +371,10 @@ impl App {
         self.nodes > 16 || self.devices.len() > 32 || self.parts.len() > 32 || self.links.len() > 64
     }
 
-    /// The counts keep the limits: 16 nodes, 32 devices, 32 parts of which 8 at a node, 64 connections,
-    /// 16 ends at a part and 16 packets at an event. All that is named is there; a part has a device
-    /// exactly where its module declares one, at its node, of that kind and of no other part.
+    /// The counts keep the limits: 16 nodes, 32 devices, 32 parts of which 8 at a node, 64
+    /// connections, 16 ends at a part and 16 packets at an event. All that is named is there; a
+    /// part has a device exactly where its module declares one, at its node, of that kind and of no
+    /// other part.
     #[tactic(auto, unfolding(crate::specs::Application::is_valid))]
     pub fn valid(&self) -> bool
         ensures { result ≡ is_valid (app_as self.now) }

@@ -14,13 +14,15 @@ pub enum SourceEvent {
 /// What a module does at an event.
 #[derive(Clone, Copy, PartialEq, Eq, Debug)]
 pub enum Act {
-    /// A value sent to the output of this number. Outputs are numbered from 0 in order of declaration.
+    /// A value sent to the output of this number. Outputs are numbered from 0 in order of
+    /// declaration.
     Send(u8, u16),
     /// A value for the module's actuator.
     Emit(u16),
 }
 
-/// One end of a connection in a module. A module's ends stand in connection order, `From` before `To`.
+/// One end of a connection in a module. A module's ends stand in connection order, `From` before
+/// `To`.
 #[derive(Clone, Copy, PartialEq, Eq, Debug)]
 pub struct End {
     /// The number of the connection.

@@ -1,5 +1,5 @@
-//! What holds of applications and of what handlers do. Each law is a function that does nothing: its
-//! contract is the law.
+//! What holds of applications and of what handlers do. Each law is a function that does nothing:
+//! its contract is the law.
 
 ghost use Rattle.sx_mean.specs.Acts.{ActsGrow};
 ghost use Rattle.sx_mean.specs.Ends.{EndsCounted, EndsHold};
@@ -19,8 +19,8 @@ pub fn ends_counted()
     ensures { EndsCounted }
 {}
 
-/// The ends of each part of a valid application are at most 16, in connection order with the sending end
-/// first, none twice, of connections below 64, and at ports of the part's module.
+/// The ends of each part of a valid application are at most 16, in connection order with the
+/// sending end first, none twice, of connections below 64, and at ports of the part's module.
 pub fn ends_hold()
     ensures { EndsHold }
 {}
@@ -35,13 +35,13 @@ pub fn locals_indexed()
     ensures { LocalsIndexed }
 {}
 
-/// A statement adds the names that it defines itself to the scope, and a block's end takes those of the
-/// block from it.
+/// A statement adds the names that it defines itself to the scope, and a block's end takes those of
+/// the block from it.
 pub fn scopes_kept()
     ensures { ScopesKept }
 {}
 
-/// A block keeps the acts so far, and adds its own behind them.
+/// A block keeps the acts so far, and adds its own after them.
 pub fn acts_grow()
     ensures { ActsGrow }
 {}

@@ -8,8 +8,8 @@ use std::alloc::{AllocError, Global};
 use sx_check::checked::Checked;
 use sx_lang::tree::Decl;
 
-/// The words that a module keeps between events: one for each variable and one for each element of an
-/// array, in order of declaration.
+/// The words that a module keeps between events: one for each variable and one for each element of
+/// an array, in order of declaration.
 #[derive(Drop)]
 pub struct Store {
     /// The words in that order.

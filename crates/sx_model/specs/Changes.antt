@@ -1,4 +1,5 @@
--- What items make of one device or module. Nobody has to believe this file: it is for contracts of functions that aren't public.
+-- What items make of one device or module. Nobody has to believe this file: it is for contracts of
+-- functions that aren't public.
 use Rattle.std.specs.Prelude.{ℕ, ◌+◌, ◌*◌, ◌/◌, ◌%◌, ◌==◌, ◌&&◌, List, [], ◌∷◌, ◌++◌, Bool, true, false, ◌||◌, if◌then◌else◌, Option, Some, None, is_none, length, not, nat_le, nat_lt, slice_get, slice_index, slice_set, unwrap_or}
 use Rattle.std.specs.List.{position_from}
 use Rattle.sx_lang.specs.Tree.{ModuleTree}
@@ -17,7 +18,8 @@ use Rattle.sx_trace.specs.declared.items.Item.{Item}
 use Rattle.sx_trace.specs.declared.items.Item.TheVariants.{Reset, Protect, Sense, Read, Drain, Ask, Attested, Denied, Vouch, Open, Take, Out, Raw, Done, Packet, Forged, Busy, Skip, Budget}
 use Rattle.sx_model.specs.Renewal.{boot_of, may_attest, may_open, opens, renewed, takes}
 
--- the elements with that at the index replaced by what the change makes of it; none where it makes nothing
+-- the elements with that at the index replaced by what the change makes of it; none where it makes
+-- nothing
 abbrev pub at_index : {A : Type 0} → List A → ℕ → (A → Option A) → Option (List A)
 at_index xs i change = slice_get xs i >>? (λ x. change x >>? (λ y. Some (slice_set xs i y)))
 
@@ -53,11 +55,11 @@ writes v owed = without_first v owed.emits owed.pieces
 abbrev pub writes_present : ℕ → Present → Option Present
 writes_present v p = p.pending >>? (λ owed. writes v owed >>? (λ left. Some (with_pending p (Some left))))
 
--- an event without an emit that is owed is done with so many pieces
+-- an event without an emit that is owed is done with this many pieces
 abbrev pub is_finished : ℕ → Pending → Bool
 is_finished k owed = is_nothing owed.emits && (k == owed.pieces)
 
--- a module that owes no emit is done with its event, with so many pieces
+-- a module that owes no emit is done with its event, with this many pieces
 abbrev pub finishes : ℕ → Present → Option Present
 finishes k p = p.pending >>? (λ owed. if_so (is_finished k owed) (Some (with_pending p None)))
 
@@ -115,7 +117,7 @@ opens_end may epoch c side es p =
 abbrev pub raised_at : List ℕ → ℕ → List ℕ
 raised_at ns i = slice_set ns i (slice_index ns i + 1)
 
--- the boots, readings and modules behind a reset of a node
+-- the boots, readings and modules after a reset of a node
 abbrev pub resets : AppTree → Model → ℕ → Option Model
 resets app s n = if_so (nat_lt n (length s.boots)) (Some (record s {
   boots = raised_at s.boots n;
@@ -150,15 +152,15 @@ answers (Some a) b xs = is_vouched a b xs
 abbrev pub is_accepted : ℕ → List Link → List ℕ → ℕ → Standing → Bool
 is_accepted m ls es b x = answers x.asked b x.vouched && may_attest m ls es (boot_of x.attested) b
 
--- a module's answer is accepted at a boot, with these epochs behind it
+-- a module's answer is accepted at a boot, with these epochs after it
 abbrev pub accepts : ℕ → List ℕ → Standing → Option Standing
 accepts b epochs x = Some (record x { asked = None; attested = Some (record { boot = b; floors = epochs }) })
 
--- the deployer accepts a module's answer, and these are the epochs behind it
+-- the deployer accepts a module's answer, and these are the epochs after it
 abbrev pub accepts_with : Model → ℕ → ℕ → List ℕ → Option Model
 accepts_with s m b epochs = on_module s m (accepts b epochs) >>? (λ t. Some (record t { epochs = epochs }))
 
--- the epochs behind an answer that is accepted
+-- the epochs after an answer that is accepted
 abbrev pub renewal : List Link → Model → ℕ → ℕ → Option (List ℕ)
 renewal ls s m b = slice_get s.modules m >>? (λ x. if_so (is_accepted m ls s.epochs b x) (Some (renewed m ls (boot_of x.attested) s.epochs)))
 

@@ -1,4 +1,5 @@
--- What a legal trace tells: which numbers rise along it, and what stands before a reading and an output.
+-- What a legal trace tells: which numbers rise along it, and what stands before a reading and an
+-- output.
 use Rattle.std.specs.Prelude.{◌≡◌, ℕ, ◌<◌, ◌==◌, ◌&&◌, Bool, true, false, List, ◌∷◌, ◌++◌, Option, Some, None, slice_get}
 use Rattle.std.specs.List.{list_any}
 use Rattle.sx_lang.specs.declared.sides.Side.{Side}
@@ -18,7 +19,7 @@ abbrev pub OpensRise : List Item → Type 0
 OpensRise items =
     (before between behind : List Item) (m c : ℕ) (side : Side) (d e : ℕ) → items ≡ before ++ Open m c side d ∷ between ++ Open m c side e ∷ behind → d < e
 
--- an item of the first kind is there, and none of the second behind it
+-- an item of the first kind is there, and none of the second after it
 pub record Since (begins ends : Item → Bool) (items : List Item) : Type 0 where
   pub before : List Item
   pub item : Item

@@ -16,7 +16,7 @@ pub record Flow : Type 0 where
   pub emits : List ℕ
   pub pieces : ℕ
 
--- so many events can be sent over a connection in one epoch
+-- this many events can be sent over a connection in one epoch
 abbrev pub MOST_SENT : ℕ
 MOST_SENT = 65535
 

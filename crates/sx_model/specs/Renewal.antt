@@ -24,7 +24,7 @@ abbrev pub may_attest : ℕ → List Link → List ℕ → Option ℕ → ℕ �
 may_attest m ls es None b = true
 may_attest m ls es (Some last) b = nat_lt last b && not (is_spent m ls es)
 
--- the epochs behind it: where it was attested before, its connections are renewed
+-- the epochs after it: where it was attested before, its connections are renewed
 abbrev pub renewed : ℕ → List Link → Option ℕ → List ℕ → List ℕ
 renewed m ls None es = es
 renewed m ls (Some last) es = raised m ls es

@@ -1,4 +1,5 @@
--- What the acts of an event are sent as. Nobody has to believe this file: it is for contracts of functions that aren't public.
+-- What the acts of an event are sent as. Nobody has to believe this file: it is for contracts of
+-- functions that aren't public.
 use Rattle.std.specs.Prelude.{ℕ, ◌+◌, nat_lt, Bool, false, if◌then◌else◌, List, [], ◌∷◌, ◌++◌, length, take, ◌-◌, slice_get, slice_set, Option, Some, None}
 use Rattle.std.specs.Option.{option_to_list}
 use Rattle.sx_mean.specs.declared.events.Act.{Act}
@@ -55,7 +56,7 @@ with_word c v (Some words) sent = if nat_lt (length words) MOST_SENT then slice_
 abbrev pub sent_one : Sending → List (List ℕ) → List (List ℕ)
 sent_one x sent = with_word x.field x.value (slice_get sent x.field) sent
 
--- what was sent behind all of these, and how many of them were
+-- what was sent after all of these, and how many of them were
 abbrev pub sent_words : List Sending → List (List ℕ) → List (List ℕ)
 sent_words [] sent = sent
 sent_words (x ∷ xs) sent = sent_words xs (sent_one x sent)

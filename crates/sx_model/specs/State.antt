@@ -7,7 +7,8 @@ pub record Reading : Type 0 where
   pub value : ℕ
   pub fresh : Bool
 
--- an end of a connection: the epoch with which it is open, and at a receiving end the next number that it takes
+-- an end of a connection: the epoch with which it is open, and at a receiving end the next number
+-- that it takes
 pub record EndView : Type 0 where
   pub epoch : Option ℕ
   pub next : ℕ
@@ -17,7 +18,8 @@ pub record Pending : Type 0 where
   pub emits : List ℕ
   pub pieces : ℕ
 
--- a module that is present: its cells, its ends in their order, and the event that is pending, if any
+-- a module that is present: its cells, its ends in their order, and the event that is pending, if
+-- any
 pub record Present : Type 0 where
   pub cells : List ℕ
   pub ends : List EndView
@@ -28,24 +30,27 @@ pub record Vouched : Type 0 where
   pub challenge : ℕ
   pub boot : ℕ
 
--- the boot at which a module was attested, and the connections' epochs then: no end of it opens with an earlier one
+-- the boot at which a module was attested, and the connections' epochs then: no end of it opens
+-- with an earlier one
 pub record Attestation : Type 0 where
   pub boot : ℕ
   pub floors : List ℕ
 
--- a module: itself at its node; and at the deployer its open challenge, what it vouched for, and when it was last attested
+-- a module: itself at its node; and at the deployer its open challenge, what it vouched for, and
+-- when it was last attested
 pub record Standing : Type 0 where
   pub present : Option Present
   pub asked : Option ℕ
   pub vouched : List Vouched
   pub attested : Option Attestation
 
--- so many connection fields: of 256 connections and 256 epochs
+-- this many connection fields: of 256 connections and 256 epochs
 unfoldable pub FIELDS : ℕ
 FIELDS = 65536
 
--- the nodes' boots, the devices, the modules, the connections' epochs, the words that each connection was sent in each epoch
--- (those of connection c in epoch e at index c + 256 e), and the number of asks
+-- the nodes' boots, the devices, the modules, the connections' epochs, the words that each
+-- connection was sent in each epoch (those of connection c in epoch e at index c + 256 e), and the
+-- number of asks
 pub record Model : Type 0 where
   pub boots : List ℕ
   pub devices : List Reading

@@ -163,7 +163,8 @@ same_side From To = false
 same_side To From = false
 same_side To To = true
 
--- the views of the ends, with a change of that of the end with this connection and side; none where there is no such end
+-- the views of the ends, with a change of that of the end with this connection and side; none where
+-- there is no such end
 abbrev pub changed : (EndView → Option EndView) → ℕ → Side → List End → List EndView → Option (List EndView)
 changed change c side [] views = None
 changed change c side (e ∷ es) [] = None
@@ -184,7 +185,8 @@ abbrev pub is_word : ℕ → Option ℕ → Bool
 is_word v None = false
 is_word v (Some w) = w == v
 
--- a module takes a word that was sent over a connection, and reacts to it; the number is 65,536 times the epoch plus the word's index
+-- a module takes a word that was sent over a connection, and reacts to it; the number is 65,536
+-- times the epoch plus the word's index
 abbrev pub has_taken : AppTree → Model → ℕ → ℕ → ℕ → ℕ → Option Model
 has_taken app s m c i v =
     slice_get app.parts m >>? (λ q. slice_get s.modules m >>? (λ x. idle x >>? (λ p. slice_get app.links c >>? (λ l. slice_get s.sent (c + 256 * (i / 65536)) >>? (λ words.

@@ -1,4 +1,5 @@
--- Worked runs of the lighting application: a light sensor, a module that compares, and a lamp. Nobody has to believe this file.
+-- Worked runs of the lighting application: a light sensor, a module that compares, and a lamp.
+-- Nobody has to believe this file.
 use Rattle.std.specs.Prelude.{ℕ, List, [], ◌∷◌, ◌++◌, codes, Some, None}
 use Rattle.sx_lang.specs.declared.sides.Side.TheVariants.{From, To}
 use Rattle.sx_lang.specs.declared.tree.DeviceKind.TheVariants.{Sensor, Actuator}
@@ -17,7 +18,8 @@ eye = record {
   handlers = record { input = None; param = codes "v"; body = Then (Sends (codes "level") (Variable (codes "v"))) Done } ∷ [];
 }
 
--- input level; output bright; var limit = 100; on level(v) { if v > limit { send bright(1); } else { send bright(0); } }
+-- input level; output bright; var limit = 100; on level(v) { if v > limit { send bright(1); } else
+-- { send bright(0); } }
 abbrev pub logic : ModuleTree
 logic = record {
   decls = decl.Input (codes "level") ∷ decl.Output (codes "bright") ∷ decl.Var (codes "limit") 100 ∷ [];

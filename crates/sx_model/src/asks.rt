@@ -1,4 +1,5 @@
-//! Attestation: the deployer asks a module, a module vouches for itself, and the deployer accepts its answer.
+//! Attestation: the deployer asks a module, a module vouches for itself, and the deployer accepts
+//! its answer.
 
 ghost use Rattle.std.specs.Prelude.{◌≡◌, ◌+◌, ◌<◌, ◌&&◌, ◌==◌, IfOk, MatchOption, OnErr, OnOk, is_some, unwrap_or};
 ghost use Rattle.sx_model.specs.Changes.{accepts, accepts_with, answers, asks, attests, is_accepted, on_module, opens_ask, renewal, vouches, vouches_in};
@@ -175,7 +176,7 @@ fn accept_module(state: &mut State, module: u8, boot: u32, floors: Vec<u8>) -> b
     }
 }
 
-/// The answer is accepted, and these are the epochs behind it.
+/// The answer is accepted, and these are the epochs after it.
 fn accept(state: &mut State, module: u8, boot: u32, floors: Vec<u8>, epochs: Vec<u8>) -> bool
     requires { epochs.items ≡ floors.items }
     ensures answer { result ≡ is_some (accepts_with state.old «module» boot floors.items) }
@@ -188,7 +189,7 @@ fn accept(state: &mut State, module: u8, boot: u32, floors: Vec<u8>, epochs: Vec
     true
 }
 
-/// The epochs behind a module's answer at a boot; `None` exactly where it isn't accepted.
+/// The epochs after a module's answer at a boot; `None` exactly where it isn't accepted.
 fn renewal(
     alloc: Global,
     state: &State,

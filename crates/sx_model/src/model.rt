@@ -88,7 +88,7 @@ fn take_item(alloc: Global, state: &mut State, app: &App, item: Item) -> Result<
     }
 }
 
-/// Where a run of an application's source stands behind the items that were allowed.
+/// Where a run of an application's source follows the items that were allowed.
 #[derive(Drop)]
 pub struct Model {
     alloc: Global,

@@ -1,4 +1,4 @@
-//! Whether a module may be attested, and the connections' epochs behind it.
+//! Whether a module may be attested, and the connections' epochs after it.
 
 ghost use Rattle.std.specs.Prelude.{◌≡◌, ◌+◌, ◌<◌, ◌&&◌, IfOk, false, if◌then◌else◌, length, nat_le, true};
 ghost use Rattle.sx_model.specs.Renewal.{is_of, is_spent, may_attest, raised, renewed};
@@ -58,7 +58,7 @@ fn raise(m: u8, links: &[Link], epochs: &mut [u8])
     }
 }
 
-/// The epochs behind an attestation of a module that was last attested at a boot, if any.
+/// The epochs after an attestation of a module that was last attested at a boot, if any.
 pub(crate) fn renewed(
     alloc: Global,
     m: u8,

@@ -16,7 +16,7 @@ pub(crate) struct Sending {
     pub(crate) value: u16,
 }
 
-/// So many words can be sent over a connection in one epoch.
+/// This many words can be sent over a connection in one epoch.
 const MOST_SENT: usize = 65_535;
 
 fn field_at(link: u8, epoch: u8) -> usize

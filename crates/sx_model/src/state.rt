@@ -1,4 +1,5 @@
-//! Where a run of the source stands, in memory. Contracts see each type as its record of `specs/State.antt`.
+//! Where a run of the source stands, in memory. Contracts see each type as its record of
+//! `specs/State.antt`.
 
 use std::marker::Model;
 use sx_mean::stores::Store;

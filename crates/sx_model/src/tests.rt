@@ -187,7 +187,7 @@ const SHOWN: [&[u8]; 43] = [
     b"done lamp 1 0",
 ];
 
-/// Behind a reset the lamp's old packets are refused.
+/// After a reset the lamp's old packets are refused.
 const REPLAYED: [&[u8]; 4] = [
     b"reset b asked",
     b"protect b lamp",
@@ -195,7 +195,8 @@ const REPLAYED: [&[u8]; 4] = [
     b"done lamp 5 0",
 ];
 
-/// Behind a reset the lamp is attested again, its connection is renewed, and a reading of 50 puts it out.
+/// After a reset the lamp is attested again, its connection is renewed, and a reading of 50 puts it
+/// out.
 const RENEWED: [&[u8]; 24] = [
     b"reset b asked",
     b"protect b lamp",

@@ -1,4 +1,5 @@
--- How a paged memory keeps its pages in an arena. Nobody has to believe it: the contracts of `PagedBus` cite Memory.antt alone.
+-- How a paged memory keeps its pages in an arena. Nobody has to believe it: the contracts of
+-- `PagedBus` cite Memory.antt alone.
 use Rattle.std.specs.Prelude.{◌≡◌, ℕ, suc, true, List, [], ◌∷◌, length, get_or, Option, Some, None}
 use Rattle.sx_pages.specs.Pages.{Pages, is_live, size}
 

@@ -9,7 +9,8 @@ use crate::paged::Paged;
 use std::alloc::{AllocError as OutOfMemory, Global};
 use sx_bus::{Bus, Copied};
 
-/// A memory of 65,536 bytes. A page is present where one of its bytes was written since the last wipe.
+/// A memory of 65,536 bytes. A page is present where one of its bytes was written since the last
+/// wipe.
 #[derive(Drop)]
 pub struct PagedBus {
     pages: Paged,
@@ -18,8 +19,8 @@ pub struct PagedBus {
 }
 
 impl PagedBus {
-    /// A memory of zeros, with no page. Takes all the memory that its pages will want; `OutOfMemory`
-    /// where there is none.
+    /// A memory of zeros, with no page. Takes all the memory that its pages will need;
+    /// `OutOfMemory` where there is none.
     pub fn new(alloc: Global) -> Result<PagedBus, OutOfMemory>
         ensures bytes { IfOk result (λ bus. joined bus.pages ≡ blank 65536) }
         ensures pages { IfOk result (λ bus. bus.pages ≡ no_pages) }

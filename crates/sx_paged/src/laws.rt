@@ -1,4 +1,5 @@
-//! What holds of every paged memory. The law is a function that does nothing: its contract is the law.
+//! What holds of every paged memory. The law is a function that does nothing: its contract is the
+//! law.
 
 ghost use Rattle.sx_paged.specs.Laws.{PresentGrows};
 

@@ -1,4 +1,5 @@
--- How an arena keeps its pages in the block. Nobody has to believe it: the contracts of `Arena` cite Pages.antt alone.
+-- How an arena keeps its pages in the block. Nobody has to believe it: the contracts of `Arena`
+-- cite Pages.antt alone.
 use Rattle.std.specs.Prelude.{◌≡◌, ℕ, zero, suc, ◌+◌, ◌<◌, Bool, true, false, List, [], ◌∷◌, length, get_or, set, map, replicate, All, Option, Some, None}
 use Rattle.sx_pages.specs.Ownership.{Slot}
 use Rattle.sx_pages.specs.Pages.{Pages}
@@ -35,7 +36,8 @@ with_slot pages page at byte = set pages page (set (get_or pages page []) at (So
 abbrev pub first : List (List Slot) → ℕ → Slot
 first pages page = slot_of pages page 0
 
--- from a page on so many free ones are linked. Each is marked as it is passed, so none comes twice
+-- from a page on this many free ones are linked. Each is marked as it is passed, so none comes
+-- twice
 abbrev pub IsChain : List Bool → List (List Slot) → ℕ → ℕ → Type 0
 IsChain lives pages page zero = Unit {0}
 IsChain lives pages page (suc n) =

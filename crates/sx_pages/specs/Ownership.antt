@@ -1,5 +1,6 @@
--- What a block of pages owns and lends: the pages side by side, each of 256 slots, and each slot empty or with a byte.
--- Nobody has to believe it: the pointer is in a private struct, and the checker holds each access against it.
+-- What a block of pages owns and lends: the pages side by side, each of 256 slots, and each slot
+-- empty or with a byte. Nobody has to believe it: the pointer is in a private struct, and the
+-- checker holds each access against it.
 use Rattle.std.specs.Prelude.{◌≡◌, ℕ, List, length, replicate, All, Option, Some, None}
 use Rattle.std.specs.Borrow.{full_share, u8}
 use base.Fml.{Lft, Fml, ffalse, froom}

@@ -7,8 +7,8 @@ use crate::block::{Block, Lease};
 use std::alloc::{AllocError as OutOfMemory, Global};
 use std::marker::Model;
 
-/// One block of 256 pages of 256 bytes. A page is named by its number. Its value is the map from the
-/// numbers of the live pages to their bytes.
+/// One block of 256 pages of 256 bytes. A page is named by its number. Its value is the map from
+/// the numbers of the live pages to their bytes.
 pub struct Arena {
     block: Block,
     lease: Lease<Global>,
@@ -35,7 +35,8 @@ impl Model for Arena {
 }
 
 impl Arena {
-    /// An arena with no live page. Takes one block of 65,536 bytes; `OutOfMemory` where there is none.
+    /// An arena with no live page. Takes one block of 65,536 bytes; `OutOfMemory` where there is
+    /// none.
     pub fn new(alloc: Global) -> Result<Arena, OutOfMemory>
         ensures { IfOk result (λ arena. arena ≡ no_pages) }
     {
@@ -56,8 +57,8 @@ impl Arena {
         }
     }
 
-    /// Makes a free page live, with all its bytes 0, and gives its number. None exactly where all 256
-    /// pages are live; then nothing changes.
+    /// Makes a free page live, with all its bytes 0, and gives its number. None exactly where all
+    /// 256 pages are live; then nothing changes.
     pub fn take(&mut self) -> Option<u8>
         ensures { Takes self.old result self.new }
     {

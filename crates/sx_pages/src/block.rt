@@ -39,7 +39,7 @@ impl<A: Allocator> Model for Lease<A> {
 }
 
 impl Block {
-    /// A block of which nothing is written, and its lease. None where memory is wanting.
+    /// A block of which nothing is written, and its lease. None where memory ran out.
     pub(crate) fn new<A: Allocator>(alloc: &A) -> Option<(Block, Lease<A>)>
         ensures { IfSome result (λ made. (made.0.pages ≡ unwritten 256)
             × (made.1.alloc ≡ alloc.now) × (made.1.start ≡ made.0.start)) }

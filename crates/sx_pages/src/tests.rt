@@ -1,5 +1,5 @@
-//! Each call once. What no clause says is that `new` and `copy` can succeed, which page is taken, and
-//! that an arena and its copy share no byte.
+//! Each call once. What no clause says is that `new` and `copy` can succeed, which page is taken,
+//! and that an arena and its copy share no byte.
 
 use super::Arena;
 use std::test::Fail;

@@ -6,7 +6,8 @@ use Rattle.sx_grammar.specs.Machine.{Symbol, Value, opens, read, Refused, Of_blo
 use Rattle.sx_parse.specs.declared.stop.Stop.{Stop}
 use Rattle.sx_parse.specs.declared.stop.Stop.TheVariants.{Fault, Memory}
 
--- With so many brackets open, the block's among them, what is wanted in the block is read in front of rest and is this statement.
+-- With this many brackets open, the block's among them, what is required in the block is read
+-- before rest and is this statement.
 pub record Adds (want : List Symbol → List Symbol) (depth : ℕ) (ts : List Placed) (s : Statement) (rest : List Placed) : Type 0 where
   pub adds : (st : List Symbol) (vs : List Value) (front : Block) → opens (Statements ∷ st) ≡ depth → read (want (Statements ∷ st)) (Of_block front ∷ vs) ts ≡ read (Statements ∷ st) (Of_block (snoc front s) ∷ vs) rest
 

@@ -13,20 +13,22 @@ use Rattle.sx_parse.specs.declared.stop.Stop.TheVariants.{Fault, Memory}
 abbrev pub holding : List Decl → List HandlerTree → List Value
 holding ds hs = Of_module (record { decls = ds; handlers = hs }) ∷ []
 
--- what is wanted is read in front of rest, and the declarations ds become us; then `to` is wanted
+-- what is required is read before rest, and the declarations ds become us; then `to` is required
 pub record Declares (want : List Symbol → List Symbol) (ds : List Decl) (ts : List Placed) (us : List Decl) (to : List Symbol → List Symbol) (rest : List Placed) : Type 0 where
   pub declares : (st : List Symbol) → read (want st) (holding ds []) ts ≡ read (to st) (holding us []) rest
 
--- no declaration stands in front of these tokens
+-- no declaration stands before these tokens
 pub record Passes (ds : List Decl) (ts : List Placed) (us : List Decl) : Type 0 where
   pub passes : (st : List Symbol) (vs : List Value) → read (Declarations ∷ st) vs ts ≡ read (Handlers ∷ st) vs ts
   pub same : us ≡ ds
 
--- from the module's first token to these declarations, what is wanted next being a declaration or a handler
+-- from the module's first token to these declarations, what is required next being a declaration or
+-- a handler
 pub record Declared (ts : List Placed) (ds : List Decl) (next : Symbol) (rest : List Placed) : Type 0 where
   pub declared : read begun nothing ts ≡ read (next ∷ []) (holding ds []) rest
 
--- whatever was declared, what is wanted in front of the handlers is read in front of rest, and the handlers hs become gs
+-- whatever was declared, what is required before the handlers is read before rest, and the handlers
+-- hs become gs
 pub record Handles (want : List Symbol → List Symbol) (hs : List HandlerTree) (ts : List Placed) (gs : List HandlerTree) (rest : List Placed) : Type 0 where
   pub handles : (ds : List Decl) → read (want (Handlers ∷ [])) (holding ds hs) ts ≡ read (Handlers ∷ []) (holding ds gs) rest
 

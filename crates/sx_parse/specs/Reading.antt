@@ -1,4 +1,4 @@
--- What reading a part of a text does to the machine of the grammar, whatever is wanted behind it.
+-- What reading a part of a text does to the machine of the grammar, whatever is required after it.
 use Rattle.std.specs.Prelude.{◌≡◌, ℕ, List, ◌∷◌, Option}
 use Rattle.sx_lex.specs.declared.tokens.Placed.{Placed}
 use Rattle.sx_grammar.specs.Machine.{Symbol, Value, opens, read, Refused, Want, After, A_name, follow, Purpose, A_number, follow_number, An_open, A_close, An_open_square, A_close_square, A_semicolon, An_equals}
@@ -8,7 +8,8 @@ use Rattle.sx_parse.specs.declared.sign.Sign.TheVariants.{Open, Close, OpenSquar
 use Rattle.sx_parse.specs.declared.stop.Stop.{Stop}
 use Rattle.sx_parse.specs.declared.stop.Stop.TheVariants.{Fault, Memory}
 
--- With so many brackets open, what is wanted is read in front of rest and is worth v; then `to` is wanted.
+-- With this many brackets open, what is required is read before rest and is worth v; then `to` is
+-- required.
 pub record Reads (want : List Symbol → List Symbol) (depth : ℕ) (ts : List Placed) (v : Value) (to : List Symbol → List Symbol) (rest : List Placed) : Type 0 where
   pub reads : (st : List Symbol) (vs : List Value) → opens st ≡ depth → read (want st) vs ts ≡ read (to st) (v ∷ vs) rest
 
@@ -34,7 +35,7 @@ sign_of CloseSquare = A_close_square
 sign_of Semicolon = A_semicolon
 sign_of Equals = An_equals
 
--- the sign stands in front of rest
+-- the sign stands before rest
 pub record Takes (f : machine.Sign) (ts rest : List Placed) : Type 0 where
   pub takes : (st : List Symbol) (vs : List Value) → read (Want f ∷ st) vs ts ≡ read st vs rest
 
@@ -47,7 +48,7 @@ abbrev pub Lacks : machine.Sign → List Placed → Stop → Type 0
 Lacks f ts (Fault t) = Misses f ts t
 Lacks f ts Memory = ⊥
 
--- a name stands in front of rest
+-- a name stands before rest
 pub record Named (ts : List Placed) (x : List ℕ) (rest : List Placed) : Type 0 where
   pub named : (w : After) (st : List Symbol) (vs : List Value) → read (A_name w ∷ st) vs ts ≡ read (follow w x st) vs rest
 
@@ -60,7 +61,7 @@ abbrev pub NameLacks : List Placed → Stop → Type 0
 NameLacks ts (Fault t) = NoName ts t
 NameLacks ts Memory = ⊥
 
--- a number stands in front of rest
+-- a number stands before rest
 pub record Numbered (ts : List Placed) (n : ℕ) (rest : List Placed) : Type 0 where
   pub numbered : (w : Purpose) (st : List Symbol) (vs : List Value) → read (A_number w ∷ st) vs ts ≡ read (follow_number w n st) vs rest
 

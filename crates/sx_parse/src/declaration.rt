@@ -57,7 +57,8 @@ fn array<'a>(all: &mut Vec<Decl>, name: Name, tokens: &'a [Placed]) -> Result<&'
     ended(all, Decl::Array(name, length), rest)
 }
 
-/// Adds the declaration that stands here, and gives what follows it; none where another token stands.
+/// Adds the declaration that stands here, and gives what follows it; none where another token
+/// stands.
 #[tactic(auto, using(crate::proofs::Declarations::sensor, crate::proofs::Declarations::actuator, crate::proofs::Declarations::input, crate::proofs::Declarations::output, crate::proofs::Declarations::variable, crate::proofs::Declarations::array_word, crate::proofs::Declarations::passes, crate::proofs::Declarations::passes_end))]
 fn declaration<'a>(all: &mut Vec<Decl>, tokens: &'a [Placed]) -> Result<Option<&'a [Placed]>, Stop>
     ensures declares { MatchResult result (λ p. MatchOption p (Passes all.old.items tokens.now all.new.items) (λ rest. Declares (λ st. Declarations ∷ st) all.old.items tokens.now all.new.items (λ st. Declarations ∷ st) rest.now)) (λ e. StopsAs (λ st. Declarations ∷ st) 0 tokens.now e) }
@@ -99,7 +100,7 @@ fn declaration<'a>(all: &mut Vec<Decl>, tokens: &'a [Placed]) -> Result<Option<&
     }
 }
 
-/// The declarations in front of the handlers.
+/// The declarations before the handlers.
 #[tactic(auto, using(crate::proofs::Declarations::begins, crate::proofs::Declarations::goes_on, crate::proofs::Declarations::ends, crate::proofs::Declarations::breaks))]
 pub fn declarations<'a>(
     alloc: Global,

@@ -4,8 +4,8 @@ ghost use Rattle.std.specs.Prelude.{◌≡◌};
 
 use std::alloc::AllocError;
 
-/// The place of a text's first fault: line and byte column from 1. One above 4,294,967,295 is given as
-/// that number.
+/// The place of a text's first fault: line and byte column from 1. One above 4,294,967,295 is given
+/// as that number.
 #[derive(Clone, Copy, PartialEq, Eq, Debug)]
 pub struct ParseFault {
     /// The line.
@@ -17,8 +17,8 @@ pub struct ParseFault {
 /// Why a text isn't parsed.
 #[derive(Drop, Debug)]
 pub enum ParseError {
-    /// The text is no module. The fault is its first token that can't follow the tokens before it, or
-    /// that breaks a bound; the end of the text counts as a token.
+    /// The text is no module. The fault is its first token that can't follow the tokens before it,
+    /// or that breaks a bound; the end of the text counts as a token.
     Fault(ParseFault),
     /// Memory ran out.
     OutOfMemory,

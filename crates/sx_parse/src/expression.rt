@@ -14,8 +14,8 @@ use sx_lang::names::Name;
 use sx_lang::tree::{BinOp, Expr, UnOp};
 use sx_lex::tokens::{Kind, Placed};
 
-/// The most of `(`, `[`, `{` and unary operators that may be open at a time, and the most operators in
-/// one sum and in one term.
+/// The most of `(`, `[`, `{` and unary operators that may be open at a time, and the most operators
+/// in one sum and in one term.
 pub const MOST: u8 = 48;
 
 fn combined(alloc: Global, op: BinOp, left: Expr, right: Expr) -> Result<Expr, AllocError>
@@ -148,7 +148,7 @@ fn sum<'a>(alloc: Global, tokens: &'a [Placed], depth: u8) -> Result<(Expr, &'a 
     Ok((left, rest))
 }
 
-/// An expression, inside so many open brackets and unary operators.
+/// An expression, inside this many open brackets and unary operators.
 #[cycle(expression)]
 #[tactic(auto, using(crate::proofs::Expressions::expression_stops, crate::proofs::Expressions::expression_ends, crate::proofs::Expressions::expression_alone, crate::proofs::Expressions::expression_compares, crate::proofs::Expressions::expression_breaks))]
 pub fn expression<'a>(
@@ -172,7 +172,7 @@ pub fn expression<'a>(
     Ok((found, rest))
 }
 
-/// An expression and the `;` behind it.
+/// An expression and the `;` after it.
 #[tactic(auto, using(crate::proofs::Expressions::value_ends, crate::proofs::Expressions::value_breaks))]
 pub fn value<'a>(
     alloc: Global,

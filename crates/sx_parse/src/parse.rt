@@ -56,7 +56,8 @@ fn module_of_text(alloc: Global, text: &str) -> Result<Module, ParseError>
 /// The module that a text spells.
 ///
 /// The error `Fault` has the place of the first token that can't follow the tokens before it by the
-/// grammar, or that breaks a bound; the end of the text is a token at the place after its last byte.
+/// grammar, or that breaks a bound; the end of the text is a token at the place after its last
+/// byte.
 pub fn parse(alloc: Global, text: &str) -> Result<Module, ParseError>
     // what is read is in the grammar
     ensures found { IfOk result (λ m. Spells text.now (module_of m)) }

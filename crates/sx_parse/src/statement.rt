@@ -76,7 +76,7 @@ fn assignment<'a>(
     }
 }
 
-/// What follows the name of an array and the `[` behind it.
+/// What follows the name of an array and the `[` after it.
 #[tactic(auto, using(crate::proofs::Statements::stores))]
 fn element<'a>(
     alloc: Global,

@@ -17,7 +17,7 @@ fn fault_of(alloc: Global, text: &str) -> Result<Option<(u32, u32)>, ParseError>
     }
 }
 
-/// The text with the middle so many times in it, and its first fault.
+/// The text with the middle this many times in it, and its first fault.
 fn repeated(
     alloc: Global,
     front: &str,
@@ -136,8 +136,8 @@ fn first_faults(rt: HostRuntime) -> Result<(), Fail> {
     Ok(())
 }
 
-/// With the brace of the handler 47 more may be open. A front of 12 bytes stands before the first of
-/// them.
+/// With the brace of the handler 47 more may be open. A prefix of 12 bytes stands before the first
+/// of them.
 #[test]
 fn bounds_of_open_brackets_and_operators(rt: HostRuntime) -> Result<(), Fail> {
     let alloc = rt.alloc();
@@ -166,7 +166,7 @@ fn bounds_of_open_brackets_and_operators(rt: HostRuntime) -> Result<(), Fail> {
     Ok(())
 }
 
-/// The highest tree that a text spells: each bracket has two full chains behind it.
+/// The highest tree that a text spells: each bracket has two full chains after it.
 #[test]
 fn all_bounds_at_once(rt: HostRuntime) -> Result<(), Fail> {
     let alloc = rt.alloc();

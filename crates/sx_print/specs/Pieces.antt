@@ -1,5 +1,5 @@
--- The printed text of a module: words, what stands behind each, and four spaces for each block that a line stands in.
--- Each function puts its part in front of the rest.
+-- The printed text of a module: words, what follows each, and four spaces for each block that a
+-- line stands in. Each function puts its part before the rest.
 use Rattle.std.specs.Prelude.{ℕ, zero, suc, ◌+◌, min, List, [], ◌∷◌, ◌++◌, Option, Some, None, codes, decimal}
 use Rattle.sx_lang.specs.declared.tree.UnOp.{UnOp}
 use Rattle.sx_lang.specs.declared.tree.UnOp.TheVariants.{Neg, Inv, Not}
@@ -13,8 +13,8 @@ use Rattle.sx_lex.specs.declared.tokens.Kind.TheVariants.{Number, Name, Sensor, 
 use Rattle.sx_print.specs.declared.words.Gap.{Gap}
 use Rattle.sx_print.specs.declared.words.Gap.TheVariants.{Nothing, Space, Line}
 
--- a part of a printed text: a name, a number or a word of the language, with what stands behind it,
--- or a margin
+-- a part of a printed text: a name, a number or a word of the language, with what follows it, or a
+-- margin
 pub data Piece : Type 0 where
   name : List ℕ → Gap → Piece
   number : ℕ → Gap → Piece
@@ -63,7 +63,7 @@ spelling Tilde = codes "~"
 spelling Bang = codes "!"
 spelling Bad = []
 
--- the text that stands behind a word
+-- the text that follows a word
 abbrev pub gap_bytes : Gap → List ℕ
 gap_bytes Nothing = []
 gap_bytes Space = codes " "
@@ -76,7 +76,7 @@ piece_bytes (number n g) = decimal n ++ gap_bytes g
 piece_bytes (quoted k g) = spelling k ++ gap_bytes g
 piece_bytes indent = codes "    "
 
--- the text of pieces one behind the other
+-- the text of pieces one after the other
 abbrev pub text_of : List Piece → List ℕ
 text_of [] = []
 text_of (p ∷ ps) = piece_bytes p ++ text_of ps
@@ -110,7 +110,7 @@ expression_pieces g (Indexed x e) rest = name x Nothing ∷ quoted OpenSquare No
 expression_pieces g (Applied op e) rest = quoted (unary_sign op) Nothing ∷ expression_pieces g e rest
 expression_pieces g (Combined op a b) rest = quoted Open Nothing ∷ expression_pieces Space a (quoted (binary_sign op) Space ∷ expression_pieces Nothing b (quoted Close g ∷ rest))
 
--- the margin of a line that stands in so many blocks
+-- the margin of a line that stands in this many blocks
 abbrev pub margin : ℕ → List Piece → List Piece
 margin zero rest = rest
 margin (suc n) rest = indent ∷ margin n rest
@@ -123,7 +123,7 @@ deeper depth = min (depth + 1) 48
 abbrev pub value_pieces : Expression → List Piece → List Piece
 value_pieces e rest = quoted Equals Space ∷ expression_pieces Nothing e (quoted Semicolon Line ∷ rest)
 
--- the pieces of statements, each on lines of its own inside so many blocks
+-- the pieces of statements, each on lines of its own inside this many blocks
 abbrev mutual
   pub statement_pieces : ℕ → Statement → List Piece → List Piece
   statement_pieces depth (Defines x e) rest = quoted Let Space ∷ name x Space ∷ value_pieces e rest

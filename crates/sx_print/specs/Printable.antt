@@ -71,8 +71,8 @@ handlers_plain (h ∷ hs) = handler_plain h && handlers_plain hs
 abbrev pub module_plain : ModuleTree → Bool
 module_plain m = declarations_plain m.decls && handlers_plain m.handlers
 
--- How many of `(`, `[`, `{` and unary operators are open at a time in the printed text, at most. A declaration has one at
--- most, and so has the head of a handler.
+-- How many of `(`, `[`, `{` and unary operators are open at a time in the printed text, at most. A
+-- declaration has one at most, and so has the head of a handler.
 
 -- how many brackets and unary operators are open at a time in an expression, at most
 abbrev pub expression_open : Expression → ℕ

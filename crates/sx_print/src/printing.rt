@@ -224,8 +224,9 @@ fn text(bytes: Vec<u8>) -> String
     String::from_utf8(bytes).unwrap()
 }
 
-/// A text that reads back as this module: a declaration or a statement a line, indented by four spaces for
-/// each block that it stands in, each binary expression in a pair of brackets and no other in any.
+/// A text that reads back as this module: a declaration or a statement a line, indented by four
+/// spaces for each block that it stands in, each binary expression in a pair of brackets and no
+/// other in any.
 ///
 /// The condition is `conditions::printable`. The error says that memory ran out.
 pub fn print(alloc: Global, m: &Module) -> Result<String, OutOfMemory>

@@ -1,4 +1,4 @@
-//! Words are written one after the other, each with what stands behind it.
+//! Words are written one after the other, each with what follows it.
 
 ghost use Rattle.std.specs.Prelude.{◌≡◌, ◌∷◌, ◌++◌, min, OnOk};
 ghost use Rattle.sx_lang.specs.declared.tree.BinOp.{BinOp};
@@ -11,7 +11,7 @@ use sx_lang::names::Name;
 use sx_lang::tree::{BinOp, UnOp};
 use sx_lex::tokens::Kind;
 
-/// What stands behind a word.
+/// What follows a word.
 #[derive(Clone, Copy)]
 pub enum Gap {
     /// Nothing: the next word follows at once.
@@ -107,7 +107,7 @@ pub fn put_number(out: &mut Vec<u8>, n: u16, gap: Gap) -> Result<(), OutOfMemory
     out.extend_from_slice(gap.bytes())
 }
 
-/// Writes the margin of a line that stands in so many blocks.
+/// Writes the margin of a line that stands in this many blocks.
 #[tactic(auto, using(crate::proofs::Parts::no_margin, crate::proofs::Parts::margin_written))]
 pub fn put_margin(out: &mut Vec<u8>, depth: u8) -> Result<(), OutOfMemory>
     ensures { OnOk result (Wrote out.old.items (margin depth) out.new.items) }

@@ -54,8 +54,8 @@ outside_private live at = list_all (λ s. not (in_private s at)) live
 abbrev pub in_order : List Section → ℕ → ℕ → Bool
 in_order live cur pc = list_all (λ s. not (in_public s pc) || (cur == s.id || pc == s.layout.pub_from)) live
 
--- a byte of an extension word of an instruction of `own` may stand here: in unprotected memory or in the
--- public section of `own`
+-- a byte of an extension word of an instruction of `own` may stand here: in unprotected memory or
+-- in the public section of `own`
 abbrev pub extends : List Section → ℕ → ℕ → Bool
 extends live own at = list_all (λ s. not (in_private s at) && (not (in_public s at) || own == s.id)) live
 

@@ -34,7 +34,8 @@ is_open live page = list_all (λ s. not (meets page s)) live
 abbrev pub IsIndex : List ℕ → List Section → Type 0
 IsIndex pages live = (page : ℕ) → page < 256 → slice_index pages page ≡ meeting page live
 
--- what a section says to a question about a byte; the access table and a step's other tests want a yes of every live one
+-- what a section says to a question about a byte; the access table and a step's other tests require
+-- a yes from every live one
 abbrev pub answer : Question → ℕ → Section → Bool
 answer (Allows own access) at s = allows own access at s
 answer OutsidePrivate at s = not (in_private s at)

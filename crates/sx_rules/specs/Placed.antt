@@ -1,12 +1,13 @@
--- What holds of the sections of a table after any admissions and removals: they have sound bounds, don't
--- meet, and have ids of their own.
+-- What holds of the sections of a table after any admissions and removals: they have sound bounds,
+-- don't meet, and have ids of their own.
 use Rattle.std.specs.Prelude.{◌≡◌, ◌≢◌, ℕ, ◌<◌, ◌≤◌, true, [], ◌∷◌, length, List, Some, None}
 use Rattle.sx_rules.specs.declared.section.Layout.{Layout}
 use Rattle.sx_rules.specs.declared.section.Section.{Section}
 use Rattle.sx_rules.specs.Access.{Sections, Lives, section_of, in_public, holder}
 use Rattle.sx_rules.specs.Admission.{good_bounds, parts_apart, clear_of, refusal, admitted, removed}
 
--- a section alone: even bounds with each end above its start, parts that don't meet, and an id that was given
+-- a section alone: even bounds with each end above its start, parts that don't meet, and an id that
+-- was given
 pub record Sound (next : ℕ) (s : Section) : Type 0 where
   pub bounds : good_bounds s.layout ≡ true
   pub parts : parts_apart s.layout ≡ true
@@ -33,8 +34,8 @@ abbrev pub AllBeside : List Section → Type 0
 AllBeside [] = Unit {0}
 AllBeside (s ∷ rest) = BesideAll s rest × AllBeside rest
 
--- the live sections are sound and stand beside one another, at most 8, and the next id is one to be given or
--- the first beyond
+-- the live sections are sound and stand beside one another, at most 8, and the next id is one to be
+-- given or the first beyond
 pub record Placed (t : Sections) : Type 0 where
   pub each : AllSound t.next t.live
   pub pairs : AllBeside t.live

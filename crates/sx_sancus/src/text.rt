@@ -71,7 +71,7 @@ impl Text {
         &self.bytes[..self.count]
     }
 
-    /// The bytes with zeros behind them.
+    /// The bytes with zeros after them.
     pub fn padded(&self) -> [u8; 32]
         ensures { result ≡ padded self.now }
     {

@@ -41,12 +41,12 @@ line_of (read.Answer m boot packet) = Answer m boot packet
 line_of (read.Load m) = Load m
 line_of (read.Call m entry input output) = Call m entry input output
 
--- 1 to so many bytes
+-- 1 to this many bytes
 abbrev pub AreBytes : ℕ → List ℕ → Type 0
 AreBytes most bytes = (1 ≤ length bytes) × (length bytes ≤ most) × IsBytes bytes
 
--- the line is in form: indices are below the lengths of their lists, a device is a sensor, and registers, lengths and
--- values are those that the kind of line allows
+-- the line is in form: indices are below the lengths of their lists, a device is a sensor, and
+-- registers, lengths and values are those that the kind of line allows
 abbrev pub IsLine : NameLists → Line → Type 0
 IsLine n Blank = Unit {0}
 IsLine n (Run node steps) = (node < length n.nodes) × (1 ≤ steps) × (steps < 2 ^ 16)

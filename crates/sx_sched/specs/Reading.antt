@@ -14,8 +14,9 @@ use Rattle.sx_sched.specs.declared.lines.LineError.TheVariants.{Fault, OutOfMemo
 use Rattle.sx_sched.specs.Lines.{line_of, IsLine, Line, Blank, Run, Finish, Put, Set, Take, Give, Forge, Sense, Irq, Reset, Ask, Answer, Load, Call}
 use Rattle.sx_sched.specs.Words.{words_of, text_behind}
 
--- the rules that a line may break: an unknown first word, an unknown name, no number or one that is out of range,
--- no hexadecimal text of as many bytes as are allowed, a wrong number of words, no code of 1 to 1,024 bytes
+-- the rules that a line may break: an unknown first word, an unknown name, no number or one that is
+-- out of range, no hexadecimal text of as many bytes as are allowed, a wrong number of words, no
+-- code of 1 to 1,024 bytes
 abbrev pub no_kind : LineError
 no_kind = Fault 3
 
@@ -39,7 +40,7 @@ wrong_count = Fault 7
 abbrev pub no_code : LineError
 no_code = Fault 8
 
--- a broken rule, and no want of memory
+-- a broken rule, and not a lack of memory
 abbrev pub IsFault : LineError → Type 0
 IsFault (Fault rule) = Unit {0}
 IsFault OutOfMemory = ⊥
@@ -101,12 +102,12 @@ number16 word = number_in 0 65535 word
 abbrev pub number32 : List ℕ → Result ℕ LineError
 number32 word = number_in 0 4294967295 word
 
--- 1 to so many of the bytes that were decoded
+-- 1 to this many of the bytes that were decoded
 abbrev pub decoded : ℕ → Result (List ℕ) FromHexError → Result (List ℕ) LineError
 decoded most (Err e) = Err no_bytes
 decoded most (Ok bytes) = if nat_le 1 (length bytes) && nat_le (length bytes) most then Ok bytes else Err no_bytes
 
--- 1 to so many bytes as hexadecimal text
+-- 1 to this many bytes as hexadecimal text
 abbrev pub bytes_of : ℕ → List ℕ → Result (List ℕ) LineError
 bytes_of most word = decoded most (decode_of word)
 
@@ -121,9 +122,9 @@ code_in (Ok code) = if nat_le 1 (length code) && nat_le (length code) 1024 then 
 abbrev pub code_of : ℕ → List ℕ → Result (List ℕ) LineError
 code_of at text = if is_utf8 text then code_in (assembled at text) else Err no_code
 
--- So many words, and what they say in order.
+-- This many words, and what they say in order.
 
--- no word stands behind the first
+-- no word follows the first
 abbrev pub no_word : List (List ℕ) → Result (Unit {0}) LineError
 no_word [] = Ok tt
 no_word (a ∷ rest) = Err wrong_count
@@ -209,8 +210,8 @@ code_line n text fields = do
   code ← code_of at text
   Ok (Put node at code)
 
--- The kinds of line: the first word, and what the words behind it say. A kind may take the text behind the third word
--- as it stands.
+-- The kinds of line: the first word, and what the words after it say. A kind may take the text
+-- after the third word as it stands.
 
 -- a kind of line: its first word, and the line that the other words give
 abbrev pub Kind : Type 0
@@ -241,7 +242,7 @@ kinds n text =
     ∷ (codes "asm", code_line n text)
     ∷ plain_kinds n
 
--- what the kind of this first word says of the words behind it
+-- what the kind of this first word says of the words after it
 abbrev pub said_by : List Kind → List ℕ → List (List ℕ) → Result Line LineError
 said_by [] first fields = Err no_kind
 said_by (kind ∷ more) first fields = if bytes_eq first kind.0 then kind.1 fields else said_by more first fields
@@ -287,19 +288,19 @@ TakesMemory (Answer m boot packet) = ⊥
 TakesMemory (Load m) = ⊥
 TakesMemory (Call m entry input output) = ⊥
 
--- bytes are said, for which memory may be wanted
+-- bytes are said, for which memory may be needed
 abbrev pub AreSaid : Result (List ℕ) LineError → Type 0
 AreSaid (Ok bytes) = Unit {0}
 AreSaid (Err e) = ⊥
 
--- Memory may be wanted for a value that takes some, and to find whether a text that is UTF-8 breaks rule 8. It never hides
--- another broken rule.
+-- Memory may be needed for a value that takes some, and to find whether a text that is UTF-8 breaks
+-- rule 8. It never hides another broken rule.
 abbrev pub MayWant : {V : Type 0} → (V → Type 0) → List ℕ → Result V LineError → Type 0
 MayWant Takes text (Ok x) = Takes x
 MayWant Takes text (Err (Fault rule)) = (rule ≡ 8) × IsTrue (is_utf8 text)
 MayWant Takes text (Err OutOfMemory) = ⊥
 
--- the answer is the one that is meant; memory may run out only where some may be wanted
+-- the answer is the one that is meant; memory may run out only where some may be needed
 abbrev pub Answers : {T V : Type 0} → (T → V) → (Result V LineError → Type 0) → Result V LineError → Result T LineError → Type 0
 Answers view Wants meant (Ok x) = meant ≡ Ok (view x)
 Answers view Wants meant (Err (Fault rule)) = meant ≡ Err (Fault rule)

@@ -1,16 +1,16 @@
--- The words of a schedule's line, and the text behind some of them.
+-- The words of a schedule's line, and the text after some of them.
 use Rattle.std.specs.Prelude.{ℕ, zero, suc, ◌==◌, Bool, ◌||◌, if◌then◌else◌, List, [], ◌∷◌, ◌++◌}
 
 -- spaces and tabs part words
 abbrev pub is_blank : ℕ → Bool
 is_blank b = b == 32 || b == 9
 
--- a word that has begun, in front of the words behind it
+-- a word that has begun, before the words after it
 abbrev pub closed : List ℕ → List (List ℕ) → List (List ℕ)
 closed [] rest = rest
 closed (b ∷ bs) rest = (b ∷ bs) ∷ rest
 
--- the words of a text behind a word that has begun
+-- the words of a text after a word that has begun
 abbrev pub words_behind : List ℕ → List ℕ → List (List ℕ)
 words_behind begun [] = closed begun []
 words_behind begun (b ∷ bs) = if is_blank b then closed begun (words_behind [] bs) else words_behind (begun ++ b ∷ []) bs
@@ -19,17 +19,18 @@ words_behind begun (b ∷ bs) = if is_blank b then closed begun (words_behind []
 unfoldable pub words_of : List ℕ → List (List ℕ)
 words_of text = words_behind [] text
 
--- a text behind the blanks that it begins with
+-- a text after the blanks that it begins with
 abbrev pub past_blanks : List ℕ → List ℕ
 past_blanks [] = []
 past_blanks (b ∷ bs) = if is_blank b then past_blanks bs else b ∷ bs
 
--- a text behind the word that it begins with
+-- a text after the word that it begins with
 abbrev pub past_word : List ℕ → List ℕ
 past_word [] = []
 past_word (b ∷ bs) = if is_blank b then b ∷ bs else past_word bs
 
--- The text behind so many words and the blanks that follow them. Blanks within it and at its end are its own.
+-- The text after this many words and the blanks that follow them. Blanks within it and at its end
+-- are its own.
 abbrev pub text_behind : ℕ → List ℕ → List ℕ
 text_behind zero text = past_blanks text
 text_behind (suc k) text = text_behind k (past_word (past_blanks text))

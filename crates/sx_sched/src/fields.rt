@@ -133,14 +133,15 @@ fn is_between(low: usize, high: usize, n: usize) -> bool
     low <= n && n <= high
 }
 
-/// Whether a word is the hexadecimal text of 1 to so many bytes.
+/// Whether a word is the hexadecimal text of 1 to this many bytes.
 fn are_bytes(most: usize, word: &[u8]) -> bool
     ensures { result ≡ is_hex_text most word.now }
 {
     are_hex_digits(word) && word.len() % 2 == 0 && is_between(1, most, word.len() / 2)
 }
 
-/// The bytes that a hexadecimal text writes, 1 to so many. No memory is asked for where it is none.
+/// The bytes that a hexadecimal text writes, 1 to this many. No memory is asked for where it is
+/// none.
 pub fn bytes_of(alloc: Global, most: usize, word: &[u8]) -> Result<Vec<u8>, LineError>
     ensures { Answers (λ v. v.items) AreSaid (bytes_of most word.now) result }
 {
@@ -166,7 +167,8 @@ fn code_in(alloc: Global, at: u16, text: &str) -> Result<Vec<u8>, LineError>
     }
 }
 
-/// The code of a text at an address, 1 to 1,024 bytes. No memory is asked for where the text isn't UTF-8.
+/// The code of a text at an address, 1 to 1,024 bytes. No memory is asked for where the text isn't
+/// UTF-8.
 pub fn code_of(alloc: Global, at: u16, text: &[u8]) -> Result<Vec<u8>, LineError>
     ensures { Answers (λ v. v.items) (MayWant (λ code. Unit {0}) text.now) (code_of at text.now) result }
 {

@@ -1,4 +1,5 @@
-//! What holds of the lines of a schedule. The law is a function that does nothing: its contract is the law.
+//! What holds of the lines of a schedule. The law is a function that does nothing: its contract is
+//! the law.
 
 ghost use Rattle.sx_sched.specs.Reading.{SaidInForm};
 

@@ -1,9 +1,9 @@
 //! The lines of a schedule.
 //!
-//! `parse_line` gives the line that a text says, or the first rule that the text breaks: 3, an unknown
-//! first word; 7, a wrong number of words; then word by word 4, an unknown name, 5, no number or one out
-//! of range, 6, no hexadecimal text of as many bytes as are allowed; and last 8, a text that isn't
-//! assembled to 1 to 1,024 bytes. A line that it gives is in form for the names.
+//! `parse_line` gives the line that a text says, or the first rule that the text breaks: 3, an
+//! unknown first word; 7, a wrong number of words; then word by word 4, an unknown name, 5, no
+//! number or one out of range, 6, no hexadecimal text of as many bytes as are allowed; and last 8,
+//! a text that isn't assembled to 1 to 1,024 bytes. A line that it gives is in form for the names.
 //!
 //! `specs/Reading.antt` has what each kind of line says, `specs/Words.antt` what a word is, and
 //! `specs/Lines.antt` when a line is in form. `laws` has what holds of them.

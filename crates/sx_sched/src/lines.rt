@@ -6,7 +6,7 @@
 pub enum Line {
     /// A line without a word, or a comment.
     Blank,
-    /// So many steps of a node, 1 to 65,535, ending after a reset.
+    /// This many steps of a node, 1 to 65,535, ending after a reset.
     Run {
         node: u8,
         steps: u16,
@@ -83,13 +83,13 @@ pub enum Line {
 /// Why a text gives no line.
 #[derive(Clone, Copy, PartialEq, Eq, Debug)]
 pub enum LineError {
-    /// The number of the first rule that the text breaks: 3, its first word is unknown; 7, its number
-    /// of words is wrong; and then field by field 4, a name or register is unknown; 5, a number is none
-    /// or out of range; 6, a word isn't the hexadecimal text of as many bytes as are allowed; and last 8,
-    /// a text isn't assembled to 1 to 1,024 bytes.
+    /// The number of the first rule that the text breaks: 3, its first word is unknown; 7, its
+    /// number of words is wrong; and then field by field 4, a name or register is unknown; 5, a
+    /// number is none or out of range; 6, a word isn't the hexadecimal text of as many bytes as are
+    /// allowed; and last 8, a text isn't assembled to 1 to 1,024 bytes.
     Fault(u8),
-    /// There was no memory for the bytes of a `put` or `forge` that breaks no rule, or to assemble the
-    /// text of an `asm` that breaks none but perhaps rule 8.
+    /// There was no memory for the bytes of a `put` or `forge` that breaks no rule, or to assemble
+    /// the text of an `asm` that breaks none but perhaps rule 8.
     OutOfMemory,
 }
 

@@ -277,11 +277,11 @@ fn is_comment(word: &[u8]) -> bool
     }
 }
 
-/// The line that a text says. An `asm` says the `put` of its code: what is assembled is all that stands
-/// behind the address and the blanks that follow it. `Fault` has the number of the first rule that the
-/// text breaks: 3, 7, then word by word 4, 5 or 6, and last 8. `OutOfMemory` comes only of a `put` or a
-/// `forge` that breaks none, and of an `asm` that breaks none before rule 8 and whose text is UTF-8:
-/// whether it breaks rule 8 isn't known then. The line is in form for the names.
+/// The line that a text says. An `asm` says the `put` of its code: what is assembled is all that
+/// follows the address and the blanks that follow it. `Fault` has the number of the first rule that
+/// the text breaks: 3, 7, then word by word 4, 5 or 6, and last 8. `OutOfMemory` comes only of a
+/// `put` or a `forge` that breaks none, and of an `asm` that breaks none before rule 8 and whose
+/// text is UTF-8: whether it breaks rule 8 isn't known then. The line is in form for the names.
 #[tactic(auto, unfolding(crate::specs::Reading::said))]
 pub fn parse_line(alloc: Global, names: &Names, text: &[u8]) -> Result<Line, LineError>
     requires { IsTrue (are_valid names.now) }

@@ -1,5 +1,5 @@
-//! The words of a schedule line, the longest runs of bytes other than spaces and tabs, and the text behind
-//! some of them.
+//! The words of a schedule line, the longest runs of bytes other than spaces and tabs, and the text
+//! after some of them.
 
 ghost use Rattle.std.specs.Prelude.{◌≡◌, ◌<◌, ◌≤◌, ℕ, true, false, [], ◌∷◌, length, slice_index, None, Some, MatchOption, IfSome, Ok, Err, MatchResult, IfOk, IfErr};
 ghost use Rattle.sx_sched.specs.Words.{is_blank, words_of, past_blanks, past_word, text_behind};
@@ -134,7 +134,7 @@ pub fn four_words(text: &[u8]) -> Result<(&[u8], &[u8], &[u8], &[u8]), LineError
     }
 }
 
-/// The text, which has a word, behind the blanks that it begins with.
+/// The text, which has a word, after the blanks that it begins with.
 fn some_text(text: &[u8]) -> Result<&[u8], LineError>
     ensures words { MatchResult result (λ begun. some_word (words_of text.now) ≡ Ok tt)
         (λ e. some_word (words_of text.now) ≡ Err e) }
@@ -147,7 +147,7 @@ fn some_text(text: &[u8]) -> Result<&[u8], LineError>
     }
 }
 
-/// A word, and the text behind it and the blanks that follow it, which has a word.
+/// A word, and the text after it and the blanks that follow it, which has a word.
 fn one_before(text: &[u8]) -> Result<(&[u8], &[u8]), LineError>
     ensures words { MatchResult result (λ w. one_before (words_of text.now) ≡ Ok w.0.now)
         (λ e. one_before (words_of text.now) ≡ Err e) }
@@ -163,7 +163,7 @@ fn one_before(text: &[u8]) -> Result<(&[u8], &[u8]), LineError>
     }
 }
 
-/// Two words, and the text behind them and the blanks that follow them, which has a word.
+/// Two words, and the text after them and the blanks that follow them, which has a word.
 pub fn two_before(text: &[u8]) -> Result<(&[u8], &[u8], &[u8]), LineError>
     ensures words { MatchResult result (λ w. two_before (words_of text.now) ≡ Ok (w.0.now, w.1.now))
         (λ e. two_before (words_of text.now) ≡ Err e) }

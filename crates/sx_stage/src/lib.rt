@@ -1,11 +1,13 @@
-//! The form of the deployment's rules: faults with their places, and stages that end at the first fault.
+//! The form of the deployment's rules: faults with their places, and stages that end at the first
+//! fault.
 //!
-//! A deployment is read in stages. A stage makes entries of one type into entries of another, in order
-//! (`stages::derived`), or tries lines of the table of rules on entries that stay (`lines::entries`,
-//! `lines::whole`). Each ends at the first fault, with the rule's number and the place.
+//! A deployment is read in stages. A stage makes entries of one type into entries of another, in
+//! order (`stages::derived`), or tries lines of the table of rules on entries that stay
+//! (`lines::entries`, `lines::whole`). Each ends at the first fault, with the rule's number and the
+//! place.
 //!
-//! `specs/Fault.antt` says what it is that an answer is the one that is meant, want of memory apart;
-//! `specs/Stage.antt` and `specs/Lines.antt` say what stages and lines are.
+//! `specs/Fault.antt` says what it is that an answer is the one that is meant, lack of memory
+//! apart; `specs/Stage.antt` and `specs/Lines.antt` say what stages and lines are.
 #![tactic(auto)]
 
 pub mod fault;

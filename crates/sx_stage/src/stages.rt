@@ -11,7 +11,7 @@ use std::alloc::Global;
 pub trait Derive<A, B> {
     ghost derives: { Self → List B → A → Result B FaultSeen };
 
-    /// The new entry, or the entry's fault, or want of memory.
+    /// The new entry, or the entry's fault, or lack of memory.
     fn derive(&self, alloc: Global, done: &[B], row: &A) -> Result<B, DeployError>
         ensures { Gives (λ b. b) result (derives self.now done.now row.now) };
 }

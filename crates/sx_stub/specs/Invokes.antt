@@ -65,8 +65,8 @@ abbrev pub LeavesSo : Setup → Call → List Ir → Invoked → Conf → Type 0
 LeavesSo s call code result c =
     ReturnsSo result (λ status p. Shows s call p c × Leaving code status (length p.pieces) c)
 
--- The code does this invocation within so many instructions: where the invocation returns, the code
--- comes to `Leave` so; else the code ends with its violation, after its marks.
+-- The code does this invocation within this many instructions: where the invocation returns, the
+-- code comes to `Leave` so; else the code ends with its violation, after its marks.
 abbrev pub Invokes : Setup → Call → (ℕ → Conf → After) → (ℕ → ℕ) → List Ir
     → Invoked → ℕ → Conf → Type 0
 Invokes s call handle given code result n c =

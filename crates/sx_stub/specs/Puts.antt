@@ -27,7 +27,7 @@ PutsCase cs k e = PutsAt (λ p. case_of cs p k e)
 abbrev pub PutsCases : Cases → List End → List Ir → List Ir → Type 0
 PutsCases cs ends = PutsAt (λ p. cases cs p 0 ends)
 
--- a choice: where the word at an offset is the number, on behind it, else at the place
+-- a choice: where the word at an offset is the number, on after it, else at the place
 abbrev pub choice : ℕ → ℕ → ℕ → ℕ → List Ir
 choice offset number otherwise place = ir.Load offset ∷ ir.Push number ∷ ir.Op op.Sub ∷ ir.JumpZero (place + 5) ∷ ir.Jump otherwise ∷ []
 
@@ -39,6 +39,6 @@ searched search = ir.Store wanted_at ∷ ir.Jump search ∷ []
 abbrev pub parted : ℕ → List Ir
 parted key = ir.Store index_at ∷ ir.Saved 12 ∷ ir.JumpZero key ∷ []
 
--- the place behind the cases of the receiving ends
+-- the place after the cases of the receiving ends
 abbrev pub behind_cases : ModuleTree → List End → ℕ → ℕ
 behind_cases tree ends place = place + length (cases (take_receiving tree) place 0 ends)

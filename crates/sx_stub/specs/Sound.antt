@@ -17,7 +17,7 @@ is_plain (ir.SetEnd k) = nat_lt k 256
 is_plain (ir.Packet k) = false
 is_plain i = true
 
--- in code with so many operations and a part for each handler they are sound
+-- in code with this many operations and a part for each handler they are sound
 abbrev pub AreSound : ModuleTree → List End → ℕ → List Ir → Type 0
 AreSound tree ends ops code =
     let size = module_data_size tree (length ends) in

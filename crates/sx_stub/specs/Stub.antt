@@ -122,7 +122,7 @@ is_opened_not = ir.Op op.Not ∷ []
 
 -- Set-key, and the cases in it.
 
--- the end that is wanted is found, whichever side it is of
+-- the end that is looked for is found, whichever side it is of
 abbrev pub find_any : ℕ → Cases
 find_any found =
     record { offset = wanted_at; has = every_end; number = named_end; body = with_index found }
@@ -250,7 +250,7 @@ found_code tree ends place =
     ir.Store index_at ∷ ir.Saved 12 ∷ ir.JumpZero (key_place tree ends place)
     ∷ (input_found tree ends (place + 3) ++ key_found ends (key_place tree ends place))
 
--- the end that is wanted is searched for; without one the status is 5
+-- the end that the packet is for is searched for; without one the status is 5
 abbrev pub search_code : ModuleTree → List End → ℕ → List Ir
 search_code tree ends place =
     let found = place + 7 * length ends + 3 in
@@ -292,7 +292,7 @@ tests tree =
     ir.Inside ∷ (refuse_if 1 is_above_three 2 ++ (refuse_if 8 (is_no_sample tree) 2
     ++ (refuse_if 17 (ir.Meets 13 40 ∷ []) 3 ++ refuse_if 22 (ir.Meets 14 384 ∷ []) 3)))
 
--- the four entries' code begins at these places, and the search behind them
+-- the four entries' code begins at these places, and the search after them
 abbrev pub entries : ModuleTree → List End → List Ir
 entries tree ends =
     let set_key = 39 + length (sample_code tree 39) in
@@ -307,6 +307,7 @@ entries tree ends =
 unfoldable pub stub_code : ModuleTree → List End → List Ir
 stub_code tree ends = tests tree ++ entries tree ends
 
--- the stub's operations: its code, and behind it a return, so that each of its jumps goes to an operation
+-- the stub's operations: its code, and after it a return, so that each of its jumps goes to an
+-- operation
 abbrev pub stub_ops : ModuleTree → List End → List Ir
 stub_ops tree ends = stub_code tree ends ++ returns 5

@@ -9,8 +9,9 @@ use Rattle.sx_stub.specs.Stub.{stub_code, stub_ops}
 use Rattle.sx_stub.specs.Weight.{FitsWeight}
 use Rattle.sx_stub.specs.Sound.{AreSound, is_plain}
 
--- The code of a module's stub: few operations, which fit into the weight, and no parts. The first of them are `stub_code`,
--- whatever stands behind them, and they are sound in all code that they are a part of.
+-- The code of a module's stub: few operations, which fit into the weight, and no parts. The first
+-- of them are `stub_code`, whatever follows them, and they are sound in all code that they are a
+-- part of.
 pub record StubsTo (tree : ModuleTree) (ends : List End) (code : Code) : Type 0 where
   pub is : code.ops.items ≡ stub_ops tree ends
   pub begins : (behind : List Ir) (i : ℕ) → i < length (stub_code tree ends)

@@ -9,7 +9,7 @@ use std::alloc::AllocError;
 use sx_ir::{Ir, IrOp};
 use sx_mean::offsets::{PACKET, PLAIN};
 
-/// The offset of the tag behind an attest packet.
+/// The offset of the tag after an attest packet.
 const TAG: u16 = 34;
 
 fn put_answer(code: &mut Vec<Ir>) -> Result<(), AllocError>

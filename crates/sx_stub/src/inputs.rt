@@ -131,7 +131,7 @@ fn put_take_cases(code: &mut Vec<Ir>, tree: &Module, ends: &[End]) -> Result<(),
     Ok(())
 }
 
-/// The place behind the cases of the receiving ends, which begin at this one.
+/// The place after the cases of the receiving ends, which begin at this one.
 fn behind_takes(tree: &Module, ends: &[End], place: u16) -> u16
     requires short { place < 60000 }
     requires few { length tree.now.handlers.items ≤ 256 }
@@ -146,7 +146,7 @@ fn behind_takes(tree: &Module, ends: &[End], place: u16) -> u16
     at
 }
 
-/// The place behind what input does with the end that was found, which begins at this one.
+/// The place after what input does with the end that was found, which begins at this one.
 pub fn behind_input_found(tree: &Module, ends: &[End], place: u16) -> u16
     requires short { place < 59000 }
     requires few { length tree.now.handlers.items ≤ 256 }

@@ -1,5 +1,5 @@
-//! What holds of the stub's code, whatever the module. Each law is a function that does nothing: its contract is
-//! the law.
+//! What holds of the stub's code, whatever the module. Each law is a function that does nothing:
+//! its contract is the law.
 
 ghost use Rattle.sx_stub.specs.Invokes.{StubInvokes};
 ghost use Rattle.sx_stub.specs.Joined.{JoinedInvokes};

@@ -74,7 +74,8 @@ pub fn put_jump_on(code: &mut Vec<Ir>, entry: u16, place: u16) -> Result<(), All
     put_all(code, &ops)
 }
 
-/// Appends a choice: where the word at an offset is the number, on behind these operations, else at the place.
+/// Appends a choice: where the word at an offset is the number, on after these operations, else at
+/// the place.
 pub fn put_choice(
     code: &mut Vec<Ir>,
     offset: u16,

@@ -120,9 +120,10 @@ pub fn links_fit(ends: &[End])
     }
 }
 
-/// The stack code of a module's entry protocol, where it has these ends of connections, 16 at most. Its
-/// `Handler`s name the module's handlers by their places; it has at most 1,024 operations, and no parts of its
-/// own. The code is the same for every tag and every layout. Nothing but want of memory is refused.
+/// The stack code of a module's entry protocol, where it has these ends of connections, 16 at most.
+/// Its `Handler`s name the module's handlers by their places; it has at most 1,024 operations, and
+/// no parts of its own. The code is the same for every tag and every layout. It fails only where
+/// memory runs out.
 pub fn stub<T: Tag>(
     alloc: Global,
     _tag: &T,

@@ -93,8 +93,8 @@ fn an_input_is_taken_at_its_end(rt: HostRuntime) -> Result<(), Fail> {
     let m = logic(alloc)?;
     let ends = [end(0, Side::To), end(1, Side::From)];
     let code = stub_of(alloc, &m, ends.as_slice())?;
-    // 39 before the entries, 16 + 24 + 14 + 15 in them, 2 * 7 + 3 for the search, 3 behind it, 41 + 21 for the
-    // packet, 29 + 2 * 9 for the key, and 3
+    // 39 before the entries, 16 + 24 + 14 + 15 in them, 2 * 7 + 3 for the search, 3 after it, 41 +
+    // 21 for the packet, 29 + 2 * 9 for the key, and 3
     assert_eq!(rt; code.ops.len(), 240);
     assert_eq!(rt; code.ops[108], Ir::Load(72));
     assert_eq!(rt; code.ops[109], Ir::Push(256));
@@ -111,7 +111,8 @@ fn a_sample_is_read_and_handled(rt: HostRuntime) -> Result<(), Fail> {
     let m = sensor(alloc)?;
     let ends = [end(0, Side::From)];
     let code = stub_of(alloc, &m, ends.as_slice())?;
-    // as above, with 17 operations of a sample, 7 + 3 for the search, 41 for the packet and 29 + 9 for the key
+    // as above, with 17 operations of a sample, 7 + 3 for the search, 41 for the packet and 29 + 9
+    // for the key
     assert_eq!(rt; code.ops.len(), 204);
     assert_eq!(rt; code.ops[11], Ir::Push(0));
     assert_eq!(rt; code.ops[39], Ir::Sense);

@@ -15,7 +15,7 @@ pub record IsTag (mac : Mac) : Type 0 where
   pub width : GivesTags mac
   pub bytes : (key message : List ℕ) → All (λ b. b < 256) (mac key message)
 
--- the key with zeros behind it up to a block of SHA-256, 64 bytes; a key has at most as many
+-- the key with zeros after it up to a block of SHA-256, 64 bytes; a key has at most as many
 abbrev pub padded_key : List ℕ → List ℕ
 padded_key key = key ++ replicate (64 - length key) 0
 

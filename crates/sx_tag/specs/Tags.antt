@@ -1,5 +1,5 @@
--- Each tag function here is lawful. Nobody has to believe these proofs: they stand in specs/, since what an impl of
--- `Tag` says of its function is a specification.
+-- Each tag function here is lawful. Nobody has to believe these proofs: they stand in specs/, since
+-- what an impl of `Tag` says of its function is a specification.
 use Rattle.std.proofs.Common.{◌≡◌, ℕ, zero, suc, ◌+◌, ◌%◌, ◌/◌, ◌^◌, ◌<◌, List, ◌++◌, length, sum, lit<}
 use Rattle.std.specs.Prelude.{All, slice_index}
 use Rattle.std.specs.Int.{to_be_bytes, w32, byte_at, bytes_high_first}

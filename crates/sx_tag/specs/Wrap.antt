@@ -1,4 +1,5 @@
--- Authenticated encryption of a header `ad` and a body of at most 32 bytes each, over any tag function (own).
+-- Authenticated encryption of a header `ad` and a body of at most 32 bytes each, over any tag
+-- function (own).
 use Rattle.std.specs.Prelude.{◌≡◌, ℕ, ◌-◌, ◌≤◌, List, [], ◌∷◌, ◌++◌, length, take, replicate, bit_xor, bytes_eq, if◌then◌else◌, Option, Some, None}
 use Rattle.sx_tag.specs.Mac.{Mac, GivesTags}
 
@@ -29,11 +30,11 @@ pub record Wrapped : Type 0 where
 abbrev pub wrapped : Mac → List ℕ → List ℕ → List ℕ → Wrapped
 wrapped mac key ad body = record { cipher = crypt mac key ad body; tag = wrap_tag mac key ad (crypt mac key ad body) }
 
--- a body with zeros behind it up to 32 bytes
+-- a body with zeros after it up to 32 bytes
 abbrev pub padded : List ℕ → List ℕ
 padded body = body ++ replicate (32 - length body) 0
 
--- the body behind a cipher, where the tag is the cipher's
+-- the body after a cipher, where the tag is the cipher's
 unfoldable pub unwrapped : Mac → List ℕ → List ℕ → List ℕ → List ℕ → Option (List ℕ)
 unwrapped mac key ad cipher tag =
     if bytes_eq tag (wrap_tag mac key ad cipher) then Some (padded (crypt mac key ad cipher)) else None

@@ -46,8 +46,8 @@ pub fn module_key<T: Tag>(
     finish_answer(tag, run)
 }
 
-/// A run that ends in the key of a module under a boot key, once it was fed the module's identity by
-/// `feed_answer`. So the identity needs no place of its own.
+/// A run that ends in the key of a module under a boot key, once it was fed the module's identity
+/// by `feed_answer`. So the identity needs no place of its own.
 pub fn begin_module_key<T: Tag>(tag: &T, base: &[u8; 16], provider: u16) -> T::Run
     ensures { Leads T.has T.mac (spec.section_key T.mac base.now provider) result [] }
 {

@@ -59,7 +59,8 @@ fn hmac_of_rfc_4231(rt: HostRuntime) {
     );
 }
 
-// The boot key is 16 times 4B + 1, the provider's 16 * 4C + 4B + 2 and the module's 16 * 0D + 4B + 3.
+// The boot key is 16 times 4B + 1, the provider's 16 * 4C + 4B + 2 and the module's 16 * 0D + 4B +
+// 3.
 #[test]
 fn keys_by_hand(rt: HostRuntime) {
     assert!(rt; module_key(&Weak, &[0; 16], 1, 2, &[3]).as_slice() == [0x1E; 16].as_slice());

@@ -4,8 +4,8 @@ ghost use Rattle.std.specs.Prelude.{◌≡◌, ◌+◌, ◌%◌, sum};
 
 use crate::mac::Tag;
 
-/// A tag that anyone can forge, for tests: all 32 bytes equal the sum of the key's and the message's
-/// bytes modulo 256.
+/// A tag that anyone can forge, for tests: all 32 bytes equal the sum of the key's and the
+/// message's bytes modulo 256.
 #[derive(Clone, Copy, Debug)]
 pub struct Weak;
 

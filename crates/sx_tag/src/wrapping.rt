@@ -10,7 +10,7 @@ const STREAM_LABEL: u8 = b'S';
 
 const TAG_LABEL: u8 = b'T';
 
-/// Wraps a header `ad` and a body of at most 32 bytes each. The front of `cipher` then holds the
+/// Wraps a header `ad` and a body of at most 32 bytes each. The start of `cipher` then holds the
 /// encrypted body, and the rest of it is unchanged. Gives the tag.
 pub fn wrap<T: Tag>(
     tag: &T,
@@ -28,7 +28,7 @@ pub fn wrap<T: Tag>(
     wrap_tag(tag, key, ad, &cipher[..body.len()])
 }
 
-/// The body behind a cipher, with zeros behind it; `None` exactly where the tag isn't that of the
+/// The body after a cipher, with zeros after it; `None` exactly where the tag isn't that of the
 /// header and the cipher, which have at most 32 bytes each.
 #[tactic(auto, unfolding(crate::specs::Wrap::unwrapped))]
 pub fn unwrap<T: Tag>(
@@ -71,7 +71,7 @@ fn is_same(tag: &[u8; 16], expected: &[u8; 16]) -> bool
     tag.as_slice() == expected.as_slice()
 }
 
-// Encrypts or decrypts into the front of `into`.
+// Encrypts or decrypts at the start of `into`.
 #[tactic(auto, unfolding(crate::specs::Wrap::crypt))]
 fn crypt<T: Tag>(tag: &T, key: &[u8; 16], ad: &[u8], bytes: &[u8], into: &mut [u8; 32])
     requires ad { length ad.now ≤ 32 }

@@ -1,5 +1,5 @@
--- What the code of `emit` computes with; nobody has to believe it. An operation's words are below 65,536, and a table has the
--- addresses of a text.
+-- What the code of `emit` computes with; nobody has to believe it. An operation's words are below
+-- 65,536, and a table has the addresses of a text.
 use Rattle.std.specs.Prelude.{◌≡◌, ℕ, ◌+◌, ◌*◌, ◌<◌, ◌≤◌, List, length, slice_index}
 use Rattle.sx_rules.specs.declared.section.Layout.{Layout}
 use Rattle.sx_mean.specs.Offsets as offsets

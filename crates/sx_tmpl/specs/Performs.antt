@@ -28,7 +28,8 @@ use Rattle.sx_tmpl.specs.Shows.{Stood}
 use Rattle.sx_tmpl.specs.Running.{fixed_at}
 use Rattle.sx_tmpl.specs.Text.{addresses}
 
--- the node comes from here to Q, or is reset with B, within so many instructions, and each moment before is one of the invocation
+-- the node comes from here to Q, or is reset with B, within this many instructions, and each moment
+-- before is one of the invocation
 abbrev pub Runs : Setup → Invoked → State → (Watched → Violation → Type 0) → (Watched → Type 0) → ℕ → Watched → Type 0
 Runs s result before B Q n w = Comes Watched Violation (watch s.mac) (λ w. 1) (Underway s result before) B Q n w
 
@@ -52,13 +53,14 @@ entry_conf l n = record {
   back = None;
 }
 
--- a place to return to is behind an operation
+-- a place to return to is after an operation
 abbrev pub ReturnsBehind : List Ir → Option ℕ → Type 0
 ReturnsBehind ops None = Unit {0}
 ReturnsBehind ops (Some p) = (q : ℕ) × (i : Ir) × (p ≡ q + 1) × (slice_get ops q ≡ Some i)
 
--- What holds of a configuration in a run for this call whose marks are `all`: the out-window is the caller's, the marks so far are
--- a prefix, the stack has room for return addresses, and a sensor's value is one.
+-- What holds of a configuration in a run for this call whose marks are `all`: the out-window is the
+-- caller's, the marks so far are a prefix, the stack has room for return addresses, and a sensor's
+-- value is one.
 pub record IsRegular (ops : List Ir) (call : Call) (all : List Mark) (c : Conf) : Type 0 where
   pub window : saved c 14 ≡ call.output
   pub marks : HasPrefix all c.marks
@@ -66,7 +68,8 @@ pub record IsRegular (ops : List Ir) (call : Call) (all : List Mark) (c : Conf) 
   pub back : ReturnsBehind ops c.back
   pub samples : HaveSamples c.devices
 
--- an offset whose byte counts: beside the device word, the stack's place and what only templates use
+-- an offset whose byte counts: beside the device word, the stack's place and what only templates
+-- use
 abbrev pub Counts : ℕ → Type 0
 Counts o = (2 ≤ o) × ((o < scratch_at) ⊎ (stack_to ≤ o))
 
@@ -80,9 +83,10 @@ pub record LeftFrom (s : Setup) (before : State) (status count : ℕ) (t : Conf)
   pub sections : w.node.sections ≡ before.sections
   pub marks : w.marks ≡ t.marks
 
--- The node does the code, where `StandsFor` says that it stands for a configuration: from the entry it comes to the first one; from one
--- whose operation goes on, to the next one, within the template's count; where the operation breaks, to its violation, after its marks;
--- and from `Leave` to the return.
+-- The node does the code, where `StandsFor` says that it stands for a configuration: from the entry
+-- it comes to the first one; from one whose operation goes on, to the next one, within the
+-- template's count; where the operation breaks, to its violation, after its marks; and from `Leave`
+-- to the return.
 pub record Performs (s : Setup) (code : Code) (before : State) (result : Invoked) (StandsFor : Conf → Watched → Type 0) : Type 0 where
   pub enters : Runs s result before Never (StandsFor (entry_conf s.section.layout before)) 6 (begins before)
   pub goes : (c t : Conf) (w : Watched) → StandsFor c w → IsRegular code.ops.items (call_at before) (marks_in result) c → HasPrefix (marks_in result) t.marks
@@ -108,8 +112,8 @@ IsNarrow (ir.Packet k) = k < 256
 IsNarrow (ir.Meets r n) = n < 65536
 IsNarrow i = Unit {0}
 
--- A text does sound code: wherever an image begins with the text and a call enters the module, the node does the code, for every end
--- of the invocation whose pieces are those that its marks make.
+-- A text does sound code: wherever an image begins with the text and a call enters the module, the
+-- node does the code, for every end of the invocation whose pieces are those that its marks make.
 abbrev pub DoesCode : Mac → Code → Layout → List ℕ → Type 0
 DoesCode mac code l text =
     (tree : ModuleTree) (ends : List End) (image : Image) (section : Section) (n : State) (result : Invoked) (rest : List ℕ) → image.layout ≡ l → image.text ≡ text ++ rest → ((p : ℕ) (i : Ir) → slice_get code.ops.items p ≡ Some i → IsNarrow i) → Enters tree image section n

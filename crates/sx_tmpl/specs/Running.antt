@@ -34,8 +34,9 @@ pub record Regs : Type 0 where
   pub r14 : ℕ
   pub r15 : ℕ
 
--- What stays while a module runs: its setup and the next id, the node's key and boot, who entered it, memory and devices
--- as it was entered, the bytes outside it, up to but not including an end, where its pieces go, and SP and R3 at entry.
+-- What stays while a module runs: its setup and the next id, the node's key and boot, who entered
+-- it, memory and devices as it was entered, the bytes outside it, up to but not including an end,
+-- where its pieces go, and SP and R3 at entry.
 pub record Fixed : Type 0 where
   pub setup : Setup
   pub next : ℕ
@@ -49,7 +50,8 @@ pub record Fixed : Type 0 where
   pub sp : ℕ
   pub r3 : ℕ
 
--- where pieces end: no further than the marks make, in a window that a caller may give; in a bad one there are none
+-- where pieces end: no further than the marks make, in a window that a caller may give; in a bad
+-- one there are none
 abbrev pub pieces_end : Bool → ℕ → ℕ → ℕ
 pieces_end true out n = out
 pieces_end false out n = out + min n out_window_size
@@ -119,7 +121,8 @@ pub record Kept (f : Fixed) (m : List ℕ) : Type 0 where
   pub bytes : (a : ℕ) → slice_index m a < 256
   pub elsewhere : (a : ℕ) → Elsewhere f a → slice_index m a ≡ slice_index f.entered a
 
--- what holds at every moment of a run whose marks are `all`; the first field says that PC is in the public section
+-- what holds at every moment of a run whose marks are `all`; the first field says that PC is in the
+-- public section
 pub record Safe (f : Fixed) (all : List Mark) (c : Watched) : Type 0 where
   pub inside : own_of c.node ≡ f.setup.section.id
   pub sections : c.node.sections ≡ sections_of f

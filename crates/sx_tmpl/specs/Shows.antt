@@ -10,7 +10,7 @@ use Rattle.sx_tmpl.specs.Running.{Regs, Fixed, Data, running, Safe, cell}
 abbrev pub base_of : Fixed → ℕ
 base_of f = f.setup.section.layout.priv_from
 
--- words stand one behind the other
+-- words stand one after the other
 abbrev pub WordsAt : List ℕ → ℕ → List ℕ → Type 0
 WordsAt m a [] = Unit {0}
 WordsAt m a (w ∷ ws) = (cell m a ≡ w) × WordsAt m (a + 2) ws
@@ -25,7 +25,8 @@ abbrev pub ReturnsTo : (ℕ → ℕ) → Fixed → Option ℕ → List ℕ → T
 ReturnsTo at f None m = Unit {0}
 ReturnsTo at f (Some p) m = cell m (base_of f + 104) ≡ at p
 
--- memory has the stack's words from SP on, the data of the private section, the bytes outside, the place to return to, and SP at entry
+-- memory has the stack's words from SP on, the data of the private section, the bytes outside, the
+-- place to return to, and SP at entry
 pub record Holds (f : Fixed) (at : ℕ → ℕ) (back : Option ℕ) (stack priv outside : List ℕ) (sp : ℕ) (m : List ℕ) : Type 0 where
   pub top : sp + 2 * length stack ≡ base_of f + 512
   pub room : length stack ≤ 170

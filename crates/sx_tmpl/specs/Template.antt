@@ -1,5 +1,5 @@
--- The words of each operation's template, in the assembly notation of TI's guide beside them: `#` an immediate, `&` an absolute
--- address, `.+n` a jump over n words.
+-- The words of each operation's template, in the assembly notation of TI's guide beside them: `#`
+-- an immediate, `&` an absolute address, `.+n` a jump over n words.
 use Rattle.std.specs.Prelude.{◌-◌, ℕ, zero, suc, ◌+◌, List, [], ◌∷◌}
 use Rattle.sx_rules.specs.declared.section.Layout.{Layout}
 use Rattle.sx_mean.specs.Offsets as offsets
@@ -8,8 +8,8 @@ use Rattle.sx_ir.specs.declared.ir.IrOp.TheVariants as op
 use Rattle.sx_ir.specs.declared.ir.Ir.{Ir}
 use Rattle.sx_ir.specs.declared.ir.Ir.TheVariants as ir
 
--- the addresses of places, of the ends' packet routines, of handlers' parts, the place of the exit, and the address of the
--- routine that opens a slot
+-- the addresses of places, of the ends' packet routines, of handlers' parts, the place of the exit,
+-- and the address of the routine that opens a slot
 pub record Addresses : Type 0 where
   pub at : ℕ → ℕ
   pub packet : ℕ → ℕ
@@ -77,7 +77,8 @@ abbrev pub key_word : ℕ → ℕ → ℕ
 key_word base zero = 0
 key_word base (suc k) = base + suc k
 
--- MOV #key, R9; MOV #header, R10; MOV #hn, R11; MOV #body, R12; MOV #bn, R13; MOV #cipher, R14; MOV #tag, R15; wrap; CLR R9
+-- MOV #key, R9; MOV #header, R10; MOV #hn, R11; MOV #body, R12; MOV #bn, R13; MOV #cipher, R14; MOV
+-- #tag, R15; wrap; CLR R9
 abbrev pub seal_words : (key header hn body bn cipher tag : ℕ) → List ℕ
 seal_words key header hn body bn cipher tag = 0x4039 ∷ key ∷ 0x403a ∷ header ∷ 0x403b ∷ hn ∷ 0x403c ∷ body ∷ 0x403d ∷ bn ∷ 0x403e ∷ cipher ∷ 0x403f ∷ tag ∷ 0x1384 ∷ 0x4309 ∷ []
 
@@ -136,8 +137,8 @@ entry_words base = 0x4182 ∷ (base + 148) ∷ 0x4c82 ∷ (base + 6) ∷ 0x4d82 
 abbrev pub leave_words : ℕ → List ℕ
 leave_words base = 0x413d ∷ 0x413c ∷ 0x4304 ∷ 0x4305 ∷ 0x4306 ∷ 0x4307 ∷ 0x4308 ∷ 0x4309 ∷ 0x430a ∷ 0x430b ∷ 0x430e ∷ 0x430f ∷ 0x4302 ∷ 0x4211 ∷ (base + 148) ∷ 0x4210 ∷ (base + 12) ∷ []
 
--- The routine that opens the slot at R12: the connection field of the copied packet, number 0, open, and the eight words of the
--- plain key; RET.
+-- The routine that opens the slot at R12: the connection field of the copied packet, number 0,
+-- open, and the eight words of the plain key; RET.
 abbrev pub slot_words : ℕ → List ℕ
 slot_words base = 0x429c ∷ (base + 18) ∷ 0 ∷ 0x438c ∷ 2 ∷ 0x439c ∷ 4 ∷ 0x429c ∷ (base + 56) ∷ 8 ∷ 0x429c ∷ (base + 58) ∷ 10 ∷ 0x429c ∷ (base + 60) ∷ 12 ∷ 0x429c ∷ (base + 62) ∷ 14 ∷ 0x429c ∷ (base + 64) ∷ 16 ∷ 0x429c ∷ (base + 66) ∷ 18 ∷ 0x429c ∷ (base + 68) ∷ 20 ∷ 0x429c ∷ (base + 70) ∷ 22 ∷ 0x4130 ∷ []
 

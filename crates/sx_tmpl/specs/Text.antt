@@ -12,16 +12,16 @@ part_place [] h = 0
 part_place (p ∷ parts) zero = p.0
 part_place (p ∷ parts) (suc h) = part_place parts h
 
--- the addresses of operations that stand from an address on, and last that behind them
+-- the addresses of operations that stand from an address on, and last that after them
 abbrev pub places_from : ℕ → List Ir → List ℕ
 places_from a [] = a ∷ []
 places_from a (i ∷ ops) = a ∷ places_from (a + op_bytes i) ops
 
--- the operations stand behind the entry
+-- the operations follow the entry
 abbrev pub places_of : Layout → Code → List ℕ
 places_of l code = places_from (l.pub_from + entry_bytes) code.ops.items
 
--- Behind the operations stand the exit, the routine that opens a slot, and the packet routines.
+-- After the operations stand the exit, the routine that opens a slot, and the packet routines.
 abbrev pub addresses_of : Layout → List Ir → List (ℕ × ℕ) → Addresses
 addresses_of l ops parts =
     let at = slice_index (places_from (l.pub_from + entry_bytes) ops) in

@@ -9,7 +9,7 @@ use std::alloc::{AllocError as OutOfMemory, Global};
 use sx_ir::{Code, Ir, has_routine, op_bytes};
 use sx_rules::Layout;
 
-/// Where the parts of a code's text stand. Behind the operations stand the exit, the routine that
+/// Where the parts of a code's text stand. After the operations stand the exit, the routine that
 /// opens a slot, and a packet routine for each end of which some operation makes a packet.
 #[derive(Drop)]
 pub struct Table {
@@ -31,7 +31,7 @@ impl Table {
         Ok(Table { places, routines })
     }
 
-    /// The address of a place; the place behind the operations is the exit's.
+    /// The address of a place; the place after the operations is the exit's.
     pub fn at(&self, place: usize) -> u16
         requires { place < length self.now.places.items }
         ensures { result ≡ slice_index self.now.places.items place }
@@ -48,7 +48,7 @@ impl Table {
     }
 }
 
-/// The address of each operation, where the first is at `from`, and of what stands behind the last.
+/// The address of each operation, where the first is at `from`, and of what follows the last.
 fn places(alloc: Global, from: u16, ops: &[Ir]) -> Result<Vec<u16>, OutOfMemory>
     requires { from + ops_bytes ops.now < 65536 }
     ensures { IfOk result (λ places. places.items ≡ places_from from ops.now) }

@@ -145,8 +145,8 @@ fn key_address(base: u16, key: u16) -> u16
     if key == 0 { 0 } else { base + key }
 }
 
-/// The key, the header, the body and behind the header the cipher and the tag are named by offsets from
-/// `base`; 0 is the module's own key.
+/// The key, the header, the body and after the header the cipher and the tag are named by offsets
+/// from `base`; 0 is the module's own key.
 fn put_seal(
     text: &mut Vec<u8>,
     base: u16,

@@ -9,8 +9,9 @@ HasEnd [] = ⊥
 HasEnd (b ∷ []) = b ≡ newline
 HasEnd (b ∷ c ∷ more) = HasEnd (c ∷ more)
 
--- Where these whole lines stand in the input, and what is due of them wasn't all written, at most 4,096 bytes were taken past
--- them. What is due of lines is what is defined where a read fails behind them, without its last line.
+-- Where these whole lines stand in the input, and what is due of them wasn't all written, at most
+-- 4,096 bytes were taken past them. What is due of lines is what is defined where a read fails
+-- after them, without its last line.
 abbrev pub Streams : Bool → Bool → Limit → Moment → Moment → (List Answer → Output) → Type 0
 Streams tells to_tell limit m0 m1 defined =
     (bytes rest said : List ℕ) → IsTrue tells → IsTrue to_tell → m0.source.rest ≡ bytes ++ rest → HasEnd bytes → defined (scan limit Broken [] bytes) ≡ behind said unread

@@ -1,5 +1,5 @@
--- What the command `asm` writes, and its exit status: a function of an address and of the answers that the lines of its
--- input give.
+-- What the command `asm` writes, and its exit status: a function of an address and of the answers
+-- that the lines of its input give.
 use Rattle.std.specs.Prelude.{ℕ, ◌+◌, ◌≡◌, ◌⊎◌, ◌==◌, nat_lt, Bool, IsTrue, if◌then◌else◌, List, [], ◌∷◌, ◌++◌, length, codes, Option, Some, None, Result, Ok, Err}
 use Rattle.std.specs.Option.{option_or}
 use Rattle.std.specs.Str.{is_utf8}
@@ -23,8 +23,8 @@ asm_lines = always longest
 abbrev pub most_bytes : ℕ
 most_bytes = 262144
 
--- The text of the lines before the first one that breaks rule 1 by its length or by bytes that aren't UTF-8, each with one
--- newline, and that line's number, if there is one.
+-- The text of the lines before the first one that breaks rule 1 by its length or by bytes that
+-- aren't UTF-8, each with one newline, and that line's number, if there is one.
 pub record Gathered : Type 0 where
   pub text : List ℕ
   pub bad : Option ℕ
@@ -44,7 +44,7 @@ with_text number text None line =
     if is_utf8 line then record { text = text ++ line ++ newline ∷ []; bad = None }
     else record { text = text; bad = Some number }
 
--- the line with this number behind those that have come
+-- the line with this number after those that have come
 abbrev pub with_line : ℕ → List ℕ → Gathered → Gathered
 with_line number line g = with_text number g.text g.bad line
 
@@ -53,8 +53,8 @@ pub data Input : Type 0 where
   Whole : Gathered → Input
   Unread : Input
 
--- The input from the line with this number on, where so many bytes have come. It is read on behind a line that isn't UTF-8,
--- but not behind a limit.
+-- The input from the line with this number on, where this many bytes have come. It is read on after
+-- a line that isn't UTF-8, but not after a limit.
 abbrev pub gather : ℕ → ℕ → Gathered → List Answer → Input
 gather number count g [] = Whole g
 gather number count g (End ∷ more) = Whole g
@@ -70,7 +70,8 @@ input answers = gather 1 0 nothing answers
 
 -- From a text to what is written.
 
--- Where this line breaks rule 1, the first line that does: this one, or the one that the answer for those before it names.
+-- Where this line breaks rule 1, the first line that does: this one, or the one that the answer for
+-- those before it names.
 abbrev pub first_bad : ℕ → Result (List ℕ) AsmError → ℕ
 first_bad bad (Ok code) = bad
 first_bad bad (Err (error.Fault rule number)) = if rule == 1 then number else bad
@@ -85,7 +86,7 @@ judged (Some bad) code = Err (error.Fault 1 (first_bad bad code))
 abbrev pub code_at : ℕ → Gathered → Result (List ℕ) AsmError
 code_at at g = judged g.bad (assembled at g.text)
 
--- status 10: a rule is broken; of no text is it said that memory is wanted
+-- status 10: a rule is broken; no text gives the error of lack of memory
 abbrev pub refused : AsmError → Output
 refused (error.Fault rule number) = fault_output (codes "fault asm A") rule number 10
 refused error.OutOfMemory = record { text = []; status = out_of_memory }

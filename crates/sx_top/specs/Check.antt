@@ -1,5 +1,5 @@
--- What the command `check` writes: a function of the head of the input, and of what a deployment's text
--- means.
+-- What the command `check` writes: a function of the head of the input, and of what a deployment's
+-- text means.
 use Rattle.std.specs.Prelude.{ℕ, List, [], ◌∷◌, ◌++◌, codes, Result, Ok, Err}
 use Rattle.sx_told.specs.Told.{Output, unread}
 use Rattle.sx_rules.specs.declared.section.Layout.{Layout}
@@ -22,7 +22,7 @@ Meaning = List ℕ → Result Deployed DeployFault
 abbrev pub IsMeaning : Meaning → Type 0
 IsMeaning meaning = (text : List ℕ) → IsRead text (meaning text)
 
--- a module and the bounds of its sections; an end is the address behind the last byte
+-- a module and the bounds of its sections; an end is the address after the last byte
 unfoldable pub module_line : List ℕ → Layout → List ℕ
 module_line name l =
     line (codes "module " ++ name ++ codes " text " ++ address l.pub_from ++ codes " "

@@ -30,7 +30,7 @@ plus a b =
 unfoldable pub numbered : List ℕ → ℕ → List ℕ
 numbered word n = line (word ++ codes " " ++ decimal n)
 
--- the last six lines: of so many lines of a schedule, of what was counted, and of so many node
+-- the last six lines: of this many lines of a schedule, of what was counted, and of this many node
 -- steps
 unfoldable pub summary : ℕ → Counts → ℕ → List ℕ
 summary lines c steps =

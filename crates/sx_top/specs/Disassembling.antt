@@ -46,7 +46,7 @@ in_front bytes (Bytes more) = Bytes (bytes ++ more)
 in_front bytes (BadLine number) = BadLine number
 in_front bytes Unread = Unread
 
--- what a line and those behind it write
+-- what a line and those after it write
 abbrev pub on_line : ℕ → Option (List ℕ) → Given → Given
 on_line number None rest = BadLine number
 on_line number (Some bytes) rest = in_front bytes rest
@@ -59,8 +59,8 @@ given number (Long ∷ more) = BadLine number
 given number (Fault ∷ more) = Unread
 given number (Line text ∷ more) = on_line number (line_bytes number text) (given (number + 1) more)
 
--- So many bytes can be listed from this address on: both are even, the bytes are few enough, and
--- none lies behind 0xFFFF.
+-- This many bytes can be listed from this address on: both are even, the bytes are few enough, and
+-- none lies after 0xFFFF.
 abbrev pub is_listed : ℕ → ℕ → Bool
 is_listed at count =
     count % 2 == 0 && at % 2 == 0 && nat_le count most_code && nat_le (at + count) 65536

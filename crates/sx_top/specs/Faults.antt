@@ -1,5 +1,5 @@
--- What commands say of reads and writes that fail, of their streams at the start (m0) and at the end
--- (m1).
+-- What commands say of reads and writes that fail, of their streams at the start (m0) and at the
+-- end (m1).
 use Rattle.std.specs.Prelude.{ℕ, ◌≡◌, ◌⊎◌, Bool, ◌++◌, IsTrue}
 use Rattle.sx_io.specs.Counts.{counted, Rose}
 use Rattle.sx_io.specs.Streams.{OneFault}
@@ -16,8 +16,8 @@ abbrev pub IsFaultless : Moment → Moment → Type 0
 IsFaultless m0 m1 =
     (Rose m0.source.faults m1.source.faults → ⊥) × (Rose m0.sink.faults m1.sink.faults → ⊥)
 
--- A status tells of faults: 4 only of one read that failed, after which nothing was read; 5 exactly of
--- one write that failed.
+-- A status tells of faults: 4 only of one read that failed, after which nothing was read; 5 exactly
+-- of one write that failed.
 pub record TellsFaults (m0 m1 : Moment) (status : ℕ) : Type 0 where
   pub read : status ≡ read_failed → OneFault m0.source m1.source
   pub write : status ≡ write_failed → m1.sink.faults ≡ counted m0.sink.faults

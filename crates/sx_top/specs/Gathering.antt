@@ -11,7 +11,8 @@ use Rattle.sx_top.specs.Assembling.{Gathered, Input, Whole, Unread, asm_lines, i
 abbrev pub seen : GatheredText → Gathered
 seen g = record { text = string_bytes g.text; bad = g.bad }
 
--- what a call took of the input, and answered: all that is to be judged, that a read failed, or that memory ran out
+-- what a call took of the input, and answered: all that is to be judged, that a read failed, or
+-- that memory ran out
 abbrev pub Gathers : Bool → SourceAt → SourceAt → Result GatheredText GatherFault → Type 0
 Gathers tells s0 s1 (Ok g) =
     Reads tells asm_lines s0 s1 input Unread (λ answers. input answers ≡ Whole (seen g))

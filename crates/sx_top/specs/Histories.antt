@@ -8,8 +8,8 @@ use Rattle.sx_world.specs.Setting.{Setting}
 use Rattle.sx_world.specs.State.{World, switched_on}
 use Rattle.sx_world.specs.Run.{run}
 
--- These acts brought a node from one state to another. Each of them but a section's own steps reads and
--- changes no byte of that section's private part, unless a reset clears the whole memory.
+-- These acts brought a node from one state to another. Each of them but a section's own steps reads
+-- and changes no byte of that section's private part, unless a reset clears the whole memory.
 pub record Lived (mac : Mac) (a b : State) : Type 0 where
   pub acts : List Act
   pub leads : b ≡ (acted_all mac acts a).state

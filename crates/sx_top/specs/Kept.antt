@@ -16,7 +16,7 @@ KeptOf true kept bytes = most_code < length bytes
 abbrev pub Keeps : Code → List ℕ → Type 0
 Keeps code bytes = KeptOf code.is_over code.kept.items bytes
 
--- whatever was kept, these bytes were kept behind it
+-- whatever was kept, these bytes were kept after it
 abbrev pub KeepsMore : (old new : Code) → List ℕ → Type 0
 KeepsMore old new bytes = (before : List ℕ) → Keeps old before → Keeps new (before ++ bytes)
 

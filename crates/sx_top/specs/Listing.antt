@@ -6,13 +6,14 @@ use Rattle.sx_asm.specs.Shown.{listed}
 use Rattle.sx_top.specs.Address.{address}
 use Rattle.sx_top.specs.Output.{line}
 
--- the line of the first instruction of some bytes that stand at an address: the address, its bytes and its text
+-- the line of the first instruction of some bytes that stand at an address: the address, its bytes
+-- and its text
 unfoldable pub listing_line : ℕ → List ℕ → List ℕ
 listing_line at bytes =
     let first = listed at bytes in
     line (address at ++ codes " " ++ encode_lower (take first.1 bytes) ++ codes " " ++ first.0)
 
--- a line for each instruction; at most so many lines, and no last byte alone
+-- a line for each instruction; at most this many lines, and no last byte alone
 abbrev pub listing_lines : ℕ → ℕ → List ℕ → List ℕ
 listing_lines zero at bytes = []
 listing_lines (suc k) at bytes =

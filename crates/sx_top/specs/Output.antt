@@ -6,7 +6,7 @@ use Rattle.sx_told.specs.Told.{Output}
 abbrev pub line : List ℕ → List ℕ
 line text = text ++ 10 ∷ []
 
--- the line behind the images
+-- the line after the images
 unfoldable pub trace_line : List ℕ
 trace_line = line (codes "trace")
 
@@ -22,7 +22,8 @@ usage_line = line (codes "fault usage")
 abbrev pub misused : Output
 misused = record { text = usage_line; status = 2 }
 
--- a fault: its words, the number of the rule that is broken, and the number of the first line that breaks it
+-- a fault: its words, the number of the rule that is broken, and the number of the first line that
+-- breaks it
 abbrev pub fault_output : List ℕ → ℕ → ℕ → ℕ → Output
 fault_output words rule number status =
     record { text = line (words ++ decimal rule ++ codes " " ++ decimal number); status = status }

@@ -1,5 +1,5 @@
--- What the commands promise, each in one record that speaks of its streams at its start (m0) and at its
--- end (m1).
+-- What the commands promise, each in one record that speaks of its streams at its start (m0) and at
+-- its end (m1).
 use Rattle.std.specs.Prelude.{ℕ, ◌+◌, ◌≤◌, ◌≡◌, Bool, List, [], ◌++◌, Option, Some, None, IsTrue, length}
 use Rattle.sx_io.specs.Reading.{Answer, Ending, longest, scan}
 use Rattle.sx_told.specs.Told.{Ends, Moment, Told, out_of_memory}
@@ -17,7 +17,7 @@ use Rattle.sx_top.specs.Output.{misused}
 use Rattle.sx_top.specs.Runs.{RunSays, input_of}
 use Rattle.sx_top.specs.Workload.{GenTold}
 
--- these bytes are a head of this text, and the line `%%` behind it with its newline
+-- these bytes are a head of this text, and the line `%%` after it with its newline
 abbrev pub IsHead : List ℕ → List ℕ → Type 0
 IsHead bytes text =
     HasEnd bytes
@@ -35,8 +35,8 @@ IsFound Unread = ⊥
 abbrev pub RunsOutBehindHead : ℕ → List Answer → Type 0
 RunsOutBehindHead status answers = status ≡ out_of_memory → IsFound (head answers)
 
--- The command `check`, whatever a deployment's text is said to mean. At most 4,096 bytes behind the line
--- `%%` are taken.
+-- The command `check`, whatever a deployment's text is said to mean. At most 4,096 bytes after the
+-- line `%%` are taken.
 pub record CheckTold (tells to_tell : Bool) (m0 m1 : Moment) (status : ℕ) : Type 0 where
   pub told : (meaning : Meaning) → IsMeaning meaning
       → Told tells to_tell head_lines m0 m1 status (check_all meaning) (RunsOutBehindHead status)

@@ -1,5 +1,5 @@
--- What the command `run` writes, and its exit status: a function of what texts of deployments mean, of
--- the texts of the modules' images, and of the answers that the lines of its input give.
+-- What the command `run` writes, and its exit status: a function of what texts of deployments mean,
+-- of the texts of the modules' images, and of the answers that the lines of its input give.
 use Rattle.std.specs.Prelude.{ℕ, List, [], ◌∷◌, ◌++◌, codes, decimal, flat_map, Result, Ok, Err}
 use Rattle.hex.specs.Hex.{encode_lower}
 use Rattle.sx_io.specs.Reading.{Answer}

@@ -39,10 +39,10 @@ input_of m0 = scan head_lines Ended [] m0.source.rest
 
 -- There are images, each of which realizes its module of the deployment that was read, and what was
 -- written is the text of the run with these images (`told`); no more was taken than must be
--- (`streams`). Whatever the schedule is, the items of its run with them are legal up to the first that
--- is forged, with what a reader may take from that (`tells_reader`), and no step of it but a module's
--- own reads or changes its private section (`guarded`). An input that keeps the rules is run to its end
--- (`complete`). That there is no head is told without memory (`headed`).
+-- (`streams`). Whatever the schedule is, the items of its run with them are legal up to the first
+-- that is forged, with what a reader may take from that (`tells_reader`), and no step of it but a
+-- module's own reads or changes its private section (`guarded`). An input that keeps the rules is
+-- run to its end (`complete`). That there is no head is told without memory (`headed`).
 pub record RunsWith (mac : Mac) (tells to_tell : Bool) (m0 m1 : Moment) (status : ℕ) : Type 0 where
   pub deployment : Option (List ℕ)
   pub texts : List (List ℕ)
@@ -62,7 +62,7 @@ pub record RunsWith (mac : Mac) (tells to_tell : Bool) (m0 m1 : Moment) (status 
       → IsGoodInput meaning (head (input_of m0)) → IsFaultless m0 m1
       → CameToItsEnd to_tell m0 m1 status (run_all mac meaning texts (input_of m0))
 
--- memory ran out behind a head and before the images were made, and nothing was written
+-- memory ran out after a head and before the images were made, and nothing was written
 pub record Starved (tells : Bool) (m0 m1 : Moment) (status : ℕ) : Type 0 where
   pub six : status ≡ out_of_memory
   pub sink : m1.sink ≡ m0.sink
@@ -70,8 +70,8 @@ pub record Starved (tells : Bool) (m0 m1 : Moment) (status : ℕ) : Type 0 where
   pub reads : Reads tells head_lines m0.source m1.source head Unread
       (λ answers. HasHead (Some text) (head answers))
 
--- The command `run`. Whatever the images are, its status is that of the input where no read and no write
--- failed and memory sufficed; status 0 says that the input was read to its end.
+-- The command `run`. Whatever the images are, its status is that of the input where no read and no
+-- write failed and memory sufficed; status 0 says that the input was read to its end.
 pub record RunSays (mac : Mac) (tells to_tell : Bool) (m0 m1 : Moment) (status : ℕ) : Type 0 where
   pub says : Starved tells m0 m1 status ⊎ RunsWith mac tells to_tell m0 m1 status
   pub faults : TellsFaults m0 m1 status
@@ -79,7 +79,7 @@ pub record RunSays (mac : Mac) (tells to_tell : Bool) (m0 m1 : Moment) (status :
   pub exact : (meaning : Meaning) → IsMeaning meaning → IsTrue tells → IsFaultless m0 m1
       → (status ≡ out_of_memory) ⊎ (status ≡ run_status meaning (input_of m0))
 
--- What does the rest of the command behind a head of this text: with these images, which realize its
+-- What does the rest of the command after a head of this text: with these images, which realize its
 -- modules, it writes what is defined for what is to come.
 pub record RunsBehind (mac : Mac) (tells to_tell : Bool) (now : Ahead) (m1 m2 : Moment) (status : ℕ)
     (text : List ℕ) : Type 0 where

@@ -1,5 +1,5 @@
--- From the answers that the lines of an input give to the lines of a schedule. Nothing is said here of
--- what is written.
+-- From the answers that the lines of an input give to the lines of a schedule. Nothing is said here
+-- of what is written.
 use Rattle.std.specs.Prelude.{ℕ, ◌+◌, nat_lt, if◌then◌else◌, List, [], ◌∷◌, Result, Ok, Err}
 use Rattle.sx_io.specs.Reading.{Answer, End, Long, Fault}
 use Rattle.sx_io.specs.Reading as answer
@@ -21,7 +21,7 @@ pub record Schedule : Type 0 where
   pub lines : List Line
   pub stop : Stop
 
--- the rule that a text breaks; of no text is it said that memory is wanted
+-- the rule that a text breaks; no text gives the error of lack of memory
 abbrev pub rule_of : LineError → ℕ
 rule_of (error.Fault rule) = rule
 rule_of error.OutOfMemory = 0
@@ -31,8 +31,8 @@ abbrev pub or_rule : Result Line LineError → Result Line ℕ
 or_rule (Ok line) = Ok line
 or_rule (Err e) = Err (rule_of e)
 
--- The line with this number, counted from 1, or the first rule that it breaks. A schedule has at most
--- 65,536 lines, blank ones counted.
+-- The line with this number, counted from 1, or the first rule that it breaks. A schedule has at
+-- most 65,536 lines, blank ones counted.
 unfoldable pub judged : NameLists → ℕ → List ℕ → Result Line ℕ
 judged names number text = if nat_lt 65536 number then Err 2 else or_rule (said names text)
 

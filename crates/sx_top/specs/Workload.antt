@@ -20,7 +20,7 @@ use Rattle.sx_top.specs.Schedule.{Stop, AtEnd, Breaks, schedule}
 use Rattle.sx_top.specs.Schedule as sched
 use Rattle.sx_top.specs.WellFormed.{found_status}
 
--- the answers of so many of the workload's lines, from the i-th on, and the end behind them
+-- the answers of this many of the workload's lines, from the i-th on, and the end after them
 abbrev pub answers_from : ℕ → ℕ → List Answer
 answers_from zero i = End ∷ []
 answers_from (suc more) i = Line (bulk.line i) ∷ answers_from more (i + 1)
@@ -74,8 +74,8 @@ GenWrote mac n to_tell k0 k1 status =
     GenStarved k0 k1 status ⊎ GenWith mac n to_tell k0 k1 status
 
 -- The command `gen` for n samples, of its sink at the start (k0) and at the end (k1). Whatever the
--- images are, its status is that of the workload where no write failed and memory sufficed, and that
--- is 0. Status 5 comes exactly of one write that failed.
+-- images are, its status is that of the workload where no write failed and memory sufficed, and
+-- that is 0. Status 5 comes exactly of one write that failed.
 pub record GenTold (mac : Mac) (n : ℕ) (to_tell : Bool) (k0 k1 : SinkAt) (status : ℕ) : Type 0 where
   pub says : GenWrote mac n to_tell k0 k1 status
   pub exact : (meaning : Meaning) → IsMeaning meaning → (count.Rose k0.faults k1.faults → ⊥)

@@ -24,8 +24,8 @@ const MOST_BYTES: usize = 262_144;
 /// What was read of a text.
 #[derive(Drop)]
 struct GatheredText {
-    /// The lines before the first one that breaks rule 1 by its length or by bytes that aren't UTF-8, each
-    /// with one newline.
+    /// The lines before the first one that breaks rule 1 by its length or by bytes that aren't
+    /// UTF-8, each with one newline.
     text: String,
     /// The number of that line, from 1.
     bad: Option<u32>,
@@ -48,7 +48,7 @@ impl From<AllocError> for GatherFault {
     }
 }
 
-/// Whether a text of so many bytes would be too long with this line.
+/// Whether a text of this many bytes would be too long with this line.
 fn passes(count: usize, line: &[u8]) -> bool
     requires { count ≤ 262144 }
     ensures value { result ≡ nat_lt most_bytes (count + (length line.now + 1)) }
@@ -169,9 +169,10 @@ fn asm_told<S: Source, K: Sink>(alloc: Global, at: u16, input: &mut S, output: &
     }
 }
 
-/// The command `asm`: the listing of the code that a text has at an address, and `end`; or the first of five
-/// rules that the text breaks, and the first line that breaks it. Gives the exit status. The input is read
-/// to its end before it is judged, or to a line or a byte that passes a limit.
+/// The command `asm`: the listing of the code that a text has at an address, and `end`; or the
+/// first of five rules that the text breaks, and the first line that breaks it. Gives the exit
+/// status. The input is read to its end before it is judged, or to a line or a byte that passes a
+/// limit.
 pub(crate) fn asm_over<S: Source, K: Sink>(
     alloc: Global,
     at: u16,

@@ -100,8 +100,8 @@ fn check_told<S: Source, K: Sink>(alloc: Global, input: &mut S, output: &mut K) 
     }
 }
 
-/// The command `check`: a deployment, and the line `%%`. Gives the exit status, as `top` does for this
-/// command. What stands behind that line isn't judged, and at most 4,096 bytes of it are read.
+/// The command `check`: a deployment, and the line `%%`. Gives the exit status, as `top` does for
+/// this command. What follows that line isn't judged, and at most 4,096 bytes of it are read.
 pub fn check_over<S: Source, K: Sink>(alloc: Global, input: &mut S, output: &mut K) -> u8
     ensures { CheckTold S.tells K.tells (moment (S.at input.old) (K.at output.old))
         (moment (S.at input.new) (K.at output.new)) result }

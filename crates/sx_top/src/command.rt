@@ -21,15 +21,16 @@ use sx_told::finish;
 const MISUSED: u8 = 2;
 
 /// Does all that the program does, and gives its exit status. `words` are those of the command line
-/// behind the program's name.
+/// after the program's name.
 ///
 /// The commands are `run`, `check`, `gen N` for 1 to 8,000 samples, and `asm A` and `dis A` with an
-/// address A. `run` and `check` read a deployment and the line `%%` behind it. `check` writes where each module stands, and `end`. `run`
-/// writes each module's image, `trace`, the items of the schedule that follows, one a line, and `end`;
-/// a line's items are written before the next line is read. `gen` reads nothing: it
-/// writes the images of a stated deployment and what it counted in the run of a stated schedule that
-/// carries so many samples, and `end`. `asm` reads a text of assembly, and `dis`
-/// bytes in hexadecimal; both write the listing of the code at the address, and `end`.
+/// address A. `run` and `check` read a deployment and the line `%%` after it. `check` writes where
+/// each module stands, and `end`. `run` writes each module's image, `trace`, the items of the
+/// schedule that follows, one a line, and `end`; a line's items are written before the next line is
+/// read. `gen` reads nothing: it writes the images of a stated deployment and what it counted in
+/// the run of a stated schedule that carries this many samples, and `end`. `asm` reads a text of
+/// assembly, and `dis` bytes in hexadecimal; both write the listing of the code at the address, and
+/// `end`.
 ///
 /// | Status | Last line | When |
 /// |---|---|---|
@@ -45,8 +46,8 @@ const MISUSED: u8 = 2;
 /// Every line, a fault's too, goes to `output` and ends with a newline.
 #[tactic(auto, unfolding(crate::specs::Output::usage_line))]
 pub fn top<S: Source, K: Sink>(alloc: Global, words: &[String], input: &mut S, output: &mut K) -> u8
-    // What is written, and the status, are what is defined for the words and for the bytes that were
-    // taken, and no more was taken than must be.
+    // What is written, and the status, are what is defined for the words and for the bytes that
+    // were taken, and no more was taken than must be.
     ensures told { ProgramTold hmac_sha256 (map string_bytes words.now) S.tells K.tells
         (moment (S.at input.old) (K.at output.old))
         (moment (S.at input.new) (K.at output.new)) result }

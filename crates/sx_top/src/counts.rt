@@ -67,7 +67,8 @@ fn push_numbered(text: &mut Vec<u8>, word: &[u8], number: u128) -> Result<(), Al
     text.extend_from_slice(b"\n")
 }
 
-/// The last six lines: of so many lines of a schedule, of what was counted, and of so many steps.
+/// The last six lines: of this many lines of a schedule, of what was counted, and of this many
+/// steps.
 #[tactic(auto, unfolding(crate::specs::Counts::summary, crate::specs::Output::end_line))]
 pub(crate) fn summary(
     alloc: Global,

@@ -16,7 +16,7 @@ use sx_told::{READ_FAILED, finish};
 /// The exit status for an input that breaks a rule.
 const BROKEN: u8 = 10;
 
-/// An input has at most so many lines, blank ones counted.
+/// An input has at most this many lines, blank ones counted.
 const MOST_LINES: u32 = 65_536;
 
 /// The most bytes that are listed.
@@ -52,7 +52,7 @@ impl Code {
         }
     }
 
-    /// Keeps the bytes of a line behind those before it.
+    /// Keeps the bytes of a line after those before it.
     fn push(&mut self, bytes: &[u8])
         ensures { KeepsMore self.old self.new bytes.now }
     {
@@ -133,7 +133,7 @@ fn read_code<S: Source>(input: &mut S, code: &mut Code) -> Reading
     }
 }
 
-/// Whether so many bytes can be listed from this address on.
+/// Whether this many bytes can be listed from this address on.
 fn is_listed(at: u16, count: usize) -> bool
     requires { count ≤ 8192 }
     ensures value { result ≡ is_listed at count }

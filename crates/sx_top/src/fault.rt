@@ -22,7 +22,8 @@ fn places(rule: u8, number: u32) -> Text
     text
 }
 
-/// Ends a command with the line of a fault: these words, a rule's number, a space and a line's number.
+/// Ends a command with the line of a fault: these words, a rule's number, a space and a line's
+/// number.
 pub(crate) fn finish_fault<K: Sink>(
     output: &mut K,
     words: &[u8],

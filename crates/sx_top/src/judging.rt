@@ -18,7 +18,7 @@ use sx_trace::names::Names;
 /// The exit status for a schedule's line that breaks a rule.
 const BROKEN: u8 = 3;
 
-/// A schedule has at most so many lines, blank ones counted.
+/// A schedule has at most this many lines, blank ones counted.
 const MOST_LINES: u32 = 65_536;
 
 /// The rule that says how long a line may be, and the one that says how many lines there may be.

@@ -3,14 +3,14 @@
 //! `top` does all that the program does. What it promises is one record, `ProgramTold` of
 //! specs/Promises.antt, and in it one for each command: `CheckTold` there, and `RunSays` of
 //! specs/Runs.antt. They say that what is written, and the exit status, are `check_all`
-//! (specs/Check.antt) or `run_all` (specs/Run.antt) of the input: of its head (sx_head), of what the
-//! deployment in it means (sx_deploy), of the texts of its modules' images, and of the lines of its
-//! schedule (specs/Schedule.antt), each of which is an act in a world (sx_world); and how far the input
-//! was read.
+//! (specs/Check.antt) or `run_all` (specs/Run.antt) of the input: of its head (sx_head), of what
+//! the deployment in it means (sx_deploy), of the texts of its modules' images, and of the lines of
+//! its schedule (specs/Schedule.antt), each of which is an act in a world (sx_world); and how far
+//! the input was read.
 //!
-//! The images are any that realize their modules, and those that `run` writes are such. With them the
-//! items of every schedule are legal in the source up to the first that is forged, and no step of a
-//! node but a module's own reads or changes its private section (specs/Histories.antt).
+//! The images are any that realize their modules, and those that `run` writes are such. With them
+//! the items of every schedule are legal in the source up to the first that is forged, and no step
+//! of a node but a module's own reads or changes its private section (specs/Histories.antt).
 #![tactic(auto)]
 
 mod address;

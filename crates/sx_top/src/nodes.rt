@@ -65,8 +65,8 @@ fn node_at<T: Tag>(
     Ok(Node::new(bus, tag, key, windows))
 }
 
-/// All nodes of a deployment, just switched on: each has its key, and its devices in the deployment's
-/// order.
+/// All nodes of a deployment, just switched on: each has its key, and its devices in the
+/// deployment's order.
 pub(crate) fn nodes_of<T: Tag + Copy>(
     alloc: Global,
     tag: T,

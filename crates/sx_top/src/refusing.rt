@@ -1,5 +1,5 @@
-//! What is told of an input that isn't taken to its end: which rule its deployment breaks, or why it
-//! has no head.
+//! What is told of an input that isn't taken to its end: which rule its deployment breaks, or why
+//! it has no head.
 
 ghost use Rattle.std.specs.Prelude.{◌≡◌, IfOk, string_bytes};
 ghost use Rattle.sx_told.specs.Told.{Ends};

@@ -1,5 +1,5 @@
-//! The command `run`: it reads a deployment, makes its modules' images, and runs a schedule while it
-//! reads it.
+//! The command `run`: it reads a deployment, makes its modules' images, and runs a schedule while
+//! it reads it.
 
 ghost use Rattle.std.specs.Prelude.{◌≡◌, ℕ, List, IfOk, IsTrue, Ok, length};
 ghost use Rattle.sx_told.specs.Told.{Rest, moment};
@@ -96,7 +96,7 @@ fn run_deployment<S: Source, K: Sink, T: Tag + Copy>(
     }
 }
 
-/// Runs what stands behind the head of this text.
+/// Runs what follows the head of this text.
 fn run_text<S: Source, K: Sink, T: Tag + Copy>(
     alloc: Global,
     tag: T,
@@ -116,8 +116,8 @@ fn run_text<S: Source, K: Sink, T: Tag + Copy>(
     }
 }
 
-/// The command `run` over any tag: a deployment, the line `%%`, and a schedule, whose lines are acted
-/// and told while they are read. Gives the exit status, as `top` does for this command.
+/// The command `run` over any tag: a deployment, the line `%%`, and a schedule, whose lines are
+/// acted and told while they are read. Gives the exit status, as `top` does for this command.
 pub fn run_over<S: Source, K: Sink, T: Tag + Copy>(
     alloc: Global,
     tag: T,

@@ -12,7 +12,7 @@ use sx_io::number;
 pub(crate) enum Command {
     Run,
     Check,
-    /// The run of the workload that carries so many samples.
+    /// The run of the workload that carries this many samples.
     Gen(u32),
     /// The listing of a text's code for this address.
     Asm(u16),

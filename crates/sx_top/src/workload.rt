@@ -168,7 +168,7 @@ fn gen_head<K: Sink, T: Tag + Copy>(alloc: Global, tag: T, samples: u32, output:
 }
 
 /// The command `gen` over any tag: it reads nothing, writes the images of the workload's modules,
-/// runs as many of its lines as carry so many samples, and writes how many lines, items, outputs,
+/// runs as many of its lines as carry this many samples, and writes how many lines, items, outputs,
 /// outputs of the value 1 and node steps there were. No line is kept. Gives the exit status, as
 /// `top` does for this command.
 pub(crate) fn gen_over<K: Sink, T: Tag + Copy>(

@@ -1,5 +1,5 @@
--- How the item of a line is looked for. Nobody has to believe this file: the contract of `read_item` is about the lines
--- of `Items` alone.
+-- How the item of a line is looked for. Nobody has to believe this file: the contract of
+-- `read_item` is about the lines of `Items` alone.
 use Rattle.std.specs.Prelude.{ℕ, ◌+◌, ◌-◌, ◌*◌, ◌^◌, ◌==◌, ◌&&◌, nat_le, nat_lt, Bool, true, if◌then◌else◌, List, [], ◌∷◌, take, drop, position, codes, Option, Some, None}
 use Rattle.std.specs.Str.{bytes_eq}
 use Rattle.sx_lang.specs.declared.sides.Side.{Side}
@@ -25,7 +25,7 @@ abbrev pub cut_at : List ℕ → Option ℕ → List ℕ × List ℕ
 cut_at text None = (text, [])
 cut_at text (Some i) = (take i text, drop (i + 1) text)
 
--- what stands before the first space, and what stands behind it
+-- what stands before the first space, and what follows it
 unfoldable pub cut : List ℕ → List ℕ × List ℕ
 cut text = cut_at text (position is_space text)
 

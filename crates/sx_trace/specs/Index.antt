@@ -10,7 +10,7 @@ pub record IsIndex (index : NameIndex) (names : List (List ℕ)) : Type 0 where
   pub gives : (text : List ℕ) → get bytes_eq index.places text ≡ place_of names text
   pub sized : (text : List ℕ) (i : ℕ) → place_of names text ≡ Some i → (0 < length text) × (length text ≤ 16)
 
--- where the old index is one of a list, the new is one of the list with the name behind it
+-- where the old index is one of a list, the new is one of the list with the name after it
 abbrev pub Grows : NameIndex → NameIndex → List ℕ → ℕ → Type 0
 Grows old new name place = (names : List (List ℕ)) → length names ≡ place → IsIndex old names → IsIndex new (names ++ name ∷ [])
 

@@ -123,7 +123,7 @@ IsSized (Budget node) = Unit {0}
 abbrev pub IsItem : NameLists → Item → Type 0
 IsItem n item = IsNamed n item × IsSized item
 
--- so many bytes at the buffer's start are the text, and those behind it are as they were
+-- this many bytes at the buffer's start are the text, and those after it are as they were
 pub record IsWritten (text old : List ℕ) (count : ℕ) (new : List ℕ) : Type 0 where
   pub bytes : new ≡ text ++ drop (length text) old
   pub count_is : count ≡ length text

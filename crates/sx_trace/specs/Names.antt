@@ -1,4 +1,5 @@
--- The names of a deployment: when lists of them are valid, and where a name stands. A word of the handler language is in form too.
+-- The names of a deployment: when lists of them are valid, and where a name stands. A word of the
+-- handler language is in form too.
 use Rattle.std.specs.Prelude.{ℕ, Bool, true, false, ◌&&◌, ◌==◌, not, nat_le, codes, if◌then◌else◌, List, [], ◌∷◌, length, position, Option, Some, None, option_and_then, unwrap_or, slice_get}
 use Rattle.std.specs.List.{list_all, list_any}
 use Rattle.std.specs.Str.{bytes_eq}
@@ -26,7 +27,7 @@ abbrev pub no_repeat : List (List ℕ) → Bool
 no_repeat [] = true
 no_repeat (x ∷ xs) = not (has_name xs x) && no_repeat xs
 
--- so many names at most, each in form, and none twice
+-- this many names at most, each in form, and none twice
 abbrev pub are_names : ℕ → List (List ℕ) → Bool
 are_names most names = nat_le (length names) most && (list_all is_name names && no_repeat names)
 

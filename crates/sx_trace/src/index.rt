@@ -8,8 +8,8 @@ use indexmap::IndexMap;
 use std::alloc::{AllocError, Global};
 use sx_lang::names::Name;
 
-/// The first place of each name of a list. It doesn't hold the list: its contracts speak of any list that it is
-/// the index of.
+/// The first place of each name of a list. It doesn't hold the list: its contracts speak of any
+/// list that it is the index of.
 #[derive(Drop)]
 pub struct NameIndex {
     places: IndexMap<NameKey, usize>,
@@ -36,7 +36,8 @@ impl NameIndex {
         Ok(index)
     }
 
-    /// Takes in the name that comes next, at this place. A name that stands before keeps its first place.
+    /// Takes in the name that comes next, at this place. A name that stands before keeps its first
+    /// place.
     pub fn push(&mut self, name: Name, place: usize) -> Result<(), AllocError>
         ensures grows { OnOk result (Grows self.old self.new name place) }
         ensures kept { OnErr result (Keeps self.old self.new) }

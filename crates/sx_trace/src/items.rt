@@ -23,8 +23,8 @@ pub enum Cause {
     Asked,
 }
 
-/// One item of a trace. Nodes, devices, modules and connections are given by their indices in
-/// the lists of names; a module is one of deployed identity, whose node, layout, provider and public
+/// One item of a trace. Nodes, devices, modules and connections are given by their indices in the
+/// lists of names; a module is one of deployed identity, whose node, layout, provider and public
 /// bytes are those of the deployed module.
 #[derive(Clone, Copy, PartialEq, Eq, Debug)]
 pub enum Item {
@@ -108,7 +108,7 @@ pub enum Item {
         number: u32,
         len: u16,
     },
-    /// What the item behind this one rests on, no holder of the key had made. The module is the one
+    /// What the item after this one rests on, no holder of the key had made. The module is the one
     /// that opened or took; none is the deployer, which attested.
     Forged {
         module: Option<u8>,

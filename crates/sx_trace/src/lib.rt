@@ -2,13 +2,15 @@
 //!
 //! `names::Names` keeps the names of nodes, devices, modules and connections. `Names::valid` tells
 //! whether they are names that a deployment may have, and the look-ups give the place of a name in
-//! its list, `None` exactly where it isn't there. They don't go through the list: `index::NameIndex`
-//! is an index of a list of names, which gives each name's first place. `items::Item` is what a run tells of one event.
-//! `writing::write_item` writes its line, and `reading::read_item` gives the item of a line, `None`
-//! exactly where no item has that line. No two items have one line.
+//! its list, `None` exactly where it isn't there. They don't go through the list:
+//! `index::NameIndex` is an index of a list of names, which gives each name's first place.
+//! `items::Item` is what a run tells of one event. `writing::write_item` writes its line, and
+//! `reading::read_item` gives the item of a line, `None` exactly where no item has that line. No
+//! two items have one line.
 //!
-//! `specs/Names.antt` has when lists of names are valid and where a name stands, and `specs/Index.antt`
-//! what an index of a list is; the form of a name is `sx_lang`'s. `specs/Items.antt` has the lines of items.
+//! `specs/Names.antt` has when lists of names are valid and where a name stands, and
+//! `specs/Index.antt` what an index of a list is; the form of a name is `sx_lang`'s.
+//! `specs/Items.antt` has the lines of items.
 #![tactic(auto)]
 
 pub mod index;

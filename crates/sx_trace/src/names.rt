@@ -14,8 +14,8 @@ use sx_lang::names::{Name, has_form};
 /// The name of the deployer, which no module has.
 pub const DEPLOYER: [u8; 8] = *b"deployer";
 
-/// The names of nodes, devices, modules and connections, each list in the deployment's order, with an index of
-/// each list.
+/// The names of nodes, devices, modules and connections, each list in the deployment's order, with
+/// an index of each list.
 #[derive(Drop)]
 pub struct Names {
     /// The names of the nodes.

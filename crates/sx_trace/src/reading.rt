@@ -19,7 +19,7 @@ fn first_space(text: &[u8]) -> Option<usize>
     text.iter().position(|byte| *byte == b' ')
 }
 
-/// What stands before the first space, and what stands behind it.
+/// What stands before the first space, and what follows it.
 #[tactic(auto, using(std::proofs::lemmas::List::take_rest), unfolding(crate::specs::Finding::cut))]
 fn cut(text: &[u8]) -> (&[u8], &[u8])
     ensures before { result.0.now ≡ (cut text.now).0 }

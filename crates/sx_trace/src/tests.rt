@@ -236,7 +236,7 @@ fn lines_of_no_item(rt: HostRuntime) -> Result<(), Fail> {
     Ok(())
 }
 
-/// So many names: `node_0`, `node_1` and so on.
+/// This many names: `node_0`, `node_1` and so on.
 fn numbered(alloc: Global, kind: &str, count: u8) -> Result<Vec<Name>, Fail> {
     let mut names = Vec::new(alloc);
     for number in 0..count {

@@ -70,7 +70,7 @@ fn write_at(into: &mut [u8; 128], at: usize, part: &[u8])
     into[at..at + part.len()].copy_from_slice(part);
 }
 
-/// Writes a space and one more word behind what is written, and answers how many bytes that makes.
+/// Writes a space and one more word after what is written, and answers how many bytes that makes.
 fn write_next(into: &mut [u8; 128], written: usize, word: &[u8]) -> usize
     requires { written + 1 + length word.now ≤ 128 }
     ensures { (text first : List ℕ) → IsWritten text first written into.old
@@ -190,7 +190,7 @@ fn write_packet(into: &mut [u8; 128], number: u32, len: u16) -> usize
 }
 
 /// Writes an item's line, without a newline, at the start of the buffer, and answers how many bytes
-/// the line has. The bytes behind it stay. An index past the end of its list writes no bytes.
+/// the line has. The bytes after it stay. An index past the end of its list writes no bytes.
 #[tactic(auto, unfolding(crate::specs::Items::item_text))]
 pub fn write_item(names: &Names, item: &Item, into: &mut [u8; 128]) -> usize
     ensures { IsWritten (item_text names.now item.now) into.old result into.new }

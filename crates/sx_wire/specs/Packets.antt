@@ -12,7 +12,8 @@ field link epoch = link + 256 * epoch
 abbrev pub header : ℕ → ℕ → ℕ → List ℕ
 header kind link last = little_bytes 2 kind ++ little_bytes 2 link ++ little_bytes 2 last
 
--- the header of a set-key packet: 01 00, the connection field, and the end, 0 the sending and 1 the receiving one
+-- the header of a set-key packet: 01 00, the connection field, and the end, 0 the sending and 1 the
+-- receiving one
 abbrev pub set_key_header : ℕ → ℕ → List ℕ
 set_key_header link «end» = header 1 link «end»
 

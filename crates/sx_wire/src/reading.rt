@@ -7,7 +7,8 @@ use crate::packets::{EventPacket, SetKeyPacket};
 use crate::writing::{ASK, EVENT, SET_KEY};
 use byteorder::{ByteOrder, LittleEndian};
 
-/// The event packet of these bytes; `None` exactly where there aren't 24 or the first two aren't 03 00.
+/// The event packet of these bytes; `None` exactly where there aren't 24 or the first two aren't 03
+/// 00.
 pub fn read_event(bytes: &[u8]) -> Option<EventPacket>
     ensures packet { IfSome result (λ p. event_packet p ≡ bytes.now) }
     ensures some { IsSome result ↔ IsTrue (is_event bytes.now) }
@@ -26,7 +27,8 @@ pub fn read_event(bytes: &[u8]) -> Option<EventPacket>
     Some(p)
 }
 
-/// The set-key packet of these bytes; `None` exactly where there aren't 38 or the first two aren't 01 00.
+/// The set-key packet of these bytes; `None` exactly where there aren't 38 or the first two aren't
+/// 01 00.
 pub fn read_set_key(bytes: &[u8]) -> Option<SetKeyPacket>
     ensures packet { IfSome result (λ p. set_key_packet p ≡ bytes.now) }
     ensures some { IsSome result ↔ IsTrue (is_set_key bytes.now) }
@@ -45,7 +47,8 @@ pub fn read_set_key(bytes: &[u8]) -> Option<SetKeyPacket>
     Some(p)
 }
 
-/// The challenge of an ask packet; `None` exactly where there aren't 18 bytes or the first two aren't 02 00.
+/// The challenge of an ask packet; `None` exactly where there aren't 18 bytes or the first two
+/// aren't 02 00.
 pub fn read_ask(bytes: &[u8]) -> Option<[u8; 16]>
     ensures packet { IfSome result (λ challenge. ask_packet challenge ≡ bytes.now) }
     ensures some { IsSome result ↔ IsTrue (is_ask bytes.now) }

@@ -65,9 +65,9 @@ fn texts_that_break_a_rule(rt: HostRuntime) -> Result<(), Fail> {
         (0, b"jmp 1\n", b"fault asm A4 1\n"),
         (1, b"", b"fault asm A5 1\n"),
         (0xfffe, b"reti\nreti\n", b"fault asm A5 2\n"),
-        // bytes that aren't UTF-8, behind lines that are right or break a later rule
+        // bytes that aren't UTF-8, after lines that are right or break a later rule
         (0, b"reti\njmp x\n// \xff\nreti\n", b"fault asm A1 3\n"),
-        // behind a line that isn't in the grammar
+        // after a line that isn't in the grammar
         (0, b"reti\nmov r5\n\xff\n", b"fault asm A1 2\n"),
         // before a line that isn't in the grammar
         (0, b"// \xc3\xa9\n// \xc3\nmov r5\n", b"fault asm A1 2\n"),
@@ -117,7 +117,7 @@ fn limits(rt: HostRuntime) -> Result<(), Fail> {
 #[test]
 fn streams_that_fail(rt: HostRuntime) -> Result<(), Fail> {
     let alloc = rt.alloc();
-    // the third read fails, behind a line that isn't in the grammar
+    // the third read fails, after a line that isn't in the grammar
     let mut input = source(alloc, b"mov r5\nreti\n", 4, 3)?;
     let mut output = sink(alloc, 400, 0)?;
     assert_eq!(rt; asm(alloc, 0, &mut input, &mut output)?, 4);

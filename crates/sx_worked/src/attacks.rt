@@ -1,5 +1,5 @@
-//! What an attacker tries beside the lighting's modules, and what a trace shows of it. Each schedule
-//! stands in examples/attacks under the name that is given here.
+//! What an attacker tries beside the lighting's modules, and what a trace shows of it. Each
+//! schedule stands in examples/attacks under the name that is given here.
 
 use crate::inputs::{SAMPLE, SAMPLED, is_told, joined, lighting, sink, source, words};
 use std::alloc::Global;
@@ -7,7 +7,7 @@ use std::process::Abort;
 use std::test::Fail;
 use sx_top::top;
 
-/// Whether what is tried behind a schedule's first lines gives these items behind those of the lines.
+/// Whether what is tried after a schedule's first lines gives these items after those of the lines.
 fn gives(
     rt: &impl Abort,
     alloc: Global,

@@ -22,8 +22,8 @@ pub(crate) const IN: u16 = 0x300;
 
 pub(crate) const OUT: u16 = 0x400;
 
-/// The keys of the connections 0 and 1 over `Weak`: the secret's bytes sum to 78, and 4B and the connection's number
-/// are added.
+/// The keys of the connections 0 and 1 over `Weak`: the secret's bytes sum to 78, and 4B and the
+/// connection's number are added.
 pub(crate) const UP: [u8; 16] = [0xC3; 16];
 
 pub(crate) const DOWN: [u8; 16] = [0xC4; 16];

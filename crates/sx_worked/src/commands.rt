@@ -70,7 +70,8 @@ fn runs_on_one_node(rt: HostRuntime) -> Result<(), Fail> {
             0,
             b"trace\nprotect n -\nbusy n\nreset n asked\nend\n",
         ),
-        // the module removes itself, so that nothing is busy, and the same section is protected again
+        // the module removes itself, so that nothing is busy, and the same section is protected
+        // again
         (
             b"%%\nput n 0x600 8013ff3f\nput n 0x400 8113\nset n r9 1\nset n r10 0x600\nset n r11 0x608\nset n r12 0x700\nset n r13 0x710\nset n pc 0x400\nrun n 1\nset n pc 0x600\nrun n 1\nput n 0x700 01\nset n pc 0x400\nrun n 1\n",
             0,
@@ -205,7 +206,7 @@ fn runs_of_the_lighting(rt: HostRuntime) -> Result<(), Fail> {
 }
 
 /// A packet that nobody but its author made, and that the lamp takes where tags are weak. Private
-/// sections stay guarded behind it.
+/// sections stay guarded after it.
 const FORGE: &[u8] = br#"forge 030001000100999ed6d6d6d6d6d6d6d6d6d6d6d6d6d6d6d6
 give 12 b 0x300
 call lamp 2 0x300 0x400

@@ -12,7 +12,7 @@ fn dis(alloc: Global, at: u16, input: &mut MemSource, output: &mut MemSink) -> R
     Ok(top(alloc, &at_address(alloc, "dis", at)?, input, output))
 }
 
-/// So many times the same text.
+/// This many times the same text.
 fn repeated(alloc: Global, count: usize, text: &[u8]) -> Result<Vec<u8>, AllocError> {
     let mut all = Vec::new(alloc);
     for _ in 0..count {
@@ -129,7 +129,7 @@ fn reads_and_writes_that_fail(rt: HostRuntime) -> Result<(), Fail> {
         // two bytes a read: the second read fails, or that of the end
         (b"2645\n", 2, 4, b"fault read\n"),
         (b"2645\n", 4, 4, b"fault read\n"),
-        // nothing is read behind a line that breaks its rule
+        // nothing is read after a line that breaks its rule
         (b"2\n", 2, 10, b"fault hex B1 1\n"),
     ];
     for (text, failing, status, told) in rows {

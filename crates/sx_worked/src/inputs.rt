@@ -42,14 +42,14 @@ pub(crate) fn source(
     Ok(MemSource::new(bytes, piece, calls))
 }
 
-/// A sink that takes so many bytes, and whose call of this number, from 1, fails.
+/// A sink that takes this many bytes, and whose call of this number, from 1, fails.
 pub(crate) fn sink(alloc: Global, capacity: usize, failing: u64) -> Result<MemSink, AllocError> {
     let mut calls = Vec::new(alloc);
     calls.push(failing)?;
     MemSink::new(alloc, capacity, calls)
 }
 
-/// The texts one behind the other.
+/// The texts one after the other.
 pub(crate) fn joined(alloc: Global, parts: &[&[u8]]) -> Result<Vec<u8>, AllocError> {
     let mut text = Vec::new(alloc);
     for part in parts {
@@ -149,7 +149,7 @@ pub(crate) fn lighting(alloc: Global, schedule: &[u8]) -> Result<Vec<u8>, AllocE
     joined(alloc, &[HEAD.as_bytes(), b"%%\n", schedule])
 }
 
-/// Whether this is what stands behind the images.
+/// Whether this is what follows the images.
 pub(crate) fn is_told(rt: &impl Abort, output: &MemSink, text: &[u8]) {
     assert_eq!(rt; output.written().get(IMAGES..), Some(text));
 }

@@ -102,7 +102,8 @@ fn load_open(
     Ok(module)
 }
 
-/// What the acts do outside, where the connection 1 leaves the module and its next packet has this number.
+/// What the acts do outside, where the connection 1 leaves the module and its next packet has this
+/// number.
 fn effects_of(
     alloc: Global,
     event: SourceEvent,

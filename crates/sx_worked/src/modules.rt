@@ -191,7 +191,8 @@ fn images_have_the_weight_of_their_modules(rt: HostRuntime) -> Result<(), Fail> 
     Ok(())
 }
 
-/// MOV SP, &0x1094; MOV R12, &0x1006; ..: the entry keeps the caller's SP and R12 to R15. Behind the code stand zeros.
+/// MOV SP, &0x1094; MOV R12, &0x1006; ..: the entry keeps the caller's SP and R12 to R15. After the
+/// code stand zeros.
 #[test]
 fn an_image_begins_with_the_entry_and_ends_with_zeros(rt: HostRuntime) -> Result<(), Fail> {
     let alloc = rt.alloc();

@@ -59,7 +59,7 @@ fn calls_with_an_ask(rt: HostRuntime) -> Result<(), Fail> {
         (entry(3), Outcome::Done(2, 0)),
         // the ninth byte of the answer would fall on the sensor
         (through(1, IN, 0xFF8), Outcome::Reset(Violation::Device)),
-        // the sensor is the last of the packet's bytes, or lies behind them
+        // the sensor is the last of the packet's bytes, or lies after them
         (through(1, 0xFEF, OUT), Outcome::Reset(Violation::Device)),
         (through(1, 0xFEE, OUT), Outcome::Done(4, 0)),
     ];
@@ -199,8 +199,9 @@ fn judged(rt: &impl Abort, alloc: Global, packet: &[u8; 24]) -> Result<[u8; 24],
     Ok(taken(rt, &node))
 }
 
-/// A sample goes from the eye through the module to the lamp. The packets are worked by hand: a packet's stream byte
-/// is the sum of its key, 53, 06 and its header, and its tag's byte that of its key, 54, 06, its header and its cipher.
+/// A sample goes from the eye through the module to the lamp. The packets are worked by hand: a
+/// packet's stream byte is the sum of its key, 53, 06 and its header, and its tag's byte that of
+/// its key, 54, 06, its header and its cipher.
 #[test]
 fn a_sample_reaches_the_lamp(rt: HostRuntime) -> Result<(), Fail> {
     let alloc = rt.alloc();
@@ -241,7 +242,8 @@ fn windows_have_their_bounds(rt: HostRuntime) -> Result<(), Fail> {
     Ok(())
 }
 
-/// Packets of another kind, for ends that the module doesn't have or that aren't open, and of the last number.
+/// Packets of another kind, for ends that the module doesn't have or that aren't open, and of the
+/// last number.
 #[test]
 fn packets_are_refused(rt: HostRuntime) -> Result<(), Fail> {
     let alloc = rt.alloc();

@@ -150,7 +150,8 @@ impl Node {
         Ok(())
     }
 
-    /// Steps up to the end of the first handler, at most so many times, and tells whether it came there.
+    /// Steps up to the end of the first handler, at most this many times, and tells whether it came
+    /// there.
     fn run(&mut self, body: &Body, layout: &Layout, most: usize) -> Result<bool, Violation> {
         let to = body.to.first().copied().unwrap_or(0);
         let end = layout.pub_from.wrapping_add(to);
@@ -180,8 +181,9 @@ fn module_code(word: u16) -> Option<u8>
     }
 }
 
-/// 65,535 is above the limit 100: a signed comparison would send 0. The end is open with the key of sixteen C4; over
-/// `Weak` the stream's bytes are 40 + 53 + 6 + 4 and the tag's 40 + 54 + 6 + 4 + 9C + 9D.
+/// 65,535 is above the limit 100: a signed comparison would send 0. The end is open with the key of
+/// sixteen C4; over `Weak` the stream's bytes are 40 + 53 + 6 + 4 and the tag's 40 + 54 + 6 + 4 +
+/// 9C + 9D.
 #[test]
 fn logic_sends_one(rt: HostRuntime) -> Result<(), Fail> {
     let alloc = rt.alloc();

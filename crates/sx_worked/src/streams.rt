@@ -62,8 +62,8 @@ fn inputs_cut_before_the_mark(rt: HostRuntime) -> Result<(), Fail> {
     Ok(())
 }
 
-/// What stands behind the items of the whole lines: `end`, perhaps behind items of the line that was
-/// cut; or which rule that line breaks.
+/// What follows the items of the whole lines: `end`, perhaps after items of the line that was cut;
+/// or which rule that line breaks.
 fn is_end(
     rt: &impl Abort,
     alloc: Global,
@@ -195,7 +195,7 @@ fn heads_up_to_the_limit(rt: HostRuntime) -> Result<(), Fail> {
     Ok(())
 }
 
-/// Of 80,003 bytes no more is read than one piece behind the line whose item couldn't be written.
+/// Of 80,003 bytes no more is read than one piece after the line whose item couldn't be written.
 #[test]
 fn nothing_is_read_behind_a_failed_write(rt: HostRuntime) -> Result<(), Fail> {
     let alloc = rt.alloc();

@@ -1,4 +1,4 @@
-//! The workload, with the counts that are reckoned by hand: 33 items for the keys and 10 for each
+//! The workload, with the counts that are worked out by hand: 33 items for the keys and 10 for each
 //! sample, of which one is an output.
 
 use crate::inputs::{IMAGES, lighting, sink, source, two_words};

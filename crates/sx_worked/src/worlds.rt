@@ -78,7 +78,7 @@ fn act(
     Ok(())
 }
 
-// At 4096 stands MOV #0x1234, R5, and behind it a word that is no instruction.
+// At 4096 stands MOV #0x1234, R5, and after it a word that is no instruction.
 #[test]
 fn a_node_is_driven(rt: HostRuntime) -> Result<(), Fail> {
     let alloc = rt.alloc();

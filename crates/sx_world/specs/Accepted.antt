@@ -41,8 +41,9 @@ abbrev pub AreLines : NameLists → List Line → Type 0
 AreLines names [] = Unit {0}
 AreLines names (line ∷ lines) = IsLine names line × AreLines names lines
 
--- From text to trace: for every text that is accepted, every lawful tag, all images that realize its modules and every
--- schedule of at most 65,536 lines, the items before the first forged one are a legal run of the source.
+-- From text to trace: for every text that is accepted, every lawful tag, all images that realize
+-- its modules and every schedule of at most 65,536 lines, the items before the first forged one are
+-- a legal run of the source.
 abbrev pub AcceptedRuns : Type 0
 AcceptedRuns = (text : List ℕ) (d : Deployed) → IsRead text (Ok d) → (mac : Mac) (texts : List (List ℕ)) → IsTag mac → AreImages mac d texts
     → (lines : List Line) → length lines ≤ 65536 → AreLines d.names lines

@@ -1,4 +1,5 @@
--- The acts that a schedule is made of: one instruction of a node, or one thing that is done from outside.
+-- The acts that a schedule is made of: one instruction of a node, or one thing that is done from
+-- outside.
 use Rattle.std.specs.Prelude.{ℕ, ◌+◌, if◌then◌else◌, List, [], ◌∷◌, ◌++◌, length, slice_get, slice_set, Option, Some, None, Result, Ok, Err}
 use Rattle.sx_trace.specs.declared.items.Item.{Item}
 use Rattle.sx_trace.specs.declared.items.Item.TheVariants as item
@@ -24,7 +25,7 @@ only w items = record { world = w; items = items }
 abbrev pub then_ : Acted → (World → Acted) → Acted
 then_ a rest = record { world = (rest a.world).world; items = a.items ++ (rest a.world).items }
 
--- the world with a node in this state, with this ledger and so many steps
+-- the world with a node in this state, with this ledger and this many steps
 abbrev pub with_node : World → ℕ → State → List Made → ℕ → World
 with_node w n s ledger steps = record { nodes = slice_set w.nodes n s; packets = w.packets; deployer = w.deployer; ledger = ledger; lines = w.lines; steps = steps }
 

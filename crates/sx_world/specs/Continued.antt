@@ -15,13 +15,14 @@ use Rattle.sx_world.specs.Standing.{Stands}
 abbrev pub next : Setting → World → Line → Acted
 next set w line = acted set (counted w) line
 
--- Whatever world of a run it stands at, it stands at the next one, and the line's items were appended.
+-- Whatever world of a run it stands at, it stands at the next one, and the line's items were
+-- appended.
 abbrev pub Acts : Setting → Line → Held → Held → List Item → List Item → Type 0
 Acts set line held left old new =
     (w : World) → Stands set held w
     → Stands set left (next set w line).world × (new ≡ old ++ (next set w line).items)
 
--- Memory ran out: a front of the line's items was appended.
+-- Memory ran out: a prefix of the line's items was appended.
 abbrev pub ActsInPart : Setting → Line → Held → List Item → List Item → Type 0
 ActsInPart set line held old new =
     (w : World) → Stands set held w → IsFront new (old ++ (next set w line).items)
@@ -35,9 +36,9 @@ pub record LeadTo (set : Setting) (lines : List Line) (held : Held) : Type 0 whe
   pub formed : AreInForm set lines
   pub stands : Stands set held (whole_run set lines).world
 
--- The run of these lines goes on with one more. The world stands where the longer run leads, and what
--- the line adds to the run's items was appended. All items of the longer run are legal up to the first
--- that is forged, with what a reader may take from that.
+-- The run of these lines goes on with one more. The world stands where the longer run leads, and
+-- what the line adds to the run's items was appended. All items of the longer run are legal up to
+-- the first that is forged, with what a reader may take from that.
 pub record GoesOn (set : Setting) (lines : List Line) (line : Line) (left : Held)
     (old new : List Item) : Type 0 where
   pub stands : Stands set left (whole_run set (lines ++ line ∷ [])).world

@@ -1,5 +1,5 @@
--- The deployer: it asks a module, accepts an answer, and then gives keys for the module's ends and, where it renews them, for the
--- other ends of its connections.
+-- The deployer: it asks a module, accepts an answer, and then gives keys for the module's ends and,
+-- where it renews them, for the other ends of its connections.
 use Rattle.std.specs.Prelude.{ℕ, ◌+◌, ◌*◌, ◌-◌, ◌==◌, ◌&&◌, Bool, false, if◌then◌else◌, List, [], ◌∷◌, ◌++◌, slice_get, slice_set, slice_index, Option, Some, None, bytes_eq}
 use Rattle.sx_lang.specs.declared.sides.Side.{Side}
 use Rattle.sx_lang.specs.declared.sides.Side.TheVariants.{From, To}
@@ -15,7 +15,8 @@ use Rattle.sx_world.specs.Setting.{Site, Setting}
 use Rattle.sx_world.specs.Wire.{low_first, ask_packet, set_key_header}
 use Rattle.sx_world.specs.Ledger.{Made, made}
 
--- the number of asks; of each module its open ask and the boot at which it was last attested; and the connections' epochs
+-- the number of asks; of each module its open ask and the boot at which it was last attested; and
+-- the connections' epochs
 pub record DeployerState : Type 0 where
   pub asks : ℕ
   pub open_asks : List (Option (List ℕ))
@@ -113,7 +114,8 @@ abbrev pub grants_beyond : DeployerState → ℕ → ℕ → List Link → List 
 grants_beyond d m n [] = []
 grants_beyond d m n (l ∷ ls) = grant_beyond d m n l ++ grants_beyond d m (n + 1) ls
 
--- the set-key packets that follow an answer: those of the module's ends, and where it was attested before those of the ends beyond
+-- the set-key packets that follow an answer: those of the module's ends, and where it was attested
+-- before those of the ends beyond
 abbrev pub grants_after : AppTree → DeployerState → ℕ → ℕ → Option ℕ → List Grant
 grants_after app d m boot None = grants_of d.epochs m boot (ends_of app m)
 grants_after app d m boot (Some last) = grants_of d.epochs m boot (ends_of app m) ++ grants_beyond d m 0 app.links

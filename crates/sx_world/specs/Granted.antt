@@ -1,5 +1,5 @@
--- Judging an answer, and the grants behind it, as the code computes them from what the deployer keeps. Nobody has to believe
--- these forms: lemmas show that they say what the definitions say.
+-- Judging an answer, and the grants after it, as the code computes them from what the deployer
+-- keeps. Nobody has to believe these forms: lemmas show that they say what the definitions say.
 use Rattle.std.specs.Prelude.{ℕ, ◌+◌, ◌==◌, nat_lt, if◌then◌else◌, List, [], ◌∷◌, ◌++◌, Option, Some, None}
 use Rattle.std.specs.Option.{option_to_list}
 use Rattle.sx_lang.specs.declared.sides.Side.TheVariants.{From, To}
@@ -17,7 +17,7 @@ use Rattle.sx_world.specs.State.{World, Acted}
 use Rattle.sx_world.specs.Observation.{unless_made}
 use Rattle.sx_world.specs.Acts.{then_, keys_given}
 
--- the boot at which a module of so many was last attested, if it was
+-- the boot at which a module of this many was last attested, if it was
 abbrev pub boot_in : Keeping → ℕ → ℕ → Option ℕ
 boot_in d parts k = if nat_lt k parts then attested_at d k else None
 
@@ -48,7 +48,7 @@ abbrev pub across_from : Keeping → ℕ → ℕ → ℕ → List Link → List 
 across_from d parts m n [] = []
 across_from d parts m n (l ∷ ls) = option_to_list (across_at d parts m n l) ++ across_from d parts m (n + 1) ls
 
--- behind the answer of a module that was last attested at a boot, if any
+-- after the answer of a module that was last attested at a boot, if any
 abbrev pub granted : Keeping → ℕ → List Link → ℕ → ℕ → Option ℕ → List Grant
 granted d parts links m boot None = own_from d.epochs m boot 0 links
 granted d parts links m boot (Some last) = own_from d.epochs m boot 0 links ++ across_from d parts m 0 links
@@ -58,7 +58,7 @@ abbrev pub accepted_ask : Mac → Keeping → ℕ → ℕ → Option (List ℕ) 
 accepted_ask mac d m boot None = None
 accepted_ask mac d m boot (Some answer) = if accepts mac d m boot answer then open_ask d m else None
 
--- the deployer behind it
+-- the deployer after it
 abbrev pub judged_by : Mac → Keeping → ℕ → ℕ → Option (List ℕ) → Keeping
 judged_by mac d m boot None = d
 judged_by mac d m boot (Some answer) = judged mac d m boot answer

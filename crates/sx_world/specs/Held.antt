@@ -25,7 +25,8 @@ pub record Running : Type 0 where
   pub ledger : List Entry
   pub steps : ℕ
 
--- the program's world: where modules are deployed, how the run stands, the number of lines, and whether an act has wanted memory
+-- the program's world: where modules are deployed, how the run stands, the number of lines, and
+-- whether an act has run out of memory
 pub record Held : Type 0 where
   pub sites : List Site
   pub running : Running
@@ -40,7 +41,7 @@ IsShort m = (length m.header ≤ 32) × (length m.body ≤ 32)
 abbrev pub Records : List Entry → List Made → Type 0
 Records entries ledger = (m : Made) → IsShort m → Contains entries (entry_of m) ↔ (is_made ledger m ≡ true)
 
--- the items are a front of those that are due
+-- the items are a prefix of those that are due
 abbrev pub IsFront : List Item → List Item → Type 0
 IsFront items due = (rest : List Item) × (items ++ rest ≡ due)
 
@@ -67,8 +68,8 @@ targets_from set m (site ∷ sites) =
       ends = ends_of set.app m;
     } ∷ targets_from set (m + 1) sites
 
--- the deployer keeps the secret and the modules of the setting; it has room for 32 modules and 64 connections, of which the
--- first are those of the application
+-- the deployer keeps the secret and the modules of the setting; it has room for 32 modules and 64
+-- connections, of which the first are those of the application
 pub record IsKept (set : Setting) (k : Keeping) (d : DeployerState) : Type 0 where
   pub secret : k.secret ≡ set.secret
   pub targets : k.targets ≡ targets_from set 0 set.sites
@@ -94,15 +95,15 @@ pub record Shows (set : Setting) (kept : Running) (w : World) : Type 0 where
   pub steps : kept.steps ≡ w.steps
   pub placed : ArePlaced w.nodes
 
--- An act was done: what is kept behind it shows what the act leaves, and its items were added.
+-- An act was done: what is kept after it shows what the act leaves, and its items were added.
 abbrev pub Did : Setting → Running → Running → List Item → List Item → (World → Acted) → Type 0
 Did set old new before after act = (w : World) → Shows set old w → Shows set new (act w).world × (after ≡ before ++ (act w).items)
 
--- Memory ran out: a front of the act's items was added.
+-- Memory ran out: a prefix of the act's items was added.
 abbrev pub Wanted : Setting → Running → List Item → List Item → (World → Acted) → Type 0
 Wanted set old before after act = (w : World) → Shows set old w → IsFront after (before ++ (act w).items)
 
--- a call did this act, or wanted memory
+-- a call did this act, or ran out of memory
 abbrev pub Does : {X E : Type 0} → Setting → Result X E → Running → Running → List Item → List Item → (World → Acted) → Type 0
 Does set (Ok x) old new before after act = Did set old new before after act
 Does set (Err e) old new before after act = Wanted set old before after act

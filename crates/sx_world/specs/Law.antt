@@ -34,7 +34,8 @@ AreApart a b =
 abbrev pub devices_of : Setting → ℕ → List Window
 devices_of set n = powered_on (windows_at n set.app.devices set.places)
 
--- a module's device is at its node, of the kind that it declares, and stands at the start of its private section
+-- a module's device is at its node, of the kind that it declares, and stands at the start of its
+-- private section
 pub record IsDriven (set : Setting) (q : PartTree) (site : Site) (d : ℕ) : Type 0 where
   pub device : AppDevice
   pub found : slice_get set.app.devices d ≡ Some device
@@ -42,7 +43,8 @@ pub record IsDriven (set : Setting) (q : PartTree) (site : Site) (d : ℕ) : Typ
   pub kind : declared_kind q.tree.decls ≡ Some device.kind
   pub place : slice_get set.places d ≡ Some site.layout.priv_from
 
--- the m-th module: its site is at its node, its image realizes it, and of its node's devices it holds the one that it drives
+-- the m-th module: its site is at its node, its image realizes it, and of its node's devices it
+-- holds the one that it drives
 pub record IsDeployed (set : Setting) (m : ℕ) (q : PartTree) (site : Site) : Type 0 where
   pub node : site.node ≡ q.node
   pub bounds : good_bounds site.layout ≡ true

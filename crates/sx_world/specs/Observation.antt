@@ -25,7 +25,7 @@ use Rattle.sx_world.specs.Setting.{Setting, module_of, device_number, device_of}
 use Rattle.sx_world.specs.Wire.{is_ask, is_set_key_header, is_event_header, challenge_in, link_in, epoch_in, last_in, value_in}
 use Rattle.sx_world.specs.Ledger.{Made, NO_TARGET, made, is_made, header_of, body_of}
 
--- items, and the ledger behind them
+-- items, and the ledger after them
 pub record Observed : Type 0 where
   pub items : List Item
   pub ledger : List Made
@@ -74,7 +74,7 @@ has_wrapped m boot header body own ledger =
     then record { items = []; ledger = ledger ++ made (maker.Module m) NO_TARGET 0 header body ∷ [] }
     else record { items = []; ledger = ledger }
 
--- the item, behind one that says that no holder of the key had made it
+-- the item, after one that says that no holder of the key had made it
 abbrev pub unless_made : Option ℕ → Bool → Item → List Item
 unless_made who made i = if made then i ∷ [] else item.Forged who ∷ i ∷ []
 

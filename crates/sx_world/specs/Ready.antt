@@ -6,7 +6,8 @@ use Rattle.sx_deploy.specs.Deployment.{Deployed}
 use Rattle.sx_world.specs.Setting.{Site, windows_at}
 use Rattle.sx_world.specs.Held.{Running}
 
--- Nodes, modules and devices are those of the deployment, whose texts lie in memory, and no counter is at its last value.
+-- Nodes, modules and devices are those of the deployment, whose texts lie in memory, and no counter
+-- is at its last value.
 pub record IsReady (d : Deployed) (sites : List Site) (k : Running) : Type 0 where
   pub nodes : length k.nodes ≡ length d.names.nodes
   pub boots : (n : ℕ) (s : State) → slice_get k.nodes n ≡ Some s → s.boot < 4294967295

@@ -25,7 +25,7 @@ is_reset (event.Wrapped id) = false
 is_reset (event.Unwrapped id) = false
 is_reset (event.Left id) = false
 
--- at most so many steps of a node, ending after a reset, or where `stops` says so of the node
+-- at most this many steps of a node, ending after a reset, or where `stops` says so of the node
 abbrev pub steps_of : Setting → (State → Bool) → List Item → ℕ → ℕ → World → Acted
 steps_of set stops items n zero w = only w items
 steps_of set stops items n (suc k) w =

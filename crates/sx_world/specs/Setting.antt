@@ -21,7 +21,8 @@ pub record Site : Type 0 where
   pub provider : ℕ
   pub text : List ℕ
 
--- the tag function, the application, its modules' sites, the secret, the nodes' keys and the devices' places
+-- the tag function, the application, its modules' sites, the secret, the nodes' keys and the
+-- devices' places
 pub record Setting : Type 0 where
   pub mac : Mac
   pub app : AppTree

@@ -7,7 +7,8 @@ use Rattle.sx_world.specs.Run.{run}
 use Rattle.sx_world.specs.Law.{AreInForm}
 use Rattle.sx_world.specs.Held.{Held, Shows}
 
--- It shows this world of a run: that of as many lines in form as it has acted, each of at most a million steps.
+-- It shows this world of a run: that of as many lines in form as it has acted, each of at most a
+-- million steps.
 pub record Stands (set : Setting) (held : Held) (w : World) : Type 0 where
   pub lines : List Line
   pub formed : AreInForm set lines
@@ -16,6 +17,6 @@ pub record Stands (set : Setting) (held : Held) (w : World) : Type 0 where
   pub is : w ≡ (run set (switched_on set) lines).world
   pub shows : Shows set held.running w
 
--- It stands so, unless it has wanted memory.
+-- It stands so, unless it has run out of memory.
 abbrev pub IsGoing : Setting → Held → Type 0
 IsGoing set held = held.wanted ≡ false → (w : World) × Stands set held w

@@ -1,4 +1,5 @@
--- Where a run stands: the nodes, the packets, the deployer, the ledger, and the counts of lines and node steps.
+-- Where a run stands: the nodes, the packets, the deployer, the ledger, and the counts of lines and
+-- node steps.
 use Rattle.std.specs.Prelude.{ℕ, ◌+◌, List, [], ◌∷◌, map, None}
 use Rattle.sx_trace.specs.declared.items.Item.{Item}
 use Rattle.sx_world.specs.Ledger.{Made}

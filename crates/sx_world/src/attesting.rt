@@ -20,7 +20,8 @@ use sx_ledger::Maker;
 use sx_tag::Tag;
 use sx_trace::items::Item;
 
-/// The open ask that a packet answers, as a module's answer at a boot of its node. Where it answers none, the deployer is as before.
+/// The open ask that a packet answers, as a module's answer at a boot of its node. Where it answers
+/// none, the deployer is as before.
 fn judge<T: Tag>(
     tag: &T,
     deployer: &mut Deployer,
@@ -63,7 +64,8 @@ impl<B: Bus, T: Tag> Running<B, T> {
         add_packet(self.alloc, &mut self.packets, &packet, items)
     }
 
-    /// What follows an accepted answer to an ask, of a module that was last attested at a boot, if any.
+    /// What follows an accepted answer to an ask, of a module that was last attested at a boot, if
+    /// any.
     fn confirm(
         &mut self,
         plan: &Deployment,

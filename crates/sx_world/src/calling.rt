@@ -19,7 +19,8 @@ use sx_deploy::deployment::Deployment;
 use sx_tag::Tag;
 use sx_trace::items::Item;
 
-/// What a called module is given: its entry, its windows, no place to return to, and where its code begins.
+/// What a called module is given: its entry, its windows, no place to return to, and where its code
+/// begins.
 fn call_registers(site: &Site, entry: u16, input: u16, output: u16) -> [Register; 5]
     ensures { result ≡ call_registers site.now entry input output }
 {

@@ -11,7 +11,8 @@ ghost use Rattle.sx_world.specs.Observation.{is_driver};
 
 use sx_mean::apps::{App, AppDevice};
 
-/// The number of a node's k-th device among those of the deployment, or 0 where it has no such device.
+/// The number of a node's k-th device among those of the deployment, or 0 where it has no such
+/// device.
 pub(crate) fn device_number(devices: &[AppDevice], n: u8, k: u8) -> u8
     requires { length devices.now ≤ 256 }
     ensures { result ≡ slice_index (devices_at n 0 devices.now) k }

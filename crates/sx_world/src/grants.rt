@@ -1,4 +1,4 @@
-//! Which ends get keys behind an answer that was accepted.
+//! Which ends get keys after an answer that was accepted.
 
 ghost use Rattle.std.specs.Prelude.{◌≡◌, ◌+◌, ◌*◌, ◌<◌, ◌≤◌, ◌++◌, length, slice_index, IfOk, OnOk};
 ghost use Rattle.std.specs.Option.{option_to_list};
@@ -13,7 +13,8 @@ use sx_lang::sides::Side;
 use sx_mean::apps::{App, Link};
 use sx_mean::events::End;
 
-/// What a set-key packet is for: an end of a module at a boot of its node, and the connection's epoch.
+/// What a set-key packet is for: an end of a module at a boot of its node, and the connection's
+/// epoch.
 #[derive(Drop)]
 pub(crate) struct Grant {
     pub(crate) holder: u8,
@@ -123,7 +124,7 @@ fn add_own(
     Ok(())
 }
 
-/// The boot at which a module of so many was last attested, if it was.
+/// The boot at which a module of this many was last attested, if it was.
 fn attested(deployer: &Deployer, parts: usize, k: u8) -> Option<u32>
     requires { parts ≤ length deployer.now.targets }
     ensures { result ≡ boot_in deployer.now parts k }
@@ -146,7 +147,8 @@ fn grant_to(deployer: &Deployer, parts: usize, k: u8, end: End) -> Option<Grant>
     }
 }
 
-/// The grant for the end of the n-th connection that is in another module, where one end is in this module.
+/// The grant for the end of the n-th connection that is in another module, where one end is in this
+/// module.
 fn across(deployer: &Deployer, parts: usize, m: u8, n: u8, link: &Link) -> Option<Grant>
     requires { parts ≤ length deployer.now.targets }
     ensures { result ≡ across_at deployer.now parts m n link.now }
@@ -203,8 +205,8 @@ fn add_across(
     Ok(())
 }
 
-/// The grants behind an accepted answer of a module that was last attested at a boot, if any: those for the module's own ends,
-/// and where it was attested before those for the ends beyond.
+/// The grants after an accepted answer of a module that was last attested at a boot, if any: those
+/// for the module's own ends, and where it was attested before those for the ends beyond.
 pub(crate) fn granted(
     alloc: Global,
     deployer: &Deployer,

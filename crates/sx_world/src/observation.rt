@@ -75,8 +75,8 @@ fn author<B: Bus, T: Tag>(node: &Node<B, T>, event: Event) -> u16
     }
 }
 
-/// The deployed module whose code it was that left the node so. It is looked up only where what is seen depends on it, since that
-/// compares the text of a section with those of the sites.
+/// The deployed module whose code it was that left the node so. It is looked up only where what is
+/// seen depends on it, since that compares the text of a section with those of the sites.
 pub(crate) fn runner_of<B: Bus, T: Tag>(
     sites: &[Site],
     n: u8,
@@ -190,7 +190,7 @@ fn done_item<B: Bus, T: Tag>(m: u8, node: &Node<B, T>) -> Item
     }
 }
 
-/// What the event of a deployed module's step shows, and the ledger behind it.
+/// What the event of a deployed module's step shows, and the ledger after it.
 fn add_own_event<B: Bus, T: Tag>(
     plan: &Deployment,
     sites: &[Site],
@@ -222,7 +222,7 @@ fn add_own_event<B: Bus, T: Tag>(
     }
 }
 
-/// What the event of a step shows, whose code left the node so, and the ledger behind it.
+/// What the event of a step shows, whose code left the node so, and the ledger after it.
 fn add_event<B: Bus, T: Tag>(
     plan: &Deployment,
     sites: &[Site],
@@ -256,7 +256,7 @@ fn add_event<B: Bus, T: Tag>(
     }
 }
 
-/// What is seen of code of this module, which left the node so: its items, and the ledger behind it.
+/// What is seen of code of this module, which left the node so: its items, and the ledger after it.
 pub(crate) fn add_seen<B: Bus, T: Tag>(
     plan: &Deployment,
     sites: &[Site],

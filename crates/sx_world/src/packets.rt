@@ -17,7 +17,7 @@ use sx_node::{Node, Refused};
 use sx_tag::Tag;
 use sx_trace::items::Item;
 
-/// So many bytes of a node's memory from an address on, or why they are not given.
+/// This many bytes of a node's memory from an address on, or why they are not given.
 fn taken<B: Bus, T: Tag>(
     alloc: Global,
     nodes: &[Node<B, T>],

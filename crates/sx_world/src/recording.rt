@@ -109,7 +109,7 @@ pub(crate) fn add_wrapped(
     Ok(())
 }
 
-/// Adds the item, behind one that says that no holder of the key had made it.
+/// Adds the item, after one that says that no holder of the key had made it.
 pub(crate) fn add_unless_made(
     items: &mut Vec<Item>,
     who: Option<u8>,

@@ -18,7 +18,8 @@ use sx_tag::Tag;
 use sx_trace::items::Item;
 
 impl<B: Bus, T: Tag> Running<B, T> {
-    /// A sensor of the deployment takes a sample; nothing happens where its node is none of the run's.
+    /// A sensor of the deployment takes a sample; nothing happens where its node is none of the
+    /// run's.
     pub(crate) fn sense(
         &mut self,
         plan: &Deployment,

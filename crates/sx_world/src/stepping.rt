@@ -130,8 +130,8 @@ impl<B: Bus, T: Tag> Running<B, T> {
         self.nodes[usize::from(n)].running() == 0
     }
 
-    /// So many steps of a node, or fewer where one ends in a reset or, where `idle` says so, leaves no module running; and this
-    /// item where all were taken.
+    /// This many steps of a node, or fewer where one ends in a reset or, where `idle` says so,
+    /// leaves no module running; and this item where all were taken.
     pub(crate) fn steps_of(
         &mut self,
         plan: &Deployment,

@@ -163,7 +163,8 @@ impl<B: Bus, T: Tag> Running<B, T> {
         )
     }
 
-    /// The k-th device of a node, a sensor, takes a sample. It is the d-th device of the deployment.
+    /// The k-th device of a node, a sensor, takes a sample. It is the d-th device of the
+    /// deployment.
     pub(crate) fn sense_at(
         &mut self,
         n: u8,

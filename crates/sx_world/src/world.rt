@@ -30,7 +30,7 @@ pub struct World<B: Bus, T: Tag> {
     sites: Vec<Site>,
     running: Running<B, T>,
     lines: u32,
-    /// Whether an act has wanted memory: nothing is acted then.
+    /// Whether an act has run out of memory: nothing is acted then.
     wanted: bool,
 }
 
@@ -48,8 +48,8 @@ impl<B: Bus, T: Tag> Model for World<B, T> {
 }
 
 impl<B: Bus, T: Tag> World<B, T> {
-    /// The world of a deployment with these images of its modules, where all nodes were just switched
-    /// on. Nothing but want of memory is refused.
+    /// The world of a deployment with these images of its modules, where all nodes were just
+    /// switched on. It fails only where memory runs out.
     pub fn new(
         alloc: Global,
         tag: T,
@@ -80,9 +80,9 @@ impl<B: Bus, T: Tag> World<B, T> {
         })
     }
 
-    /// Acts a line of a schedule, and appends its items. The run stays legal up to the first item that
-    /// is forged. After want of memory the items that were appended are the first of those that were
-    /// due, and no further line is acted.
+    /// Acts a line of a schedule, and appends its items. The run stays legal up to the first item
+    /// that is forged. After memory ran out the items that were appended are the first of those
+    /// that were due, and no further line is acted.
     pub fn act(
         &mut self,
         plan: &Deployment,
@@ -129,7 +129,8 @@ impl<B: Bus, T: Tag> World<B, T> {
         self.lines
     }
 
-    /// How many steps of nodes were taken. A step that ends in a reset counts, an interrupt doesn't.
+    /// How many steps of nodes were taken. A step that ends in a reset counts, an interrupt
+    /// doesn't.
     pub fn steps(&self) -> u64
         ensures { result ≡ self.now.running.steps }
     {
