@@ -1,4 +1,5 @@
--- An instruction with other extension words (own): it is read where these follow the same first word.
+-- An instruction with other extension words (own): it is read where these follow the same first
+-- word.
 --     has_word, with_word      whether an operand has an extension word, and the operand with another in its place
 --     extended      the instruction with other words in place of its own
 use Rattle.std.specs.Prelude.{ℕ, Bool, true, false, if◌then◌else◌}

@@ -1,4 +1,5 @@
--- Where things lie in the private section of a compiled module: offsets in bytes from its start (own).
+-- Where things lie in the private section of a compiled module: offsets in bytes from its start
+-- (own).
 --     0        the word of the module's device, where it declares one; no data
 --     2        the event's value
 --     4        the count of pieces made

@@ -2,7 +2,8 @@
 --     joined      its 65,536 bytes
 --     after_put      the pages after a byte was written
 --     IsMemory      how many pages there are, and of how many bytes
--- A page of the memory is named by its index: the page at the index i has the addresses 256 i to 256 i + 255.
+-- A page of the memory is named by its index: the page at the index i has the addresses 256 i to
+-- 256 i + 255.
 use Rattle.std.specs.Prelude.{◌≡◌, ℕ, ◌/◌, ◌%◌, List, [], ◌∷◌, ◌++◌, length, get_or, set, All, Option, Some, None}
 use Rattle.sx_pages.specs.Pages.{Pages, zeros}
 

@@ -1,4 +1,5 @@
--- The access table of Sancus 2.0: what code may do to a byte, by the module that the code belongs to.
+-- The access table of Sancus 2.0: what code may do to a byte, by the module that the code belongs
+-- to.
 --     Sections      what a table of sections holds
 --     in_public, in_private, at_entry      where a byte lies in a section
 --     may      the access table

@@ -56,8 +56,8 @@ store_at_words start n = 0x413d ∷ 0x413c ∷ 0x903c ∷ n ∷ 0x2c03 ∷ 0x5c0
 abbrev pub inside_words : ℕ → ℕ → ℕ → List ℕ
 inside_words back from to = 0x421c ∷ back ∷ 0x903c ∷ from ∷ 0x2804 ∷ 0x903c ∷ to ∷ 0x2c01 ∷ 0 ∷ []
 
--- A window of n bytes at the saved register passes 0xFFFF from 65537 - n on; else it meets the private section where it begins
--- below the section's end and doesn't end before its start:
+-- A window of n bytes at the saved register passes 0xFFFF from 65537 - n on; else it meets the
+-- private section where it begins below the section's end and doesn't end before its start:
 --     MOV &saved, R12; CMP #65537-n, R12; JC .+6; CMP #to, R12; JC .+5; CMP #from+1-n, R12; JNC .+2; PUSH #1; JMP .+1; PUSH #0
 abbrev pub meets_words : ℕ → ℕ → ℕ → ℕ → List ℕ
 meets_words saved from to n = 0x421c ∷ saved ∷ 0x903c ∷ (65537 - n) ∷ 0x2c06 ∷ 0x903c ∷ to ∷ 0x2c05 ∷ 0x903c ∷ (from + 1 - n) ∷ 0x2802 ∷ 0x1213 ∷ 0x3c01 ∷ 0x1203 ∷ []
@@ -132,7 +132,8 @@ template l a p ir.Leave = 0x4030 ∷ a.at a.exit ∷ []
 abbrev pub entry_words : ℕ → List ℕ
 entry_words base = 0x4182 ∷ (base + 148) ∷ 0x4c82 ∷ (base + 6) ∷ 0x4d82 ∷ (base + 8) ∷ 0x4e82 ∷ (base + 10) ∷ 0x4f82 ∷ (base + 12) ∷ 0x4031 ∷ (base + 512) ∷ []
 
--- The exit takes the number of pieces and the status, sets the other registers to 0, and returns with the caller's SP:
+-- The exit takes the number of pieces and the status, sets the other registers to 0, and returns
+-- with the caller's SP:
 --     POP R13; POP R12; CLR R4 .. R11, R14, R15, SR; MOV &148, SP; MOV &12, PC
 abbrev pub leave_words : ℕ → List ℕ
 leave_words base = 0x413d ∷ 0x413c ∷ 0x4304 ∷ 0x4305 ∷ 0x4306 ∷ 0x4307 ∷ 0x4308 ∷ 0x4309 ∷ 0x430a ∷ 0x430b ∷ 0x430e ∷ 0x430f ∷ 0x4302 ∷ 0x4211 ∷ (base + 148) ∷ 0x4210 ∷ (base + 12) ∷ []
@@ -142,8 +143,8 @@ leave_words base = 0x413d ∷ 0x413c ∷ 0x4304 ∷ 0x4305 ∷ 0x4306 ∷ 0x4307
 abbrev pub slot_words : ℕ → List ℕ
 slot_words base = 0x429c ∷ (base + 18) ∷ 0 ∷ 0x438c ∷ 2 ∷ 0x439c ∷ 4 ∷ 0x429c ∷ (base + 56) ∷ 8 ∷ 0x429c ∷ (base + 58) ∷ 10 ∷ 0x429c ∷ (base + 60) ∷ 12 ∷ 0x429c ∷ (base + 62) ∷ 14 ∷ 0x429c ∷ (base + 64) ∷ 16 ∷ 0x429c ∷ (base + 66) ∷ 18 ∷ 0x429c ∷ (base + 68) ∷ 20 ∷ 0x429c ∷ (base + 70) ∷ 22 ∷ 0x4130 ∷ []
 
--- The packet routine of the k-th end tests that the end is open and its number below 65,535, makes the header and the body, wraps,
--- copies the packet to its offset in the out-window, and counts:
+-- The packet routine of the k-th end tests that the end is open and its number below 65,535, makes
+-- the header and the body, wraps, copies the packet to its offset in the out-window, and counts:
 --     TST &open; JZ ret; CMP #-1, &number; JZ ret; MOV #3, &106; MOV &field, &108; MOV &number, &110; MOV 2(SP), &130
 --     MOV #key, R9; MOV #106, R10; MOV #6, R11; MOV #130, R12; MOV #2, R13; MOV #112, R14; MOV #114, R15; wrap
 --     MOV &pieces, R12; ADD R12, R12 (3 times); MOV R12, R14; ADD R12, R12; ADD R14, R12; ADD &window, R12; MOV #106, R13; MOV #24, R15
