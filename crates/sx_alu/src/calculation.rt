@@ -1,4 +1,4 @@
-//! The calculations.
+//! The kinds of calculation.
 
 /// A calculation on a source and a destination, or on a source alone (`Rrc` and those after it).
 #[derive(Clone, Copy, Debug, PartialEq, Eq)]

@@ -1,4 +1,5 @@
-//! What the flags say, in the words of arithmetic.
+//! What the flags say, in terms of arithmetic. Each law is a function that does nothing: its
+//! contract is the law.
 
 ghost use Rattle.std.specs.Prelude.{◌≡◌, ◌↔◌, ℕ, ◌<◌, ◌≤◌, ◌+◌, ◌-◌, ◌/◌, ◌%◌, Bool, IsTrue, ◌<ℤ◌, ◌+ℤ◌, ◌-ℤ◌, pos, false};
 ghost use Rattle.sx_alu.specs.Status.{bit, flags_of, with_flags_in};

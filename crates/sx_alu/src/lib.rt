@@ -1,7 +1,7 @@
 //! Arithmetic and flags of the MSP430, on words and on bytes.
 //!
 //! `calc` gives the result and the flags of a calculation: its row in specs/Table.antt, which is
-//! what must be believed. `laws` says in the subject's words what the flags tell after a
+//! what must be believed. `laws` says in terms of arithmetic what the flags tell after a
 //! subtraction and an addition. The flags' bits in the status register stand in specs/Status.antt.
 //! No call takes memory.
 #![tactic(auto)]

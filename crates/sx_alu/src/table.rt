@@ -1,4 +1,4 @@
-//! The table of calculations.
+//! The result and the flags of each calculation.
 
 ghost use Rattle.std.specs.Prelude.{◌≡◌, ◌%◌, ◌<◌, ◌&&◌, IsTrue};
 ghost use Rattle.sx_alu.specs.Status.{bit};

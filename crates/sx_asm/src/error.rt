@@ -14,7 +14,7 @@ pub enum AsmError {
     /// 4: a jump's target is odd, or lies outside -512 to 511 words.
     /// 5: the address is odd, on line 1; or the code has more than 8,192 bytes or passes 0xFFFF.
     Fault { rule: u8, line: u32 },
-    /// There was no memory.
+    /// Memory ran out.
     OutOfMemory,
 }
 

@@ -1,8 +1,9 @@
-//! Laws of the definitions.
+//! What holds of every instruction and every code. Each law is a function that does nothing: its
+//! contract is the law.
 
 ghost use Rattle.sx_asm.specs.Laws.{TestsOperands, Reassembles, ReassemblesLine, ReassemblesListing};
 
-/// Rule 2 tests just what an instruction can read and write.
+/// Rule 2 tests exactly what an instruction can read and write.
 pub fn operands()
     ensures { TestsOperands }
 {}

@@ -147,7 +147,7 @@ fn joins(a: u8, b: u8) -> bool
     is_word_byte(a) && is_word_byte(b) || a == b && (a == b'#' || a == b'/')
 }
 
-/// How many bytes at the start go on the run of the byte before them.
+/// How many bytes at the start continue the run of the byte before them.
 fn run_length(before: u8, text: &[u8]) -> usize
     ensures front { result ≡ run_front before text.now }
     ensures within { result ≤ length text.now }

@@ -27,7 +27,7 @@ fn not_written(line: u32) -> AsmError
     AsmError::Fault { rule: 1, line }
 }
 
-/// Adds a copy, by a slice: no proof is found of a `push` of a value that holds names so deep.
+/// Adds a copy, by a slice: the checker proves no `push` of a value that holds names at this depth.
 fn push(entry: &Entry, entries: &mut Vec<Entry>) -> Result<(), AsmError>
     ensures added { OnOk result (entries.new.items ≡ entries.old.items ++ entry.now ∷ []) }
     ensures error { IfErr result (λ e. e ≡ OutOfMemory) }

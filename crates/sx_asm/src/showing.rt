@@ -1,4 +1,4 @@
-//! The text of an instruction.
+//! From an instruction to its text.
 
 ghost use Rattle.std.specs.Prelude.{◌≡◌, ◌+◌, ◌*◌, ◌<◌, ◌≤◌, ◌++◌, [], ◌∷◌, true, length, drop, IfSome};
 ghost use Rattle.sx_isa.specs.declared.instruction.Operand.TheVariants.{Indexed, Indirect, Increment, Immediate};

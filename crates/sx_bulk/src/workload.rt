@@ -1,4 +1,4 @@
-//! The lines of the workload.
+//! The lines of the workload, each made from its number.
 
 ghost use Rattle.std.specs.Prelude.{◌≡◌, ◌+◌, ◌*◌, ◌<◌, ◌≤◌, ◌++◌, decimal, drop, length};
 ghost use Rattle.sx_bulk.specs.Bulk.{event, line, line_at, lines, setup};

@@ -1,4 +1,4 @@
-//! Memories that can be copied.
+//! The trait of memories that can be copied.
 
 ghost use Rattle.std.specs.Prelude.{◌≡◌, IfOk};
 

@@ -1,4 +1,4 @@
-//! The devices of a node.
+//! The devices of a node: sensors and actuators, each one word of the memory.
 
 ghost use Rattle.std.specs.Prelude.{◌≡◌, ℕ, ◌<◌, ◌≤◌, true, false, length, map, IfOk, IfSome, slice_get, slice_index_or, Option, Some};
 ghost use Rattle.sx_bus.specs.declared.devices.Kind.TheVariants.{Sensor};
@@ -176,7 +176,7 @@ fn has_place(places: &[u16], page: u16) -> bool
     places.iter().any(|place| *place / 256 == page)
 }
 
-/// Puts down for each page whether a device stands there.
+/// Keeps for each page whether a device stands there.
 fn index(pages: &mut [bool], places: &[u16])
     requires { length pages.old ≤ 256 }
     ensures { (page : ℕ) → page < length pages.new →

@@ -1,4 +1,4 @@
-//! What a memory is.
+//! The trait of memories of 65,536 bytes.
 
 ghost use Rattle.std.specs.Prelude.{◌≡◌, ℕ, List, slice_index, slice_set};
 ghost use Rattle.sx_bus.specs.Memory.{blank, AreBytes};

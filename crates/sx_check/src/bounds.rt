@@ -76,7 +76,7 @@ fn depth_in_block(block: &Vec<Stmt>) -> u64
     deepest
 }
 
-/// An expression is higher than 32, or a block stands in more than 15 others.
+/// Whether an expression is higher than 32, or a block stands in more than 15 others.
 #[tactic(auto, unfolding(crate::specs::Rules::breaks_depth))]
 pub fn breaks_depth(m: &Module) -> bool
     ensures { result ≡ breaks_depth (module_of m.now) }
@@ -112,7 +112,7 @@ fn lets_in_block(block: &Vec<Stmt>) -> u64
     total
 }
 
-/// A handler has more than 16 locals, its parameter among them.
+/// Whether a handler has more than 16 locals, its parameter among them.
 #[tactic(auto, unfolding(crate::specs::Rules::breaks_locals))]
 pub fn breaks_locals(m: &Module) -> bool
     ensures { result ≡ breaks_locals (module_of m.now) }
@@ -157,7 +157,7 @@ fn miscounts_in_block(block: &Vec<Stmt>) -> bool
     false
 }
 
-/// A count of a `repeat` isn't 1 to 256.
+/// Whether a count of a `repeat` isn't 1 to 256.
 #[tactic(auto, unfolding(crate::specs::Rules::breaks_repeat))]
 pub fn breaks_repeat(m: &Module) -> bool
     ensures { result ≡ breaks_repeat (module_of m.now) }
@@ -200,7 +200,7 @@ fn sends_in_block(block: &Vec<Stmt>) -> u64
     total
 }
 
-/// A handler can send more than 16 times.
+/// Whether a handler can send more than 16 times.
 #[tactic(auto, unfolding(crate::specs::Rules::breaks_packets))]
 pub fn breaks_packets(m: &Module) -> bool
     ensures { result ≡ breaks_packets (module_of m.now) }
@@ -237,7 +237,7 @@ fn emits_in_block(block: &Vec<Stmt>) -> bool
     false
 }
 
-/// An `emit` stands in a handler.
+/// Whether an `emit` stands in a handler.
 pub fn has_emit(handlers: &[Handler]) -> bool
     ensures { result ≡ list_any (λ h. block_emits h.body) (map handler_of handlers.now) }
 {
@@ -249,7 +249,7 @@ pub fn has_emit(handlers: &[Handler]) -> bool
     false
 }
 
-/// The cost is above 262,144.
+/// Whether the cost is above 262,144.
 #[tactic(auto, unfolding(crate::specs::Rules::breaks_cost))]
 pub fn breaks_cost(m: &Module) -> bool
     ensures { result ≡ breaks_cost (module_of m.now) }
@@ -257,7 +257,7 @@ pub fn breaks_cost(m: &Module) -> bool
     cost(m) > 262_144
 }
 
-/// There are more than 512 nodes, or more than 255 inputs or outputs.
+/// Whether there are more than 512 nodes, or more than 255 inputs or outputs.
 #[tactic(auto, unfolding(crate::specs::Rules::breaks_nodes))]
 pub fn breaks_nodes(m: &Module) -> bool
     ensures { result ≡ breaks_nodes (module_of m.now) }
@@ -265,7 +265,7 @@ pub fn breaks_nodes(m: &Module) -> bool
     nodes(m) > 512 || inputs(&m.decls) > 255 || outputs(&m.decls) > 255
 }
 
-/// An array's length isn't 1 to 1,024, or there are more than 1,024 cells.
+/// Whether an array's length isn't 1 to 1,024, or there are more than 1,024 cells.
 #[tactic(auto, unfolding(crate::specs::Rules::breaks_cells))]
 pub fn breaks_cells(m: &Module) -> bool
     ensures { result ≡ breaks_cells (module_of m.now) }

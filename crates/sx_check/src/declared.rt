@@ -109,7 +109,7 @@ fn is_there_twice(decls: &[Decl], d: &Decl) -> bool
     }
 }
 
-/// A name, or a device, is declared twice.
+/// Whether a name, or a device, is declared twice.
 pub fn has_repeated(decls: &[Decl]) -> bool
     ensures { result ≡ list_any (is_repeated decls.now) decls.now }
 {
@@ -204,7 +204,7 @@ fn is_a_misfit(d: &Decl) -> bool
     }
 }
 
-/// An array has no length that an array can have.
+/// Whether an array's length isn't 1 to 1,024.
 pub fn has_misfit(decls: &[Decl]) -> bool
     ensures { result ≡ list_any is_misfit decls.now }
 {

@@ -129,7 +129,7 @@ fn has_handled_twice(handlers: &[Handler]) -> bool
     false
 }
 
-/// A name, a device or an event's handler is there twice.
+/// Whether a name, a device or an event's handler is there twice.
 #[tactic(auto, unfolding(crate::specs::Rules::breaks_duplicate))]
 pub fn breaks_duplicate(m: &Module) -> bool
     ensures { result ≡ breaks_duplicate (module_of m.now) }

@@ -40,7 +40,7 @@ fn has_definition(statements: &[Stmt], x: &Name) -> bool
     false
 }
 
-/// The place can see a local of this name.
+/// Whether the place can see a local of this name.
 pub fn sees(scope: &Scope<'_>, x: &Name) -> bool
     ensures { result ≡ is_seen (seen_in scope.now) x.now }
 {

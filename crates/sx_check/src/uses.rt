@@ -139,7 +139,7 @@ fn has_misused(m: &Module) -> bool
     in_handlers(Flaw::Misused, &m.decls, &m.handlers)
 }
 
-/// A name that is used isn't known where it is used.
+/// Whether a name that is used isn't known where it is used.
 #[tactic(auto, unfolding(crate::specs::Rules::breaks_unknown))]
 pub fn breaks_unknown(m: &Module) -> bool
     ensures { result ≡ breaks_unknown (module_of m.now) }
@@ -172,7 +172,7 @@ fn emits_nowhere(m: &Module) -> bool
     has_emit(&m.handlers) && !has_actuator(&m.decls)
 }
 
-/// A name is used as another kind, or the module samples or emits without a device for it.
+/// Whether a name is used as another kind, or the module samples or emits without a device for it.
 #[tactic(auto, unfolding(crate::specs::Rules::breaks_kind))]
 pub fn breaks_kind(m: &Module) -> bool
     ensures { result ≡ breaks_kind (module_of m.now) }

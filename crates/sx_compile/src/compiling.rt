@@ -1,4 +1,4 @@
-//! The image of a module.
+//! From a checked module to its image.
 
 ghost use Rattle.std.specs.Prelude.{All, ◌≡◌, ℕ, ◌+◌, ◌<◌, ◌≤◌, ◌++◌, IfOk, OnOk, length, replicate};
 ghost use Rattle.sx_check.specs.Source.{source_tree};

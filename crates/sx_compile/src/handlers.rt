@@ -1,4 +1,4 @@
-//! The handlers of a module alone.
+//! The code of a module's handlers, without the entry protocol.
 
 ghost use Rattle.std.specs.Prelude.{◌≤◌, IfOk, length};
 ghost use Rattle.sx_check.specs.Source.{source_tree};

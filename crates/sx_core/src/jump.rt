@@ -1,4 +1,4 @@
-//! Jumps.
+//! Jumps: the condition, and where PC goes.
 
 ghost use Rattle.std.specs.Prelude.{◌≡◌, if◌then◌else◌};
 ghost use Rattle.sx_machine.specs.Registers.{onward};

@@ -1,4 +1,4 @@
-//! Source operands.
+//! Reading of source operands, in each addressing mode.
 
 ghost use Rattle.std.specs.Prelude.{◌≡◌, ◌<◌, IfOk};
 ghost use Rattle.sx_alu.specs.Table.{limit};

@@ -50,7 +50,7 @@ impl Line<DeviceEntry> for Lost {
     }
 }
 
-/// From its first byte up to, but not including, its last.
+/// The bytes from `from` up to but not including `to`.
 #[derive(Clone, Copy)]
 struct Span {
     from: u16,

@@ -289,7 +289,7 @@ fn texts_without_entries(rt: HostRuntime) -> Result<(), Fail> {
     Ok(())
 }
 
-/// This many entries, each with a name and what follows it.
+/// Entries up to this number, each with a name and what follows it.
 fn listed(
     alloc: Global,
     head: &str,

@@ -155,7 +155,7 @@ impl Deployer {
         }
     }
 
-    /// A deployer that is equal to this one.
+    /// A deployer that is equal to this one. The error says that memory ran out.
     pub fn copy(&self, alloc: Global) -> Result<Deployer, AllocError>
         ensures { IfOk result (λ d. d ≡ self.now) }
     {

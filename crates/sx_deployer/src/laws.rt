@@ -1,4 +1,4 @@
-//! Each law is a function that does nothing: its contract is the law.
+//! What holds of every deployer. Each law is a function that does nothing: its contract is the law.
 
 ghost use Rattle.sx_deployer.specs.Laws.{LampIsRenewed, RenewsAsTheModel};
 

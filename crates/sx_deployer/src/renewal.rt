@@ -1,4 +1,4 @@
-//! Whether a module may be attested, and the epochs after it.
+//! Whether a module may be attested, and the epochs after the attestation.
 
 ghost use Rattle.std.specs.Prelude.{◌≡◌, ◌+◌, ◌<◌, true, false, if◌then◌else◌, slice_index};
 ghost use Rattle.sx_deployer.specs.Keeping as spec;

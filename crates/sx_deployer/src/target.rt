@@ -20,7 +20,7 @@ pub struct Target {
 }
 
 impl Target {
-    /// A target that is equal to this one.
+    /// A target that is equal to this one. The error says that memory ran out.
     pub fn copy(&self) -> Result<Target, AllocError>
         ensures { IfOk result (λ t. known t ≡ known self.now) }
     {

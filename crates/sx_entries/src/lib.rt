@@ -3,8 +3,8 @@
 //! `documents::table_of` reads the text as a TOML document (rule 3), `rows::rows_of` takes from it
 //! the rows of its arrays with the values at their keys (rule 4), and `entries::entries_of` makes
 //! entries of them, each under a name of its own and with the places of those that it names (rule
-//! 5). Each answer is exactly the one that is defined, or lack of memory. `listed::Listed` keeps
-//! entries with an index of their names, so that no name is looked for entry by entry.
+//! 5). Each answer is exactly the one that is defined, unless memory ran out. `listed::Listed`
+//! keeps entries with an index of their names, so that no name is looked for entry by entry.
 //!
 //! `specs/Documents.antt` has rule 3, `specs/Rows.antt` and `specs/Arrays.antt` rule 4 on top of
 //! `specs/Fields.antt`, and `specs/Entries.antt` rule 5.

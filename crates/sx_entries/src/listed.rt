@@ -57,7 +57,8 @@ impl<T: HasName> Listed<T> {
         self.entries.len()
     }
 
-    /// Puts the entry after the others.
+    /// Puts the entry after the others. After an error, which says that memory ran out, nothing has
+    /// changed.
     pub fn push(&mut self, entry: T) -> Result<(), AllocError>
     where
         T: Drop,

@@ -91,7 +91,7 @@ fn kind_at(table: &Table, key: &str) -> Option<DeviceKind>
     }
 }
 
-/// A node's keys.
+/// A node, from its table's keys.
 pub fn node_row(table: &Table) -> Option<NodeRow>
     ensures { result ≡ node_row (table_view table.now) }
 {
@@ -103,7 +103,7 @@ pub fn node_row(table: &Table) -> Option<NodeRow>
     Some(NodeRow { name, key })
 }
 
-/// A device's keys.
+/// A device, from its table's keys.
 pub fn device_row(table: &Table) -> Option<DeviceRow>
     ensures { result ≡ device_row (table_view table.now) }
 {
@@ -139,7 +139,7 @@ fn start_row(table: &Table) -> Option<StartRow>
     }
 }
 
-/// A module's keys.
+/// A module, from its table's keys.
 pub fn module_row<'a>(table: &'a Table) -> Option<ModuleRow<'a>>
     ensures { result ≡ module_row (table_view table.now) }
 {
@@ -174,7 +174,7 @@ fn first_dot(text: &[u8]) -> Option<usize>
     text.iter().position(|b| *b == 46)
 }
 
-/// The two parts round the only dot.
+/// The parts before and after the only dot.
 fn end_of(text: &[u8]) -> Option<EndRow>
     ensures { result ≡ end_of text.now }
 {
@@ -199,7 +199,7 @@ fn end_at(table: &Table, key: &str) -> Option<EndRow>
     }
 }
 
-/// A connection's keys.
+/// A connection, from its table's keys.
 pub fn link_row(table: &Table) -> Option<LinkRow>
     ensures { result ≡ link_row (table_view table.now) }
 {

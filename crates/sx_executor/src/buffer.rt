@@ -1,4 +1,4 @@
-//! Buffers of instructions.
+//! Buffers that module instructions name by an address and a length.
 
 ghost use Rattle.std.specs.Prelude.{◌≡◌, ◌+◌, ◌-◌, ◌≤◌, true, false, IfOk, IfErr, OnOk};
 ghost use Rattle.sx_rules.specs.declared.access.Violation.TheVariants as bad;

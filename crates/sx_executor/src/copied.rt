@@ -1,4 +1,4 @@
-//! Copies.
+//! Copies of an executor.
 
 ghost use Rattle.std.specs.Prelude.{◌≡◌, IfOk};
 

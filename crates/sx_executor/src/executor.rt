@@ -1,4 +1,4 @@
-//! What an instruction runs on.
+//! The state that an instruction runs on, and what others ask of it.
 
 ghost use Rattle.std.specs.Prelude.{◌≡◌, ◌<◌, length, IfSome, slice_get, slice_index};
 ghost use Rattle.sx_bus.specs.declared.devices.Kind.TheVariants.{Sensor};
@@ -123,8 +123,8 @@ impl<B: Bus> Executor<B> {
         self.table.section(self.own)
     }
 
-    /// The byte at an address, for who looks at the whole node: no instruction and no act reads by
-    /// this, so it asks for no right.
+    /// The byte at an address, for a caller that looks at the whole node: no instruction and no act
+    /// reads by this call, so it asks for no right.
     pub fn byte(&self, at: u16) -> u8
         ensures { result ≡ slice_index self.now.mem at }
     {

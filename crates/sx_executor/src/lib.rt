@@ -3,11 +3,11 @@
 //! An `Executor` does the accesses of an instruction in the order of its plan: `load`, `store` and
 //! `fetch` ask the access table and then the devices, as the executor of the definitions does
 //! (`Run.antt` of sx_machine). Memory itself is reached by `read` and `write` alone: each requires
-//! that the access was tested, so no byte is touched before its test. Beside them only
-//! `public_byte` reads, which requires the like, and `byte`, for who looks from outside; what makes
-//! bytes zero says why it asks for no right. Contracts see an executor as the record `Machine` of
-//! `specs/Machine.antt`, and say by relations of that file what a plan leaves of it. Only the copy
-//! takes memory.
+//! that the access was tested, so no byte is touched before its test. Apart from them only two
+//! calls read: `public_byte`, which requires the same, and `byte`, for a caller that looks at the
+//! node from outside. The calls that make bytes zero say why they ask for no right. Contracts see
+//! an executor as the record `Machine` of `specs/Machine.antt`, and say by relations of that file
+//! what a plan leaves of it. Only the copy takes memory.
 #![tactic(auto)]
 
 pub use buffer::Buffer;

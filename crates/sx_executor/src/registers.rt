@@ -1,4 +1,4 @@
-//! The sixteen registers.
+//! Reads and writes of the sixteen registers.
 
 ghost use Rattle.std.specs.Prelude.{◌≡◌, ◌<◌, slice_set};
 ghost use Rattle.sx_alu.specs.Table.{limit};

@@ -1,4 +1,4 @@
-//! Modules that come and go.
+//! Admission and removal of modules, and the zeroing of their private sections.
 
 ghost use Rattle.std.specs.Prelude.{◌≡◌, ◌<◌, ◌≤◌, Some, length, OnOk};
 ghost use Rattle.std.specs.Result.{result_err};

@@ -1,4 +1,4 @@
-//! Images of modules.
+//! The image of a module, and the bytes of its identity.
 
 ghost use Rattle.std.specs.Prelude.{◌≡◌, ◌++◌, IfOk, OnOk};
 ghost use Rattle.sx_image.specs.Image.{identity_of, plain};

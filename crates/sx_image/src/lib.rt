@@ -1,4 +1,4 @@
-//! What it is that an image realizes a module.
+//! What it means that an image realizes a module.
 //!
 //! `Image` is a compiled module, and `identity` the bytes from which its key is derived. All else
 //! are definitions. `specs/Realizes.antt` has `Realizes`: from every node that enters the module,

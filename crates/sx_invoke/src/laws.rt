@@ -1,5 +1,5 @@
-//! What holds of every invocation. Each law is a function that does nothing: its contract is the
-//! law.
+//! What holds of every invocation of a module. Each law is a function that does nothing: its
+//! contract is the law.
 
 ghost use Rattle.sx_invoke.specs.Laws.{PiecesMarked, UnwrapsOnce};
 

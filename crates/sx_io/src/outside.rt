@@ -44,7 +44,8 @@ pub trait Sink {
     /// writes of no bytes it was given.
     ghost at: { Self → SinkAt };
 
-    /// Takes a prefix of the bytes, and says how many. It takes none of some only where it fails.
+    /// Takes a prefix of the bytes, and says how many it took. Of a piece that isn't empty it takes
+    /// none only where it fails.
     fn write(&mut self, from: &[u8]) -> Result<usize, Failed>
         ensures within { IfOk result (λ n. n ≤ length from.now) }
         ensures taken { IfOk result (λ n. IsTrue tells → (at self.new).written ≡ (at self.old).written ++ take n from.now) }
@@ -57,8 +58,8 @@ pub trait Sink {
         ensures kept { (at self.old).faults ≤ (at self.new).faults };
 }
 
-/// Writes all of the bytes, and never a piece without any. After `Failed`, which is one fault, a
-/// prefix of them was written; without it none came.
+/// Writes all of the bytes, and never makes a write of none. After `Failed`, which is one fault, a
+/// prefix of them was written; without `Failed` there was no fault.
 pub fn put_all<K: Sink>(sink: &mut K, bytes: &[u8]) -> Result<(), Failed>
     ensures ok { OnOk result (IsTrue K.tells → (K.at sink.new).written ≡ (K.at sink.old).written ++ bytes.now) }
     ensures failed { OnErr result (IsTrue K.tells → AppendsPrefix (K.at sink.old).written (K.at sink.new).written bytes.now) }

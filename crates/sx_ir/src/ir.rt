@@ -2,7 +2,7 @@
 
 ghost use Rattle.std.specs.Prelude.{◌≡◌, ℕ, ◌<◌, length, Some, slice_get};
 
-/// An operation on words that leaves one word on the stack. Where it takes two, the upper is the
+/// An operation on words that leaves one word on the stack. Where it takes two, the top word is the
 /// right operand.
 #[derive(Clone, Copy, PartialEq, Eq, Debug)]
 pub enum IrOp {

@@ -1,4 +1,4 @@
-//! The bytes of a module's text.
+//! How many bytes the text of stack code has, and where each operation stands in it.
 
 ghost use Rattle.std.specs.Prelude.{◌≡◌, ℕ, ◌+◌, ◌*◌, ◌<◌, ◌≤◌, length, take};
 ghost use Rattle.sx_ir.specs.Sizes.{all_routines, bytes, has_routine, is_packet, offset, op_bytes, operator_bytes, ops_bytes, routines};

@@ -13,7 +13,7 @@ pub enum Operand {
     Indirect(u8),
     /// The same, and the register rises by the width afterwards, `@Rn+`.
     Increment(u8),
-    /// The memory at the place of this extension word plus the word itself.
+    /// The memory at the address of this extension word plus the word itself, `ADDR`.
     Symbolic(u16),
     /// The memory at this address, `&ADDR`.
     Absolute(u16),

@@ -1,4 +1,5 @@
-//! Laws of the definitions, for those who reason on words without a call.
+//! What holds of every instruction, for proofs on words that call nothing. Each law is a function
+//! that does nothing: its contract is the law.
 
 ghost use Rattle.std.specs.Prelude.{◌≡◌, ℕ, ◌+◌, ◌*◌, ◌%◌, ◌<◌, List, ◌∷◌, [], ◌++◌, ◌↔◌, length};
 ghost use Rattle.sx_isa.specs.Legal.{IsWord, IsInstruction, IsIllegal, Begins};

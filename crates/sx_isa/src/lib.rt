@@ -2,9 +2,9 @@
 //! how they are spelled in words and how words are read.
 //!
 //! `encode` gives the words of an instruction and `decode` reads them back; `valid` and `length`
-//! are the tests that stand before them. `extended` puts extension words into an instruction that
-//! was decoded before they were available. None of them takes memory. What must be believed stands
-//! in specs/: Spelling.antt (the words of an instruction) and Legal.antt (which instructions there
+//! are the tests to make before them. `extended` puts extension words into an instruction that was
+//! decoded before they were available. None of them takes memory. What must be believed stands in
+//! specs/: Spelling.antt (the words of an instruction) and Legal.antt (which instructions there
 //! are, and which first words none has). Reading.antt computes the instruction from the fields of
 //! its first word, for proofs on given words; `laws` shows that it agrees.
 #![tactic(auto)]

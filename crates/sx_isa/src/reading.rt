@@ -1,4 +1,4 @@
-//! The reading of instruction words.
+//! From instruction words to instructions.
 
 ghost use Rattle.std.specs.Prelude.{◌≡◌, ℕ, ◌<◌, ◌≤◌, ◌∷◌, [], ◌↔◌, IfSome, IsNone, length};
 ghost use Rattle.sx_isa.specs.Legal.{Begins, IsInstruction, IsIllegal};

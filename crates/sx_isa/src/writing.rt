@@ -1,4 +1,4 @@
-//! The writing of instruction words, and the test that stands before it.
+//! From instructions to their words, and the test whether there are any.
 
 ghost use Rattle.std.specs.Prelude.{◌≡◌, ◌+◌, ◌*◌, ◌<◌, ◌≤◌, ◌∷◌, [], ◌++◌, IsTrue, ◌↔◌, All, option_to_list, take, drop, length, slice_index};
 ghost use Rattle.sx_isa.specs.Legal.{IsSource, IsDestination, IsInstruction, IsOffset, Begins};

@@ -6,7 +6,7 @@
 //! in memory are 16-bit words.
 //!
 //! `specs/Tree.antt` has the same tree as plain data, `specs/View.antt` what contracts see of a
-//! tree, `specs/Sizes.antt` the sizes' formulas, and `specs/Words.antt` what it is that a tree's
+//! tree, `specs/Sizes.antt` the sizes' formulas, and `specs/Words.antt` what it means that a tree's
 //! numbers are words.
 #![tactic(auto)]
 

@@ -1,4 +1,4 @@
-//! A law is a function that does nothing: its contract is the law.
+//! What holds of every entry. The law is a function that does nothing: its contract is the law.
 
 ghost use Rattle.sx_ledger.specs.Laws.{EntryTellsMade};
 

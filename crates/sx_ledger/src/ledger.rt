@@ -34,8 +34,8 @@ impl Ledger {
         }
     }
 
-    /// Adds the entry. One that is there already changes nothing, and the ledger is as before where
-    /// there is no memory.
+    /// Adds the entry. One that is there already changes nothing. After an error, which says that
+    /// memory ran out, the ledger is as before.
     pub fn made(&mut self, entry: Entry) -> Result<(), AllocError>
         ensures added { OnOk result (Adds self.old self.new entry) }
         ensures again { Contains self.old entry → self.new ≡ self.old }

@@ -5,7 +5,7 @@ ghost use Rattle.sx_lex.specs.Words.{found_in, keywords, signs};
 
 use crate::tokens::Kind;
 
-/// The language's own word that this is.
+/// The token of these bytes, if they are one of the language's own words.
 pub fn keyword(word: &[u8]) -> Option<Kind>
     ensures { result ≡ found_in keywords word.now }
 {
@@ -42,7 +42,7 @@ pub fn keyword(word: &[u8]) -> Option<Kind>
     }
 }
 
-/// The sign of one byte that this is.
+/// The token of this byte, if it is a sign.
 pub fn sign(byte: u8) -> Option<Kind>
     ensures { result ≡ found_in signs (byte ∷ []) }
 {
@@ -69,7 +69,7 @@ pub fn sign(byte: u8) -> Option<Kind>
     }
 }
 
-/// The sign of two bytes that these are.
+/// The token of these two bytes, if they are a sign.
 #[tactic(auto, using(crate::proofs::Signs::other_second))]
 pub fn sign_of_two(first: u8, second: u8) -> Option<Kind>
     ensures { result ≡ found_in signs (first ∷ second ∷ []) }

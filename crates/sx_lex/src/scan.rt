@@ -39,7 +39,7 @@ fn name_run(text: &[u8], most: u8) -> u8
     1 + more
 }
 
-/// A quoted word of the language is no name.
+/// A word of the language is no name.
 fn keyword_or_name(word: &[u8]) -> Kind
     requires some { 0 < length word.now }
     requires short { length word.now ≤ 16 }
@@ -84,7 +84,7 @@ fn digit(byte: u8, base: u32) -> Option<u32>
     if value < base { Some(value) } else { None }
 }
 
-/// The number with one more digit, unless this byte is none or the number gets too great.
+/// The number with one more digit; `None` where the byte is no digit or the number passes 65,535.
 #[tactic(auto, using(crate::proofs::Numbers::product_fits, crate::proofs::Numbers::both, crate::proofs::Numbers::not_first, crate::proofs::Numbers::not_second))]
 fn appended(number: u16, byte: u8, base: u32) -> Option<u16>
     requires { base ≤ 16 }

@@ -144,7 +144,7 @@ fn put_local(code: &mut Vec<Ir>, at: u16, first: u16) -> Result<(), AllocError>
     put(code, Ir::Store(at))
 }
 
-/// Appends what takes a value off the stack into a local or a variable.
+/// Appends the code that takes a value off the stack and stores it in a local or a variable.
 pub fn put_assign(
     code: &mut Vec<Ir>,
     decls: &[Decl],

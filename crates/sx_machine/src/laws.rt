@@ -39,12 +39,12 @@ pub fn boots_count()
     ensures { BootsCount }
 {}
 
-/// A node that is switched on is one.
+/// What holds of every node holds of one that is switched on.
 pub fn power_on_is_node()
     ensures { PowerOnIsNode }
 {}
 
-/// Whatever happens to a node, it stays one.
+/// Whatever happens to a node, what holds of every node stays so.
 pub fn stays_node()
     ensures { StaysNode }
 {}
@@ -70,7 +70,8 @@ pub fn shows_touches()
     ensures { ShowsTouches }
 {}
 
-/// So does an interrupt, as code of no module.
+/// An interrupt shows all that it did at devices, and did only what the access table lets code of no
+/// module do.
 pub fn shows_interrupt()
     ensures { ShowsInterrupt }
 {}
@@ -80,7 +81,7 @@ pub fn attributes()
     ensures { Attributes }
 {}
 
-/// Nor does an interrupt.
+/// An interrupt touches no device in a section's private part.
 pub fn attributes_interrupt()
     ensures { AttributesInterrupt }
 {}
@@ -105,7 +106,8 @@ pub fn steps_framed()
     ensures { StepsFramed }
 {}
 
-/// So does an interrupt, as code of no module.
+/// An interrupt changes only bytes that the access table lets code of no module write, unless it
+/// resets the node.
 pub fn interrupts_framed()
     ensures { InterruptsFramed }
 {}
@@ -125,7 +127,7 @@ pub fn keeps_keys()
     ensures { KeepsKeys }
 {}
 
-/// And is so from power-on.
+/// At power-on the key of each live section is the chain's.
 pub fn power_on_has_keys()
     ensures { PowerOnHasKeys }
 {}

@@ -61,7 +61,7 @@ pub struct App {
 /// Where packets are counted no further.
 const CUT: u64 = 65_536;
 
-/// The kind of the device that is declared first.
+/// The kind of the first device that the module declares; `None` where it declares none.
 pub fn declared_kind(decls: &[Decl]) -> Option<DeviceKind>
     ensures { result ≡ declared_kind decls.now }
 {
@@ -371,10 +371,10 @@ impl App {
         self.nodes > 16 || self.devices.len() > 32 || self.parts.len() > 32 || self.links.len() > 64
     }
 
-    /// The counts keep the limits: 16 nodes, 32 devices, 32 parts of which 8 at a node, 64
-    /// connections, 16 ends at a part and 16 packets at an event. All that is named is there; a
-    /// part has a device exactly where its module declares one, at its node, of that kind and of no
-    /// other part.
+    /// Whether this is a valid application. The counts keep the limits: 16 nodes, 32 devices, 32
+    /// parts of which 8 at a node, 64 connections, 16 ends at a part and 16 packets at an event.
+    /// All that is named is there; a part has a device exactly where its module declares one, at
+    /// its node, of that kind and of no other part.
     #[tactic(auto, unfolding(crate::specs::Application::is_valid))]
     pub fn valid(&self) -> bool
         ensures { result ≡ is_valid (app_as self.now) }

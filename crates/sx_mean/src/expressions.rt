@@ -1,4 +1,4 @@
-//! What expressions are worth.
+//! The values of expressions.
 
 ghost use Rattle.std.specs.Prelude.{◌≡◌, ℕ, ◌≤◌, slice_index};
 ghost use Rattle.sx_lang.specs.View.{expression_of};

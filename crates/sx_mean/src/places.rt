@@ -1,4 +1,4 @@
-//! Where the names of a module lie.
+//! The cells and outputs that a module's names stand for.
 
 ghost use Rattle.std.specs.Prelude.{◌≡◌, ℕ, ◌+◌, ◌≤◌};
 ghost use Rattle.sx_lang.specs.Sizes.{declaration_cells, declared_cells};

@@ -122,9 +122,9 @@ fn outcome(
 }
 
 /// The acts of the event's handler, in order; the store's cells are then as the handler leaves
-/// them. An event without a handler, or of an input that the module doesn't have, changes nothing
-/// and gives no acts. The handler runs on a copy of the cells, so after an `Err` the store is
-/// unchanged.
+/// them. The error says that memory ran out. An event without a handler, or of an input that the
+/// module doesn't have, changes nothing and gives no acts. The handler runs on a copy of the cells,
+/// so after an `Err` the store is unchanged.
 pub fn react(
     alloc: Global,
     m: &Checked,

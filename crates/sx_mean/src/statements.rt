@@ -1,4 +1,4 @@
-//! What statements do.
+//! What statements do to locals, cells and acts.
 
 ghost use Rattle.std.specs.Prelude.{◌≡◌, ℕ, ◌<◌, ◌≤◌, OnOk, length, slice_set};
 ghost use Rattle.sx_lang.specs.View.{block_of, expression_of, statement_of};
@@ -131,7 +131,7 @@ fn run_statement(decls: &[Decl], s: &Stmt, moment: &mut Moment) -> Result<(), Al
     }
 }
 
-/// Runs a block, and ends its locals.
+/// Runs a block, and drops its locals.
 #[cycle(run)]
 pub fn run_block(decls: &[Decl], block: &Vec<Stmt>, moment: &mut Moment) -> Result<(), AllocError>
     requires { IsSized decls.now }

@@ -52,7 +52,8 @@ fn cells_of(alloc: Global, decls: &[Decl]) -> Result<Vec<u16>, AllocError>
 }
 
 impl Store {
-    /// The cells with their first values: a variable's own, and 0 for an array's elements.
+    /// The cells with their first values: a variable's own, and 0 for an array's elements. The
+    /// error says that memory ran out.
     pub fn initial(alloc: Global, m: &Checked) -> Result<Store, AllocError>
         ensures { IfOk result (λ s. s.cells.items ≡ initial_cells (source_tree m.now).decls) }
     {

@@ -45,7 +45,7 @@ fn take_plain(state: &mut State, app: &App, item: Item) -> bool
     }
 }
 
-/// Whether an item is allowed, and what it makes of the state; nothing where there is no memory.
+/// Whether an item is allowed, and what it makes of the state; `None` where memory ran out.
 fn take_item(alloc: Global, state: &mut State, app: &App, item: Item) -> Result<bool, AllocError>
     requires boots { All (λ b. b < 4294967295) state.old.boots }
     requires asks { state.old.asks < 4294967295 }
@@ -88,7 +88,7 @@ fn take_item(alloc: Global, state: &mut State, app: &App, item: Item) -> Result<
     }
 }
 
-/// Where a run of an application's source follows the items that were allowed.
+/// Where a run of an application's source stands after the items that were allowed.
 #[derive(Drop)]
 pub struct Model {
     alloc: Global,
@@ -113,7 +113,7 @@ fn count(words: &Words) -> u32
 }
 
 impl Model {
-    /// The model of an application at power-on.
+    /// The model of an application at power-on. The error says that memory ran out.
     #[tactic(auto, using(crate::proofs::Counts::none_counted))]
     pub fn new(alloc: Global, app: &App) -> Result<Model, AllocError>
         ensures state { IfOk result (λ model. model.state ≡ power_on (app_as app.now)) }
@@ -127,7 +127,7 @@ impl Model {
         })
     }
 
-    /// Takes an item, and says whether it's allowed: where it isn't, or there is no memory, nothing
+    /// Takes an item, and says whether it's allowed: where it isn't, or memory runs out, nothing
     /// changes.
     #[tactic(auto, using(crate::proofs::Counts::counted_more, crate::proofs::Agrees::steps_are))]
     pub fn step(&mut self, app: &App, item: &Item) -> Result<bool, AllocError>

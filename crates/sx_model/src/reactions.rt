@@ -16,8 +16,8 @@ use sx_mean::events::{End, SourceEvent};
 use sx_mean::reactions::react;
 use sx_mean::stores::Store;
 
-/// The module's handler runs, and what it sends is sent; what the module then owes. Where there is
-/// no memory, nothing is sent, and the module may have any cells.
+/// The module's handler runs, and what it sends is sent; what the module then owes. Where memory
+/// runs out, nothing is sent, and the module may have any cells.
 fn outcome(
     alloc: Global,
     code: &Checked,
@@ -39,7 +39,7 @@ fn outcome(
     Ok(Pending { emits, pieces })
 }
 
-/// The module reacts. Where there is no memory, nothing is sent, and the module may have any cells.
+/// The module reacts. Where memory runs out, nothing is sent, and the module may have any cells.
 fn react_present(
     alloc: Global,
     code: &Checked,
@@ -132,8 +132,8 @@ fn put_module(state: &mut State, module: u8, present: Present)
     }
 }
 
-/// A module is as this one after an event, and what it sends is sent; nothing changes where there
-/// is no memory.
+/// A module is as this one after an event, and what it sends is sent; nothing changes where memory
+/// runs out.
 pub(crate) fn react_module(
     alloc: Global,
     state: &mut State,

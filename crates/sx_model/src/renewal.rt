@@ -1,4 +1,4 @@
-//! Whether a module may be attested, and the connections' epochs after it.
+//! Whether a module may be attested, and the connections' epochs after the attestation.
 
 ghost use Rattle.std.specs.Prelude.{◌≡◌, ◌+◌, ◌<◌, ◌&&◌, IfOk, false, if◌then◌else◌, length, nat_le, true};
 ghost use Rattle.sx_model.specs.Renewal.{is_of, is_spent, may_attest, raised, renewed};

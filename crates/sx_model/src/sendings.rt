@@ -166,8 +166,8 @@ fn unsend(sent: &mut Vec<Words>, field: usize)
     }
 }
 
-/// Sends all that there is room for, and says how much that was; nothing is sent where there is no
-/// memory. An event sends little, so the recursion isn't deep.
+/// Sends all that there is room for, and says how much that was; nothing is sent where memory runs
+/// out. An event sends little, so the recursion isn't deep.
 #[tactic(auto, using(crate::proofs::Sent::taken_back, crate::proofs::Sent::no_room))]
 pub(crate) fn send_all(sent: &mut Vec<Words>, sendings: &[Sending]) -> Result<usize, AllocError>
     ensures pieces { IfOk result (λ n. n ≡ sent_pieces sendings.now sent.old.items) }

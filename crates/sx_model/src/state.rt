@@ -112,7 +112,7 @@ impl Model for Standing {
     ghost view = { λ x. record { present = x.present; asked = x.asked; vouched = x.vouched.items; attested = x.attested } };
 }
 
-/// The words that a connection was sent in an epoch.
+/// The words that were sent over a connection in an epoch.
 #[derive(Drop)]
 pub(crate) struct Words {
     pub(crate) words: Vec<u16>,

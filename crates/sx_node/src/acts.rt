@@ -1,4 +1,4 @@
-//! What others than the node's code may do to it.
+//! What may be done to a node from outside.
 
 ghost use Rattle.std.specs.Prelude.{◌≡◌, ◌≢◌, ◌<◌, ◌≤◌, ◌+◌, ℕ, false, length, slice_get, List};
 ghost use Rattle.std.specs.Prelude.{Ok, Err, Result, Option, Some, IfSome, IfNone, IfErr, OnOk};

@@ -1,4 +1,4 @@
-//! A node's copy.
+//! Copies of a node.
 
 ghost use Rattle.std.specs.Prelude.{◌≡◌, IfOk};
 

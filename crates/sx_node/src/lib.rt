@@ -2,7 +2,7 @@
 //! from outside.
 //!
 //! A node's value is the plain record `State` of `sx_machine`; each call of `Node` is the function
-//! of the same name there, whatever the bus and the tag. Guarding stands there too, as laws of
+//! of the same name there, whatever the bus and the tag. Guarding is stated there too, as laws of
 //! these functions, and here as clauses of the calls.
 #![tactic(auto)]
 

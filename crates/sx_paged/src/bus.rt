@@ -1,4 +1,4 @@
-//! The memory.
+//! The memory of 65,536 bytes, as its callers see it.
 
 ghost use Rattle.std.specs.Prelude.{◌≡◌, ℕ, slice_index, slice_set, IfOk};
 ghost use Rattle.sx_bus.specs.Memory.{blank, AreBytes};

@@ -2,7 +2,7 @@
 //!
 //! `parse::parse` reads a text to the tree of its module. It answers the module that the text
 //! spells by the grammar of `sx_grammar`, or the place of the text's first fault;
-//! `specs/Parsed.antt` says what is promised of an error. The other definitions in `specs/` say
+//! `specs/Parsed.antt` says what is promised about an error. The other definitions in `specs/` say
 //! what each part of the parser does to the grammar's machine.
 //!
 //! `print` and `printable` are those of `sx_print`. That what was printed is parsed to the same

@@ -57,7 +57,7 @@ fn module_of_text(alloc: Global, text: &str) -> Result<Module, ParseError>
 ///
 /// The error `Fault` has the place of the first token that can't follow the tokens before it by the
 /// grammar, or that breaks a bound; the end of the text is a token at the place after its last
-/// byte.
+/// byte. `OutOfMemory` says that memory ran out.
 pub fn parse(alloc: Global, text: &str) -> Result<Module, ParseError>
     // what is read is in the grammar
     ensures found { IfOk result (λ m. Spells text.now (module_of m)) }

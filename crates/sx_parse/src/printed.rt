@@ -11,7 +11,8 @@ use std::alloc::Global;
 use sx_lang::tree::Module;
 use sx_print::printing::print;
 
-/// Prints the module and parses the text: the same module again, unless memory runs out.
+/// Prints the module and parses the text. It is the same module again; the error says that memory
+/// ran out.
 pub fn reread(alloc: Global, m: &Module) -> Result<Module, ParseError>
     requires { is_printable (module_of m.now) ≡ true }
     ensures { MatchResult result (λ n. module_of n ≡ module_of m.now) (λ e. e ≡ OutOfMemory) }

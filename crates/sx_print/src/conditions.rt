@@ -11,7 +11,7 @@ use sx_lex::quoted::keyword;
 /// How many brackets and unary operators may be open at a time.
 const MOST_OPEN: u8 = 48;
 
-/// The name has the form of one, and is none of the language's own words.
+/// Whether the name has the form of one, and is none of the language's own words.
 fn is_plain(x: &Name) -> bool
     ensures { result ≡ is_plain x.now }
 {
@@ -103,7 +103,7 @@ fn names_in_handlers(handlers: &[Handler]) -> bool
     true
 }
 
-/// At most this many are open at a time. It looks no deeper than that.
+/// Whether at most this many are open at a time. It looks no deeper than that.
 fn opens_in_expression(e: &Expr, room: u8) -> bool
     ensures { result ≡ nat_le (expression_open (expression_of e.now)) room }
 {
@@ -161,9 +161,9 @@ fn opens_in_handlers(handlers: &[Handler]) -> bool
     true
 }
 
-/// The module can be printed: each name is a lower-case letter and up to 15 lower-case letters,
-/// digits or `_`, and no word of the language; and at most 48 of `(`, `[`, `{` and unary operators
-/// are open at a time in the text. It looks no deeper into a tree than 49 of them.
+/// Whether the module can be printed: each name is a lower-case letter and up to 15 lower-case
+/// letters, digits or `_`, and no word of the language; and at most 48 of `(`, `[`, `{` and unary
+/// operators are open at a time in the text. It looks no deeper into a tree than 49 of them.
 pub fn printable(m: &Module) -> bool
     ensures { result ≡ is_printable (module_of m.now) }
 {

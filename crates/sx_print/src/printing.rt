@@ -183,7 +183,7 @@ fn put_declarations(out: &mut Vec<u8>, decls: &[Decl]) -> Result<(), OutOfMemory
     Ok(())
 }
 
-/// Writes the event that a handler is of.
+/// Writes the event of a handler.
 fn put_event(out: &mut Vec<u8>, input: &Option<Name>) -> Result<(), OutOfMemory>
     ensures { OnOk result (Wrote out.old.items (event_pieces input.now) out.new.items) }
 {

@@ -71,7 +71,7 @@ fn stored(alloc: Global) -> Result<Stmt, Fail> {
     Ok(Stmt::Element(cells, index, element))
 }
 
-/// What the other has not.
+/// A module with the forms that the other lacks.
 fn rest(alloc: Global) -> Result<Module, Fail> {
     let x = name("x")?;
     let product = binary(alloc, BinOp::Mul, read("x")?, Expr::Number(10))?;

@@ -1,4 +1,4 @@
-//! Words are written one after the other, each with what follows it.
+//! The words of a text, which are written one after the other, each with what follows it.
 
 ghost use Rattle.std.specs.Prelude.{◌≡◌, ◌∷◌, ◌++◌, min, OnOk};
 ghost use Rattle.sx_lang.specs.declared.tree.BinOp.{BinOp};

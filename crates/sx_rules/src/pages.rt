@@ -37,7 +37,7 @@ fn meeting(live: &[Section], page: u8) -> u8
     meeting
 }
 
-/// Puts down for each page which sections meet it.
+/// Keeps for each page which sections meet it.
 pub fn index(pages: &mut [u8], live: &[Section])
     requires pages { length pages.old ≤ 256 }
     requires room { length live.now ≤ 8 }

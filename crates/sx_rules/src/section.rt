@@ -1,4 +1,4 @@
-//! Where a module stands.
+//! The section of a module: the bounds of its parts, its id and its key.
 
 /// The places of a module's two parts. A part goes from its start up to but not including its end.
 #[derive(Clone, Copy, Debug, PartialEq, Eq)]

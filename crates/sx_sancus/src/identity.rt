@@ -1,4 +1,4 @@
-//! Identities of modules, as a run of the tag takes them.
+//! Identities of modules, fed to a run of the tag.
 
 ghost use Rattle.std.specs.Prelude.{◌≡◌, ◌++◌, true, ℕ, List, None};
 ghost use Rattle.sx_bus.specs.Devices.{places_of};

@@ -1,4 +1,4 @@
-//! The instructions that protect a module and that end it.
+//! The instructions that protect a module and that remove it.
 
 ghost use Rattle.std.specs.Prelude.{◌≡◌, ℕ, List, Ok, IfOk, OnOk, OnErr};
 ghost use Rattle.std.specs.Result.{result_err};
@@ -50,8 +50,8 @@ fn answer<B: Bus>(executor: &mut Executor<B>, id: u16, number: u16)
     executor.conclude(id);
 }
 
-/// Admits the module that the registers name, with its key, and zeroes its private section. A
-/// module that is refused costs no key.
+/// Admits the module that the registers name, with its key, and zeroes its private section. No key
+/// is derived for a module that is refused.
 fn admit<B: Bus, T: Tag>(
     executor: &mut Executor<B>,
     tag: &T,

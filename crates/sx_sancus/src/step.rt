@@ -1,4 +1,4 @@
-//! One module instruction.
+//! Execution of one module instruction, by its code.
 
 ghost use Rattle.std.specs.Prelude.{◌≡◌, true, ℕ, List};
 ghost use Rattle.sx_machine.specs.ModuleRows.{module_row};

@@ -1,4 +1,4 @@
-//! Short texts.
+//! Texts of at most 32 bytes: headers, bodies and ciphers.
 
 ghost use Rattle.std.specs.Prelude.{◌≡◌, ◌≤◌, true, length, take};
 ghost use Rattle.sx_rules.specs.declared.access.Access.TheVariants.{Read};
@@ -29,7 +29,7 @@ impl Model for Text {
 }
 
 impl Text {
-    /// The first bytes of some.
+    /// The first `count` of these bytes.
     pub fn front(bytes: &[u8], count: usize) -> Text
         requires within { count ≤ length bytes.now }
         requires short { count ≤ 32 }

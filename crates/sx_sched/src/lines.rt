@@ -1,4 +1,4 @@
-//! The lines of a schedule.
+//! The lines of a schedule as values, and the rules that a text can break.
 
 /// One line of a schedule. Nodes, devices and modules are given by their indices in the lists of
 /// names, and packets by their numbers, from 0.
@@ -88,8 +88,8 @@ pub enum LineError {
     /// number is none or out of range; 6, a word isn't the hexadecimal text of as many bytes as are
     /// allowed; and last 8, a text isn't assembled to 1 to 1,024 bytes.
     Fault(u8),
-    /// There was no memory for the bytes of a `put` or `forge` that breaks no rule, or to assemble
-    /// the text of an `asm` that breaks none but perhaps rule 8.
+    /// Memory ran out for the bytes of a `put` or `forge` that breaks no rule, or to assemble the
+    /// text of an `asm` that breaks none but perhaps rule 8.
     OutOfMemory,
 }
 

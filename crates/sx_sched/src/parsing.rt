@@ -1,4 +1,4 @@
-//! Lines are read kind by kind: first the number of words, then word by word.
+//! From a text to a line, kind by kind: first the number of words, then word by word.
 
 ghost use Rattle.std.specs.Prelude.{◌≡◌, IfOk, IfErr, IsTrue};
 ghost use Rattle.sx_trace.specs.Names.{are_valid};

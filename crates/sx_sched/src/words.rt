@@ -7,7 +7,7 @@ ghost use Rattle.sx_sched.specs.Reading.{IsFault, no_word, one_word, two_words, 
 
 use crate::lines::{LineError, WRONG_COUNT};
 
-/// Whether a byte parts words.
+/// Whether a byte separates words.
 fn is_blank(byte: u8) -> bool
     ensures { result ≡ is_blank byte }
 {

@@ -7,11 +7,11 @@ ghost use Rattle.sx_stage.specs.Stage.{in_entry, made_after};
 use crate::fault::{DeployError, DeployFault, Sort, nth};
 use std::alloc::Global;
 
-/// What an entry that stays gives, after what those before it gave.
+/// What an entry becomes, where those before it became `done`.
 pub trait Derive<A, B> {
     ghost derives: { Self → List B → A → Result B FaultSeen };
 
-    /// The new entry, or the entry's fault, or lack of memory.
+    /// The new entry; or the entry's fault, or that memory ran out.
     fn derive(&self, alloc: Global, done: &[B], row: &A) -> Result<B, DeployError>
         ensures { Gives (λ b. b) result (derives self.now done.now row.now) };
 }

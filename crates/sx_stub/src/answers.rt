@@ -1,4 +1,4 @@
-//! Attest.
+//! The entry of attest: its tests, and the tag that answers an ask.
 
 ghost use Rattle.std.specs.Prelude.{◌<◌, OnOk, length};
 ghost use Rattle.sx_stub.specs.Puts.{Puts, PutsAt};

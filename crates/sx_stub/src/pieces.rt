@@ -1,4 +1,4 @@
-//! Pieces of which the protocol's parts are made.
+//! Pieces of code of which the protocol's parts are made.
 
 ghost use Rattle.std.specs.Prelude.{◌+◌, ◌<◌, ◌∷◌, [], OnOk, length};
 ghost use Rattle.sx_stub.specs.Puts.{Puts, PutsAt, Refuses, choice, searched};
@@ -7,7 +7,7 @@ ghost use Rattle.sx_stub.specs.Stub.{jump_on, returns};
 use std::alloc::AllocError;
 use sx_ir::{Ir, IrOp};
 
-/// The word of what an end is searched by.
+/// The word by which an end is searched for.
 pub const WANTED: u16 = 72;
 
 /// The word of 12 times the place of the end that was found.
@@ -74,8 +74,8 @@ pub fn put_jump_on(code: &mut Vec<Ir>, entry: u16, place: u16) -> Result<(), All
     put_all(code, &ops)
 }
 
-/// Appends a choice: where the word at an offset is the number, on after these operations, else at
-/// the place.
+/// Appends a choice: the code goes on after these operations where the word at an offset is the
+/// number, and else at the place.
 pub fn put_choice(
     code: &mut Vec<Ir>,
     offset: u16,

@@ -1,4 +1,4 @@
-//! The sensor's samples.
+//! The entry of a sample: the sensor is read, and its handler runs.
 
 ghost use Rattle.std.specs.Prelude.{◌≡◌, ◌<◌, ◌≤◌, OnOk, length};
 ghost use Rattle.sx_lang.specs.View.{module_of};

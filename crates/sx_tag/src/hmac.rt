@@ -10,7 +10,7 @@ const INNER_PAD: u8 = 0x36;
 
 const OUTER_PAD: u8 = 0x5C;
 
-/// HMAC-SHA-256.
+/// HMAC-SHA-256 (RFC 2104, over the SHA-256 of FIPS 180-4) as a tag.
 #[derive(Clone, Copy, Debug)]
 pub struct Hmac;
 

@@ -1,4 +1,4 @@
-//! The chain of keys.
+//! The chain of keys, from a node's key to a module's.
 
 ghost use Rattle.std.specs.Prelude.{◌≡◌, ℕ, List, [], ◌++◌, take};
 ghost use Rattle.sx_tag.specs.Keys as spec;

@@ -1,4 +1,4 @@
-//! What a tag is.
+//! The trait of tags.
 
 ghost use Rattle.std.specs.Prelude.{◌≡◌, ℕ, ◌≤◌, List, [], ◌++◌, length};
 ghost use Rattle.sx_tag.specs.Mac.{IsTag};

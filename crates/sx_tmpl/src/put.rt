@@ -1,4 +1,4 @@
-//! Words in a text.
+//! Appending of words to a text.
 
 ghost use Rattle.std.specs.Prelude.{◌≡◌, ◌++◌, ◌∷◌, [], OnOk};
 ghost use Rattle.sx_tmpl.specs.Text.{bytes_of};

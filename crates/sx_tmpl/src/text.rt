@@ -1,4 +1,4 @@
-//! The text of a code.
+//! From stack code to the text of its instructions.
 
 ghost use Rattle.std.specs.Prelude.{◌≡◌, ◌≤◌, ◌<◌, ◌+◌, ◌*◌, ◌++◌, ℕ, OnOk, IfOk, IsTrue, Some, length, slice_get};
 ghost use Rattle.sx_mean.specs.Offsets.{end_at};

@@ -85,8 +85,8 @@ fn judge<K: Sink>(alloc: Global, text: &[u8], output: &mut K) -> u8
     }
 }
 
-/// What the command `check` writes is that of the head that it took. That there is none takes no
-/// memory.
+/// What the command `check` writes is that of the head that it took. To say that there is no head
+/// takes no memory.
 fn check_told<S: Source, K: Sink>(alloc: Global, input: &mut S, output: &mut K) -> u8
     ensures { (meaning : Meaning) → IsMeaning meaning
         → Told S.tells K.tells head_lines (moment (S.at input.old) (K.at output.old))

@@ -1,4 +1,4 @@
-//! The top call.
+//! The call that does all that the program does.
 
 ghost use Rattle.std.specs.Prelude.{◌≡◌, map, string_bytes};
 ghost use Rattle.sx_told.specs.Told.{moment};

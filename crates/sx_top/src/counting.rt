@@ -1,5 +1,5 @@
-//! The run of the workload. Each of its lines is made, judged and acted, and its items are counted,
-//! before the next is made.
+//! The run of the workload. Each of its lines is made, judged and performed, and its items are
+//! counted, before the next is made.
 
 ghost use Rattle.std.specs.Prelude.{◌≡◌, ℕ, ◌+◌, ◌<◌, ◌≤◌, [], IfErr, OnOk, IsTrue};
 ghost use Rattle.sx_trace.specs.Names.{are_valid};
@@ -31,7 +31,7 @@ pub(crate) enum Stopped {
     OutOfMemory,
 }
 
-/// Acts a line, and gives its items alone.
+/// Performs a line, and gives its items alone.
 fn act<B: Bus, T: Tag>(
     plan: &Deployment,
     world: &mut World<B, T>,

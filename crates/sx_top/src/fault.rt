@@ -1,4 +1,4 @@
-//! The line of a fault.
+//! The last line of a command that names a rule and the line that breaks it.
 
 ghost use Rattle.std.specs.Prelude.{◌≡◌, ◌∷◌, [], ◌++◌, codes, decimal};
 ghost use Rattle.sx_told.specs.Told.{Ends, write_failed};

@@ -1,4 +1,4 @@
-//! The lines of images.
+//! The lines that show the images of modules.
 
 ghost use Rattle.std.specs.Prelude.{◌≡◌, ◌++◌, IfOk, OnOk, List};
 ghost use Rattle.sx_io.specs.Reading.{Answer};

@@ -1,4 +1,4 @@
-//! The listing of code.
+//! The listing of code: a line for each instruction.
 
 ghost use Rattle.std.specs.Prelude.{◌≡◌, ◌+◌, ◌%◌, ◌≤◌, ◌<◌, ◌++◌, length};
 ghost use Rattle.hex.specs.Hex.{encode_lower};

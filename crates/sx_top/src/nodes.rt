@@ -1,4 +1,4 @@
-//! The nodes of a deployment.
+//! The nodes of a deployment, as they are switched on.
 
 ghost use Rattle.std.specs.Prelude.{◌≡◌, ℕ, ◌<◌, List, IfOk};
 ghost use Rattle.sx_deploy.specs.Law.{IsSound};

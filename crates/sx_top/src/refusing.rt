@@ -1,4 +1,4 @@
-//! What is told of an input that isn't taken to its end: which rule its deployment breaks, or why
+//! What is written of an input that isn't read to its end: which rule its deployment breaks, or why
 //! it has no head.
 
 ghost use Rattle.std.specs.Prelude.{◌≡◌, IfOk, string_bytes};

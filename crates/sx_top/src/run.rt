@@ -117,7 +117,8 @@ fn run_text<S: Source, K: Sink, T: Tag + Copy>(
 }
 
 /// The command `run` over any tag: a deployment, the line `%%`, and a schedule, whose lines are
-/// acted and told while they are read. Gives the exit status, as `top` does for this command.
+/// performed and their items written while they are read. Gives the exit status, as `top` does for
+/// this command.
 pub fn run_over<S: Source, K: Sink, T: Tag + Copy>(
     alloc: Global,
     tag: T,

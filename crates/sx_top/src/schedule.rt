@@ -1,5 +1,5 @@
-//! The lines of a schedule. Each is judged and acted, and its items are written, before the next is
-//! read.
+//! The lines of a schedule. Each is judged and performed, and its items are written, before the
+//! next is read.
 
 ghost use Rattle.std.specs.Prelude.{◌≡◌, ◌+◌, ◌<◌, ◌≤◌, IsTrue};
 ghost use Rattle.sx_trace.specs.Names.{are_valid};
@@ -30,7 +30,7 @@ use sx_told::{OUT_OF_MEMORY, READ_FAILED, Turned, finish, put_text};
 use sx_trace::items::Item;
 use sx_world::world::World;
 
-/// Acts a line, and writes its items.
+/// Performs a line, and writes its items.
 fn tell<K: Sink, B: Bus, T: Tag>(
     output: &mut K,
     world: &mut World<B, T>,

@@ -1,5 +1,5 @@
-//! Lines of items are read: what a line would be an item of is looked for, and is the answer where
-//! its line is this one.
+//! From a line to its item: the only item that can have the line is found, and is the answer where
+//! it has that line.
 
 ghost use Rattle.std.specs.Prelude.{◌≡◌, ℕ, ◌<◌, ◌≤◌, length, position, IsTrue, IfSome, MatchOption};
 ghost use Rattle.sx_trace.specs.Names.{are_valid};
@@ -330,7 +330,7 @@ fn kind_in(names: &Names, kind: &[u8], fields: &[u8]) -> Option<Item>
     module_in(names, kind, module, fields)
 }
 
-/// The item that a line would be of.
+/// The only item that can have this line.
 #[tactic(auto, unfolding(crate::specs::Finding::item_in))]
 fn item_in(names: &Names, line: &[u8]) -> Option<Item>
     requires { IsTrue (are_valid names.now) }

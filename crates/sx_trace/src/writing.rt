@@ -1,4 +1,4 @@
-//! The lines of items are written.
+//! From an item to its line.
 
 ghost use Rattle.std.specs.Prelude.{◌≡◌, ℕ, ◌+◌, ◌≤◌, List, [], ◌∷◌, ◌++◌, length, take, drop, codes, decimal};
 ghost use Rattle.sx_trace.specs.Items.{name_at, name_or, cause_word, side_word, epoch_words, spaced, item_text, IsWritten};

@@ -53,7 +53,7 @@ fn nodes_of(alloc: Global, plan: &Deployment) -> Result<Vec<Node<FlatBus, Weak>>
     Ok(nodes)
 }
 
-/// Acts a line of a schedule in a world without modules.
+/// Performs a line of a schedule in a world without modules.
 fn act(
     rt: &impl Abort,
     alloc: Global,

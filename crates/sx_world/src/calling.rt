@@ -1,4 +1,4 @@
-//! A deployed module is called.
+//! The line `call`: a deployed module is called.
 
 ghost use Rattle.std.specs.Prelude.{◌≡◌, ℕ, ◌+◌, ◌<◌, ◌≤◌, length, slice_get, Some};
 ghost use Rattle.sx_deploy.specs.SeenDeployment.{deployed_as};

@@ -124,7 +124,7 @@ fn add_own(
     Ok(())
 }
 
-/// The boot at which a module of this many was last attested, if it was.
+/// The boot at which the k-th of this many modules was last attested, if it was.
 fn attested(deployer: &Deployer, parts: usize, k: u8) -> Option<u32>
     requires { parts ≤ length deployer.now.targets }
     ensures { result ≡ boot_in deployer.now parts k }

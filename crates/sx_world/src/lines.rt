@@ -17,7 +17,7 @@ use sx_tag::Tag;
 use sx_trace::items::Item;
 
 impl<B: Bus, T: Tag> Running<B, T> {
-    /// Acts a line.
+    /// Performs a line.
     pub(crate) fn act(
         &mut self,
         plan: &Deployment,

@@ -1,4 +1,4 @@
-//! A deployed image is put and protected.
+//! The line `load`: a deployed image is put into memory and protected.
 
 ghost use Rattle.std.specs.Prelude.{◌≡◌, ℕ, ◌+◌, ◌/◌, ◌<◌, ◌≤◌, length, slice_get, Some};
 ghost use Rattle.sx_deploy.specs.SeenDeployment.{deployed_as};

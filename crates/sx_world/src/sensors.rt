@@ -1,4 +1,4 @@
-//! Samples of sensors.
+//! The line `sense`: a sensor takes a sample.
 
 ghost use Rattle.std.specs.Prelude.{◌≡◌, ℕ, ◌<◌, List, length, slice_get, Some, true};
 ghost use Rattle.sx_deploy.specs.Law.{IsSound};

@@ -30,7 +30,7 @@ pub struct World<B: Bus, T: Tag> {
     sites: Vec<Site>,
     running: Running<B, T>,
     lines: u32,
-    /// Whether an act has run out of memory: nothing is acted then.
+    /// Whether memory ran out in an act: no further line is performed then.
     wanted: bool,
 }
 
@@ -80,9 +80,9 @@ impl<B: Bus, T: Tag> World<B, T> {
         })
     }
 
-    /// Acts a line of a schedule, and appends its items. The run stays legal up to the first item
-    /// that is forged. After memory ran out the items that were appended are the first of those
-    /// that were due, and no further line is acted.
+    /// Performs a line of a schedule, and appends its items. The run stays legal up to the first
+    /// item that is forged. After memory ran out the items that were appended are the first of
+    /// those that were due, and no further line is performed.
     pub fn act(
         &mut self,
         plan: &Deployment,
@@ -122,7 +122,7 @@ impl<B: Bus, T: Tag> World<B, T> {
         }
     }
 
-    /// How many lines were acted.
+    /// How many lines were performed.
     pub fn lines(&self) -> u32
         ensures { result ≡ self.now.lines }
     {
