@@ -1,4 +1,4 @@
--- What functions add that read parts of a text. Nobody has to believe this file.
+-- What the functions that read parts of a text add to its entries. Nobody has to believe this file.
 use Rattle.std.specs.Prelude.{◌≡◌, ℕ, List, ◌++◌, Option, Some, None, option_map, Result, Ok, Err}
 use Rattle.sx_asm.specs.declared.written.Item.{Item}
 use Rattle.sx_asm.specs.declared.written.Entry.{Entry}

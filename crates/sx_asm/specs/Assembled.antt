@@ -147,7 +147,7 @@ code_or_fault at es = code_with (labels_of at es) at es
 unfoldable pub assembled : ℕ → List ℕ → Result (List ℕ) AsmError
 assembled at text = read text >>= code_or_fault at
 
--- the answer is the one that is meant, unless memory runs out
+-- the answer is the right one, unless memory runs out
 abbrev pub Answers : {T V : Type 0} → (T → V) → Result V AsmError → Result T AsmError → Type 0
 Answers view meant (Ok x) = meant ≡ Ok (view x)
 Answers view meant (Err (Fault rule line)) = meant ≡ Err (Fault rule line)

@@ -4,7 +4,7 @@ use Rattle.sx_lex.specs.Words.{is_digit, digit_value, is_number, value}
 use Rattle.sx_asm.specs.Tokens.{joins}
 use Rattle.sx_asm.specs.Reading.{parts}
 
--- how many bytes at the start go on the run of the byte before them
+-- how many bytes at the start continue the run of the byte before them
 abbrev pub run_front : ℕ → List ℕ → ℕ
 run_front a [] = 0
 run_front a (b ∷ bs) = if joins a b then suc (run_front b bs) else 0

@@ -19,7 +19,7 @@ abbrev pub onto_first : {A : Type 0} → A → List (List A) → List (List A)
 onto_first x [] = (x ∷ []) ∷ []
 onto_first x (part ∷ more) = (x ∷ part) ∷ more
 
--- the parts between the elements that part them; one more than there are of these
+-- the parts between the separators; one more than there are of these
 abbrev pub parts : {A : Type 0} → (A → Bool) → List A → List (List A)
 parts at [] = [] ∷ []
 parts at (x ∷ xs) = if at x then [] ∷ parts at xs else onto_first x (parts at xs)

@@ -47,7 +47,7 @@ abbrev pub target : ℕ → ℤ → ℕ
 target next (pos n) = further next (2 * n)
 target next (negsuc n) = further next (65536 - 2 * (n + 1))
 
--- how many bytes of extension word the source has
+-- how many bytes the source's extension word has
 abbrev pub source_size : Operand → ℕ
 source_size src = 2 * length (place_of src).words
 

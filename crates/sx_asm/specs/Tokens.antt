@@ -51,7 +51,7 @@ token_of run =
     or_else (found_in signs run)
     (or_else (found_in registers run) (or_else (found_in instructions run) (value_token (kind_of run))))
 
--- spaces and tabs part tokens
+-- spaces and tabs separate tokens
 abbrev pub is_gap : List ℕ → Bool
 is_gap [] = false
 is_gap (b ∷ bs) = is_space b

@@ -27,7 +27,7 @@ HasLength (Array x n) = (1 ≤ n) × (n ≤ 1024)
 abbrev pub IsCount : ℕ → Type 0
 IsCount n = (1 ≤ n) × (n ≤ 256)
 
--- What a handler is. The locals are its parameter and each that is defined in it.
+-- What holds of a handler. The locals are its parameter and each that is defined in it.
 pub record IsFine (m : ModuleTree) (h : HandlerTree) : Type 0 where
   pub proper : All (IsProper m.decls) (handler_uses h)
   pub few_locals : length (locals h) ≤ 16
@@ -40,7 +40,7 @@ pub record IsFine (m : ModuleTree) (h : HandlerTree) : Type 0 where
   pub samples : h.input ≡ None → list_any is_sensor m.decls ≡ true
   pub emits : block_emits h.body ≡ true → list_any is_actuator m.decls ≡ true
 
--- what a module is
+-- what holds of a module
 pub record IsAccepted (m : ModuleTree) : Type 0 where
   pub declared_once : (x : List ℕ) → count_by (declares x) m.decls ≤ 1
   pub one_device : count_by is_device m.decls ≤ 1
@@ -53,6 +53,6 @@ pub record IsAccepted (m : ModuleTree) : Type 0 where
   pub arrays : All HasLength m.decls
   pub cells : declared_cells m.decls ≤ 1024
 
--- a module that breaks no rule is all of it
+-- all of this holds of a module that breaks no rule
 abbrev pub Accepts : Type 0
 Accepts = (m : ModuleTree) → first_broken m ≡ None → IsAccepted m

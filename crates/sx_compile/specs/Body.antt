@@ -46,7 +46,7 @@ body_parts tree ends = handlers_parts tree.decls ends 0 tree.handlers
 abbrev pub body_text : Layout → ModuleTree → List End → List ℕ
 body_text l tree ends = bytes_of (text_words_of l (body_ops tree ends) (body_parts tree ends))
 
--- where the instructions of a part's first operation begin, and those of its last, its return
+-- where the instructions of a part's first operation begin
 abbrev pub part_start : List Ir → ℕ × ℕ → ℕ
 part_start ops part = offset ops part.0
 

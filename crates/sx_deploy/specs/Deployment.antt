@@ -89,7 +89,7 @@ pub record IsDeployed (e : EntryLists) (outcome : Result Deployed DeployFault) :
   pub are_coded : AreCoded 0 e.modules coded
   pub comes : outcome ≡ (coded >>= deployed e)
 
--- what comes of a text's entries, or of the fault in them
+-- the deployment of a text's entries, or the fault that they have
 abbrev pub IsFrom : Result EntryLists DeployFault → Result Deployed DeployFault → Type 0
 IsFrom (Ok e) outcome = IsDeployed e outcome
 IsFrom (Err f) outcome = outcome ≡ Err f

@@ -27,7 +27,7 @@ is_taken devices node at = list_any (λ d. d.node == node && d.at == at) devices
 abbrev pub is_lost : List DeviceEntry → DeviceEntry → Bool
 is_lost earlier d = ((d.at % 2 == 1 || nat_lt d.at 0x0200) || nat_le 0xFFE0 d.at) || is_taken earlier d.node d.at
 
--- from the first byte up to, but not including, the last
+-- the bytes from `from` up to but not including `to`
 pub record Span : Type 0 where
   pub from : ℕ
   pub to : ℕ

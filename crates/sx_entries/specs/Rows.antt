@@ -71,7 +71,7 @@ module_row t = do
   source ← text_at (codes "source") t
   Some (record { name = name; node = node; provider = provider; text = text; start = start; source = source })
 
--- the two parts round the only dot
+-- the parts before and after the only dot
 abbrev pub end_of : List ℕ → Option EndRow
 end_of text = position (λ b. b == 46) text >>= (λ dot.
     if is_some (position (λ b. b == 46) (drop (dot + 1) text)) then None

@@ -12,7 +12,7 @@ use Rattle.sx_lex.specs.declared.tokens.Kind.TheVariants.{Number, Name, Sensor, 
 use Rattle.sx_lex.specs.declared.tokens.Placed.{Placed}
 use Rattle.sx_grammar.specs.Tokens.{Token, token, fits, factor_operator, addend_operator, comparison_operator}
 
--- the signs that the grammar asks for by themselves
+-- the signs that the grammar requires
 pub data Sign : Type 0 where
   An_open : Sign
   A_close : Sign
@@ -35,7 +35,7 @@ pub data Act : Type 0 where
   Do_declare : Decl → Act
   Do_handle : Option (List ℕ) → List ℕ → Act
 
--- after what a name is required
+-- what a required name comes after
 pub data After : Type 0 where
   After_let : After
   After_send : After
@@ -46,7 +46,7 @@ pub data After : Type 0 where
   After_on : After
   After_open : Option (List ℕ) → After  -- a handler's parameter, with its input
 
--- for what a number is required
+-- what a required number is for
 pub data Purpose : Type 0 where
   For_repeat : Purpose
   For_initial : List ℕ → Purpose
@@ -260,7 +260,7 @@ is_else Else = true
 is_else _ = false
 
 -- what is required once a token was read, if it may stand here: a part that may be left out is
--- passed by a token that isn't its
+-- passed over by a token that isn't its own
 abbrev pub step : (ℕ → Bool) → List Symbol → List Value → Kind → Option State
 step room [] vs k = None
 step room (Want f ∷ st) vs k = when (is_sign f k) st vs
@@ -312,7 +312,7 @@ abbrev pub read : List Symbol → List Value → List Placed → Outcome
 read st vs [] = ended (finish st vs)
 read st vs (t ∷ ts) = choose (step (fits true) st vs t.kind) (Refused (Some t)) (λ s. read s.0 s.1 ts)
 
--- the same, where some tokens may be added in thought
+-- the same of tokens to which others may be added, to tell whether a text can be continued
 abbrev pub reads : List Symbol → List Value → List Token → Option (List Value)
 reads st vs [] = finish st vs
 reads st vs (token k c ∷ ts) = choose (step (fits c) st vs k) None (λ s. reads s.0 s.1 ts)

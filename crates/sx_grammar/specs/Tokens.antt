@@ -15,13 +15,13 @@ unary_operator Tilde = Some Inv
 unary_operator Bang = Some Not
 unary_operator _ = None
 
--- of a term
+-- the operator between factors that a token is
 abbrev pub factor_operator : Kind → Option BinOp
 factor_operator Star = Some Mul
 factor_operator Ampersand = Some And
 factor_operator _ = None
 
--- of a sum
+-- the operator between addends that a token is
 abbrev pub addend_operator : Kind → Option BinOp
 addend_operator Plus = Some Add
 addend_operator Minus = Some Sub
@@ -40,7 +40,7 @@ comparison_operator GreaterEquals = Some Ge
 comparison_operator _ = None
 
 -- A token and whether the bounds are asked of it: they are asked of a text's own tokens, and not of
--- those that are added in thought to tell whether a text's prefix can go on. (Which names and
+-- those that are added to tell whether a prefix of a text can be continued. (Which names and
 -- numbers those are makes no difference to the grammar.)
 pub data Token : Type 0 where
   token : Kind → Bool → Token
@@ -50,7 +50,7 @@ abbrev pub given : List Placed → List Token
 given [] = []
 given (t ∷ ts) = token t.kind true ∷ given ts
 
--- tokens that are added in thought, of which no bound is asked
+-- tokens that are added to a prefix of a text, of which no bound is asked
 abbrev pub added : List Kind → List Token
 added [] = []
 added (k ∷ ks) = token k false ∷ added ks

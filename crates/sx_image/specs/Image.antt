@@ -1,4 +1,4 @@
--- Images, and what it is that a call enters a module.
+-- Images, and what it means that a call enters a module.
 use Rattle.std.specs.Prelude.{◌≡◌, ℕ, ◌-◌, List, [], slice_index}
 use Rattle.sx_lang.specs.Tree.{ModuleTree}
 use Rattle.sx_mean.specs.Application.{declared_kind}

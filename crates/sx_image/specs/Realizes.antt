@@ -1,4 +1,4 @@
--- What it is that an image realizes a module.
+-- What it means that an image realizes a module.
 use Rattle.std.specs.Prelude.{◌≡◌, ℕ, ◌+◌, nat_lt, nat_le, Bool, false, ◌&&◌, List, [], ◌∷◌, ◌++◌, length, slice_index, replicate}
 use Rattle.sx_lang.specs.Tree.{ModuleTree}
 use Rattle.sx_lang.specs.Sizes.{module_weight, module_data_size, module_cost}

@@ -21,7 +21,7 @@ pub record ModuleState : Type 0 where
   pub cells : List ℕ
   pub ends : List EndState
 
--- the epoch in a connection field, and the number of the connection
+-- the epoch of a connection field
 abbrev pub epoch_of : ℕ → ℕ
 epoch_of field = field / 256
 

@@ -9,7 +9,7 @@ use Rattle.sx_bus.specs.Devices.{device_at}
 use Rattle.sx_machine.specs.Ranges.{meets, passes_end}
 use Rattle.sx_invoke.specs.Setup.{Setup}
 
--- the bytes of the in-window, and of the out-window
+-- how many bytes the in-window has
 abbrev pub in_window_size : ℕ
 in_window_size = 40
 

@@ -35,7 +35,7 @@ After = Stepped Conf Halt
 abbrev pub stuck : After
 stuck = Stops Stuck
 
--- on to the next operation with this stack
+-- goes on to the next operation with this stack
 abbrev pub next : Conf → List ℕ → Conf
 next c stack = record c { place = c.place + 1; stack = stack }
 

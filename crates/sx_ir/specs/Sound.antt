@@ -64,7 +64,7 @@ is_sound_op ops parts size ir.Leave = true
 abbrev pub is_sound_part : ℕ → ℕ × ℕ → Bool
 is_sound_part ops part = nat_lt part.0 ops && nat_le part.1 ops
 
--- the bytes of a layout's sections
+-- how many bytes the public section has
 abbrev pub public_size : Layout → ℕ
 public_size l = l.pub_to - l.pub_from
 

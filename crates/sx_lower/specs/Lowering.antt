@@ -1,4 +1,4 @@
--- What it is that lowered code does what the source does.
+-- What it means that lowered code does what the source does.
 use Rattle.std.specs.Prelude.{◌≡◌, ℕ, ◌+◌, ◌*◌, ◌<◌, ◌≤◌, List, [], ◌∷◌, ◌++◌, length, true, Some, None, slice_get}
 use Rattle.std.specs.List.{list_all}
 use Rattle.sx_lang.specs.declared.sides.Side.TheVariants.{From}

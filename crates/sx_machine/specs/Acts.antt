@@ -1,5 +1,5 @@
--- What others than the node's code may do to it: an act is done or refused, and a refused act
--- changes nothing.
+-- What may be done to a node from outside: an act is done or refused, and a refused act changes
+-- nothing.
 use Rattle.std.specs.Prelude.{ℕ, ◌+◌, ◌*◌, ◌==◌, Bool, true, ◌||◌, not, if◌then◌else◌, List, length, slice_index, slice_set, ◌/◌, ◌%◌, Option, Some, None, Result, Ok, Err}
 use Rattle.sx_bus.specs.Devices.{sensed, places_of}
 use Rattle.sx_machine.specs.declared.kinds.Refused.{Refused}

@@ -1,5 +1,5 @@
--- What code answers and leaves where an outcome is due; after a violation nothing is said of
--- registers and memory.
+-- What code answers and leaves for an outcome of the definitions; after a violation nothing is said
+-- of registers and memory.
 use Rattle.std.specs.Prelude.{◌≡◌, ℕ, List, Result, Ok, Err}
 use Rattle.sx_rules.specs.declared.access.Violation.{Violation}
 use Rattle.sx_bus.specs.declared.devices.Window.{Window}

@@ -14,8 +14,8 @@ use Rattle.sx_machine.specs.Modules.{module_instruction}
 use Rattle.sx_machine.specs.Step.{pc_of, own_of, start, given, is_let_run, attempt}
 use Rattle.sx_machine.specs.Node.{AreRegisters}
 
--- a plain instruction's row, as code of its module; PC is after the first word, and the next
--- instruction after all
+-- a plain instruction's row, as code of its module; PC is after its first word, and `next` is the
+-- address after its last
 abbrev pub done_plainly : State → Instr → Outcome
 done_plainly a i =
     exec a.sections (own_of a) (row i (at_pc a.regs (onward (pc_of a) 2)) (onward (pc_of a) (2 * length (spelling i)))) (start a)

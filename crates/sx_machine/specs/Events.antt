@@ -16,7 +16,7 @@ use Rattle.sx_machine.specs.State.{State, reset}
 use Rattle.sx_machine.specs.Step.{pc_of, step}
 use Rattle.sx_machine.specs.Guard.{Act, Step, Restart, Put, Set, Take, Sense, Interrupt, acted}
 
--- the bytes of a layout's private part, and of its public part
+-- the bytes of a private section
 abbrev pub private_bytes : Layout → List ℕ → List ℕ
 private_bytes l mem = bytes_from mem l.priv_from (l.priv_to - l.priv_from)
 

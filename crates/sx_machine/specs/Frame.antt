@@ -27,7 +27,7 @@ abbrev pub StepsFramed : Type 0
 StepsFramed = (mac : Mac) (a : State) → Placed a.sections
     → Framed a.sections.live (own_of a) a.mem (step mac a).state.mem ⊎ ((step mac a).state ≡ reset a)
 
--- so does an interrupt, as code of no module
+-- an interrupt changes only bytes that code of no module may write, unless it resets the node
 abbrev pub InterruptsFramed : Type 0
 InterruptsFramed = (line : ℕ) (a : State) (seen : Seen) → (irq a line).shown ≡ Ok seen
     → Framed a.sections.live 0 a.mem (irq a line).state.mem ⊎ ((irq a line).state ≡ reset a)
@@ -51,7 +51,7 @@ RunsByTable = (mac : Mac) (a : State) → IsNode a → (step mac a).shown.event 
 abbrev pub HaveKeys : Mac → State → Type 0
 HaveKeys mac a = (s : Section) → Lives a.sections.live s → s.key ≡ chain_key mac a s.provider s.layout
 
--- every list of acts keeps that, and it holds from power-on
+-- every list of acts keeps that
 abbrev pub KeepsKeys : Type 0
 KeepsKeys = (mac : Mac) (acts : List Act) (a : State) → Placed a.sections → HaveKeys mac a → HaveKeys mac (acted_all mac acts a).state
 

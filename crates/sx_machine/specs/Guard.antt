@@ -1,4 +1,4 @@
--- What it is that a private section is guarded.
+-- What it means that a private section is guarded.
 use Rattle.std.specs.Prelude.{◌≡◌, ◌≢◌, ℕ, ◌<◌, true, false, ◌⊎◌, List, [], ◌∷◌, length, slice_index, Result}
 use Rattle.sx_rules.specs.declared.section.Section.{Section}
 use Rattle.sx_rules.specs.Access.{in_private, Lives}

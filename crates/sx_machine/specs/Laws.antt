@@ -8,11 +8,11 @@ use Rattle.sx_tag.specs.Mac.{Mac}
 use Rattle.sx_machine.specs.State.{State, power_on}
 use Rattle.sx_machine.specs.Guard.{Kept, Guarded, Act, Sight, acted, acted_all, FromOutside, AllFromOutside, Same, GuardedRun}
 
--- the sections of a node that is switched on are placed, and stay placed whatever happens
+-- the sections of a node that is switched on are placed
 abbrev pub PowerOnPlaced : Type 0
 PowerOnPlaced = (key : List ℕ) (devices : List Window) → Placed (power_on key devices).sections
 
--- whatever acts come, sections that do not meet at first never meet
+-- whatever acts come, sections that are placed stay placed
 abbrev pub StaysPlaced : Type 0
 StaysPlaced = (mac : Mac) (acts : List Act) (a : State) → Placed a.sections → Placed (acted_all mac acts a).state.sections
 

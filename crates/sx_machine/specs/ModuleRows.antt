@@ -65,7 +65,8 @@ attest mac g own =
 abbrev pub own_key : List ℕ → Bool
 own_key regs = slice_index regs 9 == 0
 
--- the buffers that wrap and unwrap name: key, header, and twice the length of the body
+-- the buffers that wrap and unwrap name: the key, the header, the text that is read, the place that
+-- is written, and the tag
 abbrev pub buffers : List ℕ → List Buffer
 buffers regs =
     record { at = slice_index regs 9; count = if own_key regs then 0 else 16 }

@@ -7,19 +7,19 @@ use Rattle.sx_machine.specs.State.{State, power_on}
 use Rattle.sx_machine.specs.Guard.{Act, acted_all}
 use Rattle.sx_machine.specs.Node.{IsNode, AreInForm, shapes}
 
--- a node that is switched on is one
+-- what holds of every node holds of one that is switched on
 abbrev pub PowerOnIsNode : Type 0
 PowerOnIsNode = (key : List ℕ) (devices : List Window) → ArePlaces (places_of devices) → HaveSamples devices → IsNode (power_on key devices)
 
--- and stays one
+-- every list of acts keeps what holds of every node
 abbrev pub StaysNode : Type 0
 StaysNode = (mac : Mac) (acts : List Act) (a : State) → AreInForm acts → IsNode a → IsNode (acted_all mac acts a).state
 
--- its devices keep their places and kinds
+-- the devices of a node keep their places and kinds
 abbrev pub KeepsDevices : Type 0
 KeepsDevices = (mac : Mac) (acts : List Act) (a : State) → AreInForm acts → IsNode a
     → shapes (acted_all mac acts a).state.devices ≡ shapes a.devices
 
--- it keeps its key
+-- a node keeps its key
 abbrev pub KeepsKey : Type 0
 KeepsKey = (mac : Mac) (acts : List Act) (a : State) → (acted_all mac acts a).state.key ≡ a.key

@@ -1,4 +1,4 @@
--- The instructions that protect a module and that end it (Sancus 2.0; the registers are own).
+-- The instructions that protect a module and that remove it (Sancus 2.0; the registers are own).
 use Rattle.std.specs.Prelude.{ℕ, ◌-◌, List, slice_index, slice_set, Option, Some, None}
 use Rattle.sx_tag.specs.Mac.{Mac}
 use Rattle.sx_tag.specs.Keys.{section_key, identity}

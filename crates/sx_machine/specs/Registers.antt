@@ -29,11 +29,11 @@ set_reg regs r v = slice_set regs (r % 16) (kept_in (r % 16) v)
 abbrev pub at_pc : List ℕ → ℕ → List ℕ
 at_pc regs pc = slice_set regs 0 pc
 
--- the flags in SR, and SR with these flags and its other bits as they were
+-- the flags in SR
 abbrev pub flags : List ℕ → Flags
 flags regs = flags_of (slice_index regs 2)
 
--- the registers with these flags in SR
+-- the registers with these flags in SR, whose other bits stay
 abbrev pub set_flags : List ℕ → Flags → List ℕ
 set_flags regs f = slice_set regs 2 (with_flags_in (slice_index regs 2) f)
 

@@ -22,7 +22,7 @@ pub record State : Type 0 where
   pub key : List ℕ
   pub exchange : Exchange
 
--- the exchange before a first one
+-- no header and no body yet
 abbrev pub no_exchange : Exchange
 no_exchange = record { ad = replicate 32 0; ad_len = 0; body = replicate 32 0; body_len = 0; own_key = false }
 

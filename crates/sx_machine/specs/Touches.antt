@@ -33,7 +33,7 @@ ShowsTouches = (mac : Mac) (a : State) → IsNode a
     → Replays a.sections.live (own_of a) (step mac a).shown.touch a.devices (step mac a).state.devices
     ⊎ ((step mac a).state ≡ reset a)
 
--- an interrupt's, as code of no module
+-- an interrupt's touches are all that it did at devices, as code of no module
 abbrev pub ShowsInterrupt : Type 0
 ShowsInterrupt = (line : ℕ) (a : State) (seen : Seen) → IsNode a → (irq a line).shown ≡ Ok seen
     → Replays a.sections.live 0 seen.touch a.devices (irq a line).state.devices ⊎ ((irq a line).state ≡ reset a)
@@ -50,7 +50,7 @@ abbrev pub Attributes : Type 0
 Attributes = (mac : Mac) (a : State) (s : Section) → IsNode a → Lives a.sections.live s → own_of a ≢ s.id
     → NoneInside s a.devices (step mac a).shown.touch
 
--- nor does an interrupt
+-- an interrupt touches no device in a section's private part
 abbrev pub AttributesInterrupt : Type 0
 AttributesInterrupt = (line : ℕ) (a : State) (s : Section) (seen : Seen) → IsNode a → Lives a.sections.live s
     → (irq a line).shown ≡ Ok seen → NoneInside s a.devices seen.touch

@@ -58,7 +58,8 @@ same_device None d = false
 same_device (Some a) None = false
 same_device (Some a) (Some b) = a == b
 
--- what a handler sends, each send times the connections from its output
+-- how many packets a handler makes at most: each send counts once for each connection from its
+-- output
 abbrev mutual
   pub statement_packets : (ℕ → ℕ) → List Decl → Statement → ℕ
   statement_packets links ds (Defines x e) = 0
@@ -101,7 +102,7 @@ parts_at parts node = count_by (λ q. q.node == node) parts
 abbrev pub parts_with : List PartTree → Option ℕ → ℕ
 parts_with parts device = count_by (λ q. same_device device q.device) parts
 
--- what is wrong with the part of this place
+-- the part's node is not there, or the part does not have the device that its module declares
 unfoldable pub is_misplaced : AppTree → PartTree → Bool
 is_misplaced a part = not (nat_lt part.node a.nodes) || not (is_driven a.devices part.node part.device (declared_kind part.tree.decls))
 
@@ -126,7 +127,7 @@ any_part test p (part ∷ parts) = test p part || any_part test (p + 1) parts
 abbrev pub is_port : Bool → Decl → Bool
 is_port output d = if output then is_output d else is_input d
 
--- the part of this place has this many ports of a kind that the number names one
+-- the number names a port of this kind, of the part of this place
 abbrev pub has_port : (Decl → Bool) → List PartTree → ℕ → ℕ → Bool
 has_port is_port [] p port = false
 has_port is_port (part ∷ parts) p port = if p == 0 then nat_lt port (count_by is_port part.tree.decls) else has_port is_port parts (p - 1) port

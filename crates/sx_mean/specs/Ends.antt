@@ -13,7 +13,7 @@ use Rattle.sx_mean.specs.Application.{AppTree, PartTree, ends_from, ends_to, lin
 abbrev pub sending : ℕ → ℕ → Link → Option End
 sending n p l = if l.from == p then Some (record { link = n; side = From; port = l.output }) else None
 
--- and its receiving end
+-- the part's receiving end of the n-th connection
 abbrev pub receiving : ℕ → ℕ → Link → Option End
 receiving n p l = if l.to == p then Some (record { link = n; side = To; port = l.input }) else None
 
@@ -40,7 +40,7 @@ abbrev pub ports_of : ModuleTree → Side → ℕ
 ports_of m From = count_by is_output m.decls
 ports_of m To = count_by is_input m.decls
 
--- of an earlier connection, or the sending end of the same
+-- the end is of an earlier connection, or the sending end of the same
 abbrev pub IsBefore : End → End → Type 0
 IsBefore a b = (a.link < b.link) ⊎ ((a.link ≡ b.link) × (a.side ≡ From) × (b.side ≡ To))
 
@@ -57,7 +57,7 @@ pub record AreCounted (app : AppTree) (p : ℕ) : Type 0 where
   pub all : length (ends_of app p) ≡ ends_from app.links p + ends_to app.links p
   pub sending : (output : ℕ) → senders (ends_of app p) output ≡ links_from app.links p output
 
--- so they are in each application
+-- in each application the ends of a part are those that its connections count
 abbrev pub EndsCounted : Type 0
 EndsCounted = (app : AppTree) (p : ℕ) → AreCounted app p
 

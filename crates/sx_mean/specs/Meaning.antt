@@ -54,11 +54,11 @@ abbrev pub or_cell : Option ℕ → ℕ → ℕ
 or_cell None cell = cell
 or_cell (Some value) cell = value
 
--- a local, else a variable's cell
+-- the value of a name: a local's, or else that of a variable's cell
 abbrev pub word : List Decl → State → List ℕ → ℕ
 word ds st x = or_cell (look_up st.locals x) (slice_index st.cells (place ds x))
 
--- past the array's end 0
+-- the value of an array's element; past the array's end it is 0
 abbrev pub element : List Decl → State → List ℕ → ℕ → ℕ
 element ds st x i = if nat_lt i (array_length ds x) then slice_index st.cells (place ds x + i) else 0
 
@@ -89,7 +89,7 @@ assign ds x v st =
     then record st { locals = slice_set st.locals (local_place st.locals x) (new_local x v) }
     else record st { cells = slice_set st.cells (place ds x) v }
 
--- past the array's end nothing
+-- the state with a new value of an element; past the array's end nothing changes
 abbrev pub assign_element : List Decl → List ℕ → ℕ → ℕ → State → State
 assign_element ds x i v st = if nat_lt i (array_length ds x) then record st { cells = slice_set st.cells (place ds x + i) v } else st
 
@@ -97,7 +97,7 @@ assign_element ds x i v st = if nat_lt i (array_length ds x) then record st { ce
 abbrev pub act : Act → State → State
 act a st = record st { acts = st.acts ++ a ∷ [] }
 
--- a block's locals end with it
+-- the state without the locals of a block that ended
 abbrev pub forget : ℕ → State → State
 forget n st = record st { locals = take n st.locals }
 

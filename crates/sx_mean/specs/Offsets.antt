@@ -50,7 +50,7 @@ scratch_at = 104
 abbrev pub stack_from : ℕ
 stack_from = 152
 
--- where the stack begins, after its first word
+-- the end of the stack's place, from which the stack grows down
 abbrev pub stack_to : ℕ
 stack_to = 512
 

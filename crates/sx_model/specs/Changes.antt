@@ -27,7 +27,7 @@ at_index xs i change = slice_get xs i >>? (λ x. change x >>? (λ y. Some (slice
 abbrev pub if_so : {A : Type 0} → Bool → Option A → Option A
 if_so b o = if b then o else None
 
--- the state after a change of one module, and of one device
+-- the state after a change of one module
 abbrev pub on_module : Model → ℕ → (Standing → Option Standing) → Option Model
 on_module s m change = at_index s.modules m change >>? (λ xs. Some (record s { modules = xs }))
 

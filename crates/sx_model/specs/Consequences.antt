@@ -1,4 +1,4 @@
--- What a legal trace tells: which numbers rise along it, and what stands before a reading and an
+-- What a legal trace tells: which numbers rise along it, and what comes before a reading and an
 -- output.
 use Rattle.std.specs.Prelude.{◌≡◌, ℕ, ◌<◌, ◌==◌, ◌&&◌, Bool, true, false, List, ◌∷◌, ◌++◌, Option, Some, None, slice_get}
 use Rattle.std.specs.List.{list_any}

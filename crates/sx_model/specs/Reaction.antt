@@ -10,7 +10,8 @@ use Rattle.sx_mean.specs.declared.events.Act.TheVariants.{Send, Emit}
 use Rattle.sx_mean.specs.React.{react}
 use Rattle.sx_model.specs.State.{EndView, Present}
 
--- while acts are done: what each connection was sent in each epoch, the emits, and how many pieces
+-- while acts are done: what was sent over each connection in each epoch, the emits, and how many
+-- pieces
 pub record Flow : Type 0 where
   pub sent : List (List ℕ)
   pub emits : List ℕ

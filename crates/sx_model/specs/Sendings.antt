@@ -22,7 +22,7 @@ to_send [] views output v = []
 to_send (e ∷ es) [] output v = []
 to_send (e ∷ es) (view ∷ views) output v = option_to_list (sending_of e view output v) ++ to_send es views output v
 
--- what an act is sent as, and all acts
+-- what an act is sent as
 abbrev pub act_to_send : List End → List EndView → Act → List Sending
 act_to_send es views (Send output v) = to_send es views output v
 act_to_send es views (Emit v) = []
@@ -32,7 +32,7 @@ abbrev pub all_to_send : List End → List EndView → List Act → List Sending
 all_to_send es views [] = []
 all_to_send es views (a ∷ acts) = act_to_send es views a ++ all_to_send es views acts
 
--- what an act emits, and all acts
+-- what an act emits
 abbrev pub emits_of_act : Act → List ℕ
 emits_of_act (Send output v) = []
 emits_of_act (Emit v) = v ∷ []
@@ -56,7 +56,7 @@ with_word c v (Some words) sent = if nat_lt (length words) MOST_SENT then slice_
 abbrev pub sent_one : Sending → List (List ℕ) → List (List ℕ)
 sent_one x sent = with_word x.field x.value (slice_get sent x.field) sent
 
--- what was sent after all of these, and how many of them were
+-- the words after all of these were sent, as far as there is room
 abbrev pub sent_words : List Sending → List (List ℕ) → List (List ℕ)
 sent_words [] sent = sent
 sent_words (x ∷ xs) sent = sent_words xs (sent_one x sent)

@@ -48,8 +48,8 @@ pub record Standing : Type 0 where
 unfoldable pub FIELDS : ℕ
 FIELDS = 65536
 
--- the nodes' boots, the devices, the modules, the connections' epochs, the words that each
--- connection was sent in each epoch (those of connection c in epoch e at index c + 256 e), and the
+-- the nodes' boots, the devices, the modules, the connections' epochs, the words that were sent
+-- over each connection in each epoch (those of connection c in epoch e at index c + 256 e), and the
 -- number of asks
 pub record Model : Type 0 where
   pub boots : List ℕ

@@ -36,7 +36,7 @@ with_slot pages page at byte = set pages page (set (get_or pages page []) at (So
 abbrev pub first : List (List Slot) → ℕ → Slot
 first pages page = slot_of pages page 0
 
--- from a page on this many free ones are linked. Each is marked as it is passed, so none comes
+-- From a page on, this many free ones are linked. Each is marked as it is passed, so none comes
 -- twice
 abbrev pub IsChain : List Bool → List (List Slot) → ℕ → ℕ → Type 0
 IsChain lives pages page zero = Unit {0}

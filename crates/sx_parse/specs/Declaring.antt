@@ -9,7 +9,7 @@ use Rattle.sx_grammar.specs.Machine.{Symbol, Value, read, Outcome, Read, Refused
 use Rattle.sx_parse.specs.declared.stop.Stop.{Stop}
 use Rattle.sx_parse.specs.declared.stop.Stop.TheVariants.{Fault, Memory}
 
--- a module in the making
+-- the values while a module is read: its declarations and handlers so far
 abbrev pub holding : List Decl → List HandlerTree → List Value
 holding ds hs = Of_module (record { decls = ds; handlers = hs }) ∷ []
 

@@ -14,9 +14,7 @@ use Rattle.sx_sched.specs.declared.lines.LineError.TheVariants.{Fault, OutOfMemo
 use Rattle.sx_sched.specs.Lines.{line_of, IsLine, Line, Blank, Run, Finish, Put, Set, Take, Give, Forge, Sense, Irq, Reset, Ask, Answer, Load, Call}
 use Rattle.sx_sched.specs.Words.{words_of, text_behind}
 
--- the rules that a line may break: an unknown first word, an unknown name, no number or one that is
--- out of range, no hexadecimal text of as many bytes as are allowed, a wrong number of words, no
--- code of 1 to 1,024 bytes
+-- rule 3: the first word is none of the kinds of line
 abbrev pub no_kind : LineError
 no_kind = Fault 3
 
@@ -28,7 +26,7 @@ no_name = Fault 4
 abbrev pub no_number : LineError
 no_number = Fault 5
 
--- rule 6: a word is not bytes in hexadecimal, or too many of them
+-- rule 6: a word is not the hexadecimal text of as many bytes as are allowed
 abbrev pub no_bytes : LineError
 no_bytes = Fault 6
 
@@ -36,7 +34,7 @@ no_bytes = Fault 6
 abbrev pub wrong_count : LineError
 wrong_count = Fault 7
 
--- rule 8: the text of an `asm` line gives no code
+-- rule 8: the text of an `asm` line gives no code of 1 to 1,024 bytes
 abbrev pub no_code : LineError
 no_code = Fault 8
 
@@ -300,7 +298,7 @@ MayWant Takes text (Ok x) = Takes x
 MayWant Takes text (Err (Fault rule)) = (rule ≡ 8) × IsTrue (is_utf8 text)
 MayWant Takes text (Err OutOfMemory) = ⊥
 
--- the answer is the one that is meant; memory may run out only where some may be needed
+-- the answer is the defined one; memory may run out only where some may be needed
 abbrev pub Answers : {T V : Type 0} → (T → V) → (Result V LineError → Type 0) → Result V LineError → Result T LineError → Type 0
 Answers view Wants meant (Ok x) = meant ≡ Ok (view x)
 Answers view Wants meant (Err (Fault rule)) = meant ≡ Err (Fault rule)

@@ -1,7 +1,7 @@
 -- The words of a schedule's line, and the text after some of them.
 use Rattle.std.specs.Prelude.{ℕ, zero, suc, ◌==◌, Bool, ◌||◌, if◌then◌else◌, List, [], ◌∷◌, ◌++◌}
 
--- spaces and tabs part words
+-- spaces and tabs separate words
 abbrev pub is_blank : ℕ → Bool
 is_blank b = b == 32 || b == 9
 

@@ -1,4 +1,4 @@
--- Faults, and answers that are the meant ones but for lack of memory.
+-- Faults, and answers that are the defined ones unless memory ran out.
 use Rattle.std.specs.Prelude.{◌≡◌, ℕ, min, Option, Some, None, Result, Ok, Err}
 use Rattle.sx_stage.specs.declared.fault.Sort.{Sort}
 use Rattle.sx_stage.specs.declared.fault.Place.{Place}
@@ -7,7 +7,7 @@ use Rattle.sx_stage.specs.declared.fault.DeployFault.{DeployFault}
 use Rattle.sx_stage.specs.declared.fault.DeployError.{DeployError}
 use Rattle.sx_stage.specs.declared.fault.DeployError.TheVariants.{Fault, OutOfMemory}
 
--- the answer, seen as plain data, is the one that is meant, lack of memory apart
+-- the answer, seen as plain data, is the defined one, unless memory ran out
 abbrev pub Gives : {T V : Type 0} → (T → V) → Result T DeployError → Result V DeployFault → Type 0
 Gives view (Ok x) meant = meant ≡ Ok (view x)
 Gives view (Err OutOfMemory) meant = Unit {0}
@@ -36,7 +36,7 @@ abbrev pub passes : Option DeployFault → Result (Unit {0}) DeployFault
 passes None = Ok tt
 passes (Some f) = Err f
 
--- the answer is one of those that are meant, lack of memory apart
+-- the answer is one of those that are allowed, unless memory ran out
 abbrev pub GivesOne : {T V : Type 0} → (T → V) → Result T DeployError → (Result V DeployFault → Type 0) → Type 0
 GivesOne view (Ok x) AreMeant = AreMeant (Ok (view x))
 GivesOne view (Err OutOfMemory) AreMeant = Unit {0}

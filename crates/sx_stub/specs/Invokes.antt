@@ -1,4 +1,4 @@
--- What it is that stack code does an invocation.
+-- What it means that stack code does an invocation.
 use Rattle.std.specs.Prelude.{◌≡◌, ℕ, ◌+◌, ◌<◌, ◌≤◌, false, List, [], length, All, slice_get, Some, None}
 use Rattle.sx_lang.specs.Sizes.{module_data_size}
 use Rattle.sx_mean.specs.declared.events.SourceEvent.{SourceEvent}

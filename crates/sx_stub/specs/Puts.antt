@@ -27,7 +27,8 @@ PutsCase cs k e = PutsAt (λ p. case_of cs p k e)
 abbrev pub PutsCases : Cases → List End → List Ir → List Ir → Type 0
 PutsCases cs ends = PutsAt (λ p. cases cs p 0 ends)
 
--- a choice: where the word at an offset is the number, on after it, else at the place
+-- a choice: the code goes on after it where the word at an offset is the number, and else at the
+-- place
 abbrev pub choice : ℕ → ℕ → ℕ → ℕ → List Ir
 choice offset number otherwise place = ir.Load offset ∷ ir.Push number ∷ ir.Op op.Sub ∷ ir.JumpZero (place + 5) ∷ ir.Jump otherwise ∷ []
 

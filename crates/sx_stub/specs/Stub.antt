@@ -14,7 +14,7 @@ use Rattle.sx_ir.specs.declared.ir.IrOp.TheVariants as op
 use Rattle.sx_ir.specs.declared.ir.Ir.{Ir}
 use Rattle.sx_ir.specs.declared.ir.Ir.TheVariants as ir
 
--- Until a handler begins, its locals have room for which end a packet is for.
+-- Until a handler begins, the words of its locals keep which end a packet is for.
 
 -- what is searched for
 abbrev pub wanted_at : ℕ
@@ -50,7 +50,7 @@ returns status = ir.Push status ∷ ir.Push 0 ∷ ir.Leave ∷ []
 abbrev pub refuse_if : ℕ → List Ir → ℕ → List Ir
 refuse_if place test status = test ++ ir.JumpZero (place + length test + 4) ∷ returns status
 
--- on to a place where the caller's entry is this one
+-- goes on at a place where the caller's entry is this one
 abbrev pub jump_on : ℕ → ℕ → List Ir
 jump_on entry place = ir.Saved 12 ∷ ir.Push entry ∷ ir.Op op.Sub ∷ ir.JumpZero place ∷ []
 
@@ -99,7 +99,7 @@ index_of k e = 12 * k
 abbrev pub named_end : ℕ → End → ℕ
 named_end k e = e.link + 256 * truth (is_to e.side)
 
--- on to where the index is kept
+-- goes on to where the index is kept
 abbrev pub with_index : ℕ → ℕ → ℕ → End → List Ir
 with_index found place k e = ir.Push (12 * k) ∷ ir.Jump found ∷ []
 

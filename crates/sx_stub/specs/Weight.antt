@@ -21,6 +21,6 @@ routine_bytes (e ∷ es) = (if is_receiving e then 0 else 112) + routine_bytes e
 abbrev pub FitsWeight : List End → List Ir → Type 0
 FitsWeight ends code = ops_bytes code + once_bytes + routine_bytes ends ≤ 2048 + 192 * length ends
 
--- the stub's operations do
+-- the stub's operations fit into the weight
 abbrev pub StubFits : Type 0
 StubFits = (tree : ModuleTree) (ends : List End) → length ends ≤ 16 → FitsWeight ends (stub_ops tree ends)

@@ -19,11 +19,11 @@ pub record IsTag (mac : Mac) : Type 0 where
 abbrev pub padded_key : List ℕ → List ℕ
 padded_key key = key ++ replicate (64 - length key) 0
 
--- K XOR ipad and K XOR opad of RFC 2104
+-- the inner padded key, K XOR ipad of RFC 2104: each byte exclusive or 0x36
 abbrev pub inner_key : List ℕ → List ℕ
 inner_key key = map (λ b. bit_xor b 0x36) (padded_key key)
 
--- the outer padded key: each byte exclusive or 0x5C (RFC 2104)
+-- the outer padded key, K XOR opad of RFC 2104: each byte exclusive or 0x5C
 abbrev pub outer_key : List ℕ → List ℕ
 outer_key key = map (λ b. bit_xor b 0x5C) (padded_key key)
 

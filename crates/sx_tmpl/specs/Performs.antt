@@ -1,4 +1,4 @@
--- What it is that instructions do stack code.
+-- What it means that instructions do what stack code does.
 use Rattle.std.specs.Prelude.{◌≡◌, ℕ, ◌+◌, ◌%◌, ◌≤◌, ◌<◌, ◌⊎◌, false, List, [], ◌++◌, length, slice_index, slice_get, Option, Some, None}
 use Rattle.sx_lang.specs.Tree.{ModuleTree}
 use Rattle.sx_mean.specs.declared.events.End.{End}

@@ -86,7 +86,7 @@ judged (Some bad) code = Err (error.Fault 1 (first_bad bad code))
 abbrev pub code_at : ℕ → Gathered → Result (List ℕ) AsmError
 code_at at g = judged g.bad (assembled at g.text)
 
--- status 10: a rule is broken; no text gives the error of lack of memory
+-- status 10: a rule is broken; no text gives the error `OutOfMemory`
 abbrev pub refused : AsmError → Output
 refused (error.Fault rule number) = fault_output (codes "fault asm A") rule number 10
 refused error.OutOfMemory = record { text = []; status = out_of_memory }

@@ -16,7 +16,7 @@ use Rattle.sx_top.specs.Run.{broken, done}
 use Rattle.sx_top.specs.Schedule.{judged}
 use Rattle.sx_top.specs.Workload.{gen_run}
 
--- The line with this number keeps the rules, and was acted in the world w: the program's world
+-- The line with this number keeps the rules, and was performed in the world w: the program's world
 -- stands at the next one, and these are the line's items.
 pub record ActsIn (names : NameLists) (set : Setting) (left : Held) (number : ℕ) (text : List ℕ)
     (items : List Item) (w : World) : Type 0 where

@@ -60,7 +60,7 @@ given number (Fault ∷ more) = Unread
 given number (Line text ∷ more) = on_line number (line_bytes number text) (given (number + 1) more)
 
 -- This many bytes can be listed from this address on: both are even, the bytes are few enough, and
--- none lies after 0xFFFF.
+-- none lies above 0xFFFF.
 abbrev pub is_listed : ℕ → ℕ → Bool
 is_listed at count =
     count % 2 == 0 && at % 2 == 0 && nat_le count most_code && nat_le (at + count) 65536

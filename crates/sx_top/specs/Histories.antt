@@ -29,7 +29,7 @@ AllLived mac v w = (n : ℕ) (b : State) → slice_get w.nodes n ≡ Some b → 
 abbrev pub stands : Setting → List Line → World
 stands set lines = (run set (switched_on set) lines).world
 
--- whatever lines were run, and whatever lines are run then
+-- whatever lines were run before, each node lives so through any further lines
 abbrev pub IsGuarded : Setting → Type 0
 IsGuarded set =
     (lines more : List Line)

@@ -21,7 +21,7 @@ pub record Schedule : Type 0 where
   pub lines : List Line
   pub stop : Stop
 
--- the rule that a text breaks; no text gives the error of lack of memory
+-- the rule that a text breaks; no text gives the error `OutOfMemory`
 abbrev pub rule_of : LineError → ℕ
 rule_of (error.Fault rule) = rule
 rule_of error.OutOfMemory = 0

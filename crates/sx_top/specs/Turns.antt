@@ -33,7 +33,8 @@ TellsLine to_tell k0 k1 names set line held turned =
     → Does to_tell k0 k1 (λ more. told_by names (done set w line) (λ v. left v more)) turned
     (left (done set w line).world)
 
--- The line with this number was acted in the world w and told, or the command ended.
+-- The line with this number was performed in the world w and its items were written, or the command
+-- ended.
 pub record Turns (to_tell : Bool) (k0 k1 : SinkAt) (names : NameLists) (set : Setting) (left : Held)
     (number : ℕ) (text : List ℕ) (turned : Turned) (w : World) : Type 0 where
   pub next : World

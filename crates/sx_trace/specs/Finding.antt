@@ -77,7 +77,7 @@ side_of word =
     else if bytes_eq word (codes "to") then Some To
     else None
 
--- no epoch is 0, as no digit is
+-- the item `open` of these words; an epoch that is left out is 0, since no digits write 0
 abbrev pub open_in : NameLists → ℕ → List ℕ → Option Item
 open_in n m fields = do
   link ← place_of n.links (cut fields).0
@@ -107,7 +107,7 @@ packet_in fields = do
   len ← up_to 65535 (cut fields).1
   Some (Packet number len)
 
--- of these kinds, what a module did with numbers alone
+-- an item of a module and one number
 abbrev pub numbered_in : List ℕ → ℕ → List ℕ → Option Item
 numbered_in kind m fields =
     if bytes_eq kind (codes "read") then up_to 65535 fields >>= (λ value. Some (Read m value))
@@ -169,6 +169,6 @@ kind_in n kind fields =
     else if is_of_device kind then place_of n.devices (cut fields).0 >>= (λ d. device_in kind d (cut fields).1)
     else place_of n.modules (cut fields).0 >>= (λ m. module_in n kind m (cut fields).1)
 
--- the item that a line would be of
+-- the only item that can have this line
 unfoldable pub item_in : NameLists → List ℕ → Option Item
 item_in n line = kind_in n (cut line).0 (cut line).1

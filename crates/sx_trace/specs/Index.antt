@@ -1,4 +1,4 @@
--- What it is that an index is one of a list of names.
+-- What it means that an index is one of a list of names.
 use Rattle.std.specs.Prelude.{◌≡◌, ℕ, ◌<◌, ◌≤◌, List, [], ◌∷◌, ◌++◌, length, Some}
 use Rattle.std.specs.Str.{bytes_eq}
 use Rattle.indexmap.specs.IndexMap.{get}

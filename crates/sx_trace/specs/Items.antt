@@ -34,7 +34,7 @@ abbrev pub side_word : Side → List ℕ
 side_word From = codes "from"
 side_word To = codes "to"
 
--- an epoch is a word, but 0 is none
+-- the words of an epoch: none for 0, else one
 abbrev pub epoch_words : ℕ → List (List ℕ)
 epoch_words epoch = if epoch == 0 then [] else decimal epoch ∷ []
 

@@ -18,7 +18,7 @@ pub record IsSetKey (p : SetKeyPacket) : Type 0 where
   pub cipher : length p.cipher ≡ 16
   pub mac : length p.mac ≡ 16
 
--- two packets with the same bytes are the same
+-- two event packets with the same bytes are equal
 abbrev pub EventSpelledOnce : Type 0
 EventSpelledOnce = (p q : EventPacket) → IsEvent p → IsEvent q → event_packet p ≡ event_packet q → p ≡ q
 

@@ -37,7 +37,7 @@ event_packet p = event_header p.link p.number ++ p.cipher ++ p.mac
 abbrev pub begins : ℕ → List ℕ → Bool
 begins kind bytes = (slice_index bytes 0 == kind) && (slice_index bytes 1 == 0)
 
--- the bytes are a packet of the kind
+-- bytes with the length and the first two bytes of a set-key packet
 abbrev pub is_set_key : List ℕ → Bool
 is_set_key bytes = (length bytes == 38) && begins 1 bytes
 

@@ -1,4 +1,4 @@
--- How a run goes on with the line that the program's world acts.
+-- How a run goes on with the line that the program's world performs.
 use Rattle.std.specs.Prelude.{◌≡◌, List, [], ◌∷◌, ◌++◌}
 use Rattle.sx_trace.specs.declared.items.Item.{Item}
 use Rattle.sx_sched.specs.Lines.{Line}

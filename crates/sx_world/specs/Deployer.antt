@@ -76,7 +76,7 @@ pub record Grant : Type 0 where
 abbrev pub grant_header : Grant → List ℕ
 grant_header g = set_key_header g.«end».link g.epoch (side_number g.«end».side)
 
--- the set-key packet, and its entry
+-- the set-key packet of a grant
 abbrev pub set_key : Setting → Site → Grant → List ℕ
 set_key set site g =
     let w = wrapped set.mac (key_of set site g.boot) (grant_header g) (connection_key set g.«end».link g.epoch) in

@@ -17,7 +17,7 @@ use Rattle.sx_world.specs.State.{World, Acted}
 use Rattle.sx_world.specs.Observation.{unless_made}
 use Rattle.sx_world.specs.Acts.{then_, keys_given}
 
--- the boot at which a module of this many was last attested, if it was
+-- the boot at which the k-th of this many modules was last attested, if it was
 abbrev pub boot_in : Keeping → ℕ → ℕ → Option ℕ
 boot_in d parts k = if nat_lt k parts then attested_at d k else None
 

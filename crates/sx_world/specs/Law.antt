@@ -61,7 +61,8 @@ pub record IsDeployed (set : Setting) (m : ℕ) (q : PartTree) (site : Site) : T
   pub device : (d : ℕ) → q.device ≡ Some d → IsDriven set q site d
   pub none : q.device ≡ None → declared_kind q.tree.decls ≡ None
 
--- the plan's conditions
+-- what the law asks of a setting: a lawful tag, lists that fit the application, devices at places
+-- of their own, and modules that are deployed as the application says, on bytes of their own
 pub record IsSound (set : Setting) : Type 0 where
   pub tag : IsTag set.mac
   pub keys : length set.keys ≡ set.app.nodes

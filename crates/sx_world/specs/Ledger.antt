@@ -6,7 +6,7 @@ use Rattle.sx_ledger.specs.declared.entry.Maker.TheVariants.{Deployer, Module}
 use Rattle.sx_machine.specs.declared.kinds.Exchange.{Exchange}
 pub use Rattle.sx_ledger.specs.Made.{Made, NO_TARGET}
 
--- an entry of these
+-- an entry with these parts
 abbrev pub made : Maker → ℕ → ℕ → List ℕ → List ℕ → Made
 made maker target boot header body = record { maker = maker; target = target; boot = boot; header = header; body = body }
 
@@ -26,7 +26,7 @@ same_entry a b =
 abbrev pub is_made : List Made → Made → Bool
 is_made ledger e = list_any (same_entry e) ledger
 
--- the header and the body of an exchange
+-- the header of an exchange
 abbrev pub header_of : Exchange → List ℕ
 header_of x = take x.ad_len x.ad
 

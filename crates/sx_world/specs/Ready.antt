@@ -1,4 +1,4 @@
--- What acting a line asks of how a run stands.
+-- What performing a line requires of where a run stands.
 use Rattle.std.specs.Prelude.{◌≡◌, ℕ, ◌+◌, ◌<◌, ◌≤◌, List, length, slice_get, Some}
 use Rattle.sx_machine.specs.State.{State}
 use Rattle.sx_machine.specs.Node.{shapes}

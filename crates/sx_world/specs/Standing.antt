@@ -7,8 +7,8 @@ use Rattle.sx_world.specs.Run.{run}
 use Rattle.sx_world.specs.Law.{AreInForm}
 use Rattle.sx_world.specs.Held.{Held, Shows}
 
--- It shows this world of a run: that of as many lines in form as it has acted, each of at most a
--- million steps.
+-- It shows this world of a run: that of as many lines in form as it has performed, each of at most
+-- a million steps.
 pub record Stands (set : Setting) (held : Held) (w : World) : Type 0 where
   pub lines : List Line
   pub formed : AreInForm set lines
