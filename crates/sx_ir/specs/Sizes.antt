@@ -1,6 +1,7 @@
--- The bytes of a module's text. It begins with the entry; after it stand the operations' templates
--- in order, the exit, the routine that opens a slot, a routine for each end that some operation
--- makes a packet of, and a word of zeros.
+-- The bytes of a module's text. Nobody has to believe this file for what an image realizes. A text
+-- begins with the entry; after it stand the operations' templates in order, the exit, the routine
+-- that opens a slot, a routine for each end that some operation makes a packet of, and a word of
+-- zeros.
 use Rattle.std.specs.Prelude.{ℕ, zero, suc, ◌+◌, ◌*◌, ◌==◌, Bool, false, if◌then◌else◌, List, [], ◌∷◌, take}
 use Rattle.std.specs.List.{list_any}
 use Rattle.sx_ir.specs.declared.ir.IrOp.{IrOp}

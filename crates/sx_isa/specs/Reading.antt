@@ -1,6 +1,6 @@
--- The instruction at the start of some words, computed from the fields of its first word. Own: a
--- second reading of what `spelling` writes, for proofs that compute on given words. That the two
--- agree is shown by `laws::reading`.
+-- The instruction at the start of some words, computed from the fields of its first word. Nobody
+-- has to believe this file: it is a second reading of what `spelling` writes, to compute with, and
+-- `laws::reading` shows that the two agree.
 use Rattle.std.specs.Prelude.{ℕ, ◌+◌, ◌-◌, ◌/◌, ◌%◌, ◌==◌, Bool, ◌&&◌, ◌||◌, not, nat_lt, nat_le, ℤ, pos, negsuc, Option, Some, None, option_map, if◌then◌else◌}
 use Rattle.sx_isa.specs.declared.instruction.Operand.{Operand}
 use Rattle.sx_isa.specs.declared.instruction.Operand.TheVariants.{Reg, Indexed, Indirect, Increment, Symbolic, Absolute, Immediate, Const}

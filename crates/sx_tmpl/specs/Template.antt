@@ -1,5 +1,6 @@
--- The words of each operation's template, in the assembly notation of TI's guide beside them: `#`
--- an immediate, `&` an absolute address, `.+n` a jump over n words.
+-- The words of each operation's template. Nobody has to believe this file for what an image
+-- realizes. The assembly notation beside the words is that of TI's guide: `#` an immediate, `&` an
+-- absolute address, `.+n` a jump over n words.
 use Rattle.std.specs.Prelude.{◌-◌, ℕ, zero, suc, ◌+◌, List, [], ◌∷◌}
 use Rattle.sx_rules.specs.declared.section.Layout.{Layout}
 use Rattle.sx_mean.specs.Offsets as offsets

@@ -1,4 +1,5 @@
--- The text of a code: where the instructions of each operation stand, and all words.
+-- The text of a code. Nobody has to believe this file for what an image realizes. It has where the
+-- instructions of each operation stand, and all words.
 use Rattle.std.specs.Prelude.{ℕ, zero, suc, ◌+◌, ◌*◌, ◌%◌, ◌/◌, if◌then◌else◌, List, [], ◌∷◌, ◌++◌, length, slice_index}
 use Rattle.sx_rules.specs.declared.section.Layout.{Layout}
 use Rattle.sx_ir.specs.declared.ir.Ir.{Ir}
