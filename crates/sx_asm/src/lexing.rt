@@ -294,7 +294,7 @@ fn is_gap(run: &[u8]) -> bool
     }
 }
 
-/// The tokens of a line, up to a comment.
+/// The tokens of a line, up to a comment. The error says that memory ran out.
 #[tactic(auto, unfolding(crate::specs::Tokens::tokens_of))]
 pub fn tokens_of(alloc: Global, line: &[u8]) -> Result<Vec<Token>, AllocError>
     ensures { IfOk result (λ tokens. tokens.items ≡ tokens_of line.now) }

@@ -176,7 +176,7 @@ pub fn has_form(item: &Item) -> bool
     }
 }
 
-/// The labels of items that stand from an address on.
+/// The labels of items that stand from an address on. The error says that memory ran out.
 pub fn labels_of(alloc: Global, at: u16, entries: &[Entry]) -> Result<Vec<Label>, AsmError>
     ensures labels { IfOk result (λ labels. labels.items ≡ labels_of at entries.now) }
     ensures error { IfErr result (λ e. e ≡ OutOfMemory) }

@@ -22,7 +22,7 @@ pub enum Kind {
 /// One device.
 #[derive(Clone, Copy, Debug, PartialEq, Eq)]
 pub struct Window {
-    /// The even place of its word.
+    /// The even address of its word.
     pub at: u16,
     /// What it is.
     pub kind: Kind,
@@ -66,7 +66,8 @@ impl Model for Windows {
 }
 
 impl Windows {
-    /// The devices at these places, with value 0 and not fresh.
+    /// The devices at these places, with value 0 and not fresh. `OutOfMemory` where there is none
+    /// for them.
     pub fn new(alloc: Global, devices: &[(u16, Kind)]) -> Result<Windows, OutOfMemory>
         requires { ArePlaces (map (λ d. d.0) devices.now) }
         ensures devices { IfOk result (λ windows. windows ≡ powered_on devices.now) }

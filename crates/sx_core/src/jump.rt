@@ -43,7 +43,7 @@ fn target(is_taken: bool, offset: i16, next: u16) -> u16
     }
 }
 
-/// A jump; `next` is the address after it.
+/// A jump; `next` is the address after it. The error is the instruction's first violation.
 pub fn jump<B: Bus>(
     executor: &mut Executor<B>,
     condition: u8,

@@ -119,7 +119,8 @@ fn push<B: Bus>(
     write_at_sp(executor, wide, value, pc)
 }
 
-/// An instruction with one operand; `next` is the address after it.
+/// An instruction with one operand; `next` is the address after it. The error is the instruction's
+/// first violation.
 pub fn one<B: Bus>(
     executor: &mut Executor<B>,
     op: Op1,
@@ -145,7 +146,8 @@ pub fn one<B: Bus>(
     }
 }
 
-/// The return from an interrupt, which takes SR and then PC from the stack.
+/// The return from an interrupt, which takes SR and then PC from the stack. The error is the
+/// instruction's first violation.
 pub fn reti<B: Bus>(executor: &mut Executor<B>) -> Result<(), Violation>
     ensures { Runs (reti executor.old.regs) executor.old result executor.new }
 {

@@ -11,7 +11,8 @@ use sx_executor::registers::{PC, cut};
 use sx_isa::Operand;
 use sx_rules::Violation;
 
-/// Reads a source operand, whose register goes on where the mode says so; any plan may follow.
+/// Reads a source operand, whose register goes on where the mode says so; any plan may follow. The
+/// error is the instruction's first violation.
 pub fn read_source<B: Bus>(
     executor: &mut Executor<B>,
     wide: bool,

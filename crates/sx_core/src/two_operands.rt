@@ -54,7 +54,8 @@ fn writes(op: Op2) -> bool
     !matches!(op, Op2::Cmp | Op2::Bit)
 }
 
-/// The end of an operation on a register: where the register is SR, the result stands.
+/// The end of an operation on a register: where the register is SR, the result stands. The error is
+/// the instruction's first violation.
 pub fn into_register<B: Bus>(
     executor: &mut Executor<B>,
     written: bool,
@@ -143,7 +144,8 @@ fn onto<B: Bus>(
     }
 }
 
-/// An instruction with two operands; `next` is the address after it.
+/// An instruction with two operands; `next` is the address after it. The error is the instruction's
+/// first violation.
 pub fn two<B: Bus>(
     executor: &mut Executor<B>,
     op: Op2,

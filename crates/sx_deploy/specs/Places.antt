@@ -58,7 +58,7 @@ abbrev pub drives : Start → Bool
 drives (start.At at) = false
 drives (start.Device n) = true
 
--- the number of ends that the module of this place holds
+-- the number of ends that the module of this index holds
 abbrev pub ends_of : List Link → ℕ → ℕ
 ends_of links p = byte (ends_from links p + ends_to links p)
 

@@ -93,7 +93,7 @@ has_many_ends links earlier m = nat_lt 16 (ends_from links (length earlier) + en
 abbrev pub makes_many_packets : List Link → List Coded → Coded → Bool
 makes_many_packets links earlier m = sends_too_much links (length earlier) m.tree
 
--- the connections, by the places of modules and ports
+-- the connections, by the indices of modules and ports
 abbrev pub links_of : List AppDevice → List Coded → List LinkEntry → Result (List Link) DeployFault
 links_of devices modules rows = do
   first ← passes (entries 9 Module (is_mistied devices) modules)

@@ -94,7 +94,7 @@ fn app_device(device: &DeviceEntry) -> AppDevice
     }
 }
 
-/// The application's devices.
+/// The application's devices. The error says that memory ran out.
 pub fn app_devices(alloc: Global, devices: &[DeviceEntry]) -> Result<Vec<AppDevice>, AllocError>
     ensures { IfOk result (λ v. v.items ≡ map app_device devices.now) }
 {
@@ -127,7 +127,7 @@ fn names(alloc: Global, e: &Entries) -> Result<Names, AllocError>
     Names::new(alloc, nodes, devices, sensors, modules, links)
 }
 
-/// The deployment of these entries.
+/// The deployment of these entries. The error says that memory ran out.
 pub fn arranged(
     alloc: Global,
     e: &Entries,

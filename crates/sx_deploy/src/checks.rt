@@ -18,7 +18,7 @@ use sx_stage::fault::{DeployError, DeployFault, Place, cut};
 pub struct CheckedModule {
     /// The module's name.
     pub name: Name,
-    /// The place of its node among the nodes.
+    /// The index of its node among the nodes.
     pub node: usize,
     /// The number of its provider.
     pub provider: u16,
@@ -74,7 +74,8 @@ fn checked_nth(place: usize, parsed: ParsedModule) -> Result<CheckedModule, Depl
     }
 }
 
-/// The modules, checked.
+/// The modules, checked. `Fault` is the first module that breaks a rule, with that rule.
+/// `OutOfMemory` says that memory ran out.
 pub fn checked_all(
     alloc: Global,
     modules: Vec<ParsedModule>,

@@ -39,7 +39,7 @@ pub struct Deployment {
     pub secret: [u8; 16],
     /// The key of each node.
     pub keys: Vec<[u8; 16]>,
-    /// The place of each device.
+    /// The address of each device's word.
     pub places: Vec<u16>,
     /// Where each module stands.
     pub layouts: Vec<Layout>,
@@ -108,6 +108,7 @@ fn read_text(alloc: Global, text: &[u8]) -> Result<Deployment, DeployError>
 }
 
 /// The deployment that a text means, or the first of the rules 3 to 10 that it breaks, and where.
+/// `OutOfMemory` says that memory ran out.
 pub fn read_deployment(alloc: Global, text: &[u8]) -> Result<Deployment, DeployError>
     // the deployment is the text's, and so is the fault
     ensures read { GivesOne deployed_as result (IsRead text.now) }

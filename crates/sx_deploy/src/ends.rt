@@ -64,7 +64,7 @@ fn ends_in(alloc: Global, links: &[Link], place: u8) -> Result<Vec<End>, AllocEr
 impl Deployment {
     /// The ends that the module of this number holds, in connection order, `From` before `To`. A
     /// number of a connection above 255 is given as 255; a deployment that is read has at most 64
-    /// connections.
+    /// connections. The error says that memory ran out.
     pub fn ends(&self, alloc: Global, module: u8) -> Result<Vec<End>, AllocError>
         ensures { IfOk result (λ ends. AreHeld (app_as self.now.app) «module» ends.items) }
     {

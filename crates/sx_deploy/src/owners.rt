@@ -55,7 +55,7 @@ impl<'a> Owners<'a> {
         self.names.place_of(name.bytes())
     }
 
-    /// The place of the module of this name.
+    /// The index of the module of this name.
     pub fn place_of(&self, name: &Option<Name>) -> Option<usize>
         ensures { result ≡ place_among (λ m. m.name) (map checked_as self.now) name.now }
     {

@@ -24,7 +24,7 @@ use sx_stage::stages::{Derive, derived, in_entry, passes};
 /// Where a module stands: its node and its sections.
 #[derive(Clone, Copy, Drop)]
 pub struct Placement {
-    /// The place of the module's node among the nodes.
+    /// The index of the module's node among the nodes.
     pub node: usize,
     /// The bounds of its two sections.
     pub layout: Layout,
@@ -246,7 +246,8 @@ fn sections_placed(
     derived(alloc, &Placer { devices, links }, modules)
 }
 
-/// Where the modules stand.
+/// Where the modules stand. `Fault` is the first fault of rule 10. `OutOfMemory` says that memory
+/// ran out.
 pub fn placements_of(
     alloc: Global,
     devices: &[DeviceEntry],

@@ -18,7 +18,7 @@ use sx_stage::fault::{DeployError, DeployFault, Place, cut};
 pub struct ParsedModule {
     /// The module's name.
     pub name: Name,
-    /// The place of its node among the nodes.
+    /// The index of its node among the nodes.
     pub node: usize,
     /// The number of its provider.
     pub provider: u16,
@@ -51,7 +51,8 @@ fn coded(alloc: Global, number: usize, entry: &ModuleEntry) -> Result<ParsedModu
     }
 }
 
-/// The modules with the trees of their sources.
+/// The modules with the trees of their sources. `Fault` is the first fault in the first source that
+/// has one. `OutOfMemory` says that memory ran out.
 #[tactic(auto, using(crate::proofs::Begun::begins, crate::proofs::Begun::goes_on, crate::proofs::Begun::ends))]
 pub fn coded_all(alloc: Global, modules: &[ModuleEntry]) -> Result<Vec<ParsedModule>, DeployError>
     ensures { GivesOne (λ v. map parsed_as v.items) result (AreCoded 0 modules.now) }

@@ -201,7 +201,8 @@ fn many_packets(links: &[Link], modules: &[CheckedModule]) -> Option<DeployFault
     entries(9, Sort::Module, &ManyPackets { links }, modules)
 }
 
-/// The connections, by the places of modules and ports.
+/// The connections, by the indices of modules and ports. `Fault` is the first fault of rule 9.
+/// `OutOfMemory` says that memory ran out.
 pub fn links_of(
     alloc: Global,
     devices: &[AppDevice],

@@ -211,7 +211,8 @@ fn rows_in<'a>(alloc: Global, arrays: &Arrays<'a>) -> Result<Rows<'a>, DeployErr
     })
 }
 
-/// The rows of a document's arrays.
+/// The rows of a document's arrays. `Fault` is the first fault of rule 4. `OutOfMemory` says that
+/// memory ran out.
 pub fn rows_of<'a>(alloc: Global, table: &'a Table) -> Result<Rows<'a>, DeployError>
     ensures { Gives (λ d. d) result (rows_of (table_view table.now)) }
 {

@@ -29,7 +29,7 @@ pub struct NodeEntry {
 pub struct DeviceEntry {
     /// The device's name.
     pub name: Name,
-    /// The place of its node among the nodes.
+    /// The index of its node among the nodes.
     pub node: usize,
     /// Whether it is a sensor or an actuator.
     pub kind: DeviceKind,
@@ -42,7 +42,7 @@ pub struct DeviceEntry {
 pub enum Start {
     /// At this address.
     At(u16),
-    /// At the word of the device at this place among the devices.
+    /// At the word of the device of this index.
     Device(usize),
 }
 
@@ -51,7 +51,7 @@ pub enum Start {
 pub struct ModuleEntry<'a> {
     /// The module's name.
     pub name: Name,
-    /// The place of its node among the nodes.
+    /// The index of its node among the nodes.
     pub node: usize,
     /// The number of its provider.
     pub provider: u16,
@@ -316,7 +316,8 @@ impl Make<LinkRow, LinkEntry> for Links {
     }
 }
 
-/// The entries of a document.
+/// The entries of a document. `Fault` is the first fault of rule 5. `OutOfMemory` says that memory
+/// ran out.
 pub fn entries_of<'a>(alloc: Global, rows: Rows<'a>) -> Result<Entries<'a>, DeployError>
     ensures { Gives (λ d. d) result (entries_of rows.entry) }
 {

@@ -95,7 +95,7 @@ impl<T: HasName> Listed<T> {
         self.place_named(name).is_some()
     }
 
-    /// The place of the entry of this name.
+    /// The index of the entry of this name.
     pub fn place_of(&self, name: &Option<Name>) -> Option<usize>
         ensures { result ≡ place_among T.name_of self.now name.now }
     {

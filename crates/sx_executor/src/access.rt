@@ -106,7 +106,8 @@ impl<B: Bus> Executor<B> {
         0x8000 + value
     }
 
-    /// Reads a word, or in byte form a byte.
+    /// Reads a word, or in byte form a byte. `Read` where the access table refuses it, and else
+    /// `Device` where the device there does.
     pub fn load(&mut self, wide: bool, at: u16) -> Result<u16, Violation>
         ensures run { Loads wide at self.old result self.new }
         ensures below { IfOk result (λ v. v < limit wide) }
@@ -123,7 +124,8 @@ impl<B: Bus> Executor<B> {
         }
     }
 
-    /// Writes a word, or in byte form a byte.
+    /// Writes a word, or in byte form a byte. `Write` where the access table refuses it, and else
+    /// `Device` where the device there does.
     pub fn store(&mut self, wide: bool, at: u16, value: u16) -> Result<(), Violation>
         ensures { Stores wide at value self.old result self.new }
     {
@@ -156,7 +158,8 @@ impl<B: Bus> Executor<B> {
         self.table.extends(self.own, even) && self.table.extends(self.own, even + 1)
     }
 
-    /// Fetches an extension word.
+    /// Fetches an extension word. `Fetch` where no extension word of the running code may stand,
+    /// and else `Device` on a device's word.
     pub fn fetch(&self, at: u16) -> Result<u16, Violation>
         ensures { fetch self.now.sections.live self.now.own at (moment_of self.now) ≡ result }
     {

@@ -31,7 +31,8 @@ fn wipe<B: Bus>(bus: &mut B, layout: &Layout)
 }
 
 impl<B: Bus> Executor<B> {
-    /// Whether and why a module with this layout is refused.
+    /// Whether and why a module with this layout is refused. The error is the first refusal in the
+    /// order of the table.
     pub fn test(&self, layout: Layout) -> Result<(), Refusal>
         ensures refused { result_err result
             ≡ refusal self.now.sections layout (places_of self.now.devices) }

@@ -13,7 +13,7 @@ use sx_lang::tree::{BinOp, Decl, Expr, UnOp};
 use sx_mean::offsets::{cell_at, local_at};
 use sx_mean::places::{array_length, place};
 
-/// Appends an operation.
+/// Appends an operation. The error says that memory ran out.
 pub fn put(code: &mut Vec<Ir>, op: Ir) -> Result<(), AllocError>
     ensures { OnOk result (code.new.items ≡ code.old.items ++ op ∷ []) }
 {
@@ -95,7 +95,8 @@ fn put_operator(code: &mut Vec<Ir>, op: BinOp) -> Result<(), AllocError>
     }
 }
 
-/// Appends the code of an expression, where there are this many ends.
+/// Appends the code of an expression, where there are this many ends. The error says that memory
+/// ran out.
 pub fn put_expression(
     code: &mut Vec<Ir>,
     decls: &[Decl],
@@ -144,7 +145,8 @@ fn put_local(code: &mut Vec<Ir>, at: u16, first: u16) -> Result<(), AllocError>
     put(code, Ir::Store(at))
 }
 
-/// Appends the code that takes a value off the stack and stores it in a local or a variable.
+/// Appends the code that takes a value off the stack and stores it in a local or a variable. The
+/// error says that memory ran out.
 pub fn put_assign(
     code: &mut Vec<Ir>,
     decls: &[Decl],

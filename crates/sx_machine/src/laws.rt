@@ -70,8 +70,8 @@ pub fn shows_touches()
     ensures { ShowsTouches }
 {}
 
-/// An interrupt shows all that it did at devices, and did only what the access table lets code of no
-/// module do.
+/// An interrupt shows all that it did at devices, and did only what the access table lets code of
+/// no module do.
 pub fn shows_interrupt()
     ensures { ShowsInterrupt }
 {}

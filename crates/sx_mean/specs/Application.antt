@@ -11,7 +11,7 @@ use Rattle.sx_mean.specs.declared.apps.AppDevice.{AppDevice}
 use Rattle.sx_mean.specs.declared.apps.Link.{Link}
 use Rattle.sx_mean.specs.Places.{output_number}
 
--- a module at its node, and the device that it drives by its place among the application's devices
+-- a module at its node, and the device that it drives by its index among the application's devices
 pub record PartTree : Type 0 where
   pub node : ℕ
   pub device : Option ℕ
@@ -78,11 +78,11 @@ abbrev mutual
 abbrev pub leaves : ℕ → ℕ → Link → Bool
 leaves p output l = (l.from == p) && (l.output == output)
 
--- the connections from an output of the part of this place
+-- the connections from an output of the part of this index
 abbrev pub links_from : List Link → ℕ → ℕ → ℕ
 links_from ls p output = count_by (leaves p output) ls
 
--- the ends of connections that the part of this place holds
+-- the ends of connections that the part of this index holds
 abbrev pub ends_from : List Link → ℕ → ℕ
 ends_from ls p = count_by (λ l. l.from == p) ls
 
@@ -127,7 +127,7 @@ any_part test p (part ∷ parts) = test p part || any_part test (p + 1) parts
 abbrev pub is_port : Bool → Decl → Bool
 is_port output d = if output then is_output d else is_input d
 
--- the number names a port of this kind, of the part of this place
+-- the number names a port of this kind, of the part of this index
 abbrev pub has_port : (Decl → Bool) → List PartTree → ℕ → ℕ → Bool
 has_port is_port [] p port = false
 has_port is_port (part ∷ parts) p port = if p == 0 then nat_lt port (count_by is_port part.tree.decls) else has_port is_port parts (p - 1) port

@@ -15,7 +15,7 @@ use sx_lang::tree::{Decl, DeviceKind, Module, Stmt};
 /// A sensor or an actuator of a node.
 #[derive(Clone, Copy)]
 pub struct AppDevice {
-    /// The place of its node.
+    /// The index of its node.
     pub node: u8,
     /// Whether it is a sensor or an actuator.
     pub kind: DeviceKind,
@@ -24,9 +24,9 @@ pub struct AppDevice {
 /// A module of an application, at its node.
 #[derive(Drop)]
 pub struct Part {
-    /// The place of its node.
+    /// The index of its node.
     pub node: u8,
-    /// The device that the module drives, by its place among the application's devices.
+    /// The device that the module drives, by its index among the application's devices.
     pub device: Option<u8>,
     /// The module itself.
     pub code: Checked,
@@ -35,11 +35,11 @@ pub struct Part {
 /// A connection from an output of one part to an input of another, each by its number.
 #[derive(Clone, Copy)]
 pub struct Link {
-    /// The place of the part that sends.
+    /// The index of the part that sends.
     pub from: u8,
     /// The number of its output.
     pub output: u8,
-    /// The place of the part that receives.
+    /// The index of the part that receives.
     pub to: u8,
     /// The number of its input.
     pub input: u8,

@@ -131,7 +131,7 @@ fn run_statement(decls: &[Decl], s: &Stmt, moment: &mut Moment) -> Result<(), Al
     }
 }
 
-/// Runs a block, and drops its locals.
+/// Runs a block, and drops its locals. The error says that memory ran out.
 #[cycle(run)]
 pub fn run_block(decls: &[Decl], block: &Vec<Stmt>, moment: &mut Moment) -> Result<(), AllocError>
     requires { IsSized decls.now }

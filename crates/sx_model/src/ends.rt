@@ -84,7 +84,7 @@ fn is_end(end: &End, link: u8, side: Side) -> bool
     end.link == link && same_side(end.side, side)
 }
 
-/// The place of a connection's end among a module's ends.
+/// The index of a connection's end among a module's ends.
 pub(crate) fn end_at(ends: &[End], link: u8, side: Side) -> Option<usize>
     ensures { result ≡ end_at link side ends.now }
 {

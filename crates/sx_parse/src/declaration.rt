@@ -100,7 +100,8 @@ fn declaration<'a>(all: &mut Vec<Decl>, tokens: &'a [Placed]) -> Result<Option<&
     }
 }
 
-/// The declarations before the handlers.
+/// The declarations before the handlers. It stops at the first token that can't follow those before
+/// it, or where memory runs out.
 #[tactic(auto, using(crate::proofs::Declarations::begins, crate::proofs::Declarations::goes_on, crate::proofs::Declarations::ends, crate::proofs::Declarations::breaks))]
 pub fn declarations<'a>(
     alloc: Global,

@@ -64,7 +64,8 @@ fn handler<'a>(
     }
 }
 
-/// The handlers, up to the text's end.
+/// The handlers, up to the text's end. It stops at the first token that can't follow those before
+/// it, or where memory runs out.
 #[tactic(auto, using(crate::proofs::Handlers::begins, crate::proofs::Handlers::goes_on, crate::proofs::Handlers::ends, crate::proofs::Handlers::breaks))]
 pub fn handlers(alloc: Global, tokens: &[Placed]) -> Result<Vec<Handler>, Stop>
     ensures { MatchResult result (λ hs. Ends tokens.now (map handler_of hs.items)) (λ e. BreaksAs tokens.now e) }

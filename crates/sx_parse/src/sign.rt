@@ -40,7 +40,7 @@ impl Sign {
     }
 }
 
-/// What follows the sign that must stand here.
+/// What follows the sign that must stand here. It stops where another token stands.
 #[tactic(auto, using(crate::proofs::Signs::takes, crate::proofs::Signs::misses))]
 pub fn take<'a>(tokens: &'a [Placed], sign: Sign) -> Result<&'a [Placed], Stop>
     ensures takes { MatchResult result (λ rest. Takes (sign_of sign) tokens.now rest.now) (λ e. Lacks (sign_of sign) tokens.now e) }
@@ -55,7 +55,7 @@ pub fn take<'a>(tokens: &'a [Placed], sign: Sign) -> Result<&'a [Placed], Stop>
     Ok(rest)
 }
 
-/// The name that must stand here.
+/// The name that must stand here. It stops where another token stands.
 pub fn identifier<'a>(tokens: &'a [Placed]) -> Result<(&'a Name, &'a [Placed]), Stop>
     ensures named { MatchResult result (λ p. Named tokens.now p.0.now p.1.now) (λ e. NameLacks tokens.now e) }
     ensures shorter { IfOk result (λ p. length p.1.now < length tokens.now) }
@@ -69,7 +69,7 @@ pub fn identifier<'a>(tokens: &'a [Placed]) -> Result<(&'a Name, &'a [Placed]), 
     Ok((name, rest))
 }
 
-/// The number that must stand here.
+/// The number that must stand here. It stops where another token stands.
 pub fn number<'a>(tokens: &'a [Placed]) -> Result<(u16, &'a [Placed]), Stop>
     ensures numbered { MatchResult result (λ p. Numbered tokens.now p.0 p.1.now) (λ e. NumberLacks tokens.now e) }
     ensures shorter { IfOk result (λ p. length p.1.now < length tokens.now) }

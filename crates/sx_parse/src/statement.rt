@@ -133,7 +133,8 @@ fn sent<'a>(
     Ok((Stmt::Send(output, sent), rest))
 }
 
-/// A block with its braces.
+/// A block with its braces. It stops at the first token that can't follow those before it, or where
+/// memory runs out.
 #[cycle(statement)]
 #[tactic(auto, using(crate::proofs::Statements::opens_block, crate::proofs::Statements::goes_on, crate::proofs::Statements::ends_block, crate::proofs::Statements::breaks_block))]
 pub fn block<'a>(

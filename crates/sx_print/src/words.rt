@@ -79,7 +79,7 @@ fn spelling(kind: Kind) -> &'static [u8]
     }
 }
 
-/// Writes a word or sign of the language's own.
+/// Writes a word or sign of the language's own. The error says that memory ran out.
 #[tactic(auto, using(crate::proofs::Parts::quoted_written))]
 pub fn put(out: &mut Vec<u8>, kind: Kind, gap: Gap) -> Result<(), OutOfMemory>
     ensures { OnOk result (Wrote out.old.items (λ rest. quoted kind gap ∷ rest) out.new.items) }
@@ -88,7 +88,7 @@ pub fn put(out: &mut Vec<u8>, kind: Kind, gap: Gap) -> Result<(), OutOfMemory>
     out.extend_from_slice(gap.bytes())
 }
 
-/// Writes a name.
+/// Writes a name. The error says that memory ran out.
 #[tactic(auto, using(crate::proofs::Parts::name_written))]
 pub fn put_name(out: &mut Vec<u8>, x: &Name, gap: Gap) -> Result<(), OutOfMemory>
     ensures { OnOk result (Wrote out.old.items (λ rest. name x.now gap ∷ rest) out.new.items) }
@@ -97,7 +97,7 @@ pub fn put_name(out: &mut Vec<u8>, x: &Name, gap: Gap) -> Result<(), OutOfMemory
     out.extend_from_slice(gap.bytes())
 }
 
-/// Writes a number in decimal digits.
+/// Writes a number in decimal digits. The error says that memory ran out.
 #[tactic(auto, using(crate::proofs::Parts::number_written))]
 pub fn put_number(out: &mut Vec<u8>, n: u16, gap: Gap) -> Result<(), OutOfMemory>
     ensures { OnOk result (Wrote out.old.items (λ rest. number n gap ∷ rest) out.new.items) }
@@ -107,7 +107,7 @@ pub fn put_number(out: &mut Vec<u8>, n: u16, gap: Gap) -> Result<(), OutOfMemory
     out.extend_from_slice(gap.bytes())
 }
 
-/// Writes the margin of a line that stands in this many blocks.
+/// Writes the margin of a line that stands in this many blocks. The error says that memory ran out.
 #[tactic(auto, using(crate::proofs::Parts::no_margin, crate::proofs::Parts::margin_written))]
 pub fn put_margin(out: &mut Vec<u8>, depth: u8) -> Result<(), OutOfMemory>
     ensures { OnOk result (Wrote out.old.items (margin depth) out.new.items) }

@@ -104,7 +104,8 @@ impl Table {
         id
     }
 
-    /// Whether `admit` would refuse the section, and why.
+    /// Whether `admit` would refuse the section, and why. The error is the first refusal in the
+    /// order of the table.
     pub fn test(&self, layout: Layout, places: &[u16]) -> Result<(), Refusal>
         ensures refused { result_err result ≡ refusal self.now layout places.now }
         ensures room { OnOk result (length self.now.live < 8) }

@@ -11,7 +11,7 @@ use sx_bus::Bus;
 use sx_executor::{Buffer, Executor};
 use sx_rules::Violation;
 
-/// Reads a buffer of 16 bytes: a key or a tag.
+/// Reads a buffer of 16 bytes: a key or a tag. The error is the violation `Read`.
 pub fn read_block<B: Bus>(executor: &Executor<B>, buffer: Buffer) -> Result<[u8; 16], Violation>
     requires count { buffer.count ≡ 16 }
     requires memory { IsClear executor.now.devices buffer.at buffer.count }
@@ -27,7 +27,7 @@ pub fn read_block<B: Bus>(executor: &Executor<B>, buffer: Buffer) -> Result<[u8;
     Ok(block)
 }
 
-/// Reads a buffer of at most 32 bytes.
+/// Reads a buffer of at most 32 bytes. The error is the violation `Read`.
 pub fn read_text<B: Bus>(executor: &Executor<B>, buffer: Buffer) -> Result<Text, Violation>
     requires count { buffer.count ≤ 32 }
     requires memory { IsClear executor.now.devices buffer.at buffer.count }
@@ -42,7 +42,7 @@ pub fn read_text<B: Bus>(executor: &Executor<B>, buffer: Buffer) -> Result<Text,
     Ok(Text::read(executor, buffer))
 }
 
-/// Writes bytes to a buffer of as many.
+/// Writes bytes to a buffer of as many. The error is the violation `Write`.
 #[tactic(auto, using(sx_executor::proofs::Reach::each_in_range))]
 pub fn write<B: Bus>(
     executor: &mut Executor<B>,

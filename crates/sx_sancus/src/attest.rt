@@ -84,7 +84,8 @@ fn identified<B: Bus, T: Tag>(
     attested(executor, tag, regs[9], own, &given)
 }
 
-/// Attests as code of the module `own`.
+/// Attests as code of the module `own`. The error is the first violation: `Range`, `Device` or
+/// `Read`.
 pub fn attest<B: Bus, T: Tag>(
     executor: &mut Executor<B>,
     own: &Section,

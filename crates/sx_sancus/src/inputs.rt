@@ -141,7 +141,8 @@ fn read_key<B: Bus>(
     }
 }
 
-/// Reads what both instructions read, once all buffers were tested; any plan may follow.
+/// Reads what both instructions read, once all buffers were tested; any plan may follow. The error
+/// is the first violation: `Range`, `Device` or `Read`.
 pub fn read_inputs<B: Bus>(executor: &Executor<B>, own: &Section) -> Result<Inputs, Violation>
     ensures then { (caller : ℕ) (base : List ℕ) (exchange : Exchange)
         (rest : List ℕ → List ℕ → List ℕ → Plan)

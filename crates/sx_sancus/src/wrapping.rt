@@ -41,7 +41,8 @@ fn sealed<T: Tag>(tag: &T, key: &[u8; 16], header: &Text, body: &Text) -> (Text,
     (Text::front(&cipher, usize::from(body.count())), mac)
 }
 
-/// Wraps a header and a body as code of the module `own`: the cipher is written, then the tag.
+/// Wraps a header and a body as code of the module `own`: the cipher is written, then the tag. The
+/// error is the first violation: `Range`, `Device`, `Read` or `Write`.
 pub fn wrap<B: Bus, T: Tag>(
     executor: &mut Executor<B>,
     own: &Section,
@@ -61,7 +62,8 @@ pub fn wrap<B: Bus, T: Tag>(
 }
 
 /// Unwraps a cipher as code of the module `own`. A wrong tag opens nothing, and nothing is then
-/// written; the body's place must be open to writes with a wrong tag, too.
+/// written; the body's place must be open to writes with a wrong tag, too. The error is the first
+/// violation: `Range`, `Device`, `Read` or `Write`.
 pub fn unwrap<B: Bus, T: Tag>(
     executor: &mut Executor<B>,
     own: &Section,

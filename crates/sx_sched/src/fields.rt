@@ -38,7 +38,7 @@ const REGISTERS: [(&[u8], u8); 18] = [
     (b"r15", 15),
 ];
 
-/// The index of a node.
+/// The index of a node. The error is rule 4.
 pub fn node_of(names: &Names, word: &[u8]) -> Result<u8, LineError>
     requires { IsTrue (are_valid names.now) }
     ensures index { result ≡ node_of names.now word.now }
@@ -47,7 +47,7 @@ pub fn node_of(names: &Names, word: &[u8]) -> Result<u8, LineError>
     names.node(word).ok_or(NO_NAME)
 }
 
-/// The index of a device that is a sensor.
+/// The index of a device that is a sensor. The error is rule 4.
 pub fn sensor_of(names: &Names, word: &[u8]) -> Result<u8, LineError>
     requires { IsTrue (are_valid names.now) }
     ensures index { result ≡ sensor_of names.now word.now }
@@ -56,7 +56,7 @@ pub fn sensor_of(names: &Names, word: &[u8]) -> Result<u8, LineError>
     names.sensor(word).ok_or(NO_NAME)
 }
 
-/// The index of a module.
+/// The index of a module. The error is rule 4.
 pub fn module_of(names: &Names, word: &[u8]) -> Result<u8, LineError>
     requires { IsTrue (are_valid names.now) }
     ensures index { result ≡ module_of names.now word.now }
@@ -77,7 +77,7 @@ fn register_in(table: &[(&[u8], u8)], word: &[u8]) -> Option<u8>
     None
 }
 
-/// The register of a name that can be set.
+/// The register of a name that can be set. The error is rule 4.
 #[tactic(auto, unfolding(crate::specs::Reading::register_of))]
 pub fn register_of(word: &[u8]) -> Result<u8, LineError>
     ensures number { result ≡ register_of word.now }
@@ -86,7 +86,7 @@ pub fn register_of(word: &[u8]) -> Result<u8, LineError>
     register_in(&REGISTERS, word).ok_or(NO_NAME)
 }
 
-/// A number from low to high.
+/// A number from low to high. The error is rule 5.
 pub fn number_in(low: u32, high: u32, word: &[u8]) -> Result<u32, LineError>
     ensures number { result ≡ number_in low high word.now }
     ensures within { IfOk result (λ n. n ≤ high) }
@@ -98,7 +98,7 @@ pub fn number_in(low: u32, high: u32, word: &[u8]) -> Result<u32, LineError>
     }
 }
 
-/// A number of 16 bits.
+/// A number of 16 bits. The error is rule 5.
 pub fn number16(word: &[u8]) -> Result<u16, LineError>
     ensures number { result ≡ number16 word.now }
     ensures fault { IfErr result IsFault }
@@ -107,7 +107,7 @@ pub fn number16(word: &[u8]) -> Result<u16, LineError>
     Ok(n as u16)
 }
 
-/// A number of 32 bits.
+/// A number of 32 bits. The error is rule 5.
 pub fn number32(word: &[u8]) -> Result<u32, LineError>
     ensures number { result ≡ number32 word.now }
     ensures fault { IfErr result IsFault }

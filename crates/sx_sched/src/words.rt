@@ -74,7 +74,7 @@ fn no_word(text: &[u8]) -> Result<(), LineError>
     }
 }
 
-/// The one word.
+/// The one word. The error is rule 7.
 pub fn one_word(text: &[u8]) -> Result<&[u8], LineError>
     ensures word { MatchResult result (λ a. one_word (words_of text.now) ≡ Ok a.now)
         (λ e. one_word (words_of text.now) ≡ Err e) }
@@ -89,7 +89,7 @@ pub fn one_word(text: &[u8]) -> Result<&[u8], LineError>
     }
 }
 
-/// The two words.
+/// The two words. The error is rule 7.
 pub fn two_words(text: &[u8]) -> Result<(&[u8], &[u8]), LineError>
     ensures words { MatchResult result (λ w. two_words (words_of text.now) ≡ Ok (w.0.now, w.1.now))
         (λ e. two_words (words_of text.now) ≡ Err e) }
@@ -104,7 +104,7 @@ pub fn two_words(text: &[u8]) -> Result<(&[u8], &[u8]), LineError>
     }
 }
 
-/// The three words.
+/// The three words. The error is rule 7.
 pub fn three_words(text: &[u8]) -> Result<(&[u8], &[u8], &[u8]), LineError>
     ensures words { MatchResult result (λ w. three_words (words_of text.now) ≡ Ok (w.0.now, w.1.now, w.2.now))
         (λ e. three_words (words_of text.now) ≡ Err e) }
@@ -119,7 +119,7 @@ pub fn three_words(text: &[u8]) -> Result<(&[u8], &[u8], &[u8]), LineError>
     }
 }
 
-/// The four words.
+/// The four words. The error is rule 7.
 pub fn four_words(text: &[u8]) -> Result<(&[u8], &[u8], &[u8], &[u8]), LineError>
     ensures words { MatchResult result (λ w. four_words (words_of text.now) ≡ Ok (w.0.now, w.1.now, w.2.now, w.3.now))
         (λ e. four_words (words_of text.now) ≡ Err e) }
@@ -163,7 +163,8 @@ fn one_before(text: &[u8]) -> Result<(&[u8], &[u8]), LineError>
     }
 }
 
-/// Two words, and the text after them and the blanks that follow them, which has a word.
+/// Two words, and the text after them and the blanks that follow them, which has a word. The error
+/// is rule 7.
 pub fn two_before(text: &[u8]) -> Result<(&[u8], &[u8], &[u8]), LineError>
     ensures words { MatchResult result (λ w. two_before (words_of text.now) ≡ Ok (w.0.now, w.1.now))
         (λ e. two_before (words_of text.now) ≡ Err e) }

@@ -26,7 +26,7 @@ fn put_answer(code: &mut Vec<Ir>) -> Result<(), AllocError>
     put_all(code, &ops)
 }
 
-/// Appends the entry of attest.
+/// Appends the entry of attest. The error says that memory ran out.
 pub fn put_attest(code: &mut Vec<Ir>) -> Result<(), AllocError>
     requires short { length code.old.items < 60000 }
     ensures { OnOk result (PutsAt attest_code code.old.items code.new.items) }

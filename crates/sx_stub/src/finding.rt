@@ -66,7 +66,8 @@ fn put_found(code: &mut Vec<Ir>, tree: &Module, ends: &[End]) -> Result<(), Allo
     put_key_found(code, ends)
 }
 
-/// Appends the search for the end, and what set-key and input do with the end that is found.
+/// Appends the search for the end, and what set-key and input do with the end that is found. The
+/// error says that memory ran out.
 pub fn put_search(code: &mut Vec<Ir>, tree: &Module, ends: &[End]) -> Result<(), AllocError>
     requires short { length code.old.items < 20000 }
     requires few { length tree.now.handlers.items ≤ 256 }

@@ -84,7 +84,7 @@ pub fn handled_len(handler: Option<u8>) -> u16
     }
 }
 
-/// Appends a handler, where there is one, and the return.
+/// Appends a handler, where there is one, and the return. The error says that memory ran out.
 pub fn put_handled(code: &mut Vec<Ir>, handler: Option<u8>) -> Result<(), AllocError>
     ensures { OnOk result (Puts (handled_by handler) code.old.items code.new.items) }
 {

@@ -33,7 +33,8 @@ fn put_wanted_receiving(code: &mut Vec<Ir>, search: u16) -> Result<(), AllocErro
     put_all(code, &ops)
 }
 
-/// Appends the entry of input, which goes on at the search for the end.
+/// Appends the entry of input, which goes on at the search for the end. The error says that memory
+/// ran out.
 pub fn put_input(code: &mut Vec<Ir>, search: u16) -> Result<(), AllocError>
     requires short { length code.old.items < 60000 }
     ensures { OnOk result (PutsAt (input_code search) code.old.items code.new.items) }
@@ -221,6 +222,7 @@ fn put_last_test(code: &mut Vec<Ir>) -> Result<(), AllocError>
 }
 
 /// Appends what input does with the end that was found: the tests, and then the packet's opening.
+/// The error says that memory ran out.
 pub fn put_input_found(code: &mut Vec<Ir>, tree: &Module, ends: &[End]) -> Result<(), AllocError>
     requires short { length code.old.items < 40000 }
     requires few { length tree.now.handlers.items ≤ 256 }

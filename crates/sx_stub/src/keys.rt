@@ -29,7 +29,8 @@ fn put_wanted_end(code: &mut Vec<Ir>, search: u16) -> Result<(), AllocError>
     put_all(code, &ops)
 }
 
-/// Appends the entry of set-key, which goes on at the search for the end.
+/// Appends the entry of set-key, which goes on at the search for the end. The error says that
+/// memory ran out.
 pub fn put_set_key(code: &mut Vec<Ir>, search: u16) -> Result<(), AllocError>
     requires short { length code.old.items < 60000 }
     ensures { OnOk result (PutsAt (set_key_code search) code.old.items code.new.items) }
@@ -94,6 +95,7 @@ fn put_open_cases(code: &mut Vec<Ir>, ends: &[End]) -> Result<(), AllocError>
 }
 
 /// Appends what set-key does with the end that was found: the tests, and then the slot's opening.
+/// The error says that memory ran out.
 pub fn put_key_found(code: &mut Vec<Ir>, ends: &[End]) -> Result<(), AllocError>
     requires short { length code.old.items < 40000 }
     requires few { length ends.now ≤ 16 }

@@ -2,7 +2,7 @@
 //!
 //! `stub` gives the operations that a call of a module begins with: they test the entry and the
 //! windows, take keys, challenges, packets and samples, and answer with a status. A handler is
-//! named by its place among the module's handlers; `sx_ir::join` puts its part after them. By its
+//! named by its index among the module's handlers; `sx_ir::join` puts its part after them. By its
 //! contract, `StubsTo` in `specs/Stubs.antt`, the code is the one that `specs/Stub.antt` defines,
 //! it fits into the weight beside the bytes of the module's nodes, and templates can be made for it
 //! in all code that it is a part of.

@@ -25,7 +25,7 @@ pub const SECOND: u16 = 20;
 /// The first word of the slots.
 pub const SLOTS: u16 = 512;
 
-/// Appends an operation.
+/// Appends an operation. The error says that memory ran out.
 pub fn put(code: &mut Vec<Ir>, op: Ir) -> Result<(), AllocError>
     ensures { OnOk result (Puts (op ∷ []) code.old.items code.new.items) }
 {
@@ -33,7 +33,7 @@ pub fn put(code: &mut Vec<Ir>, op: Ir) -> Result<(), AllocError>
     Ok(())
 }
 
-/// Appends operations.
+/// Appends operations. The error says that memory ran out.
 pub fn put_all(code: &mut Vec<Ir>, ops: &[Ir]) -> Result<(), AllocError>
     ensures { OnOk result (Puts ops.now code.old.items code.new.items) }
 {
@@ -43,14 +43,15 @@ pub fn put_all(code: &mut Vec<Ir>, ops: &[Ir]) -> Result<(), AllocError>
     Ok(())
 }
 
-/// Appends a return with this status and no pieces.
+/// Appends a return with this status and no pieces. The error says that memory ran out.
 pub fn put_returns(code: &mut Vec<Ir>, status: u16) -> Result<(), AllocError>
     ensures { OnOk result (Puts (returns status) code.old.items code.new.items) }
 {
     put_all(code, &[Ir::Push(status), Ir::Push(0), Ir::Leave])
 }
 
-/// Appends a return with this status where the test leaves a word other than 0.
+/// Appends a return with this status where the test leaves a word other than 0. The error says that
+/// memory ran out.
 pub fn put_refuse(code: &mut Vec<Ir>, test: &[Ir], status: u16) -> Result<(), AllocError>
     requires short { length code.old.items + length test.now < 65532 }
     ensures { OnOk result (Refuses test.now status code.old.items code.new.items) }
@@ -61,7 +62,8 @@ pub fn put_refuse(code: &mut Vec<Ir>, test: &[Ir], status: u16) -> Result<(), Al
     put_returns(code, status)
 }
 
-/// Appends a jump to a place where the caller's entry is this one.
+/// Appends a jump to a place where the caller's entry is this one. The error says that memory ran
+/// out.
 pub fn put_jump_on(code: &mut Vec<Ir>, entry: u16, place: u16) -> Result<(), AllocError>
     ensures { OnOk result (Puts (jump_on entry place) code.old.items code.new.items) }
 {
@@ -75,7 +77,7 @@ pub fn put_jump_on(code: &mut Vec<Ir>, entry: u16, place: u16) -> Result<(), All
 }
 
 /// Appends a choice: the code goes on after these operations where the word at an offset is the
-/// number, and else at the place.
+/// number, and else at the place. The error says that memory ran out.
 pub fn put_choice(
     code: &mut Vec<Ir>,
     offset: u16,

@@ -35,7 +35,7 @@ fn put_sampled(code: &mut Vec<Ir>, tree: &Module) -> Result<(), AllocError>
     put_handled(code, sample_handler(tree))
 }
 
-/// Appends the entry of a sample.
+/// Appends the entry of a sample. The error says that memory ran out.
 pub fn put_sample(code: &mut Vec<Ir>, tree: &Module) -> Result<(), AllocError>
     requires short { length code.old.items < 60000 }
     requires few { length tree.now.handlers.items ≤ 256 }

@@ -14,7 +14,7 @@ fn put_word(text: &mut Vec<u8>, word: u16) -> Result<(), OutOfMemory>
     Ok(())
 }
 
-/// Appends words, one after the other.
+/// Appends words, one after the other. The error says that memory ran out.
 pub fn put_words(text: &mut Vec<u8>, words: &[u16]) -> Result<(), OutOfMemory>
     ensures { OnOk result (text.new.items ≡ text.old.items ++ bytes_of words.now) }
 {

@@ -9,7 +9,8 @@ use crate::put::put_words;
 use std::alloc::AllocError as OutOfMemory;
 use sx_mean::offsets::end_at;
 
-/// The entry of a module whose private section begins at `base`.
+/// The entry of a module whose private section begins at `base`. The error says that memory ran
+/// out.
 pub fn put_entry(text: &mut Vec<u8>, base: u16) -> Result<(), OutOfMemory>
     requires { base + 512 < 65536 }
     ensures { OnOk result (text.new.items ≡ text.old.items ++ bytes_of (entry_words base)) }
@@ -31,7 +32,7 @@ pub fn put_entry(text: &mut Vec<u8>, base: u16) -> Result<(), OutOfMemory>
     put_words(text, &words)
 }
 
-/// The exit.
+/// The exit. The error says that memory ran out.
 pub fn put_exit(text: &mut Vec<u8>, base: u16) -> Result<(), OutOfMemory>
     requires { base + 512 < 65536 }
     ensures { OnOk result (text.new.items ≡ text.old.items ++ bytes_of (leave_words base)) }
@@ -58,7 +59,7 @@ pub fn put_exit(text: &mut Vec<u8>, base: u16) -> Result<(), OutOfMemory>
     put_words(text, &words)
 }
 
-/// The routine that opens the slot at R12.
+/// The routine that opens the slot at R12. The error says that memory ran out.
 pub fn put_slots(text: &mut Vec<u8>, base: u16) -> Result<(), OutOfMemory>
     requires { base + 512 < 65536 }
     ensures { OnOk result (text.new.items ≡ text.old.items ++ bytes_of (slot_words base)) }
@@ -100,7 +101,7 @@ pub fn put_slots(text: &mut Vec<u8>, base: u16) -> Result<(), OutOfMemory>
     put_words(text, &words)
 }
 
-/// An end's packet routine.
+/// An end's packet routine. The error says that memory ran out.
 pub fn put_routine(text: &mut Vec<u8>, base: u16, end: u8) -> Result<(), OutOfMemory>
     requires slot { base + (end_at end + 24) < 65536 }
     requires base { base + 512 < 65536 }

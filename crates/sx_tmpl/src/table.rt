@@ -20,7 +20,8 @@ pub struct Table {
 }
 
 impl Table {
-    /// The addresses of a code's text in a section of this layout.
+    /// The addresses of a code's text in a section of this layout. The error says that memory ran
+    /// out.
     #[tactic(auto, using(crate::proofs::TextTurns::table_is))]
     pub fn new(alloc: Global, code: &Code, layout: &Layout) -> Result<Table, OutOfMemory>
         requires { layout.now.pub_from + bytes code.now.ops.items < 65536 }

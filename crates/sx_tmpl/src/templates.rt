@@ -245,7 +245,7 @@ fn packet_address(table: &Table, code: &Code, layout: &Layout, end: u8) -> u16
     exit + (34 + 64) + 112 * routines_before(table, code, layout, end)
 }
 
-/// Appends the words of the operation at a place of the code.
+/// Appends the words of the operation at a place of the code. The error says that memory ran out.
 pub fn put_operation(
     text: &mut Vec<u8>,
     code: &Code,

@@ -87,7 +87,7 @@ fn put_text(
 /// The text of stack code in a section of this layout, as `specs/Text.antt` defines it: the entry,
 /// the template of each operation in order, the exit, the routine that opens a slot, a packet
 /// routine for each end of which some operation makes a packet, and a word of 0. The tag is that of
-/// the node on which the text is said to do the code.
+/// the node on which the text is said to do the code. The error says that memory ran out.
 pub fn emit<T: Tag>(
     alloc: Global,
     tag: &T,

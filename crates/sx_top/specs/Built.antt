@@ -15,7 +15,7 @@ pub record IsBuilt (mac : Mac) (d : Deployed) (q : PartTree) (layout : Layout) (
   pub provider_is : image.provider ≡ provider
   pub realizes : Realizes mac q.tree (ends_of d.app p) image
 
--- of this place the image is built
+-- of this index the image is built
 abbrev pub BuiltAt : Mac → Deployed → ℕ → Image → Type 0
 BuiltAt mac d p image =
     (q : PartTree) (layout : Layout) (provider : ℕ) → slice_get d.app.parts p ≡ Some q

@@ -5,7 +5,7 @@ use Rattle.indexmap.specs.IndexMap.{get}
 use Rattle.sx_trace.specs.Names.{place_of}
 use Rattle.sx_trace.specs.declared.index.NameIndex.{NameIndex}
 
--- the index gives the place of each name, and no name of the list is empty or too long for one
+-- the index gives the index of each name, and no name of the list is empty or too long for one
 pub record IsIndex (index : NameIndex) (names : List (List ℕ)) : Type 0 where
   pub gives : (text : List ℕ) → get bytes_eq index.places text ≡ place_of names text
   pub sized : (text : List ℕ) (i : ℕ) → place_of names text ≡ Some i → (0 < length text) × (length text ≤ 16)

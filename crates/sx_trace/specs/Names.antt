@@ -47,10 +47,10 @@ are_valid n =
 abbrev pub place_of : List (List ℕ) → List ℕ → Option ℕ
 place_of names text = position (λ name. bytes_eq name text) names
 
--- the device of this place, where it is a sensor
+-- the device of this index, where it is a sensor
 abbrev pub if_sensor : List Bool → ℕ → Option ℕ
 if_sensor sensors device = if unwrap_or (slice_get sensors device) false then Some device else None
 
--- the place of a sensor's name among the devices
+-- the index of a sensor's name among the devices
 abbrev pub sensor_place : NameLists → List ℕ → Option ℕ
 sensor_place n text = option_and_then (if_sensor n.sensors) (place_of n.devices text)

@@ -25,7 +25,7 @@ impl NameIndex {
         }
     }
 
-    /// The index of these names.
+    /// The index of these names. The error says that memory ran out.
     pub fn of(alloc: Global, names: &[Name]) -> Result<NameIndex, AllocError>
         ensures { IfOk result (λ index. IsIndex index names.now) }
     {
@@ -37,7 +37,7 @@ impl NameIndex {
     }
 
     /// Takes in the name that comes next, at this place. A name that stands before keeps its first
-    /// place.
+    /// place. The error says that memory ran out.
     pub fn push(&mut self, name: Name, place: usize) -> Result<(), AllocError>
         ensures grows { OnOk result (Grows self.old self.new name place) }
         ensures kept { OnErr result (Keeps self.old self.new) }

@@ -93,7 +93,7 @@ fn is_called(name: &Name, text: &[u8]) -> bool
     name.bytes() == text
 }
 
-/// A place of a list of at most 64 names, as a byte.
+/// An index of a list of at most 64 names, as a byte.
 fn byte(place: Option<usize>) -> Option<u8>
     requires { IfSome place (λ place. place < 64) }
     ensures { result ≡ place }
@@ -114,7 +114,7 @@ fn if_sensor(sensors: &[bool], device: u8) -> Option<u8>
 }
 
 impl Names {
-    /// These lists of names, with their indexes.
+    /// These lists of names, with their indexes. The error says that memory ran out.
     pub fn new(
         alloc: Global,
         nodes: Vec<Name>,
@@ -158,7 +158,7 @@ impl Names {
             && self.sensors.len() == self.devices.len()
     }
 
-    /// The place of the node of this name.
+    /// The index of the node of this name.
     pub fn node(&self, text: &[u8]) -> Option<u8>
         requires { IsTrue (are_valid self.now) }
         ensures place { result ≡ place_of self.now.nodes text.now }
@@ -167,7 +167,7 @@ impl Names {
         byte(self.node_index.place_of(text))
     }
 
-    /// The place of the device of this name.
+    /// The index of the device of this name.
     pub fn device(&self, text: &[u8]) -> Option<u8>
         requires { IsTrue (are_valid self.now) }
         ensures place { result ≡ place_of self.now.devices text.now }
@@ -176,7 +176,7 @@ impl Names {
         byte(self.device_index.place_of(text))
     }
 
-    /// The place among the devices of the sensor of this name.
+    /// The index among the devices of the sensor of this name.
     pub fn sensor(&self, text: &[u8]) -> Option<u8>
         requires { IsTrue (are_valid self.now) }
         ensures place { result ≡ sensor_place self.now text.now }
@@ -186,7 +186,7 @@ impl Names {
         if_sensor(&self.sensors, device)
     }
 
-    /// The place of the module of this name.
+    /// The index of the module of this name.
     pub fn module(&self, text: &[u8]) -> Option<u8>
         requires { IsTrue (are_valid self.now) }
         ensures place { result ≡ place_of self.now.modules text.now }
@@ -195,7 +195,7 @@ impl Names {
         byte(self.module_index.place_of(text))
     }
 
-    /// The place of the connection of this name.
+    /// The index of the connection of this name.
     pub fn link(&self, text: &[u8]) -> Option<u8>
         requires { IsTrue (are_valid self.now) }
         ensures place { result ≡ place_of self.now.links text.now }

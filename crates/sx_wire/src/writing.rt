@@ -6,11 +6,13 @@ ghost use Rattle.sx_wire.specs.Packets.{ask_packet, event_packet, header, set_ke
 use crate::packets::{EventPacket, SetKeyPacket};
 use byteorder::{ByteOrder, LittleEndian};
 
-/// The first word of each packet.
+/// The first word of a set-key packet.
 pub(crate) const SET_KEY: u16 = 1;
 
+/// The first word of an ask.
 pub(crate) const ASK: u16 = 2;
 
+/// The first word of an event.
 pub(crate) const EVENT: u16 = 3;
 
 // The three words before what is encrypted.

@@ -23,7 +23,7 @@ pub record DeployerState : Type 0 where
   pub attested : List (Option ℕ)
   pub epochs : List ℕ
 
--- the element of this place, or nothing
+-- the element of this index, or nothing
 abbrev pub list_at : List (List ℕ) → ℕ → List ℕ
 list_at [] i = []
 list_at (x ∷ xs) i = if i == 0 then x else list_at xs (i - 1)

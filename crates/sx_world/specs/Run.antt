@@ -60,7 +60,7 @@ abbrev pub or_else : Option ℕ → ℕ
 or_else None = 0
 or_else (Some k) = k
 
--- a device's place among those of its node
+-- a device's index among those of its node
 abbrev pub place_at : Setting → ℕ → ℕ → ℕ
 place_at set n d = or_else (position_from (λ k. k == d) 0 (devices_at n 0 set.app.devices))
 

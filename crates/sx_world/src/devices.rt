@@ -58,7 +58,7 @@ pub(crate) fn is_driver(app: &App, runner: Option<u8>, d: u8) -> bool
     }
 }
 
-/// The place of the d-th device among those of its node.
+/// The index of the d-th device among those of its node.
 pub(crate) fn place_at(devices: &[AppDevice], n: u8, d: u8) -> u8
     requires device { (x : Device) → slice_get devices.now d ≡ Some x → x.node ≡ n }
     requires within { d < length devices.now }

@@ -24,6 +24,7 @@ use sx_trace::items::Item;
 /// The target of an entry that is no set-key packet.
 pub(crate) const NO_TARGET: u8 = 255;
 
+/// Appends an item. The error says that memory ran out, and nothing was appended.
 pub(crate) fn add(items: &mut Vec<Item>, item: Item) -> Result<(), AllocError>
     ensures ok { OnOk result (items.new.items ≡ items.old.items ++ item ∷ []) }
     ensures err { OnErr result (items.new.items ≡ items.old.items) }

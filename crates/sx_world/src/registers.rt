@@ -29,6 +29,7 @@ impl Model for Register {
 }
 
 impl Register {
+    /// This register, to get this value.
     pub(crate) fn new(number: u8, value: u16) -> Register
         ensures { result ≡ run.register number value }
     {

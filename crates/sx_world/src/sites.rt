@@ -19,7 +19,7 @@ use sx_tag::Tag;
 /// Where a module is deployed: its node, its layout, its provider, and the text of its image.
 #[derive(Drop)]
 pub struct Site {
-    /// The place of its node.
+    /// The index of its node.
     pub node: u8,
     /// The bounds of its two sections.
     pub layout: Layout,

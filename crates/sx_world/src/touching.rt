@@ -21,6 +21,7 @@ use sx_node::{Node, Refused};
 use sx_tag::Tag;
 use sx_trace::items::{Cause, Item};
 
+/// The item of an act that a node refuses.
 pub(crate) fn refused_item(n: u8, why: Refused) -> Item
     ensures { result ≡ refused_item n why }
 {
@@ -49,6 +50,7 @@ pub(crate) fn add_answer(
     }
 }
 
+/// Writes bytes into a node's memory, or gives why they are refused.
 pub(crate) fn put_node<B: Bus, T: Tag>(
     nodes: &mut [Node<B, T>],
     n: u8,
