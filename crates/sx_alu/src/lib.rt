@@ -1,4 +1,5 @@
-//! Arithmetic and flags of the MSP430, on words and on bytes.
+//! Arithmetic and flags of the MSP430 (TI, MSP430x2xx Family User's Guide, "Instruction Set"), on
+//! words and on bytes.
 //!
 //! `calc` gives the result and the flags of a calculation: its row in specs/Table.antt, which is
 //! what must be believed. `laws` says in terms of arithmetic what the flags tell after a

@@ -40,7 +40,7 @@ no_value t (c ∷ ts) h = by_test (is_comma c) refl
 pub no_comma : (t c : Token) (ts : List Token) → is_comma c ≡ false → data_of (t ∷ c ∷ ts) ≡ None
 no_comma t c ts h = rw h refl
 
--- an item in front of what is meant
+-- an item before what is meant
 adds_first : (i : Item) (meant : Option (List Item)) (n : ℕ) (before after : List Entry) (r : Result (Unit {0}) AsmError)
     → Adds meant n (before ++ record { line = n; item = i } ∷ []) after r → Adds (first (Some i) meant) n before after r
 adds_first i None n before after (Ok u) h = h
@@ -57,7 +57,7 @@ placed_append : (n : ℕ) (is js : List Item) → placed n (is ++ js) ≡ placed
 placed_append n [] js = refl
 placed_append n (i ∷ is) js = ap (λ (es : List Entry). record { line = n; item = i } ∷ es) (placed_append n is js)
 
--- a piece's items in front of those of the pieces behind it
+-- a piece's items before those of the pieces after it
 pub next_piece : (n : ℕ) (before after : List Entry) (meant rest : Option (List Item)) → grown before n meant ≡ Some after
     → grown before n (append meant rest) ≡ grown after n rest
 next_piece n before after None rest h = absurd (cc)

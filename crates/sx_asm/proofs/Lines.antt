@@ -8,7 +8,7 @@ use Rattle.sx_asm.specs.declared.error.AsmError.{AsmError}
 use Rattle.sx_asm.specs.Reading.{◌>>=◌, placed, not_written, onto_first, parts, taken, items_of, line_fits, read_lines, is_newline}
 use Rattle.sx_asm.specs.Adding.{grown, continued}
 
--- a line behind which lines follow has a newline
+-- a line after which lines follow has a newline
 pub taken_more : (line xs : List ℕ) → length line + 1 ≡ taken line (parts is_newline xs)
 taken_more line [] = refl
 taken_more line (x ∷ xs) = by_test (is_newline x) refl
@@ -31,7 +31,7 @@ fits_left left line xs h =
     let k : taken line (parts is_newline xs) ≤ left = grind (arith, nat_tests, b) in
     omega (arith, k, taken_more line xs)
 
--- what a line says and what the lines behind it say, in front of which entries stand
+-- what a line says and what the lines after it say, before which entries stand
 joined : (before after : List Entry) (n : ℕ) (e : AsmError) (meant : Option (List Item)) (rest : Result (List Entry) AsmError) → grown before n meant ≡ Some after
     → continued before (ok_or meant e >>= (λ items. rest >>= (λ entries. Ok (placed n items ++ entries)))) ≡ continued after rest
 joined before after n e None rest h = absurd (cc)

@@ -69,7 +69,7 @@ some_words instr.Reti = omega arith
 some_words (instr.Jump cond o) = omega arith
 some_words (instr.Sancus code) = omega arith
 
--- the bytes of one to three words at the front
+-- the bytes of one to three words at the start
 front_one : (bytes : List ℕ) → AreBytes bytes → 2 ≤ length bytes → bytes_of (word_from bytes 0 ∷ []) ≡ take 2 bytes
 front_one [] h l = absurd (omega (arith, l))
 front_one (a ∷ []) h l = absurd (omega (arith, l))
@@ -167,7 +167,7 @@ line_again bytes at h l even room =
     lined_again at (listed at bytes).0 f.ws f.is_line even (omega (arith, f.length_is, f.within, room))
     ∙ ap (λ (b : List ℕ). Ok b) f.bytes_are
 
--- A line in front of others.
+-- A line before others.
 
 parts_line : (line rest : List ℕ) → list_all is_inner line ≡ true → parts is_newline (line ++ (10 ∷ rest)) ≡ line ∷ parts is_newline rest
 parts_line [] rest h = refl

@@ -36,7 +36,7 @@ step m d rest h k = rw (with_hex m d h k) refl
 abbrev IsHex : ℕ → List ℕ → Type 0
 IsHex n ds = (list_all is_word_byte ds ≡ true) × (digits_from 16 0 ds ≡ Some n) × (0 < length ds) × (length ds ≤ 4)
 
--- digits in front of others are of words
+-- digits before others are of words
 word_in_front : (d : ℕ) (ds : List ℕ) → d < 16 → list_all is_word_byte ds ≡ true → list_all is_word_byte (hex_digit d ∷ ds) ≡ true
 word_in_front d ds h k = rw ((digit_fact d h).0, k) refl
 

@@ -9,7 +9,7 @@ use Rattle.sx_asm.specs.declared.written.Label.{Label}
 use Rattle.sx_asm.specs.Meaning.{further, size, bytes_of, words_at, code_of}
 use Rattle.sx_asm.specs.Assembled.{has_form, formed, reaches, reached}
 
--- an instruction's words are among those in front of which it stands
+-- an instruction's words are among those before which it stands
 pub within : (ws : List ℕ) (i : Instr) (n : ℕ) → Begins ws i n → n ≤ length ws
 within ws i n h = omega (arith, h.1, ap length h.2, length-take n ws)
 
@@ -37,7 +37,7 @@ reached_behind labels at e es h = rw (has_reached labels at e es h) at h
 pub front_of : (es : List Entry) (i : ℕ) (e : Entry) → i < length es → e ≡ get_or es i e → drop i es ≡ e ∷ drop (i + 1) es
 front_of es i e h f = rw (add-one, drop-cons es i e) (ap (λ (x : Entry). x ∷ drop (suc i) es) (sym f))
 
--- an item's bytes behind those before it
+-- an item's bytes after those before it
 pub next_item : (labels : List Label) (at to : ℕ) (es : List Entry) (i : ℕ) (e : Entry) (before after whole : List ℕ)
     → i < length es → e ≡ get_or es i e → whole ≡ before ++ code_of labels at (drop i es)
     → after ≡ before ++ bytes_of (words_at labels at e.item) → to ≡ further at (size e.item)

@@ -128,7 +128,8 @@ abbrev pub piece_from : Token → List Token → Option (List Item)
 piece_from (token.Name s) ts = labelled s ts
 piece_from t ts = statement_from t ts
 
--- the items between two semicolons: the labels, and then a statement
+-- the items of a line or of a piece between semicolons: a label, if there is one, and then a
+-- statement
 abbrev pub piece_of : List Token → Option (List Item)
 piece_of [] = Some []
 piece_of (t ∷ ts) = piece_from t ts

@@ -17,7 +17,7 @@ use Rattle.sx_bulk.proofs.Decimals.{decimal_word, number_said}
 abbrev IsGood : List ℕ → Type 0
 IsGood text = IsOk (said names text)
 
--- a line of words, where they say one whatever text stands behind them
+-- a line of words, where they say one whatever text follows them
 good : (w : List ℕ) (ws : List (List ℕ)) → list_all is_word (w ∷ ws) ≡ true → ((t : List ℕ) → IsOk (said_in names t (w ∷ ws))) → IsGood (w ++ spaced ws)
 unfolding said
 good w ws words says =
@@ -59,7 +59,7 @@ blank : IsGood []
 unfolding said words_of
 blank = refl
 
--- a line behind their end is blank
+-- a line after their end is blank
 good_at : (those : List (List ℕ)) (k : ℕ) → AreGood those → IsGood (line_at those k)
 good_at those k no_more = blank
 good_at those zero (h also hs) = h

@@ -17,11 +17,11 @@ use Rattle.sx_grammar.specs.Machine.{Outcome, Read, Of_module, read, begun, noth
 use Rattle.sx_grammar.specs.Text.{Spells}
 use Rattle.sx_grammar.proofs.Faults.{read_is_module}
 
--- the tokens of a front, at most one, and the place and the text behind it
+-- the token at the start of a text, if any, and the place and the text after it
 abbrev Turn : Type 0
 Turn = List Placed × Place × List ℕ
 
--- a token of this kind at a place, so many bytes long
+-- a token of this kind at a place, this many bytes long
 one : Place → Kind → ℕ → List ℕ → Option Turn
 one at k n text = Some (record { kind = k; place = at } ∷ [], along at n, drop n text)
 
@@ -71,7 +71,7 @@ follow : Option Turn → (Place → List ℕ → Found) → Found
 follow None more = None
 follow (Some t) more = join t.0 (more t.1 t.2)
 
--- the tokens of a text, in fewer turns than so many
+-- the tokens of a text, in fewer turns than this many
 unfoldable pub lex : ℕ → Place → List ℕ → Found
 unfolding follow join turn turned signed sign_of numbered number_of named one
 lex zero at text = None
@@ -167,7 +167,7 @@ made : Found → Option Outcome
 made None = None
 made (Some r) = Some (read begun nothing r.0)
 
--- what a text is read as, in fewer turns than so many
+-- what a text is read as, in fewer turns than this many
 unfoldable pub read_as : ℕ → List ℕ → Option Outcome
 unfolding made lex
 read_as k text = made (lex k start text)

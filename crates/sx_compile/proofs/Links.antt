@@ -14,7 +14,7 @@ use Rattle.sx_mean.specs.Ends.{is_sending, senders}
 use Rattle.sx_mean.proofs.Ends.{count_by-cons}
 use Rattle.sx_lower.specs.Lowering.{SendFew}
 
--- so many connections leave at each output as ends send there
+-- as many connections leave each output as ends send what is sent to it
 abbrev pub SendSame : List Link → List End → Type 0
 SendSame links ends = (output : ℕ) → links_from links 0 output ≡ senders ends output
 

@@ -24,7 +24,7 @@ use Rattle.sx_stub.specs.Joined.{PartsDo}
 use Rattle.sx_stub.specs.Stub.{returns, stub_code, stub_ops}
 use Rattle.sx_compile.specs.Compiled.{compiled_ops, compiled_parts}
 
--- the front of a list
+-- the start of a list
 front_of : (xs ys : List Ir) (i : ℕ) → i < length xs → slice_get (xs ++ ys) i ≡ slice_get xs i
 front_of [] ys i lt = absurd (omega (arith, lt))
 front_of (x ∷ xs) ys zero lt = refl

@@ -44,7 +44,7 @@ use Rattle.sx_compile.proofs.Sizes.{within_weight}
 use Rattle.sx_compile.proofs.Sound.{compiled_sound, ops_sound, plain}
 use Rattle.sx_compile.proofs.Zeros.{zeros_initial}
 
--- the zeros behind the words
+-- the zeros after the words
 abbrev zeros : Layout → ModuleTree → List End → List ℕ
 zeros l tree ends = replicate (module_weight tree (length ends) - length (bytes_of (text_words_of l (compiled_ops tree ends) (compiled_parts tree ends)))) 0
 

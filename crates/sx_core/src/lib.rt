@@ -1,4 +1,5 @@
-//! The plain instructions of the MSP430, and interrupts.
+//! The plain instructions of the MSP430 (TI, MSP430x2xx Family User's Guide, "CPU"), and
+//! interrupts.
 //!
 //! `step_plain` executes one instruction and `interrupt` accepts an interrupt, on an `Executor`.
 //! Each is exactly a run of the executor over the instruction's plan, so every access is checked by

@@ -7,7 +7,7 @@ use Rattle.sx_stage.specs.declared.fault.DeployError.TheVariants.{Fault, OutOfMe
 use Rattle.sx_entries.specs.declared.entries.ModuleEntry.{ModuleEntry}
 use Rattle.sx_deploy.specs.Sources.{AreCoded, none_left, each, later, here, Coded, IsCoded}
 
--- what is done, in front of what is to come
+-- what is done, before what is to come
 abbrev pub front : List Coded → Result (List Coded) DeployFault → Result (List Coded) DeployFault
 front done (Ok out) = Ok (done ++ out)
 front done (Err f) = Err f
@@ -51,7 +51,7 @@ none_at_end (m ∷ ms) h = absurd (omega (arith, h))
 pub ends : (modules : List ModuleEntry) (i : ℕ) (done : List Coded) → Begun modules done (drop i modules) → length modules ≤ i → AreCoded 0 modules (Ok done)
 ends modules i done b e = rw (← append-nil done) (b.begun (Ok []) (rw (none_at_end (drop i modules) (omega (arith, length-drop i modules))) none_left))
 
--- a module that has no tree, or want of memory
+-- a module that has no tree, or lack of memory
 pub stops : {S T : Type 0} (seen : S → Coded) (seen_all : T → List Coded) (modules : List ModuleEntry) (i : ℕ) (m : ModuleEntry) (done : List Coded) (n : ℕ) (e : DeployError)
     → Begun modules done (drop i modules) → i < length modules → m ≡ get_or modules i m → n ≡ length done → GivesOne seen (Err e) (IsCoded n m) → GivesOne seen_all (Err e) (AreCoded 0 modules)
 stops seen seen_all modules i m done n (Fault f) b k q l h = b.begun (Err f) (rw (next_in modules i m k q) (here (subst (λ (k : ℕ). IsCoded k m (Err f)) l h)))

@@ -13,7 +13,7 @@ use Rattle.sx_model.specs.Renewal as model
 use Rattle.sx_deployer.specs.Keeping.{has_link, raised_from}
 use Rattle.sx_deployer.specs.Laws.{RenewsAsTheModel}
 
--- the ends of a connection and of those behind it
+-- the ends of a connection and of those after it
 abbrev held : Bool → Bool → ℕ → Link → List End → List End
 held a b n l es =
     cons_option (if a then Some (record { link = n; side = From; port = l.output }) else None)

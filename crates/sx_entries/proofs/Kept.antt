@@ -29,7 +29,7 @@ not_true : (a : Bool) → not a ≡ true → a ≡ false
 not_true true h = absurd (cc)
 not_true false h = refl
 
--- a name that isn't among the others, behind them
+-- a name that isn't among the others, after them
 still_new : (names : List (List ℕ)) (x y : List ℕ) → has_name names y ≡ false → bytes_eq y x ≡ false → has_name (names ++ x ∷ []) y ≡ false
 still_new names x y h e = rw (list_any-append (λ n. bytes_eq n y) names (x ∷ []), h, bytes_eq-sym x y ∙ e) refl
 

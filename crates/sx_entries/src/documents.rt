@@ -13,8 +13,8 @@ const NO_DOCUMENT: DeployFault = DeployFault {
     place: Place::Nowhere,
 };
 
-/// The table that the document holds. `Fault` is that of a text that is no document of TOML 1.1.
-/// `OutOfMemory` says that memory ran out.
+/// The table that the document of this text holds, in TOML 1.1. `Fault` is that of a text that is
+/// no document of TOML 1.1. `OutOfMemory` says that memory ran out.
 pub fn table_of(alloc: Global, text: &[u8]) -> Result<Table, DeployError>
     ensures { Gives table_view result (table_of text.now) }
 {

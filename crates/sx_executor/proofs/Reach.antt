@@ -47,7 +47,7 @@ all_open live own access at (suc n) each =
     both_true (may live own access (at + n)) (may_range live own access at n) (each n (omega arith))
     (all_open live own access at n (λ i h. each i (omega arith)))
 
--- the first byte, and those behind it
+-- the first byte, and those after it
 first_and_rest : (live : List Section) (own : ℕ) (access : Access) (at n : ℕ)
     → may_range live own access at (suc n) ≡ (may live own access at && may_range live own access (at + 1) n)
 first_and_rest live own access at zero =

@@ -10,7 +10,7 @@ use Rattle.sx_grammar.specs.Grammar.{Form, Primary, Unary, Term, Factors, Sum, A
 use Rattle.sx_grammar.specs.Machine as machine
 use Rattle.sx_grammar.specs.Machine.{Symbol, Value, Of_expression, Want, Say, Act, Do_index, Do_combine, Operand, Comparison, Index_of, An_expression, Unary_of, A_close, A_close_square, opens, reads, is_square, apply, act}
 
--- what is wanted where a form begins
+-- what is required where a form begins
 abbrev pub wanted : Form → List Symbol → List Symbol
 wanted Primary st = Operand ∷ st
 wanted Unary st = Operand ∷ st

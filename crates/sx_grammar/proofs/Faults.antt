@@ -14,7 +14,7 @@ use Rattle.sx_grammar.proofs.CompleteModules.{complete_module}
 zero_stands : {d : ℕ} {a : Bool} {r : List Token} → Stands g.Whole d (token (Number 0) a ∷ r) (Constant 0) r
 zero_stands = g.whole (g.sum (g.term (g.plain g.number) g.no_factor) g.no_addend)
 
--- whatever is wanted, some tokens give it
+-- whatever is required, some tokens give it
 pub some_fits : (st : List Symbol) → (ks : List Kind) × Fits st (added ks)
 some_fits [] = ([], refl)
 some_fits (Want f ∷ st) = let w = some_fits st in (sign f ∷ w.0, (false, added w.0, refl, w.1))
@@ -47,7 +47,7 @@ some_fits (Initial_of x ∷ st) = let w = some_fits st in (Semicolon ∷ w.0, (a
 some_fits (Declarations ∷ st) = let w = some_fits st in (w.0, ([], added w.0, [], added w.0, g.no_declaration, g.no_handler, w.1))
 some_fits (Handlers ∷ st) = let w = some_fits st in (w.0, ([], added w.0, g.no_handler, w.1))
 
--- what is read whole is what the stack wants, and is read whole as tokens
+-- what is read whole is what the stack requires, and is read whole as tokens
 whole_back : (ts : List Placed) (st : List Symbol) (vs w : List Value) → read st vs ts ≡ Read w → Fits st (given ts) × (reads st vs (given ts) ≡ Some w)
 whole_back [] st vs w e = go (finish st vs) refl e
   where
@@ -60,7 +60,7 @@ whole_back (t ∷ ts) st vs w e = go (step (fits true) st vs t.kind) refl e (λ 
     go None h e again = absurd (cc)
     go (Some s) h e again = let u = again s e in (step_back true st vs t.kind s (given ts) h u.0, rw h u.1)
 
--- a token is refused after a front that can go on, and whatever follows it
+-- a token is refused after a prefix that can be continued, and whatever follows it
 record Stuck (st : List Symbol) (vs : List Value) (ts : List Placed) (t : Placed) : Type 0 where
   front : List Placed
   behind : List Placed

@@ -12,7 +12,7 @@ use Rattle.sx_grammar.proofs.Sound.{Fits, step_back, finish_back}
 use Rattle.sx_grammar.proofs.CompleteModules.{complete_module}
 use Rattle.sx_grammar.proofs.Faults.{some_fits, module_of_fits, given-append, refused_no_module}
 
--- the machine after a front, if no token of it is refused
+-- the machine after a prefix, if no token of it is refused
 abbrev pub after : List Symbol → List Value → List Placed → Option State
 after st vs [] = Some (st, vs)
 after st vs (t ∷ ts) = choose (step (fits true) st vs t.kind) None (λ s. after s.0 s.1 ts)

@@ -1,4 +1,4 @@
--- What the machine reads is what its stack wants by the grammar, read backward one token at a time.
+-- What the machine reads is what its stack requires by the grammar, read backward one token at a time.
 use Rattle.std.proofs.Common.{◌≡◌, ℕ, ◌+◌, List, [], ◌∷◌, Bool, true, false, Option, Some, None, refl, sym, ap, subst, ◌∙◌, if◌then◌else◌}
 use Rattle.sx_lang.specs.Tree.{Expression, Constant, Variable, Indexed, Applied, Combined, Statement, Defines, Assigns, Stores, Chooses, Repeats, Sends, Emits, Block, Done, Then, HandlerTree}
 use Rattle.sx_lang.specs.declared.tree.UnOp.{UnOp}
@@ -50,7 +50,7 @@ FitsNumber For_repeat d ts r = (a : Bool) → (s : Statement) × IsStatement d (
 FitsNumber (For_initial x) d ts r = (a b c : Bool) → (y : Decl) × IsDeclaration (token Var a ∷ token (Name x) b ∷ token Equals c ∷ ts) y r
 FitsNumber (For_length x) d ts r = (a b c : Bool) → (y : Decl) × IsDeclaration (token Array a ∷ token (Name x) b ∷ token OpenSquare c ∷ ts) y r
 
--- the tokens are what the stack wants
+-- the tokens are what the stack requires
 abbrev pub Fits : List Symbol → List Token → Type 0
 Fits [] ts = ts ≡ []
 Fits (Want f ∷ st) ts = (c : Bool) × (r : List Token) × (ts ≡ token (sign f) c ∷ r) × Fits st r
@@ -89,7 +89,7 @@ sign_is A_semicolon Semicolon e = refl
 sign_is An_equals Equals e = refl
 sign_is _ _ e = absurd (cc)
 
--- an expression in front of a sign
+-- an expression before a sign
 expression_sign : {d : ℕ} {ts us r : List Token} {e : Expression} {k : Kind} {c : Bool} → us ≡ token k c ∷ r → Stands g.Whole d ts e us → Stands g.Whole d ts e (token k c ∷ r)
 expression_sign {d = d} {ts = ts} {e = e} h s = subst (λ l. Stands g.Whole d ts e l) h s
 
@@ -112,7 +112,7 @@ operand_back c st vs Bang s ts e f =
     (Applied UnOp.Not w.1.0, w.1.1, g.unary refl w.0 w.1.2, w.1.3)
 operand_back c st vs _ s ts e f = absurd (cc)
 
--- an operand and the factors behind it are a term, and so on
+-- an operand and the factors after it are a term, and so on
 factors_back : (st : List Symbol) (ts : List Token) → ((e : Expression) × (r : List Token) × Stands g.Unary (opens st) ts e r × Fits (Factors 0 ∷ st) r) → (e : Expression) × (r : List Token) × Stands g.Term (opens st) ts e r × Fits st r
 factors_back st ts w = let v = w.3 w.0 in (v.0, v.1, g.term w.2 v.2, v.3)
 
@@ -122,7 +122,7 @@ sum_back st ts w = let u = factors_back (Addends 0 ∷ st) ts w in let v = u.3 u
 whole_back : (st : List Symbol) (ts : List Token) → ((e : Expression) × (r : List Token) × Stands g.Unary (opens st) ts e r × Fits (Factors 0 ∷ Addends 0 ∷ Comparison ∷ st) r) → (e : Expression) × (r : List Token) × Stands g.Whole (opens st) ts e r × Fits st r
 whole_back st ts w = let u = sum_back (Comparison ∷ st) ts w in u.3 u.0 ts u.2
 
--- a statement and those behind it
+-- a statement and those after it
 statements_back : (st : List Symbol) (ts : List Token) → ((r : List Token) × ((s : Statement) × IsStatement (opens st + 1) ts s r) × Fits (Statements ∷ st) r) → (x : Block) × (r : List Token) × AreStatements (opens st + 1) ts x r × Fits st r
 statements_back st ts w = let s = w.1 in let more = w.2 in (Then s.0 more.0, more.1, g.statement s.1 more.2, more.3)
 

@@ -55,7 +55,7 @@ all-of n xs e = rw e (take-length xs)
 none-left : (n : ℕ) (xs : List ℕ) → n ≡ length xs → drop n xs ≡ []
 none-left n xs e = rw e (drop-length xs)
 
--- what stands behind what had come, after a part was copied
+-- what follows what had come, after a part was copied
 pub copied : (begun chunk new : List ℕ) (filled count : ℕ) → count ≤ length chunk
     → take (filled + length (take count chunk)) new ≡ begun ++ take count chunk → take (filled + count) new ≡ begun ++ take count chunk
 copied begun chunk new filled count h e = rw (length-take-le count chunk h) at e
@@ -222,7 +222,7 @@ pub more-on : (held got begun left next line left' : List ℕ) → held ++ got �
 more-on held got begun left next line left' e l n =
     sym (got-on held got begun left next e) ∙ sym l ∙ rw n (sym (append-nil line))
 
--- where a newline is held at first, something is still held behind a part that has none
+-- where a newline is held at first, something is still held after a part that has none
 pub some-left : (held got begun left : List ℕ) → held ++ got ≡ begun ++ left → IsPlain begun → Contains held newline → 0 < length left
 some-left held got begun [] e p has = absurd (plain-none held got (plain-at begun (held ++ got) (sym (e ∙ append-nil begun)) p) has)
 some-left held got begun (x ∷ left) e p has = omega arith
@@ -246,7 +246,7 @@ faults-on read.Failed s0 s1 s2 a b = fault-on s0 s1 s2 a b
 pub took-within : (limit limit' : ℕ) (bytes into : List ℕ) (answer : LineRead) (new : Ahead) → limit ≡ limit' → Took limit bytes answer into new → Took limit' bytes answer into new
 took-within limit limit' bytes into answer new e t = let P : ℕ → Type 0 = λ l. Took l bytes answer into new in subst P e t
 
--- a turn behind others: a newline that is there isn't read past
+-- a turn after others: a newline that is there isn't read past
 pub asked-on : (held got begun left : List ℕ) (s0 s1 s2 : SourceAt) → s0.rest ≡ got ++ s1.rest → held ++ got ≡ begun ++ left → IsPlain begun
     → AskedInLine held s0 s1 → AskedInTurn left s1 s2 → AskedInLine held s0 s2
 asked-on held got begun left s0 s1 s2 r e p a t =

@@ -1,4 +1,4 @@
--- The readings compute on words at hand.
+-- The readings compute on given words.
 use Rattle.std.proofs.Common.{◌≡◌, refl, Some, None, true, false}
 use Rattle.std.specs.Prelude.{negsuc}
 use Rattle.sx_isa.specs.declared.instruction.Operand.TheVariants.{Reg, Absolute, Indirect, Const}

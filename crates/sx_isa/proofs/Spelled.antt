@@ -167,7 +167,7 @@ reads w0 w1 w2 (Sancus code) n b =
     reads_sancus code w0 w1 w2 b.0.0 b.0.1 (alone w0 w1 w2 n _ b.1 b.2) ∙ ap
     (λ k. Some (Sancus code, k)) (sym b.1)
 
--- the front of a spelling, and its reading
+-- the start of a spelling, and its reading
 fronts : (s x : List ℕ) → length s ≤ 3 →
     take (length s) (get_or (s ++ x) 0 0 ∷ get_or (s ++ x) 1 0 ∷ get_or (s ++ x) 2 0 ∷ []) ≡ s
 fronts [] x h = refl

@@ -1,5 +1,6 @@
-//! The instruction words of the MSP430 with the Sancus instructions: which instructions there are,
-//! how they are spelled in words and how words are read.
+//! The instruction words of the MSP430 (TI, MSP430x2xx Family User's Guide, "CPU") with the Sancus
+//! instructions: which instructions there are, how they are spelled in words and how words are
+//! read.
 //!
 //! `encode` gives the words of an instruction and `decode` reads them back; `valid` and `length`
 //! are the tests to make before them. `extended` puts extension words into an instruction that was

@@ -1,4 +1,4 @@
--- Beyond the digits at the front, no longer front is a number.
+-- Beyond the digits at the start, no longer prefix is a number.
 use Rattle.std.proofs.Common.{◌≡◌, ℕ, zero, suc, ◌+◌, ◌*◌, ◌<◌, ◌≤◌, Bool, true, false, ◌&&◌, List, [], ◌∷◌, length, take, nat_le, if◌then◌else◌, Some, None, refl, sym, ap, ◌∙◌, arith, ◌==◌}
 use Rattle.std.specs.List.{list_all}
 use Rattle.std.proofs.Math.Nat.{le-mul_of_pos_right}

@@ -8,13 +8,13 @@ use Rattle.sx_lex.specs.declared.tokens.Placed.{Placed}
 use Rattle.sx_lex.specs.Words.{IsLongest, NoToken, kind_of, line_length}
 use Rattle.sx_lex.specs.Lexed.{along, below, is_space, begins_comment, Lexed, at_end, space, newline, comment, token, bad, HasReading}
 
--- the longest token at a text's front
+-- the longest token at a text's prefix
 record Longest (text : List ℕ) : Type 0 where
   size : ℕ
   kind : Kind
   is_longest : IsLongest text size kind
 
--- no front longer than n bytes is a token
+-- no prefix longer than n bytes is a token
 abbrev NoLonger : List ℕ → ℕ → Type 0
 NoLonger text n = (m : ℕ) → n < m → m ≤ length text → kind_of (take m text) ≡ None
 
@@ -32,7 +32,7 @@ no_token text none = record { none = λ m i. go m i }
     go zero i = refl
     go (suc m) i = none (suc m) (omega arith) i
 
--- the fronts are tried from the longest on
+-- the prefixes are tried from the longest on
 longest_to : (text : List ℕ) (n : ℕ) → n ≤ length text → NoLonger text n → Longest text ⊎ NoToken text
 longest_to text zero i none = inr (no_token text none)
 longest_to text (suc n) i none = go (kind_of (take (suc n) text)) refl (λ more. longest_to text n (omega arith) more)
@@ -50,7 +50,7 @@ longest text = longest_to text (length text) (omega arith) (go)
 abbrev Reading : Place → List ℕ → Type 0
 Reading at bs = (ts : List Placed) × (end : Place) × Lexed at bs ts end
 
--- a text of at most so many bytes
+-- a text of at most this many bytes
 reading : (most : ℕ) (at : Place) (bs : List ℕ) → length bs ≤ most → Reading at bs
 reading most at [] l = ([], at, at_end)
 reading zero at (b ∷ bs) l = absurd (omega arith)

@@ -20,7 +20,7 @@ use Rattle.sx_mean.proofs.Scope.{length-names, look_past, place_of_local, names_
 use Rattle.sx_lower.proofs.Source.{look_at, found_word}
 use Rattle.sx_mean.proofs.Words.{apply_word, combine_word, length-initial}
 
--- the private section, of a module with so many ends, holds this state, whose locals have these names
+-- the private section, of a module with this many ends, holds this state, whose locals have these names
 pub record Holds (ds : List Decl) (n : ℕ) (names : List (List ℕ)) (st : State) (priv : List ℕ) : Type 0 where
   pub named : names_of st.locals ≡ names
   pub few : length names ≤ 16

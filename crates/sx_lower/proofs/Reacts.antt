@@ -247,7 +247,7 @@ part_stands ds ends (x ∷ hs) code p zero from to h has is part =
 part_stands ds ends (x ∷ hs) code p (suc k) from to h has is part =
     part_stands ds ends hs code (p + length (handler_code ds ends p x)) k from to h (has_back code p (handler_code ds ends p x) _ has) is part
 
--- it ends behind its last operation
+-- it ends after its last operation
 part_behind : (ds : List Decl) (ends : List End) (hs : List HandlerTree) (p k from to : ℕ) (h : HandlerTree) → slice_get hs k ≡ Some h → slice_get (handlers_parts ds ends p hs) k ≡ Some (from, to) → from + length (handler_code ds ends from h) ≡ to
 part_behind ds ends [] p k from to h is part = absurd (differ is)
   where

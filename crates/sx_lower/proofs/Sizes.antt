@@ -22,7 +22,7 @@ pub ops_bytes-append : (a b : List Ir) → ops_bytes (a ++ b) ≡ ops_bytes a + 
 ops_bytes-append [] b = omega arith
 ops_bytes-append (i ∷ a) b = omega (arith, ops_bytes-append a b)
 
--- so many bytes and operations at most
+-- this many bytes and operations at most
 pub record Within (code : List Ir) (most count : ℕ) : Type 0 where
   pub size : ops_bytes code ≤ most
   pub ops : length code ≤ count

@@ -64,7 +64,7 @@ slots_other (l ∷ ls) priv at o v h s =
     let here = word-put_other priv o v at (subst (λ n. even n ≢ even o) (omega arith) (h 0 (omega arith))) in
     (here ∙ s.0, s.1, slots_other ls priv (at + 2) o v (λ j p. subst (λ n. even n ≢ even o) (omega arith) (h (suc j) (omega arith))) s.2)
 
--- a new local behind the others
+-- a new local after the others
 pub slots_push : (ls : List Local) (priv : List ℕ) (at : ℕ) (l : Local) → at % 2 ≡ 0 → at + 2 * length ls + 1 < length priv → l.value < 65536 → InSlots priv at ls → InSlots (put_word priv (at + 2 * length ls) l.value) at (ls ++ l ∷ [])
 slots_push [] priv at l ev long lt s =
     let e : at + 2 * 0 ≡ at = omega arith in

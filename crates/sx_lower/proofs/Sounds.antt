@@ -50,7 +50,7 @@ IsWordOffset size o = (o % 2 ≡ 0) × (2 ≤ o) × (o + 2 ≤ size) × ((o + 2 
 abbrev IsArrayOffset : ℕ → ℕ → ℕ → Type 0
 IsArrayOffset size o n = (o % 2 ≡ 0) × (stack_to ≤ o) × (o + 2 * n ≤ size)
 
--- of so many operations, in a private section of this size, with these ends; none of the entry protocol
+-- of this many operations, in a private section of this size, with these ends; none of the entry protocol
 abbrev IsSoundOp : ℕ → ℕ → List End → Ir → Type 0
 IsSoundOp ops size es (ir.Push v) = Unit {0}
 IsSoundOp ops size es (ir.Load o) = IsWordOffset size o
@@ -241,7 +241,7 @@ module _ (ds : List Decl) (es : List End) (ops size : ℕ) (fits : cell_at (leng
   lets_defined (Sends x e) = omega arith
   lets_defined (Emits e) = omega arith
 
-  -- a statement's jumps go to its own places or to the one behind it
+  -- a statement's jumps go to its own places or to the one after it
   mutual
     pub statement_sound : (E : Type 0) (t : Statement) (p : ℕ) (names : List (List ℕ)) → FineStatement ds E names t → length names + length (statement_lets t) ≤ 16 → p + length (statement_code ds es p names t) < ops → Sound (statement_code ds es p names t)
     statement_sound E (Defines x e) p names fine lets short =

@@ -80,7 +80,7 @@ module _ (s : Setup) (call : Call) (p0 : Progress) (devs : List Window) where
     pub shown : Shows s call progress priv mem devices marks
     pub same : devices ≡ devs
 
-  -- a run has come to this place with this stack, and at most so many pieces
+  -- a run has come to this place with this stack, and at most this many pieces
   pub record Ended (names : List (List ℕ)) (q : ℕ) (stack : List ℕ) (back : Option ℕ) (st : State) (most : ℕ) (t : Conf) : Type 0 where
     pub placed : t.place ≡ q
     pub stacked : t.stack ≡ stack
@@ -154,7 +154,7 @@ module _ (s : Setup) (handle : ℕ → Conf → After) (given : ℕ → ℕ) (co
   shows_turns : (v : ℕ) (p : Progress) (priv mem : List ℕ) (devices : List Window) (marks : List Mark) → Shows s call p priv mem devices marks → Shows s call p (put_word priv event_at v) mem devices marks
   shows_turns v p priv mem devices marks h = shows_other s call p priv mem devices marks event_at v (λ b x y. omega (arith, x)) (λ b x y. omega (arith, x)) h
 
-  -- What it is that code from p to q does f: it takes so many instructions, makes so many packets, and needs so much of the stack.
+  -- What it is that code from p to q does f: it takes this many instructions, makes this many packets, and needs so much of the stack.
   abbrev pub Does : List (List ℕ) → List (List ℕ) → ℕ → ℕ → ℕ → ℕ → ℕ → (State → State) → Type 0
   Does names names2 p q cost packets deep f =
       (st : State) (stack : List ℕ) (c : Conf) (t : Tied s call p0 devs names st c.priv c.mem c.devices c.marks)
@@ -378,7 +378,7 @@ module _ (s : Setup) (handle : ℕ → Conf → After) (given : ℕ → ℕ) (co
           do_one s handle given code Ends_so _ (ir.Jump (p + length ce + 1 + length ca + 1 + length cb)) _ (at (p + length ce + 1 + length ca + 1 + length cb) stack u) 0 8 hj refl (omega arith)
           (Here (record { placed = len; stacked = refl; returns = back; tied = record { holds = t2.holds; progress = t2.progress; did = t2.did; shown = t2.shown; same = t2.same }; few = omega (arith, some) })))))
 
-  -- a loop's code behind its first operation, with p the place of the loop
+  -- a loop's code after its first operation, with p the place of the loop
   abbrev loop_ops : ℕ → List Ir → List Ir
   loop_ops p ca = ir.Store turns_at ∷ ir.Load turns_at ∷ ir.Load turns_at ∷ ir.JumpZero (p + 5 + length ca + 3) ∷ (ca ++ (ir.Push 1 ∷ ir.Op op.Sub ∷ ir.Jump (p + 1) ∷ ir.Drop ∷ []))
 
@@ -397,7 +397,7 @@ module _ (s : Setup) (handle : ℕ → Conf → After) (given : ℕ → ℕ) (co
       (to s handle given code Ends_so Q m (p + 1 + 1 + 1 + 1) (p + 4) (k ∷ k ∷ stack) c2 p4
       (go c2 refl (record { holds = holds_turns ds n names st c.priv t.holds k small; progress = t.progress; did = t.did; shown = shows_turns k t.progress c.priv c.mem c.devices c.marks t.shown; same = t.same }) (omega arith))))))
 
-  -- the turns of a loop: so many are the word on top of the stack
+  -- the turns of a loop: this many are the word on top of the stack
   loop_reach : (k p : ℕ) (names : List (List ℕ)) (ca : List Ir) (cost packets deep : ℕ) (f : State → State) → k < 65536 → HasAt code (p + 1) (loop_ops p ca)
       → Does names names (p + 5) (p + 5 + length ca) cost packets deep f → ((a : State) → Grows a (f a))
       → (st : State) (stack : List ℕ) (c : Conf) (t : Tied s call p0 devs names st c.priv c.mem c.devices c.marks) → length stack + (1 + deep) + 40 ≤ stack_words → length t.progress.pieces + k * packets ≤ 16 → Grows (times k f st) fin

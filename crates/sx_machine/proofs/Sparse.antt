@@ -65,7 +65,7 @@ sparse_register : (n : ℕ) (last : Last) (written : Bool) (r : ℕ) (result : �
 sparse_register n last true r result regs = tt
 sparse_register n last false r result regs = tt
 
--- the store behind a load at the same place is free
+-- the store after a load at the same place is free
 sparse_free : (n : ℕ) (wide written : Bool) (at : ℕ) (result : ℕ × Flags) (regs : List ℕ) → Sparse n (Some (wide, at)) (into_memory wide written at result regs)
 sparse_free n wide true at result regs = inl (refl, tt)
 sparse_free n wide false at result regs = tt

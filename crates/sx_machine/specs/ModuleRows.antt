@@ -40,7 +40,7 @@ tested g buffers rest =
 -- section holds the address, where these bytes are the tag over its identity under the key of the
 -- module whose code this is; else 0.
 
--- the tag is the caller's over a section's identity
+-- the tag is that over a section's identity under the key of the module whose code this is
 abbrev pub vouches : Mac → Section → List ℕ → Section → List ℕ → Bool
 vouches mac own tag s text = bytes_eq tag (attest_tag mac own.key (identity text s.layout.pub_from s.layout.pub_to s.layout.priv_from s.layout.priv_to))
 

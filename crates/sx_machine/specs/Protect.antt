@@ -61,7 +61,8 @@ protect mac g mem =
     let l = layout_in g.regs in
     protected_if mac g mem l (refusal g.sections l (places_of g.devices))
 
--- the outcome of `unprotect`: the caller's section is gone and zero, or nothing where it has none
+-- the outcome of `unprotect`: the module is removed and its private section zeroed, or nothing
+-- where the code is of no module
 abbrev pub removed_if : Given → List ℕ → Option Section → Outcome
 removed_if g mem None = Module (concluded g.regs 0) (untouched_with g mem) g.sections Quiet g.exchange
 removed_if g mem (Some own) =

@@ -42,7 +42,7 @@ pub record HeldIn (app : AppTree) (m c : ℕ) (side : Side) (node next number : 
   pub there : slice_get epochs c ≡ Some epoch
   pub held : Held c next number (slice_index boots node) epoch standing.attested standing.vouched (view_of app m c side standing)
 
--- and behind an item
+-- and after an item
 pub record Moved (app : AppTree) (m c : ℕ) (side : Side) (node : ℕ) (opening taking : Option ℕ) (low count : ℕ) (boots : List ℕ) (xs : List Standing) (epochs : List ℕ) : Type 0 where
   pub next : ℕ
   pub number : ℕ

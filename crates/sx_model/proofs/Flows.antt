@@ -14,7 +14,7 @@ use Rattle.sx_model.specs.Changes.{reacted, with_module}
 use Rattle.sx_model.specs.Reaction.{Flow, MOST_SENT, after_event, all_done, done, field_of, flow_of, sends, sent_over, sent_to}
 use Rattle.sx_model.specs.Sendings.{act_to_send, all_to_send, emits_of, emits_of_act, has_room, owed_of, sending_of, sent_one, sent_pieces, sent_words, to_send, with_word}
 
--- a flow behind sendings and emits
+-- a flow after sendings and emits
 abbrev flowed : List Sending → List ℕ → Flow → Flow
 flowed xs emits f = record { sent = sent_words xs f.sent; emits = f.emits ++ emits; pieces = f.pieces + sent_pieces xs f.sent }
 

@@ -10,7 +10,7 @@ in_front : (o : Option End) (es : List End) → cons_option o es ≡ option_to_l
 in_front None es = refl
 in_front (Some e) es = refl
 
--- the ends of a connection in front of those behind it
+-- the ends of a connection before those after it
 pub both_ends : (n m : ℕ) (l : Link) (ls : List Link) (before : List End) →
     ((before ++ option_to_list (sending n m l)) ++ option_to_list (receiving n m l)) ++ ends_after (n + 1) m ls ≡ before ++ ends_after n m (l ∷ ls)
 both_ends n m l ls before =

@@ -39,7 +39,7 @@ undriven_nil : (parts : List Part) (d : ℕ) → undriven (map part_as parts) []
 undriven_nil [] d = refl
 undriven_nil (q ∷ qs) d = refl
 
--- behind the last part or the last module there is no driver
+-- after the last part or the last module there is no driver
 pub undriven_end : (parts : List Part) (xs : List Standing) (d i : ℕ) → min (length parts) (length xs) ≤ i →
     undriven (map part_as (drop i parts)) (drop i xs) d ≡ true
 undriven_end parts xs d i h = at_end (λ qs ys. undriven (map part_as qs) ys d) true (λ ys. refl) (λ qs. undriven_nil qs d) parts xs i h

@@ -7,7 +7,7 @@ use Rattle.std.proofs.Math.ListN.{length-set}
 use Rattle.sx_model.specs.declared.sendings.Sending.{Sending}
 use Rattle.sx_model.specs.Sendings.{has_room, sent_one, without_last}
 
--- a word is put behind those at its field, if there is room
+-- a word is put after those at its field, if there is room
 put : (ss : List (List ℕ)) (f v : ℕ) (ws : List ℕ) (b : Bool) → ws ≡ get_or ss f ws →
     set ss f (if b then ws ++ v ∷ [] else ws) ≡ (if b then set ss f (ws ++ v ∷ []) else ss)
 put ss f v ws true e = refl

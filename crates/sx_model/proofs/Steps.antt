@@ -1,4 +1,4 @@
--- What holds of each allowed item and of the state behind it, by cases.
+-- What holds of each allowed item and of the state after it, by cases.
 use Rattle.std.proofs.Common.{◌≡◌, ℕ, ◌+◌, ◌*◌, ◌/◌, ◌%◌, ◌==◌, ◌&&◌, ◌||◌, not, Bool, true, false, if◌then◌else◌, List, [], ◌∷◌, ◌++◌, Option, Some, None, refl}
 use Rattle.std.specs.Prelude.{IfSome, is_none, nat_le, slice_get, slice_index}
 use Rattle.std.proofs.lemmas.Bool.{and_parts}
@@ -27,7 +27,7 @@ chosen : (b : Bool) (o p : Option Model) (Q : Model → Type 0) → (b ≡ true 
 chosen true o p Q f g = f refl
 chosen false o p Q f g = g refl
 
--- What holds behind an item of these kinds, wherever it is allowed.
+-- What holds after an item of these kinds, wherever it is allowed.
 
 abbrev pub OnRead : AppTree → Model → (Model → Type 0) → ℕ → ℕ → Type 0
 OnRead app s Q m v =
@@ -53,7 +53,7 @@ OnOut s Q m v =
     (x : Standing) (p : Present) (owed left : Pending) → slice_get s.modules m ≡ Some x → x.present ≡ Some p → p.pending ≡ Some owed
     → without_first v owed.emits owed.pieces ≡ Some left → Q (with_present s m x (with_pending p (Some left)))
 
--- So it holds behind each that is allowed.
+-- So it holds after each that is allowed.
 
 pub on_read : (app : AppTree) (s : Model) (Q : Model → Type 0) (m v : ℕ) → OnRead app s Q m v → IfSome (step app s (Read m v)) Q
 on_read app s Q m v h =

@@ -1,4 +1,4 @@
--- A sign that stands in front, or doesn't.
+-- A sign that comes first, or doesn't.
 use Rattle.std.proofs.Common.{◌≡◌, List, ◌∷◌, true, false, Some, refl}
 use Rattle.sx_lex.specs.declared.tokens.Placed.{Placed}
 use Rattle.sx_grammar.specs.Machine.{Sign, is_sign}

@@ -135,7 +135,7 @@ is_false : (t : Bool) → not t ≡ true → t ≡ false
 is_false true h = absurd (cc)
 is_false false h = refl
 
--- also with its gap and the rest behind it
+-- also with its gap and the rest after it
 start_read : (w : List ℕ) (k : Kind) (g : Gap) (rest : List ℕ) → kind_of w ≡ Some k → first_is (λ b. b == 61) w ≡ false → first_is (λ b. b == 61) ((w ++ gap_bytes g) ++ rest) ≡ false
 start_read w k g rest e h =
     let l = some_word w k e in

@@ -1,4 +1,4 @@
--- Zeros behind a text.
+-- Zeros after a text.
 use Rattle.std.proofs.Common.{◌≡◌, ◌≤◌, ℕ, ◌-◌, List, ◌++◌, length, take, drop, replicate, sym, ap, ◌∙◌}
 use Rattle.std.proofs.lemmas.List.{drop-replicate, length-take-le}
 use Rattle.std.proofs.Math.Seq.{take-append_seam}
@@ -7,7 +7,7 @@ use Rattle.sx_tag.specs.Wrap.{padded}
 front_padded : (xs rest : List ℕ) → rest ≡ replicate (32 - length xs) 0 → xs ++ rest ≡ padded (take (length xs) (xs ++ rest))
 front_padded xs rest h = ap (λ (zeros : List ℕ). xs ++ zeros) h ∙ sym (ap padded (take-append_seam xs rest))
 
--- bytes that are copied to the front of a block of zeros
+-- bytes that are copied to the start of a block of zeros
 pub copied_padded : (bytes front : List ℕ) (n : ℕ) → n ≤ length bytes → front ≡ take n bytes
     → front ++ drop n (replicate 32 0) ≡ padded (take n (front ++ drop n (replicate 32 0)))
 copied_padded bytes front n h e =

@@ -1,4 +1,5 @@
-//! The module instructions: unprotect, protect, attest, wrap, unwrap, get-id and get-caller-id.
+//! The module instructions of Sancus 2.0, with encodings and registers of our own: unprotect,
+//! protect, attest, wrap, unwrap, get-id and get-caller-id.
 //!
 //! `step_sancus` executes one of them on an `Executor`, and is exactly the definition
 //! `module_instruction` of sx_machine (`Modules.antt`): protect and unprotect by their own tables

@@ -60,7 +60,7 @@ are_said : (r : Result (List ℕ) LineError) → is_ok r ≡ true → AreSaid r
 are_said (Ok b) h = tt
 are_said (Err e) h = absurd (cc)
 
--- bytes are said, so memory for them may be wanted
+-- bytes are said, so memory for them may be required
 pub says_some : (most : ℕ) (word : List ℕ) → is_hex_text most word ≡ true → AreSaid (bytes_of most word)
 says_some most word h = are_said (bytes_of most word) (sym (says_bytes most word) ∙ h)
 
@@ -81,7 +81,7 @@ says_these most word b h e = by_test (nat_le 1 (length b) && nat_le (length b) m
 abbrev CodeWants : List ℕ → Result (List ℕ) LineError → Type 0
 CodeWants text = MayWant (λ (code : List ℕ). Unit {0}) text
 
--- a text that is UTF-8 may want memory, whether it has code or not
+-- a text that is UTF-8 may need memory, whether it has code or not
 may_want : (text : List ℕ) (r : Result (List ℕ) AsmError) → IsTrue (is_utf8 text) → CodeWants text (code_in r)
 may_want text (Err e) u = (refl, u)
 may_want text (Ok code) u = by_test (nat_le 1 (length code) && nat_le (length code) 1024)

@@ -12,7 +12,7 @@ longer begun b bs e = rw e refl
 pub first_left : (text : List ℕ) (i : ℕ) → get_or (drop i text) 0 0 ≡ get_or text i 0
 first_left text i = let e : i + 0 ≡ i = omega arith in get_or-drop i text 0 0 ∙ ap (λ (k : ℕ). get_or text k 0) e
 
--- blanks in front of a text part no word
+-- blanks before a text separate no words
 pub past_blanks : (text : List ℕ) (i : ℕ) → i ≤ length text → ((k : ℕ) → k < i → is_blank (get_or text k 0) ≡ true) → words_of (drop i text) ≡ words_of text
 unfolding words_of
 past_blanks text zero h f = refl

@@ -1,4 +1,4 @@
--- The text behind blanks and words.
+-- The text after blanks and words.
 use Rattle.std.proofs.Common.{◌≡◌, ℕ, zero, suc, ◌<◌, ◌≤◌, true, false, List, [], ◌∷◌, length, drop, get_or, refl, arith}
 use Rattle.sx_sched.specs.Words.{is_blank, past_blanks, past_word}
 

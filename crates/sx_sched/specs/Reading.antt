@@ -122,7 +122,7 @@ code_of at text = if is_utf8 text then code_in (assembled at text) else Err no_c
 
 -- This many words, and what they say in order.
 
--- no word follows the first
+-- there is no word
 abbrev pub no_word : List (List ℕ) → Result (Unit {0}) LineError
 no_word [] = Ok tt
 no_word (a ∷ rest) = Err wrong_count

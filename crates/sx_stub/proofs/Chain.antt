@@ -70,7 +70,7 @@ module _ (s : Setup) (call : Call) (handle : ℕ → Conf → After) (given : �
           (goes_on s call handle given code result (ir.Jump (p + 5 + length (cs.body (p + 5) k e))) (at c (p + 4) []) (at c (p + 5 + length (cs.body (p + 5) k e)) []) (8 + m) m over refl refl (omega arith)
           (subst (λ (x : ℕ). Goal m x) (omega arith) (miss (sym z ∙ ne_eqb (suc d) 0 (omega arith)))))
 
-  -- all of them: the body of the first end that passes, or what is behind them all
+  -- all of them: the body of the first end that passes, or what is after them all
   pub chain_does : (es : List End) (k p q n m : ℕ) → AreWords cs k es → At code p (cases cs p k es)
       → p + length (cases cs p k es) ≡ q → 40 * length es + m ≤ n
       → ((j : ℕ) (e : End) (place : ℕ) → found_by (case_test cs v) k es ≡ Some (j, e) → At code place (cs.body place j e) → Goal m place)

@@ -115,7 +115,7 @@ module _ (n ops parts : ℕ) (few : n ≤ 16) where
       go From = lt-ltb (e.link + 0) 65536 (omega (arith, lt))
       go To = lt-ltb (e.link + 256) 65536 (omega (arith, lt))
 
--- of a module, in code with so many operations
+-- of a module, in code with this many operations
 module _ (tree : ModuleTree) (ends : List End) (ops : ℕ) (few : length ends ≤ 16) (links : All (λ e. e.link < 256) ends) where
   abbrev Fits : List Ir → Type 0
   Fits = Fit (length ends) ops (length tree.handlers) few

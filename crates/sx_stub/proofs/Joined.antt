@@ -78,7 +78,7 @@ module _ (s : Setup) (code : List Ir) (parts : List (ℕ × ℕ)) where
   IsStopped call course back t =
       GoesOn course (λ p. Represents s call p t × ((slice_get code t.place ≡ Some ir.Stop) × (t.stack ≡ []) × (t.back ≡ Some back)))
 
-  -- its `Stop` goes on behind the operation
+  -- its `Stop` goes on after the operation
   stops : (call : Call) (course : Course) (c t : Conf) → IsStopped call course (c.place + 1) t
       → Reaches s handle no_count code (Breaks course) (IsDone s call course c) 8 t
   stops call (Going p) c t x =

@@ -22,7 +22,7 @@ use Rattle.sx_stub.proofs.Fit.{length-find}
 use Rattle.sx_stub.proofs.Weight.{stub_fits}
 use Rattle.sx_stub.proofs.Sound.{stub_sound}
 
--- so many operations at most for each end
+-- this many operations at most for each end
 cases_within : (cs : Cases) (n : ℕ) → ((place k : ℕ) (e : End) → length (cs.body place k e) ≤ n) → (place k : ℕ) (es : List End) → length (cases cs place k es) ≤ (5 + n) * length es
 cases_within cs n f place k [] = omega arith
 cases_within cs n f place k (e ∷ es) =
@@ -67,7 +67,7 @@ first_of xs ys i l =
     let d = get_or xs i (ir.Push 0) in
     slice_get-get_or (xs ++ ys) i d (omega (arith, l, length-append xs ys)) ∙ ap Some (get_or_append_left xs ys d i l) ∙ sym (slice_get-get_or xs i d l)
 
--- the stub's come first, whatever stands behind its operations
+-- the stub's come first, whatever follows its operations
 pub first : (tree : ModuleTree) (ends : List End) (behind : List Ir) (i : ℕ) → i < length (stub_code tree ends) → slice_get (stub_ops tree ends ++ behind) i ≡ slice_get (stub_code tree ends) i
 first tree ends behind i l =
     first_of (stub_ops tree ends) behind i (omega (arith, l, length-append (stub_code tree ends) (returns 5))) ∙ first_of (stub_code tree ends) (returns 5) i l

@@ -12,7 +12,7 @@ use Rattle.sx_stub.specs.Sound.{is_plain}
 abbrev pub is_low : ℕ → ℕ → Bool
 is_low o n = nat_le 2 o && nat_le (o + n) 104
 
--- they stand in the slots of so many ends
+-- they stand in the slots of this many ends
 abbrev pub in_slots : ℕ → ℕ → ℕ → Bool
 in_slots ends o n = nat_le 512 o && nat_le (o + n) (512 + 24 * ends)
 
@@ -23,7 +23,7 @@ is_beside o n = nat_le (o + n) 6 || nat_le 14 o
 abbrev pub are_low : ℕ → ℕ → ℕ → ℕ → Bool
 are_low h hn b bn = is_low h (hn + bn + 16) && (is_low b bn && (nat_le hn 32 && nat_le bn 32))
 
--- an operation of the stub's form, with so many ends, operations and handlers
+-- an operation of the stub's form, with this many ends, operations and handlers
 abbrev pub is_fit : ℕ → ℕ → ℕ → Ir → Bool
 is_fit ends ops parts (ir.Push v) = nat_lt v 65536
 is_fit ends ops parts (ir.Load o) = is_even o && is_low o 2

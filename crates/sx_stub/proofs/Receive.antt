@@ -26,7 +26,7 @@ use Rattle.sx_stub.proofs.Straight.{At, at, pure}
 use Rattle.sx_stub.proofs.Slots.{IsKept, with_priv, shows_priv}
 use Rattle.sx_stub.proofs.Refuse.{refuse_zero, sub_zero, not_twice, goes_on, breaks}
 
--- what was read is so many bytes
+-- what was read is this many bytes
 abbrev IsRead : ℕ → Result (List ℕ) Violation → Type 0
 IsRead n (Ok bs) = (length bs ≡ n) × AllBytes bs
 IsRead n (Err v) = Unit {0}

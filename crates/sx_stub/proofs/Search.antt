@@ -67,7 +67,7 @@ key_at tree ends code q a =
     at_back code (found + 3) (key_place tree ends found) (input_found tree ends (found + 3)) (key_found ends (key_place tree ends found)) refl (both_at tree ends code q a)
 
 module _ (s : Setup) (call : Call) (handle : ℕ → Conf → After) (given : ℕ → ℕ) (code : List Ir) (p : Progress) (none : p.pieces ≡ []) (few : length s.ends ≤ 16) (links : FewLinks s.ends) where
-  -- the end that is wanted is found, and its index kept; or it is refused
+  -- the end that is looked for is found, and its index kept; or it is refused
   pub search_does : (r : Invoked) (v : ℕ) (c : Conf) → Shows s call p c → word c.priv 72 ≡ v → v < 65536 → (q n m : ℕ)
       → At code q (search_code s.tree s.ends q) → 700 + m ≤ n
       → ((j : ℕ) (e : End) → found_by (case_test (find_any (q + 7 * length s.ends + 3)) v) 0 s.ends ≡ Some (j, e) → j < length s.ends → (c3 : Conf) → Shows s call p c3 → c3.back ≡ c.back → word c3.priv 74 ≡ 12 * j

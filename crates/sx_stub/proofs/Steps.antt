@@ -13,7 +13,7 @@ use Rattle.sx_stub.specs.Stub.{Cases, case_of, cases, is_receiving, take_event, 
 pub grown : (x y a : List Ir) → y ≡ x ++ a → length y ≡ length x + length a
 grown x y a e = ap length e ∙ length-append x a
 
--- a piece, and then the next at the place behind it
+-- a piece, and then the next at the place after it
 pub behind : {E : Type 0} (r : Result (Unit {0}) E) (x y z a : List Ir) (g : ℕ → List Ir) (q : ℕ) → y ≡ x ++ a → length x + length a ≡ q → OnOk r (z ≡ y ++ g (length y)) → OnOk r (z ≡ x ++ (a ++ g q))
 behind r x y z a g q e long h = on_ok_weaker r go h
   where
@@ -56,7 +56,7 @@ module _ (tree : ModuleTree) where
       on_ok_weaker r (λ h. h ∙ ap (λ b. x ++ (if b then chosen ++ take_event tree (length x + 5) k e else [])) (sym has))
       (behind r x y z chosen (λ p. take_event tree p k e) (length x + 5) put2 refl h)
 
-  -- the place behind one case, and then those behind the others
+  -- the place after one case, and then those after the others
   pub places_turn : (ends : List End) (i at n total : ℕ) (e : End) → i < length ends → e ≡ get_or ends i e → n ≡ length (case_of (take_receiving tree) 0 0 e)
       → at + length (cases (take_receiving tree) at i (drop i ends)) ≡ total → (at + n) + length (cases (take_receiving tree) (at + n) (i + 1) (drop (i + 1) ends)) ≡ total
   places_turn ends i at n total e l h long inv =

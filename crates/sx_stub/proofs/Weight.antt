@@ -16,7 +16,7 @@ ops_append : (xs ys : List Ir) → ops_bytes (xs ++ ys) ≡ ops_bytes xs + ops_b
 ops_append [] ys = omega arith
 ops_append (x ∷ xs) ys = let e = ops_append xs ys in omega (arith, e)
 
--- so many for each end that has a case
+-- this many for each end that has a case
 abbrev all_ends : (End → Bool) → ℕ → List End → ℕ
 all_ends has n [] = 0
 all_ends has n (e ∷ es) = (if has e then n else 0) + all_ends has n es

@@ -10,7 +10,7 @@ use Rattle.sx_tag.specs.Mac.{IsTag}
 use Rattle.sx_invoke.specs.Windows as outside
 use Rattle.sx_tmpl.specs.Running.{cell}
 
--- bytes stand one behind the other
+-- bytes stand one after the other
 abbrev pub BytesAt : List ℕ → ℕ → List ℕ → Type 0
 BytesAt m a [] = Unit {0}
 BytesAt m a (b ∷ bs) = (slice_index m a ≡ b) × BytesAt m (a + 1) bs
@@ -57,7 +57,7 @@ pair m a v bytes h =
     let z : slice_index m (a + 0) ≡ v % 256 = ap (slice_index m) (omega arith) ∙ p.0 in
     ap (λ x. x ∷ slice_index m (a + 1) ∷ []) z ∙ ap (λ y. (v % 256) ∷ y ∷ []) p.1
 
--- three words one behind the other, as six bytes
+-- three words one after the other, as six bytes
 pub six : (m : List ℕ) (a u v x : ℕ) → ((b : ℕ) → slice_index m b < 256) → cell m a ≡ u → cell m (a + 2) ≡ v → cell m (a + 4) ≡ x → bytes_from m a 6 ≡ u % 256 ∷ u / 256 ∷ v % 256 ∷ v / 256 ∷ x % 256 ∷ x / 256 ∷ []
 unfolding bytes_from
 six m a u v x bytes h0 h1 h2 =

@@ -49,7 +49,7 @@ pub record PrivateWord (f : Fixed) (a : ℕ) : Type 0 where
   pub high : a + 2 ≤ f.setup.section.layout.priv_to
   pub is_even : a % 2 ≡ 0
 
--- so many bytes of it
+-- this many bytes of it
 pub record PrivateRange (f : Fixed) (a n : ℕ) : Type 0 where
   pub low : f.setup.section.layout.priv_from + 2 ≤ a
   pub high : a + n ≤ f.setup.section.layout.priv_to

@@ -26,7 +26,7 @@ pub inside : {f : Fixed} {P n : ℕ} {ws : List ℕ} → Text f P n ws → (k : 
 inside t k h = record { from = omega (arith, t.from); to = omega (arith, t.to) }
 
 module _ (f : Fixed) (st : Stands f) (all : List Mark) (B : Watched → Violation → Type 0) (at : ℕ → ℕ) where
-  -- these words, at the configuration's place and with the next operation behind them, lead within so many instructions
+  -- these words, at the configuration's place and with the next operation after them, lead within this many instructions
   -- from a node that stands for the one configuration to one that stands for the other
   abbrev pub Leads : ℕ → List ℕ → ℕ → Conf → Conf → Type 0
   Leads n ws count c c2 = (r : Regs) (d : Data) → Text f (at c.place) n ws → at (c.place + 1) ≡ at c.place + 2 * n

@@ -174,7 +174,7 @@ module _ (f : Fixed) (st : Stands f) (all : List Mark) (B : Watched → Violatio
         short = omega arith;
       }
 
-  -- wrap, and a plain instruction behind it
+  -- wrap, and a plain instruction after it
   pub seal_leads : IsTag f.setup.mac → (c : Conf) (k h hn b bn : ℕ) → SealsAt k h hn b bn (length c.priv)
       → (let w = wrapped f.setup.mac (key_at f.setup c k) (bytes_from c.priv h hn) (bytes_from c.priv b bn) in
       let marks = c.marks ++ mark.Wrapped (bytes_from c.priv h hn) (bytes_from c.priv b bn) (k == 0) ∷ [] in

@@ -32,7 +32,7 @@ pub record Reads (w n : ℕ) (i : ℕ → ℕ → Instr) : Type 0 where
   pub count : length_of w ≡ Some n
   pub reads : (x y : ℕ) → instruction_at w x y ≡ Some (i x y, n)
 
--- words stand in the text, with a word behind them
+-- words stand in the text, with a word after them
 pub record Text (f : Fixed) (P n : ℕ) (ws : List ℕ) : Type 0 where
   pub from : f.setup.section.layout.pub_from ≤ P
   pub to : P + 2 * n < f.setup.section.layout.pub_to

@@ -94,6 +94,6 @@ words_size l code =
     let x4 = length-append (entry_words b) (ws ++ (leave_words b ++ (slot_words b ++ (ps ++ 0 ∷ [])))) in
     omega (arith, r, c, x0, x1, x2, x3, x4)
 
--- the text has exactly so many bytes
+-- the text has exactly this many bytes
 pub text_size : (l : Layout) (code : Code) → length (bytes_of (text_words l code)) ≡ bytes code.ops.items
 text_size l code = let x = length-bytes (text_words l code) in let y = words_size l code in omega (arith, x, y)

@@ -13,7 +13,7 @@ pub length-places : (a : ℕ) (ops : List Ir) → length (places_from a ops) ≡
 length-places a [] = refl
 length-places a (i ∷ ops) = let e = length-places (a + op_bytes i) ops in omega (arith, e)
 
--- the address of a place is that many bytes behind the first
+-- the address of a place is that many bytes after the first
 pub place_is : (a : ℕ) (ops : List Ir) (p : ℕ) → p ≤ length ops → slice_index (places_from a ops) p ≡ a + ops_bytes (take p ops)
 place_is a [] zero le = omega arith
 place_is a [] (suc p) le = absurd (omega (arith, le))

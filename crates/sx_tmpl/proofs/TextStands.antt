@@ -27,7 +27,7 @@ words_in m b (w ∷ ws) rest h =
     let hi : slice_index m (b + 1) ≡ w / 256 = h 1 (omega arith) in
     (omega (arith, lo, hi), words_in m (b + 2) ws rest (λ k lt. ap (slice_index m) (omega arith) ∙ h (suc (suc k)) (omega (arith, lt))))
 
--- the routine of an end that has one stands behind those before it
+-- the routine of an end that has one follows those before it
 routine_at : (m : List ℕ) (b base : ℕ) (ops : List Ir) (n k : ℕ) → k < n → has_routine ops k ≡ true → WordsAt m b (packet_words base ops n) → WordsAt m (b + 112 * routines ops k) (routine_words base k)
 unfolding packet_words
 routine_at m b base ops zero k lt h w = absurd (omega (arith, lt))
@@ -131,7 +131,7 @@ module _ (f : Fixed) (st : Stands f) (code : Code) (text : (k : ℕ) → k < 2 *
       subst (λ b. Text f b 56 (routine_words (base_of f) k)) z
       (text_at (behind + 2 * 17 + 2 * 32 + 112 * routines ops k) 56 (routine_words l.priv_from k) (omega arith) (omega (arith, room, within)) (omega (arith, e, c)) (routine_at f.entered (behind + 2 * 17 + 2 * 32) l.priv_from ops 256 k lt one front))
 
-  -- a place of the code, or that behind it, is in the text
+  -- a place of the code, or that after it, is in the text
   pub target : (q : ℕ) → q ≤ length ops → IsTarget f (a.at q)
   target q le =
       let e = st.from_even in

@@ -15,7 +15,7 @@ use Rattle.sx_tmpl.specs.declared.table.Table.{Table}
 use Rattle.sx_tmpl.proofs.TextBytes.{bytes_append}
 use Rattle.sx_tmpl.proofs.TextPlaces.{exit_is, length-places, routines_more}
 
--- bytes behind bytes are those of words behind words
+-- bytes after bytes are those of words after words
 joined : (old xs ys : List ℕ) → (old ++ bytes_of xs) ++ bytes_of ys ≡ old ++ bytes_of (xs ++ ys)
 joined old xs ys = append_assoc old (bytes_of xs) (bytes_of ys) ∙ ap (λ (l : List ℕ). old ++ l) (sym (bytes_append xs ys))
 
@@ -91,7 +91,7 @@ table_is l code t places counts room =
       below = omega (arith, exit, at, room);
     }
 
--- all parts of a text, one behind the other
+-- all parts of a text, one after the other
 pub whole : (l : Layout) (code : Code) (t0 t1 t2 t3 t4 t5 t6 : List ℕ) → t1 ≡ t0 ++ bytes_of (entry_words l.priv_from) → t2 ≡ t1 ++ bytes_of (words_of l (addresses l code) 0 code.ops.items) → t3 ≡ t2 ++ bytes_of (leave_words l.priv_from)
     → t4 ≡ t3 ++ bytes_of (slot_words l.priv_from) → t5 ≡ t4 ++ bytes_of (packet_words l.priv_from code.ops.items 256) → t6 ≡ t5 ++ bytes_of (0 ∷ []) → t6 ≡ t0 ++ bytes_of (text_words l code)
 unfolding text_words

@@ -94,7 +94,7 @@ IsSoundOp f a ir.Sense = Unit {0}
 IsSoundOp f a (ir.Handler h) = IsTarget f (a.at (a.part h))
 IsSoundOp f a ir.Leave = Unit {0}
 
--- the code stands in the text, each operation's words behind those of the one before
+-- the code stands in the text, each operation's words after those of the one before
 pub record Emitted (f : Fixed) (a : Addresses) (code : List Ir) : Type 0 where
   pub stands : (p : ℕ) (i : Ir) → slice_get code p ≡ Some i → Text f (a.at p) (length (template f.setup.section.layout a p i)) (template f.setup.section.layout a p i)
   pub following : (p : ℕ) (i : Ir) → slice_get code p ≡ Some i → a.at (p + 1) ≡ a.at p + 2 * length (template f.setup.section.layout a p i)
@@ -138,7 +138,7 @@ module _ (f : Fixed) (st : Stands f) (all : List Mark) (BV : Violation → List 
   abbrev pub B : Watched → Violation → Type 0
   B w v = BV v w.marks
 
-  -- the words at the configuration's place lead within so many instructions to the other
+  -- the words at the configuration's place lead within this many instructions to the other
   abbrev pub Runs_on : List ℕ → ℕ → Conf → Conf → Type 0
   Runs_on ws count c t = Leads f st all B a.at (length ws) ws count c t
 

@@ -19,7 +19,7 @@ use Rattle.sx_top.specs.Headless.{EndsHeadless}
 use Rattle.sx_top.specs.Runs.{HasHead, RunsBehind, RunsOrRanOut, RunSays}
 use Rattle.sx_top.proofs.Said.{runs_with, says_with, says_starved}
 
--- the text of a head behind a one; nothing where there is none
+-- the text of a head after a one; nothing where there is none
 abbrev marked : Head → List ℕ
 marked (Found text more) = 1 ∷ text
 marked TooLong = []
@@ -77,7 +77,7 @@ says_none {tells} {to_tell} {s0} {s1} {k0} {k1} {status} mac h o tag none e r w 
     (λ meaning is.
     told-reads (run_head mac meaning []) o refl r (λ answers q. (ap (run_head mac meaning []) q ∙ e meaning, let P : Head → Type 0 = HasHead None in subst P (sym q) none)) w))
 
--- memory ran out behind a head, and nothing was written
+-- memory ran out after a head, and nothing was written
 says_out_of_memory : {tells to_tell : Bool} {s0 s1 : SourceAt} {k : SinkAt} {now : Ahead} (mac : Mac) (text : List ℕ)
     → Got tells head_lines head_lines s0 s1 now head (λ more. Found text more) Unread anything → RunSays mac tells to_tell (moment s0 k) (moment s1 k) out_of_memory
 says_out_of_memory {tells} {to_tell} {s0} {s1} {k} {now} mac text got =

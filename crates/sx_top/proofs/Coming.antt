@@ -96,7 +96,7 @@ come_line {tells} {s0} {s1} {s2} {old} {new} {into} {n} number bytes taken b x e
     (λ more. taken_line number bytes taken (take n into) more e) refl
     (got-line (λ more. in_front bytes (given number more)) b x)
 
--- a line breaks the rule of lines, and nothing is read behind it
+-- a line breaks the rule of lines, and nothing is read after it
 pub come_bad : {tells : Bool} {s0 s1 s2 : SourceAt} {old new : Ahead} {into : List ℕ} {n : ℕ}
     (number : ℕ) (bytes : List ℕ)
     → Come tells s0 s1 old number bytes → Next longest tells s1 s2 old new into (read.Text n)

@@ -19,7 +19,7 @@ use Rattle.sx_top.specs.declared.assembling.GatherFault.TheVariants as fault
 use Rattle.sx_top.specs.Gathering.{Gathers}
 use Rattle.sx_top.specs.Assembling.{Gathered, nothing, broken_at, with_line, Input, Whole, Unread, asm_lines, most_bytes, gather, input}
 
--- so many lines have come, and so many bytes, and this was gathered of them
+-- this many lines have come, and this many bytes, and this was gathered of them
 abbrev pub Come : Bool → SourceAt → SourceAt → Ahead → ℕ → ℕ → Gathered → Type 0
 Come tells s0 s1 now number count g = Got tells asm_lines asm_lines s0 s1 now input (gather number count g) Unread anything
 
@@ -93,7 +93,7 @@ pub come_past : {tells : Bool} {s0 s1 s2 : SourceAt} {old new : Ahead} {into : L
 come_past {tells} {s0} {s1} {s2} {old} {new} {into} {n} number count g b x e =
     alone (reads-stop (λ i. i ≡ Whole (broken_at number g)) (got-line (gather number count g) b x) (λ more. passing number count g (take n into) more e))
 
--- memory runs out behind a line
+-- memory runs out after a line
 pub come_starved : {tells : Bool} {s0 s1 s2 : SourceAt} {old new : Ahead} {into : List ℕ} {n : ℕ} (number count : ℕ) (g : Gathered)
     → Come tells s0 s1 old number count g → Next longest tells s1 s2 old new into (read.Text n) → Reads tells asm_lines s0 s2 input Unread anything
 come_starved number count g b x =

@@ -22,7 +22,7 @@ use Rattle.sx_top.proofs.Heads.{known, is_known}
 use Rattle.sx_top.proofs.Stops.{found_not_two}
 use Rattle.sx_top.proofs.Stated.{status_zero}
 
--- a part was written, and behind it the command ends
+-- a part was written, and after it the command ends
 pub ends_put : (to_tell : Bool) (k0 k1 k2 : SinkAt) (status : ℕ) (text : List ℕ) (o : Output) → WroteSome to_tell k0 k1 (λ (more : List Answer). behind text o) (λ more. o)
     → Ends to_tell k1 k2 status o → Ends to_tell k0 k2 status (behind text o)
 ends_put to_tell k0 k1 k2 status text o w e =

@@ -31,14 +31,14 @@ pub left_new : (to_tell : Bool) (k : SinkAt) (at : ℕ) (code : List ℕ) → Le
 unfolding listing
 left_new to_tell k at code = record { most = length code; enough = omega arith; ends = λ k2 status w. w }
 
--- the parts of a line, one behind the other
+-- the parts of a line, one after the other
 pub line_is : (at size : ℕ) (code shown t0 t1 t2 t3 t4 t5 t6 : List ℕ) → t0 ≡ [] → t1 ≡ t0 ++ address at → t2 ≡ t1 ++ codes " "
     → t3 ≡ t2 ++ encode_lower (take size code) → t4 ≡ t3 ++ codes " " → t5 ≡ t4 ++ shown → t6 ≡ t5 ++ 10 ∷ []
     → size ≡ (listed at code).1 → shown ≡ (listed at code).0 → t6 ≡ listing_line at code
 unfolding listing_line
 line_is at size code shown t0 t1 t2 t3 t4 t5 t6 h0 h1 h2 h3 h4 h5 h6 s w = rw (h6, h5, h4, h3, h2, h1, h0, s, w) refl
 
--- the text at the front of a buffer
+-- the text at the start of a buffer
 pub front_is : (text old buffer : List ℕ) (n : ℕ) → buffer ≡ text ++ drop n old → n ≡ length text → take n buffer ≡ text
 front_is text old buffer n e h = rw (e, h) (take-append_seam text (drop (length text) old))
 
@@ -51,7 +51,7 @@ some_word bytes empty e f even =
 pub no_word : (bytes : List ℕ) (empty : Bool) → empty ≡ (length bytes == 0) → empty ≡ true → length bytes ≡ 0
 no_word bytes empty e f = let none : (length bytes == 0) ≡ true = sym e ∙ f in grind (arith, nat_tests, none)
 
--- the first line, and those behind it
+-- the first line, and those after it
 record Next (most at : ℕ) (bytes : List ℕ) : Type 0 where
   pub fewer : ℕ
   pub enough : length (drop (listed at bytes).1 bytes) ≤ fewer
@@ -110,7 +110,7 @@ no_lines : (most at : ℕ) (bytes : List ℕ) → length bytes ≡ 0 → listing
 no_lines zero at bytes h = refl
 no_lines (suc k) at bytes h = let none : nat_lt (length bytes) 2 ≡ true = grind (arith, nat_tests, h) in rw none refl
 
--- the command ends behind the last line
+-- the command ends after the last line
 pub left_end : {to_tell : Bool} {k0 k1 k2 : SinkAt} {whole : Output} {status : ℕ} (at : ℕ) (bytes : List ℕ) → length bytes ≡ 0
     → LeftLines to_tell k0 k1 whole at bytes → Ends to_tell k1 k2 status (record { text = end_line; status = 0 })
     → Ends to_tell k0 k2 status whole

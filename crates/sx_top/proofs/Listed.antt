@@ -110,7 +110,7 @@ pub unlisted_bytes : (at : ℕ) (bytes : List ℕ) → is_listed at (length byte
     → dis_bytes at bytes ≡ unlisted
 unlisted_bytes at bytes e = rw e refl
 
--- a status that `finish` gives isn't that of want of memory
+-- a status that `finish` gives isn't that of lack of memory
 pub never_six : (status ended : ℕ) → ((status ≡ write_failed → ⊥) → status ≡ ended)
     → (ended ≡ out_of_memory → ⊥) → status ≡ out_of_memory → ⊥
 never_six status ended e n six = n (sym (e (λ five. omega (arith, five, six))) ∙ six)

@@ -98,7 +98,7 @@ constant_none c =
     pick (c == 0) _ _ P refl
     (pick (c == 1) _ _ P refl (pick (c == 2) _ _ P refl (pick (c == 4) _ _ P refl (pick (c == 8) _ _ P refl refl))))
 
--- an operand has the extension words that were reckoned for it
+-- an operand has the extension words that were worked out for it
 hash_words_are : (labels : List Placed) (v : Value) → length (place_of (hash_operand labels v)).words ≡ extension (written.Hash v)
 hash_words_are labels (Number n) = by_test (is_constant n) refl
   where

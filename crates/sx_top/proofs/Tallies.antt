@@ -87,7 +87,7 @@ pub no_memory : {X : Type 0} (names : NameLists) (number : ℕ) (text : List ℕ
 no_memory names number text (Ok x) h = h
 no_memory names number text (Err e) h = let P : Stopped → Type 0 = StopsAt names number text in subst P (sym h) tt
 
--- the front of a buffer is what was written there
+-- the start of a buffer is what was written there
 pub front_is : (n : ℕ) (into line rest : List ℕ) → into ≡ line ++ rest → n ≡ length line → take n into ≡ line
 front_is n into line rest e h = ap (λ (xs : List ℕ). take n xs) e ∙ ap (λ (k : ℕ). take k (line ++ rest)) h ∙ take-append_seam line rest
 
@@ -113,7 +113,7 @@ tally_begins n names set held st =
       left = ap (λ (k : ℕ). left_of n names set [] (switched_on set) 1 (answers_from k 0)) e ∙ left_begun n names set;
     }
 
--- the line that is next, and the answers behind it
+-- the line that is next, and the answers after it
 next_is : (n : ℕ) (names : NameLists) (set : Setting) (before : List Item) (w : World) (i : ℕ) → i < bulk.lines n
     → left_of n names set before w (i + 1) (answers_from (bulk.lines n - i) i)
     ≡ left_of n names set before w (i + 1) (answer.Line (bulk.line i) ∷ answers_from (bulk.lines n - (i + 1)) (i + 1))

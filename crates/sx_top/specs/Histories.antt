@@ -15,13 +15,13 @@ pub record Lived (mac : Mac) (a b : State) : Type 0 where
   pub leads : b ≡ (acted_all mac acts a).state
   pub guarded : GuardedRun mac acts a
 
--- each node of the later world lived since the earlier one
+-- the n-th node of the later world, in the state b, has lived since the earlier one
 pub record HasLived (mac : Mac) (v w : World) (n : ℕ) (b : State) : Type 0 where
   pub was : State
   pub there : slice_get v.nodes n ≡ Some was
   pub lived : Lived mac was b
 
--- each node of the one world has lived its acts since the other
+-- every node of the later world has lived since the earlier one
 abbrev pub AllLived : Mac → World → World → Type 0
 AllLived mac v w = (n : ℕ) (b : State) → slice_get w.nodes n ≡ Some b → HasLived mac v w n b
 

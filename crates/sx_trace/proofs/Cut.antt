@@ -33,7 +33,7 @@ no_space (b ∷ bs) h =
     let more : 1 + position_or_len is_space bs ≡ suc (length bs) = let e = no_space bs both.1 in omega (arith, e) in
     rw both.0 more
 
--- what stands before the first space is a word, and the rest stands behind it
+-- what stands before the first space is a word, and the rest follows it
 pub cut_word : (w rest : List ℕ) → is_word w ≡ true → cut (w ++ 32 ∷ rest) ≡ (w, rest)
 unfolding cut
 cut_word w rest h =

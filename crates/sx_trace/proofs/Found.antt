@@ -13,7 +13,7 @@ use Rattle.sx_trace.specs.Finding.{cut, number_of, up_to, index_or_none, cause_o
 use Rattle.sx_trace.proofs.Cut.{is_word, cut_word, cut_all, number_read, up_to_read, decimal_word}
 use Rattle.sx_trace.proofs.Known.{Known, known_node, known_device, known_module, known_link, no_deployer}
 
--- behind the first word the kind decides
+-- after the first word the kind decides
 of_kind : (n : NameLists) (kind fields : List ℕ) → is_word kind ≡ true → item_in n (kind ++ 32 ∷ fields) ≡ kind_in n kind fields
 unfolding item_in
 of_kind n kind fields h = ap (λ (c : List ℕ × List ℕ). kind_in n c.0 c.1) (cut_word kind fields h)
@@ -42,7 +42,7 @@ deployer_found : (n : NameLists) (m : Option ℕ) → IsTrue (are_valid n) → I
 deployer_found n None v h = refl
 deployer_found n (Some m) v h = let k = known_module n m v h in rw (no_deployer n m v h, k.found) refl
 
--- the epoch's word, where there is one, behind the side
+-- the epoch's word, where there is one, after the side
 epoch_found : (side : Side) (epoch : ℕ) → epoch < 2 ^ 8
     → (cut (spaced (side_word side ∷ epoch_words epoch))).0 ≡ side_word side
     × up_to 255 (cut (spaced (side_word side ∷ epoch_words epoch))).1 ≡ Some epoch

@@ -33,7 +33,7 @@ module _ (names : List (List ℕ)) (name text : List ℕ) where
   pub place_of-there : (i : ℕ) → place_of names text ≡ Some i → place_of (names ++ name ∷ []) text ≡ Some i
   place_of-there i h = rw (position_or_len_push p names name, length-append names (name ∷ [])) (there (position_or_len p names) (length names) i (cond (p name) 0 1) h)
 
-  -- and a new one stands behind the others
+  -- and a new one follows the others
   pub place_of-behind : place_of names text ≡ None → place_of (names ++ name ∷ []) text ≡ cond (bytes_eq name text) (Some (length names)) None
   place_of-behind h = rw (position_or_len_push p names name, length-append names (name ∷ [])) (behind (position_or_len p names) (length names) (p name) (prefix_len-le-length (λ n. not (p n)) names) h)
 

@@ -9,7 +9,7 @@ written_first part old new e =
     let n : 0 + length part ≡ length part = omega arith in
     record { bytes = e ∙ ap (λ (k : ℕ). part ++ drop k old) n; count_is = refl }
 
--- one more part behind what is written
+-- one more part after what is written
 pub written_more : (text first part old new : List ℕ) (count : ℕ) → IsWritten text first count old
     → new ≡ take count old ++ (part ++ drop (count + length part) old) → IsWritten (text ++ part) first (count + length part) new
 written_more text first part old new count h e =

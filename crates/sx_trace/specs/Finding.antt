@@ -144,7 +144,7 @@ node_in n kind node fields =
     else if bytes_eq kind (codes "budget") then Some (Budget node)
     else None
 
--- a kind of item whose next word names a node
+-- a kind of item whose first field is a node
 abbrev pub is_of_node : List ℕ → Bool
 is_of_node kind =
     if bytes_eq kind (codes "reset") then true
@@ -153,7 +153,7 @@ is_of_node kind =
     else if bytes_eq kind (codes "skip") then true
     else bytes_eq kind (codes "budget")
 
--- a kind of item whose next word names a device
+-- a kind of item whose first field is a device
 abbrev pub is_of_device : List ℕ → Bool
 is_of_device kind =
     if bytes_eq kind (codes "sense") then true

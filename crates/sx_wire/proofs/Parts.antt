@@ -1,4 +1,4 @@
--- Three parts that are written into a buffer, one behind the other.
+-- Three parts that are written into a buffer, one after the other.
 use Rattle.std.proofs.Common.{◌≡◌, ℕ, ◌+◌, ◌≤◌, List, ◌++◌, length, take, drop, sym, ap, ◌∙◌, arith, length-append}
 use Rattle.std.proofs.lemmas.List.{take_all, length-drop, length-take-le}
 use Rattle.std.proofs.lemmas.Slice.{take-put_mid}

@@ -234,7 +234,7 @@ module _ (set : Setting) (w : World) (mo : Model) (m : ℕ) (x : Standing) (t : 
     ];
   }
 
-  -- the tie behind it
+  -- the tie after it
   standing_tied : (y : Standing) (d : DeployerState) (lines : ℕ) → Changes y d.epochs
       → length d.open_asks ≡ length set.app.parts → length d.attested ≡ length set.app.parts → length d.epochs ≡ length set.app.links → d.asks ≤ lines → lines ≤ 65536 → mo.asks ≤ d.asks
       → ((a : ℕ) → y.asked ≡ Some a → a < d.asks)

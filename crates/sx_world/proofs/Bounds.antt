@@ -91,7 +91,7 @@ after_few set d m boot (Some before) few =
     let both = length-append (grants_of d.epochs m boot (ends_of set.app m)) (grants_beyond d m 0 set.app.links) in
     omega (arith, own, ends, beyond, both, few)
 
--- so many steps a line takes at most
+-- this many steps a line takes at most
 abbrev pub steps_in : Line → ℕ
 steps_in (Run n k) = k
 steps_in line = 1000000
@@ -101,13 +101,13 @@ unfolding FINISH_STEPS
 finish_steps = refl
 
 module _ (set : Setting) where
-  -- a node with its devices that had at most so many resets
+  -- a node with its devices that had at most this many resets
   pub record NodeWithin (b n : ℕ) (s : State) : Type 0 where
     pub is_node : IsNode s
     pub devices : shapes s.devices ≡ windows_at n set.app.devices set.places
     pub boot : s.boot ≤ b
 
-  -- such nodes, one for each key; and at most so many steps, packets and asks
+  -- such nodes, one for each key; and at most this many steps, packets and asks
   pub record Within (b t p a : ℕ) (w : World) : Type 0 where
     pub as_many : length w.nodes ≡ length set.keys
     pub nodes : (n : ℕ) (s : State) → slice_get w.nodes n ≡ Some s → NodeWithin b n s
@@ -386,7 +386,7 @@ module _ (set : Setting) where
   pub counted_within : (b t p a : ℕ) (w : World) → Within b t p a w → Within b t p a (counted w)
   counted_within b t p a w h = record { as_many = h.as_many; nodes = h.nodes; steps = h.steps; packets = h.packets; asks = h.asks }
 
-  -- what so many lines leave of a world, at whatever number of steps
+  -- what this many lines leave of a world, at whatever number of steps
   abbrev Left : ℕ → ℕ → ℕ → World → Type 0
   Left b p a w = (t : ℕ) × Within b t p a w
 
@@ -411,7 +411,7 @@ module _ (set : Setting) where
     asks = omega arith;
   }
 
-  -- behind so many lines in form
+  -- after this many lines in form
   pub lines_within : (lines : List Line) → IsSound set → AreInForm set lines
       → Left (length lines) (192 * length lines) (length lines) (run set (switched_on set) lines).world
   lines_within lines sound form =

@@ -22,7 +22,7 @@ then_wanted set old mid before among after a b first next = λ w h.
     let d = first w h in
     front_next after among before (a w).items (b (a w).world).items d.1 (next (a w).world d.0)
 
--- an act that wanted memory
+-- an act in which memory ran out
 pub first_wanted : (set : Setting) (old : Running) (before after : List Item) (a b : World → Acted) → Wanted set old before after a → Wanted set old before after (λ w. then_ (a w) b)
 first_wanted set old before after a b first = λ w h. front_more after before (a w).items (b (a w).world).items (first w h)
 
@@ -72,7 +72,7 @@ remains_on set act left part rest old now new before came after remains e did = 
       );
 }
 
--- a part that wanted memory
+-- a part in which memory ran out
 pub remains_wanted : (set : Setting) (act left part rest : World → Acted) (old now : Running) (before came after : List Item)
     → Remains set act left old now before came → left ≡ (λ w. then_ (part w) rest) → Wanted set now came after part → Wanted set old before after act
 remains_wanted set act left part rest old now before came after remains e wanted = λ w h.

@@ -239,7 +239,7 @@ opens_stays epoch v w h k at = later v.epoch (is_below v.epoch epoch) refl h at
         le_on : old < epoch → k ≤ epoch
         le_on lt = omega (arith, lt, at)
 
--- an end that is open behind an opening was open before, or it is the one that was opened
+-- an end that is open after an opening was open before, or it is the one that was opened
 newly_head : (epoch k c link : ℕ) (to side : Side) (e : End) (es : List End) (v : EndView) (vs ws : List EndView) (b : Bool) → ((e.link == link) && same_side e.side side) ≡ b
     → ((us : List EndView) → changed (opens epoch) link side es vs ≡ Some us → open_at c to es us ≡ Some k → (open_at c to es vs ≡ Some k) ⊎ ((c ≡ link) × (k ≡ epoch)))
     → (if b then opens epoch v >>? (λ w. Some (w ∷ vs)) else changed (opens epoch) link side es vs >>? (λ us. Some (v ∷ us))) ≡ Some ws

@@ -1,4 +1,4 @@
--- What an event's acts do to the connections: words are sent over the module's own open ends alone, behind those before.
+-- What an event's acts do to the connections: words are sent over the module's own open ends alone, after those before.
 use Rattle.std.proofs.Common.{◌≡◌, ℕ, ◌+◌, ◌⊎◌, inl, inr, ◌==◌, ◌&&◌, Bool, true, false, if◌then◌else◌, List, [], ◌∷◌, ◌++◌, length, Option, Some, None, refl, sym, ◌∙◌, ap, subst}
 use Rattle.std.specs.Prelude.{slice_get, slice_set, is_some, nat_lt}
 use Rattle.std.proofs.lemmas.Bool.{true≢false, and_parts, cases_eq}
@@ -18,7 +18,7 @@ AllSending P [] vs = Unit {0}
 AllSending P (e ∷ es) [] = Unit {0}
 AllSending P (e ∷ es) (v ∷ vs) = (e.side ≡ From → is_some v.epoch ≡ true → P (field_of e v)) × AllSending P es vs
 
--- the words of connections before and behind: more words, and only over these
+-- the words of connections before and after: more words, and only over these
 pub record Flows (P : ℕ → Type 0) (before after : List (List ℕ)) : Type 0 where
   pub size : length after ≡ length before
   pub grown : (c : ℕ) (words : List ℕ) → slice_get before c ≡ Some words → (more : List ℕ) × (slice_get after c ≡ Some (words ++ more))

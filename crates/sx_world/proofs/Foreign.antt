@@ -293,7 +293,7 @@ module _ (set : Setting) (w : World) (mo : Model) (n : ℕ) (s : State) (sound :
   apart_n j k x y xj yk e =
       Rattle.sx_world.proofs.Steps.increasing n 0 set.app.devices j k (device_number set.app n j) (number_n j x xj) (subst (λ v. slice_get (devices_at n 0 set.app.devices) k ≡ Some v) (sym e) (number_n k y yk))
 
-  -- the touches, and the source behind them
+  -- the touches, and the source after them
   pub touches_n : Fares (judge set.app mo (touch_items set.app n None r.shown.touch)) (λ mo2. mo2 ≡ record { boots = mo.boots; devices = touched; modules = mo.modules; epochs = mo.epochs; sent = mo.sent; asks = mo.asks })
   touches_n = touches_fare set w mo n s boot_n.0 sound t here boot_n.1 (own_of s) (strangers set n s boot_n.0 node_n none) r.shown.touch s.devices r.state.devices mo.devices refl t.size.devices shown_n apart_n tied_n
 

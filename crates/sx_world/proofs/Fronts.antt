@@ -20,11 +20,11 @@ front_none old due = (due, refl)
 pub front_same : (new old due : List Item) → new ≡ old → IsFront new (old ++ due)
 front_same new old due e = (due, ap (λ x. x ++ due) e)
 
--- a front of the first part
+-- a prefix of the first part
 pub front_more : (new old a b : List Item) → IsFront new (old ++ a) → IsFront new (old ++ (a ++ b))
 front_more new old a b f = (f.0 ++ b, sym (append_assoc new f.0 b) ∙ ap (λ x. x ++ b) f.1 ∙ append_assoc old a b)
 
--- the first part and a front of the second
+-- the first part and a prefix of the second
 pub front_next : (new mid old a b : List Item) → mid ≡ old ++ a → IsFront new (mid ++ b) → IsFront new (old ++ (a ++ b))
 front_next new mid old a b e f = (f.0, f.1 ∙ ap (λ x. x ++ b) e ∙ append_assoc old a b)
 
@@ -32,18 +32,18 @@ front_next new mid old a b e f = (f.0, f.1 ∙ ap (λ x. x ++ b) e ∙ append_as
 pub whole_next : (new mid old a b : List Item) → mid ≡ old ++ a → new ≡ mid ++ b → new ≡ old ++ (a ++ b)
 whole_next new mid old a b e f = f ∙ ap (λ x. x ++ b) e ∙ append_assoc old a b
 
--- a fact that holds of every answer holds of a want of memory
+-- a fact that holds of every answer holds of a lack of memory
 pub err_any : {T E : Type 0} (r : Result T E) {A : Type 0} → A → OnErr r A
 err_any (Ok x) a = tt
 err_any (Err e) a = a
 
--- a front of what is due, said otherwise
+-- a prefix of what is due, said otherwise
 pub due_same : {T E : Type 0} (r : Result T E) (old : List Entry) (before after : List Item) (due said : List Made → Observed) → ((list : List Made) → due list ≡ said list)
     → OnErr r (ObservesFront old before after due) → OnErr r (ObservesFront old before after said)
 due_same (Ok x) old before after due said same f = tt
 due_same (Err e) old before after due said same f = λ list h. subst (λ (o : Observed). IsFront after (before ++ o.items)) (same list) (f list h)
 
--- a front of items alone
+-- a prefix of items alone
 pub due_items : {T E : Type 0} (r : Result T E) (old : List Entry) (before after : List Item) (due : List Made → List Item) (said : List Made → Observed)
     → ((list : List Made) → due list ≡ (said list).items)
     → OnErr r ((list : List Made) → Records old list → IsFront after (before ++ due list)) → OnErr r (ObservesFront old before after said)

@@ -150,7 +150,7 @@ giving_all set all left old now before came giving e = λ w h.
       sym (append-nil came) ∙ ap (λ x. came ++ x.items) (sym none) ∙ a.3,
     )
 
--- a key that wanted memory
+-- a key for which memory ran out
 pub giving_front : (set : Setting) (all left rest : List Grant) (g : Grant) (old now : Running) (before came after : List Item)
     → Giving set all left old now before came → left ≡ g ∷ rest → Wanted set now came after (λ w. key_given set w g (slice_get set.sites g.holder))
     → Wanted set old before after (keys_given set all)
@@ -166,7 +166,7 @@ pub next_grant : (gs : List Grant) (i : ℕ) (g : Grant) → i < length gs → g
 next_grant gs i g h e =
     drop-cons gs i g h ∙ ap (λ (n : ℕ). get_or gs i g ∷ drop n gs) (sym (add-one i)) ∙ ap (λ (x : Grant). x ∷ drop (i + 1) gs) (sym e)
 
--- a want of memory
+-- a lack of memory
 pub does_err : {X E : Type 0} (set : Setting) (r : Result X E) (old new : Running) (before after : List Item) (act : World → Acted) → IsErr r
     → Wanted set old before after act → Does set r old new before after act
 does_err set (Ok x) old new before after act e wanted = absurd cc

@@ -19,7 +19,7 @@ use Rattle.sx_world.specs.Held.{Running, IsFront, Shows, Did, Wanted}
 use Rattle.sx_world.proofs.Lists.{get_some, get_same, some_inj, length_set}
 use Rattle.sx_world.proofs.Fronts.{front_more, front_same}
 
--- of all the steps that are due, so many are left, and these items have come
+-- of all the steps that are due, this many are left, and these items have come
 pub record Going (set : Setting) (stops : State → Bool) (ends : List Item) (n all left : ℕ) (old now : Running) (before came : List Item) : Type 0 where
   pub goes : (w : World) → Shows set old w → (v : World) × Shows set now v
       × ((steps_of set stops ends n left v).world ≡ (steps_of set stops ends n all w).world)
@@ -97,7 +97,7 @@ starts : (set : Setting) (stops : State → Bool) (ends : List Item) (n k : ℕ)
 starts set stops ends n k v s true after came f = f
 starts set stops ends n k v s false after came f = front_more after came (stepped set v n s).items _ f
 
--- a step that wanted memory
+-- a step in which memory ran out
 pub going_front : (set : Setting) (stops : State → Bool) (ends : List Item) (n all left k : ℕ) (old now : Running) (before came after : List Item) (s : State)
     → Going set stops ends n all left old now before came → left ≡ suc k → slice_get now.nodes n ≡ Some s
     → ((v : World) → Shows set now v → IsFront after (came ++ (next set n v).items))
@@ -110,7 +110,7 @@ going_front set stops ends n all left k old now before came after s going e ther
     let all_of = starts set stops ends n k v s (is_last set stops s) after came f in
     subst (λ x. IsFront after x) (sym (ap (λ (a : Acted). came ++ a.items) (first_of set stops ends n left k v s e here)) ∙ g.3) all_of
 
--- all steps were taken, and the items behind them were added
+-- all steps were taken, and the items after them were added
 pub going_end : {T E : Type 0} (set : Setting) (stops : State → Bool) (ends : List Item) (n all left : ℕ) (old now : Running) (before came after : List Item) (r : Result T E)
     → Going set stops ends n all left old now before came → left ≡ 0 → OnOk r (after ≡ came ++ ends) → OnOk r (Did set old now before after (steps_of set stops ends n all))
 going_end set stops ends n all left old now before came after (Ok x) going e h = λ w shown.
@@ -128,7 +128,7 @@ going_none set stops ends n all left old now before came after (Err x) going h =
     let g = going.goes w shown in
     subst (λ x. IsFront after x) g.3 (front_same after came (steps_of set stops ends n left g.0).items h)
 
--- all steps were taken, and no item is due behind them
+-- all steps were taken, and no item is due after them
 pub going_done : (set : Setting) (stops : State → Bool) (end : Option Item) (n all left : ℕ) (old now : Running) (before came : List Item)
     → Going set stops (option_to_list end) n all left old now before came → left ≡ 0 → end ≡ None → Did set old now before came (steps_of set stops (option_to_list end) n all)
 going_done set stops end n all left old now before came going e h = λ w shown.

@@ -44,7 +44,7 @@ mark_seen app n m boot (Unwrapped header body own) ledger = record { items = has
 mark_seen app n m boot (Sampled k v) ledger = record { items = read_item app (Some m) (device_number app n k) v ∷ []; ledger = ledger }
 mark_seen app n m boot (Actuated k v) ledger = record { items = write_item app (Some m) (device_number app n k) v ∷ []; ledger = ledger }
 
--- where the source stands behind the mark
+-- where the source follows the mark
 pub record Next (app : AppTree) (m : ℕ) (q : PartTree) (x : Standing) (mo : Model) (mark : Mark) (ledger : List Made) (rest : List Mark) (result : Invoked) (mo' : Model) : Type 0 where
   pub y : Standing
   pub moved : Moved app q.node m mark x y mo mo'
@@ -63,7 +63,7 @@ idle_of x pr a b = rw (a, b) refl
 module _ (app : AppTree) (m : ℕ) (q : PartTree) (x : Standing) (pr : Present) (boot : ℕ) (mo : Model) (ledger : List Made)
     (part : slice_get app.parts m ≡ Some q) (there : slice_get mo.modules m ≡ Some x) (boots : slice_get mo.boots q.node ≡ Some boot) (present : x.present ≡ Some pr)
     (sane : IsSane app mo) (known : (e : Made) → is_made ledger e ≡ true → Known app mo e.maker e) where
-  -- the model behind an event
+  -- the model after an event
   abbrev behind : List EndView → SourceEvent → List Reading → Model
   behind views e devices =
       let f = flow_of q.tree (ends_of app m) e (idle_with pr.cells views) mo.sent in

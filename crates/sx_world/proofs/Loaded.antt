@@ -36,7 +36,7 @@ still_few old new n same few s here = by (slice_get old n) refl
         no e = cc
     by (Some t) e = subst (λ b. b < 4294967295) (some_inj t.boot s.boot (sym (ap (option_map (λ (s : State). s.boot)) e) ∙ boot)) (few t e)
 
--- The pieces of an image from the i-th of so many on.
+-- The pieces of an image from the i-th of this many on.
 abbrev pub pieces_from : ℕ → ℕ → List ℕ → ℕ → ℕ → World → Acted
 pieces_from n at bytes count i = put_pieces n (count - i) (at + i * 1024) (drop (i * 1024) bytes)
 

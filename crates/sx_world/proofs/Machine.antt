@@ -98,7 +98,7 @@ settled_onward s (Module regs x t e c) q = record { cur = refl; boot = refl }
 pub onward : (mac : Mac) (s : State) → violation_of (step mac s).shown.event ≡ None → Onward s (step mac s).state
 onward mac s q = settled_onward s (attempt mac s) q
 
--- the sections behind a quiet step, by its event
+-- the sections after a quiet step, by its event
 pub data Sectioned (s t : State) (e : Rattle.sx_machine.specs.declared.kinds.Event.Event) : Type 0 where
   Stay : t.sections ≡ s.sections → ((id : ℕ) → e ≡ event.Protected id → ⊥) → Sectioned s t e
   Fewer : t.sections ≡ Rattle.sx_rules.specs.Admission.removed s.sections (own_of s) → ((id : ℕ) → e ≡ event.Protected id → ⊥) → Sectioned s t e

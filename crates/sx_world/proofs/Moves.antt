@@ -17,7 +17,7 @@ use Rattle.sx_world.proofs.Lists.{get_same, get_other, get_before, some_inj}
 use Rattle.sx_world.proofs.Flows.{Flows}
 use Rattle.sx_world.proofs.Tied.{WasSent, Known, IsTimely, HasSent, IsSane}
 
--- the readings behind a mark
+-- the readings after a mark
 abbrev pub readings_after : AppTree → ℕ → Mark → List Reading → List Reading
 readings_after app n (Sampled k v) rs = slice_set rs (device_number app n k) (record { value = v; fresh = false })
 readings_after app n (Wrapped header body own) rs = rs
@@ -41,7 +41,7 @@ pub record Moved (app : AppTree) (n m : ℕ) (mark : Mark) (x y : Standing) (mo 
   pub sent : Flows (IsOwn app m) mo.sent mo'.sent
 
 module _ (app : AppTree) (n m : ℕ) (mark : Mark) (x y : Standing) (mo mo' : Model) (there : slice_get mo.modules m ≡ Some x) (moved : Moved app n m mark x y mo mo') where
-  -- any module before and behind
+  -- any module before and after
   pub same_module : slice_get mo'.modules m ≡ Some y
   same_module = rw moved.modules (get_same mo.modules m y x there)
 

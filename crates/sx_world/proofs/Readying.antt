@@ -1,4 +1,4 @@
--- A world that stands at a run's world is ready for the next line, and stands at the next world behind it.
+-- A world that stands at a run's world is ready for the next line, and stands at the next world after it.
 use Rattle.std.proofs.Common.{◌≡◌, ℕ, suc, ◌+◌, ◌*◌, ◌<◌, ◌≤◌, List, [], ◌∷◌, ◌++◌, length, Some, refl, sym, ◌∙◌, ap, subst, arith, length-append}
 use Rattle.std.specs.Prelude.{slice_get}
 use Rattle.sx_tag.specs.Mac.{Mac}
@@ -96,7 +96,7 @@ module _ (mac : Mac) (d : Deployed) (sites : List Site) (acc : deployment.IsSoun
   shows_counted : (kept : Running) (w : World) → Shows set kept w → Shows set kept (counted w)
   shows_counted kept w h = record { nodes = h.nodes; packets = h.packets; deployer = h.deployer; ledger = h.ledger; steps = h.steps; placed = h.placed }
 
-  -- behind a line that was acted it stands at the world behind it
+  -- after a line that was acted it stands at the world after it
   pub acted_stands : (old new : Held) (w : World) (line : Line) → IsLine d.names line → new.lines ≡ old.lines + 1
       → Shows set new.running (acted set (counted w) line).world → Stands set old w → Stands set new (acted set (counted w) line).world
   acted_stands old new w line form more shows s =
@@ -122,7 +122,7 @@ module _ (mac : Mac) (d : Deployed) (sites : List Site) (acc : deployment.IsSoun
       let r = here (counted w) (shows_counted kept w shown) in
       (acted_stands old new w line form more r.0 s, r.1)
 
-  -- and one that wanted memory has added a front of its items
+  -- and one in which memory ran out has added a prefix of its items
   pub act_wanted : (old : Held) (kept : Running) (lent : List Site) (before after : List Item) (line : Line) → lent ≡ sites → kept ≡ old.running
       → Wanted (setting mac d lent) kept before after (λ w. acted (setting mac d lent) w line)
       → (w : World) → Stands set old w → IsFront after (before ++ (acted set (counted w) line).items)

@@ -46,7 +46,7 @@ made_before list new m h = list_any-append (same_entry m) list (new ∷ []) ∙ 
 made_last : (list : List Made) (m : Made) → is_made (list ++ m ∷ []) m ≡ true
 made_last list m = list_any-append (same_entry m) list (m ∷ []) ∙ or_right (is_made list m) (is_made (m ∷ []) m) (or_left (same_entry m m) false (itself m))
 
--- the set behind the making of an entry
+-- the set after the making of an entry
 pub recorded : (old new : List Entry) (list : List Made) (m : Made) → Adds old new (entry_of m) → Records old list → Records new (list ++ m ∷ [])
 recorded old new list m adds h = λ e short. (there e short, back e short)
   where

@@ -1,4 +1,4 @@
--- What is seen of a step is that of the module whose code it was, as the node behind it tells.
+-- What is seen of a step is that of the module whose code it was, as the node after it tells.
 use Rattle.std.proofs.Common.{◌≡◌, ℕ, ◌+◌, inl, inr, ◌==◌, ◌||◌, cond, Bool, true, false, if◌then◌else◌, List, [], ◌∷◌, ◌++◌, Option, Some, None, refl, sym, ap, ◌∙◌}
 use Rattle.std.specs.Prelude.{slice_index, option_and_then}
 use Rattle.std.specs.List.{list_any, position_from}
@@ -130,7 +130,7 @@ unseen set n a b s seen ledger h =
     ap (λ ts. record { items = ts ++ (event_seen set n a s ledger seen.event).items; ledger = (event_seen set n a s ledger seen.event).ledger }) (no_touch set.app n a b seen.touch p.0)
     ∙ ap (λ (o : Observed). record { items = touch_items set.app n b seen.touch ++ o.items; ledger = o.ledger }) e
 
--- what is seen of a step is that of the module whose code it was, as the node behind it tells
+-- what is seen of a step is that of the module whose code it was, as the node after it tells
 pub observed_behind : (set : Setting) (n : ℕ) (s : State) (ledger : List Made) → Placed s.sections
     → observed set n (runner_of set.sites n (step set.mac s).state (step set.mac s).shown) (step set.mac s).state (step set.mac s).shown ledger
     ≡ observed set n (module_of set.sites n s (own_of s)) (step set.mac s).state (step set.mac s).shown ledger

@@ -104,7 +104,7 @@ across_same k d P L m n (l ∷ ls) ee ea h =
     ap (λ (gs : List Grant). gs ++ across_from k P m (n + 1) ls) (across_one k d P L m n l ee ea (omega (arith, h)))
     ∙ ap (λ (gs : List Grant). grant_beyond d m n l ++ gs) (across_same k d P L m (n + 1) ls ee ea (omega (arith, h)))
 
--- the grants behind an accepted answer
+-- the grants after an accepted answer
 pub same_grants : (set : Setting) (k : Keeping) (d : DeployerState) (m boot : ℕ) (last : Option ℕ) → IsKept set k d
     → granted k (length set.app.parts) set.app.links m boot last ≡ grants_after set.app d m boot last
 same_grants set k d m boot last h = by_last last

@@ -109,7 +109,7 @@ module _ (mac : Mac) (d : Deployed) (texts : List (List ℕ)) (acc : deployment.
       | inr off ↦ outside w.at (w.at + 2) site.layout.pub_from site.layout.pub_to at off.0 le lt from to
     ])
 
-    -- behind a driver's word there is no device
+    -- after a driver's word there is no device
     no_data : (at : ℕ) → site.layout.priv_from + 2 ≤ at → at < site.layout.priv_to → device_at (powered_on (windows_at r.part.node d.app.devices d.places)) at ≡ None
     no_data at from to = nothing_at d.app.devices d.places acc.few_devices acc.words acc.words_apart r.part.node at (λ k w e le lt. elim (clear k w e) [
       | inl own ↦ (let same = own.1 in absurd (omega (arith, lt, same, from)))

@@ -27,7 +27,7 @@ use Rattle.sx_world.proofs.Lists.{get_same}
 use Rattle.sx_world.proofs.Going.{next}
 use Rattle.sx_world.proofs.Runners.{observed_behind}
 
--- what is seen of a step, by whose code the node behind it tells
+-- what is seen of a step, by whose code the node after it tells
 abbrev pub seen_behind : Setting → ℕ → State → List Made → Observed
 seen_behind set n s = observed set n (runner_of set.sites n (step set.mac s).state (step set.mac s).shown) (step set.mac s).state (step set.mac s).shown
 
@@ -61,7 +61,7 @@ step_front mac d sites old before after n s there saw = λ w h.
     subst (λ o. IsFront after (before ++ (at_node w (stepped set w n) o).items)) (sym here)
     (subst (λ (x : Observed). IsFront after (before ++ x.items)) same o)
 
--- the node behind a step, read at its place
+-- the node after a step, read at its place
 pub node_behind : (news old : List State) (n i : ℕ) (s t node : State) → news ≡ slice_set old n t → slice_get old n ≡ Some s → i ≡ n → node ≡ get_or news i node → node ≡ t
 node_behind news old n i s t node left here same e =
     e ∙ ap (λ xs. get_or xs i node) left ∙ ap (λ k. get_or (slice_set old n t) k node) same ∙ get_or_from_slice_get (slice_set old n t) n t node (get_same old n t s here)
@@ -92,7 +92,7 @@ program_wanted mac d sites old before after n s node runner seen entries here le
     subst (λ (o : Observed). IsFront after (before ++ o.items)) (saw_behind set n s node runner seen list left shown found)
     (saw list (subst (λ l. Records l list) (sym kept) h)))
 
--- what is kept of a struct whose view it is, behind a step
+-- what is kept of a struct whose view it is, after a step
 pub as_stepped : (old view : Running) (nodes : List State) (entries : List Entry) (n : ℕ) (t : State) → view ≡ old → nodes ≡ slice_set old.nodes n t
     → with_nodes view nodes entries (view.steps + 1) ≡ with_nodes old (slice_set old.nodes n t) entries (old.steps + 1)
 as_stepped old view nodes entries n t v e = ap (λ ns. with_nodes view ns entries (view.steps + 1)) e ∙ ap (λ (k : Running). with_nodes k (slice_set old.nodes n t) entries (k.steps + 1)) v

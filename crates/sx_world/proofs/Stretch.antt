@@ -80,7 +80,7 @@ abbrev pub HasMarks : List Mark → Type 0
 HasMarks [] = ⊥
 HasMarks (mark ∷ ms) = Unit {0}
 
--- where the source stands behind marks: what is owed beside these devices, and where there was a mark beside any
+-- where the source follows marks: what is owed beside these devices, and where there was a mark beside any
 pub record Nexts (app : AppTree) (m : ℕ) (q : PartTree) (x : Standing) (mo : Model) (ms : List Mark) (ledger : List Made) (P : List Window → Type 0) (rest : List Mark) (result : Invoked) (mo' : Model) : Type 0 where
   pub y : Standing
   pub moves : Moves app q.node m ms x y mo mo'
@@ -121,7 +121,7 @@ marks_fares app m q boot part result rest (mark ∷ ms) x pr mo ledger there boo
     (marks_fares app m q boot part result rest ms next.y next.pr mo1 o.ledger (same_module app q.node m mark x next.y mo mo1 there next.moved) (rw next.moved.boots boots) next.present next.sane next.known
     (next.moved.sent.size ∙ sizes) (λ d. Unit {0}) [] tt (λ k w e. absurd cc) (λ d _. next.owes d)))
 
--- What a step of a deployed module shows is its marks, and behind them that it is done, where it left.
+-- What a step of a deployed module shows is its marks, and after them that it is done, where it left.
 
 marks_append : (app : AppTree) (n m boot : ℕ) (xs ys : List Mark) (ledger : List Made)
     → marks_seen app n m boot (xs ++ ys) ledger ≡ (let o = marks_seen app n m boot xs ledger in let r = marks_seen app n m boot ys o.ledger in record { items = o.items ++ r.items; ledger = r.ledger })

@@ -44,7 +44,7 @@ use Rattle.sx_world.specs.Observation.{side_in, sender_of}
 abbrev pub epoch_at : EndState → Option ℕ
 epoch_at x = if x.is_open then Some (epoch_of x.field) else None
 
--- what was sent over a connection in an epoch are so many words
+-- what was sent over a connection in an epoch are this many words
 abbrev pub HasLength : Option (List ℕ) → ℕ → Type 0
 HasLength None n = ⊥
 HasLength (Some words) n = length words ≡ n
@@ -91,7 +91,7 @@ Settled es cells views sent pieces emits (Violates v p) = Unit {0}
 Settled es cells views sent pieces emits (Returns status p) =
     (emits ≡ []) × (status ≡ 1) × (length p.pieces ≡ pieces) × SameState es p.state cells views sent
 
--- behind the event: each wrap is of a word that was sent, and the writes are the emits that are owed
+-- after the event: each wrap is of a word that was sent, and the writes are the emits that are owed
 abbrev pub Settles : AppTree → ℕ → ℕ → Option ℕ → List ℕ → List EndView → List (List ℕ) → ℕ → Invoked → List Mark → List ℕ → Type 0
 Settles app n m d cells views sent pieces result [] emits = Settled (ends_of app m) cells views sent pieces emits result
 Settles app n m d cells views sent pieces result (Wrapped header body own ∷ ms) emits =

@@ -56,7 +56,7 @@ watch_goes : (mac : Mac) (s : State) (seen : List Mark) (last : Event) → viola
 unfolding watch
 watch_goes mac s seen last e = rw e refl
 
--- where a module is under way, it is so behind the step, or it left by it
+-- where a module is under way, it is so after the step, or it left by it
 pub data Behind (setup : Setup) (result : Invoked) (before : State) (w : Watched) : Type 0 where
   Still : (bound : ℕ) → Underway setup result before w → Comes Watched Violation (watch setup.mac) (λ w. 1) (Underway setup result before) (Aborted result) (Exited setup result before) bound w
       → Behind setup result before w
@@ -92,7 +92,7 @@ module _ (set : Setting) (m : ℕ) (q : PartTree) (s : State) (sec : Section) (p
   pub rest_of : (rest : List Mark) → (u.seen ++ ms) ++ rest ≡ marks_in u.result → u.rest ≡ ms ++ rest
   rest_of rest e = append_cancel u.seen u.rest (ms ++ rest) (u.all ∙ sym e ∙ append_assoc u.seen ms rest)
 
--- Where the source stands behind the step: the module is still under way, or it is idle in the state that its private section represents.
+-- Where the source follows the step: the module is still under way, or it is idle in the state that its private section represents.
 
 pub record StillRuns (set : Setting) (m : ℕ) (q : PartTree) (sec : Section) (t : State) (ms : List Mark) (x : Standing) (mo : Model) (ledger : List Made) (mo' : Model) : Type 0 where
   pub y : Standing

@@ -7,7 +7,7 @@ use Rattle.sx_model.specs.State.{Model}
 use Rattle.sx_model.specs.Step.{step}
 use Rattle.sx_model.specs.Legal.{after, before, is_forged}
 
--- an item that isn't allowed breaks the run, and behind a forged one nothing is owed
+-- an item that isn't allowed breaks the run, and after a forged one nothing is owed
 pub data Verdict : Type 0 where
   Broken : Verdict
   Over : Verdict

@@ -6,7 +6,7 @@ use borrow.Rule.Slice.PartMut.{put_mid}
 use Rattle.sx_rules.specs.declared.section.Section.{Section}
 use Rattle.sx_rules.proofs.table.close_gap.Goals as goal
 
--- The section at the index goes to the end, behind the others.
+-- The section at the index goes to the end, after the others.
 pub returns : goal.returns
 returns c =
     let live = c.args.live.now in

@@ -2,7 +2,7 @@ use Rattle.std.specs.Prelude.{◌≡◌, ◌≤◌, ◌-◌, ◌++◌, length, d
 use Rattle.sx_top.specs.Check.{module_lines}
 use Rattle.sx_top.proofs.check.module_lines.Given as goal
 
--- the lines so far, and behind them those of the modules that are left
+-- the lines so far, and after them those of the modules that are left
 abbrev pub invariant-modules : goal.invariant-modules
 invariant-modules l = record {
   names : l.i ≤ length l.fn.names;

@@ -2,7 +2,7 @@ use Rattle.std.specs.Prelude.{◌≡◌, ◌≤◌, ◌-◌, ◌++◌, length, d
 use Rattle.sx_top.specs.Run.{images_text}
 use Rattle.sx_top.proofs.images.image_lines.Given as goal
 
--- the lines so far, and behind them those of the images that are left
+-- the lines so far, and after them those of the images that are left
 abbrev pub invariant-images : goal.invariant-images
 invariant-images l = record {
   names : l.i ≤ length l.fn.names;

@@ -4,7 +4,7 @@ use Rattle.sx_world.specs.Accepted.{setting_of}
 use Rattle.sx_world.specs.State.{nodes_from}
 use Rattle.sx_top.proofs.nodes.nodes_of.Given as goal
 
--- the nodes so far, and behind them those that are left
+-- the nodes so far, and after them those that are left
 abbrev pub invariant-nodes : goal.invariant-nodes
 invariant-nodes g l =
     let d = deployed_as l.fn.plan in record {

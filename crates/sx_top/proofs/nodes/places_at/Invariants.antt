@@ -2,7 +2,7 @@ use Rattle.std.specs.Prelude.{◌≡◌, ◌≤◌, ◌-◌, ◌++◌, length, d
 use Rattle.sx_world.specs.Setting.{windows_at}
 use Rattle.sx_top.proofs.nodes.places_at.Given as goal
 
--- the devices so far, and behind them those that are left
+-- the devices so far, and after them those that are left
 abbrev pub invariant-devices : goal.invariant-devices
 invariant-devices l = record {
   devices : l.i ≤ length l.fn.devices;

@@ -10,7 +10,7 @@ use Rattle.sx_top.specs.Headless.{EndsHeadless}
 use Rattle.sx_top.specs.Output.{line}
 use Rattle.sx_top.proofs.refusing.refuse_head.Goals as goal
 
--- a status that finish gives isn't that of want of memory
+-- a status that finish gives isn't that of lack of memory
 not_six : (status ended : ℕ) → ((status ≡ write_failed → ⊥) → status ≡ ended) → (ended ≡ out_of_memory → ⊥) → status ≡ out_of_memory → ⊥
 not_six status ended e n six = n (sym (e (λ five. omega (arith, five, six))) ∙ six)
 
