@@ -1,9 +1,10 @@
 -- The devices of a node, each of which is one word of its memory (own profile).
 --     ArePlaces      where devices may stand
 --     HaveSamples      what values devices have
---     powered_on, AreNew, places_of, device_at      a list of devices, that none was used, its places, and the device at a byte
---     has_place, IsIndex      whether a device stands on a page of 256 bytes, and what is kept of that
---     sensed, cleared, all_stale      the devices after a sample, after a sensor was read, and after a reset
+--     powered_on, AreNew      a list of devices as the node is switched on, and that none was used
+--     places_of, device_at      the devices' places, and the device at a byte
+--     has_place, IsIndex      whether a device stands on a page, and what is kept of that
+--     sensed, cleared, all_stale      the devices after a sample, a read of it, and a reset
 use Rattle.std.specs.Prelude.{◌≡◌, ◌≢◌, ℕ, zero, suc, ◌+◌, ◌/◌, ◌%◌, ◌==◌, ◌<◌, ◌≤◌, nat_lt, nat_le, Bool, true, false, ◌&&◌, List, [], ◌∷◌, length, map, slice_index_or, All, AllPairs, Option}
 use Rattle.std.specs.List.{position_from, list_any}
 use Rattle.sx_bus.specs.declared.devices.Kind.{Kind}

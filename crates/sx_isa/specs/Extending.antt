@@ -1,6 +1,6 @@
 -- An instruction with other extension words (own): it is read where these follow the same first
 -- word.
---     has_word, with_word      whether an operand has an extension word, and the operand with another in its place
+--     has_word, with_word      whether an operand has an extension word, and it with another one
 --     extended      the instruction with other words in place of its own
 use Rattle.std.specs.Prelude.{ℕ, Bool, true, false, if◌then◌else◌}
 use Rattle.sx_isa.specs.declared.instruction.Operand.{Operand}

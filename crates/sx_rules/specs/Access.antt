@@ -3,7 +3,7 @@
 --     Sections      what a table of sections holds
 --     in_public, in_private, at_entry      where a byte lies in a section
 --     may      the access table
---     holder, outside_private, in_order, extends      what a step asks of the byte at PC and of an instruction's bytes
+--     holder, outside_private, in_order, extends      what a step asks of an instruction's bytes
 --     both_bytes      a test of the two bytes of a word
 --     Lives, section_of      a live section, and one by its id
 use Rattle.std.specs.Prelude.{◌≡◌, ◌⊎◌, ℕ, ◌+◌, ◌-◌, ◌%◌, ◌==◌, nat_lt, nat_le, Bool, ◌&&◌, ◌||◌, not, if◌then◌else◌, List, [], ◌∷◌, Option, find}

@@ -1,7 +1,7 @@
 -- Which live sections meet a page, which is 256 bytes of memory from a multiple of 256 on (own). A
 -- table keeps this for each page, so that a question about a byte goes to the sections of its page
 -- alone.
---     meets, meeting, is_open      whether a section meets a page, which sections do, and whether none does
+--     meets, meeting, is_open      whether a section meets a page, which do, and whether none does
 --     IsIndex      what a table keeps for its live sections
 --     answer      what a section says to a question about a byte
 --     IsFree      what holds of a byte of an open page

@@ -59,7 +59,8 @@ inside_words back from to = 0x421c ∷ back ∷ 0x903c ∷ from ∷ 0x2804 ∷ 0
 
 -- A window of n bytes at the saved register passes 0xFFFF from 65537 - n on; else it meets the
 -- private section where it begins below the section's end and doesn't end before its start:
---     MOV &saved, R12; CMP #65537-n, R12; JC .+6; CMP #to, R12; JC .+5; CMP #from+1-n, R12; JNC .+2; PUSH #1; JMP .+1; PUSH #0
+--     MOV &saved, R12; CMP #65537-n, R12; JC .+6; CMP #to, R12; JC .+5; CMP #from+1-n, R12; JNC .+2;
+--     PUSH #1; JMP .+1; PUSH #0
 abbrev pub meets_words : ℕ → ℕ → ℕ → ℕ → List ℕ
 meets_words saved from to n = 0x421c ∷ saved ∷ 0x903c ∷ (65537 - n) ∷ 0x2c06 ∷ 0x903c ∷ to ∷ 0x2c05 ∷ 0x903c ∷ (from + 1 - n) ∷ 0x2802 ∷ 0x1213 ∷ 0x3c01 ∷ 0x1203 ∷ []
 
@@ -129,7 +130,8 @@ template l a p (ir.Handler h) = handler_words l.priv_from (a.at (p + 1)) (a.at (
 template l a p ir.Leave = 0x4030 ∷ a.at a.exit ∷ []
 
 -- The entry keeps SP and the caller's registers, and begins the stack:
---     MOV SP, &148; MOV R12, &6; MOV R13, &8; MOV R14, &10; MOV R15, &12; MOV #512, SP    -- offsets of the private section
+--     MOV SP, &148; MOV R12, &6; MOV R13, &8; MOV R14, &10; MOV R15, &12; MOV #512, SP
+--     (offsets of the private section)
 abbrev pub entry_words : ℕ → List ℕ
 entry_words base = 0x4182 ∷ (base + 148) ∷ 0x4c82 ∷ (base + 6) ∷ 0x4d82 ∷ (base + 8) ∷ 0x4e82 ∷ (base + 10) ∷ 0x4f82 ∷ (base + 12) ∷ 0x4031 ∷ (base + 512) ∷ []
 
@@ -146,9 +148,12 @@ slot_words base = 0x429c ∷ (base + 18) ∷ 0 ∷ 0x438c ∷ 2 ∷ 0x439c ∷ 4
 
 -- The packet routine of the k-th end tests that the end is open and its number below 65,535, makes
 -- the header and the body, wraps, copies the packet to its offset in the out-window, and counts:
---     TST &open; JZ ret; CMP #-1, &number; JZ ret; MOV #3, &106; MOV &field, &108; MOV &number, &110; MOV 2(SP), &130
---     MOV #key, R9; MOV #106, R10; MOV #6, R11; MOV #130, R12; MOV #2, R13; MOV #112, R14; MOV #114, R15; wrap
---     MOV &pieces, R12; ADD R12, R12 (3 times); MOV R12, R14; ADD R12, R12; ADD R14, R12; ADD &window, R12; MOV #106, R13; MOV #24, R15
+--     TST &open; JZ ret; CMP #-1, &number; JZ ret; MOV #3, &106; MOV &field, &108;
+--     MOV &number, &110; MOV 2(SP), &130
+--     MOV #key, R9; MOV #106, R10; MOV #6, R11; MOV #130, R12; MOV #2, R13; MOV #112, R14;
+--     MOV #114, R15; wrap
+--     MOV &pieces, R12; ADD R12, R12 (3 times); MOV R12, R14; ADD R12, R12; ADD R14, R12;
+--     ADD &window, R12; MOV #106, R13; MOV #24, R15
 --     turn: MOV.B @R13+, 0(R12); INC R12; DEC R15; JNZ turn
 --     INC &number; INC &pieces
 --     ret: RET
