@@ -63,7 +63,8 @@ fn execute<B: Bus>(
 
 /// Executes the plain instruction at PC, whose first word the caller read. A module instruction is
 /// illegal here. After a violation nothing is said of registers and memory, and the devices may
-/// have lost a fresh mark: the caller resets the node.
+/// have lost a fresh mark: the caller resets the node. The instructions are those of TI's
+/// MSP430x2xx Family User's Guide, "CPU".
 #[tactic(auto, unfolding(sx_machine::specs::Rows::program))]
 pub fn step_plain<B: Bus>(executor: &mut Executor<B>, first: u16) -> Result<(), Violation>
     ensures { Runs (program first executor.old.regs) executor.old result executor.new }
@@ -76,7 +77,8 @@ pub fn step_plain<B: Bus>(executor: &mut Executor<B>, first: u16) -> Result<(), 
 }
 
 /// Pushes PC and then SR, clears SR, and loads PC from the vector of the line. After a violation
-/// nothing is said of registers and memory: the caller resets the node.
+/// nothing is said of registers and memory: the caller resets the node. TI's guide says what an
+/// interrupt pushes and loads; that it runs as code outside every module is our own rule.
 #[tactic(auto, unfolding(sx_machine::specs::Acts::interrupt))]
 pub fn interrupt<B: Bus>(executor: &mut Executor<B>, line: u8) -> Result<(), Violation>
     requires { line ≤ 14 }

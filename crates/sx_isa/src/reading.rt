@@ -75,6 +75,8 @@ fn length_at(w0: u16) -> Option<u8>
 
 /// The instruction at the start of three words, and how many of them are its own, 1 to 3. None
 /// exactly where no instruction has the first word. The words past the instruction don't matter.
+/// The words are those of TI's MSP430x2xx Family User's Guide, "CPU"; those of the module
+/// instructions are our own.
 pub fn decode(w0: u16, w1: u16, w2: u16) -> Option<(Instr, u8)>
     ensures computed { result ≡ instruction_at w0 w1 w2 }
     ensures found { IfSome result (λ f. Begins (w0 ∷ w1 ∷ w2 ∷ []) f.0 f.1) }

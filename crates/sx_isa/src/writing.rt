@@ -178,7 +178,8 @@ fn in_order(parts: Parts) -> Words
 }
 
 /// The words of an instruction: its spelling, and zeros after it. `decode` gives the instruction
-/// back from them.
+/// back from them. The words are those of TI's MSP430x2xx Family User's Guide, "CPU"; those of the
+/// module instructions are our own.
 pub fn encode(i: &Instr) -> Words
     requires { IsInstruction i.now }
     ensures words { Begins result.w i.now result.len }

@@ -66,7 +66,8 @@ impl Table {
     }
 
     /// Adds a section under the next id, which it gives back, on a node whose devices stand at
-    /// `places`. After a refusal the table is unchanged.
+    /// `places`. After a refusal the table is unchanged. Sancus 2.0 protects modules; the list of
+    /// refusals is our own.
     pub fn admit(
         &mut self,
         layout: Layout,
@@ -156,7 +157,7 @@ impl Table {
     }
 
     /// Whether code of the module `cur`, or code outside every module where it is 0, may access the
-    /// byte.
+    /// byte. This is the access table of Sancus 2.0.
     #[tactic(auto, unfolding(crate::specs::Access::may))]
     pub fn may(&self, cur: u16, access: Access, at: u16) -> bool
         ensures { result ≡ may self.now.live cur access at }

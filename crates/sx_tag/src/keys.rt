@@ -10,7 +10,8 @@ const KEY_LABEL: u8 = b'K';
 
 const ATTEST_LABEL: u8 = b'A';
 
-/// A key derived from another key and a part.
+/// A key derived from another key and a part. The chain of keys is that of Sancus 2.0; its forms
+/// are our own.
 #[tactic(auto, unfolding(crate::specs::Keys::kdf))]
 pub fn kdf<T: Tag>(tag: &T, key: &[u8; 16], part: &[u8]) -> [u8; 16]
     ensures { result ≡ spec.kdf T.mac key.now part.now }
@@ -30,6 +31,7 @@ pub fn boot_key<T: Tag>(tag: &T, node_key: &[u8; 16], boot: u32) -> [u8; 16]
 }
 
 /// A module's key, from the node's key, the boot, the software provider and the module's identity.
+/// The chain of keys is that of Sancus 2.0; its forms are our own.
 #[tactic(auto, unfolding(crate::specs::Keys::module_key))]
 pub fn module_key<T: Tag>(
     tag: &T,

@@ -11,7 +11,8 @@ const STREAM_LABEL: u8 = b'S';
 const TAG_LABEL: u8 = b'T';
 
 /// Wraps a header `ad` and a body of at most 32 bytes each. The start of `cipher` then holds the
-/// encrypted body, and the rest of it is unchanged. Gives the tag.
+/// encrypted body, and the rest of it is unchanged. Gives the tag. The forms of the stream and the
+/// tag are our own.
 pub fn wrap<T: Tag>(
     tag: &T,
     key: &[u8; 16],

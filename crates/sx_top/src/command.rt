@@ -37,11 +37,11 @@ const MISUSED: u8 = 2;
 /// | 0 | `end` | all was written; `run` read the input to its end |
 /// | 1 | `fault deployment Dk place` | the deployment breaks rule Dk, the first that it breaks |
 /// | 2 | `fault usage` | the words are no command; nothing was read |
-/// | 3 | `fault schedule Sk line` | this line, from 1, is the first that breaks a rule; Sk is its first |
+/// | 3 | `fault schedule Sk line` | this line, from 1, is the first to break a rule, Sk the rule |
 /// | 4 | `fault read` | a read failed |
 /// | 5 | none | a write failed: what was written is a prefix of what is defined |
 /// | 6 | none | memory ran out: what was written is a prefix of what is defined |
-/// | 10 | `fault asm Ak line`, `fault hex Bk line` | a text, or the bytes, break a rule; `-` is no line |
+/// | 10 | `fault asm Ak line`, `fault hex Bk line` | rule Ak or Bk is broken; `-` is no line |
 ///
 /// Every line, a fault's too, goes to `output` and ends with a newline.
 #[tactic(auto, unfolding(crate::specs::Output::usage_line))]
