@@ -59,7 +59,7 @@ fn operand_known(labels: &[Label], written: &Written) -> bool
     }
 }
 
-/// The first labels, this many.
+/// The first `count` labels.
 fn first_labels(labels: &[Label], count: usize) -> &[Label]
     ensures { result.now ≡ take count labels.now }
 {
@@ -70,8 +70,8 @@ fn first_labels(labels: &[Label], count: usize) -> &[Label]
     }
 }
 
-/// Whether the item's names have a label, or a label is the first of its name, where this many
-/// stand before it.
+/// Whether the item's names have a label, or a label is the first of its name, where `before`
+/// labels stand before it.
 fn names_known(labels: &[Label], before: usize, item: &Item) -> bool
     ensures { result ≡ names_known labels.now before item.now }
 {

@@ -276,7 +276,7 @@ fn put_one(text: &mut Text, at: u16, op: Op1, byte: bool, arg: &Operand)
     put_operand(text, further(at, 2), arg);
 }
 
-/// The address this many words further.
+/// The address `offset` words after `next`, modulo 65,536.
 fn target(next: u16, offset: i16) -> u16
     requires { IsOffset offset }
     ensures { result ≡ target next offset }

@@ -36,7 +36,7 @@ fn assigned(x: &Name) -> Stmt {
     Stmt::Assign(*x, Expr::Number(1))
 }
 
-/// `repeat` in `repeat`, this many times.
+/// `repeat` in `repeat`, `times` deep.
 fn nested(alloc: Global, turns: u16, times: u8, inner: Vec<Stmt>) -> Result<Vec<Stmt>, AllocError> {
     let mut body = inner;
     for _level in 0..times {

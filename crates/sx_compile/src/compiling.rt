@@ -18,7 +18,7 @@ use sx_stub::{links_fit, stub};
 use sx_tag::Tag;
 use sx_tmpl::emit;
 
-/// Appends this many zeros.
+/// Appends `count` zeros.
 fn put_zeros(text: &mut Vec<u8>, count: usize) -> Result<(), OutOfMemory>
     ensures { OnOk result (text.new.items ≡ text.old.items ++ replicate count 0) }
 {

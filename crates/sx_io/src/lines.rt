@@ -16,7 +16,7 @@ pub const LONGEST: usize = 4096;
 /// The answer to a call for the next line.
 #[derive(Clone, Copy, Debug, PartialEq, Eq)]
 pub enum LineRead {
-    /// A line's text, this many bytes of it.
+    /// A line's text, which has this many bytes.
     Text(usize),
     /// The end of the input.
     End,

@@ -106,16 +106,16 @@ pub fn cells(m: &Module) -> u64
     total
 }
 
-/// The bytes of the module's public section, where it has this many ends of connections: 2048 + 192
-/// for each end + 64 for each node. It is cut at 4,294,967,295.
+/// How many bytes the module's public section has, where it holds `ends` ends of connections: 2048
+/// + 192 for each end + 64 for each node. It is cut at 4,294,967,295.
 pub fn weight(m: &Module, ends: u8) -> u64
     ensures { result ≡ min (module_weight (module_of m.now) ends) SIZE_CUT }
 {
     cut(2048 + 192 * u64::from(ends) + 64 * nodes(m))
 }
 
-/// The bytes of the module's private section, where it has this many ends of connections: 512 + 24
-/// for each end + 2 for each cell. It is cut at 4,294,967,295.
+/// How many bytes the module's private section has, where it holds `ends` ends of connections: 512
+/// + 24 for each end + 2 for each cell. It is cut at 4,294,967,295.
 pub fn data_size(m: &Module, ends: u8) -> u64
     ensures { result ≡ min (module_data_size (module_of m.now) ends) SIZE_CUT }
 {

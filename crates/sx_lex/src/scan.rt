@@ -23,7 +23,7 @@ struct Digits {
     number: u16,
 }
 
-/// How many bytes at the start may belong to a name, at most this many.
+/// How many bytes at the start may belong to a name, at most `most`.
 fn name_run(text: &[u8], most: u8) -> u8
     ensures front { result ≡ name_front most text.now }
     ensures within { result ≤ most }

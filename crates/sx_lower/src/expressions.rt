@@ -95,8 +95,8 @@ fn put_operator(code: &mut Vec<Ir>, op: BinOp) -> Result<(), AllocError>
     }
 }
 
-/// Appends the code of an expression, where there are this many ends. The error says that memory
-/// ran out.
+/// Appends the code of an expression, in a module with `ends` ends. The error says that memory ran
+/// out.
 pub fn put_expression(
     code: &mut Vec<Ir>,
     decls: &[Decl],

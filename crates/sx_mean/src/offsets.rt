@@ -75,7 +75,7 @@ pub fn end_key_at(end: u8) -> u16
     end_at(end) + 8
 }
 
-/// The word of the cell of this index, after the slots of this many ends.
+/// The word of the cell of this index, after the slots of `ends` ends.
 pub fn cell_at(ends: usize, cell: usize) -> u16
     requires few_ends { ends ≤ 16 }
     requires few_cells { cell ≤ 1024 }

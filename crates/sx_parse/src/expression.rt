@@ -148,7 +148,7 @@ fn sum<'a>(alloc: Global, tokens: &'a [Placed], depth: u8) -> Result<(Expr, &'a 
     Ok((left, rest))
 }
 
-/// An expression, inside this many open brackets and unary operators. It stops at the first token
+/// An expression, inside `depth` open brackets and unary operators. It stops at the first token
 /// that can't follow those before it, or where memory runs out.
 #[cycle(expression)]
 #[tactic(auto, using(crate::proofs::Expressions::expression_stops, crate::proofs::Expressions::expression_ends, crate::proofs::Expressions::expression_alone, crate::proofs::Expressions::expression_compares, crate::proofs::Expressions::expression_breaks))]

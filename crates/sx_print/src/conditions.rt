@@ -103,7 +103,8 @@ fn names_in_handlers(handlers: &[Handler]) -> bool
     true
 }
 
-/// Whether at most this many are open at a time. It looks no deeper than that.
+/// Whether at most `room` brackets and unary operators are open at a time. It looks no deeper than
+/// that.
 fn opens_in_expression(e: &Expr, room: u8) -> bool
     ensures { result ≡ nat_le (expression_open (expression_of e.now)) room }
 {

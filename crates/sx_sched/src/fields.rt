@@ -133,15 +133,15 @@ fn is_between(low: usize, high: usize, n: usize) -> bool
     low <= n && n <= high
 }
 
-/// Whether a word is the hexadecimal text of 1 to this many bytes.
+/// Whether a word is the hexadecimal text of 1 to `most` bytes.
 fn are_bytes(most: usize, word: &[u8]) -> bool
     ensures { result ≡ is_hex_text most word.now }
 {
     are_hex_digits(word) && word.len() % 2 == 0 && is_between(1, most, word.len() / 2)
 }
 
-/// The bytes that a hexadecimal text writes, 1 to this many. No memory is asked for where it is
-/// none.
+/// The bytes that a hexadecimal text writes, 1 to `most` of them; the error is rule 6. No memory is
+/// asked for where it is none.
 pub fn bytes_of(alloc: Global, most: usize, word: &[u8]) -> Result<Vec<u8>, LineError>
     ensures { Answers (λ v. v.items) AreSaid (bytes_of most word.now) result }
 {

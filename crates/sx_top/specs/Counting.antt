@@ -35,7 +35,7 @@ abbrev pub StopsAt : NameLists → ℕ → List ℕ → Stopped → Type 0
 StopsAt names number text (Broken rule at) = (judged names number text ≡ Err rule) × (at ≡ number)
 StopsAt names number text OutOfMemory = Unit {0}
 
--- a run of the workload that ended so, after this many steps, is told so; or memory ran out
+-- the end of a run of the workload, after this many steps, is reported; or memory ran out
 abbrev pub EndsAs : ℕ → NameLists → Setting → ℕ → Result Counts Stopped → Type 0
 EndsAs n names set steps (Ok c) =
     gen_run n names set ≡ record { text = summary (bulk.lines n) c steps; status = 0 }

@@ -1,4 +1,4 @@
--- What is counted of a run's items, and how it is told.
+-- What is counted of a run's items, and how it is written.
 use Rattle.std.specs.Prelude.{ℕ, ◌+◌, ◌==◌, Bool, true, false, List, ◌++◌, length, codes, decimal}
 use Rattle.std.specs.List.{count_by}
 use Rattle.sx_trace.specs.declared.items.Item.{Item}

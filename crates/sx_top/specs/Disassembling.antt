@@ -93,7 +93,7 @@ dis_given at Unread = unread
 abbrev pub dis_all : ℕ → List Answer → Output
 dis_all at answers = dis_given at (given 1 answers)
 
--- memory runs out only where the bytes are listed: a fault is told without memory
+-- memory runs out only where the bytes are listed: a fault is reported without memory
 abbrev pub RunsOutInListing : ℕ → ℕ → List Answer → Type 0
 RunsOutInListing at status answers = status ≡ out_of_memory → (dis_all at answers).status ≡ 0
 

@@ -31,7 +31,7 @@ IsFound TooLong = ⊥
 IsFound NoMark = ⊥
 IsFound Unread = ⊥
 
--- memory runs out only where there is a head: that there is none is told without memory
+-- memory runs out only where there is a head: that there is none is reported without memory
 abbrev pub RunsOutBehindHead : ℕ → List Answer → Type 0
 RunsOutBehindHead status answers = status ≡ out_of_memory → IsFound (head answers)
 

@@ -42,7 +42,7 @@ input_of m0 = scan head_lines Ended [] m0.source.rest
 -- (`streams`). Whatever the schedule is, the items of its run with them are legal up to the first
 -- that is forged, with what a reader may take from that (`tells_reader`), and no step of it but a
 -- module's own reads or changes its private section (`guarded`). An input that keeps the rules is
--- run to its end (`complete`). That there is no head is told without memory (`headed`).
+-- run to its end (`complete`). That there is no head is reported without memory (`headed`).
 pub record RunsWith (mac : Mac) (tells to_tell : Bool) (m0 m1 : Moment) (status : ℕ) : Type 0 where
   pub deployment : Option (List ℕ)
   pub texts : List (List ℕ)

@@ -29,7 +29,7 @@ answers_from (suc more) i = Line (bulk.line i) ∷ answers_from more (i + 1)
 unfoldable pub workload : ℕ → List Answer
 workload n = answers_from (bulk.lines n) 0
 
--- what is told of a run that came to the end of its lines, or stopped at one that breaks a rule
+-- what is written of a run that came to the end of its lines, or stopped at one that breaks a rule
 abbrev pub told_at : ℕ → Acted → Stop → Output
 told_at n a AtEnd =
     record { text = summary (bulk.lines n) (counts a.items) a.world.steps; status = 0 }
@@ -42,7 +42,7 @@ gen_run n names set =
     let x = schedule names 1 (workload n) in
     told_at n (run set (switched_on set) x.lines) x.stop
 
--- the images, and what is told of the run
+-- the images, and what is written of the run
 abbrev pub gen_deployed : Mac → List (List ℕ) → ℕ → Deployed → Output
 gen_deployed mac texts n d =
     behind (images_text d.names.modules texts) (gen_run n d.names (setting_of mac d texts))

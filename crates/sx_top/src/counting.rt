@@ -84,7 +84,7 @@ fn turn<B: Bus, T: Tag>(
     }
 }
 
-/// Runs the workload that carries this many samples, in a world where all was just switched on, and
+/// Runs the workload that carries `samples` samples, in a world where all was just switched on, and
 /// counts the items.
 pub(crate) fn run_workload<B: Bus, T: Tag>(
     alloc: Global,
