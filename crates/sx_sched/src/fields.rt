@@ -140,8 +140,8 @@ fn are_bytes(most: usize, word: &[u8]) -> bool
     are_hex_digits(word) && word.len() % 2 == 0 && is_between(1, most, word.len() / 2)
 }
 
-/// The bytes that a hexadecimal text writes, 1 to `most` of them; the error is rule 6. No memory is
-/// asked for where it is none.
+/// The bytes that a hexadecimal text writes, 1 to `most` of them; the error is rule 6 or
+/// `OutOfMemory`. No memory is asked for where it is none.
 pub fn bytes_of(alloc: Global, most: usize, word: &[u8]) -> Result<Vec<u8>, LineError>
     ensures { Answers (λ v. v.items) AreSaid (bytes_of most word.now) result }
 {
