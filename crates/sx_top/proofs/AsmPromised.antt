@@ -1,15 +1,15 @@
 -- What follows for `asm` from what it wrote and read.
-use Rattle.std.proofs.Common.{◌≡◌, ◌∙◌, ◌⊎◌, inl, inr, ℕ, ◌+◌, Bool, List, [], ◌∷◌, ◌++◌, length, nat_lt, sym, arith}
+use Rattle.std.proofs.Common.{◌≡◌, ◌⊎◌, inl, inr, ℕ, ◌+◌, Bool, List, [], ◌∷◌, ◌++◌, length, nat_lt, arith}
 use Rattle.std.specs.Prelude.{IsTrue, Result, Ok, Err}
 use Rattle.sx_io.specs.Reading.{Answer, Line, End, Long, Fault, Ended, scan}
 use Rattle.sx_told.specs.Reads.{anything}
 use Rattle.sx_told.specs.Told.{Output, Moment, Told, out_of_memory}
-use Rattle.sx_told.proofs.Laws.{told-quiet, told-fault, told-write-fault, told-no-write-fault}
+use Rattle.sx_told.proofs.Laws.{told-quiet}
 use Rattle.sx_told.proofs.Endings.{pick, Faultless, faultless}
 use Rattle.sx_asm.specs.declared.error.AsmError.{AsmError}
 use Rattle.sx_asm.specs.declared.error.AsmError.TheVariants as error
 use Rattle.sx_top.specs.Assembling.{Gathered, Input, Whole, Unread, broken_at, with_line, asm_lines, most_bytes, gather, input, code_at, refused, told_code, asm_input, asm_all, AsmTold}
-use Rattle.sx_top.specs.Faults.{CameToItsEnd, TellsFaults}
+use Rattle.sx_top.proofs.Said.{came, faults_of}
 
 -- ---- statuses
 
@@ -40,25 +40,10 @@ asm_not_four at answers u e = gather_not_four at 1 0 _ answers u e
 
 -- ---- the promise
 
-asm_faults : {tells to_tell : Bool} {m0 m1 : Moment} {status : ℕ} {also : List Answer → Type 0} (at : ℕ)
-    → Told tells to_tell asm_lines m0 m1 status (asm_all at) also → TellsFaults m0 m1 status
-asm_faults at told = record {
-  read = λ four.
-      told-fault told (λ five. omega (arith, four, five)) (λ six. omega (arith, four, six))
-      (λ bytes e. asm_not_four at (scan asm_lines Ended [] bytes) (faultless asm_lines [] bytes) (sym e ∙ four));
-  write = λ five. told-write-fault told five;
-  no_write = λ other. told-no-write-fault told other;
-}
-
 -- what was told of an input of which nothing failed
 abbrev Quiet : Bool → Moment → Moment → ℕ → Output → Type 0
 Quiet to_tell m0 m1 status o =
     (status ≡ out_of_memory) ⊎ ((status ≡ o.status) × (IsTrue to_tell → m1.sink.written ≡ m0.sink.written ++ o.text))
-
-came : (to_tell : Bool) (m0 m1 : Moment) (status : ℕ) (o : Output) → Quiet to_tell m0 m1 status o → o.status ≡ 0
-    → CameToItsEnd to_tell m0 m1 status o
-came to_tell m0 m1 status o (inl six) zero = inl six
-came to_tell m0 m1 status o (inr all) zero = inr (all.0 ∙ zero, all.1)
 
 exactly : (to_tell : Bool) (m0 m1 : Moment) (status : ℕ) (o : Output) → Quiet to_tell m0 m1 status o
     → (status ≡ out_of_memory) ⊎ (status ≡ o.status)
@@ -70,7 +55,7 @@ pub asm_promise : {tells to_tell : Bool} {m0 m1 : Moment} {status : ℕ} (at : �
 asm_promise {tells} {to_tell} {m0} {m1} {status} at told =
     let o = asm_all at (scan asm_lines Ended [] m0.source.rest) in record {
       told = told;
-      faults = asm_faults at told;
+      faults = faults_of (λ bytes e. asm_not_four at (scan asm_lines Ended [] bytes) (faultless asm_lines [] bytes) e) told;
       complete = λ t zero quiet. came to_tell m0 m1 status o (told-quiet told t quiet.0 quiet.1) zero;
       exact = λ t quiet. exactly to_tell m0 m1 status o (told-quiet told t quiet.0 quiet.1);
     }
