@@ -19,11 +19,15 @@ pub struct Owners<'a> {
 }
 
 impl<'a> Model for Owners<'a> {
+    ghost use Rattle.std.specs.Coded.{coded_list};
     ghost use Rattle.std.specs.Prelude.{List, map};
     ghost use Rattle.sx_trace.specs.Index.{IsIndex};
+    ghost use Rattle.sx_deploy.specs.contracts.checks.CheckedModule.{the_row};
     ghost use Rattle.sx_deploy.specs.declared.checks.CheckedModule.{CheckedModule};
 
     ghost Value = { List CheckedModule };
+
+    ghost coded = { coded_list the_row.coded };
 
     ghost view = { λ o. o.modules.now };
 
