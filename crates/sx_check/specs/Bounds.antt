@@ -62,20 +62,28 @@ abbrev mutual
 abbrev pub is_miscounted : ℕ → Bool
 is_miscounted n = not (nat_le 1 n) || not (nat_le n 256)
 
--- how often it can send: the greater branch of an `if`, and a `repeat`'s block this many times
+-- how often it can send, where each send counts as its output does: the greater branch of an `if`,
+-- and a `repeat`'s block this many times
 abbrev mutual
-  pub statement_sends : Statement → ℕ
-  statement_sends (Defines x e) = 0
-  statement_sends (Assigns x e) = 0
-  statement_sends (Stores x i e) = 0
-  statement_sends (Chooses e a b) = max (block_sends a) (block_sends b)
-  statement_sends (Repeats n a) = n * block_sends a
-  statement_sends (Sends x e) = 1
-  statement_sends (Emits e) = 0
+  pub statement_sends_by : (List ℕ → ℕ) → Statement → ℕ
+  statement_sends_by count (Defines x e) = 0
+  statement_sends_by count (Assigns x e) = 0
+  statement_sends_by count (Stores x i e) = 0
+  statement_sends_by count (Chooses e a b) = max (block_sends_by count a) (block_sends_by count b)
+  statement_sends_by count (Repeats n a) = n * block_sends_by count a
+  statement_sends_by count (Sends x e) = count x
+  statement_sends_by count (Emits e) = 0
 
-  pub block_sends : Block → ℕ
-  block_sends Done = 0
-  block_sends (Then s b) = statement_sends s + block_sends b
+  pub block_sends_by : (List ℕ → ℕ) → Block → ℕ
+  block_sends_by count Done = 0
+  block_sends_by count (Then s b) = statement_sends_by count s + block_sends_by count b
+
+-- how often it can send
+abbrev pub statement_sends : Statement → ℕ
+statement_sends s = statement_sends_by (λ x. 1) s
+
+abbrev pub block_sends : Block → ℕ
+block_sends b = block_sends_by (λ x. 1) b
 
 -- an `emit` stands in it
 abbrev mutual

@@ -1,12 +1,12 @@
 -- When modules make an application.
-use Rattle.std.specs.Prelude.{ℕ, ◌+◌, ◌-◌, ◌*◌, if◌then◌else◌, Bool, true, false, ◌||◌, ◌&&◌, not, List, [], ◌∷◌, Option, Some, None, ◌==◌, nat_lt, count_by, length, max}
+use Rattle.std.specs.Prelude.{ℕ, ◌+◌, ◌-◌, if◌then◌else◌, Bool, true, false, ◌||◌, ◌&&◌, not, List, [], ◌∷◌, Option, Some, None, ◌==◌, nat_lt, count_by, length}
 use Rattle.std.specs.List.{list_any}
 use Rattle.sx_lang.specs.declared.tree.Decl.{Decl}
 use Rattle.sx_lang.specs.declared.tree.Decl.TheVariants.{Device, Input, Output, Var, Array}
 use Rattle.sx_lang.specs.declared.tree.DeviceKind.{DeviceKind}
 use Rattle.sx_lang.specs.declared.tree.DeviceKind.TheVariants.{Sensor, Actuator}
-use Rattle.sx_lang.specs.Tree.{Statement, Defines, Assigns, Stores, Chooses, Repeats, Sends, Emits, Block, Done, Then, ModuleTree}
-use Rattle.sx_check.specs.Bounds.{is_input, is_output}
+use Rattle.sx_lang.specs.Tree.{Block, ModuleTree, Statement}
+use Rattle.sx_check.specs.Bounds.{block_sends_by, is_input, is_output, statement_sends_by}
 use Rattle.sx_mean.specs.declared.apps.AppDevice.{AppDevice}
 use Rattle.sx_mean.specs.declared.apps.Link.{Link}
 use Rattle.sx_mean.specs.Places.{output_number}
@@ -58,21 +58,12 @@ same_device None d = false
 same_device (Some a) None = false
 same_device (Some a) (Some b) = a == b
 
--- how many packets a handler makes at most: each send counts once for each connection from its
--- output
-abbrev mutual
-  pub statement_packets : (ℕ → ℕ) → List Decl → Statement → ℕ
-  statement_packets links ds (Defines x e) = 0
-  statement_packets links ds (Assigns x e) = 0
-  statement_packets links ds (Stores x i e) = 0
-  statement_packets links ds (Chooses e a b) = max (block_packets links ds a) (block_packets links ds b)
-  statement_packets links ds (Repeats n a) = n * block_packets links ds a
-  statement_packets links ds (Sends x e) = links (output_number ds x)
-  statement_packets links ds (Emits e) = 0
+-- how many packets it makes at most: each send counts once for each connection from its output
+abbrev pub statement_packets : (ℕ → ℕ) → List Decl → Statement → ℕ
+statement_packets links ds s = statement_sends_by (λ x. links (output_number ds x)) s
 
-  pub block_packets : (ℕ → ℕ) → List Decl → Block → ℕ
-  block_packets links ds Done = 0
-  block_packets links ds (Then s b) = statement_packets links ds s + block_packets links ds b
+abbrev pub block_packets : (ℕ → ℕ) → List Decl → Block → ℕ
+block_packets links ds b = block_sends_by (λ x. links (output_number ds x)) b
 
 -- a connection comes from this output of a part
 abbrev pub leaves : ℕ → ℕ → Link → Bool
