@@ -98,8 +98,7 @@ pub fn tokens_of(alloc: Global, text: &[u8]) -> Result<Tokens, AllocError>
         if is_comment(rest) {
             let count = line_end(rest);
             place = place.along(count);
-            let (_, after) = rest.split_at(count);
-            rest = after;
+            rest = rest.split_at(count).1;
             continue;
         }
         let Some(word) = word_at(rest) else {
@@ -114,8 +113,7 @@ pub fn tokens_of(alloc: Global, text: &[u8]) -> Result<Tokens, AllocError>
             place,
         })?;
         place = place.along(word.count);
-        let (_, after) = rest.split_at(word.count);
-        rest = after;
+        rest = rest.split_at(word.count).1;
     }
     Ok(Tokens { list, end: place })
 }
