@@ -7,23 +7,24 @@ use Rattle.sx_lex.specs.declared.tokens.Kind.TheVariants.{Sensor, Actuator, Inpu
 use Rattle.sx_lex.specs.declared.tokens.Placed.{Placed}
 use Rattle.sx_grammar.specs.Machine.{Symbol, Value, Sign, Want, Say, A_semicolon, An_open_square, A_close_square, A_name, After, After_input, After_output, After_var, After_array, A_number, For_initial, For_length, Initial_of, Do_declare, Declarations, Handlers, follow, act, read, step, Outcome, Refused, begun, nothing}
 use Rattle.sx_grammar.specs.Machine as machine
+use Rattle.sx_parse.specs.Wanted.{declarations_wanted, end_wanted, length_wanted}
 use Rattle.sx_parse.specs.Reading.{Stops, Takes, Named, Numbered, done}
 use Rattle.sx_parse.specs.Declaring.{Declares, Passes, Declared, Answers, holding}
 use Rattle.sx_parse.proofs.Expressions.{said, none_left}
 
-pub ended : (ts r : List Placed) (ds us : List Decl) (d : Decl) → Takes A_semicolon ts r → us ≡ ds ++ d ∷ [] → Declares (λ st. Want A_semicolon ∷ Say (Do_declare d) ∷ st) ds ts us done r
+pub ended : (ts r : List Placed) (ds us : List Decl) (d : Decl) → Takes A_semicolon ts r → us ≡ ds ++ d ∷ [] → Declares (end_wanted d) ds ts us done r
 ended ts r ds us d s e = rw e (record { declares = λ st. s.takes (Say (Do_declare d) ∷ st) (holding ds []) ∙ said (Do_declare d) st (holding ds []) r })
 
 pub initial_none : (x : List ℕ) (ts a : List Placed) (f : Placed) (ds us : List Decl) → ts ≡ f ∷ a → f.kind ≡ Semicolon → us ≡ ds ++ Decl.Var x 0 ∷ [] → Declares (λ st. Initial_of x ∷ st) ds ts us done a
 initial_none x ts a f ds us h k e = rw e (record { declares = λ st. rw (h, k) refl })
 
-pub initial_number : (x : List ℕ) (n : ℕ) (ts a b r : List Placed) (f : Placed) (ds us : List Decl) → ts ≡ f ∷ a → f.kind ≡ Equals → Numbered a n b → Declares (λ st. Want A_semicolon ∷ Say (Do_declare (Decl.Var x n)) ∷ st) ds b us done r → Declares (λ st. Initial_of x ∷ st) ds ts us done r
+pub initial_number : (x : List ℕ) (n : ℕ) (ts a b r : List Placed) (f : Placed) (ds us : List Decl) → ts ≡ f ∷ a → f.kind ≡ Equals → Numbered a n b → Declares (end_wanted (Decl.Var x n)) ds b us done r → Declares (λ st. Initial_of x ∷ st) ds ts us done r
 initial_number x n ts a b r f ds us h k p q = record { declares = λ st. rw (h, k) (p.numbered (For_initial x) st (holding ds []) ∙ q.declares st) }
 
-pub initial_breaks : (x : List ℕ) (n : ℕ) (ts a b : List Placed) (f : Placed) (t : Option Placed) → ts ≡ f ∷ a → f.kind ≡ Equals → Numbered a n b → Stops (λ st. Want A_semicolon ∷ Say (Do_declare (Decl.Var x n)) ∷ st) 0 b t → Stops (λ st. Initial_of x ∷ st) 0 ts t
+pub initial_breaks : (x : List ℕ) (n : ℕ) (ts a b : List Placed) (f : Placed) (t : Option Placed) → ts ≡ f ∷ a → f.kind ≡ Equals → Numbered a n b → Stops (end_wanted (Decl.Var x n)) 0 b t → Stops (λ st. Initial_of x ∷ st) 0 ts t
 initial_breaks x n ts a b f t h k p q = record { stops = λ st vs o. rw (h, k) (p.numbered (For_initial x) st vs ∙ q.stops st vs o) }
 
-pub array : (x : List ℕ) (n : ℕ) (ts a b c r : List Placed) (ds us : List Decl) → Takes An_open_square ts a → Numbered a n b → Takes A_close_square b c → Declares (λ st. Want A_semicolon ∷ Say (Do_declare (Decl.Array x n)) ∷ st) ds c us done r → Declares (λ st. Want An_open_square ∷ A_number (For_length x) ∷ st) ds ts us done r
+pub array : (x : List ℕ) (n : ℕ) (ts a b c r : List Placed) (ds us : List Decl) → Takes An_open_square ts a → Numbered a n b → Takes A_close_square b c → Declares (end_wanted (Decl.Array x n)) ds c us done r → Declares (length_wanted x) ds ts us done r
 array x n ts a b c r ds us p q s v = record {
   declares = λ st.
       p.takes (A_number (For_length x) ∷ st) (holding ds [])
@@ -32,7 +33,7 @@ array x n ts a b c r ds us p q s v = record {
       ∙ v.declares st;
 }
 
-pub array_breaks : (x : List ℕ) (n : ℕ) (ts a b c : List Placed) (t : Option Placed) → Takes An_open_square ts a → Numbered a n b → Takes A_close_square b c → Stops (λ st. Want A_semicolon ∷ Say (Do_declare (Decl.Array x n)) ∷ st) 0 c t → Stops (λ st. Want An_open_square ∷ A_number (For_length x) ∷ st) 0 ts t
+pub array_breaks : (x : List ℕ) (n : ℕ) (ts a b c : List Placed) (t : Option Placed) → Takes An_open_square ts a → Numbered a n b → Takes A_close_square b c → Stops (end_wanted (Decl.Array x n)) 0 c t → Stops (length_wanted x) 0 ts t
 array_breaks x n ts a b c t p q s v = record {
   stops = λ st vs o.
       p.takes (A_number (For_length x) ∷ st) vs
@@ -41,22 +42,22 @@ array_breaks x n ts a b c t p q s v = record {
       ∙ v.stops st vs o;
 }
 
-pub sensor : (ts a r : List Placed) (f : Placed) (ds us : List Decl) → ts ≡ f ∷ a → f.kind ≡ Sensor → Declares (λ st. Want A_semicolon ∷ Say (Do_declare (Decl.Device DeviceKind.Sensor)) ∷ st) ds a us done r → Declares (λ st. Declarations ∷ st) ds ts us (λ st. Declarations ∷ st) r
+pub sensor : (ts a r : List Placed) (f : Placed) (ds us : List Decl) → ts ≡ f ∷ a → f.kind ≡ Sensor → Declares (end_wanted (Decl.Device DeviceKind.Sensor)) ds a us done r → Declares declarations_wanted ds ts us declarations_wanted r
 sensor ts a r f ds us h k q = record { declares = λ st. rw (h, k) (q.declares (Declarations ∷ st)) }
 
-pub actuator : (ts a r : List Placed) (f : Placed) (ds us : List Decl) → ts ≡ f ∷ a → f.kind ≡ Actuator → Declares (λ st. Want A_semicolon ∷ Say (Do_declare (Decl.Device DeviceKind.Actuator)) ∷ st) ds a us done r → Declares (λ st. Declarations ∷ st) ds ts us (λ st. Declarations ∷ st) r
+pub actuator : (ts a r : List Placed) (f : Placed) (ds us : List Decl) → ts ≡ f ∷ a → f.kind ≡ Actuator → Declares (end_wanted (Decl.Device DeviceKind.Actuator)) ds a us done r → Declares declarations_wanted ds ts us declarations_wanted r
 actuator ts a r f ds us h k q = record { declares = λ st. rw (h, k) (q.declares (Declarations ∷ st)) }
 
-pub input : (x : List ℕ) (ts a b r : List Placed) (f : Placed) (ds us : List Decl) → ts ≡ f ∷ a → f.kind ≡ Input → Named a x b → Declares (λ st. Want A_semicolon ∷ Say (Do_declare (Decl.Input x)) ∷ st) ds b us done r → Declares (λ st. Declarations ∷ st) ds ts us (λ st. Declarations ∷ st) r
+pub input : (x : List ℕ) (ts a b r : List Placed) (f : Placed) (ds us : List Decl) → ts ≡ f ∷ a → f.kind ≡ Input → Named a x b → Declares (end_wanted (Decl.Input x)) ds b us done r → Declares declarations_wanted ds ts us declarations_wanted r
 input x ts a b r f ds us h k p q = record { declares = λ st. rw (h, k) (p.named After_input (Declarations ∷ st) (holding ds []) ∙ q.declares (Declarations ∷ st)) }
 
-pub output : (x : List ℕ) (ts a b r : List Placed) (f : Placed) (ds us : List Decl) → ts ≡ f ∷ a → f.kind ≡ Output → Named a x b → Declares (λ st. Want A_semicolon ∷ Say (Do_declare (Decl.Output x)) ∷ st) ds b us done r → Declares (λ st. Declarations ∷ st) ds ts us (λ st. Declarations ∷ st) r
+pub output : (x : List ℕ) (ts a b r : List Placed) (f : Placed) (ds us : List Decl) → ts ≡ f ∷ a → f.kind ≡ Output → Named a x b → Declares (end_wanted (Decl.Output x)) ds b us done r → Declares declarations_wanted ds ts us declarations_wanted r
 output x ts a b r f ds us h k p q = record { declares = λ st. rw (h, k) (p.named After_output (Declarations ∷ st) (holding ds []) ∙ q.declares (Declarations ∷ st)) }
 
-pub variable : (x : List ℕ) (ts a b r : List Placed) (f : Placed) (ds us : List Decl) → ts ≡ f ∷ a → f.kind ≡ Var → Named a x b → Declares (λ st. Initial_of x ∷ st) ds b us done r → Declares (λ st. Declarations ∷ st) ds ts us (λ st. Declarations ∷ st) r
+pub variable : (x : List ℕ) (ts a b r : List Placed) (f : Placed) (ds us : List Decl) → ts ≡ f ∷ a → f.kind ≡ Var → Named a x b → Declares (λ st. Initial_of x ∷ st) ds b us done r → Declares declarations_wanted ds ts us declarations_wanted r
 variable x ts a b r f ds us h k p q = record { declares = λ st. rw (h, k) (p.named After_var (Declarations ∷ st) (holding ds []) ∙ q.declares (Declarations ∷ st)) }
 
-pub array_word : (x : List ℕ) (ts a b r : List Placed) (f : Placed) (ds us : List Decl) → ts ≡ f ∷ a → f.kind ≡ Array → Named a x b → Declares (λ st. Want An_open_square ∷ A_number (For_length x) ∷ st) ds b us done r → Declares (λ st. Declarations ∷ st) ds ts us (λ st. Declarations ∷ st) r
+pub array_word : (x : List ℕ) (ts a b r : List Placed) (f : Placed) (ds us : List Decl) → ts ≡ f ∷ a → f.kind ≡ Array → Named a x b → Declares (length_wanted x) ds b us done r → Declares declarations_wanted ds ts us declarations_wanted r
 array_word x ts a b r f ds us h k p q = record { declares = λ st. rw (h, k) (p.named After_array (Declarations ∷ st) (holding ds []) ∙ q.declares (Declarations ∷ st)) }
 
 passed : (k : Kind) (st : List Symbol) (vs : List Value) → (k ≡ Sensor → ⊥) → (k ≡ Actuator → ⊥) → (k ≡ Input → ⊥) → (k ≡ Output → ⊥) → (k ≡ Var → ⊥) → (k ≡ Array → ⊥) → machine.declarations st vs k ≡ machine.handlers st vs k
@@ -77,11 +78,11 @@ passes_end ts ds us h e = record { passes = λ st vs. rw (none_left ts h) refl; 
 pub begins : (ts : List Placed) (ds : List Decl) → ds ≡ [] → Declared ts ds Declarations ts
 begins ts ds e = rw e (record { declared = refl })
 
-pub goes_on : (ts a r : List Placed) (ds us : List Decl) → Declared ts ds Declarations a → Declares (λ st. Declarations ∷ st) ds a us (λ st. Declarations ∷ st) r → Declared ts us Declarations r
+pub goes_on : (ts a r : List Placed) (ds us : List Decl) → Declared ts ds Declarations a → Declares declarations_wanted ds a us declarations_wanted r → Declared ts us Declarations r
 goes_on ts a r ds us p q = record { declared = p.declared ∙ q.declares [] }
 
 pub ends : (ts a : List Placed) (ds us : List Decl) → Declared ts ds Declarations a → Passes ds a us → Declared ts us Handlers a
 ends ts a ds us p q = rw q.same (record { declared = p.declared ∙ q.passes [] (holding ds []) })
 
-pub breaks : (ts a : List Placed) (ds : List Decl) (t : Option Placed) → Declared ts ds Declarations a → Stops (λ st. Declarations ∷ st) 0 a t → Answers ts (Refused t)
+pub breaks : (ts a : List Placed) (ds : List Decl) (t : Option Placed) → Declared ts ds Declarations a → Stops declarations_wanted 0 a t → Answers ts (Refused t)
 breaks ts a ds t p q = record { answers = p.declared ∙ q.stops [] (holding ds []) refl }

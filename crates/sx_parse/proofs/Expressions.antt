@@ -8,6 +8,7 @@ use Rattle.sx_lex.specs.declared.tokens.Kind.TheVariants.{Minus, Tilde, Bang, Op
 use Rattle.sx_lex.specs.declared.tokens.Placed.{Placed}
 use Rattle.sx_grammar.specs.Tokens.{unary_operator, factor_operator, addend_operator, comparison_operator}
 use Rattle.sx_grammar.specs.Machine.{Act, Do_index, Do_combine, Symbol, Value, Of_expression, Want, Say, Operand, Factors, Addends, Comparison, Index_of, An_expression, Unary_of, A_close_square, A_semicolon, opens, read, apply, act}
+use Rattle.sx_parse.specs.Wanted.{sum_wanted, value_wanted}
 use Rattle.sx_parse.specs.Reading.{Reads, Stops, Takes, Misses, done}
 
 pub said : (a : Act) (st : List Symbol) (vs : List Value) (r : List Placed) → read (Say a ∷ st) vs r ≡ read st (act a vs) r
@@ -29,21 +30,21 @@ pub none_left : {A : Type 0} (r : List A) → length r ≡ 0 → r ≡ []
 none_left [] h = refl
 none_left (x ∷ r) h = absurd (omega (arith, h))
 
-pub expression_stops : (d : ℕ) (ts : List Placed) (t : Option Placed) → Stops (λ st. Operand ∷ Factors 0 ∷ Addends 0 ∷ st) d ts t → Stops (λ st. An_expression ∷ st) d ts t
+pub expression_stops : (d : ℕ) (ts : List Placed) (t : Option Placed) → Stops sum_wanted d ts t → Stops (λ st. An_expression ∷ st) d ts t
 expression_stops d ts t s = record { stops = λ st vs o. expression_is st vs ts ∙ s.stops (Comparison ∷ st) vs o }
 
-pub expression_ends : (d : ℕ) (ts r : List Placed) (v : Value) → Reads (λ st. Operand ∷ Factors 0 ∷ Addends 0 ∷ st) d ts v done r → length r ≡ 0 → Reads (λ st. An_expression ∷ st) d ts v done r
+pub expression_ends : (d : ℕ) (ts r : List Placed) (v : Value) → Reads sum_wanted d ts v done r → length r ≡ 0 → Reads (λ st. An_expression ∷ st) d ts v done r
 expression_ends d ts r v s h = record { reads = λ st vs o. expression_is st vs ts ∙ s.reads (Comparison ∷ st) vs o ∙ rw (none_left r h) refl }
 
-pub expression_alone : (d : ℕ) (ts r a : List Placed) (f : Placed) (v : Value) → Reads (λ st. Operand ∷ Factors 0 ∷ Addends 0 ∷ st) d ts v done r → r ≡ f ∷ a → comparison_operator f.kind ≡ None → Reads (λ st. An_expression ∷ st) d ts v done r
+pub expression_alone : (d : ℕ) (ts r a : List Placed) (f : Placed) (v : Value) → Reads sum_wanted d ts v done r → r ≡ f ∷ a → comparison_operator f.kind ≡ None → Reads (λ st. An_expression ∷ st) d ts v done r
 expression_alone d ts r a f v s h n = record { reads = λ st vs o. expression_is st vs ts ∙ s.reads (Comparison ∷ st) vs o ∙ rw (h, n) refl }
 
-pub expression_compares : (d : ℕ) (ts r a m : List Placed) (f : Placed) (op : BinOp) (x y z : Expression) → Reads (λ st. Operand ∷ Factors 0 ∷ Addends 0 ∷ st) d ts (Of_expression x) done r → r ≡ f ∷ a → comparison_operator f.kind ≡ Some op
-    → Reads (λ st. Operand ∷ Factors 0 ∷ Addends 0 ∷ st) d a (Of_expression y) done m → z ≡ Combined op x y → Reads (λ st. An_expression ∷ st) d ts (Of_expression z) done m
+pub expression_compares : (d : ℕ) (ts r a m : List Placed) (f : Placed) (op : BinOp) (x y z : Expression) → Reads sum_wanted d ts (Of_expression x) done r → r ≡ f ∷ a → comparison_operator f.kind ≡ Some op
+    → Reads sum_wanted d a (Of_expression y) done m → z ≡ Combined op x y → Reads (λ st. An_expression ∷ st) d ts (Of_expression z) done m
 expression_compares d ts r a m f op x y z s h n q same = rw same (record { reads = λ st vs o. expression_is st vs ts ∙ s.reads (Comparison ∷ st) vs o ∙ rw (h, n) (q.reads (Say (Do_combine op) ∷ st) (Of_expression x ∷ vs) o ∙ said (Do_combine op) st (Of_expression y ∷ Of_expression x ∷ vs) m) })
 
-pub expression_breaks : (d : ℕ) (ts r a : List Placed) (f : Placed) (op : BinOp) (v : Value) (t : Option Placed) → Reads (λ st. Operand ∷ Factors 0 ∷ Addends 0 ∷ st) d ts v done r → r ≡ f ∷ a → comparison_operator f.kind ≡ Some op
-    → Stops (λ st. Operand ∷ Factors 0 ∷ Addends 0 ∷ st) d a t → Stops (λ st. An_expression ∷ st) d ts t
+pub expression_breaks : (d : ℕ) (ts r a : List Placed) (f : Placed) (op : BinOp) (v : Value) (t : Option Placed) → Reads sum_wanted d ts v done r → r ≡ f ∷ a → comparison_operator f.kind ≡ Some op
+    → Stops sum_wanted d a t → Stops (λ st. An_expression ∷ st) d ts t
 expression_breaks d ts r a f op v t s h n q = record { stops = λ st vs o. expression_is st vs ts ∙ s.reads (Comparison ∷ st) vs o ∙ rw (h, n) (q.stops (Say (Do_combine op) ∷ st) (v ∷ vs) o) }
 
 pub name_indexed : (d : ℕ) (x : List ℕ) (ts a r m : List Placed) (f : Placed) (e z : Expression) → ts ≡ f ∷ a → f.kind ≡ OpenSquare → d < 48 → Reads (λ st. An_expression ∷ st) (d + 1) a (Of_expression e) done r → Takes A_close_square r m → z ≡ Indexed x e
@@ -72,8 +73,8 @@ one_factor d n ts r a m f op x y z s h u l q same = rw same (record {
       s.reads st vs o ∙ rw (h, u, g) (q.reads (Say (Do_combine op) ∷ Factors (n + 1) ∷ st) (Of_expression x ∷ vs) o ∙ said (Do_combine op) (Factors (n + 1) ∷ st) (Of_expression y ∷ Of_expression x ∷ vs) m));
 })
 
-pub one_addend : (d n : ℕ) (ts r a m : List Placed) (f : Placed) (op : BinOp) (x y z : Expression) → Reads (λ st. Operand ∷ Factors 0 ∷ Addends 0 ∷ st) d ts (Of_expression x) (λ st. Addends n ∷ st) r → r ≡ f ∷ a → addend_operator f.kind ≡ Some op → n < 48
-    → Reads (λ st. Operand ∷ Factors 0 ∷ st) d a (Of_expression y) done m → z ≡ Combined op x y → Reads (λ st. Operand ∷ Factors 0 ∷ Addends 0 ∷ st) d ts (Of_expression z) (λ st. Addends (n + 1) ∷ st) m
+pub one_addend : (d n : ℕ) (ts r a m : List Placed) (f : Placed) (op : BinOp) (x y z : Expression) → Reads sum_wanted d ts (Of_expression x) (λ st. Addends n ∷ st) r → r ≡ f ∷ a → addend_operator f.kind ≡ Some op → n < 48
+    → Reads (λ st. Operand ∷ Factors 0 ∷ st) d a (Of_expression y) done m → z ≡ Combined op x y → Reads sum_wanted d ts (Of_expression z) (λ st. Addends (n + 1) ∷ st) m
 one_addend d n ts r a m f op x y z s h u l q same = rw same (record {
   reads = λ st vs o. (let g : nat_lt n 48 ≡ true = room n l in
       s.reads st vs o ∙ rw (h, u, g) (q.reads (Say (Do_combine op) ∷ Addends (n + 1) ∷ st) (Of_expression x ∷ vs) o ∙ said (Do_combine op) (Addends (n + 1) ∷ st) (Of_expression y ∷ Of_expression x ∷ vs) m));
@@ -82,8 +83,8 @@ one_addend d n ts r a m f op x y z s h u l q same = rw same (record {
 pub shorter_by : (n : ℕ) (r a m : List Placed) (f : Placed) → length r < n → r ≡ f ∷ a → length m < length a → length m < n
 shorter_by n r a m f h e l = let g : length r ≡ length (f ∷ a) = ap length e in omega (arith, g)
 
-pub value_ends : (d : ℕ) (ts r m : List Placed) (v : Value) → Reads (λ st. An_expression ∷ st) d ts v done r → Takes A_semicolon r m → Reads (λ st. An_expression ∷ Want A_semicolon ∷ st) d ts v done m
+pub value_ends : (d : ℕ) (ts r m : List Placed) (v : Value) → Reads (λ st. An_expression ∷ st) d ts v done r → Takes A_semicolon r m → Reads value_wanted d ts v done m
 value_ends d ts r m v s c = record { reads = λ st vs o. s.reads (Want A_semicolon ∷ st) vs o ∙ c.takes st (v ∷ vs) }
 
-pub value_breaks : (d : ℕ) (ts r : List Placed) (v : Value) (t : Option Placed) → Reads (λ st. An_expression ∷ st) d ts v done r → Misses A_semicolon r t → Stops (λ st. An_expression ∷ Want A_semicolon ∷ st) d ts t
+pub value_breaks : (d : ℕ) (ts r : List Placed) (v : Value) (t : Option Placed) → Reads (λ st. An_expression ∷ st) d ts v done r → Misses A_semicolon r t → Stops value_wanted d ts t
 value_breaks d ts r v t s c = record { stops = λ st vs o. s.reads (Want A_semicolon ∷ st) vs o ∙ c.misses st (v ∷ vs) }

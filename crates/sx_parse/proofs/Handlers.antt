@@ -1,5 +1,5 @@
 -- What one turn of reading the handlers does to the machine.
-use Rattle.std.proofs.Common.{◌≡◌, ℕ, List, [], ◌∷◌, ◌++◌, Option, Some, None, refl, ap, ◌∙◌}
+use Rattle.std.proofs.Common.{◌≡◌, ℕ, List, [], ◌∷◌, ◌++◌, Option, Some, None, length, refl, ap, ◌∙◌}
 use Rattle.std.specs.Prelude.{map}
 use Rattle.sx_lang.specs.Tree.{Block, HandlerTree}
 use Rattle.sx_lang.specs.View.{handler_of}
@@ -7,16 +7,17 @@ use Rattle.sx_lang.specs.declared.tree.Handler.{Handler}
 use Rattle.sx_lex.specs.declared.tokens.Kind.TheVariants.{On, Sample}
 use Rattle.sx_lex.specs.declared.tokens.Placed.{Placed}
 use Rattle.sx_grammar.specs.Machine.{Of_block, Want, Say, An_open, A_close, A_block, A_name, After_on, After_open, Do_handle, Handlers}
+use Rattle.sx_parse.specs.Wanted.{handlers_wanted, parameter_wanted}
 use Rattle.sx_parse.specs.Reading.{Reads, Stops, Takes, Named, done}
-use Rattle.sx_parse.specs.Declaring.{Handles, Ends, Breaks, holding}
-use Rattle.sx_parse.proofs.Expressions.{said}
+use Rattle.sx_parse.specs.Declaring.{Handles, NoHandler, Ends, Breaks, holding}
+use Rattle.sx_parse.proofs.Expressions.{said, none_left}
 
 map-push : (hs : List Handler) (h : Handler) → map handler_of (hs ++ h ∷ []) ≡ map handler_of hs ++ handler_of h ∷ []
 map-push [] h = refl
 map-push (g ∷ hs) h = ap (λ l. handler_of g ∷ l) (map-push hs h)
 
 pub reads : (i : Option (List ℕ)) (v : List ℕ) (ts a b c r : List Placed) (body : Block) (hs gs : List Handler) (h : Handler) → Takes An_open ts a → Named a v b → Takes A_close b c → Reads (λ st. A_block ∷ st) 0 c (Of_block body) done r
-    → gs ≡ hs ++ h ∷ [] → handler_of h ≡ record { input = i; param = v; body = body } → Handles (λ st. Want An_open ∷ A_name (After_open i) ∷ st) (map handler_of hs) ts (map handler_of gs) r
+    → gs ≡ hs ++ h ∷ [] → handler_of h ≡ record { input = i; param = v; body = body } → Handles (parameter_wanted i) (map handler_of hs) ts (map handler_of gs) r
 reads i v ts a b c r body hs gs h p n q s e same = rw (e, map-push hs h, same) (record {
   handles = λ ds.
       p.takes (A_name (After_open i) ∷ Handlers ∷ []) (holding ds (map handler_of hs))
@@ -26,11 +27,14 @@ reads i v ts a b c r body hs gs h p n q s e same = rw (e, map-push hs h, same) (
       ∙ said (Do_handle i v) (Handlers ∷ []) (Of_block body ∷ holding ds (map handler_of hs)) r;
 })
 
-pub on_input : (x : List ℕ) (ts a b r : List Placed) (f : Placed) (hs gs : List HandlerTree) → ts ≡ f ∷ a → f.kind ≡ On → Named a x b → Handles (λ st. Want An_open ∷ A_name (After_open (Some x)) ∷ st) hs b gs r → Handles done hs ts gs r
+pub on_input : (x : List ℕ) (ts a b r : List Placed) (f : Placed) (hs gs : List HandlerTree) → ts ≡ f ∷ a → f.kind ≡ On → Named a x b → Handles (parameter_wanted (Some x)) hs b gs r → Handles done hs ts gs r
 on_input x ts a b r f hs gs h k n q = record { handles = λ ds. rw (h, k) (n.named After_on (Handlers ∷ []) (holding ds hs) ∙ q.handles ds) }
 
-pub on_sample : (ts a r : List Placed) (f : Placed) (hs gs : List HandlerTree) → ts ≡ f ∷ a → f.kind ≡ Sample → Handles (λ st. Want An_open ∷ A_name (After_open None) ∷ st) hs a gs r → Handles done hs ts gs r
+pub on_sample : (ts a r : List Placed) (f : Placed) (hs gs : List HandlerTree) → ts ≡ f ∷ a → f.kind ≡ Sample → Handles (parameter_wanted None) hs a gs r → Handles done hs ts gs r
 on_sample ts a r f hs gs h k q = record { handles = λ ds. rw (h, k) (q.handles ds) }
+
+pub no_handler : (ts : List Placed) (hs gs : List Handler) → length ts ≡ 0 → gs ≡ hs → NoHandler ts hs gs
+no_handler ts hs gs h e = record { none = none_left ts h; same = e }
 
 pub begins : (ts : List Placed) (hs : List Handler) → hs ≡ [] → Handles done [] ts (map handler_of hs) ts
 begins ts hs e = rw e (record { handles = λ ds. refl })
@@ -38,8 +42,8 @@ begins ts hs e = rw e (record { handles = λ ds. refl })
 pub goes_on : (ts a r : List Placed) (hs gs : List HandlerTree) → Handles done [] ts hs a → Handles done hs a gs r → Handles done [] ts gs r
 goes_on ts a r hs gs p q = record { handles = λ ds. p.handles ds ∙ q.handles ds }
 
-pub ends : (ts a : List Placed) (hs gs : List Handler) → Handles done [] ts (map handler_of hs) a → a ≡ [] → gs ≡ hs → Ends ts (map handler_of gs)
-ends ts a hs gs p e same = rw same (record { ends = λ ds. p.handles ds ∙ rw e refl })
+pub ends : (ts a : List Placed) (hs gs : List Handler) → Handles done [] ts (map handler_of hs) a → NoHandler a hs gs → Ends ts (map handler_of gs)
+ends ts a hs gs p q = rw q.same (record { ends = λ ds. p.handles ds ∙ rw q.none refl })
 
-pub breaks : (ts a : List Placed) (hs : List HandlerTree) (t : Option Placed) → Handles done [] ts hs a → Stops (λ st. Handlers ∷ st) 0 a t → Breaks ts t
+pub breaks : (ts a : List Placed) (hs : List HandlerTree) (t : Option Placed) → Handles done [] ts hs a → Stops handlers_wanted 0 a t → Breaks ts t
 breaks ts a hs t p q = record { breaks = λ ds. p.handles ds ∙ q.stops [] (holding ds hs) refl }

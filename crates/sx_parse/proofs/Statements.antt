@@ -6,11 +6,12 @@ use Rattle.sx_lang.specs.declared.tree.Stmt.{Stmt}
 use Rattle.sx_lex.specs.declared.tokens.Kind.TheVariants.{Equals, OpenSquare, Open, OpenBrace, Else, Emit}
 use Rattle.sx_lex.specs.declared.tokens.Placed.{Placed}
 use Rattle.sx_grammar.specs.Machine.{Do_define, Do_assign, Do_store, Do_choose, Do_repeat, Do_send, Do_emit, Symbol, Of_expression, Of_block, Want, Say, An_expression, A_semicolon, A_close, A_close_square, An_equals, A_block, Otherwise, Statements, A_name, After_let, After_send, A_number, For_repeat, Target_of, Argument_of, opens, read, snoc, is_else}
+use Rattle.sx_parse.specs.Wanted.{choice_wanted, element_wanted, value_wanted}
 use Rattle.sx_parse.specs.Reading.{Reads, Stops, Takes, Named, Numbered, done}
 use Rattle.sx_parse.specs.Adding.{Adds, Fails, Closes}
 use Rattle.sx_parse.proofs.Expressions.{said, room, none_left}
 
-pub defines : (d : ℕ) (x : List ℕ) (ts a b r : List Placed) (e : Expression) → Named ts x a → Takes An_equals a b → Reads (λ st. An_expression ∷ Want A_semicolon ∷ st) d b (Of_expression e) done r → Adds (λ st. A_name After_let ∷ st) d ts (Defines x e) r
+pub defines : (d : ℕ) (x : List ℕ) (ts a b r : List Placed) (e : Expression) → Named ts x a → Takes An_equals a b → Reads value_wanted d b (Of_expression e) done r → Adds (λ st. A_name After_let ∷ st) d ts (Defines x e) r
 defines d x ts a b r e n q v = record {
   adds = λ st vs front o.
       n.named After_let (Statements ∷ st) (Of_block front ∷ vs)
@@ -19,13 +20,10 @@ defines d x ts a b r e n q v = record {
       ∙ said (Do_define x) (Statements ∷ st) (Of_expression e ∷ Of_block front ∷ vs) r;
 }
 
-pub assigns : (d : ℕ) (x : List ℕ) (ts a r : List Placed) (f : Placed) (e : Expression) → ts ≡ f ∷ a → f.kind ≡ Equals → Reads (λ st. An_expression ∷ Want A_semicolon ∷ st) d a (Of_expression e) done r → Adds (λ st. Target_of x ∷ st) d ts (Assigns x e) r
+pub assigns : (d : ℕ) (x : List ℕ) (ts a r : List Placed) (f : Placed) (e : Expression) → ts ≡ f ∷ a → f.kind ≡ Equals → Reads value_wanted d a (Of_expression e) done r → Adds (λ st. Target_of x ∷ st) d ts (Assigns x e) r
 assigns d x ts a r f e h k v = record {
   adds = λ st vs front o. rw (h, k) (v.reads (Say (Do_assign x) ∷ Statements ∷ st) (Of_block front ∷ vs) o ∙ said (Do_assign x) (Statements ∷ st) (Of_expression e ∷ Of_block front ∷ vs) r);
 }
-
-abbrev pub element_wanted : List ℕ → List Symbol → List Symbol
-element_wanted x st = An_expression ∷ Want A_close_square ∷ Want An_equals ∷ An_expression ∷ Want A_semicolon ∷ Say (Do_store x) ∷ st
 
 pub assigns_element : (d : ℕ) (x : List ℕ) (ts a r : List Placed) (f : Placed) (s : Statement) → ts ≡ f ∷ a → f.kind ≡ OpenSquare → d < 48 → Adds (element_wanted x) d a s r → Adds (λ st. Target_of x ∷ st) d ts s r
 assigns_element d x ts a r f s h k l v = record {
@@ -37,7 +35,7 @@ fails_element d x ts a f t h k l v = record {
   fails = λ st vs o. (let g : nat_lt (opens st + 1) 48 ≡ true = ap (λ n. nat_lt n 48) o ∙ room d l in rw (h, k, g) (v.fails st vs o));
 }
 
-pub stores : (d : ℕ) (x : List ℕ) (ts a b c r : List Placed) (i e : Expression) → Reads (λ st. An_expression ∷ st) (d + 1) ts (Of_expression i) done a → Takes A_close_square a b → Takes An_equals b c → Reads (λ st. An_expression ∷ Want A_semicolon ∷ st) d c (Of_expression e) done r → Adds (element_wanted x) d ts (Stores x i e) r
+pub stores : (d : ℕ) (x : List ℕ) (ts a b c r : List Placed) (i e : Expression) → Reads (λ st. An_expression ∷ st) (d + 1) ts (Of_expression i) done a → Takes A_close_square a b → Takes An_equals b c → Reads value_wanted d c (Of_expression e) done r → Adds (element_wanted x) d ts (Stores x i e) r
 stores d x ts a b c r i e p q s v = record {
   adds = λ st vs front o.
       p.reads (Want A_close_square ∷ Want An_equals ∷ An_expression ∷ Want A_semicolon ∷ Say (Do_store x) ∷ Statements ∷ st) (Of_block front ∷ vs) (ap (λ n. n + 1) o)
@@ -63,13 +61,13 @@ argument d x ts a b c r f e h k l v p q = record {
       ∙ said (Do_send x) (Statements ∷ st) (Of_expression e ∷ Of_block front ∷ vs) r));
 }
 
-pub emits : (d : ℕ) (ts a r : List Placed) (f : Placed) (e : Expression) → ts ≡ f ∷ a → f.kind ≡ Emit → Reads (λ st. An_expression ∷ Want A_semicolon ∷ st) d a (Of_expression e) done r → Adds done d ts (Emits e) r
+pub emits : (d : ℕ) (ts a r : List Placed) (f : Placed) (e : Expression) → ts ≡ f ∷ a → f.kind ≡ Emit → Reads value_wanted d a (Of_expression e) done r → Adds done d ts (Emits e) r
 emits d ts a r f e h k v = record {
   adds = λ st vs front o. rw (h, k) (v.reads (Say Do_emit ∷ Statements ∷ st) (Of_block front ∷ vs) o ∙ said Do_emit (Statements ∷ st) (Of_expression e ∷ Of_block front ∷ vs) r);
 }
 
 pub chooses : (d : ℕ) (ts a b r : List Placed) (e : Expression) (x y : Block) (s : Statement) → Reads (λ st. An_expression ∷ st) d ts (Of_expression e) done a → Reads (λ st. A_block ∷ st) d a (Of_block x) done b → Reads (λ st. Otherwise ∷ st) d b (Of_block y) done r → s ≡ Chooses e x y
-    → Adds (λ st. An_expression ∷ A_block ∷ Otherwise ∷ Say Do_choose ∷ st) d ts s r
+    → Adds choice_wanted d ts s r
 chooses d ts a b r e x y s p q v same = rw same (record {
   adds = λ st vs front o.
       p.reads (A_block ∷ Otherwise ∷ Say Do_choose ∷ Statements ∷ st) (Of_block front ∷ vs) o

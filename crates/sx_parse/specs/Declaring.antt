@@ -3,6 +3,7 @@ use Rattle.std.specs.Prelude.{◌≡◌, List, [], ◌∷◌, Option}
 use Rattle.sx_lang.specs.Tree.{HandlerTree}
 use Rattle.sx_lang.specs.View.{module_of}
 use Rattle.sx_lang.specs.declared.tree.Decl.{Decl}
+use Rattle.sx_lang.specs.declared.tree.Handler.{Handler}
 use Rattle.sx_lang.specs.declared.tree.Module.{Module}
 use Rattle.sx_lex.specs.declared.tokens.Placed.{Placed}
 use Rattle.sx_grammar.specs.Machine.{Symbol, Value, read, Outcome, Read, Refused, Of_module, Declarations, Handlers, begun, nothing}
@@ -31,6 +32,11 @@ pub record Declared (ts : List Placed) (ds : List Decl) (next : Symbol) (rest : 
 -- hs become gs
 pub record Handles (want : List Symbol → List Symbol) (hs : List HandlerTree) (ts : List Placed) (gs : List HandlerTree) (rest : List Placed) : Type 0 where
   pub handles : (ds : List Decl) → read (want (Handlers ∷ [])) (holding ds hs) ts ≡ read (Handlers ∷ []) (holding ds gs) rest
+
+-- no handler is left, and none was added
+pub record NoHandler (ts : List Placed) (hs gs : List Handler) : Type 0 where
+  pub none : ts ≡ []
+  pub same : gs ≡ hs
 
 -- the handlers to the text's end
 pub record Ends (ts : List Placed) (hs : List HandlerTree) : Type 0 where

@@ -1,4 +1,5 @@
 pub mod Parsed
+pub mod Wanted
 pub mod Reading
 pub mod Adding
 pub mod Declaring

@@ -1,12 +1,13 @@
 //! Parsing of declarations.
 
 ghost use Rattle.std.specs.Prelude.{◌<◌, ◌∷◌, length, MatchResult, IfOk, IfSome, MatchOption};
-ghost use Rattle.sx_grammar.specs.Machine.{Want, Say, A_semicolon, An_open_square, A_number, For_length, Initial_of, Do_declare, Declarations, Handlers};
+ghost use Rattle.sx_grammar.specs.Machine.{Initial_of, Declarations, Handlers};
+ghost use Rattle.sx_parse.specs.Wanted.{declarations_wanted, end_wanted, length_wanted};
 ghost use Rattle.sx_parse.specs.Reading.{StopsAs, done};
 ghost use Rattle.sx_parse.specs.Declaring.{Declares, Passes, Declared, Refuses};
 
 use crate::sign::{Sign, identifier, number, take};
-use crate::stop::Stop;
+use crate::stop::{Front, Stop};
 use std::alloc::Global;
 use sx_lang::names::Name;
 use sx_lang::tree::{Decl, DeviceKind};
@@ -15,7 +16,7 @@ use sx_lex::tokens::{Kind, Placed};
 /// Adds a declaration that was read up to its `;`.
 #[tactic(auto, using(crate::proofs::Declarations::ended))]
 fn ended<'a>(all: &mut Vec<Decl>, found: Decl, tokens: &'a [Placed]) -> Result<&'a [Placed], Stop>
-    ensures declares { MatchResult result (λ rest. Declares (λ st. Want A_semicolon ∷ Say (Do_declare found) ∷ st) all.old.items tokens.now all.new.items done rest.now) (λ e. StopsAs (λ st. Want A_semicolon ∷ Say (Do_declare found) ∷ st) 0 tokens.now e) }
+    ensures declares { MatchResult result (λ rest. Declares (end_wanted found) all.old.items tokens.now all.new.items done rest.now) (λ e. StopsAs (end_wanted found) 0 tokens.now e) }
     ensures shorter { IfOk result (λ rest. length rest.now < length tokens.now) }
 {
     let rest = take(tokens, Sign::Semicolon)?;
@@ -48,7 +49,7 @@ fn variable<'a>(all: &mut Vec<Decl>, name: Name, tokens: &'a [Placed]) -> Result
 /// Adds an array whose name was read.
 #[tactic(auto, using(crate::proofs::Declarations::array, crate::proofs::Declarations::array_breaks))]
 fn array<'a>(all: &mut Vec<Decl>, name: Name, tokens: &'a [Placed]) -> Result<&'a [Placed], Stop>
-    ensures declares { MatchResult result (λ rest. Declares (λ st. Want An_open_square ∷ A_number (For_length name) ∷ st) all.old.items tokens.now all.new.items done rest.now) (λ e. StopsAs (λ st. Want An_open_square ∷ A_number (For_length name) ∷ st) 0 tokens.now e) }
+    ensures declares { MatchResult result (λ rest. Declares (length_wanted name) all.old.items tokens.now all.new.items done rest.now) (λ e. StopsAs (length_wanted name) 0 tokens.now e) }
     ensures shorter { IfOk result (λ rest. length rest.now < length tokens.now) }
 {
     let rest = take(tokens, Sign::OpenSquare)?;
@@ -61,7 +62,7 @@ fn array<'a>(all: &mut Vec<Decl>, name: Name, tokens: &'a [Placed]) -> Result<&'
 /// stands.
 #[tactic(auto, using(crate::proofs::Declarations::sensor, crate::proofs::Declarations::actuator, crate::proofs::Declarations::input, crate::proofs::Declarations::output, crate::proofs::Declarations::variable, crate::proofs::Declarations::array_word, crate::proofs::Declarations::passes, crate::proofs::Declarations::passes_end))]
 fn declaration<'a>(all: &mut Vec<Decl>, tokens: &'a [Placed]) -> Result<Option<&'a [Placed]>, Stop>
-    ensures declares { MatchResult result (λ p. MatchOption p (Passes all.old.items tokens.now all.new.items) (λ rest. Declares (λ st. Declarations ∷ st) all.old.items tokens.now all.new.items (λ st. Declarations ∷ st) rest.now)) (λ e. StopsAs (λ st. Declarations ∷ st) 0 tokens.now e) }
+    ensures declares { MatchResult result (λ p. MatchOption p (Passes all.old.items tokens.now all.new.items) (λ rest. Declares declarations_wanted all.old.items tokens.now all.new.items declarations_wanted rest.now)) (λ e. StopsAs declarations_wanted 0 tokens.now e) }
     ensures shorter { IfOk result (λ p. IfSome p (λ rest. length rest.now < length tokens.now)) }
 {
     let Some((first, rest)) = tokens.split_first() else {
@@ -103,10 +104,7 @@ fn declaration<'a>(all: &mut Vec<Decl>, tokens: &'a [Placed]) -> Result<Option<&
 /// The declarations before the handlers. It stops at the first token that can't follow those before
 /// it, or where memory runs out.
 #[tactic(auto, using(crate::proofs::Declarations::begins, crate::proofs::Declarations::goes_on, crate::proofs::Declarations::ends, crate::proofs::Declarations::breaks))]
-pub fn declarations<'a>(
-    alloc: Global,
-    tokens: &'a [Placed],
-) -> Result<(Vec<Decl>, &'a [Placed]), Stop>
+pub fn declarations<'a>(alloc: Global, tokens: &'a [Placed]) -> Front<'a, Vec<Decl>>
     ensures { MatchResult result (λ p. Declared tokens.now p.0.items Handlers p.1.now) (λ e. Refuses tokens.now e) }
 {
     let mut all = Vec::new(alloc);

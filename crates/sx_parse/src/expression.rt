@@ -3,12 +3,13 @@
 ghost use Rattle.std.specs.Prelude.{◌≡◌, ◌+◌, ◌<◌, ◌≤◌, ◌∷◌, length, MatchResult, IfOk};
 ghost use Rattle.sx_lang.specs.Tree.{Indexed, Applied, Combined};
 ghost use Rattle.sx_lang.specs.View.{expression_of};
-ghost use Rattle.sx_grammar.specs.Machine.{Operand, Factors, Addends, Index_of, An_expression, Of_expression, Want, A_semicolon};
+ghost use Rattle.sx_grammar.specs.Machine.{Operand, Factors, Index_of, An_expression, Of_expression};
+ghost use Rattle.sx_parse.specs.Wanted.{sum_wanted, value_wanted};
 ghost use Rattle.sx_parse.specs.Reading.{Reads, StopsAs, done};
 
 use crate::operator::{addend_operator, comparison_operator, factor_operator, unary_operator};
 use crate::sign::{Sign, take};
-use crate::stop::Stop;
+use crate::stop::{Front, Stop};
 use std::alloc::{AllocError, Global};
 use sx_lang::names::Name;
 use sx_lang::tree::{BinOp, Expr, UnOp};
@@ -39,7 +40,7 @@ fn applied(alloc: Global, op: UnOp, operand: Expr) -> Result<Expr, AllocError>
 /// A unary operator and its operand, or what an expression's smallest parts are.
 #[cycle(expression)]
 #[tactic(auto, using(crate::proofs::Expressions::unary_operand))]
-fn operand<'a>(alloc: Global, tokens: &'a [Placed], depth: u8) -> Result<(Expr, &'a [Placed]), Stop>
+fn operand<'a>(alloc: Global, tokens: &'a [Placed], depth: u8) -> Front<'a, Expr>
     requires { depth ≤ 48 }
     ensures reads { MatchResult result (λ p. Reads (λ st. Operand ∷ st) depth tokens.now (Of_expression (expression_of p.0)) done p.1.now) (λ e. StopsAs (λ st. Operand ∷ st) depth tokens.now e) }
     ensures shorter { IfOk result (λ p. length p.1.now < length tokens.now) }
@@ -73,12 +74,7 @@ fn operand<'a>(alloc: Global, tokens: &'a [Placed], depth: u8) -> Result<(Expr, 
 /// A name that was read, and the index that may follow it.
 #[cycle(expression)]
 #[tactic(auto, using(crate::proofs::Expressions::name_indexed))]
-fn variable<'a>(
-    alloc: Global,
-    name: Name,
-    tokens: &'a [Placed],
-    depth: u8,
-) -> Result<(Expr, &'a [Placed]), Stop>
+fn variable<'a>(alloc: Global, name: Name, tokens: &'a [Placed], depth: u8) -> Front<'a, Expr>
     requires { depth ≤ 48 }
     ensures reads { MatchResult result (λ p. Reads (λ st. Index_of name ∷ st) depth tokens.now (Of_expression (expression_of p.0)) done p.1.now) (λ e. StopsAs (λ st. Index_of name ∷ st) depth tokens.now e) }
     ensures shorter { IfOk result (λ p. length p.1.now ≤ length tokens.now) }
@@ -102,7 +98,7 @@ fn variable<'a>(
 
 #[cycle(expression)]
 #[tactic(auto, using(crate::proofs::Expressions::one_factor))]
-fn term<'a>(alloc: Global, tokens: &'a [Placed], depth: u8) -> Result<(Expr, &'a [Placed]), Stop>
+fn term<'a>(alloc: Global, tokens: &'a [Placed], depth: u8) -> Front<'a, Expr>
     requires { depth ≤ 48 }
     ensures reads { MatchResult result (λ p. Reads (λ st. Operand ∷ Factors 0 ∷ st) depth tokens.now (Of_expression (expression_of p.0)) done p.1.now) (λ e. StopsAs (λ st. Operand ∷ Factors 0 ∷ st) depth tokens.now e) }
     ensures shorter { IfOk result (λ p. length p.1.now < length tokens.now) }
@@ -126,9 +122,9 @@ fn term<'a>(alloc: Global, tokens: &'a [Placed], depth: u8) -> Result<(Expr, &'a
 
 #[cycle(expression)]
 #[tactic(auto, using(crate::proofs::Expressions::one_addend))]
-fn sum<'a>(alloc: Global, tokens: &'a [Placed], depth: u8) -> Result<(Expr, &'a [Placed]), Stop>
+fn sum<'a>(alloc: Global, tokens: &'a [Placed], depth: u8) -> Front<'a, Expr>
     requires { depth ≤ 48 }
-    ensures reads { MatchResult result (λ p. Reads (λ st. Operand ∷ Factors 0 ∷ Addends 0 ∷ st) depth tokens.now (Of_expression (expression_of p.0)) done p.1.now) (λ e. StopsAs (λ st. Operand ∷ Factors 0 ∷ Addends 0 ∷ st) depth tokens.now e) }
+    ensures reads { MatchResult result (λ p. Reads sum_wanted depth tokens.now (Of_expression (expression_of p.0)) done p.1.now) (λ e. StopsAs sum_wanted depth tokens.now e) }
     ensures shorter { IfOk result (λ p. length p.1.now < length tokens.now) }
 {
     let (mut left, mut rest) = term(alloc, tokens, depth)?;
@@ -152,11 +148,7 @@ fn sum<'a>(alloc: Global, tokens: &'a [Placed], depth: u8) -> Result<(Expr, &'a 
 /// that can't follow those before it, or where memory runs out.
 #[cycle(expression)]
 #[tactic(auto, using(crate::proofs::Expressions::expression_stops, crate::proofs::Expressions::expression_ends, crate::proofs::Expressions::expression_alone, crate::proofs::Expressions::expression_compares, crate::proofs::Expressions::expression_breaks))]
-pub fn expression<'a>(
-    alloc: Global,
-    tokens: &'a [Placed],
-    depth: u8,
-) -> Result<(Expr, &'a [Placed]), Stop>
+pub fn expression<'a>(alloc: Global, tokens: &'a [Placed], depth: u8) -> Front<'a, Expr>
     requires { depth ≤ 48 }
     ensures reads { MatchResult result (λ p. Reads (λ st. An_expression ∷ st) depth tokens.now (Of_expression (expression_of p.0)) done p.1.now) (λ e. StopsAs (λ st. An_expression ∷ st) depth tokens.now e) }
     ensures shorter { IfOk result (λ p. length p.1.now < length tokens.now) }
@@ -176,13 +168,9 @@ pub fn expression<'a>(
 /// An expression and the `;` after it. It stops at the first token that can't follow those before
 /// it, or where memory runs out.
 #[tactic(auto, using(crate::proofs::Expressions::value_ends, crate::proofs::Expressions::value_breaks))]
-pub fn value<'a>(
-    alloc: Global,
-    tokens: &'a [Placed],
-    depth: u8,
-) -> Result<(Expr, &'a [Placed]), Stop>
+pub fn value<'a>(alloc: Global, tokens: &'a [Placed], depth: u8) -> Front<'a, Expr>
     requires { depth ≤ 48 }
-    ensures reads { MatchResult result (λ p. Reads (λ st. An_expression ∷ Want A_semicolon ∷ st) depth tokens.now (Of_expression (expression_of p.0)) done p.1.now) (λ e. StopsAs (λ st. An_expression ∷ Want A_semicolon ∷ st) depth tokens.now e) }
+    ensures reads { MatchResult result (λ p. Reads value_wanted depth tokens.now (Of_expression (expression_of p.0)) done p.1.now) (λ e. StopsAs value_wanted depth tokens.now e) }
     ensures shorter { IfOk result (λ p. length p.1.now < length tokens.now) }
 {
     let (found, rest) = expression(alloc, tokens, depth)?;

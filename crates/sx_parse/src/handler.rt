@@ -1,10 +1,10 @@
 //! Parsing of handlers.
 
-ghost use Rattle.std.specs.Prelude.{◌≡◌, ◌<◌, [], ◌∷◌, length, map, MatchResult, IfOk, IfSome, MatchOption};
+ghost use Rattle.std.specs.Prelude.{◌<◌, length, map, MatchResult, IfOk, IfSome, MatchOption};
 ghost use Rattle.sx_lang.specs.View.{handler_of};
-ghost use Rattle.sx_grammar.specs.Machine.{Want, An_open, A_name, After_open, Handlers};
+ghost use Rattle.sx_parse.specs.Wanted.{handlers_wanted, parameter_wanted};
 ghost use Rattle.sx_parse.specs.Reading.{StopsAs, done};
-ghost use Rattle.sx_parse.specs.Declaring.{Handles, Ends, BreaksAs};
+ghost use Rattle.sx_parse.specs.Declaring.{Handles, NoHandler, Ends, BreaksAs};
 
 use crate::sign::{Sign, identifier, take};
 use crate::statement::block;
@@ -22,7 +22,7 @@ fn body<'a>(
     input: Option<Name>,
     tokens: &'a [Placed],
 ) -> Result<&'a [Placed], Stop>
-    ensures handles { MatchResult result (λ rest. Handles (λ st. Want An_open ∷ A_name (After_open input) ∷ st) (map handler_of all.old.items) tokens.now (map handler_of all.new.items) rest.now) (λ e. StopsAs (λ st. Want An_open ∷ A_name (After_open input) ∷ st) 0 tokens.now e) }
+    ensures handles { MatchResult result (λ rest. Handles (parameter_wanted input) (map handler_of all.old.items) tokens.now (map handler_of all.new.items) rest.now) (λ e. StopsAs (parameter_wanted input) 0 tokens.now e) }
     ensures shorter { IfOk result (λ rest. length rest.now < length tokens.now) }
 {
     let rest = take(tokens, Sign::Open)?;
@@ -38,13 +38,13 @@ fn body<'a>(
 }
 
 /// Adds the handler that stands here, and gives what follows it; none at the text's end.
-#[tactic(auto, using(crate::proofs::Handlers::on_input, crate::proofs::Handlers::on_sample))]
+#[tactic(auto, using(crate::proofs::Handlers::on_input, crate::proofs::Handlers::on_sample, crate::proofs::Handlers::no_handler))]
 fn handler<'a>(
     alloc: Global,
     all: &mut Vec<Handler>,
     tokens: &'a [Placed],
 ) -> Result<Option<&'a [Placed]>, Stop>
-    ensures handles { MatchResult result (λ p. MatchOption p ((tokens.now ≡ []) × (all.new.items ≡ all.old.items)) (λ rest. Handles done (map handler_of all.old.items) tokens.now (map handler_of all.new.items) rest.now)) (λ e. StopsAs (λ st. Handlers ∷ st) 0 tokens.now e) }
+    ensures handles { MatchResult result (λ p. MatchOption p (NoHandler tokens.now all.old.items all.new.items) (λ rest. Handles done (map handler_of all.old.items) tokens.now (map handler_of all.new.items) rest.now)) (λ e. StopsAs handlers_wanted 0 tokens.now e) }
     ensures shorter { IfOk result (λ p. IfSome p (λ rest. length rest.now < length tokens.now)) }
 {
     let Some((first, rest)) = tokens.split_first() else {

@@ -4,7 +4,7 @@ ghost use Rattle.std.specs.Prelude.{◌≡◌, ◌<◌, length, MatchResult, IfO
 ghost use Rattle.sx_grammar.specs.Machine.{is_sign};
 ghost use Rattle.sx_parse.specs.Reading.{sign_of, Takes, Lacks, Named, NameLacks, Numbered, NumberLacks};
 
-use crate::stop::Stop;
+use crate::stop::{Front, Stop};
 use sx_lang::names::Name;
 use sx_lex::tokens::{Kind, Placed};
 
@@ -56,7 +56,7 @@ pub fn take<'a>(tokens: &'a [Placed], sign: Sign) -> Result<&'a [Placed], Stop>
 }
 
 /// The name that must stand here. It stops where another token stands.
-pub fn identifier<'a>(tokens: &'a [Placed]) -> Result<(&'a Name, &'a [Placed]), Stop>
+pub fn identifier<'a>(tokens: &'a [Placed]) -> Front<'a, &'a Name>
     ensures named { MatchResult result (λ p. Named tokens.now p.0.now p.1.now) (λ e. NameLacks tokens.now e) }
     ensures shorter { IfOk result (λ p. length p.1.now < length tokens.now) }
 {
@@ -70,7 +70,7 @@ pub fn identifier<'a>(tokens: &'a [Placed]) -> Result<(&'a Name, &'a [Placed]), 
 }
 
 /// The number that must stand here. It stops where another token stands.
-pub fn number<'a>(tokens: &'a [Placed]) -> Result<(u16, &'a [Placed]), Stop>
+pub fn number<'a>(tokens: &'a [Placed]) -> Front<'a, u16>
     ensures numbered { MatchResult result (λ p. Numbered tokens.now p.0 p.1.now) (λ e. NumberLacks tokens.now e) }
     ensures shorter { IfOk result (λ p. length p.1.now < length tokens.now) }
 {

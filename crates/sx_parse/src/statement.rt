@@ -3,13 +3,14 @@
 ghost use Rattle.std.specs.Prelude.{◌≡◌, ◌<◌, ◌≤◌, ◌∷◌, length, MatchResult, IfOk, MatchOption};
 ghost use Rattle.sx_lang.specs.Tree.{Chooses, Repeats};
 ghost use Rattle.sx_lang.specs.View.{expression_of, statement_of, block_of};
-ghost use Rattle.sx_grammar.specs.Machine.{Want, Say, An_expression, A_close_square, An_equals, A_semicolon, A_block, Otherwise, A_name, After_let, After_send, A_number, For_repeat, Target_of, Argument_of, Do_store, Do_choose, Of_block};
+ghost use Rattle.sx_grammar.specs.Machine.{A_block, Otherwise, A_name, After_let, After_send, A_number, For_repeat, Target_of, Argument_of, Of_block};
+ghost use Rattle.sx_parse.specs.Wanted.{choice_wanted, element_wanted};
 ghost use Rattle.sx_parse.specs.Reading.{Reads, StopsAs, done};
 ghost use Rattle.sx_parse.specs.Adding.{Adds, FailsAs, Closes};
 
 use crate::expression::{MOST, expression, value};
 use crate::sign::{Sign, identifier, number, take};
-use crate::stop::Stop;
+use crate::stop::{Front, Stop};
 use std::alloc::Global;
 use sx_lang::names::Name;
 use sx_lang::tree::{Expr, Stmt};
@@ -31,11 +32,7 @@ fn repeated(turns: u16, body: Vec<Stmt>) -> Stmt
 
 /// What follows `let`.
 #[tactic(auto, using(crate::proofs::Statements::defines))]
-fn definition<'a>(
-    alloc: Global,
-    tokens: &'a [Placed],
-    depth: u8,
-) -> Result<(Stmt, &'a [Placed]), Stop>
+fn definition<'a>(alloc: Global, tokens: &'a [Placed], depth: u8) -> Front<'a, Stmt>
     requires { depth ≤ 48 }
     ensures adds { MatchResult result (λ p. Adds (λ st. A_name After_let ∷ st) depth tokens.now (statement_of p.0) p.1.now) (λ e. FailsAs (λ st. A_name After_let ∷ st) depth tokens.now e) }
     ensures shorter { IfOk result (λ p. length p.1.now < length tokens.now) }
@@ -48,12 +45,7 @@ fn definition<'a>(
 
 /// What follows the name that is assigned to.
 #[tactic(auto, using(crate::proofs::Statements::assigns, crate::proofs::Statements::assigns_element, crate::proofs::Statements::fails_element))]
-fn assignment<'a>(
-    alloc: Global,
-    name: Name,
-    tokens: &'a [Placed],
-    depth: u8,
-) -> Result<(Stmt, &'a [Placed]), Stop>
+fn assignment<'a>(alloc: Global, name: Name, tokens: &'a [Placed], depth: u8) -> Front<'a, Stmt>
     requires { depth ≤ 48 }
     ensures adds { MatchResult result (λ p. Adds (λ st. Target_of name ∷ st) depth tokens.now (statement_of p.0) p.1.now) (λ e. FailsAs (λ st. Target_of name ∷ st) depth tokens.now e) }
     ensures shorter { IfOk result (λ p. length p.1.now < length tokens.now) }
@@ -78,14 +70,9 @@ fn assignment<'a>(
 
 /// What follows the name of an array and the `[` after it.
 #[tactic(auto, using(crate::proofs::Statements::stores))]
-fn element<'a>(
-    alloc: Global,
-    name: Name,
-    tokens: &'a [Placed],
-    depth: u8,
-) -> Result<(Stmt, &'a [Placed]), Stop>
+fn element<'a>(alloc: Global, name: Name, tokens: &'a [Placed], depth: u8) -> Front<'a, Stmt>
     requires { depth < 48 }
-    ensures adds { MatchResult result (λ p. Adds (λ st. An_expression ∷ Want A_close_square ∷ Want An_equals ∷ An_expression ∷ Want A_semicolon ∷ Say (Do_store name) ∷ st) depth tokens.now (statement_of p.0) p.1.now) (λ e. FailsAs (λ st. An_expression ∷ Want A_close_square ∷ Want An_equals ∷ An_expression ∷ Want A_semicolon ∷ Say (Do_store name) ∷ st) depth tokens.now e) }
+    ensures adds { MatchResult result (λ p. Adds (element_wanted name) depth tokens.now (statement_of p.0) p.1.now) (λ e. FailsAs (element_wanted name) depth tokens.now e) }
     ensures shorter { IfOk result (λ p. length p.1.now < length tokens.now) }
 {
     let (index, rest) = expression(alloc, tokens, depth + 1)?;
@@ -97,7 +84,7 @@ fn element<'a>(
 
 /// What follows `send`.
 #[tactic(auto, using(crate::proofs::Statements::sends, crate::proofs::Statements::fails_sending))]
-fn sending<'a>(alloc: Global, tokens: &'a [Placed], depth: u8) -> Result<(Stmt, &'a [Placed]), Stop>
+fn sending<'a>(alloc: Global, tokens: &'a [Placed], depth: u8) -> Front<'a, Stmt>
     requires { depth ≤ 48 }
     ensures adds { MatchResult result (λ p. Adds (λ st. A_name After_send ∷ st) depth tokens.now (statement_of p.0) p.1.now) (λ e. FailsAs (λ st. A_name After_send ∷ st) depth tokens.now e) }
     ensures shorter { IfOk result (λ p. length p.1.now < length tokens.now) }
@@ -108,12 +95,7 @@ fn sending<'a>(alloc: Global, tokens: &'a [Placed], depth: u8) -> Result<(Stmt, 
 
 /// What follows the output that a value is sent to.
 #[tactic(auto, using(crate::proofs::Statements::argument))]
-fn sent<'a>(
-    alloc: Global,
-    output: Name,
-    tokens: &'a [Placed],
-    depth: u8,
-) -> Result<(Stmt, &'a [Placed]), Stop>
+fn sent<'a>(alloc: Global, output: Name, tokens: &'a [Placed], depth: u8) -> Front<'a, Stmt>
     requires { depth ≤ 48 }
     ensures adds { MatchResult result (λ p. Adds (λ st. Argument_of output ∷ st) depth tokens.now (statement_of p.0) p.1.now) (λ e. FailsAs (λ st. Argument_of output ∷ st) depth tokens.now e) }
     ensures shorter { IfOk result (λ p. length p.1.now < length tokens.now) }
@@ -137,11 +119,7 @@ fn sent<'a>(
 /// memory runs out.
 #[cycle(statement)]
 #[tactic(auto, using(crate::proofs::Statements::opens_block, crate::proofs::Statements::goes_on, crate::proofs::Statements::ends_block, crate::proofs::Statements::breaks_block))]
-pub fn block<'a>(
-    alloc: Global,
-    tokens: &'a [Placed],
-    depth: u8,
-) -> Result<(Vec<Stmt>, &'a [Placed]), Stop>
+pub fn block<'a>(alloc: Global, tokens: &'a [Placed], depth: u8) -> Front<'a, Vec<Stmt>>
     requires { depth ≤ 48 }
     ensures reads { MatchResult result (λ p. Reads (λ st. A_block ∷ st) depth tokens.now (Of_block (block_of p.0.items)) done p.1.now) (λ e. StopsAs (λ st. A_block ∷ st) depth tokens.now e) }
     ensures shorter { IfOk result (λ p. length p.1.now < length tokens.now) }
@@ -171,11 +149,7 @@ pub fn block<'a>(
 /// A statement of a block, or none where the block's closing brace stands.
 #[cycle(statement)]
 #[tactic(auto, using(crate::proofs::Statements::emits))]
-fn statement<'a>(
-    alloc: Global,
-    tokens: &'a [Placed],
-    depth: u8,
-) -> Result<(Option<Stmt>, &'a [Placed]), Stop>
+fn statement<'a>(alloc: Global, tokens: &'a [Placed], depth: u8) -> Front<'a, Option<Stmt>>
     requires { depth ≤ 48 }
     ensures adds { MatchResult result (λ p. MatchOption p.0 (Closes tokens.now p.1.now) (λ s. Adds done depth tokens.now (statement_of s) p.1.now)) (λ e. FailsAs done depth tokens.now e) }
     ensures shorter { IfOk result (λ p. length p.1.now < length tokens.now) }
@@ -216,13 +190,9 @@ fn statement<'a>(
 /// What follows `if`.
 #[cycle(statement)]
 #[tactic(auto, using(crate::proofs::Statements::chooses))]
-fn condition<'a>(
-    alloc: Global,
-    tokens: &'a [Placed],
-    depth: u8,
-) -> Result<(Stmt, &'a [Placed]), Stop>
+fn condition<'a>(alloc: Global, tokens: &'a [Placed], depth: u8) -> Front<'a, Stmt>
     requires { depth ≤ 48 }
-    ensures adds { MatchResult result (λ p. Adds (λ st. An_expression ∷ A_block ∷ Otherwise ∷ Say Do_choose ∷ st) depth tokens.now (statement_of p.0) p.1.now) (λ e. FailsAs (λ st. An_expression ∷ A_block ∷ Otherwise ∷ Say Do_choose ∷ st) depth tokens.now e) }
+    ensures adds { MatchResult result (λ p. Adds choice_wanted depth tokens.now (statement_of p.0) p.1.now) (λ e. FailsAs choice_wanted depth tokens.now e) }
     ensures shorter { IfOk result (λ p. length p.1.now < length tokens.now) }
 {
     let (test, rest) = expression(alloc, tokens, depth)?;
@@ -234,11 +204,7 @@ fn condition<'a>(
 /// The `else` and its block, where they stand.
 #[cycle(statement)]
 #[tactic(auto, using(crate::proofs::Statements::no_else_end, crate::proofs::Statements::no_else, crate::proofs::Statements::with_else))]
-fn otherwise<'a>(
-    alloc: Global,
-    tokens: &'a [Placed],
-    depth: u8,
-) -> Result<(Vec<Stmt>, &'a [Placed]), Stop>
+fn otherwise<'a>(alloc: Global, tokens: &'a [Placed], depth: u8) -> Front<'a, Vec<Stmt>>
     requires { depth ≤ 48 }
     ensures reads { MatchResult result (λ p. Reads (λ st. Otherwise ∷ st) depth tokens.now (Of_block (block_of p.0.items)) done p.1.now) (λ e. StopsAs (λ st. Otherwise ∷ st) depth tokens.now e) }
     ensures shorter { IfOk result (λ p. length p.1.now ≤ length tokens.now) }
@@ -256,11 +222,7 @@ fn otherwise<'a>(
 /// What follows `repeat`.
 #[cycle(statement)]
 #[tactic(auto, using(crate::proofs::Statements::repeats))]
-fn repetition<'a>(
-    alloc: Global,
-    tokens: &'a [Placed],
-    depth: u8,
-) -> Result<(Stmt, &'a [Placed]), Stop>
+fn repetition<'a>(alloc: Global, tokens: &'a [Placed], depth: u8) -> Front<'a, Stmt>
     requires { depth ≤ 48 }
     ensures adds { MatchResult result (λ p. Adds (λ st. A_number For_repeat ∷ st) depth tokens.now (statement_of p.0) p.1.now) (λ e. FailsAs (λ st. A_number For_repeat ∷ st) depth tokens.now e) }
     ensures shorter { IfOk result (λ p. length p.1.now < length tokens.now) }

@@ -14,6 +14,9 @@ pub enum Stop {
     Memory,
 }
 
+/// What stands in front of the tokens, and the tokens that follow it.
+pub type Front<'a, T> = Result<(T, &'a [Placed]), Stop>;
+
 impl From<AllocError> for Stop {
     ghost use Rattle.sx_parse.specs.declared.stop.Stop.TheVariants.{Memory};
 
