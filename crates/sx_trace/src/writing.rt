@@ -117,8 +117,8 @@ fn write_five(into: &mut [u8; 128], a: &[u8], b: &[u8], c: &[u8], d: &[u8], e: &
     write_next(into, written, e)
 }
 
-/// Writes a kind, a name and a number.
-fn write_numbered<N: Integer>(
+/// Writes a kind, and a name with its number.
+fn write_pair<N: Integer>(
     into: &mut [u8; 128],
     kind: &[u8],
     names: &[Name],
@@ -137,13 +137,37 @@ fn write_numbered<N: Integer>(
     )
 }
 
-/// Writes `open M c SIDE EPOCH`, of an epoch 0 without it.
-fn write_open(into: &mut [u8; 128], module: &[u8], link: &[u8], side: Side, epoch: u8) -> usize
-    requires named { length «module».now ≤ 16 }
-    requires link { length link.now ≤ 16 }
-    ensures { IsWritten (spaced (codes "open" ∷ «module».now ∷ link.now ∷ side_word side ∷ epoch_words epoch))
+/// Writes `reset N CAUSE`.
+fn write_reset(into: &mut [u8; 128], names: &Names, node: u8, cause: Cause) -> usize
+    ensures { IsWritten (spaced (codes "reset" ∷ name_at names.now.nodes node ∷ cause_word cause ∷ []))
         into.old result into.new }
 {
+    write_three(into, b"reset", name_at(&names.nodes, node), cause.word())
+}
+
+/// Writes `protect N M`, or `-` where it's no module.
+fn write_protect(into: &mut [u8; 128], names: &Names, node: u8, module: Option<u8>) -> usize
+    ensures { IsWritten (spaced (codes "protect" ∷ name_at names.now.nodes node
+        ∷ name_or (codes "-") names.now.modules «module» ∷ [])) into.old result into.new }
+{
+    let module = name_or(b"-", &names.modules, module);
+    write_three(into, b"protect", name_at(&names.nodes, node), module)
+}
+
+/// Writes `open M c SIDE EPOCH`, of an epoch 0 without it.
+fn write_open(
+    into: &mut [u8; 128],
+    names: &Names,
+    module: u8,
+    link: u8,
+    side: Side,
+    epoch: u8,
+) -> usize
+    ensures { IsWritten (spaced (codes "open" ∷ name_at names.now.modules «module» ∷ name_at names.now.links link
+        ∷ side_word side ∷ epoch_words epoch)) into.old result into.new }
+{
+    let module = name_at(&names.modules, module);
+    let link = name_at(&names.links, link);
     if epoch == 0 {
         return write_four(into, b"open", module, link, side_word(side));
     }
@@ -153,12 +177,19 @@ fn write_open(into: &mut [u8; 128], module: &[u8], link: &[u8], side: Side, epoc
 }
 
 /// Writes `take M c NUMBER VALUE`.
-fn write_take(into: &mut [u8; 128], module: &[u8], link: &[u8], number: u32, value: u16) -> usize
-    requires named { length «module».now ≤ 16 }
-    requires link { length link.now ≤ 16 }
-    ensures { IsWritten (spaced (codes "take" ∷ «module».now ∷ link.now ∷ decimal number ∷ decimal value ∷ []))
-        into.old result into.new }
+fn write_take(
+    into: &mut [u8; 128],
+    names: &Names,
+    module: u8,
+    link: u8,
+    number: u32,
+    value: u16,
+) -> usize
+    ensures { IsWritten (spaced (codes "take" ∷ name_at names.now.modules «module» ∷ name_at names.now.links link
+        ∷ decimal number ∷ decimal value ∷ [])) into.old result into.new }
 {
+    let module = name_at(&names.modules, module);
+    let link = name_at(&names.links, link);
     let mut first = Buffer::new();
     let mut second = Buffer::new();
     let number = first.format(number).as_bytes();
@@ -167,15 +198,21 @@ fn write_take(into: &mut [u8; 128], module: &[u8], link: &[u8], number: u32, val
 }
 
 /// Writes `done M STATUS PIECES`.
-fn write_done(into: &mut [u8; 128], module: &[u8], status: u16, pieces: u16) -> usize
-    requires { length «module».now ≤ 16 }
-    ensures { IsWritten (spaced (codes "done" ∷ «module».now ∷ decimal status ∷ decimal pieces ∷ [])) into.old result into.new }
+fn write_done(into: &mut [u8; 128], names: &Names, module: u8, status: u16, pieces: u16) -> usize
+    ensures { IsWritten (spaced (codes "done" ∷ name_at names.now.modules «module» ∷ decimal status
+        ∷ decimal pieces ∷ [])) into.old result into.new }
 {
     let mut first = Buffer::new();
     let mut second = Buffer::new();
     let status = first.format(status).as_bytes();
     let pieces = second.format(pieces).as_bytes();
-    write_four(into, b"done", module, status, pieces)
+    write_four(
+        into,
+        b"done",
+        name_at(&names.modules, module),
+        status,
+        pieces,
+    )
 }
 
 /// Writes `packet NUMBER LENGTH`.
@@ -195,73 +232,40 @@ fn write_packet(into: &mut [u8; 128], number: u32, len: u16) -> usize
 pub fn write_item(names: &Names, item: &Item, into: &mut [u8; 128]) -> usize
     ensures { IsWritten (item_text names.now item.now) into.old result into.new }
 {
-    let nodes = &names.nodes;
-    let devices = &names.devices;
     let modules = &names.modules;
-    let links = &names.links;
     match *item {
-        Item::Reset { node, cause } => write_three(
-            into,
-            b"reset",
-            name_at(nodes, node),
-            cause.word(),
-        ),
-        Item::Protect { node, module } => {
-            write_three(
-                into,
-                b"protect",
-                name_at(nodes, node),
-                name_or(b"-", modules, module),
-            )
-        }
-        Item::Sense { device, value } => write_numbered(into, b"sense", devices, device, value),
-        Item::Read { module, value } => write_numbered(into, b"read", modules, module, value),
-        Item::Drain { device } => write_two(into, b"drain", name_at(devices, device)),
-        Item::Ask { module, challenge } => write_numbered(into, b"ask", modules, module, challenge),
-        Item::Attested { module, boot } => write_numbered(into, b"attested", modules, module, boot),
+        Item::Reset { node, cause } => write_reset(into, names, node, cause),
+        Item::Protect { node, module } => write_protect(into, names, node, module),
+        Item::Sense { device, value } => write_pair(into, b"sense", &names.devices, device, value),
+        Item::Read { module, value } => write_pair(into, b"read", modules, module, value),
+        Item::Drain { device } => write_two(into, b"drain", name_at(&names.devices, device)),
+        Item::Ask { module, challenge } => write_pair(into, b"ask", modules, module, challenge),
+        Item::Attested { module, boot } => write_pair(into, b"attested", modules, module, boot),
         Item::Denied { module } => write_two(into, b"denied", name_at(modules, module)),
-        Item::Vouch { module, challenge } => write_numbered(
-            into, b"vouch", modules, module, challenge,
-        ),
+        Item::Vouch { module, challenge } => write_pair(into, b"vouch", modules, module, challenge),
         Item::Open {
             module,
             link,
             side,
             epoch,
-        } => {
-            write_open(
-                into,
-                name_at(modules, module),
-                name_at(links, link),
-                side,
-                epoch,
-            )
-        }
+        } => write_open(into, names, module, link, side, epoch),
         Item::Take {
             module,
             link,
             number,
             value,
-        } => {
-            write_take(
-                into,
-                name_at(modules, module),
-                name_at(links, link),
-                number,
-                value,
-            )
-        }
-        Item::Out { module, value } => write_numbered(into, b"out", modules, module, value),
-        Item::Raw { device, value } => write_numbered(into, b"raw", devices, device, value),
+        } => write_take(into, names, module, link, number, value),
+        Item::Out { module, value } => write_pair(into, b"out", modules, module, value),
+        Item::Raw { device, value } => write_pair(into, b"raw", &names.devices, device, value),
         Item::Done {
             module,
             status,
             pieces,
-        } => write_done(into, name_at(modules, module), status, pieces),
+        } => write_done(into, names, module, status, pieces),
         Item::Packet { number, len } => write_packet(into, number, len),
         Item::Forged { module } => write_two(into, b"forged", name_or(&DEPLOYER, modules, module)),
-        Item::Busy { node } => write_two(into, b"busy", name_at(nodes, node)),
-        Item::Skip { node } => write_two(into, b"skip", name_at(nodes, node)),
-        Item::Budget { node } => write_two(into, b"budget", name_at(nodes, node)),
+        Item::Busy { node } => write_two(into, b"busy", name_at(&names.nodes, node)),
+        Item::Skip { node } => write_two(into, b"skip", name_at(&names.nodes, node)),
+        Item::Budget { node } => write_two(into, b"budget", name_at(&names.nodes, node)),
     }
 }
