@@ -215,7 +215,16 @@ code_line n text fields = do
 abbrev pub Kind : Type 0
 Kind = List ℕ × (List (List ℕ) → Result Line LineError)
 
--- the kinds of line that are read from the names alone
+-- the kinds of lines that begin with a module
+abbrev pub module_kinds : NameLists → List Kind
+module_kinds n =
+    (codes "ask", one (module_of n) Ask)
+    ∷ (codes "answer", three (module_of n) number32 number32 Answer)
+    ∷ (codes "load", one (module_of n) Load)
+    ∷ (codes "call", four (module_of n) number16 number16 number16 Call)
+    ∷ []
+
+-- the kinds whose lines have no bytes, and those that begin with a module last
 abbrev pub plain_kinds : NameLists → List Kind
 plain_kinds n =
     (codes "run", two (node_of n) (number_in 1 65535) Run)
@@ -226,11 +235,7 @@ plain_kinds n =
     ∷ (codes "sense", two (sensor_of n) (number_in 0 32767) Sense)
     ∷ (codes "irq", two (node_of n) (number_in 0 14) Irq)
     ∷ (codes "reset", one (node_of n) Reset)
-    ∷ (codes "ask", one (module_of n) Ask)
-    ∷ (codes "answer", three (module_of n) number32 number32 Answer)
-    ∷ (codes "load", one (module_of n) Load)
-    ∷ (codes "call", four (module_of n) number16 number16 number16 Call)
-    ∷ []
+    ∷ module_kinds n
 
 -- all kinds of line; `text` is the line's text, which an `asm` line reads as a whole
 abbrev pub kinds : NameLists → List ℕ → List Kind

@@ -4,7 +4,7 @@ ghost use Rattle.std.specs.Prelude.{◌≡◌, IfOk, IfErr, IsTrue};
 ghost use Rattle.sx_trace.specs.Names.{are_valid};
 ghost use Rattle.sx_sched.specs.Words.{words_of, text_behind};
 ghost use Rattle.sx_sched.specs.Lines.{line_of, IsLine, Run, Finish, Put, Set, Take, Give, Forge, Sense, Irq, Reset, Ask, Answer, Load, Call};
-ghost use Rattle.sx_sched.specs.Reading.{IsFault, node_of, sensor_of, module_of, register_of, number_in, number16, number32, bytes_of, one, two, three, four, code_line, plain_kinds, kinds, said_by, is_comment, said, seen, TakesMemory, MayWant, Answers};
+ghost use Rattle.sx_sched.specs.Reading.{IsFault, node_of, sensor_of, module_of, register_of, number_in, number16, number32, bytes_of, one, two, three, four, code_line, module_kinds, plain_kinds, kinds, said_by, is_comment, said, seen, TakesMemory, MayWant, Answers};
 
 use crate::fields::{
     bytes_of, code_of, module_of, node_of, number_in, number16, number32, register_of, sensor_of,
@@ -170,6 +170,27 @@ fn call_line(names: &Names, fields: &[u8]) -> Result<Line, LineError>
     })
 }
 
+/// A line that begins with a module.
+fn module_line(names: &Names, first: &[u8], fields: &[u8]) -> Result<Line, LineError>
+    requires { IsTrue (are_valid names.now) }
+    ensures line { seen result ≡ said_by (module_kinds names.now) first.now (words_of fields.now) }
+    ensures fault { IfErr result IsFault }
+{
+    if first == b"ask".as_slice() {
+        return ask_line(names, fields);
+    }
+    if first == b"answer".as_slice() {
+        return answer_line(names, fields);
+    }
+    if first == b"load".as_slice() {
+        return load_line(names, fields);
+    }
+    if first == b"call".as_slice() {
+        return call_line(names, fields);
+    }
+    Err(NO_KIND)
+}
+
 /// A line without bytes.
 fn plain_line(names: &Names, first: &[u8], fields: &[u8]) -> Result<Line, LineError>
     requires { IsTrue (are_valid names.now) }
@@ -200,19 +221,7 @@ fn plain_line(names: &Names, first: &[u8], fields: &[u8]) -> Result<Line, LineEr
     if first == b"reset".as_slice() {
         return reset_line(names, fields);
     }
-    if first == b"ask".as_slice() {
-        return ask_line(names, fields);
-    }
-    if first == b"answer".as_slice() {
-        return answer_line(names, fields);
-    }
-    if first == b"load".as_slice() {
-        return load_line(names, fields);
-    }
-    if first == b"call".as_slice() {
-        return call_line(names, fields);
-    }
-    Err(NO_KIND)
+    module_line(names, first, fields)
 }
 
 fn put_line(alloc: Global, names: &Names, fields: &[u8]) -> Result<Line, LineError>
