@@ -1,11 +1,12 @@
 //! The code of statements and blocks.
 
-ghost use Rattle.std.specs.Prelude.{◌≡◌, ℕ, ◌+◌, ◌<◌, ◌≤◌, ◌++◌, ◌∷◌, List, [], OnOk, length, slice_set, ◌==◌};
+ghost use Rattle.std.specs.Prelude.{◌≡◌, ◌+◌, ◌<◌, ◌≤◌, ◌++◌, ◌∷◌, [], OnOk, length, slice_set, ◌==◌};
+ghost use Rattle.sx_lang.specs.Tree.{Chooses, Repeats};
 ghost use Rattle.sx_lang.specs.View.{block_of, expression_of, statement_of};
 ghost use Rattle.sx_check.specs.Names.{block_lets, defined, statement_lets};
 ghost use Rattle.sx_mean.specs.Ends.{is_sending};
 ghost use Rattle.sx_mean.specs.Places.{IsSized};
-ghost use Rattle.sx_lower.specs.Lowered.{assign_code, block_code, choice_code, define_code, element_code, expression_code, loop_code, packets_code, send_code, statement_code};
+ghost use Rattle.sx_lower.specs.Lowered.{assign_code, block_code, define_code, element_code, expression_code, packets_code, send_code, statement_code};
 
 use crate::expressions::{put, put_assign, put_expression};
 use std::alloc::AllocError;
@@ -178,31 +179,75 @@ fn put_statement(
         Stmt::Let(x, e) => put_define(code, decls, ends.len(), scope, x, e),
         Stmt::Assign(x, e) => put_assignment(code, decls, ends.len(), scope, x, e),
         Stmt::Element(x, index, e) => { put_element(code, decls, ends.len(), scope, x, index, e) }
-        Stmt::If(e, then, otherwise) => {
-            put_expression(code, decls, ends.len(), scope, e)?;
-            let test = code.len();
-            put(code, Ir::JumpZero(0))?;
-            put_block(code, decls, ends, scope, then)?;
-            let over = code.len();
-            put(code, Ir::Jump(0))?;
-            put_block(code, decls, ends, scope, otherwise)?;
-            let end = code.len();
-            set(code, test, Ir::JumpZero((over + 1) as u16));
-            set(code, over, Ir::Jump(end as u16));
-            Ok(())
-        }
-        Stmt::Repeat(n, body) => {
-            let start = code.len();
-            put_turn(code, *n)?;
-            put_block(code, decls, ends, scope, body)?;
-            put_return(code, (start + 1) as u16)?;
-            let end = code.len();
-            set(code, start + 4, Ir::JumpZero((end - 1) as u16));
-            Ok(())
-        }
+        Stmt::If(e, first, second) => { put_choice(code, decls, ends, scope, e, first, second) }
+        Stmt::Repeat(n, body) => put_loop(code, decls, ends, scope, *n, body),
         Stmt::Send(x, e) => put_send(code, decls, ends, scope, x, e),
         Stmt::Emit(e) => put_emit(code, decls, ends.len(), scope, e),
     }
+}
+
+/// The code of an `if`. Its jumps are written when the places behind the blocks are known.
+#[cycle(blocks)]
+fn put_choice(
+    code: &mut Vec<Ir>,
+    decls: &[Decl],
+    ends: &[End],
+    scope: &mut Vec<Name>,
+    e: &Expr,
+    first: &Vec<Stmt>,
+    second: &Vec<Stmt>,
+) -> Result<(), AllocError>
+    requires sized { IsSized decls.now }
+    requires few { length ends.now ≤ 16 }
+    requires locals { length scope.old.items + length (block_lets (block_of first.now.items)
+        ++ block_lets (block_of second.now.items)) ≤ 16 }
+    requires short { length code.old.items + length (statement_code decls.now ends.now (length code.old.items)
+        scope.old.items (Chooses (expression_of e.now) (block_of first.now.items) (block_of second.now.items)))
+        < 65536 }
+    ensures code { OnOk result (code.new.items ≡ code.old.items ++ statement_code decls.now ends.now
+        (length code.old.items) scope.old.items
+        (Chooses (expression_of e.now) (block_of first.now.items) (block_of second.now.items))) }
+    ensures scope { OnOk result (scope.new.items ≡ scope.old.items) }
+{
+    put_expression(code, decls, ends.len(), scope, e)?;
+    let test = code.len();
+    put(code, Ir::JumpZero(0))?;
+    put_block(code, decls, ends, scope, first)?;
+    let over = code.len();
+    put(code, Ir::Jump(0))?;
+    put_block(code, decls, ends, scope, second)?;
+    let end = code.len();
+    set(code, test, Ir::JumpZero((over + 1) as u16));
+    set(code, over, Ir::Jump(end as u16));
+    Ok(())
+}
+
+/// The code of a `repeat`. Its jump to the end is written when the place behind the block is known.
+#[cycle(blocks)]
+fn put_loop(
+    code: &mut Vec<Ir>,
+    decls: &[Decl],
+    ends: &[End],
+    scope: &mut Vec<Name>,
+    turns: u16,
+    body: &Vec<Stmt>,
+) -> Result<(), AllocError>
+    requires sized { IsSized decls.now }
+    requires few { length ends.now ≤ 16 }
+    requires locals { length scope.old.items + length (block_lets (block_of body.now.items)) ≤ 16 }
+    requires short { length code.old.items + length (statement_code decls.now ends.now (length code.old.items)
+        scope.old.items (Repeats turns (block_of body.now.items))) < 65536 }
+    ensures code { OnOk result (code.new.items ≡ code.old.items ++ statement_code decls.now ends.now
+        (length code.old.items) scope.old.items (Repeats turns (block_of body.now.items))) }
+    ensures scope { OnOk result (scope.new.items ≡ scope.old.items) }
+{
+    let start = code.len();
+    put_turn(code, turns)?;
+    put_block(code, decls, ends, scope, body)?;
+    put_return(code, (start + 1) as u16)?;
+    let end = code.len();
+    set(code, start + 4, Ir::JumpZero((end - 1) as u16));
+    Ok(())
 }
 
 /// Appends the code of a block. The locals that the block defines go out of scope after it. The
