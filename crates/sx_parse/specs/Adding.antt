@@ -1,5 +1,5 @@
 -- What reading a statement of a block does to the machine of the grammar.
-use Rattle.std.specs.Prelude.{◌≡◌, ℕ, List, ◌∷◌, Option}
+use Rattle.std.specs.Prelude.{◌≡◌, ℕ, List, ◌∷◌, Option, Result, MatchResult}
 use Rattle.sx_lang.specs.Tree.{Statement, Block}
 use Rattle.sx_lex.specs.declared.tokens.Placed.{Placed}
 use Rattle.sx_grammar.specs.Machine.{Symbol, Value, opens, read, Refused, Of_block, Statements, snoc}
@@ -19,6 +19,11 @@ pub record Fails (want : List Symbol → List Symbol) (depth : ℕ) (ts : List P
 abbrev pub FailsAs : (List Symbol → List Symbol) → ℕ → List Placed → Stop → Type 0
 FailsAs want depth ts (Fault t) = Fails want depth ts t
 FailsAs want depth ts Memory = Unit {0}
+
+-- what was read is a statement in front of the rest, or reading stops as it must
+abbrev pub AddsOr : {A : Type 0} → Result A Stop → (List Symbol → List Symbol) → ℕ → List Placed → (A → Statement) → (A → List Placed) → Type 0
+AddsOr result want depth ts statement rest =
+    MatchResult result (λ found. Adds want depth ts (statement found) (rest found)) (λ e. FailsAs want depth ts e)
 
 -- the brace that ends the block
 pub record Closes (ts rest : List Placed) : Type 0 where

@@ -1,12 +1,14 @@
 -- What reading the declarations and the handlers does to the machine of the grammar.
-use Rattle.std.specs.Prelude.{◌≡◌, List, [], ◌∷◌, Option}
+use Rattle.std.specs.Prelude.{◌≡◌, List, [], ◌∷◌, Option, Result, MatchOption, MatchResult, map}
 use Rattle.sx_lang.specs.Tree.{HandlerTree}
-use Rattle.sx_lang.specs.View.{module_of}
+use Rattle.sx_lang.specs.View.{handler_of, module_of}
 use Rattle.sx_lang.specs.declared.tree.Decl.{Decl}
 use Rattle.sx_lang.specs.declared.tree.Handler.{Handler}
 use Rattle.sx_lang.specs.declared.tree.Module.{Module}
 use Rattle.sx_lex.specs.declared.tokens.Placed.{Placed}
 use Rattle.sx_grammar.specs.Machine.{Symbol, Value, read, Outcome, Read, Refused, Of_module, Declarations, Handlers, begun, nothing}
+use Rattle.sx_parse.specs.Reading.{StopsAs, done}
+use Rattle.sx_parse.specs.Wanted.{declarations_wanted, handlers_wanted}
 use Rattle.sx_parse.specs.declared.stop.Stop.{Stop}
 use Rattle.sx_parse.specs.declared.stop.Stop.TheVariants.{Fault, Memory}
 
@@ -18,10 +20,22 @@ holding ds hs = Of_module (record { decls = ds; handlers = hs }) ∷ []
 pub record Declares (want : List Symbol → List Symbol) (ds : List Decl) (ts : List Placed) (us : List Decl) (to : List Symbol → List Symbol) (rest : List Placed) : Type 0 where
   pub declares : (st : List Symbol) → read (want st) (holding ds []) ts ≡ read (to st) (holding us []) rest
 
+-- what was read makes these declarations of those before, in front of the rest, or reading stops as it must
+abbrev pub DeclaresOr : {A : Type 0} → Result A Stop → (List Symbol → List Symbol) → List Decl → List Placed → List Decl → (A → List Placed) → Type 0
+DeclaresOr result want ds ts us rest =
+    MatchResult result (λ found. Declares want ds ts us done (rest found)) (λ e. StopsAs want 0 ts e)
+
 -- no declaration stands before these tokens
 pub record Passes (ds : List Decl) (ts : List Placed) (us : List Decl) : Type 0 where
   pub passes : (st : List Symbol) (vs : List Value) → read (Declarations ∷ st) vs ts ≡ read (Handlers ∷ st) vs ts
   pub same : us ≡ ds
+
+-- the declaration in front of these tokens was read, or there is none, or reading stops as it must
+abbrev pub DeclaresNext : {A : Type 0} → Result (Option A) Stop → List Decl → List Placed → List Decl → (A → List Placed) → Type 0
+DeclaresNext result ds ts us rest =
+    MatchResult result
+    (λ next. MatchOption next (Passes ds ts us) (λ found. Declares declarations_wanted ds ts us declarations_wanted (rest found)))
+    (λ e. StopsAs declarations_wanted 0 ts e)
 
 -- from the module's first token to these declarations, what is required next being a declaration or
 -- a handler
@@ -33,10 +47,22 @@ pub record Declared (ts : List Placed) (ds : List Decl) (next : Symbol) (rest : 
 pub record Handles (want : List Symbol → List Symbol) (hs : List HandlerTree) (ts : List Placed) (gs : List HandlerTree) (rest : List Placed) : Type 0 where
   pub handles : (ds : List Decl) → read (want (Handlers ∷ [])) (holding ds hs) ts ≡ read (Handlers ∷ []) (holding ds gs) rest
 
+-- what was read makes these handlers of those before, in front of the rest, or reading stops as it must
+abbrev pub HandlesOr : {A : Type 0} → Result A Stop → (List Symbol → List Symbol) → List Handler → List Placed → List Handler → (A → List Placed) → Type 0
+HandlesOr result want hs ts gs rest =
+    MatchResult result (λ found. Handles want (map handler_of hs) ts (map handler_of gs) (rest found)) (λ e. StopsAs want 0 ts e)
+
 -- no handler is left, and none was added
 pub record NoHandler (ts : List Placed) (hs gs : List Handler) : Type 0 where
   pub none : ts ≡ []
   pub same : gs ≡ hs
+
+-- the handler in front of these tokens was read, or there is none, or reading stops as it must
+abbrev pub HandlesNext : {A : Type 0} → Result (Option A) Stop → List Handler → List Placed → List Handler → (A → List Placed) → Type 0
+HandlesNext result hs ts gs rest =
+    MatchResult result
+    (λ next. MatchOption next (NoHandler ts hs gs) (λ found. Handles done (map handler_of hs) ts (map handler_of gs) (rest found)))
+    (λ e. StopsAs handlers_wanted 0 ts e)
 
 -- the handlers to the text's end
 pub record Ends (ts : List Placed) (hs : List HandlerTree) : Type 0 where

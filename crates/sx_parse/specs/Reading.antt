@@ -1,5 +1,5 @@
 -- What reading a part of a text does to the machine of the grammar, whatever is required after it.
-use Rattle.std.specs.Prelude.{◌≡◌, ℕ, List, ◌∷◌, Option}
+use Rattle.std.specs.Prelude.{◌≡◌, ℕ, List, ◌∷◌, Option, Result, MatchResult}
 use Rattle.sx_lex.specs.declared.tokens.Placed.{Placed}
 use Rattle.sx_grammar.specs.Machine.{Symbol, Value, opens, read, Refused, Want, After, A_name, follow, Purpose, A_number, follow_number, An_open, A_close, An_open_square, A_close_square, A_semicolon, An_equals}
 use Rattle.sx_grammar.specs.Machine as machine
@@ -25,6 +25,11 @@ StopsAs want depth ts Memory = Unit {0}
 -- nothing is required before the rest
 abbrev pub done : List Symbol → List Symbol
 done st = st
+
+-- what was read is what is wanted, worth a value in front of the rest, or reading stops as it must
+abbrev pub ReadsOr : {A : Type 0} → Result A Stop → (List Symbol → List Symbol) → ℕ → List Placed → (A → Value) → (A → List Placed) → Type 0
+ReadsOr result want depth ts value rest =
+    MatchResult result (λ found. Reads want depth ts (value found) done (rest found)) (λ e. StopsAs want depth ts e)
 
 -- the code's sign as the grammar has it
 abbrev pub sign_of : Sign → machine.Sign

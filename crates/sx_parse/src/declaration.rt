@@ -1,10 +1,9 @@
 //! Parsing of declarations.
 
-ghost use Rattle.std.specs.Prelude.{◌<◌, ◌∷◌, length, MatchResult, IfOk, IfSome, MatchOption};
+ghost use Rattle.std.specs.Prelude.{◌<◌, ◌∷◌, length, MatchResult, IfOk, IfSome};
 ghost use Rattle.sx_grammar.specs.Machine.{Initial_of, Declarations, Handlers};
-ghost use Rattle.sx_parse.specs.Wanted.{declarations_wanted, end_wanted, length_wanted};
-ghost use Rattle.sx_parse.specs.Reading.{StopsAs, done};
-ghost use Rattle.sx_parse.specs.Declaring.{Declares, Passes, Declared, Refuses};
+ghost use Rattle.sx_parse.specs.Wanted.{end_wanted, length_wanted};
+ghost use Rattle.sx_parse.specs.Declaring.{DeclaresOr, DeclaresNext, Declared, Refuses};
 
 use crate::sign::{Sign, identifier, number, take};
 use crate::stop::{Front, Stop};
@@ -16,7 +15,7 @@ use sx_lex::tokens::{Kind, Placed};
 /// Adds a declaration that was read up to its `;`.
 #[tactic(auto, using(crate::proofs::Declarations::ended))]
 fn ended<'a>(all: &mut Vec<Decl>, found: Decl, tokens: &'a [Placed]) -> Result<&'a [Placed], Stop>
-    ensures declares { MatchResult result (λ rest. Declares (end_wanted found) all.old.items tokens.now all.new.items done rest.now) (λ e. StopsAs (end_wanted found) 0 tokens.now e) }
+    ensures declares { DeclaresOr result (end_wanted found) all.old.items tokens.now all.new.items (λ rest. rest.now) }
     ensures shorter { IfOk result (λ rest. length rest.now < length tokens.now) }
 {
     let rest = take(tokens, Sign::Semicolon)?;
@@ -27,7 +26,7 @@ fn ended<'a>(all: &mut Vec<Decl>, found: Decl, tokens: &'a [Placed]) -> Result<&
 /// Adds a variable whose name was read.
 #[tactic(auto, using(crate::proofs::Declarations::initial_none, crate::proofs::Declarations::initial_number, crate::proofs::Declarations::initial_breaks))]
 fn variable<'a>(all: &mut Vec<Decl>, name: Name, tokens: &'a [Placed]) -> Result<&'a [Placed], Stop>
-    ensures declares { MatchResult result (λ rest. Declares (λ st. Initial_of name ∷ st) all.old.items tokens.now all.new.items done rest.now) (λ e. StopsAs (λ st. Initial_of name ∷ st) 0 tokens.now e) }
+    ensures declares { DeclaresOr result (λ st. Initial_of name ∷ st) all.old.items tokens.now all.new.items (λ rest. rest.now) }
     ensures shorter { IfOk result (λ rest. length rest.now < length tokens.now) }
 {
     let Some((first, rest)) = tokens.split_first() else {
@@ -49,7 +48,7 @@ fn variable<'a>(all: &mut Vec<Decl>, name: Name, tokens: &'a [Placed]) -> Result
 /// Adds an array whose name was read.
 #[tactic(auto, using(crate::proofs::Declarations::array, crate::proofs::Declarations::array_breaks))]
 fn array<'a>(all: &mut Vec<Decl>, name: Name, tokens: &'a [Placed]) -> Result<&'a [Placed], Stop>
-    ensures declares { MatchResult result (λ rest. Declares (length_wanted name) all.old.items tokens.now all.new.items done rest.now) (λ e. StopsAs (length_wanted name) 0 tokens.now e) }
+    ensures declares { DeclaresOr result (length_wanted name) all.old.items tokens.now all.new.items (λ rest. rest.now) }
     ensures shorter { IfOk result (λ rest. length rest.now < length tokens.now) }
 {
     let rest = take(tokens, Sign::OpenSquare)?;
@@ -62,7 +61,7 @@ fn array<'a>(all: &mut Vec<Decl>, name: Name, tokens: &'a [Placed]) -> Result<&'
 /// stands.
 #[tactic(auto, using(crate::proofs::Declarations::sensor, crate::proofs::Declarations::actuator, crate::proofs::Declarations::input, crate::proofs::Declarations::output, crate::proofs::Declarations::variable, crate::proofs::Declarations::array_word, crate::proofs::Declarations::passes, crate::proofs::Declarations::passes_end))]
 fn declaration<'a>(all: &mut Vec<Decl>, tokens: &'a [Placed]) -> Result<Option<&'a [Placed]>, Stop>
-    ensures declares { MatchResult result (λ p. MatchOption p (Passes all.old.items tokens.now all.new.items) (λ rest. Declares declarations_wanted all.old.items tokens.now all.new.items declarations_wanted rest.now)) (λ e. StopsAs declarations_wanted 0 tokens.now e) }
+    ensures declares { DeclaresNext result all.old.items tokens.now all.new.items (λ rest. rest.now) }
     ensures shorter { IfOk result (λ p. IfSome p (λ rest. length rest.now < length tokens.now)) }
 {
     let Some((first, rest)) = tokens.split_first() else {

@@ -1,11 +1,11 @@
 //! Parsing of expressions.
 
-ghost use Rattle.std.specs.Prelude.{◌≡◌, ◌+◌, ◌<◌, ◌≤◌, ◌∷◌, length, MatchResult, IfOk};
+ghost use Rattle.std.specs.Prelude.{◌≡◌, ◌+◌, ◌<◌, ◌≤◌, ◌∷◌, length, IfOk};
 ghost use Rattle.sx_lang.specs.Tree.{Indexed, Applied, Combined};
 ghost use Rattle.sx_lang.specs.View.{expression_of};
 ghost use Rattle.sx_grammar.specs.Machine.{Operand, Factors, Index_of, An_expression, Of_expression};
 ghost use Rattle.sx_parse.specs.Wanted.{sum_wanted, value_wanted};
-ghost use Rattle.sx_parse.specs.Reading.{Reads, StopsAs, done};
+ghost use Rattle.sx_parse.specs.Reading.{ReadsOr};
 
 use crate::operator::{addend_operator, comparison_operator, factor_operator, unary_operator};
 use crate::sign::{Sign, take};
@@ -42,7 +42,7 @@ fn applied(alloc: Global, op: UnOp, operand: Expr) -> Result<Expr, AllocError>
 #[tactic(auto, using(crate::proofs::Expressions::unary_operand))]
 fn operand<'a>(alloc: Global, tokens: &'a [Placed], depth: u8) -> Front<'a, Expr>
     requires { depth ≤ 48 }
-    ensures reads { MatchResult result (λ p. Reads (λ st. Operand ∷ st) depth tokens.now (Of_expression (expression_of p.0)) done p.1.now) (λ e. StopsAs (λ st. Operand ∷ st) depth tokens.now e) }
+    ensures reads { ReadsOr result (λ st. Operand ∷ st) depth tokens.now (λ p. Of_expression (expression_of p.0)) (λ p. p.1.now) }
     ensures shorter { IfOk result (λ p. length p.1.now < length tokens.now) }
 {
     let Some((first, rest)) = tokens.split_first() else {
@@ -76,7 +76,7 @@ fn operand<'a>(alloc: Global, tokens: &'a [Placed], depth: u8) -> Front<'a, Expr
 #[tactic(auto, using(crate::proofs::Expressions::name_indexed))]
 fn variable<'a>(alloc: Global, name: Name, tokens: &'a [Placed], depth: u8) -> Front<'a, Expr>
     requires { depth ≤ 48 }
-    ensures reads { MatchResult result (λ p. Reads (λ st. Index_of name ∷ st) depth tokens.now (Of_expression (expression_of p.0)) done p.1.now) (λ e. StopsAs (λ st. Index_of name ∷ st) depth tokens.now e) }
+    ensures reads { ReadsOr result (λ st. Index_of name ∷ st) depth tokens.now (λ p. Of_expression (expression_of p.0)) (λ p. p.1.now) }
     ensures shorter { IfOk result (λ p. length p.1.now ≤ length tokens.now) }
 {
     let Some((first, rest)) = tokens.split_first() else {
@@ -100,7 +100,7 @@ fn variable<'a>(alloc: Global, name: Name, tokens: &'a [Placed], depth: u8) -> F
 #[tactic(auto, using(crate::proofs::Expressions::one_factor))]
 fn term<'a>(alloc: Global, tokens: &'a [Placed], depth: u8) -> Front<'a, Expr>
     requires { depth ≤ 48 }
-    ensures reads { MatchResult result (λ p. Reads (λ st. Operand ∷ Factors 0 ∷ st) depth tokens.now (Of_expression (expression_of p.0)) done p.1.now) (λ e. StopsAs (λ st. Operand ∷ Factors 0 ∷ st) depth tokens.now e) }
+    ensures reads { ReadsOr result (λ st. Operand ∷ Factors 0 ∷ st) depth tokens.now (λ p. Of_expression (expression_of p.0)) (λ p. p.1.now) }
     ensures shorter { IfOk result (λ p. length p.1.now < length tokens.now) }
 {
     let (mut left, mut rest) = operand(alloc, tokens, depth)?;
@@ -124,7 +124,7 @@ fn term<'a>(alloc: Global, tokens: &'a [Placed], depth: u8) -> Front<'a, Expr>
 #[tactic(auto, using(crate::proofs::Expressions::one_addend))]
 fn sum<'a>(alloc: Global, tokens: &'a [Placed], depth: u8) -> Front<'a, Expr>
     requires { depth ≤ 48 }
-    ensures reads { MatchResult result (λ p. Reads sum_wanted depth tokens.now (Of_expression (expression_of p.0)) done p.1.now) (λ e. StopsAs sum_wanted depth tokens.now e) }
+    ensures reads { ReadsOr result sum_wanted depth tokens.now (λ p. Of_expression (expression_of p.0)) (λ p. p.1.now) }
     ensures shorter { IfOk result (λ p. length p.1.now < length tokens.now) }
 {
     let (mut left, mut rest) = term(alloc, tokens, depth)?;
@@ -150,7 +150,7 @@ fn sum<'a>(alloc: Global, tokens: &'a [Placed], depth: u8) -> Front<'a, Expr>
 #[tactic(auto, using(crate::proofs::Expressions::expression_stops, crate::proofs::Expressions::expression_ends, crate::proofs::Expressions::expression_alone, crate::proofs::Expressions::expression_compares, crate::proofs::Expressions::expression_breaks))]
 pub fn expression<'a>(alloc: Global, tokens: &'a [Placed], depth: u8) -> Front<'a, Expr>
     requires { depth ≤ 48 }
-    ensures reads { MatchResult result (λ p. Reads (λ st. An_expression ∷ st) depth tokens.now (Of_expression (expression_of p.0)) done p.1.now) (λ e. StopsAs (λ st. An_expression ∷ st) depth tokens.now e) }
+    ensures reads { ReadsOr result (λ st. An_expression ∷ st) depth tokens.now (λ p. Of_expression (expression_of p.0)) (λ p. p.1.now) }
     ensures shorter { IfOk result (λ p. length p.1.now < length tokens.now) }
 {
     let (left, rest) = sum(alloc, tokens, depth)?;
@@ -170,7 +170,7 @@ pub fn expression<'a>(alloc: Global, tokens: &'a [Placed], depth: u8) -> Front<'
 #[tactic(auto, using(crate::proofs::Expressions::value_ends, crate::proofs::Expressions::value_breaks))]
 pub fn value<'a>(alloc: Global, tokens: &'a [Placed], depth: u8) -> Front<'a, Expr>
     requires { depth ≤ 48 }
-    ensures reads { MatchResult result (λ p. Reads value_wanted depth tokens.now (Of_expression (expression_of p.0)) done p.1.now) (λ e. StopsAs value_wanted depth tokens.now e) }
+    ensures reads { ReadsOr result value_wanted depth tokens.now (λ p. Of_expression (expression_of p.0)) (λ p. p.1.now) }
     ensures shorter { IfOk result (λ p. length p.1.now < length tokens.now) }
 {
     let (found, rest) = expression(alloc, tokens, depth)?;

@@ -1,10 +1,9 @@
 //! Parsing of handlers.
 
-ghost use Rattle.std.specs.Prelude.{◌<◌, length, map, MatchResult, IfOk, IfSome, MatchOption};
+ghost use Rattle.std.specs.Prelude.{◌<◌, length, map, MatchResult, IfOk, IfSome};
 ghost use Rattle.sx_lang.specs.View.{handler_of};
-ghost use Rattle.sx_parse.specs.Wanted.{handlers_wanted, parameter_wanted};
-ghost use Rattle.sx_parse.specs.Reading.{StopsAs, done};
-ghost use Rattle.sx_parse.specs.Declaring.{Handles, NoHandler, Ends, BreaksAs};
+ghost use Rattle.sx_parse.specs.Wanted.{parameter_wanted};
+ghost use Rattle.sx_parse.specs.Declaring.{HandlesOr, HandlesNext, Ends, BreaksAs};
 
 use crate::sign::{Sign, identifier, take};
 use crate::statement::block;
@@ -22,7 +21,7 @@ fn body<'a>(
     input: Option<Name>,
     tokens: &'a [Placed],
 ) -> Result<&'a [Placed], Stop>
-    ensures handles { MatchResult result (λ rest. Handles (parameter_wanted input) (map handler_of all.old.items) tokens.now (map handler_of all.new.items) rest.now) (λ e. StopsAs (parameter_wanted input) 0 tokens.now e) }
+    ensures handles { HandlesOr result (parameter_wanted input) all.old.items tokens.now all.new.items (λ rest. rest.now) }
     ensures shorter { IfOk result (λ rest. length rest.now < length tokens.now) }
 {
     let rest = take(tokens, Sign::Open)?;
@@ -44,7 +43,7 @@ fn handler<'a>(
     all: &mut Vec<Handler>,
     tokens: &'a [Placed],
 ) -> Result<Option<&'a [Placed]>, Stop>
-    ensures handles { MatchResult result (λ p. MatchOption p (NoHandler tokens.now all.old.items all.new.items) (λ rest. Handles done (map handler_of all.old.items) tokens.now (map handler_of all.new.items) rest.now)) (λ e. StopsAs handlers_wanted 0 tokens.now e) }
+    ensures handles { HandlesNext result all.old.items tokens.now all.new.items (λ rest. rest.now) }
     ensures shorter { IfOk result (λ p. IfSome p (λ rest. length rest.now < length tokens.now)) }
 {
     let Some((first, rest)) = tokens.split_first() else {

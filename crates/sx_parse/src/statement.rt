@@ -5,8 +5,8 @@ ghost use Rattle.sx_lang.specs.Tree.{Chooses, Repeats};
 ghost use Rattle.sx_lang.specs.View.{expression_of, statement_of, block_of};
 ghost use Rattle.sx_grammar.specs.Machine.{A_block, Otherwise, A_name, After_let, After_send, A_number, For_repeat, Target_of, Argument_of, Of_block};
 ghost use Rattle.sx_parse.specs.Wanted.{choice_wanted, element_wanted};
-ghost use Rattle.sx_parse.specs.Reading.{Reads, StopsAs, done};
-ghost use Rattle.sx_parse.specs.Adding.{Adds, FailsAs, Closes};
+ghost use Rattle.sx_parse.specs.Reading.{ReadsOr, done};
+ghost use Rattle.sx_parse.specs.Adding.{Adds, AddsOr, FailsAs, Closes};
 
 use crate::expression::{MOST, expression, value};
 use crate::sign::{Sign, identifier, number, take};
@@ -34,7 +34,7 @@ fn repeated(turns: u16, body: Vec<Stmt>) -> Stmt
 #[tactic(auto, using(crate::proofs::Statements::defines))]
 fn definition<'a>(alloc: Global, tokens: &'a [Placed], depth: u8) -> Front<'a, Stmt>
     requires { depth ≤ 48 }
-    ensures adds { MatchResult result (λ p. Adds (λ st. A_name After_let ∷ st) depth tokens.now (statement_of p.0) p.1.now) (λ e. FailsAs (λ st. A_name After_let ∷ st) depth tokens.now e) }
+    ensures adds { AddsOr result (λ st. A_name After_let ∷ st) depth tokens.now (λ p. statement_of p.0) (λ p. p.1.now) }
     ensures shorter { IfOk result (λ p. length p.1.now < length tokens.now) }
 {
     let (name, rest) = identifier(tokens)?;
@@ -47,7 +47,7 @@ fn definition<'a>(alloc: Global, tokens: &'a [Placed], depth: u8) -> Front<'a, S
 #[tactic(auto, using(crate::proofs::Statements::assigns, crate::proofs::Statements::assigns_element, crate::proofs::Statements::fails_element))]
 fn assignment<'a>(alloc: Global, name: Name, tokens: &'a [Placed], depth: u8) -> Front<'a, Stmt>
     requires { depth ≤ 48 }
-    ensures adds { MatchResult result (λ p. Adds (λ st. Target_of name ∷ st) depth tokens.now (statement_of p.0) p.1.now) (λ e. FailsAs (λ st. Target_of name ∷ st) depth tokens.now e) }
+    ensures adds { AddsOr result (λ st. Target_of name ∷ st) depth tokens.now (λ p. statement_of p.0) (λ p. p.1.now) }
     ensures shorter { IfOk result (λ p. length p.1.now < length tokens.now) }
 {
     let Some((first, rest)) = tokens.split_first() else {
@@ -72,7 +72,7 @@ fn assignment<'a>(alloc: Global, name: Name, tokens: &'a [Placed], depth: u8) ->
 #[tactic(auto, using(crate::proofs::Statements::stores))]
 fn element<'a>(alloc: Global, name: Name, tokens: &'a [Placed], depth: u8) -> Front<'a, Stmt>
     requires { depth < 48 }
-    ensures adds { MatchResult result (λ p. Adds (element_wanted name) depth tokens.now (statement_of p.0) p.1.now) (λ e. FailsAs (element_wanted name) depth tokens.now e) }
+    ensures adds { AddsOr result (element_wanted name) depth tokens.now (λ p. statement_of p.0) (λ p. p.1.now) }
     ensures shorter { IfOk result (λ p. length p.1.now < length tokens.now) }
 {
     let (index, rest) = expression(alloc, tokens, depth + 1)?;
@@ -86,7 +86,7 @@ fn element<'a>(alloc: Global, name: Name, tokens: &'a [Placed], depth: u8) -> Fr
 #[tactic(auto, using(crate::proofs::Statements::sends, crate::proofs::Statements::fails_sending))]
 fn sending<'a>(alloc: Global, tokens: &'a [Placed], depth: u8) -> Front<'a, Stmt>
     requires { depth ≤ 48 }
-    ensures adds { MatchResult result (λ p. Adds (λ st. A_name After_send ∷ st) depth tokens.now (statement_of p.0) p.1.now) (λ e. FailsAs (λ st. A_name After_send ∷ st) depth tokens.now e) }
+    ensures adds { AddsOr result (λ st. A_name After_send ∷ st) depth tokens.now (λ p. statement_of p.0) (λ p. p.1.now) }
     ensures shorter { IfOk result (λ p. length p.1.now < length tokens.now) }
 {
     let (output, rest) = identifier(tokens)?;
@@ -97,7 +97,7 @@ fn sending<'a>(alloc: Global, tokens: &'a [Placed], depth: u8) -> Front<'a, Stmt
 #[tactic(auto, using(crate::proofs::Statements::argument))]
 fn sent<'a>(alloc: Global, output: Name, tokens: &'a [Placed], depth: u8) -> Front<'a, Stmt>
     requires { depth ≤ 48 }
-    ensures adds { MatchResult result (λ p. Adds (λ st. Argument_of output ∷ st) depth tokens.now (statement_of p.0) p.1.now) (λ e. FailsAs (λ st. Argument_of output ∷ st) depth tokens.now e) }
+    ensures adds { AddsOr result (λ st. Argument_of output ∷ st) depth tokens.now (λ p. statement_of p.0) (λ p. p.1.now) }
     ensures shorter { IfOk result (λ p. length p.1.now < length tokens.now) }
 {
     let Some((first, rest)) = tokens.split_first() else {
@@ -121,7 +121,7 @@ fn sent<'a>(alloc: Global, output: Name, tokens: &'a [Placed], depth: u8) -> Fro
 #[tactic(auto, using(crate::proofs::Statements::opens_block, crate::proofs::Statements::goes_on, crate::proofs::Statements::ends_block, crate::proofs::Statements::breaks_block))]
 pub fn block<'a>(alloc: Global, tokens: &'a [Placed], depth: u8) -> Front<'a, Vec<Stmt>>
     requires { depth ≤ 48 }
-    ensures reads { MatchResult result (λ p. Reads (λ st. A_block ∷ st) depth tokens.now (Of_block (block_of p.0.items)) done p.1.now) (λ e. StopsAs (λ st. A_block ∷ st) depth tokens.now e) }
+    ensures reads { ReadsOr result (λ st. A_block ∷ st) depth tokens.now (λ p. Of_block (block_of p.0.items)) (λ p. p.1.now) }
     ensures shorter { IfOk result (λ p. length p.1.now < length tokens.now) }
 {
     let Some((first, after)) = tokens.split_first() else {
@@ -192,7 +192,7 @@ fn statement<'a>(alloc: Global, tokens: &'a [Placed], depth: u8) -> Front<'a, Op
 #[tactic(auto, using(crate::proofs::Statements::chooses))]
 fn condition<'a>(alloc: Global, tokens: &'a [Placed], depth: u8) -> Front<'a, Stmt>
     requires { depth ≤ 48 }
-    ensures adds { MatchResult result (λ p. Adds choice_wanted depth tokens.now (statement_of p.0) p.1.now) (λ e. FailsAs choice_wanted depth tokens.now e) }
+    ensures adds { AddsOr result choice_wanted depth tokens.now (λ p. statement_of p.0) (λ p. p.1.now) }
     ensures shorter { IfOk result (λ p. length p.1.now < length tokens.now) }
 {
     let (test, rest) = expression(alloc, tokens, depth)?;
@@ -206,7 +206,7 @@ fn condition<'a>(alloc: Global, tokens: &'a [Placed], depth: u8) -> Front<'a, St
 #[tactic(auto, using(crate::proofs::Statements::no_else_end, crate::proofs::Statements::no_else, crate::proofs::Statements::with_else))]
 fn otherwise<'a>(alloc: Global, tokens: &'a [Placed], depth: u8) -> Front<'a, Vec<Stmt>>
     requires { depth ≤ 48 }
-    ensures reads { MatchResult result (λ p. Reads (λ st. Otherwise ∷ st) depth tokens.now (Of_block (block_of p.0.items)) done p.1.now) (λ e. StopsAs (λ st. Otherwise ∷ st) depth tokens.now e) }
+    ensures reads { ReadsOr result (λ st. Otherwise ∷ st) depth tokens.now (λ p. Of_block (block_of p.0.items)) (λ p. p.1.now) }
     ensures shorter { IfOk result (λ p. length p.1.now ≤ length tokens.now) }
 {
     let Some((first, after)) = tokens.split_first() else {
@@ -224,7 +224,7 @@ fn otherwise<'a>(alloc: Global, tokens: &'a [Placed], depth: u8) -> Front<'a, Ve
 #[tactic(auto, using(crate::proofs::Statements::repeats))]
 fn repetition<'a>(alloc: Global, tokens: &'a [Placed], depth: u8) -> Front<'a, Stmt>
     requires { depth ≤ 48 }
-    ensures adds { MatchResult result (λ p. Adds (λ st. A_number For_repeat ∷ st) depth tokens.now (statement_of p.0) p.1.now) (λ e. FailsAs (λ st. A_number For_repeat ∷ st) depth tokens.now e) }
+    ensures adds { AddsOr result (λ st. A_number For_repeat ∷ st) depth tokens.now (λ p. statement_of p.0) (λ p. p.1.now) }
     ensures shorter { IfOk result (λ p. length p.1.now < length tokens.now) }
 {
     let (turns, rest) = number(tokens)?;
