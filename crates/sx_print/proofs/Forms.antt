@@ -67,6 +67,11 @@ pub assigned_written : {E : Type 0} {before a x : List ℕ} {whole : Statement} 
     → Wrote before (λ rest. name x Space ∷ rest) a → OnOk r (Wrote a (value_pieces e) after) → OnOk r (Wrote before (statement_pieces depth whole) after)
 assigned_written e depth r after i p q = rw i (ends r (value_pieces e) after p q)
 
+-- a statement that is known to be this one
+pub seen_written : {E : Type 0} (before : List ℕ) (s whole : Statement) (depth : ℕ) (r : Result (Unit {0}) E) (after : List ℕ) → whole ≡ s
+    → OnOk r (Wrote before (statement_pieces depth s) after) → OnOk r (Wrote before (statement_pieces depth whole) after)
+seen_written before s whole depth r after i p = rw i p
+
 pub else_written : {E : Type 0} {before a b c : List ℕ} (items : List Stmt) (depth : ℕ) (r : Result (Unit {0}) E) (after : List ℕ) → 0 < length items
     → Wrote before (one CloseBrace Space) a → Wrote a (one Else Space) b → Wrote b (block_pieces depth (block_of items)) c → OnOk r (Wrote c (one CloseBrace Line) after)
     → OnOk r (Wrote before (else_pieces depth (block_of items)) after)

@@ -2,6 +2,7 @@
 
 ghost use Rattle.std.specs.Prelude.{◌≡◌, ℕ, ◌∷◌, List, IfOk, OnOk, map, string_bytes, true};
 ghost use Rattle.std.specs.Str.{IsUtf8};
+ghost use Rattle.sx_lang.specs.Tree.{Sends, Stores};
 ghost use Rattle.sx_lang.specs.View.{block_of, expression_of, handler_of, module_of, statement_of};
 ghost use Rattle.sx_grammar.specs.Text.{Spells};
 ghost use Rattle.sx_print.specs.Printable.{is_printable};
@@ -49,6 +50,31 @@ fn put_value(out: &mut Vec<u8>, e: &Expr) -> Result<(), OutOfMemory>
     put(out, Kind::Semicolon, Gap::Line)
 }
 
+/// Writes an assignment to an element, which is the same in a line of each depth.
+fn put_element(out: &mut Vec<u8>, x: &Name, index: &Expr, e: &Expr) -> Result<(), OutOfMemory>
+    ensures { (depth : ℕ) → OnOk result (Wrote out.old.items
+        (statement_pieces depth (Stores x.now (expression_of index.now) (expression_of e.now))) out.new.items) }
+{
+    put_name(out, x, Gap::Nothing)?;
+    put(out, Kind::OpenSquare, Gap::Nothing)?;
+    put_expression(out, index, Gap::Nothing)?;
+    put(out, Kind::CloseSquare, Gap::Space)?;
+    put_value(out, e)
+}
+
+/// Writes a `send`, which is the same in a line of each depth.
+fn put_send(out: &mut Vec<u8>, x: &Name, e: &Expr) -> Result<(), OutOfMemory>
+    ensures { (depth : ℕ) → OnOk result (Wrote out.old.items
+        (statement_pieces depth (Sends x.now (expression_of e.now))) out.new.items) }
+{
+    put(out, Kind::Send, Gap::Space)?;
+    put_name(out, x, Gap::Nothing)?;
+    put(out, Kind::Open, Gap::Nothing)?;
+    put_expression(out, e, Gap::Nothing)?;
+    put(out, Kind::Close, Gap::Nothing)?;
+    put(out, Kind::Semicolon, Gap::Line)
+}
+
 #[cycle(blocks)]
 fn put_statement(out: &mut Vec<u8>, s: &Stmt, depth: u8) -> Result<(), OutOfMemory>
     ensures { OnOk result (Wrote out.old.items (statement_pieces depth (statement_of s.now)) out.new.items) }
@@ -63,13 +89,7 @@ fn put_statement(out: &mut Vec<u8>, s: &Stmt, depth: u8) -> Result<(), OutOfMemo
             put_name(out, x, Gap::Space)?;
             put_value(out, e)
         }
-        Stmt::Element(x, index, e) => {
-            put_name(out, x, Gap::Nothing)?;
-            put(out, Kind::OpenSquare, Gap::Nothing)?;
-            put_expression(out, index, Gap::Nothing)?;
-            put(out, Kind::CloseSquare, Gap::Space)?;
-            put_value(out, e)
-        }
+        Stmt::Element(x, index, e) => put_element(out, x, index, e),
         Stmt::If(e, then, otherwise) => {
             put(out, Kind::If, Gap::Space)?;
             put_expression(out, e, Gap::Space)?;
@@ -82,14 +102,7 @@ fn put_statement(out: &mut Vec<u8>, s: &Stmt, depth: u8) -> Result<(), OutOfMemo
             put_block(out, body, depth)?;
             put(out, Kind::CloseBrace, Gap::Line)
         }
-        Stmt::Send(x, e) => {
-            put(out, Kind::Send, Gap::Space)?;
-            put_name(out, x, Gap::Nothing)?;
-            put(out, Kind::Open, Gap::Nothing)?;
-            put_expression(out, e, Gap::Nothing)?;
-            put(out, Kind::Close, Gap::Nothing)?;
-            put(out, Kind::Semicolon, Gap::Line)
-        }
+        Stmt::Send(x, e) => put_send(out, x, e),
         Stmt::Emit(e) => {
             put(out, Kind::Emit, Gap::Space)?;
             put_expression(out, e, Gap::Nothing)?;
