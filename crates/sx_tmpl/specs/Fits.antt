@@ -1,6 +1,6 @@
 -- What the code of `emit` computes with; nobody has to believe it. An operation's words are below
 -- 65,536, and a table has the addresses of a text.
-use Rattle.std.specs.Prelude.{◌≡◌, ℕ, ◌+◌, ◌*◌, ◌<◌, ◌≤◌, List, length, slice_index}
+use Rattle.std.specs.Prelude.{◌≡◌, ℕ, ◌+◌, ◌*◌, ◌<◌, ◌≤◌, Bool, true, false, List, length, slice_index}
 use Rattle.sx_rules.specs.declared.section.Layout.{Layout}
 use Rattle.sx_mean.specs.Offsets as offsets
 use Rattle.sx_ir.specs.declared.ir.Ir.{Ir}
@@ -40,6 +40,16 @@ Fits l code (ir.SetEnd k) = l.priv_from + offsets.end_at k < 65536
 Fits l code ir.Sense = Unit {0}
 Fits l code (ir.Handler h) = (h < length code.parts.items) × (part_place code.parts.items h < length code.ops.items) × (l.priv_from + 104 < 65536)
 Fits l code ir.Leave = Unit {0}
+
+-- an operation whose words name no place and no routine
+abbrev pub is_plain : Ir → Bool
+is_plain (ir.Jump q) = false
+is_plain (ir.JumpZero q) = false
+is_plain (ir.Packet k) = false
+is_plain (ir.SetEnd k) = false
+is_plain (ir.Handler h) = false
+is_plain ir.Leave = false
+is_plain i = true
 
 -- for each of the first n ends, how many of those before it have a packet routine
 pub record AreCounts (ops : List Ir) (n : ℕ) (counts : List ℕ) : Type 0 where

@@ -112,10 +112,14 @@ IsNarrow (ir.Packet k) = k < 256
 IsNarrow (ir.Meets r n) = n < 65536
 IsNarrow i = Unit {0}
 
+-- so do those of a code's operations
+abbrev pub AreNarrow : List Ir → Type 0
+AreNarrow ops = (p : ℕ) (i : Ir) → slice_get ops p ≡ Some i → IsNarrow i
+
 -- A text does sound code: wherever an image begins with the text and a call enters the module, the
 -- node does the code, for every end of the invocation whose pieces are those that its marks make.
 abbrev pub DoesCode : Mac → Code → Layout → List ℕ → Type 0
 DoesCode mac code l text =
-    (tree : ModuleTree) (ends : List End) (image : Image) (section : Section) (n : State) (result : Invoked) (rest : List ℕ) → image.layout ≡ l → image.text ≡ text ++ rest → ((p : ℕ) (i : Ir) → slice_get code.ops.items p ≡ Some i → IsNarrow i) → Enters tree image section n
-    → bytes_in (pieces_in result) ≡ made (marks_in result)
+    (tree : ModuleTree) (ends : List End) (image : Image) (section : Section) (n : State) (result : Invoked) (rest : List ℕ) → image.layout ≡ l → image.text ≡ text ++ rest
+    → AreNarrow code.ops.items → Enters tree image section n → bytes_in (pieces_in result) ≡ made (marks_in result)
     → (let s = setup_at mac tree ends section n in Performs s code n result (Stood (fixed_at s n result) (marks_in result) (addresses l code).at))

@@ -88,6 +88,16 @@ seal_words key header hn body bn cipher tag = 0x4039 ∷ key ∷ 0x403a ∷ head
 abbrev pub open_words : (key header hn cipher bn body tag : ℕ) → List ℕ
 open_words key header hn cipher bn body tag = 0x4039 ∷ key ∷ 0x403a ∷ header ∷ 0x403b ∷ hn ∷ 0x403c ∷ cipher ∷ 0x403d ∷ bn ∷ 0x403e ∷ body ∷ 0x403f ∷ tag ∷ 0x1385 ∷ 0x120f ∷ []
 
+-- A seal by offsets from the base: behind the header stand the cipher and the tag.
+abbrev pub sealing_words : (base k h hn b bn : ℕ) → List ℕ
+sealing_words base k h hn b bn =
+    seal_words (key_word base k) (base + h) hn (base + b) bn (base + (h + hn)) (base + (h + hn + bn))
+
+-- the same of what opens it
+abbrev pub opening_words : (base k h hn b bn : ℕ) → List ℕ
+opening_words base k h hn b bn =
+    open_words (key_word base k) (base + h) hn (base + (h + hn)) bn (base + b) (base + (h + hn + bn))
+
 -- CLR &pieces; MOV #next, &back; BR #part
 abbrev pub handler_words : ℕ → ℕ → ℕ → List ℕ
 handler_words base next part = 0x4382 ∷ (base + 4) ∷ 0x40b2 ∷ next ∷ (base + 104) ∷ 0x4030 ∷ part ∷ []
@@ -119,8 +129,8 @@ template l a p ir.Inside = inside_words (l.priv_from + 12) l.pub_from l.pub_to
 template l a p (ir.Meets r n) = meets_words (l.priv_from + offsets.saved_at r) l.priv_from l.priv_to n
 template l a p (ir.CopyIn n o) = copy_in_words (l.priv_from + 8) (l.priv_from + o) n
 template l a p (ir.CopyOut n o) = copy_out_words (l.priv_from + 10) (l.priv_from + o) n
-template l a p (ir.Seal k h hn b bn) = seal_words (key_word l.priv_from k) (l.priv_from + h) hn (l.priv_from + b) bn (l.priv_from + (h + hn)) (l.priv_from + (h + hn + bn))
-template l a p (ir.Open k h hn b bn) = open_words (key_word l.priv_from k) (l.priv_from + h) hn (l.priv_from + (h + hn)) bn (l.priv_from + b) (l.priv_from + (h + hn + bn))
+template l a p (ir.Seal k h hn b bn) = sealing_words l.priv_from k h hn b bn
+template l a p (ir.Open k h hn b bn) = opening_words l.priv_from k h hn b bn
 -- MOV #slot, R12; CALL #slots
 template l a p (ir.SetEnd k) = 0x403c ∷ (l.priv_from + offsets.end_at k) ∷ 0x12b0 ∷ a.slots ∷ []
 -- PUSH &device
@@ -144,7 +154,11 @@ leave_words base = 0x413d ∷ 0x413c ∷ 0x4304 ∷ 0x4305 ∷ 0x4306 ∷ 0x4307
 -- The routine that opens the slot at R12: the connection field of the copied packet, number 0,
 -- open, and the eight words of the plain key; RET.
 abbrev pub slot_words : ℕ → List ℕ
-slot_words base = 0x429c ∷ (base + 18) ∷ 0 ∷ 0x438c ∷ 2 ∷ 0x439c ∷ 4 ∷ 0x429c ∷ (base + 56) ∷ 8 ∷ 0x429c ∷ (base + 58) ∷ 10 ∷ 0x429c ∷ (base + 60) ∷ 12 ∷ 0x429c ∷ (base + 62) ∷ 14 ∷ 0x429c ∷ (base + 64) ∷ 16 ∷ 0x429c ∷ (base + 66) ∷ 18 ∷ 0x429c ∷ (base + 68) ∷ 20 ∷ 0x429c ∷ (base + 70) ∷ 22 ∷ 0x4130 ∷ []
+slot_words base =
+    0x429c ∷ (base + 18) ∷ 0 ∷ 0x438c ∷ 2 ∷ 0x439c ∷ 4
+    ∷ 0x429c ∷ (base + 56) ∷ 8 ∷ 0x429c ∷ (base + 58) ∷ 10 ∷ 0x429c ∷ (base + 60) ∷ 12 ∷ 0x429c ∷ (base + 62) ∷ 14
+    ∷ 0x429c ∷ (base + 64) ∷ 16 ∷ 0x429c ∷ (base + 66) ∷ 18 ∷ 0x429c ∷ (base + 68) ∷ 20 ∷ 0x429c ∷ (base + 70) ∷ 22
+    ∷ 0x4130 ∷ []
 
 -- The packet routine of the k-th end tests that the end is open and its number below 65,535, makes
 -- the header and the body, wraps, copies the packet to its offset in the out-window, and counts:

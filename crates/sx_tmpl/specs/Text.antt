@@ -1,6 +1,6 @@
 -- The text of a code. Nobody has to believe this file for what an image realizes. It has where the
 -- instructions of each operation stand, and all words.
-use Rattle.std.specs.Prelude.{ℕ, zero, suc, ◌+◌, ◌*◌, ◌%◌, ◌/◌, if◌then◌else◌, List, [], ◌∷◌, ◌++◌, length, slice_index}
+use Rattle.std.specs.Prelude.{◌≡◌, ℕ, zero, suc, ◌+◌, ◌*◌, ◌%◌, ◌/◌, if◌then◌else◌, List, [], ◌∷◌, ◌++◌, length, slice_index}
 use Rattle.sx_rules.specs.declared.section.Layout.{Layout}
 use Rattle.sx_ir.specs.declared.ir.Ir.{Ir}
 use Rattle.sx_ir.specs.declared.ir.Code.{Code}
@@ -67,3 +67,7 @@ text_words l code = text_words_of l code.ops.items code.parts.items
 abbrev pub bytes_of : List ℕ → List ℕ
 bytes_of [] = []
 bytes_of (w ∷ ws) = w % 256 ∷ w / 256 ∷ bytes_of ws
+
+-- words were appended to a text
+abbrev pub PutsWords : List ℕ → List ℕ → List ℕ → Type 0
+PutsWords words old new = new ≡ old ++ bytes_of words

@@ -1,13 +1,13 @@
 //! Appending of words to a text.
 
-ghost use Rattle.std.specs.Prelude.{◌≡◌, ◌++◌, ◌∷◌, [], OnOk};
-ghost use Rattle.sx_tmpl.specs.Text.{bytes_of};
+ghost use Rattle.std.specs.Prelude.{◌∷◌, [], OnOk};
+ghost use Rattle.sx_tmpl.specs.Text.{PutsWords};
 
 use std::alloc::AllocError as OutOfMemory;
 
 /// Appends a word, its low byte first.
 fn put_word(text: &mut Vec<u8>, word: u16) -> Result<(), OutOfMemory>
-    ensures { OnOk result (text.new.items ≡ text.old.items ++ bytes_of (word ∷ [])) }
+    ensures { OnOk result (PutsWords (word ∷ []) text.old.items text.new.items) }
 {
     text.push((word % 256) as u8)?;
     text.push((word / 256) as u8)?;
@@ -16,7 +16,7 @@ fn put_word(text: &mut Vec<u8>, word: u16) -> Result<(), OutOfMemory>
 
 /// Appends words, one after the other. The error says that memory ran out.
 pub fn put_words(text: &mut Vec<u8>, words: &[u16]) -> Result<(), OutOfMemory>
-    ensures { OnOk result (text.new.items ≡ text.old.items ++ bytes_of words.now) }
+    ensures { OnOk result (PutsWords words.now text.old.items text.new.items) }
 {
     for word in words {
         put_word(text, *word)?;

@@ -1,10 +1,10 @@
 //! The template of each operation.
 
-ghost use Rattle.std.specs.Prelude.{◌≡◌, ◌≤◌, ◌<◌, ◌+◌, ◌*◌, ◌++◌, OnOk, length};
+ghost use Rattle.std.specs.Prelude.{◌≡◌, ℕ, ◌≤◌, ◌<◌, ◌+◌, ◌*◌, OnOk, length, true};
 ghost use Rattle.sx_ir.specs.Sizes.{routines};
-ghost use Rattle.sx_tmpl.specs.Fits.{AreSealed, Fits, IsTable};
-ghost use Rattle.sx_tmpl.specs.Template.{copy_in_words, copy_out_words, handler_words, inside_words, key_word, load_at_words, meets_words, multiply_words, open_words, operator_words, seal_words, store_at_words, template};
-ghost use Rattle.sx_tmpl.specs.Text.{addresses, bytes_of, part_place};
+ghost use Rattle.sx_tmpl.specs.Fits.{AreSealed, Fits, IsTable, is_plain};
+ghost use Rattle.sx_tmpl.specs.Template.{Addresses, copy_in_words, copy_out_words, handler_words, inside_words, key_word, load_at_words, meets_words, multiply_words, opening_words, operator_words, sealing_words, store_at_words, template};
+ghost use Rattle.sx_tmpl.specs.Text.{addresses, part_place, PutsWords};
 
 use crate::put::put_words;
 use crate::table::Table;
@@ -14,7 +14,7 @@ use sx_mean::offsets::{end_at, saved_at};
 use sx_rules::Layout;
 
 fn put_product(text: &mut Vec<u8>) -> Result<(), OutOfMemory>
-    ensures { OnOk result (text.new.items ≡ text.old.items ++ bytes_of multiply_words) }
+    ensures { OnOk result (PutsWords multiply_words text.old.items text.new.items) }
 {
     let words = [
         0x413c, 0x413d, 0x430e, 0x403f, 16, 0x5e0e, 0x5c0c, 0x2801, 0x5d0e, 0x831f, 0x23fa, 0x120e,
@@ -23,7 +23,7 @@ fn put_product(text: &mut Vec<u8>) -> Result<(), OutOfMemory>
 }
 
 fn put_operator(text: &mut Vec<u8>, operator: IrOp) -> Result<(), OutOfMemory>
-    ensures { OnOk result (text.new.items ≡ text.old.items ++ bytes_of (operator_words operator)) }
+    ensures { OnOk result (PutsWords (operator_words operator) text.old.items text.new.items) }
 {
     match operator {
         IrOp::Add => put_words(text, &[0x51b1, 0]),
@@ -41,7 +41,7 @@ fn put_operator(text: &mut Vec<u8>, operator: IrOp) -> Result<(), OutOfMemory>
 }
 
 fn put_load_at(text: &mut Vec<u8>, start: u16, length: u16) -> Result<(), OutOfMemory>
-    ensures { OnOk result (text.new.items ≡ text.old.items ++ bytes_of (load_at_words start length)) }
+    ensures { OnOk result (PutsWords (load_at_words start length) text.old.items text.new.items) }
 {
     put_words(
         text,
@@ -52,7 +52,7 @@ fn put_load_at(text: &mut Vec<u8>, start: u16, length: u16) -> Result<(), OutOfM
 }
 
 fn put_store_at(text: &mut Vec<u8>, start: u16, length: u16) -> Result<(), OutOfMemory>
-    ensures { OnOk result (text.new.items ≡ text.old.items ++ bytes_of (store_at_words start length)) }
+    ensures { OnOk result (PutsWords (store_at_words start length) text.old.items text.new.items) }
 {
     put_words(
         text,
@@ -64,7 +64,7 @@ fn put_store_at(text: &mut Vec<u8>, start: u16, length: u16) -> Result<(), OutOf
 
 /// `back` is where the caller's return address is kept, `from` and `to` bound the public section.
 fn put_inside(text: &mut Vec<u8>, back: u16, from: u16, to: u16) -> Result<(), OutOfMemory>
-    ensures { OnOk result (text.new.items ≡ text.old.items ++ bytes_of (inside_words back from to)) }
+    ensures { OnOk result (PutsWords (inside_words back from to) text.old.items text.new.items) }
 {
     put_words(
         text,
@@ -82,7 +82,7 @@ fn put_meets(
 ) -> Result<(), OutOfMemory>
     requires length { 2 ≤ length }
     requires below { from < 65535 }
-    ensures { OnOk result (text.new.items ≡ text.old.items ++ bytes_of (meets_words saved from to length)) }
+    ensures { OnOk result (PutsWords (meets_words saved from to length) text.old.items text.new.items) }
 {
     let past = u16::MAX - length + 2;
     let before = (from + 1).saturating_sub(length);
@@ -95,7 +95,7 @@ fn put_meets(
 
 /// `window` is where the caller's in-window is kept, and `to` where its bytes go.
 fn put_copy_in(text: &mut Vec<u8>, window: u16, to: u16, count: u16) -> Result<(), OutOfMemory>
-    ensures { OnOk result (text.new.items ≡ text.old.items ++ bytes_of (copy_in_words window to count)) }
+    ensures { OnOk result (PutsWords (copy_in_words window to count) text.old.items text.new.items) }
 {
     put_words(
         text,
@@ -107,7 +107,7 @@ fn put_copy_in(text: &mut Vec<u8>, window: u16, to: u16, count: u16) -> Result<(
 
 /// `window` is where the caller's out-window is kept, and `from` where the bytes are.
 fn put_copy_out(text: &mut Vec<u8>, window: u16, from: u16, count: u16) -> Result<(), OutOfMemory>
-    ensures { OnOk result (text.new.items ≡ text.old.items ++ bytes_of (copy_out_words window from count)) }
+    ensures { OnOk result (PutsWords (copy_out_words window from count) text.old.items text.new.items) }
 {
     put_words(
         text,
@@ -120,7 +120,7 @@ fn put_copy_out(text: &mut Vec<u8>, window: u16, from: u16, count: u16) -> Resul
 /// `next` is the address of the next operation, `part` that of the handler's part.
 fn put_handler(text: &mut Vec<u8>, base: u16, next: u16, part: u16) -> Result<(), OutOfMemory>
     requires { base + 104 < 65536 }
-    ensures { OnOk result (text.new.items ≡ text.old.items ++ bytes_of (handler_words base next part)) }
+    ensures { OnOk result (PutsWords (handler_words base next part) text.old.items text.new.items) }
 {
     put_words(
         text,
@@ -157,27 +157,16 @@ fn put_seal(
     length: u8,
 ) -> Result<(), OutOfMemory>
     requires fits { AreSealed base key header header_length body length }
-    ensures { OnOk result (text.new.items ≡ text.old.items ++ bytes_of (seal_words (key_word base key) (base + header) header_length (base + body) length (base + (header + header_length)) (base + (header + header_length + length)))) }
+    ensures { OnOk result (PutsWords (sealing_words base key header header_length body length) text.old.items text.new.items) }
 {
     let cipher = header + u16::from(header_length);
     let tag = cipher + u16::from(length);
+    let (key, header, body) = (key_address(base, key), base + header, base + body);
+    let (cipher, tag) = (base + cipher, base + tag);
+    let (header_len, length) = (u16::from(header_length), u16::from(length));
     let words = [
-        0x4039,
-        key_address(base, key),
-        0x403a,
-        base + header,
-        0x403b,
-        u16::from(header_length),
-        0x403c,
-        base + body,
-        0x403d,
-        u16::from(length),
-        0x403e,
-        base + cipher,
-        0x403f,
-        base + tag,
-        0x1384,
-        0x4309,
+        0x4039, key, 0x403a, header, 0x403b, header_len, 0x403c, body, 0x403d, length, 0x403e,
+        cipher, 0x403f, tag, 0x1384, 0x4309,
     ];
     put_words(text, &words)
 }
@@ -193,27 +182,16 @@ fn put_open(
     length: u8,
 ) -> Result<(), OutOfMemory>
     requires fits { AreSealed base key header header_length body length }
-    ensures { OnOk result (text.new.items ≡ text.old.items ++ bytes_of (open_words (key_word base key) (base + header) header_length (base + (header + header_length)) length (base + body) (base + (header + header_length + length)))) }
+    ensures { OnOk result (PutsWords (opening_words base key header header_length body length) text.old.items text.new.items) }
 {
     let cipher = header + u16::from(header_length);
     let tag = cipher + u16::from(length);
+    let (key, header, body) = (key_address(base, key), base + header, base + body);
+    let (cipher, tag) = (base + cipher, base + tag);
+    let (header_len, length) = (u16::from(header_length), u16::from(length));
     let words = [
-        0x4039,
-        key_address(base, key),
-        0x403a,
-        base + header,
-        0x403b,
-        u16::from(header_length),
-        0x403c,
-        base + cipher,
-        0x403d,
-        u16::from(length),
-        0x403e,
-        base + body,
-        0x403f,
-        base + tag,
-        0x1385,
-        0x120f,
+        0x4039, key, 0x403a, header, 0x403b, header_len, 0x403c, cipher, 0x403d, length, 0x403e,
+        body, 0x403f, tag, 0x1385, 0x120f,
     ];
     put_words(text, &words)
 }
@@ -245,6 +223,48 @@ fn packet_address(table: &Table, code: &Code, layout: &Layout, end: u8) -> u16
     exit + (34 + 64) + 112 * routines_before(table, code, layout, end)
 }
 
+/// Appends the words of an operation that names no place and no routine: they are the same at each place.
+fn put_plain(
+    text: &mut Vec<u8>,
+    code: &Code,
+    layout: &Layout,
+    operation: Ir,
+) -> Result<(), OutOfMemory>
+    requires plain { is_plain operation ≡ true }
+    requires fits { Fits layout.now code.now operation }
+    ensures { (a : Addresses) (place : ℕ) → OnOk result
+        (PutsWords (template layout.now a place operation) text.old.items text.new.items) }
+{
+    let base = layout.priv_from;
+    match operation {
+        Ir::Push(word) => put_words(text, &[0x1230, word]),
+        Ir::Load(offset) => put_words(text, &[0x1212, base + offset]),
+        Ir::Store(offset) => put_words(text, &[0x41b2, base + offset]),
+        Ir::LoadAt(offset, length) => put_load_at(text, base + offset, length),
+        Ir::StoreAt(offset, length) => put_store_at(text, base + offset, length),
+        Ir::Op(operator) => put_operator(text, operator),
+        Ir::Drop => put_words(text, &[0x5321]),
+        Ir::Emit => put_words(text, &[0x41b2, base]),
+        Ir::Stop => put_words(text, &[0x4210, base + 104]),
+        Ir::Saved(register) => put_words(text, &[0x1212, base + saved_at(register)]),
+        Ir::Inside => put_inside(text, base + 12, layout.pub_from, layout.pub_to),
+        Ir::Meets(register, length) => {
+            let saved = base + saved_at(register);
+            put_meets(text, saved, base, layout.priv_to, length)
+        }
+        Ir::CopyIn(count, offset) => put_copy_in(text, base + 8, base + offset, count),
+        Ir::CopyOut(count, offset) => put_copy_out(text, base + 10, base + offset, count),
+        Ir::Seal(key, header, header_length, body, length) => {
+            put_seal(text, base, key, header, header_length, body, length)
+        }
+        Ir::Open(key, header, header_length, body, length) => {
+            put_open(text, base, key, header, header_length, body, length)
+        }
+        Ir::Sense => put_words(text, &[0x1212, base]),
+        _ => Ok(()),
+    }
+}
+
 /// Appends the words of the operation at a place of the code. The error says that memory ran out.
 pub fn put_operation(
     text: &mut Vec<u8>,
@@ -257,71 +277,27 @@ pub fn put_operation(
     requires table { IsTable layout.now code.now table.now }
     requires place { place < length code.now.ops.items }
     requires fits { Fits layout.now code.now operation }
-    ensures { OnOk result (text.new.items ≡ text.old.items ++ bytes_of (template layout.now (addresses layout.now code.now) place operation)) }
+    ensures { OnOk result (PutsWords (template layout.now (addresses layout.now code.now) place operation) text.old.items text.new.items) }
 {
     let base = layout.priv_from;
     let exit = place_address(table, code, layout, code.ops.len());
     match operation {
-        Ir::Push(word) => put_words(text, &[0x1230, word]),
-        Ir::Load(offset) => put_words(text, &[0x1212, base + offset]),
-        Ir::Store(offset) => put_words(text, &[0x41b2, base + offset]),
-        Ir::LoadAt(offset, length) => put_load_at(text, base + offset, length),
-        Ir::StoreAt(offset, length) => put_store_at(text, base + offset, length),
-        Ir::Op(operator) => put_operator(text, operator),
-        Ir::Jump(to) => put_words(
-            text,
-            &[0x4030, place_address(table, code, layout, usize::from(to))],
-        ),
-        Ir::JumpZero(to) => put_words(
-            text,
-            &[
-                0x413c,
-                0x930c,
-                0x2002,
-                0x4030,
-                place_address(table, code, layout, usize::from(to)),
-            ],
-        ),
+        Ir::Jump(to) => {
+            let to = place_address(table, code, layout, usize::from(to));
+            put_words(text, &[0x4030, to])
+        }
+        Ir::JumpZero(to) => {
+            let to = place_address(table, code, layout, usize::from(to));
+            put_words(text, &[0x413c, 0x930c, 0x2002, 0x4030, to])
+        }
         Ir::Packet(end) => put_words(text, &[0x12b0, packet_address(table, code, layout, end)]),
-        Ir::Drop => put_words(text, &[0x5321]),
-        Ir::Emit => put_words(text, &[0x41b2, base]),
-        Ir::Stop => put_words(text, &[0x4210, base + 104]),
-        Ir::Saved(register) => put_words(text, &[0x1212, base + saved_at(register)]),
-        Ir::Inside => put_inside(text, base + 12, layout.pub_from, layout.pub_to),
-        Ir::Meets(register, length) => put_meets(
-            text,
-            base + saved_at(register),
-            base,
-            layout.priv_to,
-            length,
-        ),
-        Ir::CopyIn(count, offset) => put_copy_in(text, base + 8, base + offset, count),
-        Ir::CopyOut(count, offset) => put_copy_out(text, base + 10, base + offset, count),
-        Ir::Seal(key, header, header_length, body, length) => put_seal(
-            text,
-            base,
-            key,
-            header,
-            header_length,
-            body,
-            length,
-        ),
-        Ir::Open(key, header, header_length, body, length) => put_open(
-            text,
-            base,
-            key,
-            header,
-            header_length,
-            body,
-            length,
-        ),
         Ir::SetEnd(end) => put_words(text, &[0x403c, base + end_at(end), 0x12b0, exit + 34]),
-        Ir::Sense => put_words(text, &[0x1212, base]),
         Ir::Handler(handler) => {
             let next = place_address(table, code, layout, place + 1);
             let part = usize::from(first_place(&code.parts, handler));
             put_handler(text, base, next, place_address(table, code, layout, part))
         }
         Ir::Leave => put_words(text, &[0x4030, exit]),
+        _ => put_plain(text, code, layout, operation),
     }
 }
