@@ -2,7 +2,7 @@
 
 ghost use Rattle.std.specs.Prelude.{◌≡◌, ℕ, ◌<◌, ◌≤◌, OnOk, length, slice_set};
 ghost use Rattle.sx_lang.specs.View.{block_of, expression_of, statement_of};
-ghost use Rattle.sx_mean.specs.Meaning.{act, after_statement, assign, assign_element, define, in_block, local_place, new_local};
+ghost use Rattle.sx_mean.specs.Meaning.{act, after_statement, assign, assign_element, define, in_block, local_place, new_local, times};
 ghost use Rattle.sx_mean.specs.Places.{IsSized};
 ghost use Rattle.sx_mean.specs.View.{state_of};
 
@@ -89,8 +89,7 @@ fn run_statement(decls: &[Decl], s: &Stmt, moment: &mut Moment) -> Result<(), Al
     match s {
         Stmt::Let(x, e) => {
             let value = evaluate(decls, moment, e);
-            define(moment, x, value)?;
-            Ok(())
+            define(moment, x, value)
         }
         Stmt::Assign(x, e) => {
             let value = evaluate(decls, moment, e);
@@ -112,23 +111,34 @@ fn run_statement(decls: &[Decl], s: &Stmt, moment: &mut Moment) -> Result<(), Al
                 Ok(())
             }
         }
-        Stmt::Repeat(n, body) => {
-            for _turn in 0..*n {
-                run_block(decls, body, moment)?;
-            }
-            Ok(())
-        }
+        Stmt::Repeat(n, body) => run_turns(decls, *n, body, moment),
         Stmt::Send(x, e) => {
             let value = evaluate(decls, moment, e);
-            perform(moment, Act::Send(output_number(decls, x), value))?;
-            Ok(())
+            perform(moment, Act::Send(output_number(decls, x), value))
         }
         Stmt::Emit(e) => {
             let value = evaluate(decls, moment, e);
-            perform(moment, Act::Emit(value))?;
-            Ok(())
+            perform(moment, Act::Emit(value))
         }
     }
+}
+
+/// Runs a block so many times.
+#[cycle(run)]
+fn run_turns(
+    decls: &[Decl],
+    turns: u16,
+    body: &Vec<Stmt>,
+    moment: &mut Moment,
+) -> Result<(), AllocError>
+    requires { IsSized decls.now }
+    ensures { OnOk result (state_of moment.new
+        ≡ times turns (λ st. in_block decls.now (block_of body.now.items) st) (state_of moment.old)) }
+{
+    for _turn in 0..turns {
+        run_block(decls, body, moment)?;
+    }
+    Ok(())
 }
 
 /// Runs a block, and drops its locals. The error says that memory ran out.
