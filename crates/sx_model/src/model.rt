@@ -73,17 +73,7 @@ fn take_item(alloc: Global, state: &mut State, app: &App, item: Item) -> Result<
             link,
             number,
             value,
-        } => take(
-            alloc,
-            state,
-            app,
-            module,
-            Taking {
-                link,
-                number,
-                value,
-            },
-        ),
+        } => take(alloc, state, app, module, Taking::new(link, number, value)),
         _ => Ok(take_plain(state, app, item)),
     }
 }

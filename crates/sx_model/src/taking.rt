@@ -109,6 +109,20 @@ pub(crate) struct Taking {
     pub(crate) value: u16,
 }
 
+impl Taking {
+    pub(crate) fn new(link: u8, number: u32, value: u16) -> Taking
+        ensures link { result.link ≡ link }
+        ensures number { result.number ≡ number }
+        ensures value { result.value ≡ value }
+    {
+        Taking {
+            link,
+            number,
+            value,
+        }
+    }
+}
+
 /// A module's receiving end takes a word.
 fn take_present(present: &mut Present, ends: &[End], taking: Taking) -> bool
     ensures answer { result ≡ is_some (takes_present taking.link taking.number ends.now present.old) }
