@@ -15,19 +15,13 @@ pub fn put_entry(text: &mut Vec<u8>, base: u16) -> Result<(), OutOfMemory>
     requires { base + 512 < 65536 }
     ensures { OnOk result (PutsWords (entry_words base) text.old.items text.new.items) }
 {
+    let (caller_sp, stack) = (base + 148, base + 512);
+    let (r12, r13, r14, r15) = (base + 6, base + 8, base + 10, base + 12);
     let words = [
-        0x4182,
-        base + 148,
-        0x4c82,
-        base + 6,
-        0x4d82,
-        base + 8,
-        0x4e82,
-        base + 10,
-        0x4f82,
-        base + 12,
-        0x4031,
-        base + 512,
+        // MOV SP, &148; MOV R12, &6; MOV R13, &8; MOV R14, &10; MOV R15, &12
+        0x4182, caller_sp, 0x4c82, r12, 0x4d82, r13, 0x4e82, r14, 0x4f82, r15,
+        // MOV #512, SP
+        0x4031, stack,
     ];
     put_words(text, &words)
 }
@@ -37,14 +31,14 @@ pub fn put_exit(text: &mut Vec<u8>, base: u16) -> Result<(), OutOfMemory>
     requires { base + 512 < 65536 }
     ensures { OnOk result (PutsWords (leave_words base) text.old.items text.new.items) }
 {
-    let (stack, back) = (base + 148, base + 12);
+    let (caller_sp, back) = (base + 148, base + 12);
     let words = [
         // POP R13; POP R12
         0x413d, 0x413c,
         // CLR R4 .. R11, R14, R15, SR
         0x4304, 0x4305, 0x4306, 0x4307, 0x4308, 0x4309, 0x430a, 0x430b, 0x430e, 0x430f, 0x4302,
         // MOV &148, SP; MOV &12, PC
-        0x4211, stack, 0x4210, back,
+        0x4211, caller_sp, 0x4210, back,
     ];
     put_words(text, &words)
 }
