@@ -1,3 +1,4 @@
 pub mod Reach
 pub mod Rights
 pub mod Clear
+pub mod Open

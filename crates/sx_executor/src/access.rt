@@ -59,15 +59,17 @@ impl<B: Bus> Executor<B> {
     }
 
     /// Whether the running code may access the word, or in byte form the byte.
+    #[tactic(auto, using(crate::proofs::Open::open_word))]
     pub(crate) fn may(&self, wide: bool, access: Access, at: u16) -> bool
         ensures { result ≡ may_at wide self.now.sections.live self.now.own access at }
     {
-        if wide {
-            let even = at - at % 2;
-            self.table.may(self.own, access, even) && self.table.may(self.own, access, even + 1)
-        } else {
-            self.table.may(self.own, access, at)
+        if !wide {
+            return self.table.may(self.own, access, at);
         }
+        if self.table.is_open(at) {
+            return true;
+        }
+        self.table.may_word(self.own, access, at)
     }
 
     /// The device whose word holds the byte, with its index.
@@ -148,18 +150,21 @@ impl<B: Bus> Executor<B> {
     }
 
     /// Whether an extension word of the running code may stand at the place.
-    #[tactic(auto, using(crate::proofs::Rights::extends_readable))]
+    #[tactic(auto, using(crate::proofs::Rights::extends_readable, crate::proofs::Open::open_extends, crate::proofs::Open::open_word))]
     fn may_extend(&self, at: u16) -> bool
         ensures word { result ≡ extends_word self.now at }
         ensures readable { IsTrue result
             → may_at true self.now.sections.live self.now.own Read at ≡ true }
     {
-        let even = at - at % 2;
-        self.table.extends(self.own, even) && self.table.extends(self.own, even + 1)
+        if self.table.is_open(at) {
+            return true;
+        }
+        self.table.extends_word(self.own, at)
     }
 
     /// Fetches an extension word. `Fetch` where no extension word of the running code may stand,
     /// and else `Device` on a device's word.
+    #[inline(always)]
     pub fn fetch(&self, at: u16) -> Result<u16, Violation>
         ensures { fetch self.now.sections.live self.now.own at (moment_of self.now) ≡ result }
     {

@@ -20,6 +20,7 @@ impl<B: Copied> Executor<B> {
             table: self.table.copy(),
             own: self.own,
             touches: self.touches,
+            decoded: self.decoded,
         })
     }
 }

@@ -7,6 +7,8 @@ ghost use Rattle.sx_rules.specs.Access.{holder, section_of};
 ghost use Rattle.sx_machine.specs.Run.{untouched};
 ghost use Rattle.sx_executor.specs.Machine.{switched_on, cleared_by_reset};
 
+use crate::decoded::Decoded;
+use crate::decoding::PLACES;
 use std::marker::Model;
 use sx_bus::{Bus, Windows};
 use sx_machine::Touch;
@@ -22,6 +24,8 @@ pub struct Executor<B: Bus> {
     pub(crate) table: Table,
     pub(crate) own: u16,
     pub(crate) touches: [Touch; 2],
+    /// Decoded first words, each in a place that it determines.
+    pub(crate) decoded: [Option<Decoded>; PLACES],
 }
 
 impl<B: Bus> Model for Executor<B> {
@@ -51,6 +55,7 @@ impl<B: Bus> Executor<B> {
             table: Table::new(),
             own: 0,
             touches: [Touch::Quiet; 2],
+            decoded: [None; PLACES],
         }
     }
 

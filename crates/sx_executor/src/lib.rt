@@ -11,6 +11,7 @@
 #![tactic(auto)]
 
 pub use buffer::Buffer;
+pub use decoded::Decoded;
 pub use executor::Executor;
 pub use range::Range;
 
@@ -18,6 +19,8 @@ mod access;
 mod buffer;
 mod buffers;
 mod copied;
+mod decoded;
+mod decoding;
 mod executor;
 mod range;
 pub mod registers;

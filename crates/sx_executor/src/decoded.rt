@@ -1,0 +1,41 @@
+//! First words that were decoded.
+
+ghost use Rattle.std.specs.Prelude.{◌≡◌, None, Some, MatchOption};
+ghost use Rattle.std.proofs.Props.{props};
+ghost use Rattle.sx_isa.specs.Reading.{instruction_at, length_of};
+ghost use Rattle.sx_executor.specs.Reads.{IsRead};
+
+use sx_isa::{Instr, decode, extended};
+
+/// A first word that was decoded: its instruction with extension words of 0, and how many words
+/// that has.
+#[derive(Clone, Copy)]
+pub struct Decoded {
+    pub first: u16,
+    pub instruction: Instr,
+    pub words: u8,
+    pub ghost read: { IsRead first instruction words } by { Prim.hlevel props },
+}
+
+impl Decoded {
+    /// None exactly where no instruction has the first word.
+    #[tactic(auto, unfolding(sx_isa::specs::Reading::length_of))]
+    pub(crate) fn new(first: u16) -> Option<Decoded>
+        ensures { MatchOption result (length_of first ≡ None) (λ decoded. decoded.first ≡ first) }
+    {
+        let (instruction, words) = decode(first, 0, 0)?;
+        Some(Decoded {
+            first,
+            instruction,
+            words,
+        })
+    }
+
+    /// The instruction with these extension words. Those past its own don't matter.
+    pub fn with_words(&self, second: u16, third: u16) -> Instr
+        ensures { instruction_at self.now.first second third
+            ≡ Some (record { 0 = result; 1 = self.now.words }) }
+    {
+        extended(self.instruction, second, third)
+    }
+}
