@@ -13,6 +13,7 @@ use sx_rules::Violation;
 
 /// Reads a source operand, whose register goes on where the mode says so; any plan may follow. The
 /// error is the instruction's first violation.
+#[inline(always)]
 pub fn read_source<B: Bus>(
     executor: &mut Executor<B>,
     wide: bool,

@@ -12,33 +12,32 @@ use crate::jump::jump;
 use crate::one_operand::{one, reti};
 use crate::two_operands::two;
 use sx_bus::Bus;
-use sx_executor::Executor;
 use sx_executor::registers::{PC, SP, SR};
-use sx_isa::{Instr, decode};
+use sx_executor::{Decoded, Executor};
+use sx_isa::Instr;
 use sx_rules::Violation;
 
-/// Fetches the extension words of the instruction whose first word stands at `pc`, and gives the
-/// instruction with its number of words.
+/// The instruction whose first word stands at `pc`: its extension words are fetched and put in.
 #[tactic(auto, unfolding(sx_isa::specs::Reading::length_of))]
 fn fetch_instruction<B: Bus>(
     executor: &Executor<B>,
-    first: u16,
+    decoded: &Decoded,
     pc: u16,
-) -> Result<(Instr, u8), Violation>
-    ensures { (regs : List ℕ) → ran (with_words (length_of first) first regs pc) executor.now
-        ≡ followed result (λ i. ran (row i.0 regs (onward pc (2 * i.1))) executor.now) }
+) -> Result<Instr, Violation>
+    ensures { (regs : List ℕ)
+        → ran (with_words (length_of decoded.now.first) decoded.now.first regs pc) executor.now
+        ≡ followed result (λ i. ran (row i regs (onward pc (2 * decoded.now.words))) executor.now) }
 {
-    let (instruction, words) = decode(first, 0, 0).ok_or(Violation::Illegal)?;
-    match words {
-        1 => Ok((instruction, words)),
+    match decoded.words {
+        1 => Ok(decoded.instruction),
         2 => {
             let second = executor.fetch(pc.wrapping_add(2))?;
-            decode(first, second, 0).ok_or(Violation::Illegal)
+            Ok(decoded.with_words(second, 0))
         }
         _ => {
             let second = executor.fetch(pc.wrapping_add(2))?;
             let third = executor.fetch(pc.wrapping_add(4))?;
-            decode(first, second, third).ok_or(Violation::Illegal)
+            Ok(decoded.with_words(second, third))
         }
     }
 }
@@ -70,9 +69,10 @@ pub fn step_plain<B: Bus>(executor: &mut Executor<B>, first: u16) -> Result<(), 
     ensures { Runs (program first executor.old.regs) executor.old result executor.new }
 {
     let pc = executor.register(PC);
-    let (instruction, words) = fetch_instruction(executor, first, pc)?;
+    let decoded = executor.decode(first).ok_or(Violation::Illegal)?;
+    let instruction = fetch_instruction(executor, &decoded, pc)?;
     executor.set_pc(pc.wrapping_add(2));
-    let next = pc.wrapping_add(2 * u16::from(words));
+    let next = pc.wrapping_add(2 * u16::from(decoded.words));
     execute(executor, instruction, next)
 }
 

@@ -93,6 +93,7 @@ pub fn into_memory<B: Bus>(
     }
 }
 
+#[inline(always)]
 fn on_memory<B: Bus>(
     executor: &mut Executor<B>,
     op: Op2,
