@@ -1,8 +1,8 @@
 //! One step of a node: the tests of PC, and then the instruction.
 
 ghost use Rattle.std.specs.Prelude.{◌≡◌, ◌==◌, ◌-◌, ◌<◌, ℕ, if◌then◌else◌, true, false};
-ghost use Rattle.std.specs.Prelude.{None, MatchOption};
-ghost use Rattle.sx_rules.specs.Access.{Lives, holder};
+ghost use Rattle.std.specs.Prelude.{None, MatchOption, IsTrue};
+ghost use Rattle.sx_rules.specs.Access.{Lives, holder, in_order};
 ghost use Rattle.sx_rules.specs.Placed.{Placed};
 ghost use Rattle.sx_bus.specs.Devices.{device_at};
 ghost use Rattle.sx_rules.specs.declared.section.Section.{Section};
@@ -89,6 +89,9 @@ impl<B: Bus, T: Tag> Node<B, T> {
         ensures { Attempts self.old (attempt T.mac self.old) result self.new }
     {
         let pc = self.executor.register(PC);
+        if self.is_open(pc) {
+            return self.attempt_outside();
+        }
         if !self.word_outside(pc) {
             return Err(Violation::Fetch);
         }
@@ -98,28 +101,52 @@ impl<B: Bus, T: Tag> Node<B, T> {
         if !self.executor.table().in_order(self.cur, pc) {
             return Err(Violation::Order);
         }
-        self.instruction()
+        let own = self.executor.holder(pc);
+        self.instruction(own)
+    }
+
+    /// Whether no section meets the page of the word at an address. Then what a step asks of the
+    /// sections needs no look at them.
+    #[tactic(auto, using(sx_executor::proofs::Open::open_outside, sx_executor::proofs::Open::open_ordered, sx_executor::proofs::Open::open_holder))]
+    fn is_open(&self, at: u16) -> bool
+        ensures outside { IsTrue result → word_outside self.now.sections.live at ≡ true }
+        ensures order { IsTrue result → in_order self.now.sections.live self.now.cur at ≡ true }
+        ensures own { IsTrue result → holder self.now.sections.live at ≡ 0 }
+    {
+        self.executor.table().is_open(at)
+    }
+
+    /// The instruction at PC, where no section is in its way and it is of no module's code.
+    fn attempt_outside(&mut self) -> Result<Seen, Violation>
+        requires outside { word_outside self.old.sections.live (pc_of self.old) ≡ true }
+        requires order { in_order self.old.sections.live self.old.cur (pc_of self.old) ≡ true }
+        requires own { own_of self.old ≡ 0 }
+        ensures { Attempts self.old (attempt T.mac self.old) result self.new }
+    {
+        let pc = self.executor.register(PC);
+        match self.executor.windows().at(pc) {
+            Some(_device) => Err(Violation::Device),
+            None => self.instruction(0),
+        }
     }
 
     /// Whether the word at an address lies in no private section.
     fn word_outside(&self, at: u16) -> bool
         ensures { result ≡ word_outside self.now.sections.live at }
     {
-        let even = at - at % 2;
-        let table = self.executor.table();
-        table.outside_private(even) && table.outside_private(even + 1)
+        self.executor.table().outside_private_word(at)
     }
 
     /// The instruction at PC, where it may be run: its word lies in no private section and is no
     /// device's.
     #[tactic(auto, using(sx_executor::proofs::Rights::outside_word, sx_executor::proofs::Clear::none_found))]
-    fn instruction(&mut self) -> Result<Seen, Violation>
+    fn instruction(&mut self, own: u16) -> Result<Seen, Violation>
+        requires own { own ≡ own_of self.old }
         requires outside { word_outside self.old.sections.live (pc_of self.old) ≡ true }
         requires memory { device_at self.old.devices (pc_of self.old) ≡ None }
         ensures { Attempts self.old (instruction T.mac self.old) result self.new }
     {
         let pc = self.executor.register(PC);
-        let own = self.executor.holder(pc);
         let word = self.executor.read(true, pc);
         match code_of(word) {
             Some(code) => self.module_instruction(own, code),
@@ -127,6 +154,8 @@ impl<B: Bus, T: Tag> Node<B, T> {
         }
     }
 
+    /// A module instruction. Its code stays out of the way of the plain ones'.
+    #[inline(never)]
     fn module_instruction(&mut self, own: u16, code: u8) -> Result<Seen, Violation>
         requires own { own ≡ own_of self.old }
         requires code { is_code code ≡ true }
