@@ -166,6 +166,46 @@ held_turn at live i d bits h e told =
     ] in
     sym (at_drop_more (λ (xs : List Section). holder xs at) live i d h ∙ cond-false (in_public s at) s.id (holder rest at) outside)
 
+-- A page that one section alone meets: its bit alone is set.
+
+first_bit : (b : Bool) (m : ℕ) → cond b 1 0 + 2 * m ≡ 1 → (b ≡ true) × (m ≡ 0)
+first_bit true m h = (refl, omega arith)
+first_bit false m h = absurd (omega arith)
+
+later_bit : (b : Bool) (m place : ℕ) → cond b 1 0 + 2 * m ≡ 2 ^ suc place → (b ≡ false) × (m ≡ 2 ^ place)
+later_bit true m place h = let double = pow-suc 2 place in absurd (omega arith)
+later_bit false m place h = let double = pow-suc 2 place in (refl, omega arith)
+
+and_true : (a : Bool) → a ≡ (a && true)
+and_true true = refl
+and_true false = refl
+
+-- it answers for all
+pub only_answers : (q : Question) (at place : ℕ) (live : List Section) (d : Section) → meeting (at / 256) live ≡ 2 ^ place → place < length live
+    → answer q at (get_or live place d) ≡ list_all (answer q at) live
+only_answers q at place [] d h below = absurd (omega arith)
+only_answers q at zero (s ∷ rest) d h below =
+    let bit = first_bit (meets (at / 256) s) (meeting (at / 256) rest) h in
+    let others : list_all (answer q at) rest ≡ true = open_answers q rest at (none_meets (at / 256) rest bit.1) in
+    and_true (answer q at s) ∙ sym (ap (λ (b : Bool). answer q at s && b) others)
+only_answers q at (suc place) (s ∷ rest) d h below =
+    let bit = later_bit (meets (at / 256) s) (meeting (at / 256) rest) place h in
+    only_answers q at place rest d bit.1 (omega arith)
+    ∙ sym (ap (λ (b : Bool). b && list_all (answer q at) rest) (answers_away q at s (away at s bit.0)))
+
+-- and alone may hold a byte
+pub only_holds : (at place : ℕ) (live : List Section) (d : Section) → meeting (at / 256) live ≡ 2 ^ place → place < length live
+    → cond (in_public (get_or live place d) at) (get_or live place d).id 0 ≡ holder live at
+only_holds at place [] d h below = absurd (omega arith)
+only_holds at zero (s ∷ rest) d h below =
+    let bit = first_bit (meets (at / 256) s) (meeting (at / 256) rest) h in
+    let none : holder rest at ≡ 0 = open_holder rest at (none_meets (at / 256) rest bit.1) in
+    sym (ap (λ (id : ℕ). cond (in_public s at) s.id id) none)
+only_holds at (suc place) (s ∷ rest) d h below =
+    let bit = later_bit (meets (at / 256) s) (meeting (at / 256) rest) place h in
+    only_holds at place rest d bit.1 (omega arith)
+    ∙ sym (cond-false (in_public s at) s.id (holder rest at) (away at s bit.0).0)
+
 -- A new table: its slots are unused, and no section meets a page.
 
 pub all_alike : {A : Type 0} (n i : ℕ) (x : A) → get_or (replicate n x) i x ≡ x

@@ -1,6 +1,6 @@
 //! What code may do to a byte.
 
-ghost use Rattle.std.specs.Prelude.{◌≡◌, ◌/◌};
+ghost use Rattle.std.specs.Prelude.{◌≡◌, ◌/◌, ◌^◌, if◌then◌else◌, IfSome};
 ghost use Rattle.std.specs.List.{list_all};
 ghost use Rattle.sx_rules.specs.Access.{in_public, in_private, at_entry, allows, holder, section_of};
 ghost use Rattle.sx_rules.specs.Pages.{meeting, answer};
@@ -83,6 +83,13 @@ impl Section {
         }
     }
 
+    /// Its id where the byte lies in the public part, else 0.
+    fn held(&self, at: u16) -> u16
+        ensures { result ≡ if in_public self.now at then self.now.id else 0 }
+    {
+        if self.in_public(at) { self.id } else { 0 }
+    }
+
     /// What it says to the question about a byte.
     fn answer(&self, question: Question, at: u16) -> bool
         ensures { result ≡ answer question at self.now }
@@ -100,9 +107,45 @@ impl Section {
     }
 }
 
+/// The place of the bit that alone is set, if one is.
+fn only_bit(bits: u8) -> Option<usize>
+    ensures { IfSome result (λ place. bits ≡ 2 ^ place) }
+{
+    match bits {
+        1 => Some(0),
+        2 => Some(1),
+        4 => Some(2),
+        8 => Some(3),
+        16 => Some(4),
+        32 => Some(5),
+        64 => Some(6),
+        128 => Some(7),
+        _ => None,
+    }
+}
+
 /// Whether every section says yes to the question about a byte. Bit i of `near` tells whether the
-/// i-th meets the byte's page; the others aren't asked.
+/// i-th meets the byte's page; the others aren't asked, and one that alone meets it isn't looked
+/// for.
+#[tactic(auto, using(crate::proofs::Away::ends_asked, crate::proofs::Away::only_answers))]
 pub fn all_answer(live: &[Section], near: u8, question: Question, at: u16) -> bool
+    requires { near ≡ meeting (at / 256) live.now }
+    ensures { result ≡ list_all (answer question at) live.now }
+{
+    if near == 0 {
+        return true;
+    }
+    if let Some(place) = only_bit(near) {
+        if place < live.len() {
+            return live[place].answer(question, at);
+        }
+    }
+    each_answers(live, near, question, at)
+}
+
+/// The same, of one section after the other.
+#[inline(never)]
+fn each_answers(live: &[Section], near: u8, question: Question, at: u16) -> bool
     requires { near ≡ meeting (at / 256) live.now }
     ensures { result ≡ list_all (answer question at) live.now }
 {
@@ -121,7 +164,25 @@ pub fn all_answer(live: &[Section], near: u8, question: Question, at: u16) -> bo
 
 /// The id of the section whose public part holds the byte, else 0. Only those are looked at whose
 /// bit in `near` is set, as in `all_answer`.
+#[tactic(auto, using(crate::proofs::Away::ends_held, crate::proofs::Away::only_holds))]
 pub fn holder(live: &[Section], near: u8, at: u16) -> u16
+    requires { near ≡ meeting (at / 256) live.now }
+    ensures { result ≡ holder live.now at }
+{
+    if near == 0 {
+        return 0;
+    }
+    if let Some(place) = only_bit(near) {
+        if place < live.len() {
+            return live[place].held(at);
+        }
+    }
+    first_holder(live, near, at)
+}
+
+/// The same, looking at one section after the other.
+#[inline(never)]
+fn first_holder(live: &[Section], near: u8, at: u16) -> u16
     requires { near ≡ meeting (at / 256) live.now }
     ensures { result ≡ holder live.now at }
 {

@@ -1,7 +1,7 @@
 use Rattle.std.proofs.Common.{◌≡◌, ◌/◌, drop}
 use Rattle.sx_rules.specs.Access.{holder}
 use Rattle.sx_rules.specs.Pages.{meeting}
-use Rattle.sx_rules.proofs.access.holder.Given as goal
+use Rattle.sx_rules.proofs.access.first_holder.Given as goal
 
 -- the sections so far don't hold the byte, and the bits are those of the others
 abbrev pub invariant-loop-s : goal.invariant-loop-s

@@ -1,7 +1,7 @@
 use Rattle.std.proofs.Common.{◌≡◌, ◌/◌, drop}
 use Rattle.std.specs.List.{list_all}
 use Rattle.sx_rules.specs.Pages.{meeting, answer}
-use Rattle.sx_rules.proofs.access.all_answer.Given as goal
+use Rattle.sx_rules.proofs.access.each_answers.Given as goal
 
 -- the sections so far say yes, and the bits are those of the others
 abbrev pub invariant-loop-s : goal.invariant-loop-s

@@ -1,7 +1,7 @@
 use Rattle.std.proofs.Common.{drop, sym, ◌∙◌}
 use Rattle.sx_rules.proofs.Away.{ends_asked, past_end, bits_turn, asked_turn}
-use Rattle.sx_rules.proofs.access.all_answer.Goals as goal
-use Rattle.sx_rules.proofs.access.all_answer.Goals.{else-rest-eq1-via-then-rest-eq1+else-not-answer, else-rest-eq1-via-else-rest-eq1}
+use Rattle.sx_rules.proofs.access.each_answers.Goals as goal
+use Rattle.sx_rules.proofs.access.each_answers.Goals.{else-rest-eq1-via-then-rest-eq1+else-not-answer, else-rest-eq1-via-else-rest-eq1}
 
 pub returns-then-rest-eq0 : goal.returns-then-rest-eq0
 returns-then-rest-eq0 c =

@@ -1,7 +1,7 @@
 use Rattle.std.proofs.Common.{drop, sym, ◌∙◌}
 use Rattle.sx_rules.proofs.Away.{ends_held, past_end, bits_turn, held_turn}
-use Rattle.sx_rules.proofs.access.holder.Goals as goal
-use Rattle.sx_rules.proofs.access.holder.Goals.{else-rest-eq1-via-then-rest-eq1+else-in_public, else-rest-eq1-via-else-rest-eq1}
+use Rattle.sx_rules.proofs.access.first_holder.Goals as goal
+use Rattle.sx_rules.proofs.access.first_holder.Goals.{else-rest-eq1-via-then-rest-eq1+else-in_public, else-rest-eq1-via-else-rest-eq1}
 
 pub returns-then-rest-eq0 : goal.returns-then-rest-eq0
 returns-then-rest-eq0 c =
