@@ -1,10 +1,13 @@
 -- What each calculation gives, and what it does to the flags (TI, MSP430x2xx Family User's Guide,
 -- "Instruction Set"). V after a rotation through the carry is 0 here, where TI's guides differ.
-use Rattle.std.specs.Prelude.{ℕ, ℤ, pos, negsuc, ◌+◌, ◌*◌, ◌-◌, ◌/◌, ◌%◌, ◌==◌, Bool, true, false, ◌&&◌, not, nat_le, if◌then◌else◌, bit_and, bit_or, bit_xor}
+use Rattle.std.specs.Prelude.{ℕ, ℤ, pos, negsuc, ◌+◌, ◌*◌, ◌-◌, ◌/◌, ◌%◌, ◌==◌, Bool, true, false}
+use Rattle.std.specs.Prelude.{◌&&◌, not, nat_le, if◌then◌else◌, bit_and, bit_or, bit_xor}
 use Rattle.sx_alu.specs.Status.{bit}
 use Rattle.sx_alu.specs.declared.flags.Flags.{Flags}
 use Rattle.sx_alu.specs.declared.calculation.Calc.{Calc}
-use Rattle.sx_alu.specs.declared.calculation.Calc.TheVariants.{Add, AddCarry, Sub, SubCarry, And, AndNot, Or, Xor, Rrc, Rra, Swap, Extend}
+use Rattle.sx_alu.specs.declared.calculation.Calc.TheVariants.{Add, AddCarry, Sub, SubCarry, And}
+use Rattle.sx_alu.specs.declared.calculation.Calc.TheVariants.{AndNot, Or, Xor, Rrc, Rra, Swap}
+use Rattle.sx_alu.specs.declared.calculation.Calc.TheVariants.{Extend}
 
 -- how many numbers a word or a byte has
 abbrev pub limit : Bool → ℕ
@@ -51,7 +54,8 @@ abbrev pub difference_row : Bool → ℕ → ℕ → ℕ → ℕ × Flags
 difference_row wide s d carry =
     let sum = d + inverse wide s + carry in
     let two_signs = differ (is_negative wide d) (is_negative wide s) in
-    carried wide sum (two_signs && differ (is_negative wide (sum % limit wide)) (is_negative wide d))
+    carried wide sum (two_signs && differ (is_negative wide (sum % limit wide))
+    (is_negative wide d))
 
 -- C is "not zero"
 abbrev pub tested : Bool → ℕ → Bool → ℕ × Flags

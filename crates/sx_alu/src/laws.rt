@@ -1,7 +1,8 @@
 //! What the flags say, in terms of arithmetic. Each law is a function that does nothing: its
 //! contract is the law.
 
-ghost use Rattle.std.specs.Prelude.{◌≡◌, ◌↔◌, ℕ, ◌<◌, ◌≤◌, ◌+◌, ◌-◌, ◌/◌, ◌%◌, Bool, IsTrue, ◌<ℤ◌, ◌+ℤ◌, ◌-ℤ◌, pos, false};
+ghost use Rattle.std.specs.Prelude.{◌≡◌, ◌↔◌, ℕ, ◌<◌, ◌≤◌, ◌+◌, ◌-◌, ◌/◌, ◌%◌, Bool, IsTrue, ◌<ℤ◌};
+ghost use Rattle.std.specs.Prelude.{◌+ℤ◌, ◌-ℤ◌, pos, false};
 ghost use Rattle.sx_alu.specs.Status.{bit, flags_of, with_flags_in};
 ghost use Rattle.sx_alu.specs.Table.{limit, row, signed, differ, sum_row, difference_row};
 ghost use Rattle.sx_alu.specs.declared.flags.Flags.{Flags};

@@ -2,7 +2,9 @@
 
 ghost use Rattle.std.specs.Prelude.{◌≡◌, ◌%◌, ◌<◌, ◌&&◌, IsTrue};
 ghost use Rattle.sx_alu.specs.Status.{bit};
-ghost use Rattle.sx_alu.specs.Table.{limit, half, is_negative, row, has_width, sum_row, difference_row, carried, differ, tested, shifted, extended, with_flags};
+ghost use Rattle.sx_alu.specs.Table.{limit, half, is_negative, row, has_width, sum_row};
+ghost use Rattle.sx_alu.specs.Table.{difference_row, carried, differ, tested, shifted, extended};
+ghost use Rattle.sx_alu.specs.Table.{with_flags};
 
 use crate::calculation::Calc;
 use crate::flags::Flags;

@@ -9,22 +9,22 @@ use Rattle.sx_asm.specs.declared.written.Entry.{Entry}
 use Rattle.sx_asm.specs.declared.error.AsmError.{AsmError}
 use Rattle.sx_asm.specs.declared.error.AsmError.TheVariants.{Fault, OutOfMemory}
 use Rattle.sx_asm.specs.Grammar.{value, first, data_of, is_comma, is_colon, labelled, statement_of}
-use Rattle.sx_asm.specs.Reading.{placed, not_written, append, onto_first, parts}
+use Rattle.sx_asm.specs.Reading.{placed_entries, not_written, append, onto_first, parts}
 use Rattle.sx_asm.specs.Fronts.{in_front}
-use Rattle.sx_asm.specs.Adding.{grown, Adds}
+use Rattle.sx_asm.specs.Adding.{grown, AddsEntries}
 
 none_meant : (before : List Entry) (n : ℕ) (meant : Option (List Item)) → grown before n meant ≡ None → meant ≡ None
 none_meant before n None h = refl
 none_meant before n (Some is) h = absurd (cc)
 
 fault_is : (meant : Option (List Item)) (n : ℕ) (before after : List Entry) (e : AsmError) → meant ≡ None → e ≡ not_written n
-    → Adds meant n before after (Err e)
+    → AddsEntries meant n before after (Err e)
 fault_is meant n before after (Fault rule line) h f = (h, f)
 fault_is meant n before after OutOfMemory h f = tt
 
 -- where what is left is not in the grammar, the whole isn't
 pub fault_stays : (before mid after : List Entry) (n : ℕ) (meant rest : Option (List Item)) (e : AsmError)
-    → grown before n meant ≡ grown mid n rest → rest ≡ None → e ≡ not_written n → Adds meant n before after (Err e)
+    → grown before n meant ≡ grown mid n rest → rest ≡ None → e ≡ not_written n → AddsEntries meant n before after (Err e)
 fault_stays before mid after n meant rest e h r f =
     let k : grown mid n rest ≡ None = rw r refl in
     fault_is meant n before after e (none_meant before n meant (h ∙ k)) f
@@ -42,18 +42,18 @@ no_comma t c ts h = rw h refl
 
 -- an item before what is meant
 adds_first : (i : Item) (meant : Option (List Item)) (n : ℕ) (before after : List Entry) (r : Result (Unit {0}) AsmError)
-    → Adds meant n (before ++ record { line = n; item = i } ∷ []) after r → Adds (first (Some i) meant) n before after r
+    → AddsEntries meant n (before ++ record { line = n; item = i } ∷ []) after r → AddsEntries (first (Some i) meant) n before after r
 adds_first i None n before after (Ok u) h = h
-adds_first i (Some is) n before after (Ok u) h = ap Some (sym (append_assoc before (record { line = n; item = i } ∷ []) (placed n is))) ∙ h
+adds_first i (Some is) n before after (Ok u) h = ap Some (sym (append_assoc before (record { line = n; item = i } ∷ []) (placed_entries n is))) ∙ h
 adds_first i meant n before after (Err (Fault rule line)) h = (rw h.0 refl, h.1)
 adds_first i meant n before after (Err OutOfMemory) h = tt
 
 pub adds_label : (s : List ℕ) (t : Token) (ts : List Token) (n : ℕ) (before mid after : List Entry) (r : Result (Unit {0}) AsmError)
     → is_colon t ≡ true → mid ≡ before ++ record { line = n; item = Label s } ∷ []
-    → Adds (statement_of ts) n mid after r → Adds (labelled s (t ∷ ts)) n before after r
+    → AddsEntries (statement_of ts) n mid after r → AddsEntries (labelled s (t ∷ ts)) n before after r
 adds_label s t ts n before mid after r c m h = rw c (adds_first (Label s) (statement_of ts) n before after r (rw m at h))
 
-placed_append : (n : ℕ) (is js : List Item) → placed n (is ++ js) ≡ placed n is ++ placed n js
+placed_append : (n : ℕ) (is js : List Item) → placed_entries n (is ++ js) ≡ placed_entries n is ++ placed_entries n js
 placed_append n [] js = refl
 placed_append n (i ∷ is) js = ap (λ (es : List Entry). record { line = n; item = i } ∷ es) (placed_append n is js)
 
@@ -63,8 +63,8 @@ pub next_piece : (n : ℕ) (before after : List Entry) (meant rest : Option (Lis
 next_piece n before after None rest h = absurd (cc)
 next_piece n before after (Some is) None h = refl
 next_piece n before after (Some is) (Some js) h =
-    let e : before ++ placed n is ≡ after = cc in
-    rw (placed_append n is js, ← append_assoc before (placed n is) (placed n js), e) refl
+    let e : before ++ placed_entries n is ≡ after = cc in
+    rw (placed_append n is js, ← append_assoc before (placed_entries n is) (placed_entries n js), e) refl
 
 pub last_piece : (n : ℕ) (before after : List Entry) (meant : Option (List Item)) → grown before n meant ≡ Some after
     → grown before n (append meant (Some [])) ≡ Some after

@@ -9,6 +9,6 @@ pub mod Standing
 pub mod Parts
 pub mod ShownTokens
 pub mod ShownOperands
-pub mod ShownAgain
+pub mod Reassembles
 pub mod Listings
 pub mod Bytes

@@ -5,7 +5,7 @@ use Rattle.std.proofs.lemmas.Bool.Decides.{nat_tests}
 use Rattle.sx_asm.specs.declared.written.Item.{Item}
 use Rattle.sx_asm.specs.declared.written.Entry.{Entry}
 use Rattle.sx_asm.specs.declared.error.AsmError.{AsmError}
-use Rattle.sx_asm.specs.Reading.{◌>>=◌, placed, not_written, onto_first, parts, taken, items_of, line_fits, read_lines, is_newline}
+use Rattle.sx_asm.specs.Reading.{◌>>=◌, placed_entries, not_written, onto_first, parts, taken, items_of, line_fits, read_lines, is_newline}
 use Rattle.sx_asm.specs.Adding.{grown, continued}
 
 -- a line after which lines follow has a newline
@@ -33,12 +33,12 @@ fits_left left line xs h =
 
 -- what a line says and what the lines after it say, before which entries stand
 joined : (before after : List Entry) (n : ℕ) (e : AsmError) (meant : Option (List Item)) (rest : Result (List Entry) AsmError) → grown before n meant ≡ Some after
-    → continued before (ok_or meant e >>= (λ items. rest >>= (λ entries. Ok (placed n items ++ entries)))) ≡ continued after rest
+    → continued before (ok_or meant e >>= (λ items. rest >>= (λ entries. Ok (placed_entries n items ++ entries)))) ≡ continued after rest
 joined before after n e None rest h = absurd (cc)
 joined before after n e (Some items) (Err f) h = refl
 joined before after n e (Some items) (Ok entries) h =
-    let k : before ++ placed n items ≡ after = cc in
-    ap Ok (sym (append_assoc before (placed n items) entries) ∙ ap (λ (es : List Entry). es ++ entries) k)
+    let k : before ++ placed_entries n items ≡ after = cc in
+    ap Ok (sym (append_assoc before (placed_entries n items) entries) ∙ ap (λ (es : List Entry). es ++ entries) k)
 
 pub next_line : (n left : ℕ) (line xs : List ℕ) (before after : List Entry) → line_fits left line (parts is_newline xs) ≡ true
     → grown before n (items_of line) ≡ Some after

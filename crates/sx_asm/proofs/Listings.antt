@@ -17,22 +17,22 @@ use Rattle.sx_asm.specs.Reading.{◌>>=◌, is_newline, parts, onto_first, taken
 use Rattle.sx_asm.specs.Meaning.{further, size, labels_of, bytes_of, code_of}
 use Rattle.sx_asm.specs.Assembled.{formed, named, reached, fitted, stands, code_with, code_or_fault, assembled}
 use Rattle.sx_asm.specs.Shown.{word_text, word_from, line_of, listed, listing}
-use Rattle.sx_asm.specs.Laws.{AreBytes}
+use Rattle.sx_asm.specs.Laws.{EachByte}
 use Rattle.sx_asm.proofs.Parts.{no}
 use Rattle.sx_asm.proofs.Forms.{and_both}
 use Rattle.sx_asm.proofs.Lines.{taken_more}
 use Rattle.sx_asm.proofs.ShownOperands.{is_inner}
-use Rattle.sx_asm.proofs.ShownAgain.{Lined, lined, word_lined, lined_again, all_pass}
+use Rattle.sx_asm.proofs.Reassembles.{Lined, lined, word_lined, lined_again, all_pass}
 
 -- Bytes and words.
 
-pub byte_at : (bytes : List ℕ) (k : ℕ) → AreBytes bytes → slice_index bytes k < 256
+pub byte_at : (bytes : List ℕ) (k : ℕ) → EachByte bytes → slice_index bytes k < 256
 byte_at [] zero h = omega arith
 byte_at [] (suc k) h = omega arith
 byte_at (b ∷ bs) zero h = h.0
 byte_at (b ∷ bs) (suc k) h = byte_at bs k h.1
 
-word_word : (bytes : List ℕ) (k : ℕ) → AreBytes bytes → word_from bytes k < 65536
+word_word : (bytes : List ℕ) (k : ℕ) → EachByte bytes → word_from bytes k < 65536
 word_word bytes k h = by_test (nat_le (k + 2) (length bytes)) refl
   where
     by_test : (t : Bool) → nat_le (k + 2) (length bytes) ≡ t → word_from bytes k < 65536
@@ -43,7 +43,7 @@ pub bytes_length : (ws : List ℕ) → length (bytes_of ws) ≡ 2 * length ws
 bytes_length [] = refl
 bytes_length (w ∷ ws) = omega (arith, bytes_length ws)
 
-drop_bytes : (n : ℕ) (bytes : List ℕ) → AreBytes bytes → AreBytes (drop n bytes)
+drop_bytes : (n : ℕ) (bytes : List ℕ) → EachByte bytes → EachByte (drop n bytes)
 drop_bytes zero bytes h = h
 drop_bytes (suc n) [] h = tt
 drop_bytes (suc n) (b ∷ bs) h = drop_bytes n bs h.1
@@ -70,12 +70,12 @@ some_words (instr.Jump cond o) = omega arith
 some_words (instr.Sancus code) = omega arith
 
 -- the bytes of one to three words at the start
-front_one : (bytes : List ℕ) → AreBytes bytes → 2 ≤ length bytes → bytes_of (word_from bytes 0 ∷ []) ≡ take 2 bytes
+front_one : (bytes : List ℕ) → EachByte bytes → 2 ≤ length bytes → bytes_of (word_from bytes 0 ∷ []) ≡ take 2 bytes
 front_one [] h l = absurd (omega (arith, l))
 front_one (a ∷ []) h l = absurd (omega (arith, l))
 front_one (a ∷ b ∷ bs) h l = two_bytes a b (word_from (a ∷ b ∷ bs) 0) [] h.0 h.1.0 (word_here (a ∷ b ∷ bs) 0 l)
 
-front_two : (bytes : List ℕ) → AreBytes bytes → 4 ≤ length bytes → bytes_of (word_from bytes 0 ∷ word_from bytes 2 ∷ []) ≡ take 4 bytes
+front_two : (bytes : List ℕ) → EachByte bytes → 4 ≤ length bytes → bytes_of (word_from bytes 0 ∷ word_from bytes 2 ∷ []) ≡ take 4 bytes
 front_two [] h l = absurd (omega (arith, l))
 front_two (a ∷ []) h l = absurd (omega (arith, l))
 front_two (a ∷ b ∷ []) h l = absurd (omega (arith, l))
@@ -85,7 +85,7 @@ front_two (a ∷ b ∷ c ∷ d ∷ bs) h l =
     two_bytes a b (word_from bytes 0) (word_from bytes 2 ∷ []) h.0 h.1.0 (word_here bytes 0 (omega (arith, l)))
     ∙ ap (λ (t : List ℕ). a ∷ b ∷ t) (two_bytes c d (word_from bytes 2) [] h.1.1.0 h.1.1.1.0 (word_here bytes 2 l))
 
-front_three : (bytes : List ℕ) → AreBytes bytes → 6 ≤ length bytes
+front_three : (bytes : List ℕ) → EachByte bytes → 6 ≤ length bytes
     → bytes_of (word_from bytes 0 ∷ word_from bytes 2 ∷ word_from bytes 4 ∷ []) ≡ take 6 bytes
 front_three [] h l = absurd (omega (arith, l))
 front_three (a ∷ []) h l = absurd (omega (arith, l))
@@ -100,7 +100,7 @@ front_three (a ∷ b ∷ c ∷ d ∷ e ∷ f ∷ bs) h l =
     (two_bytes c d (word_from bytes 2) (word_from bytes 4 ∷ []) h.1.1.0 h.1.1.1.0 (word_here bytes 2 (omega (arith, l)))
     ∙ ap (λ (t : List ℕ). c ∷ d ∷ t) (two_bytes e f (word_from bytes 4) [] h.1.1.1.1.0 h.1.1.1.1.1.0 (word_here bytes 4 l)))
 
-front_words : (n : ℕ) (bytes : List ℕ) → AreBytes bytes → 2 * n ≤ length bytes → 1 ≤ n → n ≤ 3
+front_words : (n : ℕ) (bytes : List ℕ) → EachByte bytes → 2 * n ≤ length bytes → 1 ≤ n → n ≤ 3
     → bytes_of (take n (word_from bytes 0 ∷ word_from bytes 2 ∷ word_from bytes 4 ∷ [])) ≡ take (2 * n) bytes
 front_words n bytes h l s m = by_tests (n == 1) (n == 2) refl refl
   where
@@ -123,7 +123,7 @@ record First (at : ℕ) (bytes : List ℕ) (line : List ℕ × ℕ) : Type 0 whe
   within : line.1 ≤ length bytes
   some : 1 ≤ length ws
 
-word_first : (at : ℕ) (bytes : List ℕ) → AreBytes bytes → 2 ≤ length bytes → First at bytes (word_text (word_from bytes 0), 2)
+word_first : (at : ℕ) (bytes : List ℕ) → EachByte bytes → 2 ≤ length bytes → First at bytes (word_text (word_from bytes 0), 2)
 word_first at bytes h l = record {
   ws = word_from bytes 0 ∷ [];
   is_line = word_lined (word_from bytes 0) at (word_word bytes 0 h);
@@ -133,7 +133,7 @@ word_first at bytes h l = record {
   some = omega arith;
 }
 
-first_line : (at : ℕ) (bytes : List ℕ) → AreBytes bytes → 2 ≤ length bytes → at % 2 ≡ 0 → First at bytes (listed at bytes)
+first_line : (at : ℕ) (bytes : List ℕ) → EachByte bytes → 2 ≤ length bytes → at % 2 ≡ 0 → First at bytes (listed at bytes)
 unfolding listed
 first_line at bytes h l even = by_reading (instruction_at (word_from bytes 0) (word_from bytes 2) (word_from bytes 4)) refl
   where
@@ -160,9 +160,9 @@ first_line at bytes h l even = by_reading (instruction_at (word_from bytes 0) (w
               some = some_words f.0;
             })
 
-pub line_again : (bytes : List ℕ) (at : ℕ) → AreBytes bytes → 2 ≤ length bytes → at % 2 ≡ 0 → at + length bytes ≤ 65536
+pub relists_line : (bytes : List ℕ) (at : ℕ) → EachByte bytes → 2 ≤ length bytes → at % 2 ≡ 0 → at + length bytes ≤ 65536
     → assembled at (listed at bytes).0 ≡ Ok (take (listed at bytes).1 bytes)
-line_again bytes at h l even room =
+relists_line bytes at h l even room =
     let f = first_line at bytes h l even in
     lined_again at (listed at bytes).0 f.ws f.is_line even (omega (arith, f.length_is, f.within, room))
     ∙ ap (λ (b : List ℕ). Ok b) f.bytes_are
@@ -231,13 +231,13 @@ read_next n left line rest item es inner short fits says done =
     ap (λ (m : ℕ). read_lines (n + 1) (left - m) (parts is_newline rest)) (sym (taken_more line rest)) ∙ done in
     ap (read_lines n left) (parts_line line rest inner) ∙ (rw (k, says, d) refl)
 
-listing_reads : (k at : ℕ) (bytes : List ℕ) → length bytes ≤ k → AreBytes bytes → length bytes % 2 ≡ 0 → at % 2 ≡ 0
+listing_reads : (k at : ℕ) (bytes : List ℕ) → length bytes ≤ k → EachByte bytes → length bytes % 2 ≡ 0 → at % 2 ≡ 0
     → (n left : ℕ) → 63 * length bytes ≤ 2 * left → Reads n left at bytes (listing k at bytes)
 listing_reads zero at bytes l h e even n left room = reads_none n left at bytes (omega (arith, l))
 listing_reads (suc k) at bytes l h e even n left room = by_test (nat_lt (length bytes) 2) refl (listing_reads k)
   where
     by_test : (t : Bool) → nat_lt (length bytes) 2 ≡ t
-        → ((at : ℕ) (bytes : List ℕ) → length bytes ≤ k → AreBytes bytes → length bytes % 2 ≡ 0 → at % 2 ≡ 0
+        → ((at : ℕ) (bytes : List ℕ) → length bytes ≤ k → EachByte bytes → length bytes % 2 ≡ 0 → at % 2 ≡ 0
         → (n left : ℕ) → 63 * length bytes ≤ 2 * left → Reads n left at bytes (listing k at bytes))
         → Reads n left at bytes (listing (suc k) at bytes)
     by_test true f ih =
@@ -280,10 +280,10 @@ code_good at bytes es g even small room =
     ∙ all_pass (formed es) (named [] 0 es) (reached [] at es) (stands at es) (code_of [] at es) g.formed_all g.named_all g.reached_all s
     ∙ ap (λ (b : List ℕ). Ok b) g.code
 
-pub listing_again : (bytes : List ℕ) (at : ℕ) → AreBytes bytes → length bytes % 2 ≡ 0 → length bytes ≤ 8192 → at % 2 ≡ 0 → at + length bytes ≤ 65536
+pub relists_listing : (bytes : List ℕ) (at : ℕ) → EachByte bytes → length bytes % 2 ≡ 0 → length bytes ≤ 8192 → at % 2 ≡ 0 → at + length bytes ≤ 65536
     → assembled at (listing (length bytes) at bytes) ≡ Ok bytes
 unfolding assembled
-listing_again bytes at h e small even room =
+relists_listing bytes at h e small even room =
     let r = listing_reads (length bytes) at bytes (omega arith) h e even 1 262144 (omega (arith, small)) in
     ap (λ (t : Result (List Entry) AsmError). t >>= code_or_fault at) (whole_read (listing (length bytes) at bytes) r.es r.done)
     ∙ code_good at bytes r.es r.good even small room

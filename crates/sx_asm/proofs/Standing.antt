@@ -3,14 +3,14 @@ use Rattle.std.proofs.Common.{◌≡◌, ℕ, ◌≤◌, Bool, true, false, List
 use Rattle.std.proofs.lemmas.List.{length-take}
 use Rattle.std.specs.Prelude.{Ok}
 use Rattle.sx_isa.specs.declared.instruction.Instr.{Instr}
-use Rattle.sx_isa.specs.Legal.{Begins}
+use Rattle.sx_isa.specs.Legal.{BeginsWith}
 use Rattle.sx_asm.specs.declared.written.Entry.{Entry}
 use Rattle.sx_asm.specs.declared.written.Label.{Label}
 use Rattle.sx_asm.specs.Meaning.{further, size, bytes_of, words_at, code_of}
 use Rattle.sx_asm.specs.Assembled.{has_form, formed, reaches, reached}
 
 -- an instruction's words are among those before which it stands
-pub within : (ws : List ℕ) (i : Instr) (n : ℕ) → Begins ws i n → n ≤ length ws
+pub within : (ws : List ℕ) (i : Instr) (n : ℕ) → BeginsWith ws i n → n ≤ length ws
 within ws i n h = omega (arith, h.1, ap length h.2, length-take n ws)
 
 pub has_formed : (e : Entry) (es : List Entry) → formed (e ∷ es) ≡ Ok tt → has_form e.item ≡ true

@@ -4,17 +4,19 @@ use Rattle.sx_asm.specs.declared.written.Item.{Item}
 use Rattle.sx_asm.specs.declared.written.Entry.{Entry}
 use Rattle.sx_asm.specs.declared.error.AsmError.{AsmError}
 use Rattle.sx_asm.specs.declared.error.AsmError.TheVariants.{Fault, OutOfMemory}
-use Rattle.sx_asm.specs.Reading.{placed, not_written, ◌>>=◌}
+use Rattle.sx_asm.specs.Reading.{placed_entries, not_written, ◌>>=◌}
 
 -- entries, and after them what is meant
 abbrev pub grown : List Entry → ℕ → Option (List Item) → Option (List Entry)
-grown before n meant = option_map (λ items. before ++ placed n items) meant
+grown before n meant = option_map (λ items. before ++ placed_entries n items) meant
 
 -- the answer of a function that adds what is meant to entries
-abbrev pub Adds : Option (List Item) → ℕ → List Entry → List Entry → Result (Unit {0}) AsmError → Type 0
-Adds meant n before after (Ok u) = grown before n meant ≡ Some after
-Adds meant n before after (Err (Fault rule line)) = (meant ≡ None) × (Fault rule line ≡ not_written n)
-Adds meant n before after (Err OutOfMemory) = Unit {0}
+abbrev pub AddsEntries : Option (List Item) → ℕ → List Entry → List Entry
+    → Result (Unit {0}) AsmError → Type 0
+AddsEntries meant n before after (Ok u) = grown before n meant ≡ Some after
+AddsEntries meant n before after (Err (Fault rule line)) =
+    (meant ≡ None) × (Fault rule line ≡ not_written n)
+AddsEntries meant n before after (Err OutOfMemory) = Unit {0}
 
 -- entries before those that are meant
 abbrev pub continued : List Entry → Result (List Entry) AsmError → Result (List Entry) AsmError

@@ -1,20 +1,24 @@
 -- The code of a text, or the first rule that it breaks and the first line that breaks it.
-use Rattle.std.specs.Prelude.{◌≡◌, ℕ, ◌+◌, ◌-◌, ◌%◌, ◌==◌, min, Bool, true, false, ◌&&◌, ◌||◌, not, nat_le, nat_lt, if◌then◌else◌, List, [], ◌∷◌, take, Result, Ok, Err}
+use Rattle.std.specs.Prelude.{◌≡◌, ℕ, ◌+◌, ◌-◌, ◌%◌, ◌==◌, min, Bool, true, false, ◌&&◌, ◌||◌, not}
+use Rattle.std.specs.Prelude.{nat_le, nat_lt, if◌then◌else◌, List, [], ◌∷◌, take, Result, Ok, Err}
 use Rattle.sx_isa.specs.declared.instruction.Operand.{Operand}
 use Rattle.sx_isa.specs.declared.instruction.Operand.TheVariants as operand
 use Rattle.sx_isa.specs.Legal.{is_constant, is_allowed}
 use Rattle.sx_asm.specs.declared.written.Value.{Value}
 use Rattle.sx_asm.specs.declared.written.Value.TheVariants.{Number, Name}
 use Rattle.sx_asm.specs.declared.written.Written.{Written}
-use Rattle.sx_asm.specs.declared.written.Written.TheVariants.{Reg, Indexed, Indirect, Increment, Hash, Immediate, Absolute, Symbolic}
+use Rattle.sx_asm.specs.declared.written.Written.TheVariants.{Reg, Indexed, Indirect, Increment}
+use Rattle.sx_asm.specs.declared.written.Written.TheVariants.{Hash, Immediate, Absolute, Symbolic}
 use Rattle.sx_asm.specs.declared.written.Item.{Item}
-use Rattle.sx_asm.specs.declared.written.Item.TheVariants.{Label, Word, Two, One, Jump, Reti, Sancus}
+use Rattle.sx_asm.specs.declared.written.Item.TheVariants.{Label, Word, Two, One, Jump, Reti}
+use Rattle.sx_asm.specs.declared.written.Item.TheVariants.{Sancus}
 use Rattle.sx_asm.specs.declared.written.Entry.{Entry}
 use Rattle.sx_asm.specs.declared.written.Label.{Label as Placed}
 use Rattle.sx_asm.specs.declared.error.AsmError.{AsmError}
 use Rattle.sx_asm.specs.declared.error.AsmError.TheVariants.{Fault, OutOfMemory}
 use Rattle.sx_asm.specs.Reading.{◌>>=◌, read}
-use Rattle.sx_asm.specs.Meaning.{size, further, distance, number, is_label, operand_at, labels_of, code_of}
+use Rattle.sx_asm.specs.Meaning.{size, further, distance, number, is_label, operand_at, labels_of}
+use Rattle.sx_asm.specs.Meaning.{code_of}
 
 -- Rule 2: operands.
 
@@ -44,8 +48,10 @@ is_destination _ = false
 
 -- the operands are those of an instruction, whatever addresses the labels have
 abbrev pub has_form : Item → Bool
-has_form (Two op byte src dst) = is_source (operand_at [] 0 src) && is_destination (operand_at [] 0 dst)
-has_form (One op byte arg) = is_source (operand_at [] 0 arg) && is_allowed op byte (operand_at [] 0 arg)
+has_form (Two op byte src dst) =
+    is_source (operand_at [] 0 src) && is_destination (operand_at [] 0 dst)
+has_form (One op byte arg) =
+    is_source (operand_at [] 0 arg) && is_allowed op byte (operand_at [] 0 arg)
 has_form (Jump cond target) = nat_lt cond 8
 has_form (Sancus code) = nat_lt code 8 && not (code == 3)
 has_form _ = true
@@ -77,7 +83,8 @@ operand_known labels (Symbolic v) = is_known labels v
 abbrev pub names_known : List Placed → ℕ → Item → Bool
 names_known labels before (Label s) = not (is_label (take before labels) s)
 names_known labels before (Word v) = is_known labels v
-names_known labels before (Two op byte src dst) = operand_known labels src && operand_known labels dst
+names_known labels before (Two op byte src dst) =
+    operand_known labels src && operand_known labels dst
 names_known labels before (One op byte arg) = operand_known labels arg
 names_known labels before (Jump cond target) = is_known labels target
 names_known labels before Reti = true
@@ -148,7 +155,7 @@ unfoldable pub assembled : ℕ → List ℕ → Result (List ℕ) AsmError
 assembled at text = read text >>= code_or_fault at
 
 -- the answer is the right one, unless memory runs out
-abbrev pub Answers : {T V : Type 0} → (T → V) → Result V AsmError → Result T AsmError → Type 0
-Answers view meant (Ok x) = meant ≡ Ok (view x)
-Answers view meant (Err (Fault rule line)) = meant ≡ Err (Fault rule line)
-Answers view meant (Err OutOfMemory) = Unit {0}
+abbrev pub AnswersMeant : {T V : Type 0} → (T → V) → Result V AsmError → Result T AsmError → Type 0
+AnswersMeant view meant (Ok x) = meant ≡ Ok (view x)
+AnswersMeant view meant (Err (Fault rule line)) = meant ≡ Err (Fault rule line)
+AnswersMeant view meant (Err OutOfMemory) = Unit {0}

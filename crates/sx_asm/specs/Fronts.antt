@@ -1,5 +1,7 @@
 -- Forms of the tokens' definitions that code computes with. Nobody has to believe this file.
-use Rattle.std.specs.Prelude.{ℕ, suc, ◌+◌, ◌*◌, ◌==◌, ◌&&◌, nat_le, Bool, if◌then◌else◌, List, [], ◌∷◌, ◌++◌, take, drop, Option, Some, None, option_map, option_and_then}
+use Rattle.std.specs.Prelude.{ℕ, suc, ◌+◌, ◌*◌, ◌==◌, ◌&&◌, nat_le, Bool, if◌then◌else◌, List, []}
+use Rattle.std.specs.Prelude.{◌∷◌, ◌++◌, take, drop, Option, Some, None, option_map}
+use Rattle.std.specs.Prelude.{option_and_then}
 use Rattle.sx_lex.specs.Words.{is_digit, digit_value, is_number, value}
 use Rattle.sx_asm.specs.Tokens.{joins}
 use Rattle.sx_asm.specs.Reading.{parts}
@@ -34,7 +36,8 @@ numeral_of base text = if is_number base text then Some (value base 0 text) else
 abbrev pub number_of : List ℕ → Option ℕ
 number_of [] = numeral_of 10 []
 number_of (a ∷ []) = numeral_of 10 (a ∷ [])
-number_of (a ∷ b ∷ bs) = if a == 48 && b == 120 then numeral_of 16 bs else numeral_of 10 (a ∷ b ∷ bs)
+number_of (a ∷ b ∷ bs) =
+    if a == 48 && b == 120 then numeral_of 16 bs else numeral_of 10 (a ∷ b ∷ bs)
 
 -- the parts after the first, where there are some
 abbrev pub behind : {A : Type 0} → (A → Bool) → Option (List A) → List (List A)

@@ -1,14 +1,17 @@
 -- What tokens say: values, operands and statements.
-use Rattle.std.specs.Prelude.{ℕ, Bool, true, false, if◌then◌else◌, List, [], ◌∷◌, Option, Some, None, option_map, option_and_then}
+use Rattle.std.specs.Prelude.{ℕ, Bool, true, false, if◌then◌else◌, List, [], ◌∷◌, Option, Some}
+use Rattle.std.specs.Prelude.{None, option_map, option_and_then}
 use Rattle.sx_isa.specs.declared.instruction.Op2.{Op2}
 use Rattle.sx_asm.specs.declared.written.Token.{Token}
 use Rattle.sx_asm.specs.declared.written.Token.TheVariants as token
 use Rattle.sx_asm.specs.declared.written.Value.{Value}
 use Rattle.sx_asm.specs.declared.written.Value.TheVariants.{Number, Name}
 use Rattle.sx_asm.specs.declared.written.Written.{Written}
-use Rattle.sx_asm.specs.declared.written.Written.TheVariants.{Reg, Indexed, Indirect, Increment, Hash, Immediate, Absolute, Symbolic}
+use Rattle.sx_asm.specs.declared.written.Written.TheVariants.{Reg, Indexed, Indirect, Increment}
+use Rattle.sx_asm.specs.declared.written.Written.TheVariants.{Hash, Immediate, Absolute, Symbolic}
 use Rattle.sx_asm.specs.declared.written.Item.{Item}
-use Rattle.sx_asm.specs.declared.written.Item.TheVariants.{Label, Word, Two, One, Jump, Reti, Sancus}
+use Rattle.sx_asm.specs.declared.written.Item.TheVariants.{Label, Word, Two, One, Jump, Reti}
+use Rattle.sx_asm.specs.declared.written.Item.TheVariants.{Sancus}
 
 -- value = NUMBER | NAME
 abbrev pub value : Token → Option Value

@@ -1,5 +1,6 @@
 -- The addresses, words and instructions of what is written.
-use Rattle.std.specs.Prelude.{ℕ, ◌+◌, ◌-◌, ◌*◌, ◌/◌, ◌%◌, Bool, true, ◌||◌, not, nat_lt, if◌then◌else◌, ℤ, pos, negsuc, List, [], ◌∷◌, ◌++◌, bytes_eq}
+use Rattle.std.specs.Prelude.{ℕ, ◌+◌, ◌-◌, ◌*◌, ◌/◌, ◌%◌, Bool, true, ◌||◌, not, nat_lt}
+use Rattle.std.specs.Prelude.{if◌then◌else◌, ℤ, pos, negsuc, List, [], ◌∷◌, ◌++◌, bytes_eq}
 use Rattle.sx_isa.specs.declared.instruction.Operand.{Operand}
 use Rattle.sx_isa.specs.declared.instruction.Operand.TheVariants as operand
 use Rattle.sx_isa.specs.declared.instruction.Op1.{Op1}
@@ -11,9 +12,11 @@ use Rattle.sx_isa.specs.Spelling.{spelling}
 use Rattle.sx_asm.specs.declared.written.Value.{Value}
 use Rattle.sx_asm.specs.declared.written.Value.TheVariants.{Number, Name}
 use Rattle.sx_asm.specs.declared.written.Written.{Written}
-use Rattle.sx_asm.specs.declared.written.Written.TheVariants.{Reg, Indexed, Indirect, Increment, Hash, Immediate, Absolute, Symbolic}
+use Rattle.sx_asm.specs.declared.written.Written.TheVariants.{Reg, Indexed, Indirect, Increment}
+use Rattle.sx_asm.specs.declared.written.Written.TheVariants.{Hash, Immediate, Absolute, Symbolic}
 use Rattle.sx_asm.specs.declared.written.Item.{Item}
-use Rattle.sx_asm.specs.declared.written.Item.TheVariants.{Label, Word, Two, One, Jump, Reti, Sancus}
+use Rattle.sx_asm.specs.declared.written.Item.TheVariants.{Label, Word, Two, One, Jump, Reti}
+use Rattle.sx_asm.specs.declared.written.Item.TheVariants.{Sancus}
 use Rattle.sx_asm.specs.declared.written.Entry.{Entry}
 use Rattle.sx_asm.specs.declared.written.Label.{Label as Placed}
 
@@ -69,7 +72,8 @@ is_label (label ∷ more) name = bytes_eq label.name name || is_label more name
 -- the address of the first label with this name
 abbrev pub address_of : List Placed → List ℕ → ℕ
 address_of [] name = 0
-address_of (label ∷ more) name = if bytes_eq label.name name then label.address else address_of more name
+address_of (label ∷ more) name =
+    if bytes_eq label.name name then label.address else address_of more name
 
 -- the number that a value stands for: a name is its label's address
 abbrev pub number : List Placed → Value → ℕ
@@ -110,7 +114,8 @@ one_at labels at op byte arg = instr.One op byte (operand_at labels (further at 
 
 -- the jump at an address, whose offset counts words from the next instruction
 abbrev pub jump_at : List Placed → ℕ → ℕ → Value → Instr
-jump_at labels at cond target = instr.Jump cond (offset (distance (further at 2) (number labels target)))
+jump_at labels at cond target =
+    instr.Jump cond (offset (distance (further at 2) (number labels target)))
 
 -- the words of an item at an address
 abbrev pub words_at : List Placed → ℕ → Item → List ℕ

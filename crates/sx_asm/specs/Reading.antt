@@ -1,5 +1,6 @@
 -- From a text to its items: what rule 1 is about.
-use Rattle.std.specs.Prelude.{ℕ, ◌+◌, ◌-◌, ◌==◌, Bool, ◌&&◌, nat_le, if◌then◌else◌, List, [], ◌∷◌, ◌++◌, length, Option, Some, None, ok_or, Result, Ok, Err}
+use Rattle.std.specs.Prelude.{ℕ, ◌+◌, ◌-◌, ◌==◌, Bool, ◌&&◌, nat_le, if◌then◌else◌, List, [], ◌∷◌}
+use Rattle.std.specs.Prelude.{◌++◌, length, Option, Some, None, ok_or, Result, Ok, Err}
 use Rattle.sx_asm.specs.declared.written.Token.{Token}
 use Rattle.sx_asm.specs.declared.written.Item.{Item}
 use Rattle.sx_asm.specs.declared.written.Entry.{Entry}
@@ -40,9 +41,9 @@ abbrev pub items_of : List ℕ → Option (List Item)
 items_of line = items_in (parts is_semicolon (tokens_of line))
 
 -- items with the number of their line
-abbrev pub placed : ℕ → List Item → List Entry
-placed n [] = []
-placed n (i ∷ is) = record { line = n; item = i } ∷ placed n is
+abbrev pub placed_entries : ℕ → List Item → List Entry
+placed_entries n [] = []
+placed_entries n (i ∷ is) = record { line = n; item = i } ∷ placed_entries n is
 
 -- the bytes of a line, with its newline where a line follows
 abbrev pub taken : List ℕ → List (List ℕ) → ℕ
@@ -64,7 +65,7 @@ read_lines n left (line ∷ more) =
     if line_fits left line more then (
     ok_or (items_of line) (not_written n) >>= (λ items.
     read_lines (n + 1) (left - taken line more) more >>= (λ entries.
-    Ok (placed n items ++ entries)))
+    Ok (placed_entries n items ++ entries)))
     ) else Err (not_written n)
 
 -- the byte that ends a line

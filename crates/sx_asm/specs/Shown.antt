@@ -1,7 +1,11 @@
 -- The text of an instruction.
-use Rattle.std.specs.Prelude.{zero, suc, drop, ◌-◌, nat_le, slice_index, ℕ, ◌+◌, ◌*◌, ◌/◌, ◌%◌, nat_lt, if◌then◌else◌, ℤ, pos, negsuc, List, [], ◌∷◌, ◌++◌, codes, length, Option, Some, None}
+use Rattle.std.specs.Prelude.{zero, suc, drop, ◌-◌, nat_le, slice_index, ℕ, ◌+◌, ◌*◌, ◌/◌, ◌%◌}
+use Rattle.std.specs.Prelude.{nat_lt, if◌then◌else◌, ℤ, pos, negsuc, List, [], ◌∷◌, ◌++◌, codes}
+use Rattle.std.specs.Prelude.{length, Option, Some, None}
 use Rattle.sx_isa.specs.declared.instruction.Operand.{Operand}
-use Rattle.sx_isa.specs.declared.instruction.Operand.TheVariants.{Reg, Indexed, Indirect, Increment, Symbolic, Absolute, Immediate, Const}
+use Rattle.sx_isa.specs.declared.instruction.Operand.TheVariants.{Reg, Indexed, Indirect, Increment}
+use Rattle.sx_isa.specs.declared.instruction.Operand.TheVariants.{Symbolic, Absolute, Immediate}
+use Rattle.sx_isa.specs.declared.instruction.Operand.TheVariants.{Const}
 use Rattle.sx_isa.specs.declared.instruction.Instr.{Instr}
 use Rattle.sx_isa.specs.declared.instruction.Instr.TheVariants.{Two, One, Reti, Jump, Sancus}
 use Rattle.sx_isa.specs.Legal.{is_constant}
@@ -56,7 +60,8 @@ abbrev pub shown : Instr → ℕ → List ℕ
 shown (Two op byte src dst) at =
     sized (op2_name op) byte ++ codes " " ++ operand_text (further at 2) src ++ codes ", "
     ++ operand_text (further at (2 + source_size src)) dst
-shown (One op byte arg) at = sized (op1_name op) byte ++ codes " " ++ operand_text (further at 2) arg
+shown (One op byte arg) at =
+    sized (op1_name op) byte ++ codes " " ++ operand_text (further at 2) arg
 shown Reti at = codes "reti"
 shown (Jump cond offset) at = jump_name cond ++ codes " " ++ hex (target (further at 2) offset)
 shown (Sancus code) at = sancus_name code
@@ -68,21 +73,24 @@ word_text w = codes ".word " ++ hex w
 -- the word at a place of bytes, the low byte first; 0 where they don't hold it whole
 abbrev pub word_from : List ℕ → ℕ → ℕ
 word_from bytes k =
-    if nat_le (k + 2) (length bytes) then slice_index bytes k + 256 * slice_index bytes (k + 1) else 0
+    if nat_le (k + 2) (length bytes) then slice_index bytes k + 256 * slice_index bytes (k + 1) else
+    0
 
 -- a text and a length in bytes
-abbrev pub Line : Type 0
-Line = List ℕ × ℕ
+abbrev pub ListedLine : Type 0
+ListedLine = List ℕ × ℕ
 
 -- an instruction that the bytes hold whole, or their first word
-abbrev pub line_of : ℕ → List ℕ → Option (Instr × ℕ) → Line
+abbrev pub line_of : ℕ → List ℕ → Option (Instr × ℕ) → ListedLine
 line_of at bytes None = (word_text (word_from bytes 0), 2)
 line_of at bytes (Some f) =
-    if nat_le (2 * f.1) (length bytes) then (shown f.0 at, 2 * f.1) else (word_text (word_from bytes 0), 2)
+    if nat_le (2 * f.1) (length bytes) then (shown f.0 at, 2 * f.1) else
+    (word_text (word_from bytes 0), 2)
 
 -- the line of the instruction at the start of bytes
-unfoldable pub listed : ℕ → List ℕ → Line
-listed at bytes = line_of at bytes (instruction_at (word_from bytes 0) (word_from bytes 2) (word_from bytes 4))
+unfoldable pub listed : ℕ → List ℕ → ListedLine
+listed at bytes =
+    line_of at bytes (instruction_at (word_from bytes 0) (word_from bytes 2) (word_from bytes 4))
 
 -- the listing of bytes from an address on, a line for each instruction; at most this many lines,
 -- and no last byte alone

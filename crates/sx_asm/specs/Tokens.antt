@@ -1,5 +1,6 @@
 -- The tokens of a line.
-use Rattle.std.specs.Prelude.{ℕ, ◌==◌, Bool, false, ◌&&◌, ◌||◌, nat_le, if◌then◌else◌, List, [], ◌∷◌, Option, Some, None, bytes_eq}
+use Rattle.std.specs.Prelude.{ℕ, ◌==◌, Bool, false, ◌&&◌, ◌||◌, nat_le, if◌then◌else◌, List, []}
+use Rattle.std.specs.Prelude.{◌∷◌, Option, Some, None, bytes_eq}
 use Rattle.std.specs.Borrow.{Bor}
 use Rattle.sx_lex.specs.Words.{kind_of}
 use Rattle.sx_lex.specs.Lexed.{is_space, begins_comment}
@@ -49,7 +50,8 @@ or_else (Some t) u = t
 abbrev pub token_of : List ℕ → Token
 token_of run =
     or_else (found_in signs run)
-    (or_else (found_in registers run) (or_else (found_in instructions run) (value_token (kind_of run))))
+    (or_else (found_in registers run) (or_else (found_in instructions run)
+    (value_token (kind_of run))))
 
 -- spaces and tabs separate tokens
 abbrev pub is_gap : List ℕ → Bool

@@ -1,11 +1,14 @@
 -- The words and signs of the assembler's language, and the names of registers and instructions.
 use Rattle.std.specs.Prelude.{ℕ, ◌==◌, Bool, true, false, if◌then◌else◌, List, [], ◌∷◌, ◌++◌, codes}
 use Rattle.sx_isa.specs.declared.instruction.Op2.{Op2}
-use Rattle.sx_isa.specs.declared.instruction.Op2.TheVariants.{Mov, Add, Addc, Subc, Sub, Cmp, Bit, Bic, Bis, Xor, And}
+use Rattle.sx_isa.specs.declared.instruction.Op2.TheVariants.{Mov, Add, Addc, Subc, Sub, Cmp, Bit}
+use Rattle.sx_isa.specs.declared.instruction.Op2.TheVariants.{Bic, Bis, Xor, And}
 use Rattle.sx_isa.specs.declared.instruction.Op1.{Op1}
 use Rattle.sx_isa.specs.declared.instruction.Op1.TheVariants.{Rrc, Swpb, Rra, Sxt, Push, Call}
 use Rattle.sx_asm.specs.declared.written.Token.{Token}
-use Rattle.sx_asm.specs.declared.written.Token.TheVariants.{Word, Two, One, Jump, Reti, Sancus, Reg, Colon, Comma, Semicolon, Open, Close, At, Plus, Hash, HashHash, Ampersand}
+use Rattle.sx_asm.specs.declared.written.Token.TheVariants.{Word, Two, One, Jump, Reti, Sancus, Reg}
+use Rattle.sx_asm.specs.declared.written.Token.TheVariants.{Colon, Comma, Semicolon, Open, Close}
+use Rattle.sx_asm.specs.declared.written.Token.TheVariants.{At, Plus, Hash, HashHash, Ampersand}
 
 -- the names of the operations
 abbrev pub op2_name : Op2 → List ℕ
@@ -81,26 +84,34 @@ Table = List (List ℕ × Token)
 -- the signs and their tokens
 abbrev pub signs : Table
 signs =
-    (codes ":", Colon) ∷ (codes ",", Comma) ∷ (codes ";", Semicolon) ∷ (codes "(", Open) ∷ (codes ")", Close)
-    ∷ (codes "@", At) ∷ (codes "+", Plus) ∷ (codes "#", Hash) ∷ (codes "##", HashHash) ∷ (codes "&", Ampersand) ∷ []
+    (codes ":", Colon) ∷ (codes ",", Comma) ∷ (codes ";", Semicolon) ∷ (codes "(", Open)
+    ∷ (codes ")", Close)
+    ∷ (codes "@", At) ∷ (codes "+", Plus) ∷ (codes "#", Hash) ∷ (codes "##", HashHash)
+    ∷ (codes "&", Ampersand) ∷ []
 
 -- the names of the registers and their tokens
 abbrev pub registers : Table
 registers =
-    (codes "pc", Reg 0) ∷ (codes "sp", Reg 1) ∷ (codes "sr", Reg 2) ∷ (codes "r0", Reg 0) ∷ (codes "r1", Reg 1)
-    ∷ (codes "r2", Reg 2) ∷ (codes "r3", Reg 3) ∷ (codes "r4", Reg 4) ∷ (codes "r5", Reg 5) ∷ (codes "r6", Reg 6)
-    ∷ (codes "r7", Reg 7) ∷ (codes "r8", Reg 8) ∷ (codes "r9", Reg 9) ∷ (codes "r10", Reg 10) ∷ (codes "r11", Reg 11)
-    ∷ (codes "r12", Reg 12) ∷ (codes "r13", Reg 13) ∷ (codes "r14", Reg 14) ∷ (codes "r15", Reg 15) ∷ []
+    (codes "pc", Reg 0) ∷ (codes "sp", Reg 1) ∷ (codes "sr", Reg 2) ∷ (codes "r0", Reg 0)
+    ∷ (codes "r1", Reg 1)
+    ∷ (codes "r2", Reg 2) ∷ (codes "r3", Reg 3) ∷ (codes "r4", Reg 4) ∷ (codes "r5", Reg 5)
+    ∷ (codes "r6", Reg 6)
+    ∷ (codes "r7", Reg 7) ∷ (codes "r8", Reg 8) ∷ (codes "r9", Reg 9) ∷ (codes "r10", Reg 10)
+    ∷ (codes "r11", Reg 11)
+    ∷ (codes "r12", Reg 12) ∷ (codes "r13", Reg 13) ∷ (codes "r14", Reg 14) ∷ (codes "r15", Reg 15)
+    ∷ []
 
 -- each name of an operation, and with `.b` after it
 abbrev pub two_names : List Op2 → Table
 two_names [] = []
-two_names (op ∷ ops) = (sized (op2_name op) false, Two op false) ∷ (sized (op2_name op) true, Two op true) ∷ two_names ops
+two_names (op ∷ ops) = (sized (op2_name op) false, Two op false)
+    ∷ (sized (op2_name op) true, Two op true) ∷ two_names ops
 
 -- the names of operations on one operand, for words and for bytes
 abbrev pub one_names : List Op1 → Table
 one_names [] = []
-one_names (op ∷ ops) = (sized (op1_name op) false, One op false) ∷ (sized (op1_name op) true, One op true) ∷ one_names ops
+one_names (op ∷ ops) = (sized (op1_name op) false, One op false)
+    ∷ (sized (op1_name op) true, One op true) ∷ one_names ops
 
 -- the names of jumps under these conditions
 abbrev pub jump_names : List ℕ → Table

@@ -1,11 +1,14 @@
 //! The assembler: the rules in their order, and then the code.
 
-ghost use Rattle.std.specs.Prelude.{◌≡◌, ◌<◌, ◌≤◌, ◌&&◌, ◌++◌, ◌%◌, ◌/◌, [], ◌∷◌, true, take, length, Ok, IfOk, IfErr, OnOk, IsTrue};
+ghost use Rattle.std.specs.Prelude.{◌≡◌, ◌<◌, ◌≤◌, ◌&&◌, ◌++◌, ◌%◌, ◌/◌, [], ◌∷◌, true, take};
+ghost use Rattle.std.specs.Prelude.{length, Ok, IfOk, IfErr, OnOk, IsTrue};
 ghost use Rattle.sx_isa.specs.Spelling.{spelling};
 ghost use Rattle.sx_isa.specs.Legal.{IsInstruction};
 ghost use Rattle.sx_asm.specs.declared.error.AsmError.TheVariants.{OutOfMemory, Fault};
 ghost use Rattle.sx_asm.specs.Meaning.{words_at, bytes_of, code_of};
-ghost use Rattle.sx_asm.specs.Assembled.{is_known, operand_known, names_known, named, formed, has_form, reaches, reached, fitted, stands, assembled, Answers, label_count};
+ghost use Rattle.sx_asm.specs.Assembled.{is_known, operand_known, names_known, named, formed};
+ghost use Rattle.sx_asm.specs.Assembled.{has_form, reaches, reached, fitted, stands, assembled};
+ghost use Rattle.sx_asm.specs.Assembled.{AnswersMeant, label_count};
 
 use crate::error::AsmError;
 use crate::meaning::{
@@ -235,7 +238,7 @@ fn code_of(alloc: Global, labels: &[Label], at: u16, entries: &[Entry]) -> Resul
 /// text breaks, each tried on the whole text, and the first line that breaks it, from 1.
 #[tactic(auto, unfolding(crate::specs::Assembled::assembled))]
 pub fn assemble(alloc: Global, at: u16, text: &str) -> Result<Vec<u8>, AsmError>
-    ensures { Answers (λ code. code.items) (assembled at text.now) result }
+    ensures { AnswersMeant (λ code. code.items) (assembled at text.now) result }
 {
     let entries = read(alloc, text.as_bytes())?;
     let labels = labels_of(alloc, at, &entries)?;

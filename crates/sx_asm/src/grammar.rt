@@ -1,7 +1,9 @@
 //! What tokens say: values, operands and instructions.
 
 ghost use Rattle.std.specs.Prelude.{◌≡◌, ◌≤◌, length, option_map, Some};
-ghost use Rattle.sx_asm.specs.Grammar.{value, alone, value_of, in_brackets, indirect, memory, operand_from, operand_of, is_comma, is_semicolon, is_colon, parted, two_of, instruction_from};
+ghost use Rattle.sx_asm.specs.Grammar.{value, alone, value_of, in_brackets, indirect, memory};
+ghost use Rattle.sx_asm.specs.Grammar.{operand_from, operand_of, is_comma, is_semicolon, is_colon};
+ghost use Rattle.sx_asm.specs.Grammar.{parted, two_of, instruction_from};
 ghost use Rattle.sx_asm.specs.Fronts.{cut};
 ghost use Rattle.sx_asm.specs.declared.written.Item.TheVariants.{One, Jump};
 

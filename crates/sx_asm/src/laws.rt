@@ -1,11 +1,11 @@
 //! What holds of every instruction and every code. Each law is a function that does nothing: its
 //! contract is the law.
 
-ghost use Rattle.sx_asm.specs.Laws.{TestsOperands, Reassembles, ReassemblesLine, ReassemblesListing};
+ghost use Rattle.sx_asm.specs.Laws.{Operands, Reassembles, RelistsLine, RelistsListing};
 
 /// Rule 2 tests exactly what an instruction can read and write.
 pub fn operands()
-    ensures { TestsOperands }
+    ensures { Operands }
 {}
 
 /// The text of an instruction, assembled at its even address, gives the instruction's bytes.
@@ -16,6 +16,6 @@ pub fn reassembles()
 /// The line that `dis` shows, assembled at its even address, gives the bytes that it stands for;
 /// and so do the lines of a whole listing, joined by newlines.
 pub fn relists()
-    ensures line { ReassemblesLine }
-    ensures listing { ReassemblesListing }
+    ensures line { RelistsLine }
+    ensures listing { RelistsListing }
 {}

@@ -1,10 +1,14 @@
 //! The addresses, words and instructions of what is written.
 
-ghost use Rattle.std.specs.Prelude.{◌≡◌, ◌<◌, ◌≤◌, ◌&&◌, ◌++◌, [], true, take, length, IfOk, IfErr, IsTrue};
+ghost use Rattle.std.specs.Prelude.{◌≡◌, ◌<◌, ◌≤◌, ◌&&◌, ◌++◌, [], true, take, length, IfOk, IfErr};
+ghost use Rattle.std.specs.Prelude.{IsTrue};
 ghost use Rattle.sx_asm.specs.declared.error.AsmError.TheVariants.{OutOfMemory};
-ghost use Rattle.sx_isa.specs.Legal.{IsSource, IsDestination, IsInstruction, is_allowed, is_constant};
+ghost use Rattle.sx_isa.specs.Legal.{IsSource, IsDestination, IsInstruction, is_allowed};
+ghost use Rattle.sx_isa.specs.Legal.{is_constant};
 ghost use Rattle.sx_asm.specs.Forms.{HasWord};
-ghost use Rattle.sx_asm.specs.Meaning.{hash_words, extension, size, further, distance, is_label, address_of, number, hash_operand, operand_at, offset, two_at, one_at, jump_at, labels_of};
+ghost use Rattle.sx_asm.specs.Meaning.{hash_words, extension, size, further, distance, is_label};
+ghost use Rattle.sx_asm.specs.Meaning.{address_of, number, hash_operand, operand_at, offset};
+ghost use Rattle.sx_asm.specs.Meaning.{two_at, one_at, jump_at, labels_of};
 ghost use Rattle.sx_asm.specs.Assembled.{has_form, is_source, is_destination, in_reach};
 
 use crate::error::AsmError;

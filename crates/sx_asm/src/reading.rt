@@ -1,11 +1,13 @@
 //! From a text to its items.
 
-ghost use Rattle.std.specs.Prelude.{◌≡◌, ◌++◌, ◌∷◌, [], ◌<◌, length, Some, None, option_map, OnOk, IfErr, IfSome};
+ghost use Rattle.std.specs.Prelude.{◌≡◌, ◌++◌, ◌∷◌, [], ◌<◌, length, Some, None, option_map, OnOk};
+ghost use Rattle.std.specs.Prelude.{IfErr, IfSome};
 ghost use Rattle.sx_asm.specs.Grammar.{data_of, statement_of, labelled, piece_of, is_semicolon};
 ghost use Rattle.sx_asm.specs.Fronts.{behind};
-ghost use Rattle.sx_asm.specs.Adding.{Adds};
-ghost use Rattle.sx_asm.specs.Reading.{not_written, parts, items_in, items_of, is_newline, taken, line_fits, read};
-ghost use Rattle.sx_asm.specs.Assembled.{Answers};
+ghost use Rattle.sx_asm.specs.Adding.{AddsEntries};
+ghost use Rattle.sx_asm.specs.Reading.{not_written, parts, items_in, items_of, is_newline, taken};
+ghost use Rattle.sx_asm.specs.Reading.{line_fits, read};
+ghost use Rattle.sx_asm.specs.Assembled.{AnswersMeant};
 ghost use Rattle.sx_asm.specs.declared.error.AsmError.TheVariants.{OutOfMemory};
 
 use crate::error::AsmError;
@@ -46,7 +48,7 @@ fn add(line: u32, item: Item, entries: &mut Vec<Entry>) -> Result<(), AsmError>
 
 /// Adds the words of data.
 fn add_data(line: u32, tokens: &[Token], entries: &mut Vec<Entry>) -> Result<(), AsmError>
-    ensures { Adds (data_of tokens.now) line entries.old.items entries.new.items result }
+    ensures { AddsEntries (data_of tokens.now) line entries.old.items entries.new.items result }
 {
     let mut rest = tokens;
     loop {
@@ -68,7 +70,8 @@ fn add_data(line: u32, tokens: &[Token], entries: &mut Vec<Entry>) -> Result<(),
 }
 
 fn add_statement(line: u32, tokens: &[Token], entries: &mut Vec<Entry>) -> Result<(), AsmError>
-    ensures { Adds (statement_of tokens.now) line entries.old.items entries.new.items result }
+    ensures { AddsEntries (statement_of tokens.now) line entries.old.items entries.new.items
+        result }
 {
     let Some((first, rest)) = tokens.split_first() else {
         return Ok(());
@@ -89,7 +92,8 @@ fn add_label(
     tokens: &[Token],
     entries: &mut Vec<Entry>,
 ) -> Result<(), AsmError>
-    ensures { Adds (labelled name.now tokens.now) line entries.old.items entries.new.items result }
+    ensures { AddsEntries (labelled name.now tokens.now) line entries.old.items entries.new.items
+        result }
 {
     let Some((colon, rest)) = tokens.split_first() else {
         return Err(not_written(line));
@@ -102,7 +106,7 @@ fn add_label(
 }
 
 fn add_piece(line: u32, tokens: &[Token], entries: &mut Vec<Entry>) -> Result<(), AsmError>
-    ensures { Adds (piece_of tokens.now) line entries.old.items entries.new.items result }
+    ensures { AddsEntries (piece_of tokens.now) line entries.old.items entries.new.items result }
 {
     let Some((first, rest)) = tokens.split_first() else {
         return Ok(());
@@ -128,7 +132,7 @@ fn split_piece(tokens: &[Token]) -> (&[Token], Option<&[Token]>)
 }
 
 fn add_pieces(line: u32, tokens: &[Token], entries: &mut Vec<Entry>) -> Result<(), AsmError>
-    ensures { Adds (items_in (parts is_semicolon tokens.now)) line
+    ensures { AddsEntries (items_in (parts is_semicolon tokens.now)) line
         entries.old.items entries.new.items result }
 {
     let mut rest = tokens;
@@ -148,7 +152,7 @@ fn add_line(
     line: &[u8],
     entries: &mut Vec<Entry>,
 ) -> Result<(), AsmError>
-    ensures { Adds (items_of line.now) number entries.old.items entries.new.items result }
+    ensures { AddsEntries (items_of line.now) number entries.old.items entries.new.items result }
 {
     let tokens = tokens_of(alloc, line)?;
     add_pieces(number, &tokens, entries)
@@ -189,7 +193,7 @@ fn line_fits(left: usize, line: &[u8], more: Option<&[u8]>) -> bool
 /// The items of a text. A fault is of rule 1.
 #[tactic(auto, unfolding(crate::specs::Reading::read))]
 pub fn read(alloc: Global, text: &[u8]) -> Result<Vec<Entry>, AsmError>
-    ensures { Answers (λ entries. entries.items) (read text.now) result }
+    ensures { AnswersMeant (λ entries. entries.items) (read text.now) result }
 {
     let mut entries = Vec::new(alloc);
     let mut left = TEXT_LIMIT;

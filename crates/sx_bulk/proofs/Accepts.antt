@@ -9,7 +9,7 @@ use Rattle.sx_deploy.specs.Sources.{Coded, AreCoded, none_left, each}
 use Rattle.sx_deploy.specs.Checks.{checked_all}
 use Rattle.sx_deploy.specs.Ties.{app_device, links_of}
 use Rattle.sx_deploy.specs.Places.{placements_of}
-use Rattle.sx_deploy.specs.Deployment.{Deployed, IsFrom, IsDeployed, deployed, arranged}
+use Rattle.sx_deploy.specs.Deployment.{Deployed, IsFrom, IsOutcome, deployed, arranged}
 use Rattle.sx_deploy.specs.declared.placing.Placement.{Placement}
 use Rattle.sx_bulk.specs.Laws.{names, Accepted}
 use Rattle.sx_bulk.proofs.Trees.{eye, eye_spelled, logic, logic_spelled, lamp, lamp_spelled}
@@ -56,5 +56,5 @@ comes = rw (checked, linked, placed.1) refl
 
 pub accepted : Accepted
 accepted =
-    let from : IsDeployed entries (Ok whole) = record { coded = Ok modules; are_coded = are_coded; comes = sym comes } in
+    let from : IsOutcome entries (Ok whole) = record { coded = Ok modules; are_coded = are_coded; comes = sym comes } in
     (whole, subst (λ r. IsFrom r (Ok whole)) (sym counted) from, named)

@@ -13,7 +13,7 @@ use Rattle.sx_lex.specs.Lexed.{Lexed, at_end, space, newline, token, along, belo
 use Rattle.sx_lex.proofs.Names.{longest_name}
 use Rattle.sx_lex.proofs.Numbers as numbers
 use Rattle.sx_lex.proofs.Signs.{no_pair, longest_sign}
-use Rattle.sx_grammar.specs.Machine.{Outcome, Read, Of_module, read, begun, nothing}
+use Rattle.sx_grammar.specs.Machine.{ReadOutcome, Read, Of_module, read, begun, nothing}
 use Rattle.sx_grammar.specs.Text.{Spells}
 use Rattle.sx_grammar.proofs.Faults.{read_is_module}
 
@@ -163,12 +163,12 @@ are_tokens (suc k) at (b ∷ bs) =
     followed at (b ∷ bs) (turn at b bs) (λ next rest. lex k next rest) (turn_leads at b bs) (λ next rest. are_tokens k next rest)
 
 -- what the machine makes of the tokens that are found
-made : Found → Option Outcome
+made : Found → Option ReadOutcome
 made None = None
 made (Some r) = Some (read begun nothing r.0)
 
 -- what a text is read as, in fewer turns than this many
-unfoldable pub read_as : ℕ → List ℕ → Option Outcome
+unfoldable pub read_as : ℕ → List ℕ → Option ReadOutcome
 unfolding made lex
 read_as k text = made (lex k start text)
 

@@ -1,6 +1,6 @@
 pub mod Words
 pub mod Decimals
-pub mod Good
+pub mod WellFormed
 pub mod Lexing
 pub mod Trees
 pub mod Entries

@@ -2,7 +2,7 @@
 use Rattle.std.specs.Prelude.{◌≡◌, ℕ, ◌<◌, true, false, codes, [], ◌∷◌, Ok, IsOk}
 use Rattle.sx_trace.specs.Names.{NameLists}
 use Rattle.sx_deploy.specs.Deployment.{Deployed, IsRead}
-use Rattle.sx_sched.specs.Reading.{said}
+use Rattle.sx_sched.specs.Reading.{said_line}
 use Rattle.sx_bulk.specs.Bulk.{head, line, lines}
 
 -- the names in the deployment, and which devices are sensors
@@ -21,4 +21,4 @@ Accepted = (d : Deployed) × IsRead head (Ok d) × (d.names ≡ names)
 
 -- each line of a workload of at most 8,000 samples is a line of a schedule
 abbrev pub WellFormed : Type 0
-WellFormed = (i : ℕ) → i < lines 8000 → IsOk (said names (line i))
+WellFormed = (i : ℕ) → i < lines 8000 → IsOk (said_line names (line i))

@@ -3,10 +3,10 @@ use Rattle.std.proofs.Common.{◌≡◌, ℕ, zero, suc, ◌<◌, inl, inr, List
 use Rattle.std.specs.Prelude.{slice_index, slice_set}
 use Rattle.std.proofs.lemmas.Bool.{cases_eq, cases_lt}
 use Rattle.std.proofs.lemmas.List.{length-set, get_or-set_same, get_or-set_other, set_past, length-replicate}
-use Rattle.sx_bus.specs.Memory.{blank, AreBytes}
+use Rattle.sx_bus.specs.Memory.{blank, AreMemoryBytes}
 
-pub AreBytes-set : (mem : List ℕ) (i v : ℕ) → AreBytes mem → v < 256 → AreBytes (slice_set mem i v)
-AreBytes-set mem i v h p = record {
+pub AreMemoryBytes-set : (mem : List ℕ) (i v : ℕ) → AreMemoryBytes mem → v < 256 → AreMemoryBytes (slice_set mem i v)
+AreMemoryBytes-set mem i v h p = record {
   size = length-set mem i v ∙ h.size;
   bytes = λ r. elim (cases_eq r i) [
     | inl e ↦ elim (cases_lt i (length mem)) [
@@ -23,9 +23,9 @@ zero_at (suc n) zero = refl
 zero_at (suc n) (suc k) = zero_at n k
 
 -- The count is a variable, since a proof must never compute a list of 65,536 numbers.
-pub AreBytes-blank : (n : ℕ) → n ≡ 65536 → AreBytes (blank n)
+pub AreMemoryBytes-blank : (n : ℕ) → n ≡ 65536 → AreMemoryBytes (blank n)
 unfolding blank
-AreBytes-blank n e = record {
+AreMemoryBytes-blank n e = record {
   size = length-replicate n 0 ∙ e;
   bytes = λ k. subst (λ z. z < 256) (sym (zero_at n k)) (omega arith);
 }

@@ -5,7 +5,9 @@
 --     places_of, device_at      the devices' places, and the device at a byte
 --     has_place, IsIndex      whether a device stands on a page, and what is kept of that
 --     sensed, cleared, all_stale      the devices after a sample, a read of it, and a reset
-use Rattle.std.specs.Prelude.{◌≡◌, ◌≢◌, ℕ, zero, suc, ◌+◌, ◌/◌, ◌%◌, ◌==◌, ◌<◌, ◌≤◌, nat_lt, nat_le, Bool, true, false, ◌&&◌, List, [], ◌∷◌, length, map, slice_index_or, All, AllPairs, Option}
+use Rattle.std.specs.Prelude.{◌≡◌, ◌≢◌, ℕ, zero, suc, ◌+◌, ◌/◌, ◌%◌, ◌==◌, ◌<◌, ◌≤◌, nat_lt, nat_le}
+use Rattle.std.specs.Prelude.{Bool, true, false, ◌&&◌, List, [], ◌∷◌, length, map, slice_index_or}
+use Rattle.std.specs.Prelude.{All, AllPairs, Option}
 use Rattle.std.specs.List.{position_from, list_any}
 use Rattle.sx_bus.specs.declared.devices.Kind.{Kind}
 use Rattle.sx_bus.specs.declared.devices.Window.{Window}
@@ -42,30 +44,32 @@ abbrev pub has_place : ℕ → List ℕ → Bool
 has_place page places = list_any (λ place. place / 256 == page) places
 
 -- what is kept for each of the 256 pages: whether a device stands there
-abbrev pub IsIndex : List Bool → List ℕ → Type 0
-IsIndex pages places = (page : ℕ) → page < 256 → slice_index_or pages page false ≡ has_place page places
+abbrev pub IsDeviceIndex : List Bool → List ℕ → Type 0
+IsDeviceIndex pages places =
+    (page : ℕ) → page < 256 → slice_index_or pages page false ≡ has_place page places
 
 -- each value is one that a sensor can give
 abbrev pub HaveSamples : List Window → Type 0
 HaveSamples windows = All (λ w. w.value < 32768) windows
 
 -- the devices with a change of the one at the index
-abbrev pub changed : (Window → Window) → List Window → ℕ → List Window
-changed change [] device = []
-changed change (w ∷ rest) zero = change w ∷ rest
-changed change (w ∷ rest) (suc device) = w ∷ changed change rest device
+abbrev pub with_changed : (Window → Window) → List Window → ℕ → List Window
+with_changed change [] device = []
+with_changed change (w ∷ rest) zero = change w ∷ rest
+with_changed change (w ∷ rest) (suc device) = w ∷ with_changed change rest device
 
 -- a device without a fresh sample
 abbrev pub stale : Window → Window
 stale w = record w { fresh = false }
 
 -- the devices after a sensor took a sample
-abbrev pub sensed : List Window → ℕ → ℕ → List Window
-sensed windows device value = changed (λ w. record w { value = value; fresh = true }) windows device
+abbrev pub with_sample : List Window → ℕ → ℕ → List Window
+with_sample windows device value =
+    with_changed (λ w. record w { value = value; fresh = true }) windows device
 
 -- the devices after the sample of one was read
 abbrev pub cleared : List Window → ℕ → List Window
-cleared windows device = changed stale windows device
+cleared windows device = with_changed stale windows device
 
 -- the devices after a reset of the node: no sample is fresh, and the values stay
 abbrev pub all_stale : List Window → List Window

@@ -6,6 +6,6 @@ unfoldable pub blank : ℕ → List ℕ
 blank n = replicate n 0
 
 -- 65,536 bytes
-pub record AreBytes (mem : List ℕ) : Type 0 where
+pub record AreMemoryBytes (mem : List ℕ) : Type 0 where
   pub size : length mem ≡ 65536
   pub bytes : (at : ℕ) → slice_index mem at < 256

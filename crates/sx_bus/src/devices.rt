@@ -1,8 +1,10 @@
 //! The devices of a node: sensors and actuators, each one word of the memory.
 
-ghost use Rattle.std.specs.Prelude.{◌≡◌, ℕ, ◌<◌, ◌≤◌, true, false, length, map, IfOk, IfSome, slice_get, slice_index_or, Option, Some};
+ghost use Rattle.std.specs.Prelude.{◌≡◌, ℕ, ◌<◌, ◌≤◌, true, false, length, map, IfOk, IfSome};
+ghost use Rattle.std.specs.Prelude.{slice_get, slice_index_or, Option, Some};
 ghost use Rattle.sx_bus.specs.declared.devices.Kind.TheVariants.{Sensor};
-ghost use Rattle.sx_bus.specs.Devices.{ArePlaces, AreNew, on_word, powered_on, places_of, device_at, has_place, sensed, cleared, all_stale};
+ghost use Rattle.sx_bus.specs.Devices.{ArePlaces, AreNew, on_word, powered_on, places_of};
+ghost use Rattle.sx_bus.specs.Devices.{device_at, has_place, with_sample, cleared, all_stale};
 
 use std::alloc::{AllocError as OutOfMemory, Global};
 use std::marker::Model;
@@ -57,12 +59,12 @@ impl Model for Windows {
 
     ghost Value = { List Window };
 
-    ghost use Rattle.sx_bus.specs.Devices.{ArePlaces, HaveSamples, IsIndex, places_of};
+    ghost use Rattle.sx_bus.specs.Devices.{ArePlaces, HaveSamples, IsDeviceIndex, places_of};
 
     ghost view = { λ w. w.windows.items };
 
     ghost invariant = { λ w. (w.places.items ≡ places_of w.windows.items) × ArePlaces w.places.items
-        × HaveSamples w.windows.items × IsIndex w.pages w.places.items };
+        × HaveSamples w.windows.items × IsDeviceIndex w.pages w.places.items };
 }
 
 impl Windows {
@@ -117,7 +119,7 @@ impl Windows {
         requires device { device < length self.old }
         requires sensor { IfSome (slice_get self.old device) (λ window. window.kind ≡ Sensor) }
         requires value { value < 32768 }
-        ensures { self.new ≡ sensed self.old device value }
+        ensures { self.new ≡ with_sample self.old device value }
     {
         sense_one(&mut self.windows, device as usize, value);
     }
@@ -203,7 +205,7 @@ fn first_at(windows: &[Window], at: u16) -> Option<u8>
 
 fn sense_one(windows: &mut [Window], device: usize, value: u16)
     requires { device < length windows.old }
-    ensures { windows.new ≡ sensed windows.old device value }
+    ensures { windows.new ≡ with_sample windows.old device value }
 {
     windows[device] = Window {
         value,

@@ -1,7 +1,7 @@
 //! A memory in one piece.
 
 ghost use Rattle.std.specs.Prelude.{◌≡◌, ℕ, length, IfOk};
-ghost use Rattle.sx_bus.specs.Memory.{blank, AreBytes};
+ghost use Rattle.sx_bus.specs.Memory.{blank, AreMemoryBytes};
 
 use crate::copied::Copied;
 use crate::memory::Bus;
@@ -11,7 +11,7 @@ use std::alloc::{AllocError as OutOfMemory, Global};
 #[derive(Drop)]
 pub struct FlatBus {
     memory: Vec<u8>,
-    ghost ranged: { AreBytes memory.items },
+    ghost ranged: { AreMemoryBytes memory.items },
 }
 
 impl FlatBus {

@@ -1,7 +1,7 @@
 //! The trait of memories of 65,536 bytes.
 
 ghost use Rattle.std.specs.Prelude.{◌≡◌, ℕ, List, slice_index, slice_set};
-ghost use Rattle.sx_bus.specs.Memory.{blank, AreBytes};
+ghost use Rattle.sx_bus.specs.Memory.{blank, AreMemoryBytes};
 
 /// A memory of 65,536 bytes. Its meaning is the list of these bytes.
 pub trait Bus: Drop {
@@ -22,5 +22,5 @@ pub trait Bus: Drop {
     /// Does nothing. Its clause is the law that whatever was written, there are 65,536 bytes, each
     /// below 256; as a call, it can be met by what a memory of several parts keeps of them.
     fn stays_in_range(&self)
-        ensures { AreBytes (bytes self.now) };
+        ensures { AreMemoryBytes (bytes self.now) };
 }

@@ -13,7 +13,7 @@ use Rattle.sx_check.specs.Names.{declares, has_taken, is_actuator, is_declared, 
 use Rattle.sx_check.specs.Uses.{Use, used, declares_as, handler_uses, handlers_uses, is_local, is_misused, is_seen, is_unknown}
 use Rattle.sx_check.specs.Bounds.{block_counts, block_emits, block_sends, is_input, is_misfit, is_miscounted, is_output}
 use Rattle.sx_check.specs.Rules.{breaks, breaks_cells, breaks_cost, breaks_depth, breaks_duplicate, breaks_kind, breaks_locals, breaks_nodes, breaks_packets, breaks_repeat, breaks_unknown, emits_nowhere, first_broken, is_too_deep, samples_blindly}
-use Rattle.sx_check.specs.Accepted.{HasLength, IsAccepted, IsCount, IsFine, IsProper}
+use Rattle.sx_check.specs.Accepted.{HasLength, IsAcceptedModule, IsCount, IsFine, IsProper}
 use Rattle.sx_check.proofs.Keeps.{In, both_false, keeps, none_is, uses_in}
 use Rattle.sx_check.proofs.Distinct.{all_not, apart, none_counted, pairs_weaker, same-refl, same-true, same_input-refl}
 
@@ -200,7 +200,7 @@ module _ (m : ModuleTree) (checked : first_broken m ≡ None) where
         emits = λ e. driven _ _ nowhere (some_is (λ h. block_emits h.body) h m.handlers i e);
       }
 
-  pub accepted : IsAccepted m
+  pub accepted : IsAcceptedModule m
   accepted =
       let r = both_false _ _ repeated in
       let l = both_false _ _ large in

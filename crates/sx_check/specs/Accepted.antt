@@ -1,6 +1,7 @@
 -- What holds of each module that breaks no rule: its bounds, and that each name in it is known and
 -- used as what it is.
-use Rattle.std.specs.Prelude.{◌≡◌, ◌≢◌, ℕ, ◌≤◌, ◌⊎◌, true, false, List, None, All, AllPairs, count_by, length}
+use Rattle.std.specs.Prelude.{◌≡◌, ◌≢◌, ℕ, ◌≤◌, ◌⊎◌, true, false, List, None, All, AllPairs}
+use Rattle.std.specs.Prelude.{count_by, length}
 use Rattle.std.specs.List.{list_any}
 use Rattle.sx_lang.specs.declared.tree.Decl.{Decl}
 use Rattle.sx_lang.specs.declared.tree.Decl.TheVariants.{Device, Input, Output, Var, Array}
@@ -8,12 +9,14 @@ use Rattle.sx_lang.specs.Sizes.{module_cost, module_nodes, declared_cells}
 use Rattle.sx_lang.specs.Tree.{HandlerTree, ModuleTree}
 use Rattle.sx_check.specs.Names.{declares, is_actuator, is_declared, is_device, is_sensor, locals}
 use Rattle.sx_check.specs.Uses.{Use, used, declares_as, handler_uses, is_local}
-use Rattle.sx_check.specs.Bounds.{block_counts, block_emits, block_height, block_sends, inner_depth, is_input, is_output}
+use Rattle.sx_check.specs.Bounds.{block_counts, block_emits, block_height, block_sends, inner_depth}
+use Rattle.sx_check.specs.Bounds.{is_input, is_output}
 use Rattle.sx_check.specs.Rules.{first_broken}
 
 -- the name is a local in sight that can be used so, or declared as what it is used as
 abbrev pub IsProper : List Decl → Use → Type 0
-IsProper ds (used role x seen) = (is_local role x seen ≡ true) ⊎ (list_any (declares_as role x) ds ≡ true)
+IsProper ds (used role x seen) =
+    (is_local role x seen ≡ true) ⊎ (list_any (declares_as role x) ds ≡ true)
 
 -- an array has 1 to 1,024 elements
 abbrev pub HasLength : Decl → Type 0
@@ -41,7 +44,7 @@ pub record IsFine (m : ModuleTree) (h : HandlerTree) : Type 0 where
   pub emits : block_emits h.body ≡ true → list_any is_actuator m.decls ≡ true
 
 -- what holds of a module
-pub record IsAccepted (m : ModuleTree) : Type 0 where
+pub record IsAcceptedModule (m : ModuleTree) : Type 0 where
   pub declared_once : (x : List ℕ) → count_by (declares x) m.decls ≤ 1
   pub one_device : count_by is_device m.decls ≤ 1
   pub handled_once : AllPairs (λ g h. g.input ≢ h.input) m.handlers
@@ -54,5 +57,5 @@ pub record IsAccepted (m : ModuleTree) : Type 0 where
   pub cells : declared_cells m.decls ≤ 1024
 
 -- all of this holds of a module that breaks no rule
-abbrev pub Accepts : Type 0
-Accepts = (m : ModuleTree) → first_broken m ≡ None → IsAccepted m
+abbrev pub Accepted : Type 0
+Accepted = (m : ModuleTree) → first_broken m ≡ None → IsAcceptedModule m

@@ -1,18 +1,24 @@
 -- The ten rules of the language, each by when it is broken.
-use Rattle.std.specs.Prelude.{Bool, ◌||◌, ◌&&◌, not, List, [], ◌∷◌, Option, nat_lt, count_by, length}
+use Rattle.std.specs.Prelude.{Bool, ◌||◌, ◌&&◌, not, List, [], ◌∷◌, Option, nat_lt, count_by}
+use Rattle.std.specs.Prelude.{length}
 use Rattle.std.specs.List.{list_any, find}
 use Rattle.sx_lang.specs.Sizes.{module_cost, module_nodes, declared_cells}
 use Rattle.sx_lang.specs.Tree.{HandlerTree, ModuleTree}
 use Rattle.sx_check.specs.declared.rules.Rule.{Rule}
-use Rattle.sx_check.specs.declared.rules.Rule.TheVariants.{Duplicate, Unknown, Kind, Depth, Locals, Repeat, Packets, Cost, Nodes, Cells}
-use Rattle.sx_check.specs.Names.{is_repeated, has_taken, is_handled_twice, is_sample, is_sensor, is_actuator, locals}
+use Rattle.sx_check.specs.declared.rules.Rule.TheVariants.{Duplicate, Unknown, Kind, Depth, Locals}
+use Rattle.sx_check.specs.declared.rules.Rule.TheVariants.{Repeat, Packets, Cost, Nodes, Cells}
+use Rattle.sx_check.specs.Names.{is_repeated, has_taken, is_handled_twice, is_sample, is_sensor}
+use Rattle.sx_check.specs.Names.{is_actuator, locals}
 use Rattle.sx_check.specs.Uses.{handlers_uses, is_unknown, is_misused}
-use Rattle.sx_check.specs.Bounds.{block_height, inner_depth, block_counts, is_miscounted, block_sends, block_emits, is_input, is_output, is_misfit}
+use Rattle.sx_check.specs.Bounds.{block_height, inner_depth, block_counts, is_miscounted}
+use Rattle.sx_check.specs.Bounds.{block_sends, block_emits, is_input, is_output, is_misfit}
 
 -- a name is declared twice, taken by a local though it is in use, or handled twice; or two devices
 -- are declared
 unfoldable pub breaks_duplicate : ModuleTree → Bool
-breaks_duplicate m = list_any (is_repeated m.decls) m.decls || (list_any (has_taken m.decls) m.handlers || list_any (is_handled_twice m.handlers) m.handlers)
+breaks_duplicate m = list_any (is_repeated m.decls) m.decls
+    || (list_any (has_taken m.decls) m.handlers || list_any (is_handled_twice m.handlers)
+    m.handlers)
 
 -- a name that is used is not declared, or not at that place
 unfoldable pub breaks_unknown : ModuleTree → Bool
@@ -24,12 +30,14 @@ samples_blindly m = list_any is_sample m.handlers && not (list_any is_sensor m.d
 
 -- an `emit`, and no actuator
 unfoldable pub emits_nowhere : ModuleTree → Bool
-emits_nowhere m = list_any (λ h. block_emits h.body) m.handlers && not (list_any is_actuator m.decls)
+emits_nowhere m =
+    list_any (λ h. block_emits h.body) m.handlers && not (list_any is_actuator m.decls)
 
 -- a name is used as another kind; or the module samples without a sensor, or emits without an
 -- actuator
 unfoldable pub breaks_kind : ModuleTree → Bool
-breaks_kind m = list_any (is_misused m.decls) (handlers_uses m.handlers) || (samples_blindly m || emits_nowhere m)
+breaks_kind m = list_any (is_misused m.decls) (handlers_uses m.handlers)
+    || (samples_blindly m || emits_nowhere m)
 
 -- a handler's body stands in no other block
 abbrev pub is_too_deep : HandlerTree → Bool
@@ -57,7 +65,8 @@ breaks_cost m = nat_lt 262144 (module_cost m)
 
 -- there are more than 512 nodes, or more than 255 inputs or outputs
 unfoldable pub breaks_nodes : ModuleTree → Bool
-breaks_nodes m = nat_lt 512 (module_nodes m) || (nat_lt 255 (count_by is_input m.decls) || nat_lt 255 (count_by is_output m.decls))
+breaks_nodes m = nat_lt 512 (module_nodes m) ||
+    (nat_lt 255 (count_by is_input m.decls) || nat_lt 255 (count_by is_output m.decls))
 
 -- an array's length is not 1 to 1,024, or there are more than 1,024 cells
 unfoldable pub breaks_cells : ModuleTree → Bool

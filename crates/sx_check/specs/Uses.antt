@@ -1,9 +1,12 @@
 -- Where a handler uses a name, as what, and which locals can be seen there.
-use Rattle.std.specs.Prelude.{ℕ, Bool, false, ◌||◌, ◌&&◌, not, List, [], ◌∷◌, ◌++◌, Option, Some, None}
+use Rattle.std.specs.Prelude.{ℕ, Bool, false, ◌||◌, ◌&&◌, not, List, [], ◌∷◌, ◌++◌, Option, Some}
+use Rattle.std.specs.Prelude.{None}
 use Rattle.std.specs.List.{list_any}
 use Rattle.sx_lang.specs.declared.tree.Decl.{Decl}
 use Rattle.sx_lang.specs.declared.tree.Decl.TheVariants.{Input, Output, Var, Array}
-use Rattle.sx_lang.specs.Tree.{Expression, Constant, Variable, Indexed, Applied, Combined, Statement, Defines, Assigns, Stores, Chooses, Repeats, Sends, Emits, Block, Done, Then, HandlerTree}
+use Rattle.sx_lang.specs.Tree.{Expression, Constant, Variable, Indexed, Applied, Combined}
+use Rattle.sx_lang.specs.Tree.{Statement, Defines, Assigns, Stores, Chooses, Repeats, Sends, Emits}
+use Rattle.sx_lang.specs.Tree.{Block, Done, Then, HandlerTree}
 use Rattle.sx_check.specs.declared.declared.Role.{Role}
 use Rattle.sx_check.specs.declared.declared.Role.TheVariants.{Word, Element, Sending, Handling}
 use Rattle.sx_check.specs.Names.{same, is_declared, defined}
@@ -25,8 +28,10 @@ abbrev mutual
   pub statement_uses : List (List ℕ) → Statement → List Use
   statement_uses seen (Defines x e) = expression_uses seen e
   statement_uses seen (Assigns x e) = used Word x seen ∷ expression_uses seen e
-  statement_uses seen (Stores x i e) = used Element x seen ∷ (expression_uses seen i ++ expression_uses seen e)
-  statement_uses seen (Chooses e a b) = expression_uses seen e ++ (block_uses seen a ++ block_uses seen b)
+  statement_uses seen (Stores x i e) =
+      used Element x seen ∷ (expression_uses seen i ++ expression_uses seen e)
+  statement_uses seen (Chooses e a b) =
+      expression_uses seen e ++ (block_uses seen a ++ block_uses seen b)
   statement_uses seen (Repeats n a) = block_uses seen a
   statement_uses seen (Sends x e) = used Sending x seen ∷ expression_uses seen e
   statement_uses seen (Emits e) = expression_uses seen e
@@ -74,4 +79,5 @@ is_unknown ds (used role x seen) = not (is_declared ds x || is_seen seen x)
 
 -- the name is known, and not as what it is used
 abbrev pub is_misused : List Decl → Use → Bool
-is_misused ds (used role x seen) = (is_declared ds x || is_seen seen x) && not (list_any (declares_as role x) ds || is_local role x seen)
+is_misused ds (used role x seen) = (is_declared ds x || is_seen seen x)
+    && not (list_any (declares_as role x) ds || is_local role x seen)

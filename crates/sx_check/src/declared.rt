@@ -2,7 +2,8 @@
 
 ghost use Rattle.std.specs.Prelude.{◌≡◌, ℕ, ◌≤◌, count_by, length};
 ghost use Rattle.std.specs.List.{list_any};
-ghost use Rattle.sx_check.specs.Names.{declares, is_actuator, is_declared, is_device, is_repeated, is_sensor};
+ghost use Rattle.sx_check.specs.Names.{declares, is_actuator, is_declared, is_device, is_repeated};
+ghost use Rattle.sx_check.specs.Names.{is_sensor};
 ghost use Rattle.sx_check.specs.Uses.{declares_as};
 ghost use Rattle.sx_check.specs.Bounds.{is_input, is_misfit, is_output};
 

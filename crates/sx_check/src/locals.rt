@@ -3,7 +3,8 @@
 ghost use Rattle.std.specs.Prelude.{◌≡◌, ℕ, ◌+◌, ◌≤◌, count_by, length, map, min};
 ghost use Rattle.std.specs.List.{list_any};
 ghost use Rattle.sx_lang.specs.View.{block_of, handler_of, module_of, statement_of};
-ghost use Rattle.sx_check.specs.Names.{block_lets, has_taken, is_handled_twice, is_taken, locals, same, same_input, statement_lets};
+ghost use Rattle.sx_check.specs.Names.{block_lets, has_taken, is_handled_twice, is_taken, locals};
+ghost use Rattle.sx_check.specs.Names.{same, same_input, statement_lets};
 ghost use Rattle.sx_check.specs.Rules.{breaks_duplicate};
 
 use crate::declared::{has_name, has_repeated};
@@ -47,7 +48,8 @@ fn is_name_taken(decls: &[Decl], h: &Handler, x: &Name) -> bool
 
 #[cycle(taken)]
 fn taken_in_statement(decls: &[Decl], h: &Handler, s: &Stmt) -> bool
-    ensures { result ≡ list_any (is_taken decls.now (handler_of h.now)) (statement_lets (statement_of s.now)) }
+    ensures { result ≡ list_any (is_taken decls.now (handler_of h.now))
+        (statement_lets (statement_of s.now)) }
 {
     match s {
         Stmt::Let(x, _) => is_name_taken(decls, h, x),
@@ -61,7 +63,8 @@ fn taken_in_statement(decls: &[Decl], h: &Handler, s: &Stmt) -> bool
 
 #[cycle(taken)]
 fn taken_in_block(decls: &[Decl], h: &Handler, block: &Vec<Stmt>) -> bool
-    ensures { result ≡ list_any (is_taken decls.now (handler_of h.now)) (block_lets (block_of block.now.items)) }
+    ensures { result ≡ list_any (is_taken decls.now (handler_of h.now))
+        (block_lets (block_of block.now.items)) }
 {
     for s in block {
         if taken_in_statement(decls, h, s) {
@@ -119,7 +122,8 @@ fn is_another(handlers: &[Handler], h: &Handler) -> bool
 }
 
 fn has_handled_twice(handlers: &[Handler]) -> bool
-    ensures { result ≡ list_any (is_handled_twice (map handler_of handlers.now)) (map handler_of handlers.now) }
+    ensures { result ≡ list_any (is_handled_twice (map handler_of handlers.now))
+        (map handler_of handlers.now) }
 {
     for h in handlers {
         if is_another(handlers, h) {

@@ -6,7 +6,9 @@ ghost use Rattle.sx_lang.specs.View.{block_of, expression_of, handler_of, module
 ghost use Rattle.sx_check.specs.Names.{is_sample};
 ghost use Rattle.sx_check.specs.Rules.{breaks_kind, breaks_unknown, emits_nowhere, samples_blindly};
 ghost use Rattle.sx_check.specs.Scopes.{is_flawed, seen_in};
-ghost use Rattle.sx_check.specs.Uses.{block_uses, expression_uses, handler_uses, handlers_uses, input_uses, is_local, is_misused, is_unknown, statement_uses, used};
+ghost use Rattle.sx_check.specs.Uses.{block_uses, expression_uses, handler_uses, handlers_uses};
+ghost use Rattle.sx_check.specs.Uses.{input_uses, is_local, is_misused, is_unknown, statement_uses};
+ghost use Rattle.sx_check.specs.Uses.{used};
 
 use crate::bounds::has_emit;
 use crate::declared::{Role, has_actuator, has_name, has_role, has_sensor};
@@ -44,7 +46,8 @@ fn has_flaw(flaw: Flaw, decls: &[Decl], role: Role, x: &Name, scope: &Scope<'_>)
 }
 
 fn in_expression(flaw: Flaw, decls: &[Decl], e: &Expr, scope: &Scope<'_>) -> bool
-    ensures { result ≡ list_any (is_flawed flaw decls.now) (expression_uses (seen_in scope.now) (expression_of e.now)) }
+    ensures { result ≡ list_any (is_flawed flaw decls.now)
+        (expression_uses (seen_in scope.now) (expression_of e.now)) }
 {
     match e {
         Expr::Number(_) => false,
@@ -62,7 +65,8 @@ fn in_expression(flaw: Flaw, decls: &[Decl], e: &Expr, scope: &Scope<'_>) -> boo
 
 #[cycle(uses)]
 fn in_statement<'a>(flaw: Flaw, decls: &[Decl], s: &'a Stmt, scope: &'a Scope<'a>) -> bool
-    ensures { result ≡ list_any (is_flawed flaw decls.now) (statement_uses (seen_in scope.now) (statement_of s.now)) }
+    ensures { result ≡ list_any (is_flawed flaw decls.now)
+        (statement_uses (seen_in scope.now) (statement_of s.now)) }
 {
     match s {
         Stmt::Let(_, e) | Stmt::Emit(e) => in_expression(flaw, decls, e, scope),
@@ -88,7 +92,8 @@ fn in_statement<'a>(flaw: Flaw, decls: &[Decl], s: &'a Stmt, scope: &'a Scope<'a
 
 #[cycle(uses)]
 fn in_block<'a>(flaw: Flaw, decls: &[Decl], block: &'a Vec<Stmt>, scope: &'a Scope<'a>) -> bool
-    ensures { result ≡ list_any (is_flawed flaw decls.now) (block_uses (seen_in scope.now) (block_of block.now.items)) }
+    ensures { result ≡ list_any (is_flawed flaw decls.now)
+        (block_uses (seen_in scope.now) (block_of block.now.items)) }
 {
     for (i, s) in block.iter().enumerate() {
         let (earlier, _) = block.split_at(i);
@@ -115,7 +120,8 @@ fn in_handler(flaw: Flaw, decls: &[Decl], h: &Handler) -> bool
 }
 
 fn in_handlers(flaw: Flaw, decls: &[Decl], handlers: &[Handler]) -> bool
-    ensures { result ≡ list_any (is_flawed flaw decls.now) (handlers_uses (map handler_of handlers.now)) }
+    ensures { result ≡ list_any (is_flawed flaw decls.now)
+        (handlers_uses (map handler_of handlers.now)) }
 {
     for h in handlers {
         if in_handler(flaw, decls, h) {
@@ -127,14 +133,16 @@ fn in_handlers(flaw: Flaw, decls: &[Decl], handlers: &[Handler]) -> bool
 
 #[tactic(auto, unfolding(crate::specs::Scopes::is_flawed))]
 fn has_unknown(m: &Module) -> bool
-    ensures { result ≡ list_any (is_unknown (module_of m.now).decls) (handlers_uses (module_of m.now).handlers) }
+    ensures { result ≡ list_any (is_unknown (module_of m.now).decls)
+        (handlers_uses (module_of m.now).handlers) }
 {
     in_handlers(Flaw::Unknown, &m.decls, &m.handlers)
 }
 
 #[tactic(auto, unfolding(crate::specs::Scopes::is_flawed))]
 fn has_misused(m: &Module) -> bool
-    ensures { result ≡ list_any (is_misused (module_of m.now).decls) (handlers_uses (module_of m.now).handlers) }
+    ensures { result ≡ list_any (is_misused (module_of m.now).decls)
+        (handlers_uses (module_of m.now).handlers) }
 {
     in_handlers(Flaw::Misused, &m.decls, &m.handlers)
 }

@@ -15,7 +15,7 @@ use Rattle.sx_machine.specs.State.{State}
 use Rattle.sx_invoke.specs.ModuleState.{state_of}
 use Rattle.sx_invoke.specs.Devices.{HasDevices}
 use Rattle.sx_image.specs.Image.{Enters, Image, call_at, private_bytes, progress_at, setup_at}
-use Rattle.sx_stub.specs.Invokes.{Begun}
+use Rattle.sx_stub.specs.Invokes.{CallBegun}
 use Rattle.sx_stub.proofs.Mem.{AllBytes-bytes_from, AllBytes-put_word, get-put_other, length-bytes_from, length-put_word, word-put_other, word-put_same}
 use Rattle.sx_stub.proofs.Packets.{bytes_from_get}
 use Rattle.sx_stub.proofs.Slots.{state_same}
@@ -32,7 +32,7 @@ state_in_memory tree ends l mem priv size f =
     (cases_lt i (length priv)))
 
 pub begun_at : (mac : Mac) (tree : ModuleTree) (ends : List End) (image : Image) (section : Section) (n : State) → Enters tree image section n → All (λ b. b < 256) n.mem → IsTag mac → length ends ≤ 16 → All (λ e. e.link < 256) ends
-    → section.layout.priv_to - section.layout.priv_from ≡ module_data_size tree (length ends) → Begun (setup_at mac tree ends section n) (call_at n) (progress_at (setup_at mac tree ends section n) n) (entry_conf section.layout n)
+    → section.layout.priv_to - section.layout.priv_from ≡ module_data_size tree (length ends) → CallBegun (setup_at mac tree ends section n) (call_at n) (progress_at (setup_at mac tree ends section n) n) (entry_conf section.layout n)
 begun_at mac tree ends image section n enters bytes tag few links size =
     let p0 = private_bytes section.layout n.mem in
     let p1 = put_word p0 6 (slice_index n.regs 12) in

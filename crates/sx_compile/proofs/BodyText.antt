@@ -12,7 +12,7 @@ use Rattle.sx_ir.specs.declared.ir.Ir.{Ir}
 use Rattle.sx_ir.specs.Sizes.{bytes}
 use Rattle.sx_ir.specs.Sound.{is_sound, is_sound_op, is_sound_part, private_size, public_size}
 use Rattle.sx_lower.specs.Lowering.{IsLowerable, LowersTo}
-use Rattle.sx_stub.proofs.Weight.{stub_fits}
+use Rattle.sx_stub.proofs.StubFits.{stub_fits}
 use Rattle.sx_tmpl.specs.Performs.{IsNarrow}
 use Rattle.sx_tmpl.specs.Template.{Addresses}
 use Rattle.sx_tmpl.specs.Text.{words_of}

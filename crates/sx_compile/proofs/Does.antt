@@ -27,9 +27,9 @@ use Rattle.sx_ir.specs.Conf.{Conf, Halt}
 use Rattle.sx_ir.specs.Conf as conf
 use Rattle.sx_ir.specs.Meaning.{no_count, op_step, op_count, part_from, OnViolation}
 use Rattle.sx_ir.specs.Sound.{is_sound_op}
-use Rattle.sx_stub.specs.Invokes.{Begun, EndsSo, Invokes, LeavesSo, Shows}
+use Rattle.sx_stub.specs.Invokes.{CallBegun, EndsSo, Invokes, LeavesSo, ShowsCall}
 use Rattle.sx_stub.proofs.Mem.{bytes_from_same}
-use Rattle.sx_tmpl.specs.Performs.{IsRegular, LeftFrom, Never, Performs, Runs, With, entry_conf}
+use Rattle.sx_tmpl.specs.Performs.{IsRegular, LeftFrom, Never, Performs, NodeRuns, With, entry_conf}
 use Rattle.sx_compile.proofs.Begun.{state_in_memory}
 use Rattle.sx_compile.proofs.Regular.{runs_regular}
 use Rattle.sx_compile.proofs.Written.{Written, returns_written}
@@ -53,7 +53,7 @@ module _ (s : Setup) (code : Code) (before : State) (result : Invoked) (Sim : Co
   marks_of_run n c (Ends p e le b) = p.marks
 
   -- the node follows it
-  follows : (n : ℕ) (c : Conf) (w : Watched) → Run n c → Sim c w → Runs s result before Ended Came n w
+  follows : (n : ℕ) (c : Conf) (w : Watched) → Run n c → Sim c w → NodeRuns s result before Ended Came n w
   follows n c w (Here q) x = Here (c, x, q)
   follows n c w (Next {k = k} {t = t} p e le r) x =
       and_then Watched Violation (watch s.mac) (λ w. 1) (Underway s result before) Ended (Sim t) Came (op_count no_count code.ops.items c) k n w le
@@ -61,7 +61,7 @@ module _ (s : Setup) (code : Code) (before : State) (result : Invoked) (Sim : Co
       (λ u y. follows k t u r y)
   follows n c w (Ends {v = v} p e le b) x = ends v e b
     where
-      ends : (v : Halt) → op_step s (part_from code.parts.items) code.ops.items c ≡ Stops v → OnViolation B c v → Runs s result before Ended Came n w
+      ends : (v : Halt) → op_step s (part_from code.parts.items) code.ops.items c ≡ Stops v → OnViolation B c v → NodeRuns s result before Ended Came n w
       ends (conf.Violates v marks) e b =
           weaken Watched Violation (watch s.mac) (λ w. 1) (Underway s result before) (Underway s result before) (With v marks) Ended (λ y. ⊥) Came (op_count no_count code.ops.items c) n w le (λ w x. x)
           (λ y u z. (marks, subst (λ (u : Violation). B u marks) (sym z.0) b, z.1)) (λ y z. absurd z) (performs.stops c v marks w x p (at_end v marks b) e)
@@ -153,7 +153,7 @@ module _ (s : Setup) (code : Code) (before : State) (Sim : Conf → Watched → 
 
   -- the node that has left is as the invocation returns
   exited : (status : ℕ) (q : Progress) (t : Conf) (w : Watched) → result ≡ Returns status q → IsTag s.mac → length before.mem ≡ 65536 → length q.pieces ≤ 16 → s.section.layout.priv_to - s.section.layout.priv_from ≡ module_data_size s.tree (length s.ends)
-      → Shows s call q t → LeftFrom s before status (length q.pieces) t w → Exited s result before w
+      → ShowsCall s call q t → LeftFrom s before status (length q.pieces) t w → Exited s result before w
   exited status q t w e tag size few private shows left =
       let written = returns_written s call (progress_at s before) q status tag refl size e few in
       record {
@@ -172,7 +172,7 @@ module _ (s : Setup) (code : Code) (before : State) (Sim : Conf → Watched → 
 
   -- from `Leave` to the exit
   exits : Performs s code before result Sim → IsTag s.mac → length before.mem ≡ 65536 → length (pieces_in result) ≤ 16 → s.section.layout.priv_to - s.section.layout.priv_from ≡ module_data_size s.tree (length s.ends)
-      → (r : Invoked) → result ≡ r → (u : Watched) (t : Conf) → Sim t u → LeavesSo s call code.ops.items r t → Runs s result before (Aborted result) (Exited s result before) 16 u
+      → (r : Invoked) → result ≡ r → (u : Watched) (t : Conf) → Sim t u → LeavesSo s call code.ops.items r t → NodeRuns s result before (Aborted result) (Exited s result before) 16 u
   exits performs tag size few private (Violates v q) e u t x y = absurd y
   exits performs tag size few private (Returns status q) e u t x y =
       let prefix : HasPrefix (marks_in result) t.marks = subst (λ (r : Invoked). HasPrefix (marks_in r) t.marks) (sym e) (same_prefix t.marks q.marks y.0.marks) in
@@ -182,10 +182,10 @@ module _ (s : Setup) (code : Code) (before : State) (Sim : Conf → Watched → 
       (performs.leaves t u status (length q.pieces) x prefix y.1 y.0.back (returns_out s call (progress_at s before) q status e))
 
   -- The node does the invocation that sound code does.
-  pub does_invocation : (n m size cost : ℕ) → Performs s code before result Sim → list_all (is_sound_op n m size) code.ops.items ≡ true → Begun s call (progress_at s before) (entry_conf s.section.layout before)
+  pub does_invocation : (n m size cost : ℕ) → Performs s code before result Sim → list_all (is_sound_op n m size) code.ops.items ≡ true → CallBegun s call (progress_at s before) (entry_conf s.section.layout before)
       → Invokes s call (part_from code.parts.items) no_count code.ops.items result cost (entry_conf s.section.layout before)
       → length before.mem ≡ 65536 → length (pieces_in result) ≤ 16 → s.section.layout.priv_to - s.section.layout.priv_from ≡ module_data_size s.tree (length s.ends)
-      → Runs s result before (Aborted result) (Exited s result before) (6 + cost + 16) (begins before)
+      → NodeRuns s result before (Aborted result) (Exited s result before) (6 + cost + 16) (begins before)
   does_invocation n m size cost performs sound begun run whole few private =
       let first = entry_conf s.section.layout before in
       let After = λ (t : Conf). LeavesSo s call code.ops.items result t in

@@ -14,10 +14,10 @@ use Rattle.sx_machine.specs.Memory.{word}
 use Rattle.sx_machine.specs.State.{State}
 use Rattle.sx_reach.specs.Reach.{Comes, Ends, Here, Next, Stops}
 use Rattle.sx_reach.proofs.Reaching.{and_then, weaken}
-use Rattle.sx_invoke.specs.Marks.{HasPrefix, Mark, made}
+use Rattle.sx_invoke.specs.Marks.{HasPrefix, Mark, made_bytes}
 use Rattle.sx_invoke.specs.Progress.{Broken, Course, Going, Progress, Violates, bytes_in, finished, marks_in, pieces_in}
 use Rattle.sx_invoke.specs.Setup.{Call, Setup}
-use Rattle.sx_invoke.proofs.Tally.{OnCourse, handled_made}
+use Rattle.sx_invoke.proofs.PiecesMarked.{OnCourse, handled_made}
 use Rattle.sx_image.specs.Image.{private_bytes, progress_at, setup_at}
 use Rattle.sx_image.specs.Realizes.{Aborted, begins}
 use Rattle.sx_image.specs.Watched.{Watched, watch}
@@ -25,7 +25,7 @@ use Rattle.sx_ir.specs.Conf as conf
 use Rattle.sx_ir.specs.Conf.{Conf, Halt}
 use Rattle.sx_ir.specs.declared.ir.Code.{Code}
 use Rattle.sx_ir.specs.declared.ir.Ir.{Ir}
-use Rattle.sx_ir.specs.Invoking.{Begins, Breaks, Does, GoesOn, Represents}
+use Rattle.sx_ir.specs.Invoking.{HandlerBegins, CourseBreaks, DoesCourse, CourseGoesOn, Represents}
 use Rattle.sx_ir.specs.Meaning.{OnViolation, no_count, op_count, op_step, part_from}
 use Rattle.sx_ir.specs.Sizes.{offset}
 use Rattle.sx_lower.specs.Lowering.{IsLowerable, LowersTo}
@@ -51,13 +51,13 @@ use Rattle.sx_tmpl.proofs.TextPlaces.{bytes_within, place_is}
 use Rattle.sx_compile.proofs.Begun.{state_in_memory}
 use Rattle.sx_compile.proofs.BodyText.{body_narrow, body_sound, part_within}
 use Rattle.sx_compile.proofs.Does.{outside_window, stand_same}
-use Rattle.sx_compile.proofs.Few.{handled_few, pieces_on}
+use Rattle.sx_compile.proofs.FewPieces.{handled_few, pieces_on}
 use Rattle.sx_compile.proofs.Narrow.{AreBelow, bytes_below, ops_below}
-use Rattle.sx_compile.proofs.Realizes.{room_of}
+use Rattle.sx_compile.proofs.CompiledRealizes.{room_of}
 use Rattle.sx_compile.proofs.Regular.{runs_regular}
 use Rattle.sx_compile.proofs.Written.{handled_written}
 
-module _ (f : Fixed) (st : Stands f) (all : List Mark) (window : f.to ≡ pieces_end (is_bad_window f.setup f.from 384) f.from (made all)) (tag : IsTag f.setup.mac) (code : Code) (sound : AreSound code.ops.items code.parts.items f.setup.section.layout)
+module _ (f : Fixed) (st : Stands f) (all : List Mark) (window : f.to ≡ pieces_end (is_bad_window f.setup f.from 384) f.from (made_bytes all)) (tag : IsTag f.setup.mac) (code : Code) (sound : AreSound code.ops.items code.parts.items f.setup.section.layout)
     (narrow : (p : ℕ) (i : Ir) → slice_get code.ops.items p ≡ Some i → IsNarrow i) (text : (k : ℕ) → k < 2 * length (text_words f.setup.section.layout code) → slice_index f.entered (f.setup.section.layout.pub_from + k) ≡ slice_index (bytes_of (text_words f.setup.section.layout code)) k)
     (call : Call) (out : call.output ≡ f.from) (B : Violation → List Mark → Type 0) (Q : Conf → Type 0) (at_exit : (t : Conf) → Q t → HasPrefix all t.marks) (at_end : (v : Violation) (marks : List Mark) → B v marks → HasPrefix all marks) where
   abbrev Sim : Conf → Watched → Type 0
@@ -97,19 +97,19 @@ module _ (f : Fixed) (st : Stands f) (all : List Mark) (window : f.to ≡ pieces
 
 -- The marks of a course's ends are its own.
 
-course_prefix : (r : Course) (P : Progress → Conf → Type 0) (t : Conf) → ((q : Progress) → P q t → t.marks ≡ q.marks) → GoesOn r (λ q. P q t) → HasPrefix (marks_in (finished r)) t.marks
+course_prefix : (r : Course) (P : Progress → Conf → Type 0) (t : Conf) → ((q : Progress) → P q t → t.marks ≡ q.marks) → CourseGoesOn r (λ q. P q t) → HasPrefix (marks_in (finished r)) t.marks
 course_prefix (Going q) P t f x = ([], append-nil t.marks ∙ f q x)
 course_prefix (Broken v q) P t f x = absurd x
 
-breaks_prefix : (r : Course) (v : Violation) (marks : List Mark) → Breaks r v marks → HasPrefix (marks_in (finished r)) marks
+breaks_prefix : (r : Course) (v : Violation) (marks : List Mark) → CourseBreaks r v marks → HasPrefix (marks_in (finished r)) marks
 breaks_prefix (Going q) v marks x = absurd x
 breaks_prefix (Broken w q) v marks x = ([], append-nil marks ∙ sym x.1)
 
-breaks_aborts : (r : Course) (w : Watched) (v : Violation) (marks : List Mark) → Breaks r v marks → w.marks ≡ marks → Aborted (finished r) w v
+breaks_aborts : (r : Course) (w : Watched) (v : Violation) (marks : List Mark) → CourseBreaks r v marks → w.marks ≡ marks → Aborted (finished r) w v
 breaks_aborts (Going q) w v marks x e = absurd x
 breaks_aborts (Broken u q) w v marks x e = record { progress = q; violates = ap (λ (z : Violation). Violates z q) x.0; marks = e ∙ sym x.1 }
 
-course_tallied : (r : Course) → OnCourse r → bytes_in (pieces_in (finished r)) ≡ made (marks_in (finished r))
+course_tallied : (r : Course) → OnCourse r → bytes_in (pieces_in (finished r)) ≡ made_bytes (marks_in (finished r))
 course_tallied (Going q) x = x
 course_tallied (Broken v q) x = x
 
@@ -166,9 +166,9 @@ module _ (mac : Mac) (tree : ModuleTree) (ends : List End) (code : Code) (tag : 
   AtEnd t = (t.place + 1 ≡ to) × (t.stack ≡ []) × (t.back ≡ None)
 
   abbrev After_ : Conf → Type 0
-  After_ t = GoesOn course (λ q. Represents s call q t × AtEnd t)
+  After_ t = CourseGoesOn course (λ q. Represents s call q t × AtEnd t)
 
-  tallied : bytes_in (pieces_in (finished course)) ≡ made all
+  tallied : bytes_in (pieces_in (finished course)) ≡ made_bytes all
   tallied = course_tallied course (handled_made s call tag e (progress_at s n) refl)
 
   few : (q : Progress) → course ≡ Going q → length q.pieces ≤ 16
@@ -195,7 +195,7 @@ module _ (mac : Mac) (tree : ModuleTree) (ends : List End) (code : Code) (tag : 
         body_narrow tree ends code able low l (addresses l code) (ops_below l ops parts [] below)
 
     -- the first configuration is one with which the handler begins
-    begins_part : Begins s call e (progress_at s n) first
+    begins_part : HandlerBegins s call e (progress_at s n) first
     begins_part =
         let memory = b.node.memory in
         let long = length-bytes_from n.mem l.priv_from (l.priv_to - l.priv_from) in
@@ -220,16 +220,16 @@ module _ (mac : Mac) (tree : ModuleTree) (ends : List End) (code : Code) (tag : 
           devices = b.devices;
         }
 
-    run : Does s call (part_from parts) no_count ops course AtEnd (handler_cost h) first
+    run : DoesCourse s call (part_from parts) no_count ops course AtEnd (handler_cost h) first
     run =
         let listed = ap (λ (l : List (ℕ × ℕ)). slice_get l k) (sym low.is.parts) ∙ part in
-        subst (λ (o : List Ir). Does s call (part_from parts) no_count o course AtEnd (handler_cost h) first) (sym low.is.ops) (lowered_ends s (part_from parts) no_count e h k from to able is handler listed call (progress_at s n) first refl begins_part)
+        subst (λ (o : List Ir). DoesCourse s call (part_from parts) no_count o course AtEnd (handler_cost h) first) (sym low.is.ops) (lowered_ends s (part_from parts) no_count e h k from to able is handler listed call (progress_at s n) first refl begins_part)
 
     -- the node at the end
     handled_at : (w : Watched) → (t : Conf) × Stood f all at t w × After_ t → HasHandled s call.output course n (offset ops (to - 1)) w
     handled_at w (t, x, y) = go course refl y
       where
-        go : (r : Course) → course ≡ r → GoesOn r (λ q. Represents s call q t × AtEnd t) → HasHandled s call.output course n (offset ops (to - 1)) w
+        go : (r : Course) → course ≡ r → CourseGoesOn r (λ q. Represents s call q t × AtEnd t) → HasHandled s call.output course n (offset ops (to - 1)) w
         go (Broken v q) goes y = absurd y
         go (Going q) goes y =
             let represents = y.0 in
@@ -268,8 +268,8 @@ module _ (mac : Mac) (tree : ModuleTree) (ends : List End) (code : Code) (tag : 
         let fits = sound.fits in
         let stood = begins_at s n call.output all resumes at from (b.at ∙ sym place) (omega (arith, place)) (omega (arith, place, less, fits)) in
         let at_exit = λ (t : Conf) (y : After_ t). course_prefix course (λ q t. Represents s call q t × AtEnd t) t (λ q z. z.0.marks) y in
-        let at_end = λ (v : Violation) (marks : List Mark) (y : Breaks course v marks). breaks_prefix course v marks y in
-        let regular = runs_regular s ops parts (length ops) (length parts) (module_data_size tree (length ends)) low.does.fits.sound call all (Breaks course) After_ at_exit at_end (handler_cost h) first refl (omega arith) tt b.node.samples run in
-        weaken Watched Violation (watch mac) (λ w. 1) (Safe f all) (Handling s call.output course n) (λ w v. (marks : List Mark) × Breaks course v marks × (w.marks ≡ marks)) (Aborted (finished course)) (λ w. (t : Conf) × Stood f all at t w × After_ t) (HasHandled s call.output course n (offset ops (to - 1)))
+        let at_end = λ (v : Violation) (marks : List Mark) (y : CourseBreaks course v marks). breaks_prefix course v marks y in
+        let regular = runs_regular s ops parts (length ops) (length parts) (module_data_size tree (length ends)) low.does.fits.sound call all (CourseBreaks course) After_ at_exit at_end (handler_cost h) first refl (omega arith) tt b.node.samples run in
+        weaken Watched Violation (watch mac) (λ w. 1) (Safe f all) (Handling s call.output course n) (λ w v. (marks : List Mark) × CourseBreaks course v marks × (w.marks ≡ marks)) (Aborted (finished course)) (λ w. (t : Conf) × Stood f all at t w × After_ t) (HasHandled s call.output course n (offset ops (to - 1)))
         (handler_cost h) (handler_cost h) (begins n) (omega arith) moment (λ w v y. breaks_aborts course w v y.0 y.1 y.2) handled_at
-        (follows f stands_ all refl tag code sound narrow stands_text call refl (Breaks course) After_ at_exit at_end (handler_cost h) first (begins n) regular.1 stood)
+        (follows f stands_ all refl tag code sound narrow stands_text call refl (CourseBreaks course) After_ at_exit at_end (handler_cost h) first (begins n) regular.1 stood)

@@ -16,7 +16,7 @@ use Rattle.sx_ir.specs.Sound.{is_sound_op, is_sound_part}
 use Rattle.sx_lower.specs.Lowered.{handlers_code}
 use Rattle.sx_lower.specs.Lowering.{IsLowerable, LowersTo}
 use Rattle.sx_lower.specs.Moved as lowered
-use Rattle.sx_lower.proofs.Moves.{lowered_moves}
+use Rattle.sx_lower.proofs.LoweredMoves.{lowered_moves}
 use Rattle.sx_stub.specs.Stub.{stub_ops}
 use Rattle.sx_stub.specs.Stubs.{StubsTo}
 use Rattle.sx_compile.specs.Compiled.{HasSections, IsCompiled, compiled_ops, compiled_parts}

@@ -30,7 +30,7 @@ use Rattle.sx_ir.specs.declared.ir.IrOp.{IrOp}
 use Rattle.sx_ir.specs.declared.ir.IrOp.TheVariants as op
 use Rattle.sx_ir.specs.Conf.{Conf, Violates, Stuck}
 use Rattle.sx_ir.specs.Meaning as m
-use Rattle.sx_ir.specs.Meaning.{After, saved, do_op, next, when, on_top, pushed, pieces}
+use Rattle.sx_ir.specs.Meaning.{OperationResult, saved, do_op, next, when, on_top, pushed, pieces}
 use Rattle.sx_ir.specs.Sound.{are_sealed, is_even, is_free, is_sound_op, may_change}
 use Rattle.sx_stub.proofs.Mem.{word_same, get-put_bytes_other}
 
@@ -47,7 +47,7 @@ pub record Kept (c t : Conf) : Type 0 where
   pub back : ReturnsFrom c t.back
   pub samples : HaveSamples c.devices → HaveSamples t.devices
 
-abbrev pub KeptAfter : Conf → After → Type 0
+abbrev pub KeptAfter : Conf → OperationResult → Type 0
 KeptAfter c (Goes t) = Kept c t
 KeptAfter c (Stops (Violates v marks)) = HasPrefix marks c.marks
 KeptAfter c (Stops Stuck) = Unit {0}
@@ -110,7 +110,7 @@ beside size o n h = go (or_cases (nat_le (o + n) 6) (nat_le 14 o) (and_parts (is
     go (inl x) = inl (leb-true (o + n) 6 x)
     go (inr x) = inr (leb-true 14 o x)
 
-module _ (s : Setup) (handle : ℕ → Conf → After) (handles : (h : ℕ) (c : Conf) → KeptAfter c (handle h c)) where
+module _ (s : Setup) (handle : ℕ → Conf → OperationResult) (handles : (h : ℕ) (c : Conf) → KeptAfter c (handle h c)) where
   abbrev Room : Conf → List ℕ → Type 0
   Room c stack = length c.stack ≤ 160 → length stack ≤ 160
 
@@ -129,15 +129,15 @@ module _ (s : Setup) (handle : ℕ → Conf → After) (handles : (h : ℕ) (c :
       → Kept c (record c { place = place; stack = stack; priv = priv; mem = mem; devices = devices; marks = marks })
   with_priv c place stack priv mem devices marks r e b sm = record { marks = b; window = e; room = r; back = still c; samples = sm }
 
-  when_kept : (c : Conf) (b : Bool) (go : After) → (b ≡ true → KeptAfter c go) → KeptAfter c (when b go)
+  when_kept : (c : Conf) (b : Bool) (go : OperationResult) → (b ≡ true → KeptAfter c go) → KeptAfter c (when b go)
   when_kept c true go h = h refl
   when_kept c false go h = tt
 
-  top_kept : (c : Conf) (stack : List ℕ) (go : ℕ → List ℕ → After) → ((x : ℕ) (rest : List ℕ) → length stack ≡ suc (length rest) → KeptAfter c (go x rest)) → KeptAfter c (on_top stack go)
+  top_kept : (c : Conf) (stack : List ℕ) (go : ℕ → List ℕ → OperationResult) → ((x : ℕ) (rest : List ℕ) → length stack ≡ suc (length rest) → KeptAfter c (go x rest)) → KeptAfter c (on_top stack go)
   top_kept c [] go h = tt
   top_kept c (x ∷ rest) go h = h x rest refl
 
-  if_kept : (c : Conf) (b : Bool) (x y : After) → KeptAfter c x → KeptAfter c y → KeptAfter c (if b then x else y)
+  if_kept : (c : Conf) (b : Bool) (x y : OperationResult) → KeptAfter c x → KeptAfter c y → KeptAfter c (if b then x else y)
   if_kept c true x y p q = p
   if_kept c false x y p q = q
 
@@ -202,7 +202,7 @@ module _ (s : Setup) (handle : ℕ → Conf → After) (handles : (h : ℕ) (c :
   sense_kept c None = tt
   sense_kept c (Some d) = by_kind d.1.kind
     where
-      by_kind : (k : Kind) → KeptAfter c (m.sensed c d.0 d.1 k)
+      by_kind : (k : Kind) → KeptAfter c (m.sensor_read c d.0 d.1 k)
       by_kind kind.Sensor =
           if_kept c d.1.fresh (pushed (record c { devices = cleared c.devices d.0; marks = c.marks ++ mark.Sampled d.0 d.1.value ∷ [] }) (0x8000 + d.1.value)) (pushed c 0)
           (push_more c (0x8000 + d.1.value) c.priv (cleared c.devices d.0) (mark.Sampled d.0 d.1.value) refl (HaveSamples-cleared c.devices d.0)) (push_kept c 0)
@@ -262,7 +262,7 @@ module _ (s : Setup) (handle : ℕ → Conf → After) (handles : (h : ℕ) (c :
       go true e = word_kept priv (o + 2 * i) v (inside far (ltb-true i n e))
       go false e = refl
 
-  through : (c : Conf) (priv : List ℕ) (r : After) → word priv 10 ≡ word c.priv 10 → KeptAfter (record c { priv = priv }) r → KeptAfter c r
+  through : (c : Conf) (priv : List ℕ) (r : OperationResult) → word priv 10 ≡ word c.priv 10 → KeptAfter (record c { priv = priv }) r → KeptAfter c r
   through c priv (Goes u) e k = record { marks = k.marks; window = k.window ∙ e; room = k.room; back = returns u.back k.back; samples = k.samples }
     where
       returns : (o : Option ℕ) → ReturnsFrom (record c { priv = priv }) o → ReturnsFrom c o

@@ -9,7 +9,7 @@ use Rattle.sx_invoke.specs.Marks.{Mark, HasPrefix}
 use Rattle.sx_invoke.specs.Setup.{Call, Setup}
 use Rattle.sx_ir.specs.declared.ir.Ir.{Ir}
 use Rattle.sx_ir.specs.Conf.{Conf, Halt, Violates, Stuck}
-use Rattle.sx_ir.specs.Meaning.{After, saved, do_at, do_op, no_count, op_step, op_count, part_from, Reaches, OnViolation}
+use Rattle.sx_ir.specs.Meaning.{OperationResult, saved, do_at, do_op, no_count, op_step, op_count, part_from, CodeReaches, OnViolation}
 use Rattle.sx_ir.specs.Sound.{is_sound_op}
 use Rattle.sx_tmpl.specs.Performs.{IsRegular, ReturnsBehind}
 use Rattle.sx_tmpl.proofs.SoundOps.{one_of}
@@ -29,7 +29,7 @@ module _ (s : Setup) (ops : List Ir) (parts : List (ℕ × ℕ)) (n m size : ℕ
   next_back c (Some p) (inl same) i e r = subst (ReturnsBehind ops) same r
   next_back c (Some p) (inr next) i e r = (c.place, i, next, e)
 
-  abbrev HasBack : After → Type 0
+  abbrev HasBack : OperationResult → Type 0
   HasBack (Goes t) = ReturnsBehind ops t.back
   HasBack (Stops v) = Unit {0}
 
@@ -37,7 +37,7 @@ module _ (s : Setup) (ops : List Ir) (parts : List (ℕ × ℕ)) (n m size : ℕ
   unfolding op_step
   step_back c r = go (slice_get ops c.place) refl
     where
-      of : (i : Ir) → slice_get ops c.place ≡ Some i → (a : After) → KeptAfter c a → HasBack a
+      of : (i : Ir) → slice_get ops c.place ≡ Some i → (a : OperationResult) → KeptAfter c a → HasBack a
       of i e (Goes t) k = next_back c t.back k.back i e r
       of i e (Stops v) k = tt
 
@@ -57,7 +57,7 @@ module _ (s : Setup) (ops : List Ir) (parts : List (ℕ × ℕ)) (n m size : ℕ
   abbrev pub RegularRun : ℕ → Conf → Type 0
   RegularRun k c = Comes Conf Halt (op_step s (part_from parts) ops) (op_count no_count ops) (IsRegular ops call all) (OnViolation B) Q k c
 
-  pub runs_regular : (k : ℕ) (c : Conf) → saved c 14 ≡ call.output → length c.stack ≤ 160 → ReturnsBehind ops c.back → HaveSamples c.devices → Reaches s (part_from parts) no_count ops B Q k c → HasPrefix all c.marks × RegularRun k c
+  pub runs_regular : (k : ℕ) (c : Conf) → saved c 14 ≡ call.output → length c.stack ≤ 160 → ReturnsBehind ops c.back → HaveSamples c.devices → CodeReaches s (part_from parts) no_count ops B Q k c → HasPrefix all c.marks × RegularRun k c
   runs_regular k c window room back samples (Here q) = (at_exit c q, Here q)
   runs_regular k c window room back samples (Next {k = j} {t = t} u e le r) =
       let kept : Kept c t = subst (KeptAfter c) e (step_kept c) in

@@ -19,7 +19,7 @@ use Rattle.sx_lower.proofs.Reacts.{lowered_fits}
 use Rattle.sx_lower.proofs.Sizes.{ops_bytes-append}
 use Rattle.sx_stub.specs.Sound.{is_plain}
 use Rattle.sx_stub.specs.Stub.{is_receiving, is_to, stub_ops}
-use Rattle.sx_stub.proofs.Weight.{stub_fits}
+use Rattle.sx_stub.proofs.StubFits.{stub_fits}
 use Rattle.sx_stub.specs.Weight.{routine_bytes}
 use Rattle.sx_compile.specs.Compiled.{compiled_ops}
 

@@ -15,7 +15,7 @@ use Rattle.sx_lower.specs.Lowering.{IsLowerable}
 use Rattle.sx_lower.proofs.Reacts.{lowered_fits}
 use Rattle.sx_stub.specs.Sound.{is_plain}
 use Rattle.sx_stub.specs.Stub.{stub_ops}
-use Rattle.sx_stub.proofs.Sound.{stub_sound}
+use Rattle.sx_stub.proofs.StubSound.{stub_sound}
 use Rattle.sx_compile.specs.Compiled.{HasSections, compiled_ops, compiled_parts}
 use Rattle.sx_compile.proofs.Parts.{length-parts, parts_there}
 use Rattle.sx_compile.proofs.Sizes.{ops_two, within_weight}

@@ -25,16 +25,16 @@ use Rattle.sx_invoke.specs.Marks as mark
 use Rattle.sx_invoke.specs.ModuleState.{EndState, end_of, epoch_of, link_of}
 use Rattle.sx_invoke.specs.Windows.{write_byte, write_bytes, read_bytes, then_, unless_device, is_bad_window}
 use Rattle.sx_invoke.specs.Progress.{Progress, Invoked, Returns, Violates, Course, Going, Broken, and_on, finished}
-use Rattle.sx_invoke.specs.Acts.{with_piece, copied_to, with_packet, event_packet, counted, with_packets, with_act, with_acts, actuated, own_window, handled}
+use Rattle.sx_invoke.specs.Acts.{with_piece, copied_to, with_packet, event_packet, wrap_counted, with_packets, with_act, with_acts, actuated, own_window, handled}
 use Rattle.sx_mean.specs.Ends.{is_sending}
 use Rattle.sx_invoke.specs.Invocation.{invoke, entered, returns_inside, is_no_entry}
-use Rattle.sx_invoke.specs.Entries.{received, is_kind, set_key, set_key_at, key_opened, is_keyed, attest, input, input_at, event_numbered, event_opened, sample, sample_of, sampled, taken, field_in, second_in, header_in, end_on, end_found, side_of, keyed, with_received}
+use Rattle.sx_invoke.specs.Entries.{received, is_kind, set_key, set_key_at, key_opened, is_keyed, attest, input, input_at, event_numbered, event_opened, sample, sample_of, sample_read, number_taken, field_in, second_in, header_in, end_on, end_found, side_of, end_keyed, with_received}
 use Rattle.sx_image.specs.Realizes.{KeepsOutside, Stand, is_piece_address}
 use Rattle.sx_invoke.specs.Progress.{bytes_in}
 use Rattle.sx_stub.proofs.Mem.{bytes_from_same, length-bytes_from}
 use Rattle.sx_stub.proofs.Packets.{bytes_from_get}
 use Rattle.sx_lang.specs.declared.sides.Side.TheVariants.{To}
-use Rattle.sx_invoke.proofs.Tally.{packet_length, tag_length}
+use Rattle.sx_invoke.proofs.PiecesMarked.{packet_length, tag_length}
 
 -- only places where pieces go changed, there the pieces stand, and the out-window holds them
 pub record Written (s : Setup) (call : Call) (before : List ℕ) (p : Progress) : Type 0 where
@@ -267,9 +267,9 @@ module _ (s : Setup) (call : Call) (tag : IsTag s.mac) (before : List ℕ) (room
       e : EndState
       e = end_of p.state.ends k
 
-      go : (a b : Bool) (q : Progress) → (if a && b then with_piece s call (event_packet s (end_of p.state.ends k) v) (counted k (end_of p.state.ends k) v p) else Going p) ≡ Going q → (length p.pieces ≤ length q.pieces) × (Whole p → length q.pieces ≤ 16 → Whole q)
+      go : (a b : Bool) (q : Progress) → (if a && b then with_piece s call (event_packet s (end_of p.state.ends k) v) (wrap_counted k (end_of p.state.ends k) v p) else Going p) ≡ Going q → (length p.pieces ≤ length q.pieces) × (Whole p → length q.pieces ≤ 16 → Whole q)
       go true true q h =
-          let x = piece_adds (event_packet s (end_of p.state.ends k) v) (counted k (end_of p.state.ends k) v p) (packet_length s (end_of p.state.ends k) v tag) q h in
+          let x = piece_adds (event_packet s (end_of p.state.ends k) v) (wrap_counted k (end_of p.state.ends k) v p) (packet_length s (end_of p.state.ends k) v tag) q h in
           (x.0, λ w few. x.1 (record { full = w.full; size = w.size; outside = w.outside; pieces = w.pieces }) few)
       go true false q h = adds_none p p refl refl q h
       go false b q h = adds_none p p refl refl q h
@@ -363,7 +363,7 @@ module _ (s : Setup) (call : Call) (tag : IsTag s.mac) (before : List ℕ) (room
     where
       by_tag : (k : ℕ) (u : Option (List ℕ)) → Ended p (key_opened k packet u p)
       by_tag k None = refused 7 p p none same refl refl
-      by_tag k (Some body) = refused 1 p (keyed k packet (take 16 body) p) none same refl refl
+      by_tag k (Some body) = refused 1 p (end_keyed k packet (take 16 body) p) none same refl refl
 
       by_end : (e : Option (ℕ × End)) → Ended p (set_key_at s packet e p)
       by_end None = refused 5 p p none same refl refl
@@ -399,7 +399,7 @@ module _ (s : Setup) (call : Call) (tag : IsTag s.mac) (before : List ℕ) (room
       by_tag : (e : ℕ × End) (u : Option (List ℕ)) → Ended p (event_opened s call e packet u p)
       by_tag e None = refused 7 p p none same refl refl
       by_tag e (Some body) =
-          let r = taken e.0 packet (take 2 body) (end_of p.state.ends e.0) p in
+          let r = number_taken e.0 packet (take 2 body) (end_of p.state.ends e.0) p in
           finishes (λ x. handled s call (event.Input e.1.port (word body 0)) r) p none same (adds_from (handled s call (event.Input e.1.port (word body 0))) p r refl refl (handler_adds (event.Input e.1.port (word body 0)) r))
 
       by_end : (e : Option (ℕ × End)) → Ended p (input_at s call packet e p)
@@ -416,8 +416,8 @@ module _ (s : Setup) (call : Call) (tag : IsTag s.mac) (before : List ℕ) (room
       by_device : (d : Option (ℕ × Window)) → Ended p (sample_of s call d p)
       by_device None = refused 8 p p none same refl refl
       by_device (Some d) =
-          if_ended p d.1.fresh (finished (handled s call (event.Sample d.1.value) (sampled d p))) (Returns 8 p)
-          (finishes (λ x. handled s call (event.Sample d.1.value) (sampled d p)) p none same (adds_from (handled s call (event.Sample d.1.value)) p (sampled d p) refl refl (handler_adds (event.Sample d.1.value) (sampled d p))))
+          if_ended p d.1.fresh (finished (handled s call (event.Sample d.1.value) (sample_read d p))) (Returns 8 p)
+          (finishes (λ x. handled s call (event.Sample d.1.value) (sample_read d p)) p none same (adds_from (handled s call (event.Sample d.1.value)) p (sample_read d p) refl refl (handler_adds (event.Sample d.1.value) (sample_read d p))))
           (refused 8 p p none same refl refl)
 
   entered_ended : (p : Progress) → p.pieces ≡ [] → p.mem ≡ before → Ended p (entered s call p)

@@ -1,6 +1,7 @@
 -- A module's handlers as instructions alone: where each part begins and ends, and what a node does
 -- between the two.
-use Rattle.std.specs.Prelude.{◌≡◌, ℕ, ◌-◌, ◌+◌, false, List, length, map, slice_get, slice_index, Some}
+use Rattle.std.specs.Prelude.{◌≡◌, ℕ, ◌-◌, ◌+◌, false, List, length, map, slice_get, slice_index}
+use Rattle.std.specs.Prelude.{Some}
 use Rattle.sx_lang.specs.Sizes.{handler_cost}
 use Rattle.sx_lang.specs.Tree.{HandlerTree, ModuleTree}
 use Rattle.sx_mean.specs.Application.{declared_kind}
@@ -129,7 +130,8 @@ DoesHandler s text from to cost e n =
     (Aborted (finished course)) (HasHandled s out course n to) cost (begins n)
 
 -- the k-th handler is the event's, and its part begins and returns there
-pub record IsPart (tree : ModuleTree) (e : SourceEvent) (from to : List ℕ) (k : ℕ) (h : HandlerTree)
+pub record IsHandlerPart (tree : ModuleTree) (e : SourceEvent) (from to : List ℕ) (k : ℕ)
+    (h : HandlerTree)
     (p q : ℕ) : Type 0 where
   pub is : handler_at tree e ≡ Some h
   pub handler : slice_get tree.handlers k ≡ Some h
@@ -141,7 +143,7 @@ pub record IsPart (tree : ModuleTree) (e : SourceEvent) (from to : List ℕ) (k 
 abbrev pub DoHandlers : Mac → ModuleTree → List End → Layout → List ℕ → List ℕ → List ℕ → Type 0
 DoHandlers mac tree ends l text from to =
     (section : Section) (n : State) (e : SourceEvent) (h : HandlerTree) (k p q : ℕ)
-    → section.layout ≡ l → IsPart tree e from to k h p q
+    → section.layout ≡ l → IsHandlerPart tree e from to k h p q
     → DoesHandler (setup_at mac tree ends section n) text p q (handler_cost h) e n
 
 -- the text of a module's handlers alone, with the offsets of their parts, which does the handlers

@@ -22,16 +22,17 @@ compiled_ops tree ends =
 
 -- where each handler's part stands
 unfoldable pub compiled_parts : ModuleTree → List End → List (ℕ × ℕ)
-compiled_parts tree ends = handlers_parts tree.decls ends (length (stub_ops tree ends)) tree.handlers
+compiled_parts tree ends =
+    handlers_parts tree.decls ends (length (stub_ops tree ends)) tree.handlers
 
 -- bytes, and after them zeros up to a length
-abbrev pub padded : ℕ → List ℕ → List ℕ
-padded n bytes = bytes ++ replicate (n - length bytes) 0
+abbrev pub padded_to : ℕ → List ℕ → List ℕ
+padded_to n bytes = bytes ++ replicate (n - length bytes) 0
 
 -- the text of this stack code in a section of this layout, with zeros up to the module's weight
 unfoldable pub compiled_text : Layout → ModuleTree → List End → List ℕ
 compiled_text l tree ends =
-    padded (module_weight tree (length ends))
+    padded_to (module_weight tree (length ends))
     (bytes_of (text_words_of l (compiled_ops tree ends) (compiled_parts tree ends)))
 
 -- a module's image

@@ -42,9 +42,11 @@ fn place_offset(code: &Code, place: u16) -> u16
 
 /// Where each part of the code begins in its text.
 pub(crate) fn starts(alloc: Global, code: &Code) -> Result<Vec<u16>, OutOfMemory>
-    requires there { IsTrue (list_all (is_sound_part (length code.now.ops.items)) code.now.parts.items) }
+    requires there { IsTrue (list_all (is_sound_part (length code.now.ops.items))
+        code.now.parts.items) }
     requires small { bytes code.now.ops.items < 65536 }
-    ensures { IfOk result (λ v. v.items ≡ map (part_start code.now.ops.items) code.now.parts.items) }
+    ensures { IfOk result (λ v. v.items ≡ map (part_start code.now.ops.items)
+        code.now.parts.items) }
 {
     let mut starts = Vec::new(alloc);
     for part in &code.parts {
@@ -55,9 +57,11 @@ pub(crate) fn starts(alloc: Global, code: &Code) -> Result<Vec<u16>, OutOfMemory
 
 /// Where the return of each part of the code begins.
 pub(crate) fn returns(alloc: Global, code: &Code) -> Result<Vec<u16>, OutOfMemory>
-    requires there { IsTrue (list_all (is_sound_part (length code.now.ops.items)) code.now.parts.items) }
+    requires there { IsTrue (list_all (is_sound_part (length code.now.ops.items))
+        code.now.parts.items) }
     requires small { bytes code.now.ops.items < 65536 }
-    ensures { IfOk result (λ v. v.items ≡ map (part_return code.now.ops.items) code.now.parts.items) }
+    ensures { IfOk result (λ v. v.items ≡ map (part_return code.now.ops.items)
+        code.now.parts.items) }
 {
     let mut returns = Vec::new(alloc);
     for part in &code.parts {

@@ -1,10 +1,11 @@
 //! From a checked module to its image.
 
-ghost use Rattle.std.specs.Prelude.{All, ◌≡◌, ℕ, ◌+◌, ◌<◌, ◌≤◌, ◌++◌, IfOk, OnOk, length, replicate};
+ghost use Rattle.std.specs.Prelude.{All, ◌≡◌, ℕ, ◌+◌, ◌<◌, ◌≤◌, ◌++◌, IfOk, OnOk, length};
+ghost use Rattle.std.specs.Prelude.{replicate};
 ghost use Rattle.sx_check.specs.Source.{source_tree};
 ghost use Rattle.sx_mean.specs.Ends.{senders};
 ghost use Rattle.sx_lower.specs.Lowering.{IsLowerable, SendFew};
-ghost use Rattle.sx_compile.specs.Compiled.{CompilesTo, HasSections, IsCompiled, padded};
+ghost use Rattle.sx_compile.specs.Compiled.{CompilesTo, HasSections, IsCompiled, padded_to};
 
 use std::alloc::{AllocError as OutOfMemory, Global};
 use sx_check::checked::Checked;
@@ -30,7 +31,7 @@ fn put_zeros(text: &mut Vec<u8>, count: usize) -> Result<(), OutOfMemory>
 
 /// Appends zeros up to this length.
 fn pad(text: &mut Vec<u8>, len: usize) -> Result<(), OutOfMemory>
-    ensures { OnOk result (text.new.items ≡ padded len text.old.items) }
+    ensures { OnOk result (text.new.items ≡ padded_to len text.old.items) }
 {
     let count = len.saturating_sub(text.len());
     put_zeros(text, count)

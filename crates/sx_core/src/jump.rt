@@ -2,8 +2,8 @@
 
 ghost use Rattle.std.specs.Prelude.{◌≡◌, if◌then◌else◌};
 ghost use Rattle.sx_machine.specs.Registers.{onward};
-ghost use Rattle.sx_machine.specs.Rows.{taken, distance, jump};
-ghost use Rattle.sx_executor.specs.Machine.{Runs};
+ghost use Rattle.sx_machine.specs.Rows.{jump_taken, distance, jump};
+ghost use Rattle.sx_executor.specs.Machine.{RunsPlan};
 
 use sx_alu::Flags;
 use sx_bus::Bus;
@@ -11,7 +11,7 @@ use sx_executor::Executor;
 use sx_rules::Violation;
 
 fn taken(condition: u8, flags: Flags) -> bool
-    ensures { result ≡ taken condition flags }
+    ensures { result ≡ jump_taken condition flags }
 {
     match condition {
         0 => !flags.z,
@@ -50,7 +50,8 @@ pub fn jump<B: Bus>(
     offset: i16,
     next: u16,
 ) -> Result<(), Violation>
-    ensures { Runs (jump condition offset executor.old.regs next) executor.old result executor.new }
+    ensures { RunsPlan (jump condition offset executor.old.regs next) executor.old result
+        executor.new }
 {
     let is_taken = taken(condition, executor.flags());
     executor.set_pc(target(is_taken, offset, next));

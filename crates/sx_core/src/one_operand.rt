@@ -5,7 +5,7 @@ ghost use Rattle.sx_alu.specs.Table.{has_width};
 ghost use Rattle.sx_machine.specs.Plan.{Done, Store};
 ghost use Rattle.sx_machine.specs.Registers.{at_pc};
 ghost use Rattle.sx_machine.specs.Rows.{in_memory, in_place, pushed, one, reti};
-ghost use Rattle.sx_executor.specs.Machine.{Runs};
+ghost use Rattle.sx_executor.specs.Machine.{RunsPlan};
 
 use crate::operand::read_source;
 use crate::two_operands::{calculated, into_memory, into_register};
@@ -25,7 +25,7 @@ fn operate<B: Bus>(
     at: u16,
 ) -> Result<(), Violation>
     requires { IsTrue (has_width kind wide) }
-    ensures { Runs (in_memory kind wide at executor.old.regs) executor.old result executor.new }
+    ensures { RunsPlan (in_memory kind wide at executor.old.regs) executor.old result executor.new }
 {
     let old = executor.load(wide, at)?;
     let value = calculated(kind, wide, old, 0, executor.flags());
@@ -41,7 +41,7 @@ fn in_memory<B: Bus>(
     next: u16,
 ) -> Result<(), Violation>
     requires { IsTrue (has_width kind wide) }
-    ensures { Runs (in_memory kind wide at (at_pc executor.old.regs next))
+    ensures { RunsPlan (in_memory kind wide at (at_pc executor.old.regs next))
         executor.old result executor.new }
 {
     executor.set_pc(next);
@@ -57,7 +57,7 @@ fn in_place<B: Bus>(
     next: u16,
 ) -> Result<(), Violation>
     requires { IsTrue (has_width kind wide) }
-    ensures { Runs (in_place kind wide arg executor.old.regs next)
+    ensures { RunsPlan (in_place kind wide arg executor.old.regs next)
         executor.old result executor.new }
 {
     match arg {
@@ -96,7 +96,7 @@ fn write_at_sp<B: Bus>(
     value: u16,
     pc: u16,
 ) -> Result<(), Violation>
-    ensures { Runs (Store wide (slice_index executor.old.regs 1) value
+    ensures { RunsPlan (Store wide (slice_index executor.old.regs 1) value
         (Done (at_pc executor.old.regs pc))) executor.old result executor.new }
 {
     let at = executor.register(SP);
@@ -112,7 +112,7 @@ fn push<B: Bus>(
     value: u16,
     pc: u16,
 ) -> Result<(), Violation>
-    ensures { Runs (pushed wide value pc executor.old.regs) executor.old result executor.new }
+    ensures { RunsPlan (pushed wide value pc executor.old.regs) executor.old result executor.new }
 {
     let lowered = executor.register(SP).wrapping_sub(2);
     executor.set_word(SP, lowered);
@@ -128,7 +128,7 @@ pub fn one<B: Bus>(
     arg: Operand,
     next: u16,
 ) -> Result<(), Violation>
-    ensures { Runs (one op wide arg executor.old.regs next) executor.old result executor.new }
+    ensures { RunsPlan (one op wide arg executor.old.regs next) executor.old result executor.new }
 {
     match op {
         Op1::Rrc => in_place(executor, Calc::Rrc, wide, arg, next),
@@ -149,7 +149,7 @@ pub fn one<B: Bus>(
 /// The return from an interrupt, which takes SR and then PC from the stack. The error is the
 /// instruction's first violation.
 pub fn reti<B: Bus>(executor: &mut Executor<B>) -> Result<(), Violation>
-    ensures { Runs (reti executor.old.regs) executor.old result executor.new }
+    ensures { RunsPlan (reti executor.old.regs) executor.old result executor.new }
 {
     let sp = executor.register(SP);
     let status = executor.load(true, sp)?;

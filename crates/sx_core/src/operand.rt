@@ -3,7 +3,7 @@
 ghost use Rattle.std.specs.Prelude.{◌≡◌, ◌<◌, IfOk};
 ghost use Rattle.sx_alu.specs.Table.{limit};
 ghost use Rattle.sx_machine.specs.Rows.{from_source};
-ghost use Rattle.sx_executor.specs.Machine.{Gives};
+ghost use Rattle.sx_executor.specs.Machine.{GivesValue};
 
 use sx_bus::Bus;
 use sx_executor::Executor;
@@ -19,7 +19,7 @@ pub fn read_source<B: Bus>(
     wide: bool,
     src: Operand,
 ) -> Result<u16, Violation>
-    ensures then { Gives (from_source wide src executor.old.regs)
+    ensures then { GivesValue (from_source wide src executor.old.regs)
         executor.old result executor.new }
     ensures below { IfOk result (λ v. v < limit wide) }
 {

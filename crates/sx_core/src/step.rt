@@ -6,7 +6,7 @@ ghost use Rattle.sx_machine.specs.Registers.{onward};
 ghost use Rattle.sx_machine.specs.Rows.{row, with_words, program};
 ghost use Rattle.sx_machine.specs.Acts.{interrupt};
 ghost use Rattle.sx_machine.specs.Answers.{followed};
-ghost use Rattle.sx_executor.specs.Machine.{ran, Runs};
+ghost use Rattle.sx_executor.specs.Machine.{ran, RunsPlan};
 
 use crate::jump::jump;
 use crate::one_operand::{one, reti};
@@ -49,7 +49,7 @@ fn execute<B: Bus>(
     instruction: Instr,
     next: u16,
 ) -> Result<(), Violation>
-    ensures { Runs (row instruction executor.old.regs next) executor.old result executor.new }
+    ensures { RunsPlan (row instruction executor.old.regs next) executor.old result executor.new }
 {
     match instruction {
         Instr::Two { op, byte, src, dst } => two(executor, op, !byte, src, dst, next),
@@ -66,7 +66,7 @@ fn execute<B: Bus>(
 /// MSP430x2xx Family User's Guide, "CPU".
 #[tactic(auto, unfolding(sx_machine::specs::Rows::program))]
 pub fn step_plain<B: Bus>(executor: &mut Executor<B>, first: u16) -> Result<(), Violation>
-    ensures { Runs (program first executor.old.regs) executor.old result executor.new }
+    ensures { RunsPlan (program first executor.old.regs) executor.old result executor.new }
 {
     let pc = executor.register(PC);
     let decoded = executor.decode(first).ok_or(Violation::Illegal)?;
@@ -82,7 +82,7 @@ pub fn step_plain<B: Bus>(executor: &mut Executor<B>, first: u16) -> Result<(), 
 #[tactic(auto, unfolding(sx_machine::specs::Acts::interrupt))]
 pub fn interrupt<B: Bus>(executor: &mut Executor<B>, line: u8) -> Result<(), Violation>
     requires { line ≤ 14 }
-    ensures { Runs (interrupt line executor.old.regs) executor.old result executor.new }
+    ensures { RunsPlan (interrupt line executor.old.regs) executor.old result executor.new }
 {
     let pc = executor.register(PC);
     let sp = executor.register(SP);

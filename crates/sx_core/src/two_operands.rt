@@ -4,7 +4,7 @@ ghost use Rattle.std.specs.Prelude.{◌≡◌, ◌<◌, IsTrue};
 ghost use Rattle.sx_alu.specs.Table.{has_width, limit, row};
 ghost use Rattle.sx_machine.specs.Rows.{computed, reads, writes, two};
 ghost use Rattle.sx_machine.specs.Rows.{into_register, into_memory, on_memory, onto};
-ghost use Rattle.sx_executor.specs.Machine.{Runs};
+ghost use Rattle.sx_executor.specs.Machine.{RunsPlan};
 
 use crate::operand::read_source;
 use sx_alu::{Calc, Flags, calc};
@@ -62,7 +62,7 @@ pub fn into_register<B: Bus>(
     r: u8,
     value: (u16, Flags),
 ) -> Result<(), Violation>
-    ensures { Runs (into_register written r value executor.old.regs)
+    ensures { RunsPlan (into_register written r value executor.old.regs)
         executor.old result executor.new }
 {
     executor.set_flags(value.1);
@@ -80,7 +80,7 @@ pub fn into_memory<B: Bus>(
     at: u16,
     value: (u16, Flags),
 ) -> Result<(), Violation>
-    ensures { Runs (into_memory wide written at value executor.old.regs)
+    ensures { RunsPlan (into_memory wide written at value executor.old.regs)
         executor.old result executor.new }
 {
     if written {
@@ -102,7 +102,8 @@ fn on_memory<B: Bus>(
     src: u16,
 ) -> Result<(), Violation>
     requires { src < limit wide }
-    ensures { Runs (on_memory op wide at src executor.old.regs) executor.old result executor.new }
+    ensures { RunsPlan (on_memory op wide at src executor.old.regs) executor.old result
+        executor.new }
 {
     let flags = executor.flags();
     if reads(op) {
@@ -123,7 +124,7 @@ fn onto<B: Bus>(
     src: u16,
 ) -> Result<(), Violation>
     requires { src < limit wide }
-    ensures { Runs (onto op wide dst src executor.old.regs) executor.old result executor.new }
+    ensures { RunsPlan (onto op wide dst src executor.old.regs) executor.old result executor.new }
 {
     match dst {
         Operand::Reg(r) => {
@@ -155,7 +156,8 @@ pub fn two<B: Bus>(
     dst: Operand,
     next: u16,
 ) -> Result<(), Violation>
-    ensures { Runs (two op wide src dst executor.old.regs next) executor.old result executor.new }
+    ensures { RunsPlan (two op wide src dst executor.old.regs next) executor.old result
+        executor.new }
 {
     let value = read_source(executor, wide, src)?;
     executor.set_pc(next);

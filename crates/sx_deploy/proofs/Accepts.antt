@@ -8,7 +8,7 @@ use Rattle.sx_stage.specs.declared.fault.DeployError.{DeployError}
 use Rattle.sx_deploy.specs.Deployment.{IsRead}
 use Rattle.sx_deploy.specs.SeenDeployment.{deployed_as}
 use Rattle.sx_deploy.specs.declared.deployment.Deployment.{Deployment}
-use Rattle.sx_deploy.specs.Law.{IsSound}
+use Rattle.sx_deploy.specs.Law.{IsSoundDeployment}
 use Rattle.sx_deploy.proofs.Sound.{sound}
 use Rattle.sx_deploy.proofs.ValidApp.{app_valid}
 use Rattle.sx_deploy.proofs.ValidNames.{names_valid}
@@ -21,6 +21,6 @@ pub accepts_names : (text : List ℕ) (r : Result Deployment DeployError) → Gi
 accepts_names text (Ok d) h = names_valid text (deployed_as d) h
 accepts_names text (Err e) h = tt
 
-pub accepts_sound : (text : List ℕ) (r : Result Deployment DeployError) → GivesOne deployed_as r (IsRead text) → IfOk r (λ d. IsSound (deployed_as d))
+pub accepts_sound : (text : List ℕ) (r : Result Deployment DeployError) → GivesOne deployed_as r (IsRead text) → IfOk r (λ d. IsSoundDeployment (deployed_as d))
 accepts_sound text (Ok d) h = sound text (deployed_as d) h
 accepts_sound text (Err e) h = tt

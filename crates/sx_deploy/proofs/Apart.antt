@@ -11,8 +11,8 @@ use Rattle.sx_entries.specs.declared.entries.DeviceEntry.{DeviceEntry}
 use Rattle.sx_entries.proofs.Kept.{in_entry-Ok}
 use Rattle.sx_deploy.specs.declared.placing.Placement.{Placement}
 use Rattle.sx_deploy.specs.Sources.{Coded}
-use Rattle.sx_deploy.specs.Places.{Sections, Span, data_of, is_misplaced, is_outside, layout_of, meet, meets_module, placed, placement_of, sections_of, text_of}
-use Rattle.sx_deploy.specs.Law.{AreApart, AreBeside}
+use Rattle.sx_deploy.specs.Places.{ModuleSections, Span, data_of, is_misplaced, is_outside, layout_of, meet, meets_module, placed_module, placement_of, sections_of, text_of}
+use Rattle.sx_deploy.specs.Law.{AreApartSpans, AreBeside}
 
 pub or_false : (a b : Bool) → (a || b) ≡ false → (a ≡ false) × (b ≡ false)
 or_false true b h = absurd (cc)
@@ -43,7 +43,7 @@ pub pair-snoc : {A : Type 0} (R : A → A → Type 0) (xs : List A) (y : A) → 
 pair-snoc R [] y h p = (tt, tt)
 pair-snoc R (x ∷ xs) y h p = (each-snoc (R x) xs y h.0 p.0, pair-snoc R xs y h.1 p.1)
 
-apart-meet : (a b : Span) → meet a b ≡ false → AreApart b a
+apart-meet : (a b : Span) → meet a b ≡ false → AreApartSpans b a
 apart-meet a b h = grind (arith, nat_tests)
 
 equal-tests : (a b : ℕ) → a ≡ b → (a == b) ≡ true
@@ -61,7 +61,7 @@ module _ (devices : List DeviceEntry) (links : List Link) where
   stand_after n [] = []
   stand_after n (m ∷ ms) = stand n m ∷ stand_after (n + 1) ms
 
-  placement-is : (done : List Placement) (s : Sections) (p : Placement) → placement_of devices done s ≡ Some p
+  placement-is : (done : List Placement) (s : ModuleSections) (p : Placement) → placement_of devices done s ≡ Some p
       → (is_misplaced devices done s ≡ false) × (record { node = s.node; layout = layout_of s } ≡ p)
   placement-is done s p h = by_case (is_misplaced devices done s) refl h
     where
@@ -70,15 +70,15 @@ module _ (devices : List DeviceEntry) (links : List Link) where
       by_case true e i = absurd (cc)
       by_case false e i = (e, cc)
 
-  pub one_placed : (done : List Placement) (m : Coded) (p : Placement) → placed devices links done m ≡ Ok p
+  pub one_placed : (done : List Placement) (m : Coded) (p : Placement) → placed_module devices links done m ≡ Ok p
       → (is_misplaced devices done (sections_of devices links (length done) m) ≡ false) × (stand (length done) m ≡ p)
   one_placed done m p h =
       placement-is done (sections_of devices links (length done) m) p (in_entry-Ok 10 Module (length done) (placement_of devices done (sections_of devices links (length done) m)) p h)
 
-  pub all_stand : (done : List Placement) (ms : List Coded) (out : List Placement) → made_after (placed devices links) done ms ≡ Ok out → out ≡ done ++ stand_after (length done) ms
+  pub all_stand : (done : List Placement) (ms : List Coded) (out : List Placement) → made_after (placed_module devices links) done ms ≡ Ok out → out ≡ done ++ stand_after (length done) ms
   all_stand done [] out h = let same : done ≡ out = cc in rw (append-nil done) (sym same)
   all_stand done (m ∷ ms) out h =
-      let step = bind-Ok (placed devices links done m) (λ p. made_after (placed devices links) (done ++ p ∷ []) ms) out h in
+      let step = bind-Ok (placed_module devices links done m) (λ p. made_after (placed_module devices links) (done ++ p ∷ []) ms) out h in
       let one = one_placed done m step.0 step.1 in
       let rest = all_stand (done ++ step.0 ∷ []) ms out step.2 in
       let len : length (done ++ step.0 ∷ []) ≡ length done + 1 = length-append done (step.0 ∷ []) in
@@ -86,10 +86,10 @@ module _ (devices : List DeviceEntry) (links : List Link) where
       ∙ ap (λ (n : ℕ). done ++ step.0 ∷ stand_after n ms) len
       ∙ ap (λ (p : Placement). done ++ p ∷ stand_after (length done + 1) ms) (sym one.1)
 
-  beside : (s : Sections) (p b : Placement) → record { node = s.node; layout = layout_of s } ≡ b → meets_module s p ≡ false → AreBeside p b
+  beside : (s : ModuleSections) (p b : Placement) → record { node = s.node; layout = layout_of s } ≡ b → meets_module s p ≡ false → AreBeside p b
   beside s p b e h = subst (λ (x : Placement). AreBeside p x) e (record { beside = go })
     where
-      go : p.node ≡ s.node → AreApart (text_of p) s.text × AreApart (text_of p) s.data_part × AreApart (data_of p) s.text × AreApart (data_of p) s.data_part
+      go : p.node ≡ s.node → AreApartSpans (text_of p) s.text × AreApartSpans (text_of p) s.data_part × AreApartSpans (data_of p) s.text × AreApartSpans (data_of p) s.data_part
       go same =
           let parts = and_false (p.node == s.node) _ h (equal-tests p.node s.node same) in
           let halves = or_false (meet s.text (text_of p) || meet s.text (data_of p)) _ parts in
@@ -97,7 +97,7 @@ module _ (devices : List DeviceEntry) (links : List Link) where
           let own = or_false (meet s.data_part (text_of p)) _ halves.1 in
           (apart-meet s.text (text_of p) text.0, apart-meet s.data_part (text_of p) own.0, apart-meet s.text (data_of p) text.1, apart-meet s.data_part (data_of p) own.1)
 
-  keeps : (done : List Placement) (m : Coded) (b : Placement) → EachPair AreBeside done → placed devices links done m ≡ Ok b → EachPair AreBeside (done ++ b ∷ [])
+  keeps : (done : List Placement) (m : Coded) (b : Placement) → EachPair AreBeside done → placed_module devices links done m ≡ Ok b → EachPair AreBeside (done ++ b ∷ [])
   keeps done m b old h =
       let s = sections_of devices links (length done) m in
       let one = one_placed done m b h in
@@ -105,7 +105,7 @@ module _ (devices : List DeviceEntry) (links : List Link) where
       let earlier = or_false (list_any (meets_module s) done) _ parts.1 in
       pair-snoc AreBeside done b old (each-weaker (λ (p : Placement). meets_module s p ≡ false) (λ (p : Placement). AreBeside p b) (λ p e. beside s p b one.1 e) done (none-any (meets_module s) done earlier.0))
 
-  pub all_beside : (ms : List Coded) (out : List Placement) → made_after (placed devices links) [] ms ≡ Ok out → EachPair AreBeside (stand_after 0 ms)
+  pub all_beside : (ms : List Coded) (out : List Placement) → made_after (placed_module devices links) [] ms ≡ Ok out → EachPair AreBeside (stand_after 0 ms)
   all_beside ms out h =
       subst (λ (l : List Placement). EachPair AreBeside l) (all_stand [] ms out h)
-      (made-keeps (λ (l : List Placement). EachPair AreBeside l) (placed devices links) keeps [] ms out tt h)
+      (made-keeps (λ (l : List Placement). EachPair AreBeside l) (placed_module devices links) keeps [] ms out tt h)

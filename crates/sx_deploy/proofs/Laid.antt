@@ -17,17 +17,17 @@ use Rattle.sx_entries.specs.declared.entries.Start.TheVariants as start
 use Rattle.sx_deploy.specs.declared.placing.Placement.{Placement}
 use Rattle.sx_deploy.specs.Sources.{Coded}
 use Rattle.sx_deploy.specs.Ties.{app_device, byte, device_of}
-use Rattle.sx_deploy.specs.Places.{Sections, Span, data_of, drives, ends_of, holds_word, is_lost, is_outside, is_own, layout_of, meet, meets_module, placed, sections_of, span, start_of, text_of}
+use Rattle.sx_deploy.specs.Places.{ModuleSections, Span, data_of, drives, ends_of, holds_word, is_bad_place, is_outside, is_own, layout_of, meet, meets_module, placed_module, sections_of, span, start_of, text_of}
 use Rattle.sx_mean.specs.Application.{PartTree}
 use Rattle.sx_deploy.specs.Deployment.{Deployed, part_of}
-use Rattle.sx_deploy.specs.Law.{AreApart, AreLaid, IsInside, IsLaid, IsWordPlace, Word, standing, words_of}
+use Rattle.sx_deploy.specs.Law.{AreApartSpans, AreLaid, IsInside, IsLaid, IsWordPlace, Word, standing, words_of}
 use Rattle.sx_deploy.proofs.Apart.{EachPair, none-any, one_placed, or_false, and_false, pair-snoc, stand, stand_after, tests-equal}
 use Rattle.sx_deploy.proofs.ValidApp.{each-map, each-weaker, each-both}
 
-apart : (a b : Span) → meet a b ≡ false → AreApart a b
+apart : (a b : Span) → meet a b ≡ false → AreApartSpans a b
 apart a b h = grind (arith, nat_tests)
 
-apart_back : (a b : Span) → meet a b ≡ false → AreApart b a
+apart_back : (a b : Span) → meet a b ≡ false → AreApartSpans b a
 apart_back a b h = grind (arith, nat_tests)
 
 even : (n : ℕ) → (n % 2 == 1) ≡ false → n % 2 ≡ 0
@@ -85,15 +85,15 @@ at_device ds (start.Device n) f h = by_case ds n f h
 
 abbrev pub IsClear : PartTree → Layout → Word → Type 0
 IsClear q l w = w.node ≡ q.node → (IsSome q.device × (w.at ≡ l.priv_from))
-    ⊎ (AreApart (span w.at 2) (text_of (record { node = q.node; layout = l })) × AreApart (span w.at 2) (data_of (record { node = q.node; layout = l })))
+    ⊎ (AreApartSpans (span w.at 2) (text_of (record { node = q.node; layout = l })) × AreApartSpans (span w.at 2) (data_of (record { node = q.node; layout = l })))
 
-one_clear : (m : Coded) (s : Sections) → s.node ≡ m.node → s.drives ≡ drives m.start → m.node < 16 → (d : DeviceEntry) → d.node < 16 → holds_word s d ≡ false → IsClear (part_of m) (layout_of s) (word d)
+one_clear : (m : Coded) (s : ModuleSections) → s.node ≡ m.node → s.drives ≡ drives m.start → m.node < 16 → (d : DeviceEntry) → d.node < 16 → holds_word s d ≡ false → IsClear (part_of m) (layout_of s) (word d)
 one_clear m s n v small d there h same =
     let nodes : d.node ≡ s.node = same_bytes d.node m.node (omega arith) (omega arith) same ∙ sym n in
     by_own (is_own s d) refl (λ own. and_false (d.node == s.node && not (is_own s d)) _ h (rw (equal-tests d.node s.node nodes, own) refl))
   where
     by_own : (b : Bool) → is_own s d ≡ b → (is_own s d ≡ false → (meet s.text (span d.at 2) || meet s.data_part (span d.at 2)) ≡ false)
-        → (IsSome (device_of m.start) × (d.at ≡ s.data_part.from)) ⊎ (AreApart (span d.at 2) s.text × AreApart (span d.at 2) s.data_part)
+        → (IsSome (device_of m.start) × (d.at ≡ s.data_part.from)) ⊎ (AreApartSpans (span d.at 2) s.text × AreApartSpans (span d.at 2) s.data_part)
     by_own true e k = let parts = and_true s.drives (d.at == s.data_part.from) e in inl (has_device m.start (sym v ∙ parts.0), tests-equal d.at s.data_part.from parts.1)
     by_own false e k = let parts = or_false (meet s.text (span d.at 2)) _ (k e) in inr (apart_back s.text (span d.at 2) parts.0, apart_back s.data_part (span d.at 2) parts.1)
 
@@ -126,7 +126,7 @@ each_first bad P k earlier (x ∷ xs) h = by_case (bad earlier x) refl h (each_f
     by_case true e i rest = absurd (cc)
     by_case false e i rest = (k earlier x e, rest i)
 
-word_place : (e : List DeviceEntry) (d : DeviceEntry) → is_lost e d ≡ false → IsWordPlace (word d)
+word_place : (e : List DeviceEntry) (d : DeviceEntry) → is_bad_place e d ≡ false → IsWordPlace (word d)
 word_place e d h =
     let all = or_false ((d.at % 2 == 1 || nat_lt d.at 0x0200) || nat_le 0xFFE0 d.at) _ h in
     let three = or_false (d.at % 2 == 1 || nat_lt d.at 0x0200) _ all.0 in
@@ -136,15 +136,15 @@ word_place e d h =
 abbrev pub ArePlaced : DeviceEntry → DeviceEntry → Type 0
 ArePlaced d e = d.node ≡ e.node → ¬ (d.at ≡ e.at)
 
-two_places : (e : List DeviceEntry) (d : DeviceEntry) → is_lost e d ≡ false → Each (λ y. ArePlaced y d) e
+two_places : (e : List DeviceEntry) (d : DeviceEntry) → is_bad_place e d ≡ false → Each (λ y. ArePlaced y d) e
 two_places e d h =
     let all = or_false ((d.at % 2 == 1 || nat_lt d.at 0x0200) || nat_le 0xFFE0 d.at) _ h in
     each-weaker (λ (y : DeviceEntry). (y.node == d.node && y.at == d.at) ≡ false) (λ (y : DeviceEntry). ArePlaced y d)
     (λ y f node at. (let t : (y.node == d.node && y.at == d.at) ≡ true = rw (equal-tests y.node d.node node, equal-tests y.at d.at at) refl in let x : true ≡ false = sym t ∙ f in cc))
     e (none-any (λ (y : DeviceEntry). y.node == d.node && y.at == d.at) e all.1)
 
-pub words_places : (ds : List DeviceEntry) → first_bad is_lost [] ds ≡ None → Each IsWordPlace (map word ds)
-words_places ds h = each-map word IsWordPlace ds (each_first is_lost (λ (d : DeviceEntry). IsWordPlace (word d)) word_place [] ds h)
+pub words_places : (ds : List DeviceEntry) → first_bad is_bad_place [] ds ≡ None → Each IsWordPlace (map word ds)
+words_places ds h = each-map word IsWordPlace ds (each_first is_bad_place (λ (d : DeviceEntry). IsWordPlace (word d)) word_place [] ds h)
 
 abbrev pub AreWordsApart : Word → Word → Type 0
 AreWordsApart v w = v.node ≡ w.node → ¬ (v.at ≡ w.at)
@@ -157,8 +157,8 @@ pair_words (d ∷ ds) n h = (
   pair_words ds n.1 h.1,
 )
 
-pub words_apart : (ds : List DeviceEntry) → Each (λ (d : DeviceEntry). d.node < 16) ds → first_bad is_lost [] ds ≡ None → EachPair AreWordsApart (map word ds)
-words_apart ds n h = pair_words ds n (each_pair-clear is_lost ArePlaced two_places [] ds tt h)
+pub words_apart : (ds : List DeviceEntry) → Each (λ (d : DeviceEntry). d.node < 16) ds → first_bad is_bad_place [] ds ≡ None → EachPair AreWordsApart (map word ds)
+words_apart ds n h = pair_words ds n (each_pair-clear is_bad_place ArePlaced two_places [] ds tt h)
 
 -- modules
 
@@ -179,7 +179,7 @@ module _ (d : Deployed) (devices : List DeviceEntry) (links : List Link) (total 
     (same_links : d.app.links ≡ links) (same_devices : d.app.devices ≡ map app_device devices) (same_places : d.places ≡ map (λ (e : DeviceEntry). e.at) devices)
     (few : length devices ≤ 32) (on_nodes : Each (λ (e : DeviceEntry). e.node < 16) devices)
     (ends : (p : ℕ) → p < total → ends_from links p + ends_to links p ≤ 16) where
-  one_laid : (done : List Placement) (m : Coded) (p : Placement) → placed devices links done m ≡ Ok p → IsFitting devices m → length done < total
+  one_laid : (done : List Placement) (m : Coded) (p : Placement) → placed_module devices links done m ≡ Ok p → IsFitting devices m → length done < total
       → IsLaid d (length done) (part_of m) (layout_of (sections_of devices links (length done) m))
   one_laid done m p h f k =
       let n = length done in
@@ -208,11 +208,11 @@ module _ (d : Deployed) (devices : List DeviceEntry) (links : List Link) (total 
             (all-each (IsClear (part_of m) (layout_of s)) (map word devices) (each-map word (IsClear (part_of m) (layout_of s)) devices clear));
       }
 
-  pub laid_from : (done : List Placement) (ms : List Coded) (out : List Placement) → made_after (placed devices links) done ms ≡ Ok out → Each (IsFitting devices) ms → length done + length ms ≡ total
+  pub laid_from : (done : List Placement) (ms : List Coded) (out : List Placement) → made_after (placed_module devices links) done ms ≡ Ok out → Each (IsFitting devices) ms → length done + length ms ≡ total
       → AreLaid d (length done) (map part_of ms) (map (λ (p : Placement). p.layout) (stand_after devices links (length done) ms))
   laid_from done [] out h f k = tt
   laid_from done (m ∷ ms) out h f k =
-      let step = bind-Ok (placed devices links done m) (λ p. made_after (placed devices links) (done ++ p ∷ []) ms) out h in
+      let step = bind-Ok (placed_module devices links done m) (λ p. made_after (placed_module devices links) (done ++ p ∷ []) ms) out h in
       let len : length (done ++ step.0 ∷ []) ≡ length done + 1 = length-append done (step.0 ∷ []) in
       let rest = laid_from (done ++ step.0 ∷ []) ms out step.2 f.1 (omega (arith, len, k)) in (
         one_laid done m step.0 step.1 f.0 (omega (arith, k)),

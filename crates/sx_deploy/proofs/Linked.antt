@@ -21,7 +21,7 @@ use Rattle.sx_entries.specs.declared.rows.EndRow.{EndRow}
 use Rattle.sx_entries.proofs.RowForms.{through}
 use Rattle.sx_entries.proofs.Kept.{in_entry-Ok}
 use Rattle.sx_deploy.specs.Sources.{Coded}
-use Rattle.sx_deploy.specs.Ties.{Port, byte, link_of, port_in, port_names, port_of, port_place, tied}
+use Rattle.sx_deploy.specs.Ties.{Port, byte, link_of, port_in, port_names, port_of, port_place, tied_link}
 use Rattle.sx_deploy.specs.Deployment.{part_of}
 use Rattle.sx_deploy.proofs.Sizes.{few_ports}
 
@@ -97,15 +97,15 @@ module _ (modules : List Coded) (few : length modules ≤ 32) (sound : Each (λ 
       let same : record { from = from.owner; output = from.port; to = to.owner; input = to.port } ≡ l = cc in
       subst (IsLinked modules) same (port_kept true row.from from e1, port_kept false row.to to e2)) h1) h
 
-  pub all_linked : (rows : List LinkEntry) (links : List Link) → made_after (tied modules) [] rows ≡ Ok links → Each (IsLinked modules) links
+  pub all_linked : (rows : List LinkEntry) (links : List Link) → made_after (tied_link modules) [] rows ≡ Ok links → Each (IsLinked modules) links
   all_linked rows links h =
-      made-keeps (Each (IsLinked modules)) (tied modules)
+      made-keeps (Each (IsLinked modules)) (tied_link modules)
       (λ done row l old e. each-snoc (IsLinked modules) done l old (link_kept row l (in_entry-Ok 9 Connection (length done) (link_of modules row) l e))) [] rows links tt h
 
-pub as_many : (modules : List Coded) (done : List Link) (rows : List LinkEntry) (links : List Link) → made_after (tied modules) done rows ≡ Ok links → length links ≡ length done + length rows
+pub as_many : (modules : List Coded) (done : List Link) (rows : List LinkEntry) (links : List Link) → made_after (tied_link modules) done rows ≡ Ok links → length links ≡ length done + length rows
 as_many modules done [] links h = let same : done ≡ links = cc in rw (← same) (omega arith)
 as_many modules done (row ∷ rows) links h =
-    let step = bind-Ok (tied modules done row) (λ l. made_after (tied modules) (done ++ l ∷ []) rows) links h in
+    let step = bind-Ok (tied_link modules done row) (λ l. made_after (tied_link modules) (done ++ l ∷ []) rows) links h in
     let rest : length links ≡ length (done ++ step.0 ∷ []) + length rows = as_many modules (done ++ step.0 ∷ []) rows links step.2 in
     let len : length (done ++ step.0 ∷ []) ≡ length done + 1 = length-append done (step.0 ∷ []) in
     omega (arith, rest, len)

@@ -2,7 +2,7 @@
 use Rattle.std.proofs.Common.{◌≡◌, ◌⊎◌, inl, inr, ℕ, ◌+◌, List, [], ◌∷◌, Result, Ok, Err, refl, sym, ap, ◌∙◌}
 use Rattle.sx_lang.specs.Tree.{ModuleTree}
 use Rattle.sx_lex.specs.declared.tokens.Place.{Place}
-use Rattle.sx_grammar.specs.Text.{Spells, IsFault}
+use Rattle.sx_grammar.specs.Text.{Spells, IsFirstFault}
 use Rattle.sx_grammar.proofs.Texts.{one_module_of_text, module_or_fault}
 use Rattle.sx_grammar.proofs.OneFault.{one_fault, no_fault}
 use Rattle.sx_stage.specs.Fault.{◌>>=◌, cut, fault}
@@ -52,7 +52,7 @@ one_meaning text a b x y = one_from (table_of text >>= counted_in) a b x y
 some_coded : (n : ℕ) (m : ModuleEntry) → (r : Result Coded DeployFault) × IsCoded n m r
 some_coded n m = go (module_or_fault m.source)
   where
-    go : ((tree : ModuleTree) × Spells m.source tree) ⊎ ((at : Place) × IsFault m.source at) → (r : Result Coded DeployFault) × IsCoded n m r
+    go : ((tree : ModuleTree) × Spells m.source tree) ⊎ ((at : Place) × IsFirstFault m.source at) → (r : Result Coded DeployFault) × IsCoded n m r
     go (inl t) = (Ok (coded m t.0), (t.0, t.1, refl))
     go (inr f) = let at = f.0 in (Err (fault 7 (Source (cut n) at.line at.column)), (at, f.1, refl))
 

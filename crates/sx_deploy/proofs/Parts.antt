@@ -3,17 +3,17 @@ use Rattle.std.proofs.Common.{◌≡◌, ℕ, ◌+◌, List, [], ◌∷◌, map,
 use Rattle.std.specs.Prelude.{slice_get}
 use Rattle.sx_lang.specs.Words.{TreeHasWords}
 use Rattle.sx_check.specs.Rules.{first_broken}
-use Rattle.sx_grammar.proofs.Words.{spelled_words}
+use Rattle.sx_grammar.proofs.SpelledWords.{spelled_words}
 use Rattle.sx_mean.specs.Application.{PartTree, is_valid}
 use Rattle.sx_mean.specs.declared.apps.AppDevice.{AppDevice}
-use Rattle.sx_mean.proofs.Valid.{valid_applications}
+use Rattle.sx_mean.proofs.ValidApplications.{valid_applications}
 use Rattle.sx_stage.proofs.Each.{Each}
 use Rattle.sx_entries.specs.declared.entries.DeviceEntry.{DeviceEntry}
 use Rattle.sx_entries.specs.declared.entries.ModuleEntry.{ModuleEntry}
 use Rattle.sx_deploy.specs.Sources.{AreCoded, none_left, each, Coded}
 use Rattle.sx_deploy.specs.Ties.{app_device}
 use Rattle.sx_deploy.specs.Deployment.{Deployed, is_sensor, part_of}
-use Rattle.sx_deploy.specs.Law.{IsPart}
+use Rattle.sx_deploy.specs.Law.{IsDeployedPart}
 use Rattle.sx_deploy.proofs.Linked.{each-get}
 use Rattle.sx_deploy.proofs.ValidApp.{each-both, each-map}
 
@@ -33,7 +33,7 @@ abbrev IsModule : PartTree → Type 0
 IsModule q = (first_broken q.tree ≡ None) × TreeHasWords q.tree
 
 pub are_parts : (d : Deployed) (modules : List Coded) → d.app.parts ≡ map part_of modules → is_valid d.app ≡ true → Each (λ (c : Coded). first_broken c.tree ≡ None) modules → Each (λ (c : Coded). TreeHasWords c.tree) modules
-    → (p : ℕ) (q : PartTree) → slice_get d.app.parts p ≡ Some q → IsPart d p q
+    → (p : ℕ) (q : PartTree) → slice_get d.app.parts p ≡ Some q → IsDeployedPart d p q
 are_parts d modules same valid checked words p q e =
     let all : Each IsModule (map part_of modules) =
     each-map part_of IsModule modules (each-both (λ (c : Coded). first_broken c.tree ≡ None) (λ (c : Coded). TreeHasWords c.tree) (λ (c : Coded). IsModule (part_of c)) (λ c k w. (k, w)) modules checked words) in

@@ -5,7 +5,7 @@ use Rattle.std.proofs.lemmas.Bool.Decides.{nat_tests}
 use Rattle.std.proofs.lemmas.List.{length-map}
 use Rattle.sx_lang.specs.Words.{IsWord}
 use Rattle.sx_mean.specs.Application.{ends_from, ends_to}
-use Rattle.sx_mean.proofs.Valid.{valid_applications}
+use Rattle.sx_mean.proofs.ValidApplications.{valid_applications}
 use Rattle.sx_stage.proofs.Each.{Each, all-each}
 use Rattle.sx_entries.specs.Law.{AreEntries}
 use Rattle.sx_entries.specs.declared.entries.NodeEntry.{NodeEntry}
@@ -13,12 +13,12 @@ use Rattle.sx_entries.specs.declared.entries.DeviceEntry.{DeviceEntry}
 use Rattle.sx_entries.specs.declared.entries.ModuleEntry.{ModuleEntry}
 use Rattle.sx_entries.specs.declared.entries.LinkEntry.{LinkEntry}
 use Rattle.sx_entries.specs.declared.entries.Start.TheVariants as start
-use Rattle.sx_entries.proofs.Made.{entries_keep}
+use Rattle.sx_entries.proofs.EntriesKeep.{entries_keep}
 use Rattle.sx_deploy.specs.declared.placing.Placement.{Placement}
 use Rattle.sx_deploy.specs.Sources.{Coded}
 use Rattle.sx_deploy.specs.Ties.{app_device, byte, has_many_ends}
 use Rattle.sx_deploy.specs.Deployment.{Deployed, IsRead, app_of, arranged, part_of}
-use Rattle.sx_deploy.specs.Law.{AreBeside, AreLaid, IsSound, IsWordPlace, Word, standing}
+use Rattle.sx_deploy.specs.Law.{AreBeside, AreLaid, IsSoundDeployment, IsWordPlace, Word, standing}
 use Rattle.sx_deploy.proofs.Accepted.{Accepted, accepted}
 use Rattle.sx_deploy.proofs.Apart.{all_beside, all_stand, stand_after}
 use Rattle.sx_deploy.proofs.Drivers.{IsFit}
@@ -47,7 +47,7 @@ module _ (d : Deployed) (a : Accepted d) (k : AreEntries a.e) (f : AreFew a.e) (
       each-weaker (λ (e : DeviceEntry). e.node < length a.e.nodes) (λ (e : DeviceEntry). e.node < 16) (λ e h. omega (arith, h, small)) a.e.devices
       (each-all-back (λ (e : DeviceEntry). e.node < length a.e.nodes) a.e.devices k.device_nodes)
 
-  pub sound_meant : IsSound (arranged a.e a.modules a.links a.placements)
+  pub sound_meant : IsSoundDeployment (arranged a.e a.modules a.links a.placements)
   sound_meant =
       let e = a.e in
       let stands = placed_modules e.devices a.links a.modules a.placements a.placed in
@@ -82,9 +82,9 @@ module _ (d : Deployed) (a : Accepted d) (k : AreEntries a.e) (f : AreFew a.e) (
             (pair-all AreBeside (stand_after e.devices a.links 0 a.modules) (all_beside e.devices a.links a.modules a.placements stands.1)));
       }
 
-pub sound : (text : List ℕ) (d : Deployed) → IsRead text (Ok d) → IsSound d
+pub sound : (text : List ℕ) (d : Deployed) → IsRead text (Ok d) → IsSoundDeployment d
 sound text d h =
     let a = accepted text d h in
     let k = entries_keep a.table a.rows a.e a.read a.named in
     let f = few a.e a.few in
-    subst IsSound a.same (sound_meant d a k f (fits d a k f))
+    subst IsSoundDeployment a.same (sound_meant d a k f (fits d a k f))

@@ -18,11 +18,11 @@ use Rattle.sx_entries.specs.declared.entries.NodeEntry.{NodeEntry}
 use Rattle.sx_entries.specs.declared.entries.DeviceEntry.{DeviceEntry}
 use Rattle.sx_entries.specs.declared.entries.ModuleEntry.{ModuleEntry}
 use Rattle.sx_entries.specs.declared.entries.LinkEntry.{LinkEntry}
-use Rattle.sx_entries.proofs.Made.{entries_keep}
+use Rattle.sx_entries.proofs.EntriesKeep.{entries_keep}
 use Rattle.sx_deploy.specs.Counts as counts
 use Rattle.sx_deploy.specs.Sources.{Coded}
-use Rattle.sx_deploy.specs.Ties.{app_device, byte, device_of, has_many_ends, is_mistied, links_of, makes_many_packets, tied}
-use Rattle.sx_deploy.specs.Places.{is_lost, placed, placements_of}
+use Rattle.sx_deploy.specs.Ties.{app_device, byte, device_of, has_many_ends, is_mismatched, links_of, makes_many_packets, tied_link}
+use Rattle.sx_deploy.specs.Places.{is_bad_place, placed_module, placements_of}
 use Rattle.sx_deploy.specs.declared.placing.Placement.{Placement}
 use Rattle.sx_deploy.specs.Deployment.{Deployed, IsRead, app_of, part_of}
 use Rattle.sx_deploy.proofs.Accepted.{Accepted, accepted, passes-None}
@@ -164,30 +164,30 @@ each-both P Q R k (x ∷ xs) p q = (k x p.0 q.0, each-both P Q R k xs p.1 q.1)
 
 -- what each line of rule 9 left
 pub record AreTied (devices : List AppDevice) (modules : List Coded) (rows : List LinkEntry) (links : List Link) : Type 0 where
-  pub first : first_bad (is_mistied devices) [] modules ≡ None
-  pub made : made_after (tied modules) [] rows ≡ Ok links
+  pub first : first_bad (is_mismatched devices) [] modules ≡ None
+  pub made : made_after (tied_link modules) [] rows ≡ Ok links
   pub third : first_bad (has_many_ends links) [] modules ≡ None
   pub fourth : first_bad (makes_many_packets links) [] modules ≡ None
 
 pub tied_lines : (devices : List AppDevice) (modules : List Coded) (rows : List LinkEntry) (links : List Link) → links_of devices modules rows ≡ Ok links → AreTied devices modules rows links
 tied_lines devices modules rows links h =
-    let first = bind-Ok (passes (entries 9 Module (is_mistied devices) modules)) _ links h in
-    let made = bind-Ok (made_after (tied modules) [] rows) _ links first.2 in
+    let first = bind-Ok (passes (entries 9 Module (is_mismatched devices) modules)) _ links h in
+    let made = bind-Ok (made_after (tied_link modules) [] rows) _ links first.2 in
     let third = bind-Ok (passes (entries 9 Module (has_many_ends made.0) modules)) _ links made.2 in
     let fourth = bind-Ok (passes (entries 9 Module (makes_many_packets made.0) modules)) _ links third.2 in
     let same : made.0 ≡ links = cc in
     subst (λ (l : List Link). AreTied devices modules rows l) same (record {
-      first = entries-None 9 Module (is_mistied devices) modules (passes-None _ first.0 first.1);
+      first = entries-None 9 Module (is_mismatched devices) modules (passes-None _ first.0 first.1);
       made = made.1;
       third = entries-None 9 Module (has_many_ends made.0) modules (passes-None _ third.0 third.1);
       fourth = entries-None 9 Module (makes_many_packets made.0) modules (passes-None _ fourth.0 fourth.1);
     })
 
 pub placed_modules : (devices : List DeviceEntry) (links : List Link) (modules : List Coded) (out : List Placement) → placements_of devices links modules ≡ Ok out
-    → (first_bad is_lost [] devices ≡ None) × (made_after (placed devices links) [] modules ≡ Ok out)
+    → (first_bad is_bad_place [] devices ≡ None) × (made_after (placed_module devices links) [] modules ≡ Ok out)
 placed_modules devices links modules out h =
-    let first = bind-Ok (passes (entries 10 Device is_lost devices)) _ out h in
-    (entries-None 10 Device is_lost devices (passes-None _ first.0 first.1), first.2)
+    let first = bind-Ok (passes (entries 10 Device is_bad_place devices)) _ out h in
+    (entries-None 10 Device is_bad_place devices (passes-None _ first.0 first.1), first.2)
 
 no_entry : NodeEntry
 no_entry = record { name = []; key = [] }
@@ -204,7 +204,7 @@ fits d a k f =
     pairs-each (λ (m : ModuleEntry). IsThere m.start (length e.devices)) (λ (c : Coded). IsThere c.start (length e.devices)) (λ m tree h. h) e.modules a.modules ps
     (each-all-back (λ (m : ModuleEntry). IsThere m.start (length e.devices)) e.modules k.module_devices) in
     let driven : Each (λ (m : Coded). not (is_driven (map app_device e.devices) (byte m.node) (device_of m.start) (declared_kind m.tree.decls)) ≡ false) a.modules =
-    each-clear (is_mistied (map app_device e.devices)) (λ m. not (is_driven (map app_device e.devices) (byte m.node) (device_of m.start) (declared_kind m.tree.decls))) (λ e m. refl) [] a.modules lines.first in
+    each-clear (is_mismatched (map app_device e.devices)) (λ m. not (is_driven (map app_device e.devices) (byte m.node) (device_of m.start) (declared_kind m.tree.decls))) (λ e m. refl) [] a.modules lines.first in
     let small : length e.nodes ≤ 16 = f.nodes in
     let placed_there : Each (λ (m : Coded). (m.node < length e.nodes) × IsThere m.start (length e.devices)) a.modules =
     each-both (λ (m : Coded). m.node < length e.nodes) (λ (m : Coded). IsThere m.start (length e.devices)) _ (λ m p q. (p, q)) a.modules nodes there in

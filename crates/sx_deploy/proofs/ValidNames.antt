@@ -5,7 +5,7 @@ use Rattle.std.proofs.lemmas.List.{length-map}
 use Rattle.sx_trace.specs.Names.{are_names, are_valid}
 use Rattle.sx_entries.specs.Law.{AreEntries, AreNamed}
 use Rattle.sx_entries.specs.Entries.{EntryLists}
-use Rattle.sx_entries.proofs.Made.{entries_keep}
+use Rattle.sx_entries.proofs.EntriesKeep.{entries_keep}
 use Rattle.sx_deploy.specs.Deployment.{Deployed, IsRead, names_of, is_sensor}
 use Rattle.sx_deploy.proofs.Accepted.{accepted}
 use Rattle.sx_deploy.proofs.Few.{AreFew, few}

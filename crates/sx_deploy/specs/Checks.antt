@@ -2,7 +2,8 @@
 use Rattle.std.specs.Prelude.{ℕ, List, [], length, Option, Some, None, Result, Ok, Err}
 use Rattle.sx_check.specs.Rules.{first_broken}
 use Rattle.sx_check.specs.declared.rules.Rule.{Rule}
-use Rattle.sx_check.specs.declared.rules.Rule.TheVariants.{Duplicate, Unknown, Kind, Depth, Locals, Repeat, Packets, Cost, Nodes, Cells}
+use Rattle.sx_check.specs.declared.rules.Rule.TheVariants.{Duplicate, Unknown, Kind, Depth, Locals}
+use Rattle.sx_check.specs.declared.rules.Rule.TheVariants.{Repeat, Packets, Cost, Nodes, Cells}
 use Rattle.sx_stage.specs.Fault.{cut, fault}
 use Rattle.sx_stage.specs.Stage.{made_after}
 use Rattle.sx_stage.specs.declared.fault.Place.TheVariants.{Broken}

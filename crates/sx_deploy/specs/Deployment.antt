@@ -51,7 +51,12 @@ part_of m = record { node = byte m.node; device = device_of m.start; tree = m.tr
 
 -- the application: nodes, devices, parts and connections
 abbrev pub app_of : EntryLists → List Coded → List Link → AppTree
-app_of e modules links = record { nodes = byte (length e.nodes); devices = map app_device e.devices; parts = map part_of modules; links = links }
+app_of e modules links = record {
+  nodes = byte (length e.nodes);
+  devices = map app_device e.devices;
+  parts = map part_of modules;
+  links = links;
+}
 
 -- the deployment that entries, modules, connections and places give
 abbrev pub arranged : EntryLists → List Coded → List Link → List Placement → Deployed
@@ -84,14 +89,14 @@ deployed e coded = do
   Ok (arranged e modules links placements)
 
 -- rule 7, between them: what the modules' sources are
-pub record IsDeployed (e : EntryLists) (outcome : Result Deployed DeployFault) : Type 0 where
+pub record IsOutcome (e : EntryLists) (outcome : Result Deployed DeployFault) : Type 0 where
   pub coded : Result (List Coded) DeployFault
   pub are_coded : AreCoded 0 e.modules coded
   pub comes : outcome ≡ (coded >>= deployed e)
 
 -- the deployment of a text's entries, or the fault that they have
 abbrev pub IsFrom : Result EntryLists DeployFault → Result Deployed DeployFault → Type 0
-IsFrom (Ok e) outcome = IsDeployed e outcome
+IsFrom (Ok e) outcome = IsOutcome e outcome
 IsFrom (Err f) outcome = outcome ≡ Err f
 
 -- the deployment that the text means, or the first rule that it breaks and where

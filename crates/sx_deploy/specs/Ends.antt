@@ -1,5 +1,6 @@
 -- A module's ends in memory, where a connection's number is a byte.
-use Rattle.std.specs.Prelude.{◌≡◌, ℕ, ◌+◌, ◌≤◌, ◌==◌, if◌then◌else◌, List, [], ◌∷◌, length, map, Option, Some, None}
+use Rattle.std.specs.Prelude.{◌≡◌, ℕ, ◌+◌, ◌≤◌, ◌==◌, if◌then◌else◌, List, [], ◌∷◌, length, map}
+use Rattle.std.specs.Prelude.{Option, Some, None}
 use Rattle.std.specs.List.{cons_option}
 use Rattle.sx_lang.specs.declared.sides.Side.TheVariants.{From, To}
 use Rattle.sx_mean.specs.declared.apps.Link.{Link}
@@ -22,16 +23,19 @@ pub record AreHeld (app : AppTree) (p : ℕ) (ends : List End) : Type 0 where
 
 -- the sending end of a connection, where the module holds it
 abbrev pub sending : ℕ → ℕ → Link → Option End
-sending n module_place l = if l.from == module_place then Some (record { link = byte n; side = From; port = l.output }) else None
+sending n module_place l = if l.from == module_place then
+    Some (record { link = byte n; side = From; port = l.output }) else None
 
 -- the receiving end of a connection, where the module holds it
 abbrev pub receiving : ℕ → ℕ → Link → Option End
-receiving n module_place l = if l.to == module_place then Some (record { link = byte n; side = To; port = l.input }) else None
+receiving n module_place l = if l.to == module_place then
+    Some (record { link = byte n; side = To; port = l.input }) else None
 
 -- the ends that a module holds of the connections from the n-th on
 abbrev pub ends_after : ℕ → ℕ → List Link → List End
 ends_after n module_place [] = []
-ends_after n module_place (l ∷ ls) = cons_option (sending n module_place l) (cons_option (receiving n module_place l) (ends_after (n + 1) module_place ls))
+ends_after n module_place (l ∷ ls) = cons_option (sending n module_place l)
+    (cons_option (receiving n module_place l) (ends_after (n + 1) module_place ls))
 
 -- the ends that a module holds, in connection order, a sending end before a receiving one
 abbrev pub ends_held : List Link → ℕ → List End

@@ -7,8 +7,24 @@ use Rattle.sx_deploy.specs.declared.checks.CheckedModule.{CheckedModule}
 
 -- the code's parsed module as plain data
 abbrev pub parsed_as : ParsedModule → Coded
-parsed_as m = record { name = m.name; node = m.node; provider = m.provider; text = m.text; start = m.start; tree = module_of m.tree }
+parsed_as m = record {
+  name = m.name;
+  node = m.node;
+  provider = m.provider;
+  text = m.text;
+  start =
+      m.start;
+  tree = module_of m.tree;
+}
 
 -- the code's checked module as plain data
 abbrev pub checked_as : CheckedModule → Coded
-checked_as m = record { name = m.name; node = m.node; provider = m.provider; text = m.text; start = m.start; tree = source_tree m.code }
+checked_as m = record {
+  name = m.name;
+  node = m.node;
+  provider = m.provider;
+  text = m.text;
+  start =
+      m.start;
+  tree = source_tree m.code;
+}

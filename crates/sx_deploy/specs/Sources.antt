@@ -2,7 +2,7 @@
 use Rattle.std.specs.Prelude.{◌≡◌, ℕ, ◌+◌, List, [], ◌∷◌, Result, Ok, Err}
 use Rattle.sx_lang.specs.Tree.{ModuleTree}
 use Rattle.sx_lex.specs.declared.tokens.Place.{Place}
-use Rattle.sx_grammar.specs.Text.{Spells, IsFault}
+use Rattle.sx_grammar.specs.Text.{Spells, IsFirstFault}
 use Rattle.sx_stage.specs.Fault.{cut, fault}
 use Rattle.sx_stage.specs.declared.fault.Place.TheVariants.{Source}
 use Rattle.sx_stage.specs.declared.fault.DeployFault.{DeployFault}
@@ -20,13 +20,22 @@ pub record Coded : Type 0 where
 
 -- an entry with the tree of its source
 abbrev pub coded : ModuleEntry → ModuleTree → Coded
-coded m tree = record { name = m.name; node = m.node; provider = m.provider; text = m.text; start = m.start; tree = tree }
+coded m tree = record {
+  name = m.name;
+  node = m.node;
+  provider = m.provider;
+  text = m.text;
+  start =
+      m.start;
+  tree = tree;
+}
 
 -- what the n-th module is: it has the tree that its source spells, or a fault at the place of the
 -- source's first
 abbrev pub IsCoded : ℕ → ModuleEntry → Result Coded DeployFault → Type 0
 IsCoded n m (Ok c) = (tree : ModuleTree) × Spells m.source tree × (c ≡ coded m tree)
-IsCoded n m (Err f) = (at : Place) × IsFault m.source at × (f ≡ fault 7 (Source (cut n) at.line at.column))
+IsCoded n m (Err f) =
+    (at : Place) × IsFirstFault m.source at × (f ≡ fault 7 (Source (cut n) at.line at.column))
 
 -- what the modules become from the n-th on: each has a tree, or the first that has none is the
 -- fault

@@ -1,5 +1,7 @@
 -- Rule 9: modules fit their devices, connections their modules, and nothing is overloaded.
-use Rattle.std.specs.Prelude.{ℕ, ◌+◌, Bool, true, false, not, nat_lt, min, if◌then◌else◌, List, [], ◌∷◌, length, slice_get, Option, Some, None, option_and_then, Result, Ok}
+use Rattle.std.specs.Prelude.{ℕ, ◌+◌, Bool, true, false, not, nat_lt, min, if◌then◌else◌, List, []}
+use Rattle.std.specs.Prelude.{◌∷◌, length, slice_get, Option, Some, None, option_and_then, Result}
+use Rattle.std.specs.Prelude.{Ok}
 use Rattle.std.specs.List.{cons_option}
 use Rattle.sx_lang.specs.declared.tree.Decl.{Decl}
 use Rattle.sx_lang.specs.declared.tree.Decl.TheVariants as decl
@@ -35,8 +37,9 @@ device_of (start.Device n) = Some (byte n)
 
 -- First: a module and its device differ in node, its declaration isn't its device's kind, or only
 -- the declaration or only the device is there.
-abbrev pub is_mistied : List AppDevice → List Coded → Coded → Bool
-is_mistied devices earlier m = not (is_driven devices (byte m.node) (device_of m.start) (declared_kind m.tree.decls))
+abbrev pub is_mismatched : List AppDevice → List Coded → Coded → Bool
+is_mismatched devices earlier m =
+    not (is_driven devices (byte m.node) (device_of m.start) (declared_kind m.tree.decls))
 
 -- the name of the output that is declared, or of the input
 abbrev pub port_in : Bool → Decl → Option (List ℕ)
@@ -82,12 +85,13 @@ link_of modules row =
     Some (record { from = from.owner; output = from.port; to = to.owner; input = to.port })))
 
 -- rule 9 on the next connection
-abbrev pub tied : List Coded → List Link → LinkEntry → Result Link DeployFault
-tied modules done row = in_entry 9 Connection (length done) (link_of modules row)
+abbrev pub tied_link : List Coded → List Link → LinkEntry → Result Link DeployFault
+tied_link modules done row = in_entry 9 Connection (length done) (link_of modules row)
 
 -- Third: a module has more than 16 ends.
 abbrev pub has_many_ends : List Link → List Coded → Coded → Bool
-has_many_ends links earlier m = nat_lt 16 (ends_from links (length earlier) + ends_to links (length earlier))
+has_many_ends links earlier m =
+    nat_lt 16 (ends_from links (length earlier) + ends_to links (length earlier))
 
 -- Fourth: a handler can make more than 16 packets.
 abbrev pub makes_many_packets : List Link → List Coded → Coded → Bool
@@ -96,8 +100,8 @@ makes_many_packets links earlier m = sends_too_much links (length earlier) m.tre
 -- the connections, by the indices of modules and ports
 abbrev pub links_of : List AppDevice → List Coded → List LinkEntry → Result (List Link) DeployFault
 links_of devices modules rows = do
-  first ← passes (entries 9 Module (is_mistied devices) modules)
-  links ← made_after (tied modules) [] rows
+  first ← passes (entries 9 Module (is_mismatched devices) modules)
+  links ← made_after (tied_link modules) [] rows
   third ← passes (entries 9 Module (has_many_ends links) modules)
   fourth ← passes (entries 9 Module (makes_many_packets links) modules)
   Ok links

@@ -137,7 +137,8 @@ pub fn arranged(
     placements: &[Placement],
 ) -> Result<Deployment, AllocError>
     requires { devices.items ≡ map app_device e.now.devices }
-    ensures { IfOk result (λ d. deployed_as d ≡ arranged e.now (map checked_as modules.items) links.items placements.now) }
+    ensures { IfOk result (λ d. deployed_as d ≡ arranged e.now (map checked_as modules.items)
+        links.items placements.now) }
 {
     let names = names(alloc, e)?;
     let keys = node_keys(alloc, &e.nodes)?;

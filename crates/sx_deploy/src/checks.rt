@@ -80,7 +80,8 @@ pub fn checked_all(
     alloc: Global,
     modules: Vec<ParsedModule>,
 ) -> Result<Vec<CheckedModule>, DeployError>
-    ensures { Gives (λ v. map checked_as v.items) result (checked_all (map parsed_as modules.items)) }
+    ensures { Gives (λ v. map checked_as v.items) result
+        (checked_all (map parsed_as modules.items)) }
 {
     let mut done = Vec::new(alloc);
     for module in modules {

@@ -6,7 +6,7 @@ ghost use Rattle.sx_mean.specs.View.{app_as};
 ghost use Rattle.sx_trace.specs.Names.{are_valid};
 ghost use Rattle.sx_stage.specs.Fault.{Gives, GivesOne};
 ghost use Rattle.sx_deploy.specs.Deployment.{counted_in, deployed, IsFrom, IsRead};
-ghost use Rattle.sx_deploy.specs.Law.{IsSound};
+ghost use Rattle.sx_deploy.specs.Law.{IsSoundDeployment};
 ghost use Rattle.sx_deploy.specs.Seen.{parsed_as};
 ghost use Rattle.sx_deploy.specs.Sources.{AreCoded};
 ghost use Rattle.sx_deploy.specs.SeenDeployment.{deployed_as};
@@ -117,7 +117,7 @@ pub fn read_deployment(alloc: Global, text: &[u8]) -> Result<Deployment, DeployE
     // and `Names::valid`
     ensures names { IfOk result (λ d. IsTrue (are_valid d.names)) }
     // its lists fit each other, and its modules and devices have places of their own
-    ensures sound { IfOk result (λ d. IsSound (deployed_as d)) }
+    ensures sound { IfOk result (λ d. IsSoundDeployment (deployed_as d)) }
 {
     read_text(alloc, text)
 }

@@ -1,7 +1,7 @@
 //! The modules that connections go between, each found by its name.
 ghost use Rattle.std.specs.Prelude.{◌≡◌, map, option_map, slice_get, IfOk};
 ghost use Rattle.sx_entries.specs.Entries.{place_among};
-ghost use Rattle.sx_trace.specs.Index.{IsIndex};
+ghost use Rattle.sx_trace.specs.Index.{IsNameIndex};
 ghost use Rattle.sx_trace.specs.Names.{place_of};
 ghost use Rattle.sx_deploy.specs.Seen.{checked_as};
 
@@ -21,7 +21,7 @@ pub struct Owners<'a> {
 impl<'a> Model for Owners<'a> {
     ghost use Rattle.std.specs.Coded.{coded_list};
     ghost use Rattle.std.specs.Prelude.{List, map};
-    ghost use Rattle.sx_trace.specs.Index.{IsIndex};
+    ghost use Rattle.sx_trace.specs.Index.{IsNameIndex};
     ghost use Rattle.sx_deploy.specs.contracts.checks.CheckedModule.{the_row};
     ghost use Rattle.sx_deploy.specs.declared.checks.CheckedModule.{CheckedModule};
 
@@ -31,11 +31,11 @@ impl<'a> Model for Owners<'a> {
 
     ghost view = { λ o. o.modules.now };
 
-    ghost invariant = { λ o. IsIndex o.names (map (λ m. m.name) o.modules.now) };
+    ghost invariant = { λ o. IsNameIndex o.names (map (λ m. m.name) o.modules.now) };
 }
 
 fn names_of(alloc: Global, modules: &[CheckedModule]) -> Result<NameIndex, AllocError>
-    ensures { IfOk result (λ names. IsIndex names (map (λ m. m.name) modules.now)) }
+    ensures { IfOk result (λ names. IsNameIndex names (map (λ m. m.name) modules.now)) }
 {
     let mut names = NameIndex::new(alloc);
     for place in 0..modules.len() {

@@ -5,7 +5,10 @@ ghost use Rattle.sx_lang.specs.Sizes.{module_data_size, module_weight};
 ghost use Rattle.sx_check.specs.Source.{source_tree};
 ghost use Rattle.sx_stage.specs.Fault.{Gives};
 ghost use Rattle.sx_stage.specs.Stage.{made_after};
-ghost use Rattle.sx_deploy.specs.Places.{drives, holds_word, is_lost, is_misplaced, is_outside, is_own, is_taken, meet, meets_module, placed, placement_of, placements_of, sections_of, start_of, span, text_of, data_of};
+ghost use Rattle.sx_deploy.specs.Places.{drives, holds_word, is_bad_place, is_misplaced};
+ghost use Rattle.sx_deploy.specs.Places.{is_outside, is_own, is_taken, meet, meets_module};
+ghost use Rattle.sx_deploy.specs.Places.{placed_module, placement_of, placements_of, sections_of};
+ghost use Rattle.sx_deploy.specs.Places.{start_of, span, text_of, data_of};
 ghost use Rattle.sx_deploy.specs.Seen.{checked_as};
 ghost use Rattle.sx_deploy.specs.SeenSections.{sections_as, span_as};
 
@@ -37,10 +40,10 @@ fn is_taken(devices: &[DeviceEntry], node: usize, at: u16) -> bool
 }
 
 #[derive(Drop)]
-struct Lost;
+struct BadPlaces;
 
-impl Line<DeviceEntry> for Lost {
-    ghost bad = { λ _. is_lost };
+impl Line<DeviceEntry> for BadPlaces {
+    ghost bad = { λ _. is_bad_place };
 
     fn is_bad(&self, earlier: &[DeviceEntry], row: &DeviceEntry) -> bool {
         row.at % 2 == 1
@@ -221,7 +224,7 @@ struct Placer<'a> {
 }
 
 impl Derive<CheckedModule, Placement> for Placer<'_> {
-    ghost derives = { λ s done m. placed s.devices.now s.links.now done (checked_as m) };
+    ghost derives = { λ s done m. placed_module s.devices.now s.links.now done (checked_as m) };
 
     fn derive(
         &self,
@@ -241,7 +244,8 @@ fn sections_placed(
     links: &[Link],
     modules: &[CheckedModule],
 ) -> Result<Vec<Placement>, DeployError>
-    ensures { Gives (λ v. v.items) result (made_after (placed devices.now links.now) [] (map checked_as modules.now)) }
+    ensures { Gives (λ v. v.items) result (made_after (placed_module devices.now links.now) []
+        (map checked_as modules.now)) }
 {
     derived(alloc, &Placer { devices, links }, modules)
 }
@@ -254,8 +258,9 @@ pub fn placements_of(
     links: &[Link],
     modules: &[CheckedModule],
 ) -> Result<Vec<Placement>, DeployError>
-    ensures { Gives (λ v. v.items) result (placements_of devices.now links.now (map checked_as modules.now)) }
+    ensures { Gives (λ v. v.items) result (placements_of devices.now links.now
+        (map checked_as modules.now)) }
 {
-    passes(entries(10, Sort::Device, &Lost, devices))?;
+    passes(entries(10, Sort::Device, &BadPlaces, devices))?;
     sections_placed(alloc, devices, links, modules)
 }

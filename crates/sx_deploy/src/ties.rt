@@ -9,7 +9,9 @@ ghost use Rattle.sx_stage.specs.declared.fault.Sort.TheVariants.{Module};
 ghost use Rattle.sx_trace.specs.Names.{place_of};
 ghost use Rattle.sx_deploy.specs.Seen.{checked_as};
 ghost use Rattle.sx_deploy.specs.SeenPort.{port_as};
-ghost use Rattle.sx_deploy.specs.Ties.{byte, device_of, has_many_ends, is_mistied, link_of, links_of, makes_many_packets, port_in, port_names, port_of, port_place, tied};
+ghost use Rattle.sx_deploy.specs.Ties.{byte, device_of, has_many_ends, is_mismatched, link_of};
+ghost use Rattle.sx_deploy.specs.Ties.{links_of, makes_many_packets, port_in, port_names, port_of};
+ghost use Rattle.sx_deploy.specs.Ties.{port_place, tied_link};
 
 use crate::checks::CheckedModule;
 use crate::owners::Owners;
@@ -44,12 +46,12 @@ pub fn device_of(start: Start) -> Option<u8>
 }
 
 #[derive(Drop)]
-struct Misties<'a> {
+struct Mismatches<'a> {
     devices: &'a [AppDevice],
 }
 
-impl Line<CheckedModule> for Misties<'_> {
-    ghost bad = { λ s earlier m. is_mistied s.devices.now (map checked_as earlier) (checked_as m) };
+impl Line<CheckedModule> for Mismatches<'_> {
+    ghost bad = { λ s earlier m. is_mismatched s.devices.now (map checked_as earlier) (checked_as m) };
 
     fn is_bad(&self, earlier: &[CheckedModule], row: &CheckedModule) -> bool {
         let kind = declared_kind(&row.code.module().decls);
@@ -57,10 +59,10 @@ impl Line<CheckedModule> for Misties<'_> {
     }
 }
 
-fn mistied(devices: &[AppDevice], modules: &[CheckedModule]) -> Option<DeployFault>
-    ensures { result ≡ entries 9 Module (is_mistied devices.now) (map checked_as modules.now) }
+fn mismatched(devices: &[AppDevice], modules: &[CheckedModule]) -> Option<DeployFault>
+    ensures { result ≡ entries 9 Module (is_mismatched devices.now) (map checked_as modules.now) }
 {
-    entries(9, Sort::Module, &Misties { devices }, modules)
+    entries(9, Sort::Module, &Mismatches { devices }, modules)
 }
 
 fn port_in(output: bool, d: &Decl) -> Option<&Name>
@@ -131,12 +133,12 @@ fn link_of(owners: &Owners, row: &LinkEntry) -> Option<Link>
 }
 
 #[derive(Drop)]
-struct Tier<'a> {
+struct LinkDerivation<'a> {
     owners: &'a Owners<'a>,
 }
 
-impl Derive<LinkEntry, Link> for Tier<'_> {
-    ghost derives = { λ s. tied (map checked_as s.owners.now) };
+impl Derive<LinkEntry, Link> for LinkDerivation<'_> {
+    ghost derives = { λ s. tied_link (map checked_as s.owners.now) };
 
     fn derive(&self, _alloc: Global, done: &[Link], row: &LinkEntry) -> Result<Link, DeployError> {
         in_entry(9, Sort::Connection, done.len(), link_of(self.owners, row))
@@ -196,7 +198,8 @@ impl Line<CheckedModule> for ManyPackets<'_> {
 }
 
 fn many_packets(links: &[Link], modules: &[CheckedModule]) -> Option<DeployFault>
-    ensures { result ≡ entries 9 Module (makes_many_packets links.now) (map checked_as modules.now) }
+    ensures { result ≡ entries 9 Module (makes_many_packets links.now)
+        (map checked_as modules.now) }
 {
     entries(9, Sort::Module, &ManyPackets { links }, modules)
 }
@@ -209,13 +212,14 @@ pub fn links_of(
     modules: &[CheckedModule],
     rows: &[LinkEntry],
 ) -> Result<Vec<Link>, DeployError>
-    ensures { Gives (λ v. v.items) result (links_of devices.now (map checked_as modules.now) rows.now) }
+    ensures { Gives (λ v. v.items) result (links_of devices.now (map checked_as modules.now)
+        rows.now) }
 {
-    passes(mistied(devices, modules))?;
+    passes(mismatched(devices, modules))?;
     let Ok(owners) = Owners::new(alloc, modules) else {
         return Err(DeployError::OutOfMemory);
     };
-    let links = derived(alloc, &Tier { owners: &owners }, rows)?;
+    let links = derived(alloc, &LinkDerivation { owners: &owners }, rows)?;
     passes(many_ends(&links, modules))?;
     passes(many_packets(&links, modules))?;
     Ok(links)

@@ -1,3 +1,3 @@
 pub mod Granted
 pub mod Raised
-pub mod Shared
+pub mod RenewsAsTheModel

@@ -1,5 +1,7 @@
 -- What a deployer keeps, when it accepts an answer, and what that changes.
-use Rattle.std.specs.Prelude.{◌≡◌, ℕ, ◌+◌, ◌==◌, ◌&&◌, nat_lt, nat_le, not, Bool, true, false, if◌then◌else◌, List, [], ◌∷◌, replicate, slice_set, slice_index, get_or, Option, Some, None, bytes_eq}
+use Rattle.std.specs.Prelude.{◌≡◌, ℕ, ◌+◌, ◌==◌, ◌&&◌, nat_lt, nat_le, not, Bool, true, false}
+use Rattle.std.specs.Prelude.{if◌then◌else◌, List, [], ◌∷◌, replicate, slice_set, slice_index}
+use Rattle.std.specs.Prelude.{get_or, Option, Some, None, bytes_eq}
 use Rattle.std.specs.List.{list_any}
 use Rattle.byteorder.specs.Endian.{little_bytes}
 use Rattle.sx_mean.specs.declared.events.End.{End}
@@ -20,7 +22,13 @@ pub record Known : Type 0 where
 
 -- what contracts see of a target
 abbrev pub known : Target → Known
-known t = record { node_key = t.node_key; provider = t.provider; identity = t.identity.items; ends = t.ends.items }
+known t = record {
+  node_key = t.node_key;
+  provider = t.provider;
+  identity = t.identity.items;
+  ends =
+      t.ends.items;
+}
 
 -- the secret and the modules; the number of asks; each module's open ask, and the boot at which it
 -- was last attested; and each connection's epoch
@@ -115,7 +123,8 @@ is_answer mac t boot answer (Some ask) = bytes_eq answer (expected mac t boot as
 -- the answer is accepted from the module at a boot
 abbrev pub accepts : Mac → Keeping → ℕ → ℕ → List ℕ → Bool
 accepts mac d m boot answer =
-    is_answer mac (target_at d m) boot answer (open_ask d m) && may_attest (target_at d m).ends d.epochs (attested_at d m) boot
+    is_answer mac (target_at d m) boot answer (open_ask d m)
+    && may_attest (target_at d m).ends d.epochs (attested_at d m) boot
 
 -- acceptance closes the ask, and renews the connections of a module that was attested before
 abbrev pub accepted : Keeping → ℕ → ℕ → Keeping

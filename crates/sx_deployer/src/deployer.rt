@@ -1,6 +1,7 @@
 //! The deployer: its open asks, what it accepted, and the epochs of the connections.
 
-ghost use Rattle.std.specs.Prelude.{◌≡◌, ℕ, ◌<◌, ◌≤◌, if◌then◌else◌, IfOk, IsSome, None, length, map, option_map, slice_get, slice_index};
+ghost use Rattle.std.specs.Prelude.{◌≡◌, ℕ, ◌<◌, ◌≤◌, if◌then◌else◌, IfOk, IsSome, None, length};
+ghost use Rattle.std.specs.Prelude.{map, option_map, slice_get, slice_index};
 ghost use Rattle.sx_deployer.specs.Keeping as spec;
 ghost use Rattle.sx_deployer.specs.Granting as grants;
 
@@ -38,7 +39,15 @@ impl Model for Deployer {
 
     ghost Value = { Keeping };
 
-    ghost view = { λ d. record { secret = d.secret; targets = map known d.targets.items; asks = d.asks; open_asks = d.open_asks; attested = d.attested; epochs = d.epochs } };
+    ghost view = { λ d. record {
+      secret = d.secret;
+      targets = map known d.targets.items;
+      asks =
+          d.asks;
+      open_asks = d.open_asks;
+      attested = d.attested;
+      epochs = d.epochs;
+    } };
 
     ghost invariant = { λ d. length d.targets.items ≤ 32 };
 }
@@ -147,7 +156,8 @@ impl Deployer {
         end: End,
         epoch: u8,
     ) -> Option<[u8; 38]>
-        ensures { result ≡ option_map (λ t. grants.set_key T.mac self.now.secret t boot «end» epoch) (slice_get self.now.targets holder) }
+        ensures { result ≡ option_map (λ t. grants.set_key T.mac self.now.secret t boot «end» epoch)
+            (slice_get self.now.targets holder) }
     {
         match self.targets.get(usize::from(holder)) {
             Some(target) => Some(grant(tag, &self.secret, target, boot, end, epoch)),

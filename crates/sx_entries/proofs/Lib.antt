@@ -3,4 +3,4 @@ pub mod Texts
 pub mod RowForms
 pub mod Listing
 pub mod Kept
-pub mod Made
+pub mod EntriesKeep

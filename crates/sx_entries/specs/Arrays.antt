@@ -1,5 +1,6 @@
 -- Rule 4: the arrays of a document, each entry in form.
-use Rattle.std.specs.Prelude.{ℕ, Bool, codes, if◌then◌else◌, List, [], ◌∷◌, ◌++◌, length, replicate, Option, Some, None, option_and_then, Result, Ok, Err, is_some}
+use Rattle.std.specs.Prelude.{ℕ, Bool, codes, if◌then◌else◌, List, [], ◌∷◌, ◌++◌, length, replicate}
+use Rattle.std.specs.Prelude.{Option, Some, None, option_and_then, Result, Ok, Err, is_some}
 use Rattle.toml.specs.Data.{Data, Items, no_items, item, Members, get_member, as_table, as_array}
 use Rattle.sx_entries.specs.Fields.{key_at, name_of, has_only}
 use Rattle.sx_entries.specs.Rows.{node_row, device_row, module_row, link_row}
@@ -29,9 +30,11 @@ o >>? f = option_and_then f o
 
 -- the rows of an array, after those that are done: the first entry that is no table in form is a
 -- fault
-abbrev pub made_in : {R : Type 0} → (Members → Option R) → Sort → List R → Items → Result (List R) DeployFault
+abbrev pub made_in : {R : Type 0} → (Members → Option R) → Sort → List R → Items
+    → Result (List R) DeployFault
 made_in row sort done no_items = Ok done
-made_in row sort done (item d ds) = in_entry 4 sort (length done) (option_and_then row (as_table d)) >>= (λ r. made_in row sort (done ++ r ∷ []) ds)
+made_in row sort done (item d ds) = in_entry 4 sort (length done) (option_and_then row (as_table d))
+    >>= (λ r. made_in row sort (done ++ r ∷ []) ds)
 
 -- the array at a key, none where the key is absent
 abbrev pub array_of : Option Data → Option Items
@@ -40,7 +43,8 @@ array_of (Some d) = as_array d
 
 -- the bytes of `secret`, zeros where it is absent
 abbrev pub secret_of : Members → Option (List ℕ)
-secret_of t = if is_some (get_member (codes "secret") t) then key_at (codes "secret") t else Some (replicate 16 0)
+secret_of t = if is_some (get_member (codes "secret") t) then key_at (codes "secret") t else
+    Some (replicate 16 0)
 
 -- the arrays of a document, before their entries are read
 pub record Arrays : Type 0 where
@@ -57,13 +61,21 @@ holds b = if b then Some tt else None
 -- `secret` and the four arrays, where the top is in form
 abbrev pub arrays_of : Members → Option Arrays
 arrays_of t =
-    holds (has_only (codes "secret" ∷ codes "node" ∷ codes "device" ∷ codes "module" ∷ codes "connection" ∷ []) t) >>? (λ known.
+    holds (has_only (codes "secret" ∷ codes "node" ∷ codes "device" ∷ codes "module"
+    ∷ codes "connection" ∷ []) t) >>? (λ known.
     secret_of t >>? (λ secret.
     array_of (get_member (codes "node") t) >>? (λ nodes.
     array_of (get_member (codes "device") t) >>? (λ devices.
     array_of (get_member (codes "module") t) >>? (λ modules.
     array_of (get_member (codes "connection") t) >>? (λ links.
-    Some (record { secret = secret; nodes = nodes; devices = devices; modules = modules; links = links })))))))
+    Some (record {
+      secret = secret;
+      nodes = nodes;
+      devices = devices;
+      modules = modules;
+      links =
+          links;
+    })))))))
 
 -- a value at the top of the document, or the fault of rule 4 there
 abbrev pub in_top : {A : Type 0} → Option A → Result A DeployFault
@@ -82,7 +94,13 @@ rows_in a = do
   devices ← made_in device_row Device [] a.devices
   modules ← made_in module_row Module [] a.modules
   links ← made_in link_row Connection [] a.links
-  Ok (record { secret = a.secret; nodes = listed nodes; devices = devices; modules = modules; links = links })
+  Ok (record {
+    secret = a.secret;
+    nodes = listed nodes;
+    devices = devices;
+    modules = modules;
+    links = links;
+  })
 
 -- rule 4: the top is in form, and each entry of each array
 abbrev pub rows_of : Members → Result RowLists DeployFault

@@ -1,5 +1,6 @@
 -- Rule 5: names are in form, new in their array, and name an entry where they should.
-use Rattle.std.specs.Prelude.{ℕ, Bool, if◌then◌else◌, List, [], length, position, Option, Some, None, option_map, Result, Ok}
+use Rattle.std.specs.Prelude.{ℕ, Bool, if◌then◌else◌, List, [], length, position, Option, Some}
+use Rattle.std.specs.Prelude.{None, option_map, Result, Ok}
 use Rattle.std.specs.List.{list_any}
 use Rattle.std.specs.Str.{bytes_eq}
 use Rattle.sx_entries.specs.Arrays.{RowLists, ◌>>?◌}
@@ -46,7 +47,8 @@ module _ {B : Type 0} (name_of : B → List ℕ) where
 
 -- a node under a new name
 abbrev pub node_named : List NodeEntry → NodeRow → Option NodeEntry
-node_named done row = fresh (λ e. e.name) done row.name >>? (λ name. Some (record { name = name; key = row.key }))
+node_named done row =
+    fresh (λ e. e.name) done row.name >>? (λ name. Some (record { name = name; key = row.key }))
 
 -- a device under a new name, at a node that is there
 abbrev pub device_named : List NodeEntry → List DeviceEntry → DeviceRow → Option DeviceEntry
@@ -58,36 +60,50 @@ device_named nodes done row =
 -- where a private section begins, with the device found by its name
 abbrev pub start_named : List DeviceEntry → StartRow → Option Start
 start_named devices (row_start.At at) = Some (start.At at)
-start_named devices (row_start.Device name) = option_map start.Device (place_among (λ e. e.name) devices name)
+start_named devices (row_start.Device name) =
+    option_map start.Device (place_among (λ e. e.name) devices name)
 
 -- no module is named `deployer`
 abbrev pub not_reserved : List ℕ → Option (List ℕ)
 not_reserved name = if bytes_eq name deployer then None else Some name
 
 -- a module under a new name, at a node that is there, with its device
-abbrev pub module_named : List NodeEntry → List DeviceEntry → List ModuleEntry → ModuleRow → Option ModuleEntry
+abbrev pub module_named : List NodeEntry → List DeviceEntry → List ModuleEntry → ModuleRow
+    → Option ModuleEntry
 module_named nodes devices done row =
     fresh (λ e. e.name) done row.name >>? (λ new.
     not_reserved new >>? (λ name.
     place_among (λ e. e.name) nodes row.node >>? (λ node.
     start_named devices row.start >>? (λ start.
-    Some (record { name = name; node = node; provider = row.provider; text = row.text; start = start; source = row.source })))))
+    Some (record {
+      name = name;
+      node = node;
+      provider = row.provider;
+      text = row.text;
+      start =
+          start;
+      source = row.source;
+    })))))
 
 -- a connection under a new name; where it goes is rule 9's
 abbrev pub link_named : List LinkEntry → LinkRow → Option LinkEntry
-link_named done row = fresh (λ e. e.name) done row.name >>? (λ name. Some (record { name = name; from = row.from; to = row.to }))
+link_named done row = fresh (λ e. e.name) done row.name >>?
+    (λ name. Some (record { name = name; from = row.from; to = row.to }))
 
 -- rule 5 on the next node
 abbrev pub node_made : List NodeEntry → NodeRow → Result NodeEntry DeployFault
 node_made done row = in_entry 5 Node (length done) (node_named done row)
 
 -- rule 5 on the next device
-abbrev pub device_made : List NodeEntry → List DeviceEntry → DeviceRow → Result DeviceEntry DeployFault
+abbrev pub device_made : List NodeEntry → List DeviceEntry → DeviceRow
+    → Result DeviceEntry DeployFault
 device_made nodes done row = in_entry 5 Device (length done) (device_named nodes done row)
 
 -- rule 5 on the next module
-abbrev pub module_made : List NodeEntry → List DeviceEntry → List ModuleEntry → ModuleRow → Result ModuleEntry DeployFault
-module_made nodes devices done row = in_entry 5 Module (length done) (module_named nodes devices done row)
+abbrev pub module_made : List NodeEntry → List DeviceEntry → List ModuleEntry → ModuleRow
+    → Result ModuleEntry DeployFault
+module_made nodes devices done row =
+    in_entry 5 Module (length done) (module_named nodes devices done row)
 
 -- rule 5 on the next connection
 abbrev pub link_made : List LinkEntry → LinkRow → Result LinkEntry DeployFault
@@ -100,4 +116,11 @@ entries_of d = do
   devices ← made_after (device_made nodes) [] d.devices
   modules ← made_after (module_made nodes devices) [] d.modules
   links ← made_after link_made [] d.links
-  Ok (record { secret = d.secret; nodes = nodes; devices = devices; modules = modules; links = links })
+  Ok (record {
+    secret = d.secret;
+    nodes = nodes;
+    devices = devices;
+    modules = modules;
+    links =
+        links;
+  })

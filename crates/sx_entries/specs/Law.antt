@@ -35,4 +35,5 @@ pub record AreEntries (e : EntryLists) : Type 0 where
 
 -- what is read keeps this
 abbrev pub EntriesKeep : Type 0
-EntriesKeep = (t : Members) (rows : RowLists) (e : EntryLists) → rows_of t ≡ Ok rows → entries_of rows ≡ Ok e → AreEntries e
+EntriesKeep = (t : Members) (rows : RowLists) (e : EntryLists) → rows_of t ≡ Ok rows
+    → entries_of rows ≡ Ok e → AreEntries e

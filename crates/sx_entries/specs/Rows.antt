@@ -1,5 +1,6 @@
 -- Rule 4 on one entry: its keys, and what they hold. None where it isn't in form.
-use Rattle.std.specs.Prelude.{ℕ, ◌+◌, Bool, ◌==◌, codes, if◌then◌else◌, List, [], ◌∷◌, Option, Some, None, option_and_then, position, take, drop, is_some}
+use Rattle.std.specs.Prelude.{ℕ, ◌+◌, Bool, ◌==◌, codes, if◌then◌else◌, List, [], ◌∷◌, Option, Some}
+use Rattle.std.specs.Prelude.{None, option_and_then, position, take, drop, is_some}
 use Rattle.std.specs.Str.{bytes_eq}
 use Rattle.toml.specs.Data.{Members, get_member}
 use Rattle.sx_entries.specs.Fields.{name_of, text_at, name_at, word_at, key_at, has_only}
@@ -55,21 +56,31 @@ device_row t = do
 abbrev pub start_row : Members → Option StartRow
 start_row t =
     if is_some (get_member (codes "data") t)
-    then word_at (codes "data") t >>= (λ data_at. if is_some (get_member (codes "device") t) then None else Some (At data_at))
+    then word_at (codes "data") t >>= (λ data_at. if is_some (get_member (codes "device") t) then
+    None else Some (At data_at))
     else name_at (codes "device") t >>= (λ device. Some (Device device))
 
 -- a table as a module: `name`, `node`, `provider`, `text`, `source`, and exactly one of `data` and
 -- `device`
 abbrev pub module_row : Members → Option ModuleRow
 module_row t = do
-  known ← holds (has_only (codes "name" ∷ codes "node" ∷ codes "provider" ∷ codes "text" ∷ codes "data" ∷ codes "device" ∷ codes "source" ∷ []) t)
+  known ← holds (has_only (codes "name" ∷ codes "node" ∷ codes "provider" ∷ codes "text"
+      ∷ codes "data" ∷ codes "device" ∷ codes "source" ∷ []) t)
   name ← name_at (codes "name") t
   node ← name_at (codes "node") t
   provider ← word_at (codes "provider") t
   text ← word_at (codes "text") t
   start ← start_row t
   source ← text_at (codes "source") t
-  Some (record { name = name; node = node; provider = provider; text = text; start = start; source = source })
+  Some (record {
+    name = name;
+    node = node;
+    provider = provider;
+    text = text;
+    start = start;
+    source =
+        source;
+  })
 
 -- the parts before and after the only dot
 abbrev pub end_of : List ℕ → Option EndRow

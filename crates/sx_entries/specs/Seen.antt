@@ -15,4 +15,11 @@ items_seen (Some a) = array_view a.now
 
 -- the code's arrays as plain data
 abbrev pub arrays_seen : Arrays → Parts
-arrays_seen a = record { secret = a.secret; nodes = items_seen a.nodes; devices = items_seen a.devices; modules = items_seen a.modules; links = items_seen a.links }
+arrays_seen a = record {
+  secret = a.secret;
+  nodes = items_seen a.nodes;
+  devices =
+      items_seen a.devices;
+  modules = items_seen a.modules;
+  links = items_seen a.links;
+}

@@ -5,7 +5,8 @@ ghost use Rattle.toml.specs.View.{table_view, array_view, view};
 ghost use Rattle.sx_entries.specs.Fields.{key_at};
 ghost use Rattle.sx_entries.specs.Rows.{node_row, device_row, module_row, link_row};
 ghost use Rattle.sx_stage.specs.Fault.{Gives};
-ghost use Rattle.sx_entries.specs.Arrays.{array_of, arrays_of, listed, made_in, rows_in, rows_of, secret_of};
+ghost use Rattle.sx_entries.specs.Arrays.{array_of, arrays_of, listed, made_in, rows_in, rows_of};
+ghost use Rattle.sx_entries.specs.Arrays.{secret_of};
 ghost use Rattle.sx_entries.specs.Seen.{items_seen, arrays_seen};
 
 use crate::fields::{has_key, has_only, key_at, name_of, value_at};

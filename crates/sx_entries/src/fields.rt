@@ -3,7 +3,8 @@ ghost use Rattle.std.specs.Prelude.{◌≡◌, map, is_some, option_map};
 ghost use Rattle.std.specs.Option.{option_copied};
 ghost use Rattle.toml.specs.Data.{get_member};
 ghost use Rattle.toml.specs.View.{view, table_view};
-ghost use Rattle.sx_entries.specs.Fields.{has_only, key_at, knows, name_at, name_of, text_at, word_at};
+ghost use Rattle.sx_entries.specs.Fields.{has_only, key_at, knows, name_at, name_of, text_at};
+ghost use Rattle.sx_entries.specs.Fields.{word_at};
 
 use hex::FromHex;
 use std::marker::Model;

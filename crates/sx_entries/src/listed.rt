@@ -30,13 +30,13 @@ pub struct Listed<T: HasName> {
 
 impl<T: HasName> Model for Listed<T> {
     ghost use Rattle.std.specs.Prelude.{List, map};
-    ghost use Rattle.sx_trace.specs.Index.{IsIndex};
+    ghost use Rattle.sx_trace.specs.Index.{IsNameIndex};
 
     ghost Value = { List T };
 
     ghost view = { λ l. l.entries.items };
 
-    ghost invariant = { λ l. IsIndex l.names (map T.name_of l.entries.items) };
+    ghost invariant = { λ l. IsNameIndex l.names (map T.name_of l.entries.items) };
 }
 
 impl<T: HasName> Listed<T> {

@@ -22,7 +22,7 @@ use Rattle.sx_machine.specs.Plan.{Plan}
 use Rattle.sx_machine.specs.Ranges.{meets_device}
 use Rattle.sx_machine.specs.Run.{Moment, untouched, Outcome, may_range, may_each, load, store}
 use Rattle.sx_machine.specs.Run.{after_read, after_write, exec}
-use Rattle.sx_machine.specs.Answers.{Ends, followed}
+use Rattle.sx_machine.specs.Answers.{EndsPlain, followed}
 
 -- registers, memory, devices and sections, the module whose code runs (else 0), and the touches
 -- so far
@@ -71,29 +71,30 @@ abbrev pub reaches_each : Machine → Access → ℕ → List ℕ → Bool
 reaches_each m access at bytes = may_each m.sections.live m.own access at bytes
 
 -- the machine with these bytes from an address on
-abbrev pub written : Machine → ℕ → List ℕ → Machine
-written m at bytes = record m { mem = put_bytes m.mem at bytes }
+abbrev pub with_bytes : Machine → ℕ → List ℕ → Machine
+with_bytes m at bytes = record m { mem = put_bytes m.mem at bytes }
 
 -- no device meets n bytes from an address on
 abbrev pub IsClear : List Window → ℕ → ℕ → Type 0
 IsClear devices at n = meets_device (places_of devices) at n ≡ false
 
 -- the same code runs beside the same sections, and the devices are the same but for fresh marks
-pub record Keeps (m n : Machine) : Type 0 where
+pub record KeepsSections (m n : Machine) : Type 0 where
   pub own : n.own ≡ m.own
   pub sections : n.sections ≡ m.sections
   pub devices : all_stale n.devices ≡ all_stale m.devices
 
 -- A machine `m` that ran a plan answered so and is `n`. After a violation nothing is said of
 -- registers and memory.
-abbrev pub Runs : Plan → Machine → Result (Unit {0}) Violation → Machine → Type 0
-Runs plan m answer n = Ends (ran plan m) answer n.regs (moment_of n) × Keeps m n
+abbrev pub RunsPlan : Plan → Machine → Result (Unit {0}) Violation → Machine → Type 0
+RunsPlan plan m answer n = EndsPlain (ran plan m) answer n.regs (moment_of n) × KeepsSections m n
 
 -- A part of a plan gives a value and the registers to whatever follows it, or ends in a violation.
-abbrev pub Gives : ((ℕ → List ℕ → Plan) → Plan) → Machine → Result ℕ Violation → Machine → Type 0
-Gives part m answer n =
+abbrev pub GivesValue : ((ℕ → List ℕ → Plan) → Plan) → Machine → Result ℕ Violation → Machine
+    → Type 0
+GivesValue part m answer n =
     ((rest : ℕ → List ℕ → Plan) → ran (part rest) m ≡ followed answer (λ v. ran (rest v n.regs) n))
-    × Keeps m n
+    × KeepsSections m n
 
 -- one read of a machine, and what follows it
 abbrev pub loaded : Bool → ℕ → Machine → (ℕ → Moment → Outcome) → Outcome
@@ -104,7 +105,7 @@ abbrev pub Loads : Bool → ℕ → Machine → Result ℕ Violation → Machine
 Loads wide at m answer n =
     ((rest : ℕ → Moment → Outcome)
     → loaded wide at m rest ≡ followed answer (λ v. rest v (moment_of n)))
-    × (n.regs ≡ m.regs) × Keeps m n
+    × (n.regs ≡ m.regs) × KeepsSections m n
 
 -- one write to a machine, and what follows it
 abbrev pub stored : Bool → ℕ → ℕ → Machine → (Moment → Outcome) → Outcome
@@ -115,4 +116,4 @@ abbrev pub Stores : Bool → ℕ → ℕ → Machine → Result (Unit {0}) Viola
 Stores wide at v m answer n =
     ((rest : Moment → Outcome)
     → stored wide at v m rest ≡ followed answer (λ done. rest (moment_of n)))
-    × (n.regs ≡ m.regs) × Keeps m n
+    × (n.regs ≡ m.regs) × KeepsSections m n

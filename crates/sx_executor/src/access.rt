@@ -4,8 +4,8 @@ ghost use Rattle.std.specs.Prelude.{◌≡◌, ◌<◌, true, None, length, IsTr
 ghost use Rattle.sx_alu.specs.Table.{limit};
 ghost use Rattle.sx_rules.specs.declared.access.Access.TheVariants.{Read, Write};
 ghost use Rattle.sx_machine.specs.Memory.{read_at, write_at};
-ghost use Rattle.sx_machine.specs.Run.{may_at, noted, device_of, fetch, sampled};
-ghost use Rattle.sx_executor.specs.Machine.{moment_of, extends_word, Keeps, Loads, Stores};
+ghost use Rattle.sx_machine.specs.Run.{may_at, with_touch, device_of, fetch, sampled};
+ghost use Rattle.sx_executor.specs.Machine.{moment_of, extends_word, KeepsSections, Loads, Stores};
 
 use crate::executor::Executor;
 use sx_bus::{Bus, Kind, Window};
@@ -14,7 +14,7 @@ use sx_rules::{Access, Violation};
 
 /// Puts a touch into the first place that is quiet.
 fn note(touches: &mut [Touch; 2], touch: Touch)
-    ensures { touches.new ≡ noted touches.old touch }
+    ensures { touches.new ≡ with_touch touches.old touch }
 {
     match *touches {
         [Touch::Quiet, _] => touches[0] = touch,
@@ -84,7 +84,7 @@ impl<B: Bus> Executor<B> {
 
     /// Keeps a touch.
     fn touch(&mut self, touch: Touch)
-        ensures { self.new ≡ record self.old { touches = noted self.old.touches touch } }
+        ensures { self.new ≡ record self.old { touches = with_touch self.old.touches touch } }
     {
         note(&mut self.touches, touch);
     }
@@ -97,7 +97,7 @@ impl<B: Bus> Executor<B> {
         ensures run { (result, moment_of self.new)
             ≡ sampled device window.now (moment_of self.old) }
         ensures regs { self.new.regs ≡ self.old.regs }
-        ensures kept { Keeps self.old self.new }
+        ensures kept { KeepsSections self.old self.new }
     {
         if !window.fresh {
             return 0;

@@ -6,7 +6,7 @@ ghost use Rattle.std.specs.Prelude.{slice_index};
 ghost use Rattle.sx_rules.specs.declared.access.Access.TheVariants.{Read, Write};
 ghost use Rattle.sx_rules.specs.declared.access.Violation.TheVariants as bad;
 ghost use Rattle.sx_machine.specs.Memory.{bytes_from};
-ghost use Rattle.sx_executor.specs.Machine.{reaches, written, IsClear};
+ghost use Rattle.sx_executor.specs.Machine.{reaches, with_bytes, IsClear};
 
 use crate::buffer::Buffer;
 use crate::executor::Executor;
@@ -70,7 +70,7 @@ impl<B: Bus> Executor<B> {
         requires within { at + length bytes.now ≤ 65536 }
         requires right { reaches self.old Write at (length bytes.now) ≡ true }
         requires memory { IsClear self.old.devices at (length bytes.now) }
-        ensures { self.new ≡ written self.old at bytes.now }
+        ensures { self.new ≡ with_bytes self.old at bytes.now }
     {
         for (i, byte) in bytes.iter().enumerate() {
             self.write(false, (at as usize + i) as u16, u16::from(*byte));

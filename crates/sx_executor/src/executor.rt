@@ -2,7 +2,7 @@
 
 ghost use Rattle.std.specs.Prelude.{◌≡◌, ◌<◌, length, IfSome, slice_get, slice_index};
 ghost use Rattle.sx_bus.specs.declared.devices.Kind.TheVariants.{Sensor};
-ghost use Rattle.sx_bus.specs.Devices.{sensed};
+ghost use Rattle.sx_bus.specs.Devices.{with_sample};
 ghost use Rattle.sx_rules.specs.Access.{holder, section_of};
 ghost use Rattle.sx_machine.specs.Run.{untouched};
 ghost use Rattle.sx_executor.specs.Machine.{switched_on, cleared_by_reset};
@@ -142,7 +142,10 @@ impl<B: Bus> Executor<B> {
         requires sensor { IfSome (slice_get self.old.devices device)
             (λ window. window.kind ≡ Sensor) }
         requires value { value < 32768 }
-        ensures { self.new ≡ record self.old { devices = sensed self.old.devices device value } }
+        ensures { self.new ≡ record self.old {
+          devices =
+              with_sample self.old.devices device value;
+        } }
     {
         self.windows.sense(device, value);
     }

@@ -3,7 +3,7 @@
 ghost use Rattle.std.specs.Prelude.{◌≡◌, ◌<◌, slice_set};
 ghost use Rattle.sx_alu.specs.Table.{limit};
 ghost use Rattle.sx_machine.specs.Given.{concluded};
-ghost use Rattle.sx_machine.specs.Registers.{at_pc, cut, reg, kept_in, set_reg, incremented};
+ghost use Rattle.sx_machine.specs.Registers.{at_pc, cut_value, reg, kept_in, set_reg, incremented};
 ghost use Rattle.sx_machine.specs.Registers.{flags, set_flags};
 
 use crate::executor::Executor;
@@ -24,7 +24,7 @@ const ANSWER: u8 = 15;
 
 /// A value cut to a word, or in byte form to a byte.
 pub fn cut(wide: bool, value: u16) -> u16
-    ensures value { result ≡ cut wide value }
+    ensures value { result ≡ cut_value wide value }
     ensures below { result < limit wide }
 {
     if wide { value } else { value & 0xff }
@@ -93,7 +93,7 @@ impl<B: Bus> Executor<B> {
 
     /// A register as an operand of a word or byte instruction.
     pub fn operand(&self, wide: bool, r: u8) -> u16
-        ensures value { result ≡ cut wide (reg self.now.regs r) }
+        ensures value { result ≡ cut_value wide (reg self.now.regs r) }
         ensures below { result < limit wide }
     {
         cut(wide, self.register(r))

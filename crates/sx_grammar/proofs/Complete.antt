@@ -6,9 +6,9 @@ use Rattle.sx_lang.specs.declared.tree.BinOp.{BinOp}
 use Rattle.sx_lex.specs.declared.tokens.Kind.{Kind}
 use Rattle.sx_lex.specs.declared.tokens.Kind.TheVariants.{OpenSquare, Star, Ampersand, Plus, Minus, Bar, Caret, Tilde, Bang}
 use Rattle.sx_grammar.specs.Tokens.{Token, token, fits, unary_operator, factor_operator, addend_operator, comparison_operator}
-use Rattle.sx_grammar.specs.Grammar.{Form, Primary, Unary, Term, Factors, Sum, Addends, Whole, Stands, number, name, element, brackets, plain, unary, term, no_factor, factor, sum, no_addend, addend, whole, comparison}
+use Rattle.sx_grammar.specs.Grammar.{Form, Primary, Unary, Term, Factors, Sum, Addends, Whole, IsExpression, number, name, element, brackets, plain, unary, term, no_factor, factor, sum, no_addend, addend, whole, comparison}
 use Rattle.sx_grammar.specs.Machine as machine
-use Rattle.sx_grammar.specs.Machine.{Symbol, Value, Of_expression, Want, Say, Act, Do_index, Do_combine, Operand, Comparison, Index_of, An_expression, Unary_of, A_close, A_close_square, opens, reads, is_square, apply, act}
+use Rattle.sx_grammar.specs.Machine.{Symbol, Value, Of_expression, Want, Say, Reduction, Do_index, Do_combine, Operand, Comparison, Index_of, An_expression, Unary_of, A_close, A_close_square, opens, reads, is_square, apply, reduce}
 
 -- what is required where a form begins
 abbrev pub wanted : Form → List Symbol → List Symbol
@@ -71,11 +71,11 @@ comparison_quiet Plus op e = absurd (cc)
 comparison_quiet Minus op e = absurd (cc)
 comparison_quiet _ op e = (refl, refl, refl)
 
-after_factors : {n d : ℕ} {l e : Expression} {us r : List Token} → Stands (Factors n l) d us e r → NoSquare r → NoSquare us
+after_factors : {n d : ℕ} {l e : Expression} {us r : List Token} → IsExpression (Factors n l) d us e r → NoSquare r → NoSquare us
 after_factors no_factor q = q
 after_factors (factor {k = k} {op = op} o h a f) q = factor_no_square k op o
 
-after_addends : {n d : ℕ} {l e : Expression} {us r : List Token} → Stands (Addends n l) d us e r → NoSquare r × NoFactor r → NoSquare us × NoFactor us
+after_addends : {n d : ℕ} {l e : Expression} {us r : List Token} → IsExpression (Addends n l) d us e r → NoSquare r × NoFactor r → NoSquare us × NoFactor us
 after_addends no_addend q = q
 after_addends (addend {k = k} {op = op} o h a f) q = addend_quiet k op o
 
@@ -96,7 +96,7 @@ skip_comparison : (st : List Symbol) (vs : List Value) (r : List Token) → NoCo
 skip_comparison st vs [] q = refl
 skip_comparison st vs (token k c ∷ r) q = rw q refl
 
-pub said : (a : Act) (st : List Symbol) (vs : List Value) (r : List Token) → reads (Say a ∷ st) vs r ≡ reads st (act a vs) r
+pub said : (a : Reduction) (st : List Symbol) (vs : List Value) (r : List Token) → reads (Say a ∷ st) vs r ≡ reads st (reduce a vs) r
 said a st vs [] = refl
 said a st vs (token k c ∷ r) = refl
 
@@ -115,7 +115,7 @@ unary_read Tilde b op st vs ts e h = let f : op ≡ UnOp.Inv = cc in rw (h, f) r
 unary_read Bang b op st vs ts e h = let f : op ≡ UnOp.Not = cc in rw (h, f) refl
 unary_read _ b op st vs ts e h = absurd (cc)
 
-pub complete : {f : Form} {d : ℕ} {ts r : List Token} {e : Expression} → Stands f d ts e r → Ends f r → (st : List Symbol) (vs : List Value) → opens st ≡ d → reads (wanted f st) (held f vs) ts ≡ reads st (Of_expression e ∷ vs) r
+pub complete : {f : Form} {d : ℕ} {ts r : List Token} {e : Expression} → IsExpression f d ts e r → Ends f r → (st : List Symbol) (vs : List Value) → opens st ≡ d → reads (wanted f st) (held f vs) ts ≡ reads st (Of_expression e ∷ vs) r
 complete number q st vs o = refl
 complete (name {x = x} {rest = r}) q st vs o = skip_index x st vs r q
 complete (element {x = x} {b = b} {rest = r} {e = e} h s) q st vs o =

@@ -4,14 +4,14 @@ use Rattle.sx_lang.specs.Tree.{Constant, Variable, Chooses, Done, ModuleTree}
 use Rattle.sx_lex.specs.declared.tokens.Kind.{Kind}
 use Rattle.sx_lex.specs.declared.tokens.Kind.TheVariants.{Number, Name, Semicolon, Equals, Open, Close, OpenSquare, CloseSquare, OpenBrace, CloseBrace}
 use Rattle.sx_lex.specs.declared.tokens.Placed.{Placed}
-use Rattle.sx_grammar.specs.Tokens.{Token, token, fits, given, added}
+use Rattle.sx_grammar.specs.Tokens.{Token, token, fits, given_tokens, added}
 use Rattle.sx_grammar.specs.Grammar as g
-use Rattle.sx_grammar.specs.Grammar.{Stands, AreHandlers, IsModule, CanGoOn, IsFaultAt, Decided}
-use Rattle.sx_grammar.specs.Machine.{After_let, After_send, After_input, After_output, After_var, After_array, After_on, After_open, For_repeat, For_initial, For_length, Symbol, Want, Say, Unary_of, Operand, Factors, Addends, Comparison, Index_of, An_expression, A_block, Statements, Otherwise, A_name, A_number, Target_of, Argument_of, Initial_of, Declarations, Handlers, Value, Of_module, State, choose, step, finish, reads, read, ended, Outcome, Read, Refused, begun, nothing}
+use Rattle.sx_grammar.specs.Grammar.{IsExpression, AreHandlers, IsModule, CanGoOn, IsFaultAt, Decided}
+use Rattle.sx_grammar.specs.Machine.{After_let, After_send, After_input, After_output, After_var, After_array, After_on, After_open, For_repeat, For_initial, For_length, Symbol, Want, Say, Unary_of, Operand, Factors, Addends, Comparison, Index_of, An_expression, A_block, Statements, Otherwise, A_name, A_number, Target_of, Argument_of, Initial_of, Declarations, Handlers, Value, Of_module, MachineState, choose, step, finish, reads, read, ended, ReadOutcome, Read, Refused, begun, nothing}
 use Rattle.sx_grammar.proofs.Sound.{Fits, sign, step_back, finish_back}
-use Rattle.sx_grammar.proofs.CompleteModules.{complete_module}
+use Rattle.sx_grammar.proofs.OneModule.{complete_module}
 
-zero_stands : {d : ℕ} {a : Bool} {r : List Token} → Stands g.Whole d (token (Number 0) a ∷ r) (Constant 0) r
+zero_stands : {d : ℕ} {a : Bool} {r : List Token} → IsExpression g.Whole d (token (Number 0) a ∷ r) (Constant 0) r
 zero_stands = g.whole (g.sum (g.term (g.plain g.number) g.no_factor) g.no_addend)
 
 -- whatever is required, some tokens give it
@@ -48,7 +48,7 @@ some_fits (Declarations ∷ st) = let w = some_fits st in (w.0, ([], added w.0, 
 some_fits (Handlers ∷ st) = let w = some_fits st in (w.0, ([], added w.0, g.no_handler, w.1))
 
 -- what is read whole is what the stack requires, and is read whole as tokens
-whole_back : (ts : List Placed) (st : List Symbol) (vs w : List Value) → read st vs ts ≡ Read w → Fits st (given ts) × (reads st vs (given ts) ≡ Some w)
+whole_back : (ts : List Placed) (st : List Symbol) (vs w : List Value) → read st vs ts ≡ Read w → Fits st (given_tokens ts) × (reads st vs (given_tokens ts) ≡ Some w)
 whole_back [] st vs w e = go (finish st vs) refl e
   where
     go : (o : Option (List Value)) → finish st vs ≡ o → ended o ≡ Read w → Fits st [] × (finish st vs ≡ Some w)
@@ -56,9 +56,9 @@ whole_back [] st vs w e = go (finish st vs) refl e
     go (Some v) h e = let f : finish st vs ≡ Some w = cc in (finish_back st vs w f, f)
 whole_back (t ∷ ts) st vs w e = go (step (fits true) st vs t.kind) refl e (λ s e. whole_back ts s.0 s.1 w e)
   where
-    go : (o : Option State) → step (fits true) st vs t.kind ≡ o → choose o (Refused (Some t)) (λ s. read s.0 s.1 ts) ≡ Read w → ((s : State) → read s.0 s.1 ts ≡ Read w → Fits s.0 (given ts) × (reads s.0 s.1 (given ts) ≡ Some w)) → Fits st (token t.kind true ∷ given ts) × (choose (step (fits true) st vs t.kind) None (λ s. reads s.0 s.1 (given ts)) ≡ Some w)
+    go : (o : Option MachineState) → step (fits true) st vs t.kind ≡ o → choose o (Refused (Some t)) (λ s. read s.0 s.1 ts) ≡ Read w → ((s : MachineState) → read s.0 s.1 ts ≡ Read w → Fits s.0 (given_tokens ts) × (reads s.0 s.1 (given_tokens ts) ≡ Some w)) → Fits st (token t.kind true ∷ given_tokens ts) × (choose (step (fits true) st vs t.kind) None (λ s. reads s.0 s.1 (given_tokens ts)) ≡ Some w)
     go None h e again = absurd (cc)
-    go (Some s) h e again = let u = again s e in (step_back true st vs t.kind s (given ts) h u.0, rw h u.1)
+    go (Some s) h e again = let u = again s e in (step_back true st vs t.kind s (given_tokens ts) h u.0, rw h u.1)
 
 -- a token is refused after a prefix that can be continued, and whatever follows it
 record Stuck (st : List Symbol) (vs : List Value) (ts : List Placed) (t : Placed) : Type 0 where
@@ -66,8 +66,8 @@ record Stuck (st : List Symbol) (vs : List Value) (ts : List Placed) (t : Placed
   behind : List Placed
   split : ts ≡ front ++ t ∷ behind
   more : List Kind
-  goes_on : Fits st (given front ++ added more)
-  never : (q : List Token) → reads st vs (given front ++ token t.kind true ∷ q) ≡ None
+  goes_on : Fits st (given_tokens front ++ added more)
+  never : (q : List Token) → reads st vs (given_tokens front ++ token t.kind true ∷ q) ≡ None
 
 refused_back : (ts : List Placed) (st : List Symbol) (vs : List Value) (t : Placed) → read st vs ts ≡ Refused (Some t) → Stuck st vs ts t
 refused_back [] st vs t e = go (finish st vs) e
@@ -77,20 +77,20 @@ refused_back [] st vs t e = go (finish st vs) e
     go (Some v) e = absurd (cc)
 refused_back (u ∷ ts) st vs t e = go (step (fits true) st vs u.kind) refl e (λ s e. refused_back ts s.0 s.1 t e)
   where
-    go : (o : Option State) → step (fits true) st vs u.kind ≡ o → choose o (Refused (Some u)) (λ s. read s.0 s.1 ts) ≡ Refused (Some t) → ((s : State) → read s.0 s.1 ts ≡ Refused (Some t) → Stuck s.0 s.1 ts t) → Stuck st vs (u ∷ ts) t
+    go : (o : Option MachineState) → step (fits true) st vs u.kind ≡ o → choose o (Refused (Some u)) (λ s. read s.0 s.1 ts) ≡ Refused (Some t) → ((s : MachineState) → read s.0 s.1 ts ≡ Refused (Some t) → Stuck s.0 s.1 ts t) → Stuck st vs (u ∷ ts) t
     go None h e again =
         let same : u ≡ t = cc in
         let w = some_fits st in
         record { front = []; behind = ts; split = ap (λ u. u ∷ ts) same; more = w.0; goes_on = w.1; never = λ q. (let h' : step (fits true) st vs t.kind ≡ None = subst (λ (u : Placed). step (fits true) st vs u.kind ≡ None) same h in rw h' refl) }
     go (Some s) h e again =
         let w = again s e in
-        record { front = u ∷ w.front; behind = w.behind; split = ap (λ l. u ∷ l) w.split; more = w.more; goes_on = step_back true st vs u.kind s (given w.front ++ added w.more) h w.goes_on; never = λ q. rw h (w.never q) }
+        record { front = u ∷ w.front; behind = w.behind; split = ap (λ l. u ∷ l) w.split; more = w.more; goes_on = step_back true st vs u.kind s (given_tokens w.front ++ added w.more) h w.goes_on; never = λ q. rw h (w.never q) }
 
 -- the whole text can go on and may not end
 record Unended (st : List Symbol) (vs : List Value) (ts : List Placed) : Type 0 where
   more : List Kind
-  goes_on : Fits st (given ts ++ added more)
-  never : reads st vs (given ts) ≡ None
+  goes_on : Fits st (given_tokens ts ++ added more)
+  never : reads st vs (given_tokens ts) ≡ None
 
 end_back : (ts : List Placed) (st : List Symbol) (vs : List Value) → read st vs ts ≡ Refused None → Unended st vs ts
 end_back [] st vs e = go (finish st vs) refl e
@@ -100,11 +100,11 @@ end_back [] st vs e = go (finish st vs) refl e
     go (Some v) h e = absurd (cc)
 end_back (u ∷ ts) st vs e = go (step (fits true) st vs u.kind) refl e (λ s e. end_back ts s.0 s.1 e)
   where
-    go : (o : Option State) → step (fits true) st vs u.kind ≡ o → choose o (Refused (Some u)) (λ s. read s.0 s.1 ts) ≡ Refused None → ((s : State) → read s.0 s.1 ts ≡ Refused None → Unended s.0 s.1 ts) → Unended st vs (u ∷ ts)
+    go : (o : Option MachineState) → step (fits true) st vs u.kind ≡ o → choose o (Refused (Some u)) (λ s. read s.0 s.1 ts) ≡ Refused None → ((s : MachineState) → read s.0 s.1 ts ≡ Refused None → Unended s.0 s.1 ts) → Unended st vs (u ∷ ts)
     go None h e again = absurd (cc)
     go (Some s) h e again =
         let w = again s e in
-        record { more = w.more; goes_on = step_back true st vs u.kind s (given ts ++ added w.more) h w.goes_on; never = rw h w.never }
+        record { more = w.more; goes_on = step_back true st vs u.kind s (given_tokens ts ++ added w.more) h w.goes_on; never = rw h w.never }
 
 pub module_of_fits : (ts : List Token) → Fits begun ts → (m : ModuleTree) × IsModule ts m
 module_of_fits ts f =
@@ -112,47 +112,47 @@ module_of_fits ts f =
     let h : AreHandlers 0 f.1 f.2 [] = subst (λ r. AreHandlers 0 f.1 f.2 r) f.6 f.5 in
     (m, record { middle = f.1; declarations = f.4; handlers = h })
 
-pub given-append : (a b : List Placed) → given (a ++ b) ≡ given a ++ given b
-given-append [] b = refl
-given-append (t ∷ a) b = ap (λ l. token t.kind true ∷ l) (given-append a b)
+pub given_tokens-append : (a b : List Placed) → given_tokens (a ++ b) ≡ given_tokens a ++ given_tokens b
+given_tokens-append [] b = refl
+given_tokens-append (t ∷ a) b = ap (λ l. token t.kind true ∷ l) (given_tokens-append a b)
 
-pub read_is_module : (ts : List Placed) (m : ModuleTree) → read begun nothing ts ≡ Read (Of_module m ∷ []) → IsModule (given ts) m
+pub read_is_module : (ts : List Placed) (m : ModuleTree) → read begun nothing ts ≡ Read (Of_module m ∷ []) → IsModule (given_tokens ts) m
 read_is_module ts m e =
     let w = whole_back ts begun nothing (Of_module m ∷ []) e in
-    let n = module_of_fits (given ts) w.0 in
-    let same : Some (Of_module n.0 ∷ []) ≡ Some (Of_module m ∷ []) = sym (complete_module (given ts) n.0 n.1) ∙ w.1 in
+    let n = module_of_fits (given_tokens ts) w.0 in
+    let same : Some (Of_module n.0 ∷ []) ≡ Some (Of_module m ∷ []) = sym (complete_module (given_tokens ts) n.0 n.1) ∙ w.1 in
     let eq : n.0 ≡ m = cc in
-    subst (λ m. IsModule (given ts) m) eq n.1
+    subst (λ m. IsModule (given_tokens ts) m) eq n.1
 
 pub refused_is_fault : (ts : List Placed) (t : Option Placed) → read begun nothing ts ≡ Refused t → IsFaultAt ts t
 refused_is_fault ts (Some t) e =
     let w = refused_back ts begun nothing t e in
-    let n = module_of_fits (given w.front ++ added w.more) w.goes_on in (
+    let n = module_of_fits (given_tokens w.front ++ added w.more) w.goes_on in (
       w.front,
       w.behind,
       w.split,
       (w.more, n.0, n.1),
-      λ c. (let e1 : given (w.front ++ t ∷ []) ++ added c.0 ≡ given w.front ++ token t.kind true ∷ added c.0 = ap (λ l. l ++ added c.0) (given-append w.front (t ∷ [])) ∙ append_assoc (given w.front) (token t.kind true ∷ []) (added c.0) in
-          let e2 : reads begun nothing (given w.front ++ token t.kind true ∷ added c.0) ≡ Some (Of_module c.1 ∷ []) = ap (λ l. reads begun nothing l) (sym e1) ∙ complete_module _ c.1 c.2 in
+      λ c. (let e1 : given_tokens (w.front ++ t ∷ []) ++ added c.0 ≡ given_tokens w.front ++ token t.kind true ∷ added c.0 = ap (λ l. l ++ added c.0) (given_tokens-append w.front (t ∷ [])) ∙ append_assoc (given_tokens w.front) (token t.kind true ∷ []) (added c.0) in
+          let e2 : reads begun nothing (given_tokens w.front ++ token t.kind true ∷ added c.0) ≡ Some (Of_module c.1 ∷ []) = ap (λ l. reads begun nothing l) (sym e1) ∙ complete_module _ c.1 c.2 in
           let e3 : None ≡ Some (Of_module c.1 ∷ []) = sym (w.never (added c.0)) ∙ e2 in cc),
     )
 refused_is_fault ts None e =
     let w = end_back ts begun nothing e in
-    let n = module_of_fits (given ts ++ added w.more) w.goes_on in
-    ((w.more, n.0, n.1), λ m h. (let e3 : None ≡ Some (Of_module m ∷ []) = sym w.never ∙ complete_module (given ts) m h in cc))
+    let n = module_of_fits (given_tokens ts ++ added w.more) w.goes_on in
+    ((w.more, n.0, n.1), λ m h. (let e3 : None ≡ Some (Of_module m ∷ []) = sym w.never ∙ complete_module (given_tokens ts) m h in cc))
 
 -- a module's tokens aren't refused
-pub refused_no_module : (ts : List Placed) (t : Option Placed) → read begun nothing ts ≡ Refused t → (m : ModuleTree) → IsModule (given ts) m → ⊥
+pub refused_no_module : (ts : List Placed) (t : Option Placed) → read begun nothing ts ≡ Refused t → (m : ModuleTree) → IsModule (given_tokens ts) m → ⊥
 refused_no_module ts None e m h =
-    let n : None ≡ Some (Of_module m ∷ []) = sym (end_back ts begun nothing e).never ∙ complete_module (given ts) m h in cc
+    let n : None ≡ Some (Of_module m ∷ []) = sym (end_back ts begun nothing e).never ∙ complete_module (given_tokens ts) m h in cc
 refused_no_module ts (Some t) e m h =
     let s = refused_back ts begun nothing t e in
-    let same : given ts ≡ given s.front ++ token t.kind true ∷ given s.behind = ap given s.split ∙ given-append s.front (t ∷ s.behind) in
-    let n : None ≡ Some (Of_module m ∷ []) = sym (s.never (given s.behind)) ∙ ap (λ l. reads begun nothing l) (sym same) ∙ complete_module (given ts) m h in cc
+    let same : given_tokens ts ≡ given_tokens s.front ++ token t.kind true ∷ given_tokens s.behind = ap given_tokens s.split ∙ given_tokens-append s.front (t ∷ s.behind) in
+    let n : None ≡ Some (Of_module m ∷ []) = sym (s.never (given_tokens s.behind)) ∙ ap (λ l. reads begun nothing l) (sym same) ∙ complete_module (given_tokens ts) m h in cc
 
 pub decided : Decided
 decided ts = go (read begun nothing ts) refl
   where
-    go : (o : Outcome) → read begun nothing ts ≡ o → ((m : ModuleTree) × IsModule (given ts) m) ⊎ ((p : Option Placed) × IsFaultAt ts p)
-    go (Read w) e = inl (module_of_fits (given ts) (whole_back ts begun nothing w e).0)
+    go : (o : ReadOutcome) → read begun nothing ts ≡ o → ((m : ModuleTree) × IsModule (given_tokens ts) m) ⊎ ((p : Option Placed) × IsFaultAt ts p)
+    go (Read w) e = inl (module_of_fits (given_tokens ts) (whole_back ts begun nothing w e).0)
     go (Refused p) e = inr (p, refused_is_fault ts p e)

@@ -1,8 +1,8 @@
 pub mod Complete
 pub mod CompleteStatements
-pub mod CompleteModules
+pub mod OneModule
 pub mod Sound
 pub mod Faults
 pub mod Texts
 pub mod OneFault
-pub mod Words
+pub mod SpelledWords

@@ -9,8 +9,8 @@ use Rattle.sx_lex.specs.declared.tokens.Kind.{Kind}
 use Rattle.sx_lex.specs.declared.tokens.Kind.TheVariants.{Number, Name, Sensor, Actuator, Input, Output, Var, Array, On, Sample, Let, If, Else, Repeat, Send, Emit, Semicolon, Equals, Open, Close, OpenSquare, CloseSquare, OpenBrace, CloseBrace, Minus, Tilde, Bang}
 use Rattle.sx_grammar.specs.Tokens.{Token, token, fits, factor_operator, addend_operator, comparison_operator}
 use Rattle.sx_grammar.specs.Grammar as g
-use Rattle.sx_grammar.specs.Grammar.{Stands, IsStatement, IsBlock, AreStatements, IsDeclaration, AreDeclarations, IsHandler, AreHandlers}
-use Rattle.sx_grammar.specs.Machine.{Sign, An_open, A_close, An_open_square, A_close_square, A_semicolon, An_equals, Do_assign, Do_store, Do_choose, Do_send, Do_emit, Do_declare, Do_index, Do_combine, After, After_let, After_send, After_input, After_output, After_var, After_array, After_on, After_open, Purpose, For_repeat, For_initial, For_length, Symbol, Want, Say, Unary_of, Operand, Factors, Addends, Comparison, Index_of, An_expression, A_block, Statements, Otherwise, A_name, A_number, Target_of, Argument_of, Initial_of, Declarations, Handlers, Value, Of_expression, Of_block, State, is_sign, opens, act, apply, choose, when, name_of, number_of, follow, follow_number, operand, statement, target, argument, initial, handlers, declarations, open_block, is_square, is_else, step, finish}
+use Rattle.sx_grammar.specs.Grammar.{IsExpression, IsStatement, IsBlock, AreStatements, IsDeclaration, AreDeclarations, IsHandler, AreHandlers}
+use Rattle.sx_grammar.specs.Machine.{Sign, An_open, A_close, An_open_square, A_close_square, A_semicolon, An_equals, Do_assign, Do_store, Do_choose, Do_send, Do_emit, Do_declare, Do_index, Do_combine, After, After_let, After_send, After_input, After_output, After_var, After_array, After_on, After_open, Purpose, For_repeat, For_initial, For_length, Symbol, Want, Say, Unary_of, Operand, Factors, Addends, Comparison, Index_of, An_expression, A_block, Statements, Otherwise, A_name, A_number, Target_of, Argument_of, Initial_of, Declarations, Handlers, Value, Of_expression, Of_block, MachineState, is_sign, opens, reduce, apply, choose, when, name_of, number_of, follow, follow_number, operand, statement, target, argument, initial, handlers, declarations, open_block, is_square, is_else, step, finish}
 
 abbrev pub sign : Sign → Kind
 sign An_open = Open
@@ -23,7 +23,7 @@ sign An_equals = Equals
 -- what follows the tokens before makes a statement, a declaration or a handler with them
 
 abbrev pub FitsElse : ℕ → List Token → List Token → Type 0
-FitsElse d ts r = (a : Bool) (before us : List Token) (e : Expression) (x : Block) → Stands g.Whole d before e us → IsBlock d us x ts → (s : Statement) × IsStatement d (token If a ∷ before) s r
+FitsElse d ts r = (a : Bool) (before us : List Token) (e : Expression) (x : Block) → IsExpression g.Whole d before e us → IsBlock d us x ts → (s : Statement) × IsStatement d (token If a ∷ before) s r
 
 abbrev pub FitsTarget : List ℕ → ℕ → List Token → List Token → Type 0
 FitsTarget x d ts r = (a : Bool) → (s : Statement) × IsStatement d (token (Name x) a ∷ ts) s r
@@ -56,12 +56,12 @@ Fits [] ts = ts ≡ []
 Fits (Want f ∷ st) ts = (c : Bool) × (r : List Token) × (ts ≡ token (sign f) c ∷ r) × Fits st r
 Fits (Say a ∷ st) ts = Fits st ts
 Fits (Unary_of op ∷ st) ts = Fits st ts
-Fits (Operand ∷ st) ts = (e : Expression) × (r : List Token) × Stands g.Unary (opens st) ts e r × Fits st r
-Fits (Factors n ∷ st) ts = (l : Expression) → (e : Expression) × (r : List Token) × Stands (g.Factors n l) (opens st) ts e r × Fits st r
-Fits (Addends n ∷ st) ts = (l : Expression) → (e : Expression) × (r : List Token) × Stands (g.Addends n l) (opens st) ts e r × Fits st r
-Fits (Comparison ∷ st) ts = (l : Expression) (us : List Token) → Stands g.Sum (opens st) us l ts → (e : Expression) × (r : List Token) × Stands g.Whole (opens st) us e r × Fits st r
-Fits (Index_of x ∷ st) ts = (c : Bool) → (e : Expression) × (r : List Token) × Stands g.Primary (opens st) (token (Name x) c ∷ ts) e r × Fits st r
-Fits (An_expression ∷ st) ts = (e : Expression) × (r : List Token) × Stands g.Whole (opens st) ts e r × Fits st r
+Fits (Operand ∷ st) ts = (e : Expression) × (r : List Token) × IsExpression g.Unary (opens st) ts e r × Fits st r
+Fits (Factors n ∷ st) ts = (l : Expression) → (e : Expression) × (r : List Token) × IsExpression (g.Factors n l) (opens st) ts e r × Fits st r
+Fits (Addends n ∷ st) ts = (l : Expression) → (e : Expression) × (r : List Token) × IsExpression (g.Addends n l) (opens st) ts e r × Fits st r
+Fits (Comparison ∷ st) ts = (l : Expression) (us : List Token) → IsExpression g.Sum (opens st) us l ts → (e : Expression) × (r : List Token) × IsExpression g.Whole (opens st) us e r × Fits st r
+Fits (Index_of x ∷ st) ts = (c : Bool) → (e : Expression) × (r : List Token) × IsExpression g.Primary (opens st) (token (Name x) c ∷ ts) e r × Fits st r
+Fits (An_expression ∷ st) ts = (e : Expression) × (r : List Token) × IsExpression g.Whole (opens st) ts e r × Fits st r
 Fits (A_block ∷ st) ts = (x : Block) × (r : List Token) × IsBlock (opens st) ts x r × Fits st r
 Fits (Statements ∷ st) ts = (x : Block) × (r : List Token) × AreStatements (opens st + 1) ts x r × Fits st r
 Fits (Otherwise ∷ st) ts = (r : List Token) × FitsElse (opens st) ts r × Fits st r
@@ -73,10 +73,10 @@ Fits (Initial_of x ∷ st) ts = (r : List Token) × FitsInitial x ts r × Fits s
 Fits (Declarations ∷ st) ts = (ds : List Decl) × (us : List Token) × (hs : List HandlerTree) × (r : List Token) × AreDeclarations ts ds us × AreHandlers (opens st) us hs r × Fits st r
 Fits (Handlers ∷ st) ts = (hs : List HandlerTree) × (r : List Token) × AreHandlers (opens st) ts hs r × Fits st r
 
-back : (ts : List Token) (p s : State) → Some p ≡ Some s → Fits s.0 ts → Fits p.0 ts
-back ts p s e f = let q : p ≡ s = cc in subst (λ (s : State). Fits s.0 ts) (sym q) f
+back : (ts : List Token) (p s : MachineState) → Some p ≡ Some s → Fits s.0 ts → Fits p.0 ts
+back ts p s e f = let q : p ≡ s = cc in subst (λ (s : MachineState). Fits s.0 ts) (sym q) f
 
-back_when : (ts : List Token) (b : Bool) (st : List Symbol) (vs : List Value) (s : State) → when b st vs ≡ Some s → Fits s.0 ts → (b ≡ true) × Fits st ts
+back_when : (ts : List Token) (b : Bool) (st : List Symbol) (vs : List Value) (s : MachineState) → when b st vs ≡ Some s → Fits s.0 ts → (b ≡ true) × Fits st ts
 back_when ts true st vs s e f = (refl, back ts (st, vs) s e f)
 back_when ts false st vs s e f = absurd (cc)
 
@@ -90,11 +90,11 @@ sign_is An_equals Equals e = refl
 sign_is _ _ e = absurd (cc)
 
 -- an expression before a sign
-expression_sign : {d : ℕ} {ts us r : List Token} {e : Expression} {k : Kind} {c : Bool} → us ≡ token k c ∷ r → Stands g.Whole d ts e us → Stands g.Whole d ts e (token k c ∷ r)
-expression_sign {d = d} {ts = ts} {e = e} h s = subst (λ l. Stands g.Whole d ts e l) h s
+expression_sign : {d : ℕ} {ts us r : List Token} {e : Expression} {k : Kind} {c : Bool} → us ≡ token k c ∷ r → IsExpression g.Whole d ts e us → IsExpression g.Whole d ts e (token k c ∷ r)
+expression_sign {d = d} {ts = ts} {e = e} h s = subst (λ l. IsExpression g.Whole d ts e l) h s
 
-operand_back : (c : Bool) (st : List Symbol) (vs : List Value) (k : Kind) (s : State) (ts : List Token) → operand (fits c) st vs k ≡ Some s → Fits s.0 ts
-    → (e : Expression) × (r : List Token) × Stands g.Unary (opens st) (token k c ∷ ts) e r × Fits st r
+operand_back : (c : Bool) (st : List Symbol) (vs : List Value) (k : Kind) (s : MachineState) (ts : List Token) → operand (fits c) st vs k ≡ Some s → Fits s.0 ts
+    → (e : Expression) × (r : List Token) × IsExpression g.Unary (opens st) (token k c ∷ ts) e r × Fits st r
 operand_back c st vs (Number n) s ts e f = (Constant n, ts, g.plain g.number, back ts (st, Of_expression (Constant n) ∷ vs) s e f)
 operand_back c st vs (Name x) s ts e f = let w = back ts (Index_of x ∷ st, vs) s e f c in (w.0, w.1, g.plain w.2, w.3)
 operand_back c st vs Open s ts e f =
@@ -113,20 +113,20 @@ operand_back c st vs Bang s ts e f =
 operand_back c st vs _ s ts e f = absurd (cc)
 
 -- an operand and the factors after it are a term, and so on
-factors_back : (st : List Symbol) (ts : List Token) → ((e : Expression) × (r : List Token) × Stands g.Unary (opens st) ts e r × Fits (Factors 0 ∷ st) r) → (e : Expression) × (r : List Token) × Stands g.Term (opens st) ts e r × Fits st r
+factors_back : (st : List Symbol) (ts : List Token) → ((e : Expression) × (r : List Token) × IsExpression g.Unary (opens st) ts e r × Fits (Factors 0 ∷ st) r) → (e : Expression) × (r : List Token) × IsExpression g.Term (opens st) ts e r × Fits st r
 factors_back st ts w = let v = w.3 w.0 in (v.0, v.1, g.term w.2 v.2, v.3)
 
-sum_back : (st : List Symbol) (ts : List Token) → ((e : Expression) × (r : List Token) × Stands g.Unary (opens st) ts e r × Fits (Factors 0 ∷ Addends 0 ∷ st) r) → (e : Expression) × (r : List Token) × Stands g.Sum (opens st) ts e r × Fits st r
+sum_back : (st : List Symbol) (ts : List Token) → ((e : Expression) × (r : List Token) × IsExpression g.Unary (opens st) ts e r × Fits (Factors 0 ∷ Addends 0 ∷ st) r) → (e : Expression) × (r : List Token) × IsExpression g.Sum (opens st) ts e r × Fits st r
 sum_back st ts w = let u = factors_back (Addends 0 ∷ st) ts w in let v = u.3 u.0 in (v.0, v.1, g.sum u.2 v.2, v.3)
 
-whole_back : (st : List Symbol) (ts : List Token) → ((e : Expression) × (r : List Token) × Stands g.Unary (opens st) ts e r × Fits (Factors 0 ∷ Addends 0 ∷ Comparison ∷ st) r) → (e : Expression) × (r : List Token) × Stands g.Whole (opens st) ts e r × Fits st r
+whole_back : (st : List Symbol) (ts : List Token) → ((e : Expression) × (r : List Token) × IsExpression g.Unary (opens st) ts e r × Fits (Factors 0 ∷ Addends 0 ∷ Comparison ∷ st) r) → (e : Expression) × (r : List Token) × IsExpression g.Whole (opens st) ts e r × Fits st r
 whole_back st ts w = let u = sum_back (Comparison ∷ st) ts w in u.3 u.0 ts u.2
 
 -- a statement and those after it
 statements_back : (st : List Symbol) (ts : List Token) → ((r : List Token) × ((s : Statement) × IsStatement (opens st + 1) ts s r) × Fits (Statements ∷ st) r) → (x : Block) × (r : List Token) × AreStatements (opens st + 1) ts x r × Fits st r
 statements_back st ts w = let s = w.1 in let more = w.2 in (Then s.0 more.0, more.1, g.statement s.1 more.2, more.3)
 
-statement_back : (c : Bool) (st : List Symbol) (vs : List Value) (k : Kind) (s : State) (ts : List Token) → statement st vs k ≡ Some s → Fits s.0 ts
+statement_back : (c : Bool) (st : List Symbol) (vs : List Value) (k : Kind) (s : MachineState) (ts : List Token) → statement st vs k ≡ Some s → Fits s.0 ts
     → (x : Block) × (r : List Token) × AreStatements (opens st + 1) (token k c ∷ ts) x r × Fits st r
 statement_back c st vs CloseBrace s ts e f = (Done, ts, g.no_statement, back ts (st, vs) s e f)
 statement_back c st vs Let s ts e f =
@@ -148,7 +148,7 @@ statement_back c st vs Emit s ts e f =
     statements_back st (token Emit c ∷ ts) (semi.1, (Emits w.0, g.emission (expression_sign semi.2 w.2)), semi.3)
 statement_back c st vs _ s ts e f = absurd (cc)
 
-target_back : (c : Bool) (x : List ℕ) (st : List Symbol) (vs : List Value) (k : Kind) (s : State) (ts : List Token) → target (fits c) x st vs k ≡ Some s → Fits s.0 ts → Fits (Target_of x ∷ st) (token k c ∷ ts)
+target_back : (c : Bool) (x : List ℕ) (st : List Symbol) (vs : List Value) (k : Kind) (s : MachineState) (ts : List Token) → target (fits c) x st vs k ≡ Some s → Fits s.0 ts → Fits (Target_of x ∷ st) (token k c ∷ ts)
 target_back c x st vs Equals s ts e f =
     let w = back ts (An_expression ∷ Want A_semicolon ∷ Say (Do_assign x) ∷ st, vs) s e f in
     let semi = w.3 in
@@ -161,23 +161,23 @@ target_back c x st vs OpenSquare s ts e f =
     let value = equals.3 in
     let semi = value.3 in
     let us = equals.1 in
-    let i : Stands g.Whole (opens st + 1) ts w.0 (token CloseSquare square.0 ∷ token Equals equals.0 ∷ us) = subst (λ l. Stands g.Whole (opens st + 1) ts w.0 l) (square.2 ∙ ap (λ l. token CloseSquare square.0 ∷ l) equals.2) w.2 in
+    let i : IsExpression g.Whole (opens st + 1) ts w.0 (token CloseSquare square.0 ∷ token Equals equals.0 ∷ us) = subst (λ l. IsExpression g.Whole (opens st + 1) ts w.0 l) (square.2 ∙ ap (λ l. token CloseSquare square.0 ∷ l) equals.2) w.2 in
     (semi.1, (λ a. (Stores x w.0 value.0, g.element_assignment u.0 i (expression_sign semi.2 value.2))), semi.3)
 target_back c x st vs _ s ts e f = absurd (cc)
 
-argument_back : (c : Bool) (x : List ℕ) (st : List Symbol) (vs : List Value) (k : Kind) (s : State) (ts : List Token) → argument (fits c) x st vs k ≡ Some s → Fits s.0 ts → Fits (Argument_of x ∷ st) (token k c ∷ ts)
+argument_back : (c : Bool) (x : List ℕ) (st : List Symbol) (vs : List Value) (k : Kind) (s : MachineState) (ts : List Token) → argument (fits c) x st vs k ≡ Some s → Fits s.0 ts → Fits (Argument_of x ∷ st) (token k c ∷ ts)
 argument_back c x st vs Open s ts e f =
     let u = back_when ts (fits c (opens st)) (An_expression ∷ Want A_close ∷ Want A_semicolon ∷ Say (Do_send x) ∷ st) vs s e f in
     let w = u.1 in
     let close = w.3 in
     let semi = close.3 in
     let r = semi.1 in
-    let i : Stands g.Whole (opens st + 1) ts w.0 (token Close close.0 ∷ token Semicolon semi.0 ∷ r) = subst (λ l. Stands g.Whole (opens st + 1) ts w.0 l) (close.2 ∙ ap (λ l. token Close close.0 ∷ l) semi.2) w.2 in
+    let i : IsExpression g.Whole (opens st + 1) ts w.0 (token Close close.0 ∷ token Semicolon semi.0 ∷ r) = subst (λ l. IsExpression g.Whole (opens st + 1) ts w.0 l) (close.2 ∙ ap (λ l. token Close close.0 ∷ l) semi.2) w.2 in
     (r, (λ a b. (Sends x w.0, g.sending u.0 i)), semi.3)
 argument_back c x st vs _ s ts e f = absurd (cc)
 
-initial_back : (c : Bool) (x : List ℕ) (st : List Symbol) (vs : List Value) (k : Kind) (s : State) (ts : List Token) → initial x st vs k ≡ Some s → Fits s.0 ts → Fits (Initial_of x ∷ st) (token k c ∷ ts)
-initial_back c x st vs Semicolon s ts e f = (ts, (λ a b. (Decl.Var x 0, g.variable)), back ts (st, act (Do_declare (Decl.Var x 0)) vs) s e f)
+initial_back : (c : Bool) (x : List ℕ) (st : List Symbol) (vs : List Value) (k : Kind) (s : MachineState) (ts : List Token) → initial x st vs k ≡ Some s → Fits s.0 ts → Fits (Initial_of x ∷ st) (token k c ∷ ts)
+initial_back c x st vs Semicolon s ts e f = (ts, (λ a b. (Decl.Var x 0, g.variable)), back ts (st, reduce (Do_declare (Decl.Var x 0)) vs) s e f)
 initial_back c x st vs Equals s ts e f =
     let w = back ts (A_number (For_initial x) ∷ st, vs) s e f in (w.0, (λ a b. w.1 a b c), w.2)
 initial_back c x st vs _ s ts e f = absurd (cc)
@@ -185,7 +185,7 @@ initial_back c x st vs _ s ts e f = absurd (cc)
 handlers_join : (st : List Symbol) (ts : List Token) → ((r : List Token) × ((h : HandlerTree) × IsHandler (opens st) ts h r) × Fits (Handlers ∷ st) r) → (hs : List HandlerTree) × (r : List Token) × AreHandlers (opens st) ts hs r × Fits st r
 handlers_join st ts w = let h = w.1 in let more = w.2 in (h.0 ∷ more.0, more.1, g.handler h.1 more.2, more.3)
 
-handlers_back : (c : Bool) (st : List Symbol) (vs : List Value) (k : Kind) (s : State) (ts : List Token) → handlers st vs k ≡ Some s → Fits s.0 ts
+handlers_back : (c : Bool) (st : List Symbol) (vs : List Value) (k : Kind) (s : MachineState) (ts : List Token) → handlers st vs k ≡ Some s → Fits s.0 ts
     → (hs : List HandlerTree) × (r : List Token) × AreHandlers (opens st) (token k c ∷ ts) hs r × Fits st r
 handlers_back c st vs On s ts e f =
     let w = back ts (A_name After_on ∷ Handlers ∷ st, vs) s e f in handlers_join st (token On c ∷ ts) (w.0, w.1 c, w.2)
@@ -200,7 +200,7 @@ handlers_back c st vs _ s ts e f = absurd (cc)
 declarations_join : (st : List Symbol) (ts : List Token) → ((r : List Token) × ((y : Decl) × IsDeclaration ts y r) × Fits (Declarations ∷ st) r) → Fits (Declarations ∷ st) ts
 declarations_join st ts w = let y = w.1 in let more = w.2 in (y.0 ∷ more.0, more.1, more.2, more.3, g.declaration y.1 more.4, more.5, more.6)
 
-declarations_back : (c : Bool) (st : List Symbol) (vs : List Value) (k : Kind) (s : State) (ts : List Token) → declarations st vs k ≡ Some s → Fits s.0 ts → Fits (Declarations ∷ st) (token k c ∷ ts)
+declarations_back : (c : Bool) (st : List Symbol) (vs : List Value) (k : Kind) (s : MachineState) (ts : List Token) → declarations st vs k ≡ Some s → Fits s.0 ts → Fits (Declarations ∷ st) (token k c ∷ ts)
 declarations_back c st vs Sensor s ts e f =
     let w = back ts (Want A_semicolon ∷ Say (Do_declare (Decl.Device DeviceKind.Sensor)) ∷ Declarations ∷ st, vs) s e f in
     let i : IsDeclaration (token Sensor c ∷ ts) (Decl.Device DeviceKind.Sensor) w.1 = subst (λ l. IsDeclaration (token Sensor c ∷ l) (Decl.Device DeviceKind.Sensor) w.1) (sym w.2) g.sensor in
@@ -220,7 +220,7 @@ declarations_back c st vs Array s ts e f =
 declarations_back c st vs k s ts e f =
     let w = handlers_back c st vs k s ts e f in ([], token k c ∷ ts, w.0, w.1, g.no_declaration, w.2, w.3)
 
-block_back : (c : Bool) (st : List Symbol) (vs : List Value) (k : Kind) (s : State) (ts : List Token) → open_block (fits c) st vs k ≡ Some s → Fits s.0 ts
+block_back : (c : Bool) (st : List Symbol) (vs : List Value) (k : Kind) (s : MachineState) (ts : List Token) → open_block (fits c) st vs k ≡ Some s → Fits s.0 ts
     → (x : Block) × (r : List Token) × IsBlock (opens st) (token k c ∷ ts) x r × Fits st r
 block_back c st vs OpenBrace s ts e f =
     let w = back_when ts (fits c (opens st)) (Statements ∷ st) (Of_block Done ∷ vs) s e f in
@@ -276,11 +276,11 @@ number_back (For_length x) c n st ts f =
       semi.3,
     )
 
-pub step_back : (c : Bool) (st : List Symbol) (vs : List Value) (k : Kind) (s : State) (ts : List Token) → step (fits c) st vs k ≡ Some s → Fits s.0 ts → Fits st (token k c ∷ ts)
+pub step_back : (c : Bool) (st : List Symbol) (vs : List Value) (k : Kind) (s : MachineState) (ts : List Token) → step (fits c) st vs k ≡ Some s → Fits s.0 ts → Fits st (token k c ∷ ts)
 step_back c [] vs k s ts e f = absurd (cc)
 step_back c (Want w ∷ st) vs k s ts e f =
     let u = back_when ts (is_sign w k) st vs s e f in (c, ts, ap (λ k. token k c ∷ ts) (sign_is w k u.0), u.1)
-step_back c (Say a ∷ st) vs k s ts e f = step_back c st (act a vs) k s ts e f
+step_back c (Say a ∷ st) vs k s ts e f = step_back c st (reduce a vs) k s ts e f
 step_back c (Unary_of op ∷ st) vs k s ts e f = step_back c st (apply op vs) k s ts e f
 step_back c (Operand ∷ st) vs k s ts e f = operand_back c st vs k s ts e f
 step_back c (Factors n ∷ st) vs k s ts e f = go (factor_operator k) refl e (λ v e. step_back c st v k s ts e f)
@@ -314,7 +314,7 @@ step_back c (Index_of x ∷ st) vs k s ts e f = go (is_square k) refl e (λ v e.
     go true h e again =
         let u = back_when ts (fits c (opens st)) (An_expression ∷ Want A_close_square ∷ Say (Do_index x) ∷ st) vs s e f in
         let v = u.1 in
-        λ a. (Indexed x v.0, v.3.1, subst (λ k. Stands g.Primary (opens st) (token (Name x) a ∷ token k c ∷ ts) (Indexed x v.0) v.3.1) (sym (square_is k h)) (g.element u.0 (expression_sign v.3.2 v.2)), v.3.3)
+        λ a. (Indexed x v.0, v.3.1, subst (λ k. IsExpression g.Primary (opens st) (token (Name x) a ∷ token k c ∷ ts) (Indexed x v.0) v.3.1) (sym (square_is k h)) (g.element u.0 (expression_sign v.3.2 v.2)), v.3.3)
 step_back c (An_expression ∷ st) vs k s ts e f = whole_back st (token k c ∷ ts) (operand_back c (Factors 0 ∷ Addends 0 ∷ Comparison ∷ st) vs k s ts e f)
 step_back c (A_block ∷ st) vs k s ts e f = block_back c st vs k s ts e f
 step_back c (Statements ∷ st) vs k s ts e f = statement_back c st vs k s ts e f
@@ -327,12 +327,12 @@ step_back c (Otherwise ∷ st) vs k s ts e f = go (is_else k) refl e (λ v e. st
         (w.1, (λ a before us e x t b. (Chooses e x w.0, g.if_else t (subst (λ k. IsBlock (opens st) us x (token k c ∷ ts)) (else_is k h) b) w.2)), w.3)
 step_back c (A_name w ∷ st) vs k s ts e f = go (name_of k) refl e
   where
-    go : (o : Option (List ℕ)) → name_of k ≡ o → choose {A = List ℕ} {C = Option State} o None (λ x. Some (follow w x st, vs)) ≡ Some s → Fits (A_name w ∷ st) (token k c ∷ ts)
+    go : (o : Option (List ℕ)) → name_of k ≡ o → choose {A = List ℕ} {C = Option MachineState} o None (λ x. Some (follow w x st, vs)) ≡ Some s → Fits (A_name w ∷ st) (token k c ∷ ts)
     go None h e = absurd (cc)
     go (Some x) h e = subst (λ k. Fits (A_name w ∷ st) (token k c ∷ ts)) (sym (name_is k x h)) (name_back w c x st ts (back ts (follow w x st, vs) s e f))
 step_back c (A_number w ∷ st) vs k s ts e f = go (number_of k) refl e
   where
-    go : (o : Option ℕ) → number_of k ≡ o → choose {A = ℕ} {C = Option State} o None (λ n. Some (follow_number w n st, vs)) ≡ Some s → Fits (A_number w ∷ st) (token k c ∷ ts)
+    go : (o : Option ℕ) → number_of k ≡ o → choose {A = ℕ} {C = Option MachineState} o None (λ n. Some (follow_number w n st, vs)) ≡ Some s → Fits (A_number w ∷ st) (token k c ∷ ts)
     go None h e = absurd (cc)
     go (Some n) h e = subst (λ k. Fits (A_number w ∷ st) (token k c ∷ ts)) (sym (number_is k n h)) (number_back w c n st ts (back ts (follow_number w n st, vs) s e f))
 step_back c (Target_of x ∷ st) vs k s ts e f = target_back c x st vs k s ts e f
@@ -343,7 +343,7 @@ step_back c (Handlers ∷ st) vs k s ts e f = handlers_back c st vs k s ts e f
 
 pub finish_back : (st : List Symbol) (vs w : List Value) → finish st vs ≡ Some w → Fits st []
 finish_back [] vs w e = refl
-finish_back (Say a ∷ st) vs w e = finish_back st (act a vs) w e
+finish_back (Say a ∷ st) vs w e = finish_back st (reduce a vs) w e
 finish_back (Unary_of op ∷ st) vs w e = finish_back st (apply op vs) w e
 finish_back (Factors n ∷ st) vs w e = λ l. (l, [], g.no_factor, finish_back st vs w e)
 finish_back (Addends n ∷ st) vs w e = λ l. (l, [], g.no_addend, finish_back st vs w e)

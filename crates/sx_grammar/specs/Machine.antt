@@ -1,16 +1,25 @@
 -- A second form of the grammar, to compute with: what a prefix of a text still requires, as a
 -- stack, and how a token changes it. Nothing here has to be believed: the laws of this crate tie it
 -- to the grammar.
-use Rattle.std.specs.Prelude.{ℕ, ◌+◌, List, [], ◌∷◌, ◌++◌, Bool, true, false, Option, Some, None, if◌then◌else◌}
-use Rattle.sx_lang.specs.Tree.{Expression, Constant, Variable, Indexed, Applied, Combined, Statement, Defines, Assigns, Stores, Chooses, Repeats, Sends, Emits, Block, Done, Then, ModuleTree}
+use Rattle.std.specs.Prelude.{ℕ, ◌+◌, List, [], ◌∷◌, ◌++◌, Bool, true, false, Option, Some, None}
+use Rattle.std.specs.Prelude.{if◌then◌else◌}
+use Rattle.sx_lang.specs.Tree.{Expression, Constant, Variable, Indexed, Applied, Combined}
+use Rattle.sx_lang.specs.Tree.{Statement, Defines, Assigns, Stores, Chooses, Repeats, Sends, Emits}
+use Rattle.sx_lang.specs.Tree.{Block, Done, Then, ModuleTree}
 use Rattle.sx_lang.specs.declared.tree.UnOp.{UnOp}
 use Rattle.sx_lang.specs.declared.tree.BinOp.{BinOp}
 use Rattle.sx_lang.specs.declared.tree.Decl.{Decl}
 use Rattle.sx_lang.specs.declared.tree.DeviceKind.{DeviceKind}
 use Rattle.sx_lex.specs.declared.tokens.Kind.{Kind}
-use Rattle.sx_lex.specs.declared.tokens.Kind.TheVariants.{Number, Name, Sensor, Actuator, Input, Output, Var, Array, On, Sample, Let, If, Else, Repeat, Send, Emit, Semicolon, Equals, Open, Close, OpenSquare, CloseSquare, OpenBrace, CloseBrace, Minus, Tilde, Bang}
+use Rattle.sx_lex.specs.declared.tokens.Kind.TheVariants.{Number, Name, Sensor, Actuator, Input}
+use Rattle.sx_lex.specs.declared.tokens.Kind.TheVariants.{Output, Var, Array, On, Sample, Let, If}
+use Rattle.sx_lex.specs.declared.tokens.Kind.TheVariants.{Else, Repeat, Send, Emit, Semicolon}
+use Rattle.sx_lex.specs.declared.tokens.Kind.TheVariants.{Equals, Open, Close, OpenSquare}
+use Rattle.sx_lex.specs.declared.tokens.Kind.TheVariants.{CloseSquare, OpenBrace, CloseBrace, Minus}
+use Rattle.sx_lex.specs.declared.tokens.Kind.TheVariants.{Tilde, Bang}
 use Rattle.sx_lex.specs.declared.tokens.Placed.{Placed}
-use Rattle.sx_grammar.specs.Tokens.{Token, token, fits, factor_operator, addend_operator, comparison_operator}
+use Rattle.sx_grammar.specs.Tokens.{Token, token, fits, factor_operator, addend_operator}
+use Rattle.sx_grammar.specs.Tokens.{comparison_operator}
 
 -- the signs that the grammar requires
 pub data Sign : Type 0 where
@@ -22,18 +31,18 @@ pub data Sign : Type 0 where
   An_equals : Sign
 
 -- what is done to the values once a part was read
-pub data Act : Type 0 where
-  Do_index : List ℕ → Act
-  Do_combine : BinOp → Act
-  Do_define : List ℕ → Act
-  Do_assign : List ℕ → Act
-  Do_store : List ℕ → Act
-  Do_choose : Act
-  Do_repeat : ℕ → Act
-  Do_send : List ℕ → Act
-  Do_emit : Act
-  Do_declare : Decl → Act
-  Do_handle : Option (List ℕ) → List ℕ → Act
+pub data Reduction : Type 0 where
+  Do_index : List ℕ → Reduction
+  Do_combine : BinOp → Reduction
+  Do_define : List ℕ → Reduction
+  Do_assign : List ℕ → Reduction
+  Do_store : List ℕ → Reduction
+  Do_choose : Reduction
+  Do_repeat : ℕ → Reduction
+  Do_send : List ℕ → Reduction
+  Do_emit : Reduction
+  Do_declare : Decl → Reduction
+  Do_handle : Option (List ℕ) → List ℕ → Reduction
 
 -- what a required name comes after
 pub data After : Type 0 where
@@ -55,7 +64,7 @@ pub data Purpose : Type 0 where
 -- what is still to be read, or to be done with what was read
 pub data Symbol : Type 0 where
   Want : Sign → Symbol
-  Say : Act → Symbol
+  Say : Reduction → Symbol
   Unary_of : UnOp → Symbol
   Operand : Symbol
   Factors : ℕ → Symbol
@@ -81,8 +90,8 @@ pub data Value : Type 0 where
   Of_module : ModuleTree → Value
 
 -- what is still to be read, the next first, and what was read, the last first
-abbrev pub State : Type 0
-State = List Symbol × List Value
+abbrev pub MachineState : Type 0
+MachineState = List Symbol × List Value
 
 -- a token is this sign
 abbrev pub is_sign : Sign → Kind → Bool
@@ -136,18 +145,26 @@ abbrev pub append : Statement → List Value → List Value
 append s vs = on_block vs (λ b vs. Of_block (snoc b s) ∷ vs)
 
 -- what an act does with the trees that were read
-abbrev pub act : Act → List Value → List Value
-act (Do_index x) vs = on_expression vs (λ e vs. Of_expression (Indexed x e) ∷ vs)
-act (Do_combine op) vs = on_expression vs (λ r vs. on_expression vs (λ l vs. Of_expression (Combined op l r) ∷ vs))
-act (Do_define x) vs = on_expression vs (λ e vs. append (Defines x e) vs)
-act (Do_assign x) vs = on_expression vs (λ e vs. append (Assigns x e) vs)
-act (Do_store x) vs = on_expression vs (λ e vs. on_expression vs (λ i vs. append (Stores x i e) vs))
-act Do_choose vs = on_block vs (λ y vs. on_block vs (λ x vs. on_expression vs (λ e vs. append (Chooses e x y) vs)))
-act (Do_repeat n) vs = on_block vs (λ x vs. append (Repeats n x) vs)
-act (Do_send x) vs = on_expression vs (λ e vs. append (Sends x e) vs)
-act Do_emit vs = on_expression vs (λ e vs. append (Emits e) vs)
-act (Do_declare d) vs = on_module vs (λ m vs. Of_module (record m { decls = m.decls ++ d ∷ [] }) ∷ vs)
-act (Do_handle i v) vs = on_block vs (λ b vs. on_module vs (λ m vs. Of_module (record m { handlers = m.handlers ++ record { input = i; param = v; body = b } ∷ [] }) ∷ vs))
+abbrev pub reduce : Reduction → List Value → List Value
+reduce (Do_index x) vs = on_expression vs (λ e vs. Of_expression (Indexed x e) ∷ vs)
+reduce (Do_combine op) vs =
+    on_expression vs (λ r vs. on_expression vs (λ l vs. Of_expression (Combined op l r) ∷ vs))
+reduce (Do_define x) vs = on_expression vs (λ e vs. append (Defines x e) vs)
+reduce (Do_assign x) vs = on_expression vs (λ e vs. append (Assigns x e) vs)
+reduce (Do_store x) vs =
+    on_expression vs (λ e vs. on_expression vs (λ i vs. append (Stores x i e) vs))
+reduce Do_choose vs =
+    on_block vs (λ y vs. on_block vs (λ x vs. on_expression vs (λ e vs. append (Chooses e x y) vs)))
+reduce (Do_repeat n) vs = on_block vs (λ x vs. append (Repeats n x) vs)
+reduce (Do_send x) vs = on_expression vs (λ e vs. append (Sends x e) vs)
+reduce Do_emit vs = on_expression vs (λ e vs. append (Emits e) vs)
+reduce (Do_declare d) vs =
+    on_module vs (λ m vs. Of_module (record m { decls = m.decls ++ d ∷ [] }) ∷ vs)
+reduce (Do_handle i v) vs = on_block vs (λ b vs.
+    on_module vs (λ m vs. Of_module (record m {
+      handlers =
+          m.handlers ++ record { input = i; param = v; body = b } ∷ [];
+    }) ∷ vs))
 
 -- a unary operator on the expression that was read last
 abbrev pub apply : UnOp → List Value → List Value
@@ -159,7 +176,7 @@ choose None other f = other
 choose (Some a) other f = f a
 
 -- a state, where the test holds
-abbrev pub when : Bool → List Symbol → List Value → Option State
+abbrev pub when : Bool → List Symbol → List Value → Option MachineState
 when true st vs = Some (st, vs)
 when false st vs = None
 
@@ -188,10 +205,11 @@ follow (After_open i) x st = Want A_close ∷ A_block ∷ Say (Do_handle i x) �
 abbrev pub follow_number : Purpose → ℕ → List Symbol → List Symbol
 follow_number For_repeat n st = A_block ∷ Say (Do_repeat n) ∷ st
 follow_number (For_initial x) n st = Want A_semicolon ∷ Say (Do_declare (Decl.Var x n)) ∷ st
-follow_number (For_length x) n st = Want A_close_square ∷ Want A_semicolon ∷ Say (Do_declare (Decl.Array x n)) ∷ st
+follow_number (For_length x) n st =
+    Want A_close_square ∷ Want A_semicolon ∷ Say (Do_declare (Decl.Array x n)) ∷ st
 
 -- the first token of an operand
-abbrev pub operand : (ℕ → Bool) → List Symbol → List Value → Kind → Option State
+abbrev pub operand : (ℕ → Bool) → List Symbol → List Value → Kind → Option MachineState
 operand room st vs (Number n) = Some (st, Of_expression (Constant n) ∷ vs)
 operand room st vs (Name x) = Some (Index_of x ∷ st, vs)
 operand room st vs Open = when (room (opens st)) (An_expression ∷ Want A_close ∷ st) vs
@@ -201,43 +219,55 @@ operand room st vs Bang = when (room (opens st)) (Operand ∷ Unary_of UnOp.Not 
 operand room st vs _ = None
 
 -- the first token of a statement, or the brace after the last
-abbrev pub statement : List Symbol → List Value → Kind → Option State
+abbrev pub statement : List Symbol → List Value → Kind → Option MachineState
 statement st vs CloseBrace = Some (st, vs)
 statement st vs Let = Some (A_name After_let ∷ Statements ∷ st, vs)
 statement st vs (Name x) = Some (Target_of x ∷ Statements ∷ st, vs)
-statement st vs If = Some (An_expression ∷ A_block ∷ Otherwise ∷ Say Do_choose ∷ Statements ∷ st, vs)
+statement st vs If =
+    Some (An_expression ∷ A_block ∷ Otherwise ∷ Say Do_choose ∷ Statements ∷ st, vs)
 statement st vs Repeat = Some (A_number For_repeat ∷ Statements ∷ st, vs)
 statement st vs Send = Some (A_name After_send ∷ Statements ∷ st, vs)
 statement st vs Emit = Some (An_expression ∷ Want A_semicolon ∷ Say Do_emit ∷ Statements ∷ st, vs)
 statement st vs _ = None
 
 -- what follows the name that is assigned to
-abbrev pub target : (ℕ → Bool) → List ℕ → List Symbol → List Value → Kind → Option State
+abbrev pub target : (ℕ → Bool) → List ℕ → List Symbol → List Value → Kind → Option MachineState
 target room x st vs Equals = Some (An_expression ∷ Want A_semicolon ∷ Say (Do_assign x) ∷ st, vs)
-target room x st vs OpenSquare = when (room (opens st)) (An_expression ∷ Want A_close_square ∷ Want An_equals ∷ An_expression ∷ Want A_semicolon ∷ Say (Do_store x) ∷ st) vs
+target room x st vs OpenSquare = when (room (opens st))
+    (An_expression ∷ Want A_close_square ∷ Want An_equals ∷ An_expression ∷ Want A_semicolon
+    ∷ Say (Do_store x) ∷ st) vs
 target room x st vs _ = None
 
 -- what follows the name of an output
-abbrev pub argument : (ℕ → Bool) → List ℕ → List Symbol → List Value → Kind → Option State
-argument room x st vs Open = when (room (opens st)) (An_expression ∷ Want A_close ∷ Want A_semicolon ∷ Say (Do_send x) ∷ st) vs
+abbrev pub argument : (ℕ → Bool) → List ℕ → List Symbol → List Value → Kind → Option MachineState
+argument room x st vs Open = when (room (opens st))
+    (An_expression ∷ Want A_close ∷ Want A_semicolon ∷ Say (Do_send x) ∷ st) vs
 argument room x st vs _ = None
 
 -- what follows the name of a variable
-abbrev pub initial : List ℕ → List Symbol → List Value → Kind → Option State
-initial x st vs Semicolon = Some (st, act (Do_declare (Decl.Var x 0)) vs)
+abbrev pub initial : List ℕ → List Symbol → List Value → Kind → Option MachineState
+initial x st vs Semicolon = Some (st, reduce (Do_declare (Decl.Var x 0)) vs)
 initial x st vs Equals = Some (A_number (For_initial x) ∷ st, vs)
 initial x st vs _ = None
 
 -- a token where a handler may begin
-abbrev pub handlers : List Symbol → List Value → Kind → Option State
+abbrev pub handlers : List Symbol → List Value → Kind → Option MachineState
 handlers st vs On = Some (A_name After_on ∷ Handlers ∷ st, vs)
 handlers st vs Sample = Some (Want An_open ∷ A_name (After_open None) ∷ Handlers ∷ st, vs)
 handlers st vs _ = None
 
 -- a token where a declaration may begin
-abbrev pub declarations : List Symbol → List Value → Kind → Option State
-declarations st vs Sensor = Some (Want A_semicolon ∷ Say (Do_declare (Decl.Device DeviceKind.Sensor)) ∷ Declarations ∷ st, vs)
-declarations st vs Actuator = Some (Want A_semicolon ∷ Say (Do_declare (Decl.Device DeviceKind.Actuator)) ∷ Declarations ∷ st, vs)
+abbrev pub declarations : List Symbol → List Value → Kind → Option MachineState
+declarations st vs Sensor = Some (
+  Want A_semicolon
+      ∷ Say (Do_declare (Decl.Device DeviceKind.Sensor)) ∷ Declarations ∷ st,
+  vs,
+)
+declarations st vs Actuator = Some (
+  Want A_semicolon
+      ∷ Say (Do_declare (Decl.Device DeviceKind.Actuator)) ∷ Declarations ∷ st,
+  vs,
+)
 declarations st vs Input = Some (A_name After_input ∷ Declarations ∷ st, vs)
 declarations st vs Output = Some (A_name After_output ∷ Declarations ∷ st, vs)
 declarations st vs Var = Some (A_name After_var ∷ Declarations ∷ st, vs)
@@ -245,7 +275,7 @@ declarations st vs Array = Some (A_name After_array ∷ Declarations ∷ st, vs)
 declarations st vs k = handlers st vs k
 
 -- a token where a block begins, if one more bracket may be open
-abbrev pub open_block : (ℕ → Bool) → List Symbol → List Value → Kind → Option State
+abbrev pub open_block : (ℕ → Bool) → List Symbol → List Value → Kind → Option MachineState
 open_block room st vs OpenBrace = when (room (opens st)) (Statements ∷ st) (Of_block Done ∷ vs)
 open_block room st vs _ = None
 
@@ -261,20 +291,26 @@ is_else _ = false
 
 -- what is required once a token was read, if it may stand here: a part that may be left out is
 -- passed over by a token that isn't its own
-abbrev pub step : (ℕ → Bool) → List Symbol → List Value → Kind → Option State
+abbrev pub step : (ℕ → Bool) → List Symbol → List Value → Kind → Option MachineState
 step room [] vs k = None
 step room (Want f ∷ st) vs k = when (is_sign f k) st vs
-step room (Say a ∷ st) vs k = step room st (act a vs) k
+step room (Say a ∷ st) vs k = step room st (reduce a vs) k
 step room (Unary_of op ∷ st) vs k = step room st (apply op vs) k
 step room (Operand ∷ st) vs k = operand room st vs k
-step room (Factors n ∷ st) vs k = choose (factor_operator k) (step room st vs k) (λ op. when (room n) (Operand ∷ Say (Do_combine op) ∷ Factors (n + 1) ∷ st) vs)
-step room (Addends n ∷ st) vs k = choose (addend_operator k) (step room st vs k) (λ op. when (room n) (Operand ∷ Factors 0 ∷ Say (Do_combine op) ∷ Addends (n + 1) ∷ st) vs)
-step room (Comparison ∷ st) vs k = choose (comparison_operator k) (step room st vs k) (λ op. Some (Operand ∷ Factors 0 ∷ Addends 0 ∷ Say (Do_combine op) ∷ st, vs))
-step room (Index_of x ∷ st) vs k = if is_square k then when (room (opens st)) (An_expression ∷ Want A_close_square ∷ Say (Do_index x) ∷ st) vs else step room st (Of_expression (Variable x) ∷ vs) k
+step room (Factors n ∷ st) vs k = choose (factor_operator k) (step room st vs k)
+    (λ op. when (room n) (Operand ∷ Say (Do_combine op) ∷ Factors (n + 1) ∷ st) vs)
+step room (Addends n ∷ st) vs k = choose (addend_operator k) (step room st vs k)
+    (λ op. when (room n) (Operand ∷ Factors 0 ∷ Say (Do_combine op) ∷ Addends (n + 1) ∷ st) vs)
+step room (Comparison ∷ st) vs k = choose (comparison_operator k) (step room st vs k)
+    (λ op. Some (Operand ∷ Factors 0 ∷ Addends 0 ∷ Say (Do_combine op) ∷ st, vs))
+step room (Index_of x ∷ st) vs k = if is_square k then
+    when (room (opens st)) (An_expression ∷ Want A_close_square ∷ Say (Do_index x) ∷ st) vs else
+    step room st (Of_expression (Variable x) ∷ vs) k
 step room (An_expression ∷ st) vs k = operand room (Factors 0 ∷ Addends 0 ∷ Comparison ∷ st) vs k
 step room (A_block ∷ st) vs k = open_block room st vs k
 step room (Statements ∷ st) vs k = statement st vs k
-step room (Otherwise ∷ st) vs k = if is_else k then Some (A_block ∷ st, vs) else step room st (Of_block Done ∷ vs) k
+step room (Otherwise ∷ st) vs k =
+    if is_else k then Some (A_block ∷ st, vs) else step room st (Of_block Done ∷ vs) k
 step room (A_name w ∷ st) vs k = choose (name_of k) None (λ x. Some (follow w x st, vs))
 step room (A_number w ∷ st) vs k = choose (number_of k) None (λ n. Some (follow_number w n st, vs))
 step room (Target_of x ∷ st) vs k = target room x st vs k
@@ -286,7 +322,7 @@ step room (Handlers ∷ st) vs k = handlers st vs k
 -- A text's end: what may be left out is left out, and nothing else may be required.
 abbrev pub finish : List Symbol → List Value → Option (List Value)
 finish [] vs = Some vs
-finish (Say a ∷ st) vs = finish st (act a vs)
+finish (Say a ∷ st) vs = finish st (reduce a vs)
 finish (Unary_of op ∷ st) vs = finish st (apply op vs)
 finish (Factors n ∷ st) vs = finish st vs
 finish (Addends n ∷ st) vs = finish st vs
@@ -298,19 +334,20 @@ finish (Handlers ∷ st) vs = finish st vs
 finish (_ ∷ st) vs = None
 
 -- how the reading of tokens ends
-pub data Outcome : Type 0 where
-  Read : List Value → Outcome
-  Refused : Option Placed → Outcome  -- the first token that can't follow, or the end
+pub data ReadOutcome : Type 0 where
+  Read : List Value → ReadOutcome
+  Refused : Option Placed → ReadOutcome  -- the first token that can't follow, or the end
 
 -- the outcome at the end of the tokens
-abbrev pub ended : Option (List Value) → Outcome
+abbrev pub ended : Option (List Value) → ReadOutcome
 ended (Some vs) = Read vs
 ended None = Refused None
 
 -- what the machine makes of a text
-abbrev pub read : List Symbol → List Value → List Placed → Outcome
+abbrev pub read : List Symbol → List Value → List Placed → ReadOutcome
 read st vs [] = ended (finish st vs)
-read st vs (t ∷ ts) = choose (step (fits true) st vs t.kind) (Refused (Some t)) (λ s. read s.0 s.1 ts)
+read st vs (t ∷ ts) =
+    choose (step (fits true) st vs t.kind) (Refused (Some t)) (λ s. read s.0 s.1 ts)
 
 -- the same of tokens to which others may be added, to tell whether a text can be continued
 abbrev pub reads : List Symbol → List Value → List Token → Option (List Value)

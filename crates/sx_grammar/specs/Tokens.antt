@@ -3,9 +3,12 @@ use Rattle.std.specs.Prelude.{ℕ, List, [], ◌∷◌, Bool, true, false, Optio
 use Rattle.sx_lang.specs.declared.tree.UnOp.{UnOp}
 use Rattle.sx_lang.specs.declared.tree.BinOp.{BinOp}
 use Rattle.sx_lang.specs.declared.tree.UnOp.TheVariants.{Neg, Inv, Not}
-use Rattle.sx_lang.specs.declared.tree.BinOp.TheVariants.{Add, Sub, Or, Xor, Mul, And, Eq, Ne, Lt, Le, Gt, Ge}
+use Rattle.sx_lang.specs.declared.tree.BinOp.TheVariants.{Add, Sub, Or, Xor, Mul, And, Eq, Ne, Lt}
+use Rattle.sx_lang.specs.declared.tree.BinOp.TheVariants.{Le, Gt, Ge}
 use Rattle.sx_lex.specs.declared.tokens.Kind.{Kind}
-use Rattle.sx_lex.specs.declared.tokens.Kind.TheVariants.{EqualsEquals, NotEquals, Less, LessEquals, Greater, GreaterEquals, Plus, Minus, Bar, Caret, Star, Ampersand, Tilde, Bang}
+use Rattle.sx_lex.specs.declared.tokens.Kind.TheVariants.{EqualsEquals, NotEquals, Less, LessEquals}
+use Rattle.sx_lex.specs.declared.tokens.Kind.TheVariants.{Greater, GreaterEquals, Plus, Minus, Bar}
+use Rattle.sx_lex.specs.declared.tokens.Kind.TheVariants.{Caret, Star, Ampersand, Tilde, Bang}
 use Rattle.sx_lex.specs.declared.tokens.Placed.{Placed}
 
 -- the unary operator that a token is
@@ -46,9 +49,9 @@ pub data Token : Type 0 where
   token : Kind → Bool → Token
 
 -- a text's own tokens, of which the bounds are asked
-abbrev pub given : List Placed → List Token
-given [] = []
-given (t ∷ ts) = token t.kind true ∷ given ts
+abbrev pub given_tokens : List Placed → List Token
+given_tokens [] = []
+given_tokens (t ∷ ts) = token t.kind true ∷ given_tokens ts
 
 -- tokens that are added to a prefix of a text, of which no bound is asked
 abbrev pub added : List Kind → List Token

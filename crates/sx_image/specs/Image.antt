@@ -30,7 +30,8 @@ plain i = record { text = i.text.items; layout = i.layout; provider = i.provider
 
 -- its identity: the text, and then the layout
 abbrev pub identity_of : Image → List ℕ
-identity_of i = identity i.text i.layout.pub_from i.layout.pub_to i.layout.priv_from i.layout.priv_to
+identity_of i =
+    identity i.text i.layout.pub_from i.layout.pub_to i.layout.priv_from i.layout.priv_to
 
 -- the private bytes of a layout, each at its offset
 abbrev pub private_bytes : Layout → List ℕ → List ℕ
@@ -41,7 +42,7 @@ abbrev pub public_bytes : Layout → List ℕ → List ℕ
 public_bytes l mem = bytes_from mem l.pub_from (l.pub_to - l.pub_from)
 
 -- the module stands protected as this section, with the image's text, layout and provider
-pub record Stands (image : Image) (section : Section) (n : State) : Type 0 where
+pub record StandsProtected (image : Image) (section : Section) (n : State) : Type 0 where
   pub lives : Lives n.sections.live section
   pub layout : section.layout ≡ image.layout
   pub provider : section.provider ≡ image.provider
@@ -52,17 +53,30 @@ pub record Enters (tree : ModuleTree) (image : Image) (section : Section) (n : S
   pub node : IsNode n
   pub idle : n.cur ≡ 0
   pub entry : pc_of n ≡ image.layout.pub_from
-  pub stands : Stands image section n
+  pub stands : StandsProtected image section n
   pub devices : HasDevices n.devices (declared_kind tree.decls) image.layout
 
 -- what is constant while a module runs on this node
 abbrev pub setup_at : Mac → ModuleTree → List End → Section → State → Setup
-setup_at mac tree ends section n = record { mac = mac; section = section; live = n.sections.live; tree = tree; ends = ends }
+setup_at mac tree ends section n =
+    record { mac = mac; section = section; live = n.sections.live; tree = tree; ends = ends }
 
 -- what the caller asks, in R12 to R15
 abbrev pub call_at : State → Call
-call_at n = record { entry = slice_index n.regs 12; input = slice_index n.regs 13; output = slice_index n.regs 14; back = slice_index n.regs 15 }
+call_at n = record {
+  entry = slice_index n.regs 12;
+  input = slice_index n.regs 13;
+  output =
+      slice_index n.regs 14;
+  back = slice_index n.regs 15;
+}
 
 -- an invocation begins with the state that the private section represents
 abbrev pub progress_at : Setup → State → Progress
-progress_at s n = record { state = state_of s.tree s.ends (private_bytes s.section.layout n.mem); mem = n.mem; devices = n.devices; marks = []; pieces = [] }
+progress_at s n = record {
+  state = state_of s.tree s.ends (private_bytes s.section.layout n.mem);
+  mem = n.mem;
+  devices = n.devices;
+  marks = [];
+  pieces = [];
+}

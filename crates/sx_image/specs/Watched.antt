@@ -9,7 +9,7 @@ use Rattle.sx_machine.specs.declared.kinds.Event.TheVariants as event
 use Rattle.sx_machine.specs.declared.kinds.Exchange.{Exchange}
 use Rattle.sx_machine.specs.declared.kinds.Seen.{Seen}
 use Rattle.sx_machine.specs.State.{State}
-use Rattle.sx_machine.specs.Step.{Shows, step}
+use Rattle.sx_machine.specs.Step.{Shown, step}
 use Rattle.sx_reach.specs.Reach.{Stepped, Goes, Stops}
 use Rattle.sx_invoke.specs.Marks.{Mark, Wrapped, Unwrapped, Sampled, Actuated}
 
@@ -30,8 +30,10 @@ marks_of_event event.Quiet x = []
 marks_of_event (event.Reset v) x = []
 marks_of_event (event.Protected id) x = []
 marks_of_event (event.Removed id) x = []
-marks_of_event (event.Wrapped id) x = Wrapped (take x.ad_len x.ad) (take x.body_len x.body) x.own_key ∷ []
-marks_of_event (event.Unwrapped id) x = Unwrapped (take x.ad_len x.ad) (take x.body_len x.body) x.own_key ∷ []
+marks_of_event (event.Wrapped id) x =
+    Wrapped (take x.ad_len x.ad) (take x.body_len x.body) x.own_key ∷ []
+marks_of_event (event.Unwrapped id) x =
+    Unwrapped (take x.ad_len x.ad) (take x.body_len x.body) x.own_key ∷ []
 marks_of_event (event.Left id) x = []
 
 -- the marks of a step, from what it shows and the exchange after it: the touches first, in order
@@ -55,8 +57,13 @@ violation_of (event.Unwrapped id) = None
 violation_of (event.Left id) = None
 
 -- what the step shows is added, or its violation ends the run
-abbrev pub watched_on : Watched → Shows Seen → Option Violation → Stepped Watched Violation
-watched_on c x None = Goes (record { node = x.state; marks = c.marks ++ marks_of x.shown x.state.exchange; event = x.shown.event })
+abbrev pub watched_on : Watched → Shown Seen → Option Violation → Stepped Watched Violation
+watched_on c x None = Goes (record {
+  node = x.state;
+  marks =
+      c.marks ++ marks_of x.shown x.state.exchange;
+  event = x.shown.event;
+})
 watched_on c x (Some v) = Stops v
 
 -- one step of a watched node, which a violation ends

@@ -1,5 +1,6 @@
 -- What the acts of a handler do: packets to the out-window, and writes to the actuator.
-use Rattle.std.specs.Prelude.{ℕ, ◌+◌, ◌*◌, nat_lt, false, ◌&&◌, if◌then◌else◌, List, [], ◌∷◌, ◌++◌, length, Option, Some, None, Result, Ok, Err}
+use Rattle.std.specs.Prelude.{ℕ, ◌+◌, ◌*◌, nat_lt, false, ◌&&◌, if◌then◌else◌, List, [], ◌∷◌, ◌++◌}
+use Rattle.std.specs.Prelude.{length, Option, Some, None, Result, Ok, Err}
 use Rattle.sx_mean.specs.declared.events.End.{End}
 use Rattle.sx_mean.specs.declared.events.Act.{Act}
 use Rattle.sx_mean.specs.declared.events.Act.TheVariants.{Send, Emit}
@@ -26,15 +27,16 @@ copied_to (Err v) p = Broken v p
 -- a piece is made, and then copied to its offset
 abbrev pub with_piece : Setup → Call → List ℕ → Progress → Course
 with_piece s c piece p =
-    copied_to (write_bytes s p.devices p.mem (c.output + 24 * length p.pieces) piece) (record p { pieces = p.pieces ++ piece ∷ [] })
+    copied_to (write_bytes s p.devices p.mem (c.output + 24 * length p.pieces) piece)
+    (record p { pieces = p.pieces ++ piece ∷ [] })
 
 -- an event packet's header: its kind, the connection field and the number
 abbrev pub event_header : EndState → List ℕ
 event_header e = 3 ∷ 0 ∷ two e.field ++ two e.number
 
 -- the number rises, and the mark of the wrap comes before the copy
-abbrev pub counted : ℕ → EndState → ℕ → Progress → Progress
-counted k e v p = record p {
+abbrev pub wrap_counted : ℕ → EndState → ℕ → Progress → Progress
+wrap_counted k e v p = record p {
   state = record p.state { ends = with_end p.state.ends k (record e { number = e.number + 1 }) };
   marks = p.marks ++ Wrapped (event_header e) (two v) false ∷ [];
 }
@@ -49,7 +51,8 @@ event_packet s e v =
 unfoldable pub with_packet : Setup → Call → ℕ → ℕ → Progress → Course
 with_packet s c v k p =
     let e = end_of p.state.ends k in
-    if e.is_open && nat_lt e.number 65535 then with_piece s c (event_packet s e v) (counted k e v p) else Going p
+    if e.is_open && nat_lt e.number 65535 then with_piece s c (event_packet s e v)
+    (wrap_counted k e v p) else Going p
 
 -- Acts of a handler, in order.
 
@@ -57,7 +60,8 @@ with_packet s c v k p =
 abbrev pub with_packets : Setup → Call → ℕ → ℕ → ℕ → List End → Progress → Course
 with_packets s c output v k [] p = Going p
 with_packets s c output v k (e ∷ es) p =
-    if is_sending output e.side e.port then and_on (with_packet s c v k p) (with_packets s c output v (k + 1) es)
+    if is_sending output e.side e.port then and_on (with_packet s c v k p)
+    (with_packets s c output v (k + 1) es)
     else with_packets s c output v (k + 1) es p
 
 -- the module's device: the one whose word stands at the start of its private section

@@ -20,6 +20,7 @@ pub record Drives (devices : List Window) (k : Kind) (l : Layout) : Type 0 where
 
 -- the device words in a private section are those that the module declares
 abbrev pub HasDevices : List Window → Option DeviceKind → Layout → Type 0
-HasDevices devices None l = (at : ℕ) → l.priv_from ≤ at → at < l.priv_to → device_at devices at ≡ None
+HasDevices devices None l =
+    (at : ℕ) → l.priv_from ≤ at → at < l.priv_to → device_at devices at ≡ None
 HasDevices devices (Some Sensor) l = Drives devices kind.Sensor l
 HasDevices devices (Some Actuator) l = Drives devices kind.Actuator l

@@ -1,5 +1,7 @@
 -- The four entries of a module, by the steps 4 to 10 of the entry protocol (own).
-use Rattle.std.specs.Prelude.{ℕ, zero, suc, ◌+◌, ◌==◌, nat_lt, Bool, true, false, ◌&&◌, ◌||◌, not, if◌then◌else◌, List, [], ◌∷◌, ◌++◌, take, drop, slice_index, Option, Some, None, Result, Ok, Err}
+use Rattle.std.specs.Prelude.{ℕ, zero, suc, ◌+◌, ◌==◌, nat_lt, Bool, true, false, ◌&&◌, ◌||◌, not}
+use Rattle.std.specs.Prelude.{if◌then◌else◌, List, [], ◌∷◌, ◌++◌, take, drop, slice_index, Option}
+use Rattle.std.specs.Prelude.{Some, None, Result, Ok, Err}
 use Rattle.sx_lang.specs.declared.sides.Side.{Side}
 use Rattle.sx_lang.specs.declared.sides.Side.TheVariants.{From, To}
 use Rattle.sx_mean.specs.declared.events.End.{End}
@@ -32,7 +34,8 @@ end_is link side e = (e.link == link) && has_side side e.side
 -- the first such end from the k-th on, with its index
 abbrev pub end_found : ℕ → Side → ℕ → List End → Option (ℕ × End)
 end_found link side k [] = None
-end_found link side k (e ∷ es) = if end_is link side e then Some (k, e) else end_found link side (k + 1) es
+end_found link side k (e ∷ es) =
+    if end_is link side e then Some (k, e) else end_found link side (k + 1) es
 
 -- an end field of a set-key packet is 0 or 1
 abbrev pub side_of : ℕ → Option Side
@@ -80,41 +83,50 @@ abbrev pub is_keyed : EndState → ℕ → Bool
 is_keyed e field = e.is_open && not (nat_lt (epoch_of e.field) (epoch_of field))
 
 -- step 10: the end is open with that key and field, and its next number is 0
-abbrev pub keyed : ℕ → List ℕ → List ℕ → Progress → Progress
-keyed k packet key p = record p {
-  state = record p.state { ends = with_end p.state.ends k (record { is_open = true; field = field_in packet; number = 0; key = key }) };
+abbrev pub end_keyed : ℕ → List ℕ → List ℕ → Progress → Progress
+end_keyed k packet key p = record p {
+  state = record p.state {
+    ends = with_end p.state.ends k
+        (record { is_open = true; field = field_in packet; number = 0; key = key });
+  };
   marks = p.marks ++ Unwrapped (header_in packet) key true ∷ [];
 }
 
 -- step 8: the tag
 abbrev pub key_opened : ℕ → List ℕ → Option (List ℕ) → Progress → Invoked
 key_opened k packet None p = Returns 7 p
-key_opened k packet (Some body) p = Returns 1 (keyed k packet (take 16 body) p)
+key_opened k packet (Some body) p = Returns 1 (end_keyed k packet (take 16 body) p)
 
 -- step 6: the end
 abbrev pub set_key_at : Setup → List ℕ → Option (ℕ × End) → Progress → Invoked
 set_key_at s packet None p = Returns 5 p
 set_key_at s packet (Some e) p =
     if is_keyed (end_of p.state.ends e.0) (field_in packet) then Returns 5 p
-    else key_opened e.0 packet (unwrapped s.mac s.section.key (header_in packet) (take 16 (drop 6 packet)) (drop 22 packet)) p
+    else key_opened e.0 packet (unwrapped s.mac s.section.key (header_in packet)
+    (take 16 (drop 6 packet)) (drop 22 packet)) p
 
 -- steps 6 to 10 of entry 0
 abbrev pub set_key : Setup → List ℕ → Progress → Invoked
-set_key s packet p = set_key_at s packet (end_on (link_of (field_in packet)) s.ends (side_of (second_in packet))) p
+set_key s packet p =
+    set_key_at s packet (end_on (link_of (field_in packet)) s.ends (side_of (second_in packet))) p
 
 -- Entry 1, attest: the answer is the tag of the ask as header and an empty body.
 
 -- step 10 of entry 1: a wrap and one piece
 abbrev pub attest : Setup → Call → List ℕ → Progress → Invoked
 attest s c ask p =
-    finished (with_piece s c (wrapped s.mac s.section.key ask []).tag (record p { marks = p.marks ++ Wrapped ask [] true ∷ [] }))
+    finished (with_piece s c (wrapped s.mac s.section.key ask []).tag
+    (record p { marks = p.marks ++ Wrapped ask [] true ∷ [] }))
 
 -- Entry 2, input.
 
 -- the number is taken: the next one is above it
-abbrev pub taken : ℕ → List ℕ → List ℕ → EndState → Progress → Progress
-taken k packet value e p = record p {
-  state = record p.state { ends = with_end p.state.ends k (record e { number = second_in packet + 1 }) };
+abbrev pub number_taken : ℕ → List ℕ → List ℕ → EndState → Progress → Progress
+number_taken k packet value e p = record p {
+  state = record p.state {
+    ends = with_end p.state.ends k
+        (record e { number = second_in packet + 1 });
+  };
   marks = p.marks ++ Unwrapped (header_in packet) value false ∷ [];
 }
 
@@ -122,20 +134,23 @@ taken k packet value e p = record p {
 abbrev pub event_opened : Setup → Call → ℕ × End → List ℕ → Option (List ℕ) → Progress → Invoked
 event_opened s c e packet None p = Returns 7 p
 event_opened s c e packet (Some body) p =
-    finished (handled s c (event.Input e.1.port (word body 0)) (taken e.0 packet (take 2 body) (end_of p.state.ends e.0) p))
+    finished (handled s c (event.Input e.1.port (word body 0))
+    (number_taken e.0 packet (take 2 body) (end_of p.state.ends e.0) p))
 
 -- step 7: the number
 abbrev pub event_numbered : Setup → Call → ℕ × End → List ℕ → EndState → Progress → Invoked
 event_numbered s c e packet state p =
     if nat_lt (second_in packet) state.number || (second_in packet == 65535) then Returns 6 p
-    else event_opened s c e packet (unwrapped s.mac state.key (header_in packet) (take 2 (drop 6 packet)) (drop 8 packet)) p
+    else event_opened s c e packet (unwrapped s.mac state.key (header_in packet)
+    (take 2 (drop 6 packet)) (drop 8 packet)) p
 
 -- step 6: the end
 abbrev pub input_at : Setup → Call → List ℕ → Option (ℕ × End) → Progress → Invoked
 input_at s c packet None p = Returns 5 p
 input_at s c packet (Some e) p =
     let state = end_of p.state.ends e.0 in
-    if not state.is_open || not (epoch_of state.field == epoch_of (field_in packet)) then Returns 5 p
+    if not state.is_open || not (epoch_of state.field == epoch_of (field_in packet)) then
+    Returns 5 p
     else event_numbered s c e packet state p
 
 -- steps 6 to 10 of entry 2
@@ -145,14 +160,16 @@ input s c packet p = input_at s c packet (end_found (link_of (field_in packet)) 
 -- Entry 3, sample.
 
 -- the sample is read: the sensor is no longer fresh
-abbrev pub sampled : ℕ × Window → Progress → Progress
-sampled d p = record p { devices = cleared p.devices d.0; marks = p.marks ++ Sampled d.0 d.1.value ∷ [] }
+abbrev pub sample_read : ℕ × Window → Progress → Progress
+sample_read d p =
+    record p { devices = cleared p.devices d.0; marks = p.marks ++ Sampled d.0 d.1.value ∷ [] }
 
 -- steps 9 and 10: the sensor is fresh, and the handler runs with its value
 abbrev pub sample_of : Setup → Call → Option (ℕ × Window) → Progress → Invoked
 sample_of s c None p = Returns 8 p
 sample_of s c (Some d) p =
-    if d.1.fresh then finished (handled s c (event.Sample d.1.value) (sampled d p)) else Returns 8 p
+    if d.1.fresh then finished (handled s c (event.Sample d.1.value) (sample_read d p)) else
+    Returns 8 p
 
 -- steps 9 and 10 of entry 3
 abbrev pub sample : Setup → Call → Progress → Invoked

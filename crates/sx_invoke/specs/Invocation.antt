@@ -1,6 +1,7 @@
 -- One invocation of a module, by the entry protocol (own): its steps in order, each as a
 -- definition.
-use Rattle.std.specs.Prelude.{◌==◌, nat_lt, Bool, true, false, ◌&&◌, ◌||◌, not, if◌then◌else◌, Option, Some, None}
+use Rattle.std.specs.Prelude.{◌==◌, nat_lt, Bool, true, false, ◌&&◌, ◌||◌, not, if◌then◌else◌}
+use Rattle.std.specs.Prelude.{Option, Some, None}
 use Rattle.sx_lang.specs.declared.tree.DeviceKind.{DeviceKind}
 use Rattle.sx_lang.specs.declared.tree.DeviceKind.TheVariants.{Sensor, Actuator}
 use Rattle.sx_mean.specs.Application.{declared_kind}
@@ -24,11 +25,13 @@ is_sensor_driver (Some Actuator) = false
 
 -- step 2: there is no such entry
 abbrev pub is_no_entry : Setup → Call → Bool
-is_no_entry s c = nat_lt 3 c.entry || ((c.entry == 3) && not (is_sensor_driver (declared_kind s.tree.decls)))
+is_no_entry s c =
+    nat_lt 3 c.entry || ((c.entry == 3) && not (is_sensor_driver (declared_kind s.tree.decls)))
 
 -- step 3: one of the windows is bad
 abbrev pub has_bad_windows : Setup → Call → Bool
-has_bad_windows s c = is_bad_window s c.input in_window_size || is_bad_window s c.output out_window_size
+has_bad_windows s c =
+    is_bad_window s c.input in_window_size || is_bad_window s c.output out_window_size
 
 -- the four entries
 unfoldable pub entered : Setup → Call → Progress → Invoked

@@ -2,7 +2,7 @@
 use Rattle.std.specs.Prelude.{◌≡◌, Bool, true, false, List, [], ◌∷◌}
 use Rattle.sx_tag.specs.Mac.{IsTag}
 use Rattle.sx_invoke.specs.Setup.{Setup, Call}
-use Rattle.sx_invoke.specs.Marks.{Mark, Wrapped, Unwrapped, Sampled, Actuated, made}
+use Rattle.sx_invoke.specs.Marks.{Mark, Wrapped, Unwrapped, Sampled, Actuated, made_bytes}
 use Rattle.sx_invoke.specs.Progress.{Progress, marks_in, pieces_in, bytes_in}
 use Rattle.sx_invoke.specs.Invocation.{invoke}
 
@@ -25,10 +25,12 @@ FirstAlone (m ∷ ms) = NoUnwrap ms
 
 -- an invocation unwraps at most once, before it makes any other mark
 abbrev pub UnwrapsOnce : Type 0
-UnwrapsOnce = (s : Setup) (call : Call) (p : Progress) → p.marks ≡ [] → FirstAlone (marks_in (invoke s call p))
+UnwrapsOnce = (s : Setup) (call : Call) (p : Progress) → p.marks ≡ []
+    → FirstAlone (marks_in (invoke s call p))
 
 -- the pieces of an invocation, of one that a violation ends too, have the bytes that its marks make
 abbrev pub PiecesMarked : Type 0
 PiecesMarked =
-    (s : Setup) (call : Call) (p : Progress) → IsTag s.mac → p.pieces ≡ [] → p.marks ≡ [] → let result = invoke s call p in
-    bytes_in (pieces_in result) ≡ made (marks_in result)
+    (s : Setup) (call : Call) (p : Progress) → IsTag s.mac → p.pieces ≡ [] → p.marks ≡ []
+    → let result = invoke s call p in
+    bytes_in (pieces_in result) ≡ made_bytes (marks_in result)

@@ -24,6 +24,6 @@ piece_size (Sampled device v) = 0
 piece_size (Actuated device v) = 0
 
 -- the bytes of all pieces that were made
-abbrev pub made : List Mark → ℕ
-made [] = 0
-made (m ∷ ms) = piece_size m + made ms
+abbrev pub made_bytes : List Mark → ℕ
+made_bytes [] = 0
+made_bytes (m ∷ ms) = piece_size m + made_bytes ms

@@ -1,6 +1,7 @@
 -- A module's state, as the bytes of its private section represent it: every content represents
 -- exactly one.
-use Rattle.std.specs.Prelude.{ℕ, zero, suc, ◌+◌, ◌%◌, ◌/◌, ◌==◌, Bool, false, not, List, [], ◌∷◌, length, replicate}
+use Rattle.std.specs.Prelude.{ℕ, zero, suc, ◌+◌, ◌%◌, ◌/◌, ◌==◌, Bool, false, not, List, [], ◌∷◌}
+use Rattle.std.specs.Prelude.{length, replicate}
 use Rattle.sx_lang.specs.Tree.{ModuleTree}
 use Rattle.sx_mean.specs.declared.events.End.{End}
 use Rattle.sx_mean.specs.Places.{initial_cells}
@@ -30,12 +31,12 @@ abbrev pub link_of : ℕ → ℕ
 link_of field = field % 256
 
 -- an end that was never opened
-abbrev pub closed : EndState
-closed = record { is_open = false; field = 0; number = 0; key = replicate 16 0 }
+abbrev pub closed_end : EndState
+closed_end = record { is_open = false; field = 0; number = 0; key = replicate 16 0 }
 
 -- the k-th end's state
 abbrev pub end_of : List EndState → ℕ → EndState
-end_of [] k = closed
+end_of [] k = closed_end
 end_of (e ∷ es) zero = e
 end_of (e ∷ es) (suc k) = end_of es k
 
@@ -48,7 +49,7 @@ with_end (e ∷ es) (suc k) new = e ∷ with_end es k new
 -- all ends closed
 abbrev pub initial_ends : List End → List EndState
 initial_ends [] = []
-initial_ends (e ∷ es) = closed ∷ initial_ends es
+initial_ends (e ∷ es) = closed_end ∷ initial_ends es
 
 -- the state that a module begins with
 abbrev pub initial_state : ModuleTree → List End → ModuleState

@@ -1,5 +1,6 @@
 -- The caller's windows, which a module reads and writes byte by byte.
-use Rattle.std.specs.Prelude.{ℕ, zero, suc, ◌+◌, ◌%◌, ◌/◌, Bool, ◌||◌, if◌then◌else◌, List, [], ◌∷◌, slice_index, slice_set, Option, Some, None, Result, Ok, Err}
+use Rattle.std.specs.Prelude.{ℕ, zero, suc, ◌+◌, ◌%◌, ◌/◌, Bool, ◌||◌, if◌then◌else◌, List, [], ◌∷◌}
+use Rattle.std.specs.Prelude.{slice_index, slice_set, Option, Some, None, Result, Ok, Err}
 use Rattle.sx_rules.specs.declared.access.Access.TheVariants.{Read, Write}
 use Rattle.sx_rules.specs.declared.access.Violation.{Violation}
 use Rattle.sx_rules.specs.declared.access.Violation.TheVariants as bad
@@ -19,7 +20,8 @@ out_window_size = 384
 
 -- a window passes the end of memory or meets the module's private section
 abbrev pub is_bad_window : Setup → ℕ → ℕ → Bool
-is_bad_window s at n = passes_end at n || meets at n s.section.layout.priv_from s.section.layout.priv_to
+is_bad_window s at n =
+    passes_end at n || meets at n s.section.layout.priv_from s.section.layout.priv_to
 
 -- a word's two bytes, the low one first
 abbrev pub two : ℕ → List ℕ
@@ -33,15 +35,18 @@ unless_device (Some device) x = Err bad.Device
 -- one byte: the access table first, and then the devices
 unfoldable pub read_byte : Setup → List Window → List ℕ → ℕ → Result ℕ Violation
 read_byte s devices mem at =
-    if may s.live s.section.id Read at then unless_device (device_at devices at) (slice_index mem at) else Err bad.Read
+    if may s.live s.section.id Read at then unless_device (device_at devices at)
+    (slice_index mem at) else Err bad.Read
 
 -- the same of a write
 unfoldable pub write_byte : Setup → List Window → List ℕ → ℕ → ℕ → Result (List ℕ) Violation
 write_byte s devices mem at b =
-    if may s.live s.section.id Write at then unless_device (device_at devices at) (slice_set mem at b) else Err bad.Write
+    if may s.live s.section.id Write at then unless_device (device_at devices at)
+    (slice_set mem at b) else Err bad.Write
 
 -- the rest, where the first byte was allowed
-abbrev pub then_ : {A B : Type 0} → Result A Violation → (A → Result B Violation) → Result B Violation
+abbrev pub then_ : {A B : Type 0} → Result A Violation → (A → Result B Violation)
+    → Result B Violation
 then_ (Ok a) f = f a
 then_ (Err v) f = Err v
 
@@ -49,7 +54,8 @@ then_ (Err v) f = Err v
 unfoldable pub read_bytes : Setup → List Window → List ℕ → ℕ → ℕ → Result (List ℕ) Violation
 read_bytes s devices mem at zero = Ok []
 read_bytes s devices mem at (suc n) =
-    then_ (read_byte s devices mem at) (λ b. then_ (read_bytes s devices mem (at + 1) n) (λ bs. Ok (b ∷ bs)))
+    then_ (read_byte s devices mem at) (λ b. then_ (read_bytes s devices mem (at + 1) n)
+    (λ bs. Ok (b ∷ bs)))
 
 -- bytes written from an address on, in rising order, or the violation at the first that is refused
 unfoldable pub write_bytes : Setup → List Window → List ℕ → ℕ → List ℕ → Result (List ℕ) Violation

@@ -6,8 +6,8 @@ use Rattle.std.proofs.Math.Seq.{drop-cons, take-length, drop-length}
 use Rattle.sx_io.proofs.Prefixes.{drop-drop}
 use Rattle.sx_io.specs.Reading.{Ending, Ended, Broken, Answer, Line, End, Long, Fault, Limit, behind_line, newline, longest, scan, IsPlain, IsTooLong, without_return}
 use Rattle.sx_io.specs.Next.{Ahead, Took, Faults, AskedInLine}
-use Rattle.sx_io.specs.Counts.{counted}
-use Rattle.sx_io.specs.Streams.{SourceAt, NoFault, OneFault, OneEnd}
+use Rattle.sx_io.specs.Counts.{next_count}
+use Rattle.sx_io.specs.Streams.{SourceAt, NoReadFault, OneReadFault, OneEnd}
 use Rattle.sx_io.specs.Parts.{Moves, AskedInTurn}
 use Rattle.sx_io.specs.declared.lines.LineRead.{LineRead}
 use Rattle.sx_io.specs.declared.lines.LineRead.TheVariants as read
@@ -231,13 +231,13 @@ pub none-held : (held got line left : List ℕ) → held ++ got ≡ line ++ left
 none-held held got line left e n p has = plain-none held got (plain-at line (held ++ got) (sym (e ∙ rw n (append-nil line))) p) has
 
 -- no fault, and then none or one
-pub quiet-on : (s0 s1 s2 : SourceAt) → NoFault s0 s1 → NoFault s1 s2 → NoFault s0 s2
+pub quiet-on : (s0 s1 s2 : SourceAt) → NoReadFault s0 s1 → NoReadFault s1 s2 → NoReadFault s0 s2
 quiet-on s0 s1 s2 a b = record { faults = b.faults ∙ a.faults; left = b.left ∙ a.left }
 
-pub fault-on : (s0 s1 s2 : SourceAt) → NoFault s0 s1 → OneFault s1 s2 → OneFault s0 s2
-fault-on s0 s1 s2 a b = record { faults = b.faults ∙ ap counted a.faults; left = b.left }
+pub fault-on : (s0 s1 s2 : SourceAt) → NoReadFault s0 s1 → OneReadFault s1 s2 → OneReadFault s0 s2
+fault-on s0 s1 s2 a b = record { faults = b.faults ∙ ap next_count a.faults; left = b.left }
 
-pub faults-on : (answer : LineRead) (s0 s1 s2 : SourceAt) → NoFault s0 s1 → Faults answer s1 s2 → Faults answer s0 s2
+pub faults-on : (answer : LineRead) (s0 s1 s2 : SourceAt) → NoReadFault s0 s1 → Faults answer s1 s2 → Faults answer s0 s2
 faults-on (read.Text n) s0 s1 s2 a b = quiet-on s0 s1 s2 a b
 faults-on read.End s0 s1 s2 a b = quiet-on s0 s1 s2 a b
 faults-on read.TooLong s0 s1 s2 a b = quiet-on s0 s1 s2 a b
@@ -261,4 +261,4 @@ asked-on held got begun left s0 s1 s2 r e p a t =
 
 -- no end, and then one
 pub end-on : (s0 s1 s2 : SourceAt) → s1.ends ≡ s0.ends → OneEnd s1 s2 → OneEnd s0 s2
-end-on s0 s1 s2 a b = record { rest = b.rest; ends = b.ends ∙ ap counted a }
+end-on s0 s1 s2 a b = record { rest = b.rest; ends = b.ends ∙ ap next_count a }

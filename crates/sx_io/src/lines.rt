@@ -1,10 +1,11 @@
 //! The lines of a source, one after another.
 
-ghost use Rattle.std.specs.Prelude.{◌≡◌, ℕ, ◌-◌, ◌<◌, ◌≤◌, [], List, ◌++◌, length, take, drop, Contains, IsTrue, false};
+ghost use Rattle.std.specs.Prelude.{◌≡◌, ℕ, ◌-◌, ◌<◌, ◌≤◌, [], List, ◌++◌, length, take, drop};
+ghost use Rattle.std.specs.Prelude.{Contains, IsTrue, false};
 ghost use Rattle.sx_io.specs.Reading.{newline, longest, IsPlain};
-ghost use Rattle.sx_io.specs.Streams.{SourceAt, NoFault, OneFault, OneEnd};
-ghost use Rattle.sx_io.specs.Next.{Next, Takes};
-ghost use Rattle.sx_io.specs.Parts.{Moves, Turns, TurnFaults, AskedInTurn};
+ghost use Rattle.sx_io.specs.Streams.{SourceAt, NoReadFault, OneReadFault, OneEnd};
+ghost use Rattle.sx_io.specs.Next.{Next, TakesLine};
+ghost use Rattle.sx_io.specs.Parts.{Moves, TurnAnswers, TurnFaults, AskedInTurn};
 
 use crate::line_parts::{Part, move_chunk};
 use crate::outside::Source;
@@ -93,7 +94,8 @@ impl Lines {
     /// input or a failed read.
     pub fn next<S: Source>(&mut self, source: &mut S, into: &mut [u8; LONGEST]) -> LineRead
         // The answer is what stands next in the input, and what isn't given stays held.
-        ensures next { Next longest S.tells (S.at source.old) (S.at source.new) self.old self.new into.new result }
+        ensures next { Next longest S.tells (S.at source.old) (S.at source.new) self.old self.new
+            into.new result }
 
         // It reads only where it must, and never once it has given its last answer.
         ensures unread { Contains self.old.held newline → source.new ≡ source.old }
@@ -104,7 +106,8 @@ impl Lines {
 
     /// The next line, as `next`, where a line may have as many bytes as `into` has room for.
     pub fn next_within<S: Source>(&mut self, source: &mut S, into: &mut [u8]) -> LineRead
-        ensures next { Next (length into.old) S.tells (S.at source.old) (S.at source.new) self.old self.new into.new result }
+        ensures next { Next (length into.old) S.tells (S.at source.old) (S.at source.new) self.old
+            self.new into.new result }
         ensures unread { Contains self.old.held newline → source.new ≡ source.old }
         ensures untouched { (self.old.state ≡ ReaderState.Open → ⊥) → source.new ≡ source.old }
     {
@@ -119,7 +122,8 @@ impl Lines {
     /// The next line, where no last answer was given.
     fn next_open<S: Source>(&mut self, source: &mut S, into: &mut [u8]) -> LineRead
         requires { self.old.state ≡ ReaderState.Open }
-        ensures takes { Takes (length into.old) S.tells (S.at source.old) (S.at source.new) self.old self.new into.new result }
+        ensures takes { TakesLine (length into.old) S.tells (S.at source.old) (S.at source.new)
+            self.old self.new into.new result }
         ensures unread { Contains self.old.held newline → source.new ≡ source.old }
     {
         let mut filled = 0;
@@ -139,12 +143,17 @@ impl Lines {
         requires open { self.old.state ≡ ReaderState.Open }
         requires filled { filled ≤ length into.old }
         requires plain { IsPlain (take filled into.old) }
-        ensures turns { (got : List ℕ) × (IsTrue S.tells → (S.at source.old).rest ≡ got ++ (S.at source.new).rest)
-            × Turns (length into.old) ((take filled into.old ++ self.old.held) ++ got) filled result into.new self.new }
+        ensures turns { (got : List ℕ) × (IsTrue S.tells
+            → (S.at source.old).rest ≡ got ++ (S.at source.new).rest)
+            × TurnAnswers (length into.old) ((take filled into.old ++ self.old.held) ++ got) filled
+            result into.new self.new }
         ensures unread { 0 < length self.old.held → source.new ≡ source.old }
-        ensures end { self.new.state ≡ ReaderState.AtEnd → IsTrue S.tells → OneEnd (S.at source.old) (S.at source.new) }
-        ensures no_end { (self.new.state ≡ ReaderState.AtEnd → ⊥) → IsTrue S.tells → (S.at source.new).ends ≡ (S.at source.old).ends }
-        ensures asked { IsTrue S.tells → AskedInTurn self.old.held (S.at source.old) (S.at source.new) }
+        ensures end { self.new.state ≡ ReaderState.AtEnd → IsTrue S.tells
+            → OneEnd (S.at source.old) (S.at source.new) }
+        ensures no_end { (self.new.state ≡ ReaderState.AtEnd → ⊥) → IsTrue S.tells
+            → (S.at source.new).ends ≡ (S.at source.old).ends }
+        ensures asked { IsTrue S.tells → AskedInTurn self.old.held (S.at source.old)
+            (S.at source.new) }
         ensures faults { TurnFaults result (S.at source.old) (S.at source.new) }
         ensures few { length self.new.held ≤ longest }
         ensures room { length into.new ≡ length into.old }
@@ -170,9 +179,10 @@ impl Lines {
         requires some { 0 < length self.old.held }
         requires filled { filled ≤ length into.old }
         requires plain { IsPlain (take filled into.old) }
-        ensures turns { Turns (length into.old) (take filled into.old ++ self.old.held) filled result into.new self.new }
+        ensures turns { TurnAnswers (length into.old) (take filled into.old ++ self.old.held) filled
+            result into.new self.new }
         ensures not_at_end { self.new.state ≡ ReaderState.AtEnd → ⊥ }
-        ensures faults { (s0 s1 : SourceAt) → NoFault s0 s1 → TurnFaults result s0 s1 }
+        ensures faults { (s0 s1 : SourceAt) → NoReadFault s0 s1 → TurnFaults result s0 s1 }
         ensures few { length self.new.held ≤ longest }
         ensures room { length into.new ≡ length into.old }
     {
@@ -190,13 +200,21 @@ impl Lines {
     fn fill<S: Source>(&mut self, source: &mut S) -> Filled
         requires nothing { self.old.held ≡ [] }
         requires open { self.old.state ≡ ReaderState.Open }
-        ensures read { IsTrue S.tells → (S.at source.old).rest ≡ self.new.held ++ (S.at source.new).rest }
-        ensures some { result ≡ Filled.Some → (0 < length self.new.held) × (self.new.state ≡ ReaderState.Open) }
-        ensures end { result ≡ Filled.AtEnd → (self.new ≡ record self.old { state = ReaderState.AtEnd }) × (IsTrue S.tells → OneEnd (S.at source.old) (S.at source.new)) }
-        ensures no_end { (result ≡ Filled.AtEnd → ⊥) → IsTrue S.tells → (S.at source.new).ends ≡ (S.at source.old).ends }
+        ensures read { IsTrue S.tells → (S.at source.old).rest
+            ≡ self.new.held ++ (S.at source.new).rest }
+        ensures some { result ≡ Filled.Some → (0 < length self.new.held)
+            × (self.new.state ≡ ReaderState.Open) }
+        ensures end { result ≡ Filled.AtEnd → (self.new
+            ≡ record self.old { state = ReaderState.AtEnd })
+            × (IsTrue S.tells → OneEnd (S.at source.old) (S.at source.new)) }
+        ensures no_end { (result ≡ Filled.AtEnd → ⊥) → IsTrue S.tells
+            → (S.at source.new).ends ≡ (S.at source.old).ends }
         ensures asked { IsTrue S.tells → (S.at source.new).asked ≡ (S.at source.old).rest }
-        ensures failed { result ≡ Filled.Failed → (self.new ≡ record self.old { state = ReaderState.Failed }) × OneFault (S.at source.old) (S.at source.new) }
-        ensures quiet { (result ≡ Filled.Failed → ⊥) → NoFault (S.at source.old) (S.at source.new) }
+        ensures failed { result ≡ Filled.Failed → (self.new
+            ≡ record self.old { state = ReaderState.Failed })
+            × OneReadFault (S.at source.old) (S.at source.new) }
+        ensures quiet { (result ≡ Filled.Failed → ⊥)
+            → NoReadFault (S.at source.old) (S.at source.new) }
         ensures few { length self.new.held ≤ longest }
     {
         match source.read(&mut self.held) {
@@ -224,7 +242,8 @@ impl Lines {
     fn move_part(&mut self, into: &mut [u8], filled: usize) -> Part
         requires filled { filled ≤ length into.old }
         requires plain { IsPlain (take filled into.old) }
-        ensures moves { Moves (length into.old) (take filled into.old) self.old.held result into.new self.new.held }
+        ensures moves { Moves (length into.old) (take filled into.old) self.old.held result into.new
+            self.new.held }
         ensures state { self.new.state ≡ self.old.state }
         ensures few { (length self.old.held ≤ longest) × (length self.new.held ≤ longest) }
         ensures room { length into.new ≡ length into.old }

@@ -17,7 +17,7 @@ use Rattle.sx_invoke.specs.Acts.{handled}
 use Rattle.sx_ir.specs.declared.ir.Ir.{Ir}
 use Rattle.sx_ir.specs.declared.ir.Ir.TheVariants as ir
 use Rattle.sx_ir.specs.Conf.{Conf}
-use Rattle.sx_ir.specs.Meaning.{After, saved, pieces, Reaches}
+use Rattle.sx_ir.specs.Meaning.{OperationResult, saved, pieces, CodeReaches}
 
 -- the configuration stands for this progress of this call
 pub record Represents (s : Setup) (call : Call) (p : Progress) (c : Conf) : Type 0 where
@@ -34,25 +34,28 @@ pub record Represents (s : Setup) (call : Call) (p : Progress) (c : Conf) : Type
   pub back : saved c 15 ≡ call.back
 
 -- the course breaks with this violation, after these marks
-abbrev pub Breaks : Course → Violation → List Mark → Type 0
-Breaks (Going p) v marks = ⊥
-Breaks (Broken w p) v marks = (w ≡ v) × (p.marks ≡ marks)
+abbrev pub CourseBreaks : Course → Violation → List Mark → Type 0
+CourseBreaks (Going p) v marks = ⊥
+CourseBreaks (Broken w p) v marks = (w ≡ v) × (p.marks ≡ marks)
 
 -- the course goes on, with this
-abbrev pub GoesOn : Course → (Progress → Type 0) → Type 0
-GoesOn (Going p) Q = Q p
-GoesOn (Broken v p) Q = ⊥
+abbrev pub CourseGoesOn : Course → (Progress → Type 0) → Type 0
+CourseGoesOn (Going p) Q = Q p
+CourseGoesOn (Broken v p) Q = ⊥
 
 -- The code does this course within this many instructions: where it goes on, it comes to a
 -- configuration that stands for it and of which `at` holds; where it breaks, it ends with that
 -- violation, after the course's marks.
-abbrev pub Does : Setup → Call → (ℕ → Conf → After) → (ℕ → ℕ) → List Ir → Course → (Conf → Type 0) → ℕ → Conf → Type 0
-Does s call handle given code course at n c =
-    Reaches s handle given code (Breaks course) (λ t. GoesOn course (λ p. Represents s call p t × at t)) n c
+abbrev pub DoesCourse : Setup → Call → (ℕ → Conf → OperationResult) → (ℕ → ℕ) → List Ir → Course
+    → (Conf → Type 0) → ℕ → Conf → Type 0
+DoesCourse s call handle given code course at n c =
+    CodeReaches s handle given code (CourseBreaks course)
+    (λ t. CourseGoesOn course (λ p. Represents s call p t × at t)) n c
 
 -- where a handler may begin: the event's value is in its place, no piece was made, the stack is
 -- empty, the out-window is one that a caller may give, and the module's devices are there
-pub record Begins (s : Setup) (call : Call) (e : SourceEvent) (p : Progress) (c : Conf) : Type 0 where
+pub record HandlerBegins (s : Setup) (call : Call) (e : SourceEvent) (p : Progress)
+    (c : Conf) : Type 0 where
   pub represents : Represents s call p c
   pub value : word c.priv event_at ≡ value_of e
   pub pieces : p.pieces ≡ []
@@ -61,6 +64,9 @@ pub record Begins (s : Setup) (call : Call) (e : SourceEvent) (p : Progress) (c 
   pub devices : HasDevices p.devices (declared_kind s.tree.decls) s.section.layout
 
 -- a handler's part from this place on, up to `Stop`, does the handler of this event
-abbrev pub PartDoes : Setup → (ℕ → Conf → After) → (ℕ → ℕ) → List Ir → ℕ → SourceEvent → ℕ → Type 0
-PartDoes s handle given code place e n = (call : Call) (p : Progress) (c : Conf) → c.place ≡ place → Begins s call e p c →
-    Does s call handle given code (handled s call e p) (λ t. (slice_get code t.place ≡ Some ir.Stop) × (t.stack ≡ []) × (t.back ≡ c.back)) n c
+abbrev pub PartDoes : Setup → (ℕ → Conf → OperationResult) → (ℕ → ℕ) → List Ir → ℕ → SourceEvent → ℕ
+    → Type 0
+PartDoes s handle given code place e n =
+    (call : Call) (p : Progress) (c : Conf) → c.place ≡ place → HandlerBegins s call e p c →
+    DoesCourse s call handle given code (handled s call e p)
+    (λ t. (slice_get code t.place ≡ Some ir.Stop) × (t.stack ≡ []) × (t.back ≡ c.back)) n c

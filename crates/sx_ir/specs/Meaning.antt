@@ -1,5 +1,7 @@
 -- What each operation of stack code does.
-use Rattle.std.specs.Prelude.{◌≡◌, ℕ, zero, suc, ◌+◌, ◌*◌, ◌==◌, nat_lt, nat_le, Bool, false, ◌&&◌, not, if◌then◌else◌, List, [], ◌∷◌, ◌++◌, length, take, slice_get, Option, Some, None, Result, Ok, Err}
+use Rattle.std.specs.Prelude.{◌≡◌, ℕ, zero, suc, ◌+◌, ◌*◌, ◌==◌, nat_lt, nat_le, Bool, false, ◌&&◌}
+use Rattle.std.specs.Prelude.{not, if◌then◌else◌, List, [], ◌∷◌, ◌++◌, length, take, slice_get}
+use Rattle.std.specs.Prelude.{Option, Some, None, Result, Ok, Err}
 use Rattle.sx_lang.specs.declared.tree.UnOp.TheVariants as unary
 use Rattle.sx_lang.specs.declared.tree.BinOp.TheVariants as binary
 use Rattle.sx_mean.specs.Meaning.{truth, apply, combine}
@@ -16,9 +18,10 @@ use Rattle.sx_reach.specs.Reach.{Stepped, Goes, Stops, Comes}
 use Rattle.sx_mean.specs.Offsets as offsets
 use Rattle.sx_invoke.specs.ModuleState.{EndState, end_state}
 use Rattle.sx_invoke.specs.Marks as mark
-use Rattle.sx_invoke.specs.Marks.{Mark, made}
+use Rattle.sx_invoke.specs.Marks.{Mark, made_bytes}
 use Rattle.sx_invoke.specs.Setup.{Setup}
-use Rattle.sx_invoke.specs.Windows.{in_window_size, out_window_size, is_bad_window, two, read_bytes, write_bytes}
+use Rattle.sx_invoke.specs.Windows.{in_window_size, out_window_size, is_bad_window, two, read_bytes}
+use Rattle.sx_invoke.specs.Windows.{write_bytes}
 use Rattle.sx_invoke.specs.Acts.{event_header, event_packet, own_window}
 use Rattle.sx_ir.specs.Conf.{Conf, Halt, Violates, Stuck}
 use Rattle.sx_ir.specs.Counts.{count_of}
@@ -28,11 +31,11 @@ use Rattle.sx_ir.specs.declared.ir.Ir.{Ir}
 use Rattle.sx_ir.specs.declared.ir.Ir.TheVariants as ir
 
 -- what an operation leads to
-abbrev pub After : Type 0
-After = Stepped Conf Halt
+abbrev pub OperationResult : Type 0
+OperationResult = Stepped Conf Halt
 
 -- an operation without meaning
-abbrev pub stuck : After
+abbrev pub stuck : OperationResult
 stuck = Stops Stuck
 
 -- goes on to the next operation with this stack
@@ -40,28 +43,36 @@ abbrev pub next : Conf → List ℕ → Conf
 next c stack = record c { place = c.place + 1; stack = stack }
 
 -- takes the top word, where there is one
-abbrev pub on_top : List ℕ → (ℕ → List ℕ → After) → After
+abbrev pub on_top : List ℕ → (ℕ → List ℕ → OperationResult) → OperationResult
 on_top [] go = stuck
 on_top (x ∷ rest) go = go x rest
 
 -- only where this holds
-abbrev pub when : Bool → After → After
+abbrev pub when : Bool → OperationResult → OperationResult
 when b go = if b then go else stuck
 
 -- a word is pushed, where the stack has room
-abbrev pub pushed : Conf → ℕ → After
+abbrev pub pushed : Conf → ℕ → OperationResult
 pushed c v = when (nat_lt (length c.stack) offsets.stack_words) (Goes (next c (v ∷ c.stack)))
 
 -- the upper word is the right operand
-abbrev pub operated : IrOp → Conf → After
-operated op.Add c = on_top c.stack (λ y below. on_top below (λ x rest. Goes (next c (combine binary.Add x y ∷ rest))))
-operated op.Sub c = on_top c.stack (λ y below. on_top below (λ x rest. Goes (next c (combine binary.Sub x y ∷ rest))))
-operated op.Mul c = on_top c.stack (λ y below. on_top below (λ x rest. Goes (next c (combine binary.Mul x y ∷ rest))))
-operated op.And c = on_top c.stack (λ y below. on_top below (λ x rest. Goes (next c (combine binary.And x y ∷ rest))))
-operated op.Or c = on_top c.stack (λ y below. on_top below (λ x rest. Goes (next c (combine binary.Or x y ∷ rest))))
-operated op.Xor c = on_top c.stack (λ y below. on_top below (λ x rest. Goes (next c (combine binary.Xor x y ∷ rest))))
-operated op.Eq c = on_top c.stack (λ y below. on_top below (λ x rest. Goes (next c (combine binary.Eq x y ∷ rest))))
-operated op.Lt c = on_top c.stack (λ y below. on_top below (λ x rest. Goes (next c (combine binary.Lt x y ∷ rest))))
+abbrev pub operated : IrOp → Conf → OperationResult
+operated op.Add c = on_top c.stack (λ y below.
+    on_top below (λ x rest. Goes (next c (combine binary.Add x y ∷ rest))))
+operated op.Sub c = on_top c.stack (λ y below.
+    on_top below (λ x rest. Goes (next c (combine binary.Sub x y ∷ rest))))
+operated op.Mul c = on_top c.stack (λ y below.
+    on_top below (λ x rest. Goes (next c (combine binary.Mul x y ∷ rest))))
+operated op.And c = on_top c.stack (λ y below.
+    on_top below (λ x rest. Goes (next c (combine binary.And x y ∷ rest))))
+operated op.Or c = on_top c.stack (λ y below.
+    on_top below (λ x rest. Goes (next c (combine binary.Or x y ∷ rest))))
+operated op.Xor c = on_top c.stack (λ y below.
+    on_top below (λ x rest. Goes (next c (combine binary.Xor x y ∷ rest))))
+operated op.Eq c = on_top c.stack (λ y below.
+    on_top below (λ x rest. Goes (next c (combine binary.Eq x y ∷ rest))))
+operated op.Lt c = on_top c.stack (λ y below.
+    on_top below (λ x rest. Goes (next c (combine binary.Lt x y ∷ rest))))
 operated op.Neg c = on_top c.stack (λ x rest. Goes (next c (apply unary.Neg x ∷ rest)))
 operated op.Inv c = on_top c.stack (λ x rest. Goes (next c (apply unary.Inv x ∷ rest)))
 operated op.Not c = on_top c.stack (λ x rest. Goes (next c (apply unary.Not x ∷ rest)))
@@ -91,77 +102,89 @@ abbrev pub has_out_window : Setup → Conf → Bool
 has_out_window s c = not (is_bad_window s (saved c 14) out_window_size)
 
 -- a copy to the out-window that was made, or was refused
-abbrev pub copied_out : Result (List ℕ) Violation → Conf → (List ℕ → Conf) → After
+abbrev pub copied_out : Result (List ℕ) Violation → Conf → (List ℕ → Conf) → OperationResult
 copied_out (Ok mem) c after = Goes (after mem)
 copied_out (Err v) c after = Stops (Violates v c.marks)
 
 -- the packet of the k-th end: its wrap's mark comes before the copy, and then number and count rise
 abbrev pub packed : Conf → ℕ → EndState → List ℕ → Conf
 packed c k e mem = record (next c c.stack) {
-  priv = put_word (put_word c.priv (offsets.end_number_at k) (e.number + 1)) offsets.pieces_at (pieces c + 1);
+  priv = put_word (put_word c.priv (offsets.end_number_at k) (e.number + 1)) offsets.pieces_at
+      (pieces c + 1);
   mem = mem;
 }
 
 -- the wrap of an event has made its mark
 abbrev pub sealed_event : Conf → EndState → ℕ → Conf
-sealed_event c e v = record c { marks = c.marks ++ mark.Wrapped (event_header e) (two v) false ∷ [] }
+sealed_event c e v =
+    record c { marks = c.marks ++ mark.Wrapped (event_header e) (two v) false ∷ [] }
 
 -- A packet's bytes lie in the out-window, and after no more bytes than the marks have made. So what
 -- is written before the exit lies where the pieces go.
 abbrev pub has_packet_room : Conf → Bool
-has_packet_room c = nat_le (24 * pieces c + 24) out_window_size && nat_le (24 * pieces c) (made c.marks)
+has_packet_room c =
+    nat_le (24 * pieces c + 24) out_window_size && nat_le (24 * pieces c) (made_bytes c.marks)
 
 -- a packet of an open end
-abbrev pub send_open : Setup → Conf → ℕ → ℕ → EndState → After
+abbrev pub send_open : Setup → Conf → ℕ → ℕ → EndState → OperationResult
 send_open s c k v e =
     when (has_packet_room c)
-    (copied_out (write_bytes s c.devices c.mem (saved c 14 + 24 * pieces c) (event_packet s e v)) (sealed_event c e v) (packed (sealed_event c e v) k e))
+    (copied_out (write_bytes s c.devices c.mem (saved c 14 + 24 * pieces c) (event_packet s e v))
+    (sealed_event c e v) (packed (sealed_event c e v) k e))
 
 -- a packet, where the end is open and its number below 65,535
-abbrev pub send : Setup → Conf → ℕ → ℕ → EndState → After
+abbrev pub send : Setup → Conf → ℕ → ℕ → EndState → OperationResult
 send s c k v e =
-    when (has_out_window s c) (if e.is_open && nat_lt e.number 65535 then send_open s c k v e else Goes (next c c.stack))
+    when (has_out_window s c) (if e.is_open && nat_lt e.number 65535 then send_open s c k v e else
+    Goes (next c c.stack))
 
 -- a write to an actuator
-abbrev pub emitted : Conf → ℕ → List ℕ → Kind → ℕ → After
-emitted c v rest kind.Actuator device = Goes (record (next c rest) { marks = c.marks ++ mark.Actuated device v ∷ [] })
+abbrev pub emitted : Conf → ℕ → List ℕ → Kind → ℕ → OperationResult
+emitted c v rest kind.Actuator device =
+    Goes (record (next c rest) { marks = c.marks ++ mark.Actuated device v ∷ [] })
 emitted c v rest kind.Sensor device = stuck
 
 -- a write to the module's device
-abbrev pub emit : Conf → ℕ → List ℕ → Option (ℕ × Window) → After
+abbrev pub emit : Conf → ℕ → List ℕ → Option (ℕ × Window) → OperationResult
 emit c v rest None = stuck
 emit c v rest (Some d) = emitted c v rest d.1.kind d.0
 
 -- a read of a sensor: 0 where it is not fresh
-abbrev pub sensed : Conf → ℕ → Window → Kind → After
-sensed c device w kind.Sensor =
-    if w.fresh then pushed (record c { devices = cleared c.devices device; marks = c.marks ++ mark.Sampled device w.value ∷ [] }) (0x8000 + w.value)
+abbrev pub sensor_read : Conf → ℕ → Window → Kind → OperationResult
+sensor_read c device w kind.Sensor =
+    if w.fresh then pushed (record c {
+      devices = cleared c.devices device;
+      marks =
+          c.marks ++ mark.Sampled device w.value ∷ [];
+    }) (0x8000 + w.value)
     else pushed c 0
-sensed c device w kind.Actuator = stuck
+sensor_read c device w kind.Actuator = stuck
 
 -- a read of the module's device
-abbrev pub sense : Conf → Option (ℕ × Window) → After
+abbrev pub sense : Conf → Option (ℕ × Window) → OperationResult
 sense c None = stuck
-sense c (Some d) = sensed c d.0 d.1 d.1.kind
+sense c (Some d) = sensor_read c d.0 d.1 d.1.kind
 
 -- a copy from the in-window that was made, or was refused
-abbrev pub copied_in : Conf → ℕ → Result (List ℕ) Violation → After
+abbrev pub copied_in : Conf → ℕ → Result (List ℕ) Violation → OperationResult
 copied_in c o (Ok bytes) = Goes (record (next c c.stack) { priv = put_bytes c.priv o bytes })
 copied_in c o (Err v) = Stops (Violates v c.marks)
 
 -- n bytes of the in-window to an offset
-abbrev pub copy_in : Setup → Conf → ℕ → ℕ → After
-copy_in s c n o = when (has_in_window s c && nat_le n in_window_size) (copied_in c o (read_bytes s c.devices c.mem (saved c 13) n))
+abbrev pub copy_in : Setup → Conf → ℕ → ℕ → OperationResult
+copy_in s c n o = when (has_in_window s c && nat_le n in_window_size)
+    (copied_in c o (read_bytes s c.devices c.mem (saved c 13) n))
 
 -- the bytes at the out-window's offset lie in it, and are no more than the marks have made
 abbrev pub has_copy_room : Conf → ℕ → ℕ → Bool
-has_copy_room c at n = nat_le (at + n) out_window_size && nat_le (at + n) (made c.marks)
+has_copy_room c at n = nat_le (at + n) out_window_size && nat_le (at + n) (made_bytes c.marks)
 
 -- n bytes at an offset to the out-window's offset
-abbrev pub copy_out : Setup → Conf → ℕ → ℕ → ℕ → List ℕ → After
+abbrev pub copy_out : Setup → Conf → ℕ → ℕ → ℕ → List ℕ → OperationResult
 copy_out s c n o at rest =
     when (has_out_window s c && has_copy_room c at n)
-    (copied_out (write_bytes s c.devices c.mem (saved c 14 + at) (bytes_from c.priv o n)) c (λ mem. record (next c rest) { mem = mem }))
+    (copied_out (write_bytes s c.devices c.mem (saved c 14 + at) (bytes_from c.priv o n)) c
+    (λ mem. record (next c rest) { mem = mem }))
 
 -- the key at an offset, the module's own at 0
 abbrev pub key_at : Setup → Conf → ℕ → List ℕ
@@ -169,47 +192,57 @@ key_at s c zero = s.section.key
 key_at s c (suc k) = bytes_from c.priv (suc k) 16
 
 -- a wrap leaves its cipher and tag, and its mark
-abbrev pub sealed : Conf → ℕ → ℕ → List ℕ → List ℕ → ℕ → Wrapped → After
+abbrev pub sealed : Conf → ℕ → ℕ → List ℕ → List ℕ → ℕ → Wrapped → OperationResult
 sealed c k to ad body n w = Goes (record (next c c.stack) {
   priv = put_bytes (put_bytes c.priv to w.cipher) (to + n) w.tag;
   marks = c.marks ++ mark.Wrapped ad body (k == 0) ∷ [];
 })
 
 -- a wrap of the body at an offset under the header at another
-abbrev pub seal : Setup → Conf → ℕ → ℕ → ℕ → ℕ → ℕ → After
+abbrev pub seal : Setup → Conf → ℕ → ℕ → ℕ → ℕ → ℕ → OperationResult
 seal s c k h hn b bn =
     let ad = bytes_from c.priv h hn in
     let body = bytes_from c.priv b bn in
     sealed c k (h + hn) ad body bn (wrapped s.mac (key_at s c k) ad body)
 
 -- an unwrap that was accepted leaves its body and its mark
-abbrev pub opened : Conf → ℕ → List ℕ → ℕ → ℕ → Option (List ℕ) → After
+abbrev pub opened : Conf → ℕ → List ℕ → ℕ → ℕ → Option (List ℕ) → OperationResult
 opened c k ad b bn None = pushed c 0
 opened c k ad b bn (Some body) =
-    pushed (record c { priv = put_bytes c.priv b (take bn body); marks = c.marks ++ mark.Unwrapped ad (take bn body) (k == 0) ∷ [] }) 1
+    pushed (record c {
+      priv = put_bytes c.priv b (take bn body);
+      marks =
+          c.marks ++ mark.Unwrapped ad (take bn body) (k == 0) ∷ [];
+    }) 1
 
 -- an unwrap of the cipher and tag after a header
-abbrev pub unseal : Setup → Conf → ℕ → ℕ → ℕ → ℕ → ℕ → After
+abbrev pub unseal : Setup → Conf → ℕ → ℕ → ℕ → ℕ → ℕ → OperationResult
 unseal s c k h hn b bn =
     let ad = bytes_from c.priv h hn in
-    opened c k ad b bn (unwrapped s.mac (key_at s c k) ad (bytes_from c.priv (h + hn) bn) (bytes_from c.priv (h + hn + bn) 16))
+    opened c k ad b bn (unwrapped s.mac (key_at s c k) ad (bytes_from c.priv (h + hn) bn)
+    (bytes_from c.priv (h + hn + bn) 16))
 
 -- the k-th slot with a key, a connection field, and number 0
-abbrev pub keyed : List ℕ → ℕ → ℕ → List ℕ → List ℕ
-keyed priv k field key =
-    put_bytes (put_word (put_word (put_word priv (offsets.end_at k) field) (offsets.end_number_at k) 0) (offsets.end_open_at k) 1) (offsets.end_key_at k) key
+abbrev pub slot_keyed : List ℕ → ℕ → ℕ → List ℕ → List ℕ
+slot_keyed priv k field key =
+    put_bytes (put_word (put_word (put_word priv (offsets.end_at k) field) (offsets.end_number_at k)
+    0) (offsets.end_open_at k) 1) (offsets.end_key_at k) key
 
 -- the k-th end is opened with the copied packet's field and key
-abbrev pub set_end : Conf → ℕ → After
-set_end c k = Goes (record (next c c.stack) { priv = keyed c.priv k (word c.priv (offsets.packet_at + 2)) (bytes_from c.priv offsets.plain_at 16) })
+abbrev pub set_end : Conf → ℕ → OperationResult
+set_end c k = Goes (record (next c c.stack) {
+  priv =
+      slot_keyed c.priv k (word c.priv (offsets.packet_at + 2))
+      (bytes_from c.priv offsets.plain_at 16);
+})
 
 -- a handler's part ends: the run goes on where the part was begun from
-abbrev pub stop : Conf → Option ℕ → After
+abbrev pub stop : Conf → Option ℕ → OperationResult
 stop c None = stuck
 stop c (Some p) = Goes (record c { place = p; back = None })
 
 -- a jump where the word is 0
-abbrev pub jump_zero : Conf → ℕ → ℕ → List ℕ → After
+abbrev pub jump_zero : Conf → ℕ → ℕ → List ℕ → OperationResult
 jump_zero c p zero rest = Goes (record c { place = p; stack = rest })
 jump_zero c p (suc v) rest = Goes (next c rest)
 
@@ -219,13 +252,16 @@ is_saved r = nat_le 12 r && nat_le r 15
 
 -- The operation at a configuration's place. What `Handler` does is given: `handle` has the
 -- handler's number and the configuration with a count of pieces of 0.
-abbrev pub do_op : Setup → (ℕ → Conf → After) → Ir → Conf → After
+abbrev pub do_op : Setup → (ℕ → Conf → OperationResult) → Ir → Conf → OperationResult
 do_op s handle (ir.Push n) c = pushed c n
 do_op s handle (ir.Load o) c = pushed c (word c.priv o)
-do_op s handle (ir.Store o) c = on_top c.stack (λ x rest. Goes (record (next c rest) { priv = put_word c.priv o x }))
-do_op s handle (ir.LoadAt o n) c = on_top c.stack (λ i rest. Goes (next c (element c.priv o n i ∷ rest)))
+do_op s handle (ir.Store o) c =
+    on_top c.stack (λ x rest. Goes (record (next c rest) { priv = put_word c.priv o x }))
+do_op s handle (ir.LoadAt o n) c =
+    on_top c.stack (λ i rest. Goes (next c (element c.priv o n i ∷ rest)))
 do_op s handle (ir.StoreAt o n) c =
-    on_top c.stack (λ v below. on_top below (λ i rest. Goes (record (next c rest) { priv = with_element c.priv o n i v })))
+    on_top c.stack (λ v below. on_top below (λ i rest.
+    Goes (record (next c rest) { priv = with_element c.priv o n i v })))
 do_op s handle (ir.Op f) c = operated f c
 do_op s handle (ir.Jump p) c = Goes (record c { place = p })
 do_op s handle (ir.JumpZero p) c = on_top c.stack (jump_zero c p)
@@ -234,8 +270,10 @@ do_op s handle ir.Drop c = on_top c.stack (λ x rest. Goes (next c rest))
 do_op s handle ir.Emit c = on_top c.stack (λ x rest. emit c x rest (own_window s c.devices))
 do_op s handle ir.Stop c = stop c c.back
 do_op s handle (ir.Saved r) c = when (is_saved r) (pushed c (saved c r))
-do_op s handle ir.Inside c = if in_public s.section (even (saved c 15)) then Stops (Violates bad.Illegal c.marks) else Goes (next c c.stack)
-do_op s handle (ir.Meets r n) c = when (is_saved r) (pushed c (truth (is_bad_window s (saved c r) n)))
+do_op s handle ir.Inside c = if in_public s.section (even (saved c 15)) then
+    Stops (Violates bad.Illegal c.marks) else Goes (next c c.stack)
+do_op s handle (ir.Meets r n) c =
+    when (is_saved r) (pushed c (truth (is_bad_window s (saved c r) n)))
 do_op s handle (ir.CopyIn n o) c = copy_in s c n o
 do_op s handle (ir.CopyOut n o) c = on_top c.stack (copy_out s c n o)
 do_op s handle (ir.Seal k h hn b bn) c = seal s c k h hn b bn
@@ -246,12 +284,12 @@ do_op s handle (ir.Handler h) c = handle h (record c { priv = put_word c.priv of
 do_op s handle ir.Leave c = stuck
 
 -- the operation at the place, where there is one
-abbrev pub do_at : Setup → (ℕ → Conf → After) → Option Ir → Conf → After
+abbrev pub do_at : Setup → (ℕ → Conf → OperationResult) → Option Ir → Conf → OperationResult
 do_at s handle None c = stuck
 do_at s handle (Some i) c = do_op s handle i c
 
 -- one operation
-unfoldable pub op_step : Setup → (ℕ → Conf → After) → List Ir → Conf → After
+unfoldable pub op_step : Setup → (ℕ → Conf → OperationResult) → List Ir → Conf → OperationResult
 op_step s handle code c = do_at s handle (slice_get code c.place) c
 
 -- the instructions that a given handler takes
@@ -271,7 +309,7 @@ op_count given code c = count_at given (slice_get code c.place)
 
 -- The part of a handler, in joined code: it is begun with the place to return to, and `Stop`
 -- returns there.
-abbrev pub part_from : List (ℕ × ℕ) → ℕ → Conf → After
+abbrev pub part_from : List (ℕ × ℕ) → ℕ → Conf → OperationResult
 part_from [] h c = stuck
 part_from (part ∷ parts) zero c = Goes (record c { place = part.0; back = Some (c.place + 1) })
 part_from (part ∷ parts) (suc h) c = part_from parts h c
@@ -281,7 +319,7 @@ abbrev pub no_count : ℕ → ℕ
 no_count h = 0
 
 -- code without handlers
-abbrev pub no_handler : ℕ → Conf → After
+abbrev pub no_handler : ℕ → Conf → OperationResult
 no_handler h c = stuck
 
 -- the run is at `Leave`, with a status and a number of pieces
@@ -301,6 +339,8 @@ OnViolation B c Stuck = ⊥
 
 -- From this configuration the code comes to one of Q, or ends with a violation and marks of B,
 -- within this many instructions, and meets no operation without meaning.
-abbrev pub Reaches : Setup → (ℕ → Conf → After) → (ℕ → ℕ) → List Ir → (Violation → List Mark → Type 0) → (Conf → Type 0) → ℕ → Conf → Type 0
-Reaches s handle given code B Q n c =
-    Comes Conf Halt (op_step s handle code) (op_count given code) (λ c. Unit {0}) (OnViolation B) Q n c
+abbrev pub CodeReaches : Setup → (ℕ → Conf → OperationResult) → (ℕ → ℕ) → List Ir
+    → (Violation → List Mark → Type 0) → (Conf → Type 0) → ℕ → Conf → Type 0
+CodeReaches s handle given code B Q n c =
+    Comes Conf Halt (op_step s handle code) (op_count given code)
+    (λ c. Unit {0}) (OnViolation B) Q n c

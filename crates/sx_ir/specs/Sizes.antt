@@ -2,7 +2,8 @@
 -- begins with the entry; after it stand the operations' templates in order, the exit, the routine
 -- that opens a slot, a routine for each end that some operation makes a packet of, and a word of
 -- zeros.
-use Rattle.std.specs.Prelude.{ℕ, zero, suc, ◌+◌, ◌*◌, ◌==◌, Bool, false, if◌then◌else◌, List, [], ◌∷◌, take}
+use Rattle.std.specs.Prelude.{ℕ, zero, suc, ◌+◌, ◌*◌, ◌==◌, Bool, false, if◌then◌else◌, List, []}
+use Rattle.std.specs.Prelude.{◌∷◌, take}
 use Rattle.std.specs.List.{list_any}
 use Rattle.sx_ir.specs.declared.ir.IrOp.{IrOp}
 use Rattle.sx_ir.specs.declared.ir.IrOp.TheVariants as op
@@ -94,7 +95,8 @@ all_routines ops = routines ops 256
 
 -- the bytes of the text
 abbrev pub bytes : List Ir → ℕ
-bytes ops = entry_bytes + ops_bytes ops + exit_bytes + slot_bytes + packet_bytes * all_routines ops + last_bytes
+bytes ops = entry_bytes + ops_bytes ops + exit_bytes + slot_bytes + packet_bytes * all_routines ops
+    + last_bytes
 
 -- the offset in the text at which the template of the operation at a place begins
 abbrev pub offset : List Ir → ℕ → ℕ

@@ -1,5 +1,6 @@
 -- Sound code: what templates ask of the code that they are made for.
-use Rattle.std.specs.Prelude.{ℕ, ◌+◌, ◌-◌, ◌*◌, ◌%◌, ◌==◌, nat_lt, nat_le, Bool, true, ◌&&◌, ◌||◌, List, length}
+use Rattle.std.specs.Prelude.{ℕ, ◌+◌, ◌-◌, ◌*◌, ◌%◌, ◌==◌, nat_lt, nat_le, Bool, true, ◌&&◌, ◌||◌}
+use Rattle.std.specs.Prelude.{List, length}
 use Rattle.std.specs.List.{list_all}
 use Rattle.sx_rules.specs.declared.section.Layout.{Layout}
 use Rattle.sx_mean.specs.Offsets.{scratch_at, stack_to, end_at}
@@ -11,7 +12,8 @@ use Rattle.sx_ir.specs.Sizes.{bytes}
 -- n bytes at an offset lie in a private section of this size, past its first word, and before what
 -- only templates use or after the stack's place
 abbrev pub is_free : ℕ → ℕ → ℕ → Bool
-is_free size o n = nat_le (o + n) size && (nat_le 2 o && (nat_le (o + n) scratch_at || nat_le stack_to o))
+is_free size o n =
+    nat_le (o + n) size && (nat_le 2 o && (nat_le (o + n) scratch_at || nat_le stack_to o))
 
 -- they may be written: they lie beside the caller's saved registers, too
 abbrev pub may_change : ℕ → ℕ → ℕ → Bool
@@ -32,7 +34,8 @@ is_key size k = k == 0 || is_free size k 16
 -- Header and body have at most 32 bytes each. After the header stand the cipher and the tag.
 abbrev pub are_sealed : ℕ → ℕ → ℕ → ℕ → ℕ → ℕ → Bool
 are_sealed size k h hn b bn =
-    is_key size k && (is_free size h (hn + bn + 16) && (is_free size b bn && (nat_le hn 32 && nat_le bn 32)))
+    is_key size k && (is_free size h (hn + bn + 16)
+    && (is_free size b bn && (nat_le hn 32 && nat_le bn 32)))
 
 -- an operation of code with this many operations and parts, in a private section of this size
 abbrev pub is_sound_op : ℕ → ℕ → ℕ → Ir → Bool
@@ -53,8 +56,10 @@ is_sound_op ops parts size ir.Inside = true
 is_sound_op ops parts size (ir.Meets r n) = is_saved r && nat_le 2 n
 is_sound_op ops parts size (ir.CopyIn n o) = nat_le 1 n && may_change size o n
 is_sound_op ops parts size (ir.CopyOut n o) = nat_le 1 n && is_free size o n
-is_sound_op ops parts size (ir.Seal k h hn b bn) = are_sealed size k h hn b bn && may_change size (h + hn) (bn + 16)
-is_sound_op ops parts size (ir.Open k h hn b bn) = are_sealed size k h hn b bn && may_change size b bn
+is_sound_op ops parts size (ir.Seal k h hn b bn) =
+    are_sealed size k h hn b bn && may_change size (h + hn) (bn + 16)
+is_sound_op ops parts size (ir.Open k h hn b bn) =
+    are_sealed size k h hn b bn && may_change size b bn
 is_sound_op ops parts size (ir.SetEnd k) = has_slot size k
 is_sound_op ops parts size ir.Sense = true
 is_sound_op ops parts size (ir.Handler h) = nat_lt h parts
@@ -77,4 +82,5 @@ private_size l = l.priv_to - l.priv_from
 abbrev pub is_sound : List Ir → List (ℕ × ℕ) → Layout → Bool
 is_sound ops parts l =
     nat_lt (length ops) 65536
-    && (list_all (is_sound_op (length ops) (length parts) (private_size l)) ops && (list_all (is_sound_part (length ops)) parts && nat_le (bytes ops) (public_size l)))
+    && (list_all (is_sound_op (length ops) (length parts) (private_size l)) ops
+    && (list_all (is_sound_part (length ops)) parts && nat_le (bytes ops) (public_size l)))

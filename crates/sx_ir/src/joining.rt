@@ -56,8 +56,10 @@ pub fn join<T: Tag>(
     bodies: &Code,
 ) -> Result<Code, OutOfMemory>
     requires short { length stub.now.ops.items + length bodies.now.ops.items < 65536 }
-    ensures ops { IfOk result (λ code. code.ops.items ≡ joined_ops stub.now.ops.items bodies.now.ops.items) }
-    ensures parts { IfOk result (λ code. code.parts.items ≡ map (moved_part (length stub.now.ops.items)) bodies.now.parts.items) }
+    ensures ops { IfOk result (λ code. code.ops.items
+        ≡ joined_ops stub.now.ops.items bodies.now.ops.items) }
+    ensures parts { IfOk result (λ code. code.parts.items
+        ≡ map (moved_part (length stub.now.ops.items)) bodies.now.parts.items) }
 {
     let by = stub.ops.len() as u16;
     let mut ops = Vec::new(alloc);

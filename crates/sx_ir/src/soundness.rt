@@ -3,7 +3,9 @@
 ghost use Rattle.std.specs.Prelude.{◌≡◌, ℕ, ◌+◌, ◌-◌, ◌*◌, ◌<◌, ◌≤◌, length};
 ghost use Rattle.std.specs.List.{list_all};
 ghost use Rattle.sx_ir.specs.Meaning.{is_saved};
-ghost use Rattle.sx_ir.specs.Sound.{are_sealed, has_slot, is_even, is_free, is_key, is_sound, is_sound_op, is_sound_part, may_change, private_size, public_size};
+ghost use Rattle.sx_ir.specs.Sound.{are_sealed, has_slot, is_even, is_free, is_key, is_sound};
+ghost use Rattle.sx_ir.specs.Sound.{is_sound_op, is_sound_part, may_change, private_size};
+ghost use Rattle.sx_ir.specs.Sound.{public_size};
 
 use crate::ir::{Code, Ir};
 use crate::sizes::bytes;

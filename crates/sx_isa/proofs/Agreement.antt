@@ -2,7 +2,7 @@
 use Rattle.std.proofs.Common.{◌≡◌, ℕ, ◌<◌, [], ◌∷◌, length, refl, ap, sym, ◌∙◌, Option, Some, None, IfSome, IsNone, lit<, ◌↔◌}
 use Rattle.sx_isa.specs.declared.instruction.Instr.{Instr}
 use Rattle.sx_isa.specs.Spelling.{spelling, first_word}
-use Rattle.sx_isa.specs.Legal.{IsInstruction, IsIllegal, Begins}
+use Rattle.sx_isa.specs.Legal.{IsInstruction, IsIllegal, BeginsWith}
 use Rattle.sx_isa.specs.Reading.{instruction_at, length_of}
 use Rattle.sx_isa.proofs.Spelled.{reads}
 use Rattle.sx_isa.proofs.Sound.{first_begins, illegal, none, sound}
@@ -10,7 +10,7 @@ use Rattle.sx_isa.proofs.Lengths.{counted, counted_some, length_is, length_none,
 
 -- the laws of the computing reading
 pub reading_found : (w0 w1 w2 n : ℕ) (i : Instr) → w0 < 65536 → w1 < 65536 → w2 < 65536 →
-    (instruction_at w0 w1 w2 ≡ Some (i, n)) ↔ Begins (w0 ∷ w1 ∷ w2 ∷ []) i n
+    (instruction_at w0 w1 w2 ≡ Some (i, n)) ↔ BeginsWith (w0 ∷ w1 ∷ w2 ∷ []) i n
 reading_found w0 w1 w2 n i a b c = (λ e. sound w0 w1 w2 a b c (i, n) e, reads w0 w1 w2 i n)
 
 pub reading_none : (w0 w1 w2 : ℕ) → w0 < 65536 → w1 < 65536 → w2 < 65536 →
@@ -39,7 +39,7 @@ length_illegal w0 a =
 
 -- the clauses of the calls
 pub decode_found : (w0 w1 w2 : ℕ) (r : Option (Instr × ℕ)) → w0 < 65536 → w1 < 65536 → w2 < 65536 →
-    r ≡ instruction_at w0 w1 w2 → IfSome r (λ f. Begins (w0 ∷ w1 ∷ w2 ∷ []) f.0 f.1)
+    r ≡ instruction_at w0 w1 w2 → IfSome r (λ f. BeginsWith (w0 ∷ w1 ∷ w2 ∷ []) f.0 f.1)
 decode_found w0 w1 w2 None a b c e = tt
 decode_found w0 w1 w2 (Some f) a b c e = sound w0 w1 w2 a b c f (sym e)
 

@@ -10,7 +10,7 @@ use Rattle.sx_isa.specs.declared.instruction.Op1.{Op1}
 use Rattle.sx_isa.specs.declared.instruction.Instr.{Instr}
 use Rattle.sx_isa.specs.declared.instruction.Instr.TheVariants.{Two, One, Reti, Jump, Sancus}
 use Rattle.sx_isa.specs.Spelling.{Place, place_of, op2_code, op1_code, bit, two_word, one_word, first_word}
-use Rattle.sx_isa.specs.Legal.{IsSource, IsDestination, is_allowed, IsIllegal, Begins}
+use Rattle.sx_isa.specs.Legal.{IsSource, IsDestination, is_allowed, IsIllegal, BeginsWith}
 use Rattle.sx_isa.specs.Reading.{takes_word, offset_at, two_of, one_of, two_at, one_at, instruction_at}
 use Rattle.sx_isa.proofs.Codes.{bit_at, offset_field-at, offset_at-valid, op2_code-at, op1_code-at, op2_none, op1_none}
 use Rattle.sx_isa.proofs.Operands.{source_stands, destination_stands, destination_none, value_place}
@@ -65,21 +65,21 @@ placed_one false w0 w1 w2 w e = (refl, cc)
 begins_two : (w0 w1 w2 n : ℕ) (op : Op2) (byte : Bool) (src dst : Operand) (s d : Place) →
     place_of src ≡ s → place_of dst ≡ d → IsSource src → IsDestination dst →
     (let words = two_word (op2_code op) s.register d.mode (bit byte) s.mode d.register ∷ (s.words ++ d.words) in (n ≡ length words) × (take n (w0 ∷ w1 ∷ w2 ∷ []) ≡ words)) →
-    Begins (w0 ∷ w1 ∷ w2 ∷ []) (Two op byte src dst) n
+    BeginsWith (w0 ∷ w1 ∷ w2 ∷ []) (Two op byte src dst) n
 begins_two w0 w1 w2 n op byte src dst s d e f h k t = rw (e, f) ((h, k), t.0, t.1)
 
 begins_one : (w0 w1 w2 n : ℕ) (op : Op1) (byte : Bool) (arg : Operand) (s : Place) → place_of arg ≡ s →
     IsSource arg → is_allowed op byte arg ≡ true →
     (let words = one_word (op1_code op) (bit byte) s.mode s.register ∷ s.words in (n ≡ length words) × (take n (w0 ∷ w1 ∷ w2 ∷ []) ≡ words)) →
-    Begins (w0 ∷ w1 ∷ w2 ∷ []) (One op byte arg) n
+    BeginsWith (w0 ∷ w1 ∷ w2 ∷ []) (One op byte arg) n
 begins_one w0 w1 w2 n op byte arg s e h k t = rw e ((h, k), t.0, t.1)
 
-at_some : (w0 w1 w2 : ℕ) (i : Instr) (n : ℕ) → Begins (w0 ∷ w1 ∷ w2 ∷ []) i n → (f : Instr × ℕ) →
-    (i, n) ≡ f → Begins (w0 ∷ w1 ∷ w2 ∷ []) f.0 f.1
-at_some w0 w1 w2 i n b f e = subst (λ (g : Instr × ℕ). Begins (w0 ∷ w1 ∷ w2 ∷ []) g.0 g.1) e b
+at_some : (w0 w1 w2 : ℕ) (i : Instr) (n : ℕ) → BeginsWith (w0 ∷ w1 ∷ w2 ∷ []) i n → (f : Instr × ℕ) →
+    (i, n) ≡ f → BeginsWith (w0 ∷ w1 ∷ w2 ∷ []) f.0 f.1
+at_some w0 w1 w2 i n b f e = subst (λ (g : Instr × ℕ). BeginsWith (w0 ∷ w1 ∷ w2 ∷ []) g.0 g.1) e b
 
 sound_two : (w0 w1 w2 : ℕ) → w0 < 65536 → w1 < 65536 → w2 < 65536 → (f : Instr × ℕ) →
-    two_at w0 w1 w2 ≡ Some f → Begins (w0 ∷ w1 ∷ w2 ∷ []) f.0 f.1
+    two_at w0 w1 w2 ≡ Some f → BeginsWith (w0 ∷ w1 ∷ w2 ∷ []) f.0 f.1
 unfolding two_at
 sound_two w0 w1 w2 a b c f e =
     let r = w0 / 256 % 16 in let m = w0 / 16 % 4 in let d = w0 % 16 in let ad = w0 / 128 % 2 in
@@ -95,7 +95,7 @@ sound_two w0 w1 w2 a b c f e =
     (begins_two w0 w1 w2 _ op byte _ dst _ _ s.place q.place s.valid q.valid (placed_two first second w0 w1 w2 _ w)) f same)
 
 sound_one : (w0 w1 w2 : ℕ) → 0x1000 ≤ w0 → w0 < 0x1300 → w1 < 65536 → (f : Instr × ℕ) →
-    one_at w0 w1 ≡ Some f → Begins (w0 ∷ w1 ∷ w2 ∷ []) f.0 f.1
+    one_at w0 w1 ≡ Some f → BeginsWith (w0 ∷ w1 ∷ w2 ∷ []) f.0 f.1
 unfolding one_at
 sound_one w0 w1 w2 low high b f e =
     let r = w0 % 16 in let m = w0 / 16 % 4 in let byte = w0 / 64 % 2 == 1 in
@@ -108,9 +108,9 @@ sound_one w0 w1 w2 low high b f e =
     (begins_one w0 w1 w2 _ op byte _ _ s.place s.valid allowed (placed_one first w0 w1 w2 _ w)) f same)
 
 pub sound : (w0 w1 w2 : ℕ) → w0 < 65536 → w1 < 65536 → w2 < 65536 → (f : Instr × ℕ) →
-    instruction_at w0 w1 w2 ≡ Some f → Begins (w0 ∷ w1 ∷ w2 ∷ []) f.0 f.1
+    instruction_at w0 w1 w2 ≡ Some f → BeginsWith (w0 ∷ w1 ∷ w2 ∷ []) f.0 f.1
 sound w0 w1 w2 a b c =
-    by_format (λ r. (f : Instr × ℕ) → r w1 w2 ≡ Some f → Begins (w0 ∷ w1 ∷ w2 ∷ []) f.0 f.1) w0
+    by_format (λ r. (f : Instr × ℕ) → r w1 w2 ≡ Some f → BeginsWith (w0 ∷ w1 ∷ w2 ∷ []) f.0 f.1) w0
     (λ h. sound_two w0 w1 w2 a b c)
     (λ h k f e.
     let o = offset_field-at (w0 % 1024) (omega arith) in
@@ -162,7 +162,7 @@ first_of_take : (w0 : ℕ) (ws : List ℕ) (n x : ℕ) (xs : List ℕ) → take 
 first_of_take w0 ws zero x xs e = cc
 first_of_take w0 ws (suc n) x xs e = cc
 
-pub first_begins : (w0 : ℕ) (ws : List ℕ) (i : Instr) (n : ℕ) → Begins (w0 ∷ ws) i n → first_word i ≡ w0
+pub first_begins : (w0 : ℕ) (ws : List ℕ) (i : Instr) (n : ℕ) → BeginsWith (w0 ∷ ws) i n → first_word i ≡ w0
 first_begins w0 ws (Two op byte src dst) n p = first_of_take w0 ws n _ _ p.2
 first_begins w0 ws (One op byte arg) n p = first_of_take w0 ws n _ _ p.2
 first_begins w0 ws Reti n p = first_of_take w0 ws n _ _ p.2
@@ -170,7 +170,7 @@ first_begins w0 ws (Jump cond offset) n p = first_of_take w0 ws n _ _ p.2
 first_begins w0 ws (Sancus code) n p = first_of_take w0 ws n _ _ p.2
 
 unread : (w0 w1 w2 : ℕ) → IsIllegal w0 → (r : Option (Instr × ℕ)) →
-    ((f : Instr × ℕ) → r ≡ Some f → Begins (w0 ∷ w1 ∷ w2 ∷ []) f.0 f.1) → r ≡ None
+    ((f : Instr × ℕ) → r ≡ Some f → BeginsWith (w0 ∷ w1 ∷ w2 ∷ []) f.0 f.1) → r ≡ None
 unread w0 w1 w2 h None s = refl
 unread w0 w1 w2 h (Some f) s =
     let b = s f refl in absurd

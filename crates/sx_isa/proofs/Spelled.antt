@@ -7,7 +7,7 @@ use Rattle.sx_isa.specs.declared.instruction.Op1.{Op1}
 use Rattle.sx_isa.specs.declared.instruction.Instr.{Instr}
 use Rattle.sx_isa.specs.declared.instruction.Instr.TheVariants.{Two, One, Reti, Jump, Sancus}
 use Rattle.sx_isa.specs.Spelling.{place_of, op2_code, op1_code, bit, two_word, one_word, spelling, first_word}
-use Rattle.sx_isa.specs.Legal.{IsSource, IsDestination, is_allowed, IsInstruction, IsOffset, Begins}
+use Rattle.sx_isa.specs.Legal.{IsSource, IsDestination, is_allowed, IsInstruction, IsOffset, BeginsWith}
 use Rattle.sx_isa.specs.Reading.{source_at, destination_at, takes_word, op2_at, op1_at, offset_at, two_of, one_of, two_at, one_at, instruction_at}
 use Rattle.sx_isa.proofs.Codes.{op2_back, op1_back, bit_back, offset_back}
 use Rattle.sx_isa.proofs.Operands.{source_back, destination_back, words_few}
@@ -149,7 +149,7 @@ reads_sancus code w0 w1 w2 h k w =
     ap (λ r. r w1 w2) (sancus_format w0 (omega arith) (omega arith) (omega arith)) ∙ ap
     (λ c. Some (Sancus c, 1)) same
 
-pub reads : (w0 w1 w2 : ℕ) (i : Instr) (n : ℕ) → Begins (w0 ∷ w1 ∷ w2 ∷ []) i n →
+pub reads : (w0 w1 w2 : ℕ) (i : Instr) (n : ℕ) → BeginsWith (w0 ∷ w1 ∷ w2 ∷ []) i n →
     instruction_at w0 w1 w2 ≡ Some (i, n)
 reads w0 w1 w2 (Two op byte src dst) n b =
     reads_two op byte src dst w0 w1 w2 b.0.0 b.0.1
@@ -212,6 +212,6 @@ three (a ∷ b ∷ c ∷ []) h = refl
 three (a ∷ b ∷ c ∷ d ∷ ws) h = absurd (omega arith)
 
 -- three words that begin with an instruction read as it
-pub three_read : (ws : List ℕ) (i : Instr) (n : ℕ) → length ws ≡ 3 → Begins ws i n →
+pub three_read : (ws : List ℕ) (i : Instr) (n : ℕ) → length ws ≡ 3 → BeginsWith ws i n →
     instruction_at (get_or ws 0 0) (get_or ws 1 0) (get_or ws 2 0) ≡ Some (i, n)
-three_read ws i n h b = reads _ _ _ i n (subst (λ (v : List ℕ). Begins v i n) (three ws h) b)
+three_read ws i n h b = reads _ _ _ i n (subst (λ (v : List ℕ). BeginsWith v i n) (three ws h) b)

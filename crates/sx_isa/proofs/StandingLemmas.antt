@@ -2,10 +2,10 @@
 use Rattle.std.proofs.Common.{◌≡◌, ℕ, suc, ◌+◌, ◌*◌, ◌%◌, ◌<◌, ◌≤◌, List, [], ◌∷◌, ◌++◌, length, take, refl, ap, sym, ◌∙◌, arith, length-append, Some, ◌↔◌}
 use Rattle.sx_isa.specs.declared.instruction.Instr.{Instr}
 use Rattle.sx_isa.specs.Spelling.{spelling}
-use Rattle.sx_isa.specs.Legal.{Begins}
+use Rattle.sx_isa.specs.Legal.{BeginsWith}
 use Rattle.sx_isa.specs.Reading.{instruction_at}
 use Rattle.sx_isa.specs.Memory.{word}
-use Rattle.sx_isa.specs.Standing.{word_at, WordsStand, Stands, AllStand, AreInstructions, words_of}
+use Rattle.sx_isa.specs.Standing.{word_at, WordsStand, InstructionStands, AllStand, AreInstructions, words_of}
 use Rattle.sx_isa.proofs.Spelled.{reads, spelling_short}
 
 -- an address counts modulo 65,536
@@ -35,11 +35,11 @@ take_words bytes a (x ∷ y ∷ z ∷ []) h s =
     cc
 take_words bytes a (x ∷ y ∷ z ∷ v ∷ ws) h s = absurd (omega arith)
 
-pub stands_begins : (bytes : List ℕ) (a : ℕ) (i : Instr) → Stands bytes a i →
-    Begins (word_at bytes a ∷ word_at bytes (a + 2) ∷ word_at bytes (a + 4) ∷ []) i (length (spelling i))
+pub stands_begins : (bytes : List ℕ) (a : ℕ) (i : Instr) → InstructionStands bytes a i →
+    BeginsWith (word_at bytes a ∷ word_at bytes (a + 2) ∷ word_at bytes (a + 4) ∷ []) i (length (spelling i))
 stands_begins bytes a i h = (h.0, refl, take_words bytes a (spelling i) (spelling_short i) h.1)
 
-pub stands_reads : (bytes : List ℕ) (a : ℕ) (i : Instr) → Stands bytes a i →
+pub stands_reads : (bytes : List ℕ) (a : ℕ) (i : Instr) → InstructionStands bytes a i →
     instruction_at (word_at bytes a) (word_at bytes (a + 2)) (word_at bytes (a + 4)) ≡ Some (i, length (spelling i))
 stands_reads bytes a i h = reads _ _ _ i (length (spelling i)) (stands_begins bytes a i h)
 

@@ -1,7 +1,10 @@
 -- Which instructions there are, and which first words none of them has.
-use Rattle.std.specs.Prelude.{◌≡◌, ◌≢◌, ℕ, ◌/◌, ◌%◌, ◌<◌, ◌≤◌, ◌==◌, Bool, true, false, ◌&&◌, ◌||◌, not, IsTrue, ℤ, pos, negsuc, List, length, take, ◌⊎◌}
+use Rattle.std.specs.Prelude.{◌≡◌, ◌≢◌, ℕ, ◌/◌, ◌%◌, ◌<◌, ◌≤◌, ◌==◌, Bool, true, false, ◌&&◌, ◌||◌}
+use Rattle.std.specs.Prelude.{not, IsTrue, ℤ, pos, negsuc, List, length, take, ◌⊎◌}
 use Rattle.sx_isa.specs.declared.instruction.Operand.{Operand}
-use Rattle.sx_isa.specs.declared.instruction.Operand.TheVariants.{Reg, Indexed, Indirect, Increment, Symbolic, Absolute, Immediate, Const}
+use Rattle.sx_isa.specs.declared.instruction.Operand.TheVariants.{Reg, Indexed, Indirect, Increment}
+use Rattle.sx_isa.specs.declared.instruction.Operand.TheVariants.{Symbolic, Absolute, Immediate}
+use Rattle.sx_isa.specs.declared.instruction.Operand.TheVariants.{Const}
 use Rattle.sx_isa.specs.declared.instruction.Op1.{Op1}
 use Rattle.sx_isa.specs.declared.instruction.Op1.TheVariants.{Rrc, Swpb, Rra, Sxt, Push, Call}
 use Rattle.sx_isa.specs.declared.instruction.Instr.{Instr}
@@ -112,5 +115,5 @@ IsIllegal w =
     ⊎ ((0x4000 ≤ w) × (w / 128 % 2 ≡ 1) × (w % 16 ≡ 3))
 
 -- the instruction's n words stand at the start of ws
-abbrev pub Begins : List ℕ → Instr → ℕ → Type 0
-Begins ws i n = IsInstruction i × (n ≡ length (spelling i)) × (take n ws ≡ spelling i)
+abbrev pub BeginsWith : List ℕ → Instr → ℕ → Type 0
+BeginsWith ws i n = IsInstruction i × (n ≡ length (spelling i)) × (take n ws ≡ spelling i)

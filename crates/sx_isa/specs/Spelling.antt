@@ -1,10 +1,14 @@
 -- How instructions are written as words (TI, MSP430x2xx Family User's Guide, "CPU"; the Sancus
 -- words are this project's).
-use Rattle.std.specs.Prelude.{ℕ, ◌+◌, ◌*◌, ◌-◌, ◌^◌, ◌==◌, Bool, ℤ, pos, negsuc, List, [], ◌∷◌, ◌++◌, if◌then◌else◌}
+use Rattle.std.specs.Prelude.{ℕ, ◌+◌, ◌*◌, ◌-◌, ◌^◌, ◌==◌, Bool, ℤ, pos, negsuc, List, [], ◌∷◌}
+use Rattle.std.specs.Prelude.{◌++◌, if◌then◌else◌}
 use Rattle.sx_isa.specs.declared.instruction.Operand.{Operand}
-use Rattle.sx_isa.specs.declared.instruction.Operand.TheVariants.{Reg, Indexed, Indirect, Increment, Symbolic, Absolute, Immediate, Const}
+use Rattle.sx_isa.specs.declared.instruction.Operand.TheVariants.{Reg, Indexed, Indirect, Increment}
+use Rattle.sx_isa.specs.declared.instruction.Operand.TheVariants.{Symbolic, Absolute, Immediate}
+use Rattle.sx_isa.specs.declared.instruction.Operand.TheVariants.{Const}
 use Rattle.sx_isa.specs.declared.instruction.Op2.{Op2}
-use Rattle.sx_isa.specs.declared.instruction.Op2.TheVariants.{Mov, Add, Addc, Subc, Sub, Cmp, Bit, Bic, Bis, Xor, And}
+use Rattle.sx_isa.specs.declared.instruction.Op2.TheVariants.{Mov, Add, Addc, Subc, Sub, Cmp, Bit}
+use Rattle.sx_isa.specs.declared.instruction.Op2.TheVariants.{Bic, Bis, Xor, And}
 use Rattle.sx_isa.specs.declared.instruction.Op1.{Op1}
 use Rattle.sx_isa.specs.declared.instruction.Op1.TheVariants.{Rrc, Swpb, Rra, Sxt, Push, Call}
 use Rattle.sx_isa.specs.declared.instruction.Instr.{Instr}
@@ -84,7 +88,8 @@ two_word op source ad byte mode destination =
 
 -- bits 15 to 10 are 000100, 9 to 7 the operation, 6 B/W, 5 and 4 the mode, 3 to 0 the register
 abbrev pub one_word : ℕ → ℕ → ℕ → ℕ → ℕ
-one_word op byte mode register = packed 0b000100 ((3, op) ∷ (1, byte) ∷ (2, mode) ∷ (4, register) ∷ [])
+one_word op byte mode register =
+    packed 0b000100 ((3, op) ∷ (1, byte) ∷ (2, mode) ∷ (4, register) ∷ [])
 
 -- a jump's offset in ten bits, in two's complement
 abbrev pub offset_field : ℤ → ℕ

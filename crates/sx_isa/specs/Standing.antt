@@ -15,13 +15,14 @@ WordsStand bytes a [] = Unit {0}
 WordsStand bytes a (w ∷ ws) = (word_at bytes a ≡ w) × WordsStand bytes (a + 2) ws
 
 -- an instruction stands at an address
-abbrev pub Stands : List ℕ → ℕ → Instr → Type 0
-Stands bytes a i = IsInstruction i × WordsStand bytes a (spelling i)
+abbrev pub InstructionStands : List ℕ → ℕ → Instr → Type 0
+InstructionStands bytes a i = IsInstruction i × WordsStand bytes a (spelling i)
 
 -- instructions stand one after the other
 abbrev pub AllStand : List ℕ → ℕ → List Instr → Type 0
 AllStand bytes a [] = Unit {0}
-AllStand bytes a (i ∷ is) = Stands bytes a i × AllStand bytes (a + 2 * length (spelling i)) is
+AllStand bytes a (i ∷ is) =
+    InstructionStands bytes a i × AllStand bytes (a + 2 * length (spelling i)) is
 
 -- each can be written in words
 abbrev pub AreInstructions : List Instr → Type 0

@@ -1,7 +1,8 @@
 //! The fields of first words, and what they name.
 
 ghost use Rattle.std.specs.Prelude.{◌≡◌, ◌/◌, ◌%◌, ◌<◌, ◌==◌, IsTrue};
-ghost use Rattle.sx_isa.specs.Reading.{takes_word, source_at, destination_at, op2_at, op1_at, offset_at};
+ghost use Rattle.sx_isa.specs.Reading.{takes_word, source_at, destination_at, op2_at, op1_at};
+ghost use Rattle.sx_isa.specs.Reading.{offset_at};
 ghost use Rattle.sx_isa.specs.Legal.{is_allowed};
 
 use crate::instruction::{Op1, Op2, Operand};

@@ -2,10 +2,11 @@
 //! that does nothing: its contract is the law.
 
 ghost use Rattle.std.specs.Prelude.{◌≡◌, ℕ, ◌+◌, ◌*◌, ◌%◌, ◌<◌, List, ◌∷◌, [], ◌++◌, ◌↔◌, length};
-ghost use Rattle.sx_isa.specs.Legal.{IsWord, IsInstruction, IsIllegal, Begins};
+ghost use Rattle.sx_isa.specs.Legal.{IsWord, IsInstruction, IsIllegal, BeginsWith};
 ghost use Rattle.sx_isa.specs.Reading.{instruction_at, length_of};
 ghost use Rattle.sx_isa.specs.Spelling.{spelling, first_word};
-ghost use Rattle.sx_isa.specs.Standing.{word_at, WordsStand, Stands, AllStand, AreInstructions, words_of};
+ghost use Rattle.sx_isa.specs.Standing.{word_at, WordsStand, InstructionStands, AllStand};
+ghost use Rattle.sx_isa.specs.Standing.{AreInstructions, words_of};
 ghost use Rattle.sx_isa.specs.declared.instruction.Instr.{Instr};
 
 /// No two instructions have the same words, whatever follows them.
@@ -19,7 +20,7 @@ pub fn one_spelling()
 pub fn reading()
     ensures found { (w0 w1 w2 n : ℕ) (i : Instr) → IsWord w0 → IsWord w1 → IsWord w2 →
         (instruction_at w0 w1 w2 ≡ Some (record { 0 = i; 1 = n }))
-        ↔ Begins (w0 ∷ w1 ∷ w2 ∷ []) i n }
+        ↔ BeginsWith (w0 ∷ w1 ∷ w2 ∷ []) i n }
     ensures none { (w0 w1 w2 : ℕ) → IsWord w0 → IsWord w1 → IsWord w2 →
         (instruction_at w0 w1 w2 ≡ None) ↔ IsIllegal w0 }
 {}
@@ -40,10 +41,10 @@ pub fn lengths()
 /// their words do, are put together, may be addressed modulo 65,536, and stay where their words
 /// stay.
 pub fn standing()
-    ensures begins { (bytes : List ℕ) (a : ℕ) (i : Instr) → Stands bytes a i →
-        Begins (word_at bytes a ∷ word_at bytes (a + 2) ∷ word_at bytes (a + 4) ∷ [])
+    ensures begins { (bytes : List ℕ) (a : ℕ) (i : Instr) → InstructionStands bytes a i →
+        BeginsWith (word_at bytes a ∷ word_at bytes (a + 2) ∷ word_at bytes (a + 4) ∷ [])
         i (length (spelling i)) }
-    ensures reads { (bytes : List ℕ) (a : ℕ) (i : Instr) → Stands bytes a i →
+    ensures reads { (bytes : List ℕ) (a : ℕ) (i : Instr) → InstructionStands bytes a i →
         instruction_at (word_at bytes a) (word_at bytes (a + 2)) (word_at bytes (a + 4))
         ≡ Some (record { 0 = i; 1 = length (spelling i) }) }
     ensures words { (bytes : List ℕ) (is : List Instr) (a : ℕ) →

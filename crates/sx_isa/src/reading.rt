@@ -1,7 +1,7 @@
 //! From instruction words to instructions.
 
 ghost use Rattle.std.specs.Prelude.{◌≡◌, ℕ, ◌<◌, ◌≤◌, ◌∷◌, [], ◌↔◌, IfSome, IsNone, length};
-ghost use Rattle.sx_isa.specs.Legal.{Begins, IsInstruction, IsIllegal};
+ghost use Rattle.sx_isa.specs.Legal.{BeginsWith, IsInstruction, IsIllegal};
 ghost use Rattle.sx_isa.specs.Spelling.{spelling, first_word};
 ghost use Rattle.sx_isa.specs.declared.instruction.Instr.{Instr};
 ghost use Rattle.sx_isa.specs.Reading.{two_at, one_at, instruction_at, length_of};
@@ -79,8 +79,8 @@ fn length_at(w0: u16) -> Option<u8>
 /// instructions are our own.
 pub fn decode(w0: u16, w1: u16, w2: u16) -> Option<(Instr, u8)>
     ensures computed { result ≡ instruction_at w0 w1 w2 }
-    ensures found { IfSome result (λ f. Begins (w0 ∷ w1 ∷ w2 ∷ []) f.0 f.1) }
-    ensures only { (i : Instr) (n : ℕ) → Begins (w0 ∷ w1 ∷ w2 ∷ []) i n →
+    ensures found { IfSome result (λ f. BeginsWith (w0 ∷ w1 ∷ w2 ∷ []) f.0 f.1) }
+    ensures only { (i : Instr) (n : ℕ) → BeginsWith (w0 ∷ w1 ∷ w2 ∷ []) i n →
         result ≡ Some (record { 0 = i; 1 = n }) }
     ensures none { IsNone result ↔ IsIllegal w0 }
 {
@@ -91,7 +91,8 @@ pub fn decode(w0: u16, w1: u16, w2: u16) -> Option<(Instr, u8)>
 /// has it.
 pub fn length(w0: u16) -> Option<u8>
     ensures computed { result ≡ length_of w0 }
-    ensures only { (i : Instr) → IsInstruction i → first_word i ≡ w0 → result ≡ Some (length (spelling i)) }
+    ensures only { (i : Instr) → IsInstruction i → first_word i ≡ w0
+        → result ≡ Some (length (spelling i)) }
     ensures none { IsNone result ↔ IsIllegal w0 }
 {
     length_at(w0)

@@ -1,9 +1,11 @@
 //! From instructions to their words, and the test whether there are any.
 
-ghost use Rattle.std.specs.Prelude.{◌≡◌, ◌+◌, ◌*◌, ◌<◌, ◌≤◌, ◌∷◌, [], ◌++◌, IsTrue, ◌↔◌, All, option_to_list, take, drop, length, slice_index};
-ghost use Rattle.sx_isa.specs.Legal.{IsSource, IsDestination, IsInstruction, IsOffset, Begins};
+ghost use Rattle.std.specs.Prelude.{◌≡◌, ◌+◌, ◌*◌, ◌<◌, ◌≤◌, ◌∷◌, [], ◌++◌, IsTrue, ◌↔◌, All};
+ghost use Rattle.std.specs.Prelude.{option_to_list, take, drop, length, slice_index};
+ghost use Rattle.sx_isa.specs.Legal.{IsSource, IsDestination, IsInstruction, IsOffset, BeginsWith};
 ghost use Rattle.sx_isa.specs.Reading.{instruction_at};
-ghost use Rattle.sx_isa.specs.Spelling.{bit, two_word, one_word, packed, place_of, at, spelling, op2_code, op1_code, offset_field};
+ghost use Rattle.sx_isa.specs.Spelling.{bit, two_word, one_word, packed, place_of, at, spelling};
+ghost use Rattle.sx_isa.specs.Spelling.{op2_code, op1_code, offset_field};
 
 use crate::fields::is_allowed;
 use crate::instruction::{Instr, Op1, Op2, Operand, Words};
@@ -182,9 +184,10 @@ fn in_order(parts: Parts) -> Words
 /// module instructions are our own.
 pub fn encode(i: &Instr) -> Words
     requires { IsInstruction i.now }
-    ensures words { Begins result.w i.now result.len }
+    ensures words { BeginsWith result.w i.now result.len }
     ensures rest { All (λ w. w ≡ 0) (drop result.len result.w) }
-    ensures read_back { instruction_at (slice_index result.w 0) (slice_index result.w 1) (slice_index result.w 2)
+    ensures read_back { instruction_at (slice_index result.w 0) (slice_index result.w 1)
+        (slice_index result.w 2)
         ≡ Some (record { 0 = i.now; 1 = result.len }) }
 {
     in_order(parts_of(*i))

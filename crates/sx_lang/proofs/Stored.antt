@@ -4,9 +4,9 @@ use Rattle.std.proofs.Math.ListN.{replicate}
 use Rattle.std.proofs.Math.Seq.{take-append_seam, take-append-add}
 use Rattle.std.proofs.lemmas.Bool.Decides.{nat_tests}
 use Rattle.std.proofs.lemmas.List.{drop-replicate, take-replicate}
-use Rattle.sx_lang.specs.Padded.{padded, IsStored}
+use Rattle.sx_lang.specs.Padded.{padded_name, IsStored}
 
-padded_is : (xs : List ℕ) → length xs ≤ 16 → padded xs ≡ xs ++ replicate (16 - length xs) 0
+padded_is : (xs : List ℕ) → length xs ≤ 16 → padded_name xs ≡ xs ++ replicate (16 - length xs) 0
 padded_is xs h =
     let e : 16 ≡ length xs + (16 - length xs) = omega arith in
     ap (λ n. take n (xs ++ replicate 16 0)) e ∙ take-append-add xs (replicate 16 0) (16 - length xs)
@@ -19,4 +19,4 @@ pub stored : (xs front back : List ℕ) → front ≡ xs → back ≡ drop (leng
 stored xs front back f b s h =
     let e : front ++ back ≡ xs ++ replicate (16 - length xs) 0 = rw (f, b, drop-replicate {X = ℕ} (length xs) 16 0) refl in
     let t : take (length xs) (front ++ back) ≡ xs = rw f (take-append_seam xs back) in
-    record { some = some_are (length xs) s; short = h; counted = ap length t; filled = ap padded t ∙ padded_is xs h ∙ sym e }
+    record { some = some_are (length xs) s; short = h; counted = ap length t; filled = ap padded_name t ∙ padded_is xs h ∙ sym e }

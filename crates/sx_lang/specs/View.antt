@@ -1,10 +1,13 @@
 -- What contracts see of a tree in memory.
 use Rattle.std.specs.Prelude.{List, [], ◌∷◌, map}
 use Rattle.sx_lang.specs.declared.tree.Expr.{Expr, Number, Read, At', Unary', Binary'}
-use Rattle.sx_lang.specs.declared.tree.Stmt.{Stmt, Let, Assign, Element, If', Repeat', Send, Emit, Row_of-Stmt, end_of-Stmt, more_of-Stmt}
+use Rattle.sx_lang.specs.declared.tree.Stmt.{Stmt, Let, Assign, Element, If', Repeat', Send, Emit}
+use Rattle.sx_lang.specs.declared.tree.Stmt.{Row_of-Stmt, end_of-Stmt, more_of-Stmt}
 use Rattle.sx_lang.specs.declared.tree.Handler.{Handler}
 use Rattle.sx_lang.specs.declared.tree.Module.{Module}
-use Rattle.sx_lang.specs.Tree.{Expression, Constant, Variable, Indexed, Applied, Combined, Statement, Defines, Assigns, Stores, Chooses, Repeats, Sends, Emits, Block, Done, Then, HandlerTree, ModuleTree}
+use Rattle.sx_lang.specs.Tree.{Expression, Constant, Variable, Indexed, Applied, Combined}
+use Rattle.sx_lang.specs.Tree.{Statement, Defines, Assigns, Stores, Chooses, Repeats, Sends, Emits}
+use Rattle.sx_lang.specs.Tree.{Block, Done, Then, HandlerTree, ModuleTree}
 
 -- the code's expression as plain data
 abbrev pub expression_of : Expr → Expression

@@ -50,7 +50,7 @@ pub struct Name {
 
 impl Model for Name {
     ghost use Rattle.std.specs.Prelude.{◌≡◌, ℕ, List, length, take};
-    ghost use Rattle.sx_lang.specs.Padded.{padded, IsStored};
+    ghost use Rattle.sx_lang.specs.Padded.{padded_name, IsStored};
 
     ghost Value = { List ℕ };
 
@@ -58,7 +58,7 @@ impl Model for Name {
 
     ghost invariant = { λ a. IsStored a.field a.count };
 
-    ghost inverse = { λ bytes. record { field = padded bytes; count = length bytes } };
+    ghost inverse = { λ bytes. record { field = padded_name bytes; count = length bytes } };
 }
 
 impl PartialEq for Name {

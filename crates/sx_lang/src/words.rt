@@ -3,7 +3,8 @@
 
 ghost use Rattle.std.specs.Prelude.{◌≡◌, ℕ, map};
 ghost use Rattle.sx_lang.specs.View.{block_of, expression_of, handler_of, module_of, statement_of};
-ghost use Rattle.sx_lang.specs.Words.{AreWords, BlockHasWords, DeclHasWords, DeclsHaveWords, HandlersHaveWords, HasWords, TreeHasWords};
+ghost use Rattle.sx_lang.specs.Words.{AreWords, BlockHasWords, DeclHasWords, DeclsHaveWords};
+ghost use Rattle.sx_lang.specs.Words.{HandlersHaveWords, HasWords, TreeHasWords};
 
 use crate::tree::{Decl, Expr, Handler, Module, Stmt};
 

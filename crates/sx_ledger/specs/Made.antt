@@ -15,7 +15,8 @@ pub record Made : Type 0 where
 
 -- an entry with these parts
 abbrev pub made : Maker → ℕ → ℕ → List ℕ → List ℕ → Made
-made maker target boot header body = record { maker = maker; target = target; boot = boot; header = header; body = body }
+made maker target boot header body =
+    record { maker = maker; target = target; boot = boot; header = header; body = body }
 
 -- the target of an entry that is no set-key packet
 abbrev pub NO_TARGET : ℕ
@@ -39,8 +40,14 @@ entry_of m = record {
 
 -- the header and the body of an entry, without the room after them
 abbrev pub made_of : Entry → Made
-made_of e = record { maker = e.maker; target = e.target; boot = e.boot; header = take e.ad_len e.ad; body = take e.body_len e.body }
+made_of e = record {
+  maker = e.maker;
+  target = e.target;
+  boot = e.boot;
+  header = take e.ad_len e.ad;
+  body = take e.body_len e.body;
+}
 
 -- the ledger's entries after the making of one: those before, and that one
-abbrev pub Adds : List Entry → List Entry → Entry → Type 0
-Adds old new entry = (e : Entry) → Contains new e ↔ (Contains old e ⊎ (e ≡ entry))
+abbrev pub AddsEntry : List Entry → List Entry → Entry → Type 0
+AddsEntry old new entry = (e : Entry) → Contains new e ↔ (Contains old e ⊎ (e ≡ entry))

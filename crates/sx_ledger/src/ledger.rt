@@ -2,7 +2,7 @@
 
 ghost use Rattle.std.specs.Prelude.{◌≡◌, ◌↔◌, List, [], IsTrue, OnErr, OnOk};
 ghost use Rattle.std.specs.List.{Contains};
-ghost use Rattle.sx_ledger.specs.Made.{Adds};
+ghost use Rattle.sx_ledger.specs.Made.{AddsEntry};
 
 use crate::entry::Entry;
 use std::alloc::{AllocError, Global};
@@ -37,7 +37,7 @@ impl Ledger {
     /// Adds the entry. One that is there already changes nothing. After an error, which says that
     /// memory ran out, the ledger is as before.
     pub fn made(&mut self, entry: Entry) -> Result<(), AllocError>
-        ensures added { OnOk result (Adds self.old self.new entry) }
+        ensures added { OnOk result (AddsEntry self.old self.new entry) }
         ensures again { Contains self.old entry → self.new ≡ self.old }
         ensures err { OnErr result (self.new ≡ self.old) }
     {

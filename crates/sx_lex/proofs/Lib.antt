@@ -4,4 +4,4 @@ pub mod Numbers
 pub mod Signs
 pub mod Turns
 pub mod Same
-pub mod Readings
+pub mod HasReading

@@ -5,7 +5,7 @@ use Rattle.sx_lex.specs.declared.tokens.Kind.TheVariants.{Bad}
 use Rattle.sx_lex.specs.declared.tokens.Place.{Place}
 use Rattle.sx_lex.specs.declared.tokens.Placed.{Placed}
 use Rattle.sx_lex.specs.Words.{IsLongest, NoToken, line_length, Passed}
-use Rattle.sx_lex.specs.Lexed.{along, below, start, is_space, begins_comment, Lexed, at_end, space, newline, comment, token, bad, Begun}
+use Rattle.sx_lex.specs.Lexed.{along, below, start, is_space, begins_comment, Lexed, at_end, space, newline, comment, token, bad, LexedSoFar}
 
 none_left : (r : List ℕ) → length r ≡ 0 → r ≡ []
 none_left [] h = refl
@@ -26,22 +26,22 @@ line_stops text rest a n b h e t = let f : line_length rest ≡ 0 = rw (e, t) re
 pub line_ends : (text rest : List ℕ) (n : ℕ) → Passed text n rest → length rest ≡ 0 → n ≡ line_length text
 line_ends text rest n h e = let f : line_length rest ≡ 0 = rw (none_left rest e) refl in omega (arith, h.passed, f)
 
-pub begins : (text rest : List ℕ) (out : List Placed) (at : Place) → out ≡ [] → rest ≡ text → at ≡ start → Begun text out at rest
+pub begins : (text rest : List ℕ) (out : List Placed) (at : Place) → out ≡ [] → rest ≡ text → at ≡ start → LexedSoFar text out at rest
 begins text rest out at e f g = rw (e, f, g) (record { begun = λ ts end h. h })
 
-pub passes_space : (text rest a : List ℕ) (out : List Placed) (at next : Place) (b : ℕ) → Begun text out at rest → rest ≡ b ∷ a → is_space b ≡ true → next ≡ along at 1 → Begun text out next a
+pub passes_space : (text rest a : List ℕ) (out : List Placed) (at next : Place) (b : ℕ) → LexedSoFar text out at rest → rest ≡ b ∷ a → is_space b ≡ true → next ≡ along at 1 → LexedSoFar text out next a
 passes_space text rest a out at next b h e s q = record { begun = λ ts end t. h.begun ts end (rw e (space {at = at} {end = end} {b = b} {bs = a} {ts = ts} s (subst (λ p. Lexed p a ts end) q t))) }
 
-pub passes_line : (text rest a : List ℕ) (out : List Placed) (at next : Place) (b : ℕ) → Begun text out at rest → rest ≡ b ∷ a → b ≡ 10 → next ≡ below at → Begun text out next a
+pub passes_line : (text rest a : List ℕ) (out : List Placed) (at next : Place) (b : ℕ) → LexedSoFar text out at rest → rest ≡ b ∷ a → b ≡ 10 → next ≡ below at → LexedSoFar text out next a
 passes_line text rest a out at next b h e s q = record { begun = λ ts end t. h.begun ts end (rw (e, s) (newline {at = at} {end = end} {bs = a} {ts = ts} (subst (λ p. Lexed p a ts end) q t))) }
 
-pub passes_comment : (text rest a : List ℕ) (out : List Placed) (at next : Place) (n : ℕ) → Begun text out at rest → begins_comment rest ≡ true → n ≡ line_length rest → a ≡ drop n rest → next ≡ along at n → Begun text out next a
+pub passes_comment : (text rest a : List ℕ) (out : List Placed) (at next : Place) (n : ℕ) → LexedSoFar text out at rest → begins_comment rest ≡ true → n ≡ line_length rest → a ≡ drop n rest → next ≡ along at n → LexedSoFar text out next a
 passes_comment text rest a out at next n h s e d q = record {
   begun = λ ts end t. h.begun ts end (comment {at = at} {end = end} {bs = rest} {ts = ts} s
       (subst (λ (i : ℕ). Lexed (along at i) (drop i rest) ts end) e (subst (λ p. Lexed p (drop n rest) ts end) q (subst (λ l. Lexed next l ts end) d t))));
 }
 
-pub adds_token : (text rest a : List ℕ) (out out2 : List Placed) (at next : Place) (n : ℕ) (k : Kind) → Begun text out at rest → IsLongest rest n k → a ≡ drop n rest → next ≡ along at n → out2 ≡ out ++ record { kind = k; place = at } ∷ [] → Begun text out2 next a
+pub adds_token : (text rest a : List ℕ) (out out2 : List Placed) (at next : Place) (n : ℕ) (k : Kind) → LexedSoFar text out at rest → IsLongest rest n k → a ≡ drop n rest → next ≡ along at n → out2 ≡ out ++ record { kind = k; place = at } ∷ [] → LexedSoFar text out2 next a
 adds_token text rest a out out2 at next n k h w e q o = record {
   begun = λ ts end t. (let p : Placed = record { kind = k; place = at } in
       let t2 : Lexed (along at n) (drop n rest) ts end = subst (λ p. Lexed p (drop n rest) ts end) q (subst (λ l. Lexed next l ts end) e t) in
@@ -50,12 +50,12 @@ adds_token text rest a out out2 at next n k h w e q o = record {
       subst (λ x. Lexed start text x end) (sym s) r);
 }
 
-pub adds_bad : (text rest a : List ℕ) (out out2 : List Placed) (at : Place) (b : ℕ) → Begun text out at rest → rest ≡ b ∷ a → (b == 10) ≡ false → is_space b ≡ false → begins_comment rest ≡ false → NoToken rest → out2 ≡ out ++ record { kind = Bad; place = at } ∷ [] → Lexed start text out2 at
+pub adds_bad : (text rest a : List ℕ) (out out2 : List Placed) (at : Place) (b : ℕ) → LexedSoFar text out at rest → rest ≡ b ∷ a → (b == 10) ≡ false → is_space b ≡ false → begins_comment rest ≡ false → NoToken rest → out2 ≡ out ++ record { kind = Bad; place = at } ∷ [] → Lexed start text out2 at
 adds_bad text rest a out out2 at b h e l s c n o =
     let c2 : begins_comment (b ∷ a) ≡ false = ap begins_comment (sym e) ∙ c in
     let n2 : NoToken (b ∷ a) = subst NoToken e n in
     let r : Lexed at rest (record { kind = Bad; place = at } ∷ []) at = subst (λ x. Lexed at x (record { kind = Bad; place = at } ∷ []) at) (sym e) (bad {at = at} {b = b} {bs = a} s l c2 n2) in
     subst (λ x. Lexed start text x at) (sym o) (h.begun _ at r)
 
-pub ends_here : (text rest : List ℕ) (out : List Placed) (at : Place) → Begun text out at rest → length rest ≡ 0 → Lexed start text out at
+pub ends_here : (text rest : List ℕ) (out : List Placed) (at : Place) → LexedSoFar text out at rest → length rest ≡ 0 → Lexed start text out at
 ends_here text rest out at h e = subst (λ x. Lexed start text x at) (append-nil out) (h.begun [] at (subst (λ r. Lexed at r [] at) (sym (none_left rest e)) (at_end {at = at})))

@@ -1,5 +1,6 @@
 -- The tokens of a text and their places.
-use Rattle.std.specs.Prelude.{◌≡◌, ℕ, ◌+◌, min, Bool, true, false, ◌||◌, ◌&&◌, List, [], ◌∷◌, ◌++◌, drop, ◌==◌}
+use Rattle.std.specs.Prelude.{◌≡◌, ℕ, ◌+◌, min, Bool, true, false, ◌||◌, ◌&&◌, List, [], ◌∷◌, ◌++◌}
+use Rattle.std.specs.Prelude.{drop, ◌==◌}
 use Rattle.sx_lex.specs.declared.tokens.Kind.{Kind}
 use Rattle.sx_lex.specs.declared.tokens.Kind.TheVariants.{Bad}
 use Rattle.sx_lex.specs.declared.tokens.Place.{Place}
@@ -35,22 +36,32 @@ begins_comment _ = false
 -- ends there
 pub data Lexed : Place → List ℕ → List Placed → Place → Type 0 where
   at_end : {at : Place} → Lexed at [] [] at
-  space : {at end : Place} {b : ℕ} {bs : List ℕ} {ts : List Placed} → is_space b ≡ true → Lexed (along at 1) bs ts end → Lexed at (b ∷ bs) ts end
-  newline : {at end : Place} {bs : List ℕ} {ts : List Placed} → Lexed (below at) bs ts end → Lexed at (10 ∷ bs) ts end
+  space : {at end : Place} {b : ℕ} {bs : List ℕ} {ts : List Placed} → is_space b ≡ true
+      → Lexed (along at 1) bs ts end → Lexed at (b ∷ bs) ts end
+  newline : {at end : Place} {bs : List ℕ} {ts : List Placed} → Lexed (below at) bs ts end
+      → Lexed at (10 ∷ bs) ts end
   -- up to the end of the line, or of the text
-  comment : {at end : Place} {bs : List ℕ} {ts : List Placed} → begins_comment bs ≡ true → Lexed (along at (line_length bs)) (drop (line_length bs) bs) ts end → Lexed at bs ts end
-  token : {at end : Place} {n : ℕ} {bs : List ℕ} {k : Kind} {ts : List Placed} → IsLongest bs n k → Lexed (along at n) (drop n bs) ts end → Lexed at bs (record { kind = k; place = at } ∷ ts) end
+  comment : {at end : Place} {bs : List ℕ} {ts : List Placed} → begins_comment bs ≡ true
+      → Lexed (along at (line_length bs)) (drop (line_length bs) bs) ts end → Lexed at bs ts end
+  token : {at end : Place} {n : ℕ} {bs : List ℕ} {k : Kind} {ts : List Placed} → IsLongest bs n k
+      → Lexed (along at n) (drop n bs) ts end → Lexed at bs (record { kind = k; place = at } ∷ ts)
+      end
   -- what is no token ends the reading
-  bad : {at : Place} {b : ℕ} {bs : List ℕ} → is_space b ≡ false → (b == 10) ≡ false → begins_comment (b ∷ bs) ≡ false → NoToken (b ∷ bs) → Lexed at (b ∷ bs) (record { kind = Bad; place = at } ∷ []) at
+  bad : {at : Place} {b : ℕ} {bs : List ℕ} → is_space b ≡ false → (b == 10) ≡ false
+      → begins_comment (b ∷ bs) ≡ false → NoToken (b ∷ bs)
+      → Lexed at (b ∷ bs) (record { kind = Bad; place = at } ∷ []) at
 
 -- a text has no two readings
 abbrev pub OneReading : Type 0
-OneReading = (at end last : Place) (bs : List ℕ) (ts us : List Placed) → Lexed at bs ts end → Lexed at bs us last → (ts ≡ us) × (end ≡ last)
+OneReading = (at end last : Place) (bs : List ℕ) (ts us : List Placed) → Lexed at bs ts end
+    → Lexed at bs us last → (ts ≡ us) × (end ≡ last)
 
 -- each text has a reading
 abbrev pub HasReading : Type 0
 HasReading = (at : Place) (bs : List ℕ) → (ts : List Placed) × (end : Place) × Lexed at bs ts end
 
 -- in any way that the rest is read, the whole is these tokens and then the rest's
-pub record Begun (text : List ℕ) (out : List Placed) (at : Place) (rest : List ℕ) : Type 0 where
-  pub begun : (ts : List Placed) → (end : Place) → Lexed at rest ts end → Lexed start text (out ++ ts) end
+pub record LexedSoFar (text : List ℕ) (out : List Placed) (at : Place) (rest : List ℕ) : Type
+    0 where
+  pub begun : (ts : List Placed) → (end : Place) → Lexed at rest ts end
+      → Lexed start text (out ++ ts) end

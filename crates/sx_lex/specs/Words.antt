@@ -1,23 +1,39 @@
 -- What whole words are tokens.
-use Rattle.std.specs.Prelude.{◌≡◌, ℕ, zero, suc, ◌+◌, ◌-◌, ◌*◌, ◌<◌, ◌≤◌, Bool, false, ◌&&◌, ◌||◌, List, [], ◌∷◌, length, take, drop, Option, Some, None, nat_eq, nat_le, if◌then◌else◌, codes, ◌==◌}
+use Rattle.std.specs.Prelude.{◌≡◌, ℕ, zero, suc, ◌+◌, ◌-◌, ◌*◌, ◌<◌, ◌≤◌, Bool, false, ◌&&◌, ◌||◌}
+use Rattle.std.specs.Prelude.{List, [], ◌∷◌, length, take, drop, Option, Some, None, nat_eq, nat_le}
+use Rattle.std.specs.Prelude.{if◌then◌else◌, codes, ◌==◌}
 use Rattle.std.specs.Cmp.Lexicographic.{pointwise}
 use Rattle.std.specs.List.{list_all}
 pub use Rattle.sx_lang.specs.Form.{is_lower, is_decimal_digit, is_name_byte, is_name}
 use Rattle.sx_lex.specs.declared.tokens.Kind.{Kind}
-use Rattle.sx_lex.specs.declared.tokens.Kind.TheVariants.{Number, Name, Sensor, Actuator, Input, Output, Var, Array, On, Sample, Let, If, Else, Repeat, Send, Emit, Semicolon, Equals, Open, Close, OpenSquare, CloseSquare, OpenBrace, CloseBrace, EqualsEquals, NotEquals, Less, LessEquals, Greater, GreaterEquals, Plus, Minus, Bar, Caret, Star, Ampersand, Tilde, Bang}
+use Rattle.sx_lex.specs.declared.tokens.Kind.TheVariants.{Number, Name, Sensor, Actuator, Input}
+use Rattle.sx_lex.specs.declared.tokens.Kind.TheVariants.{Output, Var, Array, On, Sample, Let, If}
+use Rattle.sx_lex.specs.declared.tokens.Kind.TheVariants.{Else, Repeat, Send, Emit, Semicolon}
+use Rattle.sx_lex.specs.declared.tokens.Kind.TheVariants.{Equals, Open, Close, OpenSquare}
+use Rattle.sx_lex.specs.declared.tokens.Kind.TheVariants.{CloseSquare, OpenBrace, CloseBrace}
+use Rattle.sx_lex.specs.declared.tokens.Kind.TheVariants.{EqualsEquals, NotEquals, Less, LessEquals}
+use Rattle.sx_lex.specs.declared.tokens.Kind.TheVariants.{Greater, GreaterEquals, Plus, Minus, Bar}
+use Rattle.sx_lex.specs.declared.tokens.Kind.TheVariants.{Caret, Star, Ampersand, Tilde, Bang}
 
 -- the language's own words
 abbrev pub keywords : List (List ℕ × Kind)
 keywords =
-    (codes "sensor", Sensor) ∷ (codes "actuator", Actuator) ∷ (codes "input", Input) ∷ (codes "output", Output) ∷ (codes "var", Var) ∷ (codes "array", Array)
-    ∷ (codes "on", On) ∷ (codes "sample", Sample) ∷ (codes "let", Let) ∷ (codes "if", If) ∷ (codes "else", Else) ∷ (codes "repeat", Repeat) ∷ (codes "send", Send) ∷ (codes "emit", Emit) ∷ []
+    (codes "sensor", Sensor) ∷ (codes "actuator", Actuator) ∷ (codes "input", Input)
+    ∷ (codes "output", Output) ∷ (codes "var", Var) ∷ (codes "array", Array)
+    ∷ (codes "on", On) ∷ (codes "sample", Sample) ∷ (codes "let", Let) ∷ (codes "if", If)
+    ∷ (codes "else", Else) ∷ (codes "repeat", Repeat) ∷ (codes "send", Send) ∷ (codes "emit", Emit)
+    ∷ []
 
 -- its signs
 abbrev pub signs : List (List ℕ × Kind)
 signs =
-    (codes ";", Semicolon) ∷ (codes "=", Equals) ∷ (codes "(", Open) ∷ (codes ")", Close) ∷ (codes "[", OpenSquare) ∷ (codes "]", CloseSquare) ∷ (codes "{", OpenBrace) ∷ (codes "}", CloseBrace)
-    ∷ (codes "==", EqualsEquals) ∷ (codes "!=", NotEquals) ∷ (codes "<", Less) ∷ (codes "<=", LessEquals) ∷ (codes ">", Greater) ∷ (codes ">=", GreaterEquals)
-    ∷ (codes "+", Plus) ∷ (codes "-", Minus) ∷ (codes "|", Bar) ∷ (codes "^", Caret) ∷ (codes "*", Star) ∷ (codes "&", Ampersand) ∷ (codes "~", Tilde) ∷ (codes "!", Bang) ∷ []
+    (codes ";", Semicolon) ∷ (codes "=", Equals) ∷ (codes "(", Open) ∷ (codes ")", Close)
+    ∷ (codes "[", OpenSquare) ∷ (codes "]", CloseSquare) ∷ (codes "{", OpenBrace)
+    ∷ (codes "}", CloseBrace)
+    ∷ (codes "==", EqualsEquals) ∷ (codes "!=", NotEquals) ∷ (codes "<", Less)
+    ∷ (codes "<=", LessEquals) ∷ (codes ">", Greater) ∷ (codes ">=", GreaterEquals)
+    ∷ (codes "+", Plus) ∷ (codes "-", Minus) ∷ (codes "|", Bar) ∷ (codes "^", Caret)
+    ∷ (codes "*", Star) ∷ (codes "&", Ampersand) ∷ (codes "~", Tilde) ∷ (codes "!", Bang) ∷ []
 
 -- the token of a word in a table of words
 abbrev pub found_in : List (List ℕ × Kind) → List ℕ → Option Kind
@@ -95,12 +111,14 @@ name_front (suc k) (b ∷ bs) = if is_name_byte b then suc (name_front k bs) els
 -- how many digits at the start can go on a number
 abbrev pub number_front : ℕ → ℕ → List ℕ → ℕ
 number_front base v [] = 0
-number_front base v (b ∷ bs) = if is_digit base b && nat_le (v * base + digit_value b) 65535 then suc (number_front base (v * base + digit_value b) bs) else 0
+number_front base v (b ∷ bs) = if is_digit base b && nat_le (v * base + digit_value b) 65535 then
+    suc (number_front base (v * base + digit_value b) bs) else 0
 
 -- this many digits were read, of this value, and the rest is still to be read
 pub record Counted (text : List ℕ) (base count v : ℕ) (rest : List ℕ) : Type 0 where
   pub fronts : number_front base 0 text ≡ count + number_front base v rest
-  pub values : value base 0 (take (number_front base 0 text) text) ≡ value base v (take (number_front base v rest) rest)
+  pub values : value base 0 (take (number_front base 0 text) text)
+      ≡ value base v (take (number_front base v rest) rest)
   pub inside : count + length rest ≡ length text
 
 -- how many bytes stand before the first newline

@@ -1,7 +1,10 @@
 //! The longest token at the start of a text.
 
-ghost use Rattle.std.specs.Prelude.{◌≡◌, ℕ, ◌+◌, ◌*◌, ◌<◌, ◌≤◌, ◌&&◌, true, false, List, length, take, IfSome, IfNone, nat_le};
-ghost use Rattle.sx_lex.specs.Words.{is_lower, digit_value, is_digit, value, name_front, number_front, found_in, keywords, or_else, first_is, NoHexadecimal, NoPair, IsLongest, NoToken};
+ghost use Rattle.std.specs.Prelude.{◌≡◌, ℕ, ◌+◌, ◌*◌, ◌<◌, ◌≤◌, ◌&&◌, true, false, List, length};
+ghost use Rattle.std.specs.Prelude.{take, IfSome, IfNone, nat_le};
+ghost use Rattle.sx_lex.specs.Words.{is_lower, digit_value, is_digit, value, name_front};
+ghost use Rattle.sx_lex.specs.Words.{number_front, found_in, keywords, or_else, first_is};
+ghost use Rattle.sx_lex.specs.Words.{NoHexadecimal, NoPair, IsLongest, NoToken};
 
 use crate::quoted::{keyword, sign, sign_of_two};
 use crate::tokens::Kind;
@@ -71,7 +74,8 @@ fn name_at(text: &[u8]) -> Option<Word>
 /// What a byte counts as a digit in this base.
 fn digit(byte: u8, base: u32) -> Option<u32>
     requires { base ≤ 16 }
-    ensures found { IfSome result (λ d. (is_digit base byte ≡ true) × (d ≡ digit_value byte) × (d < 16)) }
+    ensures found { IfSome result (λ d. (is_digit base byte ≡ true) × (d ≡ digit_value byte)
+        × (d < 16)) }
     ensures none { IfNone result (is_digit base byte ≡ false) }
 {
     let value = match byte {
@@ -88,8 +92,11 @@ fn digit(byte: u8, base: u32) -> Option<u32>
 #[tactic(auto, using(crate::proofs::Numbers::product_fits, crate::proofs::Numbers::both, crate::proofs::Numbers::not_first, crate::proofs::Numbers::not_second))]
 fn appended(number: u16, byte: u8, base: u32) -> Option<u16>
     requires { base ≤ 16 }
-    ensures found { IfSome result (λ n. ((is_digit base byte && nat_le (number * base + digit_value byte) 65535) ≡ true) × (n ≡ number * base + digit_value byte)) }
-    ensures none { IfNone result ((is_digit base byte && nat_le (number * base + digit_value byte) 65535) ≡ false) }
+    ensures found { IfSome result (λ n. ((is_digit base byte
+        && nat_le (number * base + digit_value byte) 65535) ≡ true)
+        × (n ≡ number * base + digit_value byte)) }
+    ensures none { IfNone result ((is_digit base byte
+        && nat_le (number * base + digit_value byte) 65535) ≡ false) }
 {
     let Some(digit) = digit(byte, base) else {
         return None;

@@ -6,7 +6,7 @@ use Rattle.sx_lang.specs.declared.tree.Decl.{Decl}
 use Rattle.sx_lang.specs.Tree.{Expression, Constant, Variable, Indexed, Applied, Combined}
 use Rattle.sx_lang.specs.Sizes.{declared_cells}
 use Rattle.sx_mean.specs.Places.{place, array_length, initial_cells}
-use Rattle.sx_mean.specs.Meaning.{State, or_cell, word, element, value, local_place, new_local, define, assign, assign_element, forget}
+use Rattle.sx_mean.specs.Meaning.{HandlerState, or_cell, word, element, value, local_place, new_local, define, assign, assign_element, forget}
 use Rattle.sx_machine.specs.Memory as memory
 use Rattle.sx_machine.specs.Memory.{even, put_word}
 use Rattle.sx_mean.specs.Offsets.{event_at, local_at, cell_at}
@@ -21,7 +21,7 @@ use Rattle.sx_lower.proofs.Source.{look_at, found_word}
 use Rattle.sx_mean.proofs.Words.{apply_word, combine_word, length-initial}
 
 -- the private section, of a module with this many ends, holds this state, whose locals have these names
-pub record Holds (ds : List Decl) (n : ℕ) (names : List (List ℕ)) (st : State) (priv : List ℕ) : Type 0 where
+pub record Holds (ds : List Decl) (n : ℕ) (names : List (List ℕ)) (st : HandlerState) (priv : List ℕ) : Type 0 where
   pub named : names_of st.locals ≡ names
   pub few : length names ≤ 16
   pub locals : InSlots priv (local_at 0) st.locals
@@ -29,7 +29,7 @@ pub record Holds (ds : List Decl) (n : ℕ) (names : List (List ℕ)) (st : Stat
   pub size : cell_at n (declared_cells ds) ≤ length priv
   pub bytes : All (λ b. b < 256) priv
 
-module _ (ds : List Decl) (n : ℕ) (names : List (List ℕ)) (st : State) (priv : List ℕ) (h : Holds ds n names st priv) where
+module _ (ds : List Decl) (n : ℕ) (names : List (List ℕ)) (st : HandlerState) (priv : List ℕ) (h : Holds ds n names st priv) where
   few_locals : length st.locals ≤ 16
   few_locals = omega (arith, length-names st.locals, ap length h.named, h.few)
 
@@ -186,7 +186,7 @@ module _ (ds : List Decl) (n : ℕ) (names : List (List ℕ)) (st : State) (priv
           subst (λ o. Holds ds n names (record st { cells = slice_set st.cells (place ds x + i) v }) (put_word priv o v)) at (holds_cell (place ds x + i) v v el.there lt is)
 
 -- a block's locals end
-pub holds_forget : (ds : List Decl) (n : ℕ) (names all : List (List ℕ)) (st : State) (priv : List ℕ) (k : ℕ) → Holds ds n all st priv → take k all ≡ names → length names ≤ 16 → Holds ds n names (forget k st) priv
+pub holds_forget : (ds : List Decl) (n : ℕ) (names all : List (List ℕ)) (st : HandlerState) (priv : List ℕ) (k : ℕ) → Holds ds n all st priv → take k all ≡ names → length names ≤ 16 → Holds ds n names (forget k st) priv
 holds_forget ds n names all st priv k h e few = record {
   named = names_take st.locals k ∙ ap (take k) h.named ∙ e;
   few = few;

@@ -12,5 +12,5 @@ pub mod Packets
 pub mod Statements
 pub mod Sounds
 pub mod Reacts
-pub mod Moves
+pub mod LoweredMoves
 pub mod Cases

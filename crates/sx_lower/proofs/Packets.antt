@@ -7,21 +7,21 @@ use Rattle.std.proofs.lemmas.Bool.Decides.{nat_tests}
 use Rattle.sx_lang.specs.declared.tree.Decl.{Decl}
 use Rattle.sx_lang.specs.Sizes.{module_data_size}
 use Rattle.sx_mean.specs.declared.events.End.{End}
-use Rattle.sx_mean.specs.Meaning.{State}
+use Rattle.sx_mean.specs.Meaning.{HandlerState}
 use Rattle.sx_rules.specs.declared.access.Violation.{Violation}
 use Rattle.sx_bus.specs.declared.devices.Window.{Window}
 use Rattle.sx_reach.specs.Reach.{Goes}
 use Rattle.sx_machine.specs.Memory.{even, word, put_word}
-use Rattle.sx_invoke.specs.Marks.{Mark, Wrapped, piece_size, made}
+use Rattle.sx_invoke.specs.Marks.{Mark, Wrapped, piece_size, made_bytes}
 use Rattle.sx_invoke.specs.Setup.{Setup, Call}
 use Rattle.sx_mean.specs.Offsets.{pieces_at, saved_at, end_number_at}
 use Rattle.sx_invoke.specs.ModuleState.{EndState, end_of, with_end, end_state, end_states}
 use Rattle.sx_invoke.specs.Windows.{is_bad_window, two, write_bytes, out_window_size}
 use Rattle.sx_invoke.specs.Progress.{Progress, Course, Going, Broken, and_on}
-use Rattle.sx_invoke.specs.Acts.{copied_to, with_piece, event_header, event_packet, counted, with_packet, with_packets}
+use Rattle.sx_invoke.specs.Acts.{copied_to, with_piece, event_header, event_packet, wrap_counted, with_packet, with_packets}
 use Rattle.sx_mean.specs.Ends.{is_sending, senders}
 use Rattle.sx_ir.specs.Conf.{Conf}
-use Rattle.sx_ir.specs.Meaning.{After, do_op, send_open, copied_out, packed, sealed_event, has_out_window, pieces, saved, when}
+use Rattle.sx_ir.specs.Meaning.{OperationResult, do_op, send_open, copied_out, packed, sealed_event, has_out_window, pieces, saved, when}
 use Rattle.sx_ir.specs.declared.ir.Ir.{Ir}
 use Rattle.sx_ir.specs.declared.ir.Ir.TheVariants as ir
 use Rattle.sx_lower.specs.Lowered.{packets_code}
@@ -31,7 +31,7 @@ use Rattle.sx_lower.proofs.Holds.{Holds, holds_other}
 use Rattle.sx_lower.proofs.Run.{HasAt, at, do_one, do_last, weaker, Comes_to}
 
 -- what a mark more makes
-pub made_more : (ms : List Mark) (m : Mark) → made (ms ++ m ∷ []) ≡ made ms + piece_size m
+pub made_more : (ms : List Mark) (m : Mark) → made_bytes (ms ++ m ∷ []) ≡ made_bytes ms + piece_size m
 made_more [] m = omega arith
 made_more (x ∷ ms) m = let e = made_more ms m in omega (arith, e)
 
@@ -55,7 +55,7 @@ pub record Shows (s : Setup) (call : Call) (p : Progress) (priv mem : List ℕ) 
   pub input : word priv (saved_at 13) ≡ call.input
   pub output : word priv (saved_at 14) ≡ call.output
   pub back : word priv (saved_at 15) ≡ call.back
-  pub told : 24 * length p.pieces ≤ made p.marks
+  pub told : 24 * length p.pieces ≤ made_bytes p.marks
 
 -- a write that meets neither what an invocation keeps nor the ends
 pub shows_other : (s : Setup) (call : Call) (p : Progress) (priv mem : List ℕ) (devices : List Window) (marks : List Mark) (o v : ℕ) → ((b : ℕ) → 4 ≤ b → b < 16 → even b ≢ even o) → ((b : ℕ) → 512 ≤ b → b < 512 + 24 * length s.ends → even b ≢ even o) → Shows s call p priv mem devices marks → Shows s call p (put_word priv o v) mem devices marks
@@ -75,21 +75,21 @@ shows_other s call p priv mem devices marks o v low slots h = record {
 
 -- the progress after a packet, but for its copy
 abbrev pub packet_made : Setup → ℕ → EndState → ℕ → Progress → Progress
-packet_made s k e v p = record (counted k e v p) { pieces = p.pieces ++ event_packet s e v ∷ [] }
+packet_made s k e v p = record (wrap_counted k e v p) { pieces = p.pieces ++ event_packet s e v ∷ [] }
 
 module _ (s : Setup) (call : Call) where
   packet_closed : (v k : ℕ) (p : Progress) (e : EndState) → end_of p.state.ends k ≡ e → (e.is_open && nat_lt e.number 65535) ≡ false → with_packet s call v k p ≡ Going p
   unfolding with_packet
   packet_closed v k p e is no_ =
-      ap (λ e. if e.is_open && nat_lt e.number 65535 then with_piece s call (event_packet s e v) (counted k e v p) else Going p) is
-      ∙ ap (λ b. if b then with_piece s call (event_packet s e v) (counted k e v p) else Going p) no_
+      ap (λ e. if e.is_open && nat_lt e.number 65535 then with_piece s call (event_packet s e v) (wrap_counted k e v p) else Going p) is
+      ∙ ap (λ b. if b then with_piece s call (event_packet s e v) (wrap_counted k e v p) else Going p) no_
 
   packet_open : (v k : ℕ) (p : Progress) (e : EndState) (to : ℕ) (devices : List Window) (mem : List ℕ) → end_of p.state.ends k ≡ e → (e.is_open && nat_lt e.number 65535) ≡ true → call.output + 24 * length p.pieces ≡ to → p.devices ≡ devices → p.mem ≡ mem
       → with_packet s call v k p ≡ copied_to (write_bytes s devices mem to (event_packet s e v)) (packet_made s k e v p)
   unfolding with_packet
   packet_open v k p e to devices mem is open_ a d m =
-      ap (λ e. if e.is_open && nat_lt e.number 65535 then with_piece s call (event_packet s e v) (counted k e v p) else Going p) is
-      ∙ ap (λ b. if b then with_piece s call (event_packet s e v) (counted k e v p) else Going p) open_
+      ap (λ e. if e.is_open && nat_lt e.number 65535 then with_piece s call (event_packet s e v) (wrap_counted k e v p) else Going p) is
+      ∙ ap (λ b. if b then with_piece s call (event_packet s e v) (wrap_counted k e v p) else Going p) open_
       ∙ ap (λ t. copied_to (write_bytes s p.devices p.mem t (event_packet s e v)) (packet_made s k e v p)) a
       ∙ ap (λ d. copied_to (write_bytes s d p.mem to (event_packet s e v)) (packet_made s k e v p)) d
       ∙ ap (λ m. copied_to (write_bytes s devices m to (event_packet s e v)) (packet_made s k e v p)) m
@@ -98,7 +98,7 @@ module _ (s : Setup) (call : Call) where
 abbrev pub packed_section : List ℕ → ℕ → EndState → List ℕ
 packed_section priv k e = put_word (put_word priv (end_number_at k) (e.number + 1)) pieces_at (word priv pieces_at + 1)
 
-module _ (s : Setup) (call : Call) (ds : List Decl) (names : List (List ℕ)) (st : State) where
+module _ (s : Setup) (call : Call) (ds : List Decl) (names : List (List ℕ)) (st : HandlerState) where
   packed_shows : (p : Progress) (priv mem : List ℕ) (devices : List Window) (marks : List Mark) (k v : ℕ) (mem2 : List ℕ) → k < length s.ends → Shows s call p priv mem devices marks
       → Shows s call (record (packet_made s k (end_state priv k) v p) { mem = mem2 }) (packed_section priv k (end_state priv k)) mem2 devices (marks ++ Wrapped (event_header (end_state priv k)) (two v) false ∷ [])
   packed_shows p priv mem devices marks k v mem2 inside h =
@@ -134,7 +134,7 @@ module _ (s : Setup) (call : Call) (ds : List Decl) (names : List (List ℕ)) (s
       let one = holds_other ds (length s.ends) names st priv h o (e.number + 1) (omega (arith, small)) (λ b l m. omega (arith, m)) (λ b l. omega (arith, l, inside)) in
       holds_other ds (length s.ends) names st (put_word priv o (e.number + 1)) one pieces_at (word priv pieces_at + 1) (omega (arith, few)) (λ b l m. omega (arith, l)) (λ b l. omega (arith, l))
 
-module _ (s : Setup) (handle : ℕ → Conf → After) (given : ℕ → ℕ) (code : List Ir) (B : Violation → List Mark → Type 0) (call : Call) (ds : List Decl) (names : List (List ℕ)) (st : State) (window : is_bad_window s call.output out_window_size ≡ false) where
+module _ (s : Setup) (handle : ℕ → Conf → OperationResult) (given : ℕ → ℕ) (code : List Ir) (B : Violation → List Mark → Type 0) (call : Call) (ds : List Decl) (names : List (List ℕ)) (st : HandlerState) (window : is_bad_window s call.output out_window_size ≡ false) where
   -- a configuration after packets
   abbrev pub sent : Conf → List ℕ → List ℕ → List Mark → Conf
   sent c priv mem marks = record c { priv = priv; mem = mem; marks = marks }
@@ -178,7 +178,7 @@ module _ (s : Setup) (handle : ℕ → Conf → After) (given : ℕ → ℕ) (co
           let does : do_op s handle (ir.Packet k) (at p (v ∷ stack) c) ≡ copied_out (write_bytes s c.devices c.mem (saved c 14 + 24 * pieces c) (event_packet s e v)) (sealed_event (at p (v ∷ stack) c) e v) (packed (sealed_event (at p (v ∷ stack) c) e v) k e) =
           ap (λ b. when b (if e.is_open && nat_lt e.number 65535 then send_open s (at p (v ∷ stack) c) k v e else Goes (at (p + 1) (v ∷ stack) c))) (has_window c progress shown)
           ∙ ap (λ b. if b then send_open s (at p (v ∷ stack) c) k v e else Goes (at (p + 1) (v ∷ stack) c)) open_
-          ∙ ap (λ b. when b (copied_out (write_bytes s c.devices c.mem (saved c 14 + 24 * pieces c) (event_packet s e v)) (sealed_event (at p (v ∷ stack) c) e v) (packed (sealed_event (at p (v ∷ stack) c) e v) k e))) (room (pieces c) (made c.marks) (omega (arith, shown.count, few)) (omega (arith, shown.count, shown.told, ap made shown.marked))) in
+          ∙ ap (λ b. when b (copied_out (write_bytes s c.devices c.mem (saved c 14 + 24 * pieces c) (event_packet s e v)) (sealed_event (at p (v ∷ stack) c) e v) (packed (sealed_event (at p (v ∷ stack) c) e v) k e))) (room (pieces c) (made_bytes c.marks) (omega (arith, shown.count, few)) (omega (arith, shown.count, shown.told, ap made_bytes shown.marked))) in
           by_write (write_bytes s c.devices c.mem (saved c 14 + 24 * pieces c) (event_packet s e v)) course does small
         where
           by_write : (w : Result (List ℕ) Violation) → with_packet s call v k progress ≡ copied_to w (packet_made s k (end_state c.priv k) v progress)

@@ -16,7 +16,7 @@ use Rattle.sx_mean.specs.declared.events.End.{End}
 use Rattle.sx_mean.specs.declared.events.SourceEvent.{SourceEvent}
 use Rattle.sx_mean.specs.Application.{declared_kind}
 use Rattle.sx_mean.specs.Places.{initial_cells}
-use Rattle.sx_mean.specs.Meaning.{State, in_block, after_block}
+use Rattle.sx_mean.specs.Meaning.{HandlerState, in_block, after_block}
 use Rattle.sx_mean.specs.React.{handler_at, value_of, start, run}
 use Rattle.sx_rules.specs.declared.access.Violation.{Violation}
 use Rattle.sx_bus.specs.declared.devices.Window.{Window}
@@ -27,13 +27,13 @@ use Rattle.sx_invoke.specs.Setup.{Setup, Call}
 use Rattle.sx_mean.specs.Offsets.{event_at, local_at, cell_at}
 use Rattle.sx_invoke.specs.ModuleState.{ModuleState, EndState, end_of, end_states, cells_from, state_of}
 use Rattle.sx_invoke.specs.Progress.{Progress, Course, Going, Broken, and_on}
-use Rattle.sx_invoke.specs.Acts.{copied_to, with_packet, with_packets, with_piece, event_packet, counted, own_window, actuated, with_act, with_acts, handled}
+use Rattle.sx_invoke.specs.Acts.{copied_to, with_packet, with_packets, with_piece, event_packet, wrap_counted, own_window, actuated, with_act, with_acts, handled}
 use Rattle.sx_mean.specs.Ends.{is_sending, senders}
 use Rattle.sx_invoke.specs.Devices.{HasDevices}
 use Rattle.sx_ir.specs.Conf.{Conf}
-use Rattle.sx_ir.specs.Meaning.{After}
+use Rattle.sx_ir.specs.Meaning.{OperationResult}
 use Rattle.sx_ir.specs.Sound.{is_sound_part}
-use Rattle.sx_ir.specs.Invoking.{Represents, Breaks, GoesOn, Does, PartDoes, Begins}
+use Rattle.sx_ir.specs.Invoking.{Represents, CourseBreaks, CourseGoesOn, DoesCourse, PartDoes, HandlerBegins}
 use Rattle.sx_ir.specs.declared.ir.Ir.{Ir}
 use Rattle.sx_ir.specs.declared.ir.Ir.TheVariants as ir
 use Rattle.sx_lower.specs.Lowered.{block_code, handler_code, handlers_code, handlers_parts}
@@ -68,7 +68,7 @@ module _ (s : Setup) (call : Call) (cells : List ℕ) where
   unfolding with_packet
   packet_keeps v k p e = go (end_of p.state.ends k) ((end_of p.state.ends k).is_open && nat_lt (end_of p.state.ends k).number 65535)
     where
-      go : (x : EndState) (b : Bool) → KeepsCells cells (if b then with_piece s call (event_packet s x v) (counted k x v p) else Going p)
+      go : (x : EndState) (b : Bool) → KeepsCells cells (if b then with_piece s call (event_packet s x v) (wrap_counted k x v p) else Going p)
       go x true = copy_keeps cells _ _ e
       go x false = e
 
@@ -116,8 +116,8 @@ state_is : (m : ModuleTree) (ends : List End) (priv : List ℕ) (st : ModuleStat
 unfolding state_of
 state_is m ends priv st c e = rw (c, e) refl
 
-module _ (s : Setup) (handle : ℕ → Conf → After) (given : ℕ → ℕ) (code : List Ir) (low : IsLowerable s.tree s.ends) (e : SourceEvent) (h : HandlerTree) (is : handler_at s.tree e ≡ Some h) (place : ℕ) (has : HasAt code place (handler_code s.tree.decls s.ends place h)) where
-  abbrev done : Progress → State
+module _ (s : Setup) (handle : ℕ → Conf → OperationResult) (given : ℕ → ℕ) (code : List Ir) (low : IsLowerable s.tree s.ends) (e : SourceEvent) (h : HandlerTree) (is : handler_at s.tree e ≡ Some h) (place : ℕ) (has : HasAt code place (handler_code s.tree.decls s.ends place h)) where
+  abbrev done : Progress → HandlerState
   done p = in_block s.tree.decls h.body (start h (value_of e) p.state.cells)
 
   abbrev begun : Progress → Progress
@@ -136,8 +136,8 @@ module _ (s : Setup) (handle : ℕ → Conf → After) (given : ℕ → ℕ) (co
   stop_place = place + 2 + length (block_code s.tree.decls s.ends (place + 2) (h.param ∷ []) h.body)
 
   -- a run that has ended stands for what the handler gave
-  ended_represents : (call : Call) (p0 : Progress) (devs : List Window) (fin st : State) (names : List (List ℕ)) (q most : ℕ) (back : Option ℕ) (t : Conf) → st.cells ≡ fin.cells → st.acts ≡ fin.acts → p0.state.cells ≡ fin.cells → slice_get code q ≡ Some ir.Stop → Ended s call p0 devs names q [] back st most t
-      → GoesOn (with_acts s call fin.acts p0) (λ p. Represents s call p t × IsAtStop q back t)
+  ended_represents : (call : Call) (p0 : Progress) (devs : List Window) (fin st : HandlerState) (names : List (List ℕ)) (q most : ℕ) (back : Option ℕ) (t : Conf) → st.cells ≡ fin.cells → st.acts ≡ fin.acts → p0.state.cells ≡ fin.cells → slice_get code q ≡ Some ir.Stop → Ended s call p0 devs names q [] back st most t
+      → CourseGoesOn (with_acts s call fin.acts p0) (λ p. Represents s call p t × IsAtStop q back t)
   ended_represents call p0 devs fin st names q most back t cells acts first stops h =
       let g = h.tied.progress in
       let did : with_acts s call fin.acts p0 ≡ Going g = ap (λ l. with_acts s call l p0) (sym acts) ∙ h.tied.did in
@@ -156,11 +156,11 @@ module _ (s : Setup) (handle : ℕ → Conf → After) (given : ℕ → ℕ) (co
         output = w.output;
         back = w.back;
       } in
-      subst (λ r. GoesOn r (λ p. Represents s call p t × IsAtStop q back t)) (sym did)
+      subst (λ r. CourseGoesOn r (λ p. Represents s call p t × IsAtStop q back t)) (sym did)
       (r, (h.placed, ap (slice_get code) h.placed ∙ stops, h.stacked, h.returns))
 
   -- the part comes to its `Stop`
-  pub part_ends : (call : Call) (p : Progress) (c : Conf) → c.place ≡ place → Begins s call e p c → Does s call handle given code (handled s call e p) (λ t. IsAtStop stop_place c.back t) (handler_cost h) c
+  pub part_ends : (call : Call) (p : Progress) (c : Conf) → c.place ≡ place → HandlerBegins s call e p c → DoesCourse s call handle given code (handled s call e p) (λ t. IsAtStop stop_place c.back t) (handler_cost h) c
   part_ends call p c at_place b =
       let r = b.represents in
       let ds = s.tree.decls in
@@ -174,7 +174,7 @@ module _ (s : Setup) (handle : ℕ → Conf → After) (given : ℕ → ℕ) (co
       let window = b.window in
       let c2 : Conf = record c { priv = put_word c.priv (local_at 0) v } in
       let small : v < 65536 = subst (λ w. w < 65536) b.value (word_small c.priv event_at (omega (arith, r.size)) r.bytes) in
-      let st : State = record { locals = []; cells = p.state.cells; acts = [] } in
+      let st : HandlerState = record { locals = []; cells = p.state.cells; acts = [] } in
       let holds : Holds ds n [] st c.priv = record { named = refl; few = omega arith; locals = tt; cells = cells_in s.tree s.ends c.priv p.state r.state; size = omega (arith, r.size); bytes = r.bytes } in
       let shown : Shows s call p0 c.priv c.mem c.devices c.marks = record {
         size = r.size;
@@ -201,8 +201,8 @@ module _ (s : Setup) (handle : ℕ → Conf → After) (given : ℕ → ℕ) (co
       let rest = subst (λ q. HasAt code q (body ++ ir.Stop ∷ [])) p2 has.1.1 in
       let stops = (has_back code (place + 2) body (ir.Stop ∷ []) rest).0 in
       let none : length p0.pieces ≡ 0 = ap length b.pieces in
-      let Goal : Conf → Type 0 = λ t. GoesOn (with_acts s call fin.acts p0) (λ q. Represents s call q t × IsAtStop stop_place c.back t) in
-      let Broke : Violation → List Mark → Type 0 = Breaks (with_acts s call fin.acts p0) in
+      let Goal : Conf → Type 0 = λ t. CourseGoesOn (with_acts s call fin.acts p0) (λ q. Represents s call q t × IsAtStop stop_place c.back t) in
+      let Broke : Violation → List Mark → Type 0 = CourseBreaks (with_acts s call fin.acts p0) in
       let runs = block_reach s handle given code call p0 c.devices fin window low.few_ends good.values h.body (place + 2) (h.param ∷ []) good.fine good.height (omega (arith, good.lets)) (has_front code (place + 2) body (ir.Stop ∷ []) rest)
       (start h v p.state.cells) [] c2 tied (omega (arith, good.depth)) (omega (arith, none, good.packets)) (record { more = []; all = append-nil _ }) in
       let ran = weaker s handle given code Broke _ Goal (at (place + 2) [] c2) (block_cost h.body) (block_cost h.body) (omega arith)
@@ -212,9 +212,9 @@ module _ (s : Setup) (handle : ℕ → Conf → After) (given : ℕ → ℕ) (co
       (do_one s handle given code Broke Goal (ir.Store (local_at 0)) (at (place + 1) (v ∷ []) c) (at (place + 1 + 1) [] c2) (block_cost h.body) (8 + block_cost h.body) has.1.0 refl (omega arith)
       (to s handle given code Broke Goal (block_cost h.body) (place + 1 + 1) (place + 2) [] c2 p2 ran)) in
       let at_c = subst (λ x. Comes_to s handle given code Broke Goal (handler_cost h) (at x c.stack c)) (sym at_place) (subst (λ l. Comes_to s handle given code Broke Goal (handler_cost h) (at place l c)) (sym b.stack) from_start) in
-      subst (λ course. Does s call handle given code course (λ t. IsAtStop stop_place c.back t) (handler_cost h) c) (sym (course_is call p)) at_c
+      subst (λ course. DoesCourse s call handle given code course (λ t. IsAtStop stop_place c.back t) (handler_cost h) c) (sym (course_is call p)) at_c
 
-  goes_also : (r : Course) (P Q : Progress → Type 0) → ((q : Progress) → P q → Q q) → GoesOn r P → GoesOn r Q
+  goes_also : (r : Course) (P Q : Progress → Type 0) → ((q : Progress) → P q → Q q) → CourseGoesOn r P → CourseGoesOn r Q
   goes_also (Going q) P Q f x = f q x
   goes_also (Broken v q) P Q f x = x
 
@@ -222,7 +222,7 @@ module _ (s : Setup) (handle : ℕ → Conf → After) (given : ℕ → ℕ) (co
   part_does call p c at_place b =
       let course = handled s call e p in
       let Stops = λ (t : Conf). (slice_get code t.place ≡ Some ir.Stop) × (t.stack ≡ []) × (t.back ≡ c.back) in
-      weaker s handle given code (Breaks course) (λ t. GoesOn course (λ q. Represents s call q t × IsAtStop stop_place c.back t)) (λ t. GoesOn course (λ q. Represents s call q t × Stops t)) c (handler_cost h) (handler_cost h) (omega arith)
+      weaker s handle given code (CourseBreaks course) (λ t. CourseGoesOn course (λ q. Represents s call q t × IsAtStop stop_place c.back t)) (λ t. CourseGoesOn course (λ q. Represents s call q t × Stops t)) c (handler_cost h) (handler_cost h) (omega arith)
       (λ t g. goes_also course (λ q. Represents s call q t × IsAtStop stop_place c.back t) (λ q. Represents s call q t × Stops t) (λ q x. (x.0, (x.1.1, x.1.2, x.1.3))) g) (part_ends call p c at_place b)
 
 -- Parts
@@ -271,9 +271,9 @@ part_behind ds ends (x ∷ hs) p zero from to h is part =
 part_behind ds ends (x ∷ hs) p (suc k) from to h is part = part_behind ds ends hs (p + length (handler_code ds ends p x)) k from to h is part
 
 -- In the handlers' code alone, a part comes to its last operation.
-pub lowered_ends : (s : Setup) (handle : ℕ → Conf → After) (given : ℕ → ℕ) (e : SourceEvent) (h : HandlerTree) (k from to : ℕ) → IsLowerable s.tree s.ends → handler_at s.tree e ≡ Some h → slice_get s.tree.handlers k ≡ Some h
-    → slice_get (handlers_parts s.tree.decls s.ends 0 s.tree.handlers) k ≡ Some (from, to) → (call : Call) (p : Progress) (c : Conf) → c.place ≡ from → Begins s call e p c
-    → Does s call handle given (handlers_code s.tree.decls s.ends 0 s.tree.handlers) (handled s call e p) (λ t. (t.place + 1 ≡ to) × (t.stack ≡ []) × (t.back ≡ c.back)) (handler_cost h) c
+pub lowered_ends : (s : Setup) (handle : ℕ → Conf → OperationResult) (given : ℕ → ℕ) (e : SourceEvent) (h : HandlerTree) (k from to : ℕ) → IsLowerable s.tree s.ends → handler_at s.tree e ≡ Some h → slice_get s.tree.handlers k ≡ Some h
+    → slice_get (handlers_parts s.tree.decls s.ends 0 s.tree.handlers) k ≡ Some (from, to) → (call : Call) (p : Progress) (c : Conf) → c.place ≡ from → HandlerBegins s call e p c
+    → DoesCourse s call handle given (handlers_code s.tree.decls s.ends 0 s.tree.handlers) (handled s call e p) (λ t. (t.place + 1 ≡ to) × (t.stack ≡ []) × (t.back ≡ c.back)) (handler_cost h) c
 lowered_ends s handle given e h k from to low is handler part call p c at_place b =
     let code = handlers_code s.tree.decls s.ends 0 s.tree.handlers in
     let stands : HasAt code 0 code = subst (λ l. HasAt l 0 code) (append-nil code) (has_all code [] []) in
@@ -284,7 +284,7 @@ lowered_ends s handle given e h k from to low is handler part call p c at_place 
     let course = handled s call e p in
     let Before = λ (t : Conf). (t.place ≡ from + 2 + length body) × (slice_get code t.place ≡ Some ir.Stop) × (t.stack ≡ []) × (t.back ≡ c.back) in
     let After_ = λ (t : Conf). (t.place + 1 ≡ to) × (t.stack ≡ []) × (t.back ≡ c.back) in
-    weaker s handle given code (Breaks course) (λ t. GoesOn course (λ q. Represents s call q t × Before t)) (λ t. GoesOn course (λ q. Represents s call q t × After_ t)) c (handler_cost h) (handler_cost h) (omega arith)
+    weaker s handle given code (CourseBreaks course) (λ t. CourseGoesOn course (λ q. Represents s call q t × Before t)) (λ t. CourseGoesOn course (λ q. Represents s call q t × After_ t)) c (handler_cost h) (handler_cost h) (omega arith)
     (λ t g. goes_also s handle given code low e h is from has course (λ q. Represents s call q t × Before t) (λ q. Represents s call q t × After_ t)
     (λ q x. let placed = x.1.0 in (x.0, (omega (arith, placed, behind, long), x.1.2, x.1.3))) g)
     (part_ends s handle given code low e h is from has call p c at_place b)
@@ -340,7 +340,7 @@ lowers m ends ops parts low eo ep =
     alone : (ops : List Ir) → [] ++ (ops ++ []) ≡ ops
     alone ops = append-nil ops
 
-    reacts : (s : Setup) (handle : ℕ → Conf → After) (given : ℕ → ℕ) (e : SourceEvent) (h : HandlerTree) (k from to : ℕ) (m : ModuleTree) (ends : List End) → s.tree ≡ m → s.ends ≡ ends → IsLowerable m ends
+    reacts : (s : Setup) (handle : ℕ → Conf → OperationResult) (given : ℕ → ℕ) (e : SourceEvent) (h : HandlerTree) (k from to : ℕ) (m : ModuleTree) (ends : List End) → s.tree ≡ m → s.ends ≡ ends → IsLowerable m ends
         → handler_at m e ≡ Some h → slice_get m.handlers k ≡ Some h → slice_get (handlers_parts m.decls ends 0 m.handlers) k ≡ Some (from, to) → PartDoes s handle given (handlers_code m.decls ends 0 m.handlers) from e (handler_cost h)
     reacts s handle given e h k from to m ends et ee low is handler part =
         let T = λ (m : ModuleTree) (ends : List End). IsLowerable m ends → handler_at m e ≡ Some h → slice_get m.handlers k ≡ Some h → slice_get (handlers_parts m.decls ends 0 m.handlers) k ≡ Some (from, to) → PartDoes s handle given (handlers_code m.decls ends 0 m.handlers) from e (handler_cost h) in

@@ -13,7 +13,7 @@ use Rattle.sx_lang.specs.Tree.{Expression, Constant, Variable, Indexed, Applied,
 use Rattle.sx_lang.specs.Sizes.{operator_cost, expression_cost}
 use Rattle.sx_check.specs.Bounds.{height}
 use Rattle.sx_mean.specs.Places.{place, array_length}
-use Rattle.sx_mean.specs.Meaning.{State, apply, combine, word, element, value}
+use Rattle.sx_mean.specs.Meaning.{HandlerState, apply, combine, word, element, value}
 use Rattle.sx_rules.specs.declared.access.Violation.{Violation}
 use Rattle.sx_reach.specs.Reach.{Goes, Stops, Here, Next, Ends}
 use Rattle.sx_reach.proofs.Reaching.{and_then, weaken}
@@ -23,7 +23,7 @@ use Rattle.sx_invoke.specs.Setup.{Setup}
 use Rattle.sx_mean.specs.Offsets.{stack_words, local_at, cell_at}
 use Rattle.sx_ir.specs.Conf.{Conf, Halt, Violates}
 use Rattle.sx_ir.specs.Counts.{count_of}
-use Rattle.sx_ir.specs.Meaning.{After, do_op, op_step, op_count, handler_count, count_at, do_at, OnViolation, Reaches, when}
+use Rattle.sx_ir.specs.Meaning.{OperationResult, do_op, op_step, op_count, handler_count, count_at, do_at, OnViolation, CodeReaches, when}
 use Rattle.sx_ir.specs.declared.ir.Ir.{Ir}
 use Rattle.sx_ir.specs.declared.ir.Ir.TheVariants as ir
 use Rattle.sx_ir.specs.declared.ir.IrOp.TheVariants as op
@@ -63,9 +63,9 @@ has_all (i ∷ is) pre post =
 abbrev pub at : ℕ → List ℕ → Conf → Conf
 at p stack c = record c { place = p; stack = stack }
 
-module _ (s : Setup) (handle : ℕ → Conf → After) (given : ℕ → ℕ) (code : List Ir) (B : Violation → List Mark → Type 0) where
+module _ (s : Setup) (handle : ℕ → Conf → OperationResult) (given : ℕ → ℕ) (code : List Ir) (B : Violation → List Mark → Type 0) where
   abbrev pub Comes_to : (Conf → Type 0) → ℕ → Conf → Type 0
-  Comes_to Q n c = Reaches s handle given code B Q n c
+  Comes_to Q n c = CodeReaches s handle given code B Q n c
 
   -- one operation, and what follows
   pub do_one : (Q : Conf → Type 0) (i : Ir) (c t : Conf) (k n : ℕ) → slice_get code c.place ≡ Some i → do_op s handle i c ≡ Goes t → count_of i + handler_count given i + k ≤ n → Comes_to Q k t → Comes_to Q n c
@@ -93,7 +93,7 @@ module _ (s : Setup) (handle : ℕ → Conf → After) (given : ℕ → ℕ) (co
   pub to : (Q : Conf → Type 0) (n p q : ℕ) (stack : List ℕ) (c : Conf) → p ≡ q → Comes_to Q n (at q stack c) → Comes_to Q n (at p stack c)
   to Q n p q stack c e r = subst (λ p. Comes_to Q n (at p stack c)) (sym e) r
 
-  pub room : (stack : List ℕ) (a : After) → length stack < stack_words → when (nat_lt (length stack) stack_words) a ≡ a
+  pub room : (stack : List ℕ) (a : OperationResult) → length stack < stack_words → when (nat_lt (length stack) stack_words) a ≡ a
   room stack a h = ap (λ b. when b a) (lt-ltb (length stack) stack_words h)
 
   -- one operation of at most 8 instructions
@@ -132,7 +132,7 @@ module _ (s : Setup) (handle : ℕ → Conf → After) (given : ℕ → ℕ) (co
   unary_reach unary.Inv a p stack c has = do_one _ (ir.Op op.Inv) _ _ 0 _ has.0 refl (omega arith) (Here refl)
   unary_reach unary.Not a p stack c has = do_one _ (ir.Op op.Not) _ _ 0 _ has.0 refl (omega arith) (Here refl)
 
-  module _ (ds : List Decl) (n : ℕ) (names : List (List ℕ)) (st : State) where
+  module _ (ds : List Decl) (n : ℕ) (names : List (List ℕ)) (st : HandlerState) where
     variable_reach : (x : List ℕ) (p : ℕ) (stack : List ℕ) (c : Conf) → Holds ds n names st c.priv → IsKnown ds names x → length stack + 1 < stack_words → HasAt code p (variable_code ds n names x) → Gives (at p stack c) (at (p + length (variable_code ds n names x)) (word ds st x ∷ stack) c) 32
     variable_reach x p stack c h known space has = go (nat_lt (index_of names x) (length names)) refl has
       where

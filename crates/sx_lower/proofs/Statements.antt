@@ -16,7 +16,7 @@ use Rattle.sx_mean.specs.declared.events.Act.{Act}
 use Rattle.sx_mean.specs.declared.events.Act.TheVariants.{Send, Emit}
 use Rattle.sx_mean.specs.Application.{statement_packets, block_packets}
 use Rattle.sx_mean.specs.Places.{place, array_length, output_number}
-use Rattle.sx_mean.specs.Meaning.{State, value, define, assign, assign_element, act, forget, times, after_statement, after_block, in_block}
+use Rattle.sx_mean.specs.Meaning.{HandlerState, value, define, assign, assign_element, act, forget, times, after_statement, after_block, in_block}
 use Rattle.sx_rules.specs.declared.access.Violation.{Violation}
 use Rattle.sx_bus.specs.declared.devices.Kind.TheVariants as kind
 use Rattle.sx_bus.specs.declared.devices.Window.{Window}
@@ -30,8 +30,8 @@ use Rattle.sx_invoke.specs.Progress.{Progress, Course, Going, Broken, and_on}
 use Rattle.sx_invoke.specs.Acts.{own_window, actuated, with_act, with_acts}
 use Rattle.sx_ir.specs.Conf.{Conf}
 use Rattle.sx_ir.specs.Counts.{count_of}
-use Rattle.sx_ir.specs.Meaning.{After, do_op, handler_count, emit, emitted}
-use Rattle.sx_ir.specs.Invoking.{Breaks}
+use Rattle.sx_ir.specs.Meaning.{OperationResult, do_op, handler_count, emit, emitted}
+use Rattle.sx_ir.specs.Invoking.{CourseBreaks}
 use Rattle.sx_ir.specs.declared.ir.Ir.{Ir}
 use Rattle.sx_ir.specs.declared.ir.Ir.TheVariants as ir
 use Rattle.sx_ir.specs.declared.ir.IrOp.TheVariants as op
@@ -40,8 +40,8 @@ use Rattle.sx_mean.specs.Variables.{first_value, IsKnown, FineExpression, FineSt
 use Rattle.sx_mean.specs.Scope.{index_of}
 use Rattle.sx_mean.specs.Ends.{senders}
 use Rattle.sx_lower.proofs.Bytes.{word-put_same}
-use Rattle.sx_mean.specs.Acts.{Grows}
-use Rattle.sx_mean.proofs.Acts.{grows_on, assign_stays, element_stays, times_grow, block_grows}
+use Rattle.sx_mean.specs.Acts.{AddsActs}
+use Rattle.sx_mean.proofs.ActsGrow.{grows_on, assign_stays, element_stays, times_grow, block_grows}
 use Rattle.sx_mean.proofs.Scope.{length-names}
 use Rattle.sx_lower.proofs.Holds.{Holds, value_word, holds_turns, holds_define, holds_assign_local, holds_assign_cell, holds_element, holds_forget}
 use Rattle.sx_lower.proofs.Run.{HasAt, has_front, has_back, at, do_one, then_so, after, weaker, to, room, Comes_to, expression_reach}
@@ -73,7 +73,7 @@ pub record Actuates (s : Setup) (devices : List Window) : Type 0 where
 
 module _ (s : Setup) (call : Call) (p0 : Progress) (devs : List Window) where
   -- a configuration in mid-run stands for a source state, whose acts so far gave its progress
-  pub record Tied (names : List (List ℕ)) (st : State) (priv mem : List ℕ) (devices : List Window) (marks : List Mark) : Type 0 where
+  pub record Tied (names : List (List ℕ)) (st : HandlerState) (priv mem : List ℕ) (devices : List Window) (marks : List Mark) : Type 0 where
     pub holds : Holds s.tree.decls (length s.ends) names st priv
     pub progress : Progress
     pub did : with_acts s call st.acts p0 ≡ Going progress
@@ -81,7 +81,7 @@ module _ (s : Setup) (call : Call) (p0 : Progress) (devs : List Window) where
     pub same : devices ≡ devs
 
   -- a run has come to this place with this stack, and at most this many pieces
-  pub record Ended (names : List (List ℕ)) (q : ℕ) (stack : List ℕ) (back : Option ℕ) (st : State) (most : ℕ) (t : Conf) : Type 0 where
+  pub record Ended (names : List (List ℕ)) (q : ℕ) (stack : List ℕ) (back : Option ℕ) (st : HandlerState) (most : ℕ) (t : Conf) : Type 0 where
     pub placed : t.place ≡ q
     pub stacked : t.stack ≡ stack
     pub returns : t.back ≡ back
@@ -89,7 +89,7 @@ module _ (s : Setup) (call : Call) (p0 : Progress) (devs : List Window) where
     pub few : length tied.progress.pieces ≤ most
 
   -- the same with fewer locals
-  tied_forget : (names all : List (List ℕ)) (st : State) (k : ℕ) (priv mem : List ℕ) (devices : List Window) (marks : List Mark) → Tied all st priv mem devices marks → take k all ≡ names → length names ≤ 16 → Tied names (forget k st) priv mem devices marks
+  tied_forget : (names all : List (List ℕ)) (st : HandlerState) (k : ℕ) (priv mem : List ℕ) (devices : List Window) (marks : List Mark) → Tied all st priv mem devices marks → take k all ≡ names → length names ≤ 16 → Tied names (forget k st) priv mem devices marks
   tied_forget names all st k priv mem devices marks t e few = record {
     holds = holds_forget s.tree.decls (length s.ends) names all st priv k t.holds e few;
     progress = t.progress;
@@ -98,7 +98,7 @@ module _ (s : Setup) (call : Call) (p0 : Progress) (devs : List Window) where
     same = t.same;
   }
 
-module _ (s : Setup) (handle : ℕ → Conf → After) (given : ℕ → ℕ) (code : List Ir) (call : Call) (p0 : Progress) (devs : List Window) (fin : State) (window : is_bad_window s call.output out_window_size ≡ false) (few_ends : length s.ends ≤ 16) (smalls : (x : List ℕ) → first_value s.tree.decls x < 65536) where
+module _ (s : Setup) (handle : ℕ → Conf → OperationResult) (given : ℕ → ℕ) (code : List Ir) (call : Call) (p0 : Progress) (devs : List Window) (fin : HandlerState) (window : is_bad_window s call.output out_window_size ≡ false) (few_ends : length s.ends ≤ 16) (smalls : (x : List ℕ) → first_value s.tree.decls x < 65536) where
   abbrev ds : List Decl
   ds = s.tree.decls
 
@@ -106,20 +106,20 @@ module _ (s : Setup) (handle : ℕ → Conf → After) (given : ℕ → ℕ) (co
   n = length s.ends
 
   abbrev pub Ends_so : Violation → List Mark → Type 0
-  Ends_so v marks = Breaks (with_acts s call fin.acts p0) v marks
+  Ends_so v marks = CourseBreaks (with_acts s call fin.acts p0) v marks
 
   abbrev pub Reach : (Conf → Type 0) → ℕ → Conf → Type 0
   Reach Q k c = Comes_to s handle given code Ends_so Q k c
 
   -- goes on from where a stretch ended
-  and_so : (Q : Conf → Type 0) (names : List (List ℕ)) (q : ℕ) (stack : List ℕ) (back : Option ℕ) (st : State) (most k m j : ℕ) (c : Conf) → k + m ≤ j → Reach (Ended s call p0 devs names q stack back st most) k c
+  and_so : (Q : Conf → Type 0) (names : List (List ℕ)) (q : ℕ) (stack : List ℕ) (back : Option ℕ) (st : HandlerState) (most k m j : ℕ) (c : Conf) → k + m ≤ j → Reach (Ended s call p0 devs names q stack back st most) k c
       → ((u : Conf) → u.back ≡ back → (t : Tied s call p0 devs names st u.priv u.mem u.devices u.marks) → length t.progress.pieces ≤ most → Reach Q m (at q stack u)) → Reach Q j c
   and_so Q names q stack back st most k m j c le r f =
       then_so s handle given code Ends_so (Ended s call p0 devs names q stack back st most) Q c k m j le r
       (λ u e. subst (λ p. Reach Q m (at p u.stack u)) (sym e.placed) (subst (λ l. Reach Q m (at q l u)) (sym e.stacked) (f u e.returns e.tied e.few)))
 
   -- one operation that writes the private section, and ends a statement
-  write_reach : (i : Ir) (names2 : List (List ℕ)) (st st2 : State) (names : List (List ℕ)) (priv2 : List ℕ) (p : ℕ) (before stack : List ℕ) (c : Conf) → slice_get code p ≡ Some i → do_op s handle i (at p before c) ≡ Goes (at (p + 1) stack (record c { priv = priv2 })) → count_of i + handler_count given i ≤ 8
+  write_reach : (i : Ir) (names2 : List (List ℕ)) (st st2 : HandlerState) (names : List (List ℕ)) (priv2 : List ℕ) (p : ℕ) (before stack : List ℕ) (c : Conf) → slice_get code p ≡ Some i → do_op s handle i (at p before c) ≡ Goes (at (p + 1) stack (record c { priv = priv2 })) → count_of i + handler_count given i ≤ 8
       → (t : Tied s call p0 devs names st c.priv c.mem c.devices c.marks) → Holds ds n names2 st2 priv2 → Shows s call t.progress priv2 c.mem c.devices c.marks → st2.acts ≡ st.acts
       → (most : ℕ) → length t.progress.pieces ≤ most → Reach (Ended s call p0 devs names2 (p + 1) stack c.back st2 most) 8 (at p before c)
   write_reach i names2 st st2 names priv2 p before stack c has does cheap t holds shows acts most few =
@@ -133,7 +133,7 @@ module _ (s : Setup) (handle : ℕ → Conf → After) (given : ℕ → ℕ) (co
       }))
 
   -- the end of a stretch, at a place that is named otherwise
-  ended_at : (names names2 : List (List ℕ)) (q q2 : ℕ) (stack : List ℕ) (back : Option ℕ) (st : State) (most most2 k k2 : ℕ) (c : Conf) → q ≡ q2 → names ≡ names2 → most ≤ most2 → k ≤ k2 → Reach (Ended s call p0 devs names q stack back st most) k c → Reach (Ended s call p0 devs names2 q2 stack back st most2) k2 c
+  ended_at : (names names2 : List (List ℕ)) (q q2 : ℕ) (stack : List ℕ) (back : Option ℕ) (st : HandlerState) (most most2 k k2 : ℕ) (c : Conf) → q ≡ q2 → names ≡ names2 → most ≤ most2 → k ≤ k2 → Reach (Ended s call p0 devs names q stack back st most) k c → Reach (Ended s call p0 devs names2 q2 stack back st most2) k2 c
   ended_at names names2 q q2 stack back st most most2 k k2 c e en le lk r =
       weaker s handle given code Ends_so _ _ c k k2 lk (λ t h. record {
         placed = h.placed ∙ e;
@@ -155,14 +155,14 @@ module _ (s : Setup) (handle : ℕ → Conf → After) (given : ℕ → ℕ) (co
   shows_turns v p priv mem devices marks h = shows_other s call p priv mem devices marks event_at v (λ b x y. omega (arith, x)) (λ b x y. omega (arith, x)) h
 
   -- What it is that code from p to q does f: it takes this many instructions, makes this many packets, and needs so much of the stack.
-  abbrev pub Does : List (List ℕ) → List (List ℕ) → ℕ → ℕ → ℕ → ℕ → ℕ → (State → State) → Type 0
+  abbrev pub Does : List (List ℕ) → List (List ℕ) → ℕ → ℕ → ℕ → ℕ → ℕ → (HandlerState → HandlerState) → Type 0
   Does names names2 p q cost packets deep f =
-      (st : State) (stack : List ℕ) (c : Conf) (t : Tied s call p0 devs names st c.priv c.mem c.devices c.marks)
-      → length stack + deep + 40 ≤ stack_words → length t.progress.pieces + packets ≤ 16 → Grows (f st) fin
+      (st : HandlerState) (stack : List ℕ) (c : Conf) (t : Tied s call p0 devs names st c.priv c.mem c.devices c.marks)
+      → length stack + deep + 40 ≤ stack_words → length t.progress.pieces + packets ≤ 16 → AddsActs (f st) fin
       → Reach (Ended s call p0 devs names2 q stack c.back (f st) (length t.progress.pieces + packets)) cost (at p stack c)
 
   -- an expression, and what follows it
-  value_then : (Q : Conf → Type 0) (names : List (List ℕ)) (st : State) (e : Expression) (p k j : ℕ) (stack : List ℕ) (c : Conf) → Holds ds n names st c.priv → FineExpression ds names e → height e ≤ 32 → length stack + 40 ≤ stack_words → HasAt code p (expression_code ds n names e) → expression_cost e + k ≤ j
+  value_then : (Q : Conf → Type 0) (names : List (List ℕ)) (st : HandlerState) (e : Expression) (p k j : ℕ) (stack : List ℕ) (c : Conf) → Holds ds n names st c.priv → FineExpression ds names e → height e ≤ 32 → length stack + 40 ≤ stack_words → HasAt code p (expression_code ds n names e) → expression_cost e + k ≤ j
       → Reach Q k (at (p + length (expression_code ds n names e)) (value ds st e ∷ stack) c) → Reach Q j (at p stack c)
   value_then Q names st e p k j stack c h fine high space has le r =
       after s handle given code Ends_so Q (at p stack c) _ (expression_cost e) k j le (expression_reach s handle given code Ends_so ds n names st e p stack c h fine (omega (arith, high, space)) has) r
@@ -180,7 +180,7 @@ module _ (s : Setup) (handle : ℕ → Conf → After) (given : ℕ → ℕ) (co
       (holds_define ds n names st c.priv t.holds x v small few) (shows_local (length names) v t.progress c.priv c.mem c.devices c.marks few t.shown) refl (length t.progress.pieces) (omega arith)))
 
   -- a value on the stack goes into a local or a variable
-  assign_reach : (x : List ℕ) (v p : ℕ) (names : List (List ℕ)) (st : State) (stack : List ℕ) (c : Conf) → v < 65536 → IsKnown ds names x → length stack + 40 ≤ stack_words → HasAt code p (assign_code ds n names x) → (t : Tied s call p0 devs names st c.priv c.mem c.devices c.marks)
+  assign_reach : (x : List ℕ) (v p : ℕ) (names : List (List ℕ)) (st : HandlerState) (stack : List ℕ) (c : Conf) → v < 65536 → IsKnown ds names x → length stack + 40 ≤ stack_words → HasAt code p (assign_code ds n names x) → (t : Tied s call p0 devs names st c.priv c.mem c.devices c.marks)
       → Reach (Ended s call p0 devs names (p + length (assign_code ds n names x)) stack c.back (assign ds x v st) (length t.progress.pieces)) 24 (at p (v ∷ stack) c)
   assign_reach x v p names st stack c small known space has t = go (nat_lt (index_of names x) (length names)) refl has
     where
@@ -285,13 +285,13 @@ module _ (s : Setup) (handle : ℕ → Conf → After) (given : ℕ → ℕ) (co
       })))
 
   -- an act that breaks the course so far breaks the whole
-  breaks_whole : (st : State) (a : Act) (progress q : Progress) (w : Violation) → with_acts s call st.acts p0 ≡ Going progress → with_act s call a progress ≡ Broken w q → Grows (act a st) fin → Ends_so w q.marks
+  breaks_whole : (st : HandlerState) (a : Act) (progress q : Progress) (w : Violation) → with_acts s call st.acts p0 ≡ Going progress → with_act s call a progress ≡ Broken w q → AddsActs (act a st) fin → Ends_so w q.marks
   breaks_whole st a progress q w did broke grows =
       let whole : with_acts s call fin.acts p0 ≡ Broken w q =
       ap (λ l. with_acts s call l p0) (sym grows.all)
       ∙ acts_append s call (st.acts ++ a ∷ []) grows.more p0
       ∙ ap (λ r. and_on r (with_acts s call grows.more)) (one_act s call st.acts a p0 progress (Broken w q) did broke) in
-      subst (λ r. Breaks r w q.marks) (sym whole) (refl, refl)
+      subst (λ r. CourseBreaks r w q.marks) (sym whole) (refl, refl)
 
   send_does : (x : List ℕ) (e : Expression) (p : ℕ) (names : List (List ℕ)) → FineExpression ds names e → height e ≤ 32 → HasAt code p (send_code ds s.ends names x e)
       → Does names names p (p + length (send_code ds s.ends names x e)) (8192 + expression_cost e) (senders s.ends (output_number ds x)) 0 (λ st. act (Send (output_number ds x) (value ds st e)) st)
@@ -340,7 +340,7 @@ module _ (s : Setup) (handle : ℕ → Conf → After) (given : ℕ → ℕ) (co
         few = h.few;
       }) (does st stack c t space few_more (record { more = grows.more; all = grows.all }))
 
-  choice_does : (e : Expression) (ca cb : List Ir) (p : ℕ) (names : List (List ℕ)) (ka kb na nb da db : ℕ) (f g : State → State) → FineExpression ds names e → height e ≤ 32
+  choice_does : (e : Expression) (ca cb : List Ir) (p : ℕ) (names : List (List ℕ)) (ka kb na nb da db : ℕ) (f g : HandlerState → HandlerState) → FineExpression ds names e → height e ≤ 32
       → HasAt code p (choice_code (p + length (expression_code ds n names e) + 1) (expression_code ds n names e) ca cb)
       → Does names names (p + length (expression_code ds n names e) + 1) (p + length (expression_code ds n names e) + 1 + length ca) ka na da f
       → Does names names (p + length (expression_code ds n names e) + 1 + length ca + 1) (p + length (expression_code ds n names e) + 1 + length ca + 1 + length cb) kb nb db g
@@ -360,7 +360,7 @@ module _ (s : Setup) (handle : ℕ → Conf → After) (given : ℕ → ℕ) (co
       branch : (v pb pe : ℕ) → slice_get code (p + length (expression_code ds n names e)) ≡ Some (ir.JumpZero (p + length (expression_code ds n names e) + 1 + length ca + 1))
           → slice_get code (p + length (expression_code ds n names e) + 1 + length ca) ≡ Some (ir.Jump (p + length (expression_code ds n names e) + 1 + length ca + 1 + length cb))
           → p + length (expression_code ds n names e) + 1 + length ca + 1 + length cb ≡ p + length (choice_code (p + length (expression_code ds n names e) + 1) (expression_code ds n names e) ca cb)
-          → Grows (if v == 0 then g st else f st) fin
+          → AddsActs (if v == 0 then g st else f st) fin
           → Reach (Ended s call p0 devs names (p + length (choice_code (p + length (expression_code ds n names e) + 1) (expression_code ds n names e) ca cb)) stack c.back (if v == 0 then g st else f st) (length t.progress.pieces + max na nb)) (64 + max ka kb) (at (p + length (expression_code ds n names e)) (v ∷ stack) c)
       branch zero pb pe hz hj len grows =
           let ce = expression_code ds n names e in
@@ -370,7 +370,7 @@ module _ (s : Setup) (handle : ℕ → Conf → After) (given : ℕ → ℕ) (co
       branch (suc v) pb pe hz hj len grows =
           let ce = expression_code ds n names e in
           let z = eqb-suc-zero v in
-          let first : Grows (f st) fin = subst (λ b. Grows (if b then g st else f st) fin) z grows in
+          let first : AddsActs (f st) fin = subst (λ b. AddsActs (if b then g st else f st) fin) z grows in
           subst (λ b. Reach (Ended s call p0 devs names (p + length (choice_code (p + length ce + 1) ce ca cb)) stack c.back (if b then g st else f st) (length t.progress.pieces + max na nb)) (64 + max ka kb) (at (p + length ce) (suc v ∷ stack) c)) (sym z)
           (do_one s handle given code Ends_so _ (ir.JumpZero (p + length ce + 1 + length ca + 1)) _ (at (p + length ce + 1) stack c) (56 + max ka kb) _ hz refl (omega arith)
           (and_so _ names (p + length ce + 1 + length ca) stack c.back (f st) (length t.progress.pieces + na) ka 8 _ _ (omega arith) (ra st stack c t (omega (arith, space)) (omega (arith, few)) first)
@@ -383,7 +383,7 @@ module _ (s : Setup) (handle : ℕ → Conf → After) (given : ℕ → ℕ) (co
   loop_ops p ca = ir.Store turns_at ∷ ir.Load turns_at ∷ ir.Load turns_at ∷ ir.JumpZero (p + 5 + length ca + 3) ∷ (ca ++ (ir.Push 1 ∷ ir.Op op.Sub ∷ ir.Jump (p + 1) ∷ ir.Drop ∷ []))
 
   -- the number of turns is looked at: it stays on the stack, and lies in its place too
-  look_reach : (Q : Conf → Type 0) (k p m j : ℕ) (names : List (List ℕ)) (ca : List Ir) (st : State) (stack : List ℕ) (c : Conf) → k < 65536 → HasAt code (p + 1) (loop_ops p ca) → (t : Tied s call p0 devs names st c.priv c.mem c.devices c.marks) → length stack + 41 ≤ stack_words → 24 + m ≤ j
+  look_reach : (Q : Conf → Type 0) (k p m j : ℕ) (names : List (List ℕ)) (ca : List Ir) (st : HandlerState) (stack : List ℕ) (c : Conf) → k < 65536 → HasAt code (p + 1) (loop_ops p ca) → (t : Tied s call p0 devs names st c.priv c.mem c.devices c.marks) → length stack + 41 ≤ stack_words → 24 + m ≤ j
       → ((c2 : Conf) → c2.back ≡ c.back → (u : Tied s call p0 devs names st c2.priv c2.mem c2.devices c2.marks) → length u.progress.pieces ≤ length t.progress.pieces → Reach Q m (at (p + 4) (k ∷ k ∷ stack) c2)) → Reach Q j (at (p + 1) (k ∷ stack) c)
   look_reach Q k p m j names ca st stack c small has t space le go =
       let priv2 = put_word c.priv turns_at k in
@@ -398,9 +398,9 @@ module _ (s : Setup) (handle : ℕ → Conf → After) (given : ℕ → ℕ) (co
       (go c2 refl (record { holds = holds_turns ds n names st c.priv t.holds k small; progress = t.progress; did = t.did; shown = shows_turns k t.progress c.priv c.mem c.devices c.marks t.shown; same = t.same }) (omega arith))))))
 
   -- the turns of a loop: this many are the word on top of the stack
-  loop_reach : (k p : ℕ) (names : List (List ℕ)) (ca : List Ir) (cost packets deep : ℕ) (f : State → State) → k < 65536 → HasAt code (p + 1) (loop_ops p ca)
-      → Does names names (p + 5) (p + 5 + length ca) cost packets deep f → ((a : State) → Grows a (f a))
-      → (st : State) (stack : List ℕ) (c : Conf) (t : Tied s call p0 devs names st c.priv c.mem c.devices c.marks) → length stack + (1 + deep) + 40 ≤ stack_words → length t.progress.pieces + k * packets ≤ 16 → Grows (times k f st) fin
+  loop_reach : (k p : ℕ) (names : List (List ℕ)) (ca : List Ir) (cost packets deep : ℕ) (f : HandlerState → HandlerState) → k < 65536 → HasAt code (p + 1) (loop_ops p ca)
+      → Does names names (p + 5) (p + 5 + length ca) cost packets deep f → ((a : HandlerState) → AddsActs a (f a))
+      → (st : HandlerState) (stack : List ℕ) (c : Conf) (t : Tied s call p0 devs names st c.priv c.mem c.devices c.marks) → length stack + (1 + deep) + 40 ≤ stack_words → length t.progress.pieces + k * packets ≤ 16 → AddsActs (times k f st) fin
       → (most : ℕ) → length t.progress.pieces + k * packets ≤ most
       → Reach (Ended s call p0 devs names (p + 5 + length ca + 4) stack c.back (times k f st) most) (40 + k * (64 + cost)) (at (p + 1) (k ∷ stack) c)
   loop_reach zero p names ca cost packets deep f small has body grow st stack c t space few grows most le =
@@ -438,12 +438,12 @@ module _ (s : Setup) (handle : ℕ → Conf → After) (given : ℕ → ℕ) (co
       (again (f st) stack u t3 space (omega (arith, fewer, some, few, mulp)) grows most (omega (arith, fewer, some, le, mulp))))))))))
 
   -- the same code, with its end and its bounds said otherwise
-  does_as : (names names2 names3 : List (List ℕ)) (p q q2 cost cost2 packets deep deep2 : ℕ) (f : State → State) → q ≡ q2 → names2 ≡ names3 → cost ≤ cost2 → deep ≤ deep2 → Does names names2 p q cost packets deep f → Does names names3 p q2 cost2 packets deep2 f
+  does_as : (names names2 names3 : List (List ℕ)) (p q q2 cost cost2 packets deep deep2 : ℕ) (f : HandlerState → HandlerState) → q ≡ q2 → names2 ≡ names3 → cost ≤ cost2 → deep ≤ deep2 → Does names names2 p q cost packets deep f → Does names names3 p q2 cost2 packets deep2 f
   does_as names names2 names3 p q q2 cost cost2 packets deep deep2 f e en lc ld does st stack c t space few grows =
       ended_at names2 names3 q q2 stack c.back (f st) _ _ cost cost2 (at p stack c) e en (omega arith) lc (does st stack c t (omega (arith, space, ld)) few grows)
 
   -- a loop
-  repeat_does : (k p : ℕ) (names : List (List ℕ)) (ca : List Ir) (cost packets deep : ℕ) (f : State → State) → k < 65536 → HasAt code p (loop_code p k ca) → Does names names (p + 5) (p + 5 + length ca) cost packets deep f → ((a : State) → Grows a (f a))
+  repeat_does : (k p : ℕ) (names : List (List ℕ)) (ca : List Ir) (cost packets deep : ℕ) (f : HandlerState → HandlerState) → k < 65536 → HasAt code p (loop_code p k ca) → Does names names (p + 5) (p + 5 + length ca) cost packets deep f → ((a : HandlerState) → AddsActs a (f a))
       → Does names names p (p + length (loop_code p k ca)) (64 + k * (64 + cost)) (k * packets) (1 + deep) (times k f)
   repeat_does k p names ca cost packets deep f small has body grow st stack c t space few grows =
       let len : p + 5 + length ca + 4 ≡ p + length (loop_code p k ca) = omega (arith, length-append ca (ir.Push 1 ∷ ir.Op op.Sub ∷ ir.Jump (p + 1) ∷ ir.Drop ∷ [])) in
@@ -452,7 +452,7 @@ module _ (s : Setup) (handle : ℕ → Conf → After) (given : ℕ → ℕ) (co
       (loop_reach k p names ca cost packets deep f small has.1 body grow st stack c t (omega (arith, space)) few grows (length t.progress.pieces + k * packets) (omega arith)))
 
   -- one stretch and then another
-  and_does : (names names2 names3 : List (List ℕ)) (p q r ka kb na nb da db : ℕ) (f g : State → State) → ((a : State) → Grows a (g a)) → Does names names2 p q ka na da f → Does names2 names3 q r kb nb db g → Does names names3 p r (ka + kb) (na + nb) (max da db) (λ st. g (f st))
+  and_does : (names names2 names3 : List (List ℕ)) (p q r ka kb na nb da db : ℕ) (f g : HandlerState → HandlerState) → ((a : HandlerState) → AddsActs a (g a)) → Does names names2 p q ka na da f → Does names2 names3 q r kb nb db g → Does names names3 p r (ka + kb) (na + nb) (max da db) (λ st. g (f st))
   and_does names names2 names3 p q r ka kb na nb da db f g grow ra rb st stack c t space few grows =
       and_so _ names2 q stack c.back (f st) (length t.progress.pieces + na) ka kb _ (at p stack c) (omega arith) (ra st stack c t (omega (arith, space)) (omega (arith, few)) (grows_on (f st) (g (f st)) fin (grow (f st)) grows))
       (λ u back t2 some.

@@ -1,5 +1,6 @@
 -- What it means that lowered code does what the source does.
-use Rattle.std.specs.Prelude.{◌≡◌, ℕ, ◌+◌, ◌*◌, ◌<◌, ◌≤◌, List, [], ◌∷◌, ◌++◌, length, true, Some, None, slice_get}
+use Rattle.std.specs.Prelude.{◌≡◌, ℕ, ◌+◌, ◌*◌, ◌<◌, ◌≤◌, List, [], ◌∷◌, ◌++◌, length, true, Some}
+use Rattle.std.specs.Prelude.{None, slice_get}
 use Rattle.std.specs.List.{list_all}
 use Rattle.sx_lang.specs.declared.sides.Side.TheVariants.{From}
 use Rattle.sx_lang.specs.Tree.{HandlerTree, ModuleTree}
@@ -15,7 +16,7 @@ use Rattle.sx_ir.specs.declared.ir.Ir.{Ir}
 use Rattle.sx_ir.specs.declared.ir.Ir.TheVariants as ir
 use Rattle.sx_ir.specs.Sound.{is_sound_op, is_sound_part}
 use Rattle.sx_ir.specs.Conf.{Conf}
-use Rattle.sx_ir.specs.Meaning.{After}
+use Rattle.sx_ir.specs.Meaning.{OperationResult}
 use Rattle.sx_ir.specs.Invoking.{PartDoes}
 use Rattle.sx_ir.specs.Sizes.{ops_bytes}
 use Rattle.sx_mean.specs.Ends.{senders}
@@ -62,7 +63,8 @@ AreHandlerOps ends (i ∷ ops) = IsHandlerOp ends i × AreHandlerOps ends ops
 
 -- Code of a module's handlers, in code with this many operations and parts: it is sound, has
 -- handlers' operations alone, and takes bytes for the module's nodes alone.
-pub record Fits (m : ModuleTree) (ends : List End) (ops parts : ℕ) (code : List Ir) : Type 0 where
+pub record CodeFits (m : ModuleTree) (ends : List End) (ops parts : ℕ) (code : List Ir) : Type
+    0 where
   pub sound : list_all (is_sound_op ops parts (module_data_size m (length ends))) code ≡ true
   pub plain : AreHandlerOps ends code
   pub light : ops_bytes code ≤ 64 * module_nodes m
@@ -70,13 +72,16 @@ pub record Fits (m : ModuleTree) (ends : List End) (ops parts : ℕ) (code : Lis
 -- What the code of a module and the places of its parts are to be: few operations, which fit; and
 -- one part for each handler, which does the handler within its cost. What `Handler` does is left
 -- open.
-pub record Lowers (m : ModuleTree) (ends : List End) (ops : List Ir) (listed : List (ℕ × ℕ)) : Type 0 where
+pub record Lowers (m : ModuleTree) (ends : List End) (ops : List Ir) (listed : List (ℕ × ℕ)) : Type
+    0 where
   pub short : length ops < 65536
-  pub fits : Fits m ends (length ops) (length listed) ops
+  pub fits : CodeFits m ends (length ops) (length listed) ops
   pub there : list_all (is_sound_part (length ops)) listed ≡ true
   pub parts : length listed ≡ length m.handlers
-  pub reacts : (s : Setup) (handle : ℕ → Conf → After) (given : ℕ → ℕ) (e : SourceEvent) (h : HandlerTree) (k from to : ℕ) → s.tree ≡ m → s.ends ≡ ends
-      → handler_at m e ≡ Some h → slice_get m.handlers k ≡ Some h → slice_get listed k ≡ Some (from, to) → PartDoes s handle given ops from e (handler_cost h)
+  pub reacts : (s : Setup) (handle : ℕ → Conf → OperationResult) (given : ℕ
+      → ℕ) (e : SourceEvent) (h : HandlerTree) (k from to : ℕ) → s.tree ≡ m → s.ends ≡ ends
+      → handler_at m e ≡ Some h → slice_get m.handlers k ≡ Some h
+      → slice_get listed k ≡ Some (from, to) → PartDoes s handle given ops from e (handler_cost h)
 
 -- the code of a module
 pub record LowersTo (m : ModuleTree) (ends : List End) (code : Code) : Type 0 where
@@ -85,13 +90,18 @@ pub record LowersTo (m : ModuleTree) (ends : List End) (code : Code) : Type 0 wh
 
 -- Handlers' code fits wherever it stands.
 abbrev pub LoweredFits : Type 0
-LoweredFits = (m : ModuleTree) (ends : List End) (place ops parts : ℕ) → IsLowerable m ends → let code = handlers_code m.decls ends place m.handlers in
-    place + length code ≤ ops → Fits m ends ops parts code
+LoweredFits = (m : ModuleTree) (ends : List End) (place ops parts : ℕ) → IsLowerable m ends
+    → let code = handlers_code m.decls ends place m.handlers in
+    place + length code ≤ ops → CodeFits m ends ops parts code
 
 -- After and before any other code, the part of an event's handler does the handler, within its
 -- cost.
 abbrev pub LoweredReacts : Type 0
-LoweredReacts = (s : Setup) (handle : ℕ → Conf → After) (given : ℕ → ℕ) (before after : List Ir) (e : SourceEvent) (h : HandlerTree) (k from to : ℕ)
-    → IsLowerable s.tree s.ends → handler_at s.tree e ≡ Some h → slice_get s.tree.handlers k ≡ Some h
-    → slice_get (handlers_parts s.tree.decls s.ends (length before) s.tree.handlers) k ≡ Some (from, to)
-    → PartDoes s handle given (before ++ (handlers_code s.tree.decls s.ends (length before) s.tree.handlers ++ after)) from e (handler_cost h)
+LoweredReacts = (s : Setup) (handle : ℕ → Conf → OperationResult) (given : ℕ
+    → ℕ) (before after : List Ir) (e : SourceEvent) (h : HandlerTree) (k from to : ℕ)
+    → IsLowerable s.tree s.ends → handler_at s.tree e ≡ Some h
+    → slice_get s.tree.handlers k ≡ Some h
+    → slice_get (handlers_parts s.tree.decls s.ends (length before) s.tree.handlers) k
+    ≡ Some (from, to)
+    → PartDoes s handle given (before ++ (handlers_code s.tree.decls s.ends (length before)
+    s.tree.handlers ++ after)) from e (handler_cost h)

@@ -1,12 +1,14 @@
 //! The code of statements and blocks.
 
-ghost use Rattle.std.specs.Prelude.{◌≡◌, ◌+◌, ◌<◌, ◌≤◌, ◌++◌, ◌∷◌, [], OnOk, length, slice_set, ◌==◌};
+ghost use Rattle.std.specs.Prelude.{◌≡◌, ◌+◌, ◌<◌, ◌≤◌, ◌++◌, ◌∷◌, [], OnOk, length, slice_set};
+ghost use Rattle.std.specs.Prelude.{◌==◌};
 ghost use Rattle.sx_lang.specs.Tree.{Chooses, Repeats};
 ghost use Rattle.sx_lang.specs.View.{block_of, expression_of, statement_of};
 ghost use Rattle.sx_check.specs.Names.{block_lets, defined, statement_lets};
 ghost use Rattle.sx_mean.specs.Ends.{is_sending};
-ghost use Rattle.sx_mean.specs.Places.{IsSized};
-ghost use Rattle.sx_lower.specs.Lowered.{assign_code, block_code, define_code, element_code, expression_code, packets_code, send_code, statement_code};
+ghost use Rattle.sx_mean.specs.Places.{AreSizedDecls};
+ghost use Rattle.sx_lower.specs.Lowered.{assign_code, block_code, define_code, element_code};
+ghost use Rattle.sx_lower.specs.Lowered.{expression_code, packets_code, send_code, statement_code};
 
 use crate::expressions::{put, put_assign, put_expression};
 use std::alloc::AllocError;
@@ -49,10 +51,11 @@ fn put_define(
     x: &Name,
     e: &Expr,
 ) -> Result<(), AllocError>
-    requires sized { IsSized decls.now }
+    requires sized { AreSizedDecls decls.now }
     requires few { ends ≤ 16 }
     requires locals { length scope.old.items < 16 }
-    ensures code { OnOk result (code.new.items ≡ code.old.items ++ define_code decls.now ends scope.old.items (expression_of e.now)) }
+    ensures code { OnOk result (code.new.items ≡ code.old.items
+        ++ define_code decls.now ends scope.old.items (expression_of e.now)) }
     ensures scope { OnOk result (scope.new.items ≡ scope.old.items ++ x.now ∷ []) }
 {
     put_expression(code, decls, ends, scope, e)?;
@@ -70,10 +73,12 @@ fn put_element(
     index: &Expr,
     e: &Expr,
 ) -> Result<(), AllocError>
-    requires sized { IsSized decls.now }
+    requires sized { AreSizedDecls decls.now }
     requires few { ends ≤ 16 }
     requires locals { length scope.now ≤ 16 }
-    ensures { OnOk result (code.new.items ≡ code.old.items ++ element_code decls.now ends scope.now x.now (expression_of index.now) (expression_of e.now)) }
+    ensures { OnOk result (code.new.items ≡ code.old.items
+        ++ element_code decls.now ends scope.now x.now (expression_of index.now)
+        (expression_of e.now)) }
 {
     put_expression(code, decls, ends, scope, index)?;
     put_expression(code, decls, ends, scope, e)?;
@@ -91,7 +96,8 @@ fn set(code: &mut Vec<Ir>, at: usize, op: Ir)
 }
 
 fn put_turn(code: &mut Vec<Ir>, n: u16) -> Result<(), AllocError>
-    ensures { OnOk result (code.new.items ≡ code.old.items ++ Ir.Push n ∷ Ir.Store 2 ∷ Ir.Load 2 ∷ Ir.Load 2 ∷ Ir.JumpZero 0 ∷ []) }
+    ensures { OnOk result (code.new.items ≡ code.old.items ++ Ir.Push n ∷ Ir.Store 2 ∷ Ir.Load 2
+        ∷ Ir.Load 2 ∷ Ir.JumpZero 0 ∷ []) }
 {
     put(code, Ir::Push(n))?;
     put(code, Ir::Store(EVENT))?;
@@ -101,7 +107,8 @@ fn put_turn(code: &mut Vec<Ir>, n: u16) -> Result<(), AllocError>
 }
 
 fn put_return(code: &mut Vec<Ir>, to: u16) -> Result<(), AllocError>
-    ensures { OnOk result (code.new.items ≡ code.old.items ++ Ir.Push 1 ∷ Ir.Op IrOp.Sub ∷ Ir.Jump to ∷ Ir.Drop ∷ []) }
+    ensures { OnOk result (code.new.items ≡ code.old.items ++ Ir.Push 1 ∷ Ir.Op IrOp.Sub
+        ∷ Ir.Jump to ∷ Ir.Drop ∷ []) }
 {
     put(code, Ir::Push(1))?;
     put(code, Ir::Op(IrOp::Sub))?;
@@ -117,10 +124,11 @@ fn put_send(
     x: &Name,
     e: &Expr,
 ) -> Result<(), AllocError>
-    requires sized { IsSized decls.now }
+    requires sized { AreSizedDecls decls.now }
     requires few { length ends.now ≤ 16 }
     requires locals { length scope.now ≤ 16 }
-    ensures { OnOk result (code.new.items ≡ code.old.items ++ send_code decls.now ends.now scope.now x.now (expression_of e.now)) }
+    ensures { OnOk result (code.new.items ≡ code.old.items
+        ++ send_code decls.now ends.now scope.now x.now (expression_of e.now)) }
 {
     put_expression(code, decls, ends.len(), scope, e)?;
     put_packets(code, ends, output_number(decls, x))?;
@@ -135,10 +143,12 @@ fn put_assignment(
     x: &Name,
     e: &Expr,
 ) -> Result<(), AllocError>
-    requires sized { IsSized decls.now }
+    requires sized { AreSizedDecls decls.now }
     requires few { ends ≤ 16 }
     requires locals { length scope.now ≤ 16 }
-    ensures { OnOk result (code.new.items ≡ code.old.items ++ (expression_code decls.now ends scope.now (expression_of e.now) ++ assign_code decls.now ends scope.now x.now)) }
+    ensures { OnOk result (code.new.items ≡ code.old.items
+        ++ (expression_code decls.now ends scope.now (expression_of e.now)
+        ++ assign_code decls.now ends scope.now x.now)) }
 {
     put_expression(code, decls, ends, scope, e)?;
     put_assign(code, decls, ends, scope, x)
@@ -151,10 +161,11 @@ fn put_emit(
     scope: &[Name],
     e: &Expr,
 ) -> Result<(), AllocError>
-    requires sized { IsSized decls.now }
+    requires sized { AreSizedDecls decls.now }
     requires few { ends ≤ 16 }
     requires locals { length scope.now ≤ 16 }
-    ensures { OnOk result (code.new.items ≡ code.old.items ++ (expression_code decls.now ends scope.now (expression_of e.now) ++ Ir.Emit ∷ [])) }
+    ensures { OnOk result (code.new.items ≡ code.old.items
+        ++ (expression_code decls.now ends scope.now (expression_of e.now) ++ Ir.Emit ∷ [])) }
 {
     put_expression(code, decls, ends, scope, e)?;
     put(code, Ir::Emit)
@@ -168,12 +179,17 @@ fn put_statement(
     scope: &mut Vec<Name>,
     s: &Stmt,
 ) -> Result<(), AllocError>
-    requires sized { IsSized decls.now }
+    requires sized { AreSizedDecls decls.now }
     requires few { length ends.now ≤ 16 }
     requires locals { length scope.old.items + length (statement_lets (statement_of s.now)) ≤ 16 }
-    requires short { length code.old.items + length (statement_code decls.now ends.now (length code.old.items) scope.old.items (statement_of s.now)) < 65536 }
-    ensures code { OnOk result (code.new.items ≡ code.old.items ++ statement_code decls.now ends.now (length code.old.items) scope.old.items (statement_of s.now)) }
-    ensures scope { OnOk result (scope.new.items ≡ scope.old.items ++ defined (statement_of s.now)) }
+    requires short { length code.old.items + length
+        (statement_code decls.now ends.now (length code.old.items) scope.old.items
+        (statement_of s.now)) < 65536 }
+    ensures code { OnOk result (code.new.items ≡ code.old.items
+        ++ statement_code decls.now ends.now (length code.old.items) scope.old.items
+        (statement_of s.now)) }
+    ensures scope { OnOk result (scope.new.items
+        ≡ scope.old.items ++ defined (statement_of s.now)) }
 {
     match s {
         Stmt::Let(x, e) => put_define(code, decls, ends.len(), scope, x, e),
@@ -197,12 +213,14 @@ fn put_choice(
     first: &Vec<Stmt>,
     second: &Vec<Stmt>,
 ) -> Result<(), AllocError>
-    requires sized { IsSized decls.now }
+    requires sized { AreSizedDecls decls.now }
     requires few { length ends.now ≤ 16 }
     requires locals { length scope.old.items + length (block_lets (block_of first.now.items)
         ++ block_lets (block_of second.now.items)) ≤ 16 }
-    requires short { length code.old.items + length (statement_code decls.now ends.now (length code.old.items)
-        scope.old.items (Chooses (expression_of e.now) (block_of first.now.items) (block_of second.now.items)))
+    requires short { length code.old.items + length
+        (statement_code decls.now ends.now (length code.old.items)
+        scope.old.items (Chooses (expression_of e.now) (block_of first.now.items)
+        (block_of second.now.items)))
         < 65536 }
     ensures code { OnOk result (code.new.items ≡ code.old.items ++ statement_code decls.now ends.now
         (length code.old.items) scope.old.items
@@ -232,10 +250,11 @@ fn put_loop(
     turns: u16,
     body: &Vec<Stmt>,
 ) -> Result<(), AllocError>
-    requires sized { IsSized decls.now }
+    requires sized { AreSizedDecls decls.now }
     requires few { length ends.now ≤ 16 }
     requires locals { length scope.old.items + length (block_lets (block_of body.now.items)) ≤ 16 }
-    requires short { length code.old.items + length (statement_code decls.now ends.now (length code.old.items)
+    requires short { length code.old.items + length
+        (statement_code decls.now ends.now (length code.old.items)
         scope.old.items (Repeats turns (block_of body.now.items))) < 65536 }
     ensures code { OnOk result (code.new.items ≡ code.old.items ++ statement_code decls.now ends.now
         (length code.old.items) scope.old.items (Repeats turns (block_of body.now.items))) }
@@ -260,11 +279,15 @@ pub fn put_block(
     scope: &mut Vec<Name>,
     block: &Vec<Stmt>,
 ) -> Result<(), AllocError>
-    requires sized { IsSized decls.now }
+    requires sized { AreSizedDecls decls.now }
     requires few { length ends.now ≤ 16 }
     requires locals { length scope.old.items + length (block_lets (block_of block.now.items)) ≤ 16 }
-    requires short { length code.old.items + length (block_code decls.now ends.now (length code.old.items) scope.old.items (block_of block.now.items)) < 65536 }
-    ensures code { OnOk result (code.new.items ≡ code.old.items ++ block_code decls.now ends.now (length code.old.items) scope.old.items (block_of block.now.items)) }
+    requires short { length code.old.items + length
+        (block_code decls.now ends.now (length code.old.items) scope.old.items
+        (block_of block.now.items)) < 65536 }
+    ensures code { OnOk result (code.new.items ≡ code.old.items
+        ++ block_code decls.now ends.now (length code.old.items) scope.old.items
+        (block_of block.now.items)) }
     ensures scope { OnOk result (scope.new.items ≡ scope.old.items) }
 {
     let outer = scope.len();

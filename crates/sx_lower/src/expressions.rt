@@ -2,8 +2,9 @@
 
 ghost use Rattle.std.specs.Prelude.{◌≡◌, ℕ, ◌+◌, ◌<◌, ◌≤◌, ◌++◌, ◌∷◌, Bool, List, [], OnOk, length};
 ghost use Rattle.sx_lang.specs.View.{expression_of};
-ghost use Rattle.sx_mean.specs.Places.{IsSized};
-ghost use Rattle.sx_lower.specs.Lowered.{assign_code, expression_code, is_turned, operator_code, unary_op, variable_code};
+ghost use Rattle.sx_mean.specs.Places.{AreSizedDecls};
+ghost use Rattle.sx_lower.specs.Lowered.{assign_code, expression_code, is_turned, operator_code};
+ghost use Rattle.sx_lower.specs.Lowered.{unary_op, variable_code};
 
 use crate::variables::{first_value, index_of};
 use std::alloc::AllocError;
@@ -22,7 +23,8 @@ pub fn put(code: &mut Vec<Ir>, op: Ir) -> Result<(), AllocError>
 }
 
 fn put_cell(code: &mut Vec<Ir>, at: u16, first: u16) -> Result<(), AllocError>
-    ensures { OnOk result (code.new.items ≡ code.old.items ++ Ir.Load at ∷ Ir.Push first ∷ Ir.Op IrOp.Add ∷ []) }
+    ensures { OnOk result (code.new.items ≡ code.old.items ++ Ir.Load at ∷ Ir.Push first
+        ∷ Ir.Op IrOp.Add ∷ []) }
 {
     put(code, Ir::Load(at))?;
     put(code, Ir::Push(first))?;
@@ -36,10 +38,11 @@ fn put_variable(
     scope: &[Name],
     x: &Name,
 ) -> Result<(), AllocError>
-    requires sized { IsSized decls.now }
+    requires sized { AreSizedDecls decls.now }
     requires few { ends ≤ 16 }
     requires locals { length scope.now ≤ 16 }
-    ensures { OnOk result (code.new.items ≡ code.old.items ++ variable_code decls.now ends scope.now x.now) }
+    ensures { OnOk result (code.new.items ≡ code.old.items
+        ++ variable_code decls.now ends scope.now x.now) }
 {
     let index = index_of(scope, x);
     if index < scope.len() {
@@ -104,10 +107,11 @@ pub fn put_expression(
     scope: &[Name],
     e: &Expr,
 ) -> Result<(), AllocError>
-    requires sized { IsSized decls.now }
+    requires sized { AreSizedDecls decls.now }
     requires few { ends ≤ 16 }
     requires locals { length scope.now ≤ 16 }
-    ensures { OnOk result (code.new.items ≡ code.old.items ++ expression_code decls.now ends scope.now (expression_of e.now)) }
+    ensures { OnOk result (code.new.items ≡ code.old.items
+        ++ expression_code decls.now ends scope.now (expression_of e.now)) }
 {
     match e {
         Expr::Number(n) => put(code, Ir::Push(*n)),
@@ -138,7 +142,8 @@ pub fn put_expression(
 }
 
 fn put_local(code: &mut Vec<Ir>, at: u16, first: u16) -> Result<(), AllocError>
-    ensures { OnOk result (code.new.items ≡ code.old.items ++ Ir.Push first ∷ Ir.Op IrOp.Sub ∷ Ir.Store at ∷ []) }
+    ensures { OnOk result (code.new.items ≡ code.old.items ++ Ir.Push first ∷ Ir.Op IrOp.Sub
+        ∷ Ir.Store at ∷ []) }
 {
     put(code, Ir::Push(first))?;
     put(code, Ir::Op(IrOp::Sub))?;
@@ -154,10 +159,11 @@ pub fn put_assign(
     scope: &[Name],
     x: &Name,
 ) -> Result<(), AllocError>
-    requires sized { IsSized decls.now }
+    requires sized { AreSizedDecls decls.now }
     requires few { ends ≤ 16 }
     requires locals { length scope.now ≤ 16 }
-    ensures { OnOk result (code.new.items ≡ code.old.items ++ assign_code decls.now ends scope.now x.now) }
+    ensures { OnOk result (code.new.items ≡ code.old.items
+        ++ assign_code decls.now ends scope.now x.now) }
 {
     let index = index_of(scope, x);
     if index < scope.len() {

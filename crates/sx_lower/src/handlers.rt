@@ -1,14 +1,16 @@
 //! The code of handlers and of a module.
 
-ghost use Rattle.std.specs.Prelude.{◌≡◌, ℕ, ◌+◌, ◌<◌, ◌≤◌, ◌++◌, ◌∷◌, List, [], IfOk, None, OnOk, length, map};
+ghost use Rattle.std.specs.Prelude.{◌≡◌, ℕ, ◌+◌, ◌<◌, ◌≤◌, ◌++◌, ◌∷◌, List, [], IfOk, None, OnOk};
+ghost use Rattle.std.specs.Prelude.{length, map};
 ghost use Rattle.sx_lang.specs.View.{block_of, handler_of, module_of};
 ghost use Rattle.sx_check.specs.Names.{block_lets};
 ghost use Rattle.sx_check.specs.Rules.{first_broken};
 ghost use Rattle.sx_check.specs.Source.{source_tree};
-ghost use Rattle.sx_mean.specs.Places.{IsSized};
+ghost use Rattle.sx_mean.specs.Places.{AreSizedDecls};
 ghost use Rattle.sx_lang.specs.Words.{TreeHasWords};
 ghost use Rattle.sx_mean.specs.Ends.{senders};
-ghost use Rattle.sx_lower.specs.Lowered.{block_code, handler_code, handlers_code, handlers_parts, AreFew};
+ghost use Rattle.sx_lower.specs.Lowered.{block_code, handler_code, handlers_code, handlers_parts};
+ghost use Rattle.sx_lower.specs.Lowered.{AreFew};
 ghost use Rattle.sx_lower.specs.Lowering.{LowersTo, SendFew};
 
 use crate::blocks::put_block;
@@ -45,11 +47,13 @@ fn put_handler(
     ends: &[End],
     h: &Handler,
 ) -> Result<(), AllocError>
-    requires sized { IsSized decls.now }
+    requires sized { AreSizedDecls decls.now }
     requires few { length ends.now ≤ 16 }
     requires locals { 1 + length (block_lets (block_of h.now.body.items)) ≤ 16 }
-    requires short { length code.old.items + length (handler_code decls.now ends.now (length code.old.items) (handler_of h.now)) < 65536 }
-    ensures { OnOk result (code.new.items ≡ code.old.items ++ handler_code decls.now ends.now (length code.old.items) (handler_of h.now)) }
+    requires short { length code.old.items + length
+        (handler_code decls.now ends.now (length code.old.items) (handler_of h.now)) < 65536 }
+    ensures { OnOk result (code.new.items ≡ code.old.items
+        ++ handler_code decls.now ends.now (length code.old.items) (handler_of h.now)) }
 {
     let mut scope = scope_of(alloc, &h.param)?;
     put_start(code)?;
@@ -64,14 +68,17 @@ fn put_handlers(
     ends: &[End],
     handlers: &[Handler],
 ) -> Result<(), AllocError>
-    requires sized { IsSized decls.now }
+    requires sized { AreSizedDecls decls.now }
     requires few { length ends.now ≤ 16 }
     requires locals { AreFew (map handler_of handlers.now) }
     requires empty { code.old.ops.items ≡ [] }
     requires none { code.old.parts.items ≡ [] }
-    requires short { length (handlers_code decls.now ends.now 0 (map handler_of handlers.now)) < 65536 }
-    ensures ops { OnOk result (code.new.ops.items ≡ handlers_code decls.now ends.now 0 (map handler_of handlers.now)) }
-    ensures parts { OnOk result (code.new.parts.items ≡ handlers_parts decls.now ends.now 0 (map handler_of handlers.now)) }
+    requires short { length (handlers_code decls.now ends.now 0
+        (map handler_of handlers.now)) < 65536 }
+    ensures ops { OnOk result (code.new.ops.items
+        ≡ handlers_code decls.now ends.now 0 (map handler_of handlers.now)) }
+    ensures parts { OnOk result (code.new.parts.items
+        ≡ handlers_parts decls.now ends.now 0 (map handler_of handlers.now)) }
 {
     for h in handlers {
         let from = code.ops.len();
@@ -86,8 +93,10 @@ fn put_handlers(
 /// ran out.
 pub(crate) fn code_of(alloc: Global, m: &Checked, ends: &[End]) -> Result<Code, AllocError>
     requires few { length ends.now ≤ 16 }
-    ensures ops { IfOk result (λ code. code.ops.items ≡ handlers_code (source_tree m.now).decls ends.now 0 (source_tree m.now).handlers) }
-    ensures parts { IfOk result (λ code. code.parts.items ≡ handlers_parts (source_tree m.now).decls ends.now 0 (source_tree m.now).handlers) }
+    ensures ops { IfOk result (λ code. code.ops.items
+        ≡ handlers_code (source_tree m.now).decls ends.now 0 (source_tree m.now).handlers) }
+    ensures parts { IfOk result (λ code. code.parts.items
+        ≡ handlers_parts (source_tree m.now).decls ends.now 0 (source_tree m.now).handlers) }
 {
     let tree = m.module();
     let mut code = Code {

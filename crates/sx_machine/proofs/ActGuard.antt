@@ -4,7 +4,7 @@ use Rattle.std.proofs.lemmas.Bool.{and_parts, true≢false, lt-ltb, leb-true, lt
 use Rattle.std.specs.List.{list_any}
 use Rattle.sx_rules.specs.declared.section.Section.{Section}
 use Rattle.sx_rules.specs.Access.{in_private, Lives}
-use Rattle.sx_bus.specs.Devices.{sensed, places_of}
+use Rattle.sx_bus.specs.Devices.{with_sample, places_of}
 use Rattle.sx_machine.specs.declared.kinds.Refused.{Refused}
 use Rattle.sx_machine.specs.declared.kinds.Refused.TheVariants.{Busy, Guarded as Barred}
 use Rattle.sx_machine.specs.declared.kinds.Event.TheVariants.{Reset}
@@ -13,10 +13,10 @@ use Rattle.sx_machine.specs.Memory.{bytes_from, put_bytes}
 use Rattle.sx_machine.specs.State.{State, reset}
 use Rattle.sx_machine.specs.Registers.{set_reg}
 use Rattle.sx_machine.specs.Run.{Moment, untouched, Outcome, Finished, Violated, Module, exec}
-use Rattle.sx_machine.specs.Step.{Shows, start}
+use Rattle.sx_machine.specs.Step.{Shown, start}
 use Rattle.sx_machine.specs.Ranges.{meets, passes_end, meets_private, meets_public, meets_device}
 use Rattle.sx_machine.specs.Acts.{put_refusal, take_refusal, busy, unless, put, take, set, sense, irq_refusal, interrupt, interrupted, irq}
-use Rattle.sx_machine.specs.Guard.{Alike, Twins, Kept, Untouched, Guarded}
+use Rattle.sx_machine.specs.Guard.{Alike, Twins, PrivateKept, Untouched, Guarded}
 use Rattle.sx_machine.proofs.PlanGuard.{set_kept, bytes_alike, put_alike, Moments, SameOutcome, KeptBy, exec_alike, exec_kept}
 use Rattle.sx_machine.proofs.StepGuard.{with_mem, alike_same, twins_same, SameEnd}
 
@@ -54,20 +54,20 @@ apart_bytes s at n h k a b =
     true≢false (sym (both (ltb 0 n) (ltb at s.layout.priv_to && ltb s.layout.priv_from (at + n)) (lt-ltb 0 n some)
     (both (ltb at s.layout.priv_to) (ltb s.layout.priv_from (at + n)) (lt-ltb at s.layout.priv_to low) (lt-ltb s.layout.priv_from (at + n) high))) ∙ h))
 
-put_bytes_kept : (s : Section) (bs m0 m : List ℕ) (at : ℕ) → ((k : ℕ) → at ≤ k → k < at + length bs → in_private s k ≡ false) → Kept s m0 m → Kept s m0 (put_bytes m at bs)
+put_bytes_kept : (s : Section) (bs m0 m : List ℕ) (at : ℕ) → ((k : ℕ) → at ≤ k → k < at + length bs → in_private s k ≡ false) → PrivateKept s m0 m → PrivateKept s m0 (put_bytes m at bs)
 put_bytes_kept s [] m0 m at f h = h
 put_bytes_kept s (b ∷ bs) m0 m at f h =
     put_bytes_kept s bs m0 _ (at + 1) (λ k p q. f k (omega (arith, p)) (omega (arith, q)))
     (set_kept s m0 m at (b % 256) (f at (omega arith) (omega arith)) h)
 
 -- an act that is refused or done
-refused_kept : {T : Type 0} (s : Section) (a : State) (o : Option Refused) (done : Shows T) → Lives a.sections.live s
+refused_kept : {T : Type 0} (s : Section) (a : State) (o : Option Refused) (done : Shown T) → Lives a.sections.live s
     → (o ≡ None → Untouched s a done.state) → Untouched s a (unless o a done).state
 refused_kept s a None done l f = f refl
 refused_kept s a (Some r) done l f = inl (λ k p. refl, l)
 
 -- twins answer alike and stay twins, where they do so when nothing is refused
-pub refused_same : {T : Type 0} (s : Section) (a b : State) (o : Option Refused) (x y : Shows T) → Twins s a b → (o ≡ None → SameEnd s x y)
+pub refused_same : {T : Type 0} (s : Section) (a b : State) (o : Option Refused) (x y : Shown T) → Twins s a b → (o ≡ None → SameEnd s x y)
     → SameEnd s (unless o a x) (unless o b y)
 refused_same s a b None x y t f = (ap Ok (f refl).0, (f refl).1)
 refused_same s a b (Some r) x y t f = (refl, t)
@@ -96,7 +96,7 @@ range_apart a s at n l h = apart_bytes s at n (none_of (λ u. meets at n u.layou
 
 pub put_guarded : (s : Section) (a : State) (at : ℕ) (bytes : List ℕ) → Lives a.sections.live s → Guarded (Result (Unit {0}) Refused) (λ x. put x at bytes) s a
 put_guarded s a at bytes l =
-    let written : State → Shows (Unit {0}) = λ x. record { state = record x { mem = put_bytes x.mem at bytes }; shown = tt } in
+    let written : State → Shown (Unit {0}) = λ x. record { state = record x { mem = put_bytes x.mem at bytes }; shown = tt } in
     record {
       kept = refused_kept s a (put_refusal a at (length bytes)) (written a) l
           (λ e. inl (put_bytes_kept s bytes a.mem a.mem at (range_apart a s at (length bytes) l (put_open a at (length bytes) e)) (λ k p. refl), l));
@@ -108,7 +108,7 @@ put_guarded s a at bytes l =
 
 pub take_guarded : (s : Section) (a : State) (at n : ℕ) → Lives a.sections.live s → Guarded (Result (List ℕ) Refused) (λ x. take x at n) s a
 take_guarded s a at n l =
-    let read : State → Shows (List ℕ) = λ x. record { state = x; shown = bytes_from x.mem at n } in
+    let read : State → Shown (List ℕ) = λ x. record { state = x; shown = bytes_from x.mem at n } in
     record {
       kept = refused_kept s a (take_refusal a at n) (read a) l (λ e. inl (λ k p. refl, l));
       blind = λ b t.
@@ -119,7 +119,7 @@ take_guarded s a at n l =
 
 pub set_guarded : (s : Section) (a : State) (r v : ℕ) → Lives a.sections.live s → Guarded (Result (Unit {0}) Refused) (λ x. set x r v) s a
 set_guarded s a r v l =
-    let changed : State → Shows (Unit {0}) = λ x. record { state = record x { regs = set_reg x.regs r v; last = cond (r == 0) 0 x.last }; shown = tt } in
+    let changed : State → Shown (Unit {0}) = λ x. record { state = record x { regs = set_reg x.regs r v; last = cond (r == 0) 0 x.last }; shown = tt } in
     record {
       kept = refused_kept s a (busy a) (changed a) l (λ e. inl (λ k p. refl, l));
       blind = λ b t.
@@ -130,7 +130,7 @@ set_guarded s a r v l =
 
 pub sense_guarded : (s : Section) (a : State) (device v : ℕ) → Lives a.sections.live s → Guarded (Result (Unit {0}) Refused) (λ x. sense x device v) s a
 sense_guarded s a device v l =
-    let changed : State → Shows (Unit {0}) = λ x. record { state = record x { devices = sensed x.devices device v }; shown = tt } in
+    let changed : State → Shown (Unit {0}) = λ x. record { state = record x { devices = with_sample x.devices device v }; shown = tt } in
     record {
       kept = refused_kept s a (busy a) (changed a) l (λ e. inl (λ k p. refl, l));
       blind = λ b t.
@@ -164,7 +164,7 @@ interrupted_alike s a n m (Module r x t e c) (Violated w) h = absurd h
 pub irq_guarded : (s : Section) (a : State) (line : ℕ) → Lives a.sections.live s → 0 ≢ s.id → Guarded (Result Seen Refused) (λ x. irq x line) s a
 irq_guarded s a line l ne =
     let run : State → Outcome = λ x. exec x.sections 0 (interrupt line x.regs) (start x) in
-    let ended : State → Shows Seen = λ x. interrupted x (run x) in
+    let ended : State → Shown Seen = λ x. interrupted x (run x) in
     record {
       kept = refused_kept s a (irq_refusal a) (ended a) l
           (λ e. interrupted_kept s a (run a) l (exec_kept a.sections 0 s l ne (interrupt line a.regs) a.mem (start a) (λ k p. refl)));

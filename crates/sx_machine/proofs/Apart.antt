@@ -9,7 +9,7 @@ use Rattle.sx_tag.specs.Mac.{Mac}
 use Rattle.sx_machine.specs.declared.kinds.Event.{Event}
 use Rattle.sx_machine.specs.Given.{Given}
 use Rattle.sx_machine.specs.Protect.{layout_in}
-use Rattle.sx_machine.specs.Node.{AreApart}
+use Rattle.sx_machine.specs.Node.{AreApartDevices}
 use Rattle.sx_machine.proofs.Events.{Told, Same, Admits, Removes}
 
 pub lives_push : (live : List Section) (new s : Section) → Lives (live ++ new ∷ []) s → Lives live s ⊎ (new ≡ s)
@@ -28,12 +28,12 @@ lives_without (x ∷ live) id s l = by (x.id == id) (lives_without live id s) l
     by false f l = elim l [ inl q ↦ inl q | inr r ↦ inr (f r) ]
 
 pub apart_told : (mac : Mac) (g : Given) (m0 m : List ℕ) (t : Sections) (e : Event) → Told mac g m0 m t e
-    → AreApart (places_of g.devices) g.sections.live → AreApart (places_of g.devices) t.live
-apart_told mac g m0 m t e (Same h same) a = subst (λ (z : Sections). AreApart (places_of g.devices) z.live) (sym same) a
-apart_told mac g m0 m t e (Admits none same wipe) a = subst (λ (z : Sections). AreApart (places_of g.devices) z.live) (sym same) (λ s l.
+    → AreApartDevices (places_of g.devices) g.sections.live → AreApartDevices (places_of g.devices) t.live
+apart_told mac g m0 m t e (Same h same) a = subst (λ (z : Sections). AreApartDevices (places_of g.devices) z.live) (sym same) a
+apart_told mac g m0 m t e (Admits none same wipe) a = subst (λ (z : Sections). AreApartDevices (places_of g.devices) z.live) (sym same) (λ s l.
     elim (lives_push g.sections.live _ s l) [
       | inl h ↦ a s h
       | inr q ↦ subst (λ (z : Section). no_device (places_of g.devices) z.layout ≡ true) q (admits g.sections (layout_in g.regs) (places_of g.devices) none).device
     ])
 apart_told mac g m0 m t e (Removes own found same wipe) a =
-    subst (λ (z : Sections). AreApart (places_of g.devices) z.live) (sym same) (λ s l. a s (lives_without g.sections.live g.own s l))
+    subst (λ (z : Sections). AreApartDevices (places_of g.devices) z.live) (sym same) (λ s l. a s (lives_without g.sections.live g.own s l))

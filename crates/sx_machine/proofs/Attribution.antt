@@ -9,7 +9,7 @@ use Rattle.sx_machine.specs.declared.kinds.Touch.{Touch}
 use Rattle.sx_machine.specs.declared.kinds.Touch.TheVariants.{Quiet, DeviceRead, DeviceWrite}
 use Rattle.sx_machine.specs.State.{State}
 use Rattle.sx_machine.specs.Run.{Outcome, Finished, Violated, Module, exec}
-use Rattle.sx_machine.specs.Step.{own_of, start, attempt, settled}
+use Rattle.sx_machine.specs.Step.{own_of, start, attempt, settled_step}
 use Rattle.sx_machine.specs.declared.kinds.Seen.{Seen}
 use Rattle.sx_machine.specs.Acts.{interrupt, interrupted, irq_refusal}
 use Rattle.sx_machine.proofs.RunGuard.{not_zero}
@@ -34,7 +34,7 @@ replays_outside live own s l ne (DeviceWrite k v ∷ ts) first a b e h = (
   replays_outside live own s l ne ts first a b e h.4,
 )
 
-settled_outside : (a : State) (s : Section) (o : Outcome) → Lives a.sections.live s → own_of a ≢ s.id → TracedBy a.sections.live (own_of a) a.devices o → NoneInside s a.devices (settled a o).shown.touch
+settled_outside : (a : State) (s : Section) (o : Outcome) → Lives a.sections.live s → own_of a ≢ s.id → TracedBy a.sections.live (own_of a) a.devices o → NoneInside s a.devices (settled_step a o).shown.touch
 settled_outside a s (Finished regs x) l ne h = replays_outside a.sections.live (own_of a) s l ne x.touches a.devices a.devices x.devices refl h
 settled_outside a s (Violated v) l ne h = tt
 settled_outside a s (Module regs x t e c) l ne h = replays_outside a.sections.live (own_of a) s l ne x.touches a.devices a.devices x.devices refl h

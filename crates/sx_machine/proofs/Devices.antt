@@ -5,7 +5,7 @@ use Rattle.std.proofs.lemmas.Bool.{cases_Bool}
 use Rattle.std.specs.List.{position_from}
 use Rattle.sx_bus.specs.declared.devices.Kind.{Kind}
 use Rattle.sx_bus.specs.declared.devices.Window.{Window}
-use Rattle.sx_bus.specs.Devices.{HaveSamples, places_of, on_word, device_at, changed, cleared, sensed, stale, all_stale}
+use Rattle.sx_bus.specs.Devices.{HaveSamples, places_of, on_word, device_at, with_changed, cleared, with_sample, stale, all_stale}
 use Rattle.sx_machine.specs.Run.{with_window, found, device_of}
 use Rattle.sx_machine.specs.Node.{shapes}
 
@@ -32,12 +32,12 @@ sample_small (x ∷ ws) zero w h e = subst (λ (z : Window). z.value < 32768) (s
 sample_small (x ∷ ws) (suc k) w h e = sample_small ws k w (λ j d lt. h (suc j) d (omega (arith, lt))) e
 
 -- a change that leaves places, kinds and good samples leaves them of all devices
-pub changed_shapes : (f : Window → Window) → ((w : Window) → ((f w).at ≡ w.at) × ((f w).kind ≡ w.kind)) → (ws : List Window) (k : ℕ) → shapes (changed f ws k) ≡ shapes ws
+pub changed_shapes : (f : Window → Window) → ((w : Window) → ((f w).at ≡ w.at) × ((f w).kind ≡ w.kind)) → (ws : List Window) (k : ℕ) → shapes (with_changed f ws k) ≡ shapes ws
 changed_shapes f h [] k = refl
 changed_shapes f h (w ∷ ws) zero = let a = (h w).0 in let b = (h w).1 in rw (a, b) refl
 changed_shapes f h (w ∷ ws) (suc k) = ap (λ r. (w.at, w.kind) ∷ r) (changed_shapes f h ws k)
 
-pub changed_samples : (f : Window → Window) → ((w : Window) → w.value < 32768 → (f w).value < 32768) → (ws : List Window) (k : ℕ) → HaveSamples ws → HaveSamples (changed f ws k)
+pub changed_samples : (f : Window → Window) → ((w : Window) → w.value < 32768 → (f w).value < 32768) → (ws : List Window) (k : ℕ) → HaveSamples ws → HaveSamples (with_changed f ws k)
 changed_samples f h [] k s j d lt = absurd (omega (arith, lt))
 changed_samples f h (w ∷ ws) zero s zero d lt = h w (s 0 d (omega arith))
 changed_samples f h (w ∷ ws) zero s (suc j) d lt = s (suc j) d (omega (arith, lt))
@@ -50,10 +50,10 @@ cleared_shapes ws k = changed_shapes stale (λ w. (refl, refl)) ws k
 pub cleared_samples : (ws : List Window) (k : ℕ) → HaveSamples ws → HaveSamples (cleared ws k)
 cleared_samples ws k h = changed_samples stale (λ w lt. lt) ws k h
 
-pub sensed_shapes : (ws : List Window) (k v : ℕ) → shapes (sensed ws k v) ≡ shapes ws
+pub sensed_shapes : (ws : List Window) (k v : ℕ) → shapes (with_sample ws k v) ≡ shapes ws
 sensed_shapes ws k v = changed_shapes (λ w. record w { value = v; fresh = true }) (λ w. (refl, refl)) ws k
 
-pub sensed_samples : (ws : List Window) (k v : ℕ) → v < 32768 → HaveSamples ws → HaveSamples (sensed ws k v)
+pub sensed_samples : (ws : List Window) (k v : ℕ) → v < 32768 → HaveSamples ws → HaveSamples (with_sample ws k v)
 sensed_samples ws k v lt h = changed_samples (λ w. record w { value = v; fresh = true }) (λ w old. lt) ws k h
 
 pub stale_shapes : (ws : List Window) → shapes (all_stale ws) ≡ shapes ws

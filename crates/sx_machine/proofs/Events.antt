@@ -33,7 +33,7 @@ use Rattle.sx_machine.specs.Given.{Given, own_section, untouched_with, concluded
 use Rattle.sx_machine.specs.Protect.{layout_in, provider_in, key_for, wiped, protected_if, protect, removed_if, unprotect}
 use Rattle.sx_machine.specs.ModuleRows.{answer, within, exchanged, attested, attest, own_key, with_key, with_inputs, wrap, opened, unwrap, module_row}
 use Rattle.sx_machine.specs.Modules.{module_instruction}
-use Rattle.sx_machine.specs.Step.{pc_of, own_of, start, is_module_word, given, instruction, ordered, word_outside, attempt}
+use Rattle.sx_machine.specs.Step.{pc_of, own_of, start, is_module_word, given_at_pc, instruction, ordered, word_outside, attempt}
 
 -- the module whose code the instruction is
 abbrev pub IsOwn : Given → ℕ → Type 0
@@ -237,9 +237,9 @@ either_told : (mac : Mac) (g : Given) (m0 : List ℕ) (b : Bool) (o p : Outcome)
 either_told mac g m0 true o p f h = f
 either_told mac g m0 false o p f h = h
 
-instruction_told : (mac : Mac) (s : State) → ToldBy mac (given mac s) s.mem (instruction mac s)
+instruction_told : (mac : Mac) (s : State) → ToldBy mac (given_at_pc mac s) s.mem (instruction mac s)
 instruction_told mac s =
-    let g = given mac s in
+    let g = given_at_pc mac s in
     let w = word s.mem (pc_of s) in
     let code = w - 0x1380 in
     either_told mac g s.mem (is_module_word w) (module_instruction mac code g s.mem) (exec s.sections (own_of s) (program w s.regs) (start s))
@@ -248,10 +248,10 @@ instruction_told mac s =
     (exec_told mac g s.mem (own_of s) (module_row mac code g) (untouched_with g s.mem) (tells_module mac code g))))
     (exec_told mac g s.mem (own_of s) (program w s.regs) (start s) (tells_program g w s.regs))
 
-ordered_told : (mac : Mac) (s : State) (d : Option ℕ) → ToldBy mac (given mac s) s.mem (ordered mac s d)
+ordered_told : (mac : Mac) (s : State) (d : Option ℕ) → ToldBy mac (given_at_pc mac s) s.mem (ordered mac s d)
 ordered_told mac s (Some d) = tt
-ordered_told mac s None = told_if mac (given mac s) s.mem (in_order s.sections.live s.cur (pc_of s)) (instruction mac s) bad.Order (instruction_told mac s)
+ordered_told mac s None = told_if mac (given_at_pc mac s) s.mem (in_order s.sections.live s.cur (pc_of s)) (instruction mac s) bad.Order (instruction_told mac s)
 
-pub attempt_told : (mac : Mac) (s : State) → ToldBy mac (given mac s) s.mem (attempt mac s)
+pub attempt_told : (mac : Mac) (s : State) → ToldBy mac (given_at_pc mac s) s.mem (attempt mac s)
 attempt_told mac s =
-    told_if mac (given mac s) s.mem (word_outside s.sections.live (pc_of s)) (ordered mac s (device_at s.devices (pc_of s))) bad.Fetch (ordered_told mac s (device_at s.devices (pc_of s)))
+    told_if mac (given_at_pc mac s) s.mem (word_outside s.sections.live (pc_of s)) (ordered mac s (device_at s.devices (pc_of s))) bad.Fetch (ordered_told mac s (device_at s.devices (pc_of s)))

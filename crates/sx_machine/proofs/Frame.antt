@@ -24,13 +24,13 @@ use Rattle.sx_machine.specs.declared.kinds.Touch.TheVariants.{DeviceRead}
 use Rattle.sx_machine.specs.Memory.{even, word, write_at, bytes_from, put_bytes, zeroed}
 use Rattle.sx_machine.specs.State.{State, reset}
 use Rattle.sx_machine.specs.Plan.{Plan, Done, Tell, Stop, Fetch, Load, Store, Need, Writable, Bytes, Put}
-use Rattle.sx_machine.specs.Run.{Moment, noted, Outcome, Finished, Violated, Module, may_at, may_range, may_each, sampled, read_device, read_place, load, write_device, write_place, store, fetch, device_of, after_read, after_write, after_fetch, exec}
+use Rattle.sx_machine.specs.Run.{Moment, with_touch, Outcome, Finished, Violated, Module, may_at, may_range, may_each, sampled, read_device, read_place, load, write_device, write_place, store, fetch, device_of, after_read, after_write, after_fetch, exec}
 use Rattle.sx_machine.specs.Rows.{program}
 use Rattle.sx_machine.specs.Given.{Given, own_section, untouched_with}
 use Rattle.sx_machine.specs.Protect.{layout_in, wiped, protected_if, protect, removed_if, unprotect}
 use Rattle.sx_machine.specs.ModuleRows.{module_row}
 use Rattle.sx_machine.specs.Modules.{module_instruction}
-use Rattle.sx_machine.specs.Step.{own_of, pc_of, start, is_module_word, given, instruction, ordered, word_outside, attempt, settled}
+use Rattle.sx_machine.specs.Step.{own_of, pc_of, start, is_module_word, given_at_pc, instruction, ordered, word_outside, attempt, settled_step}
 use Rattle.sx_machine.specs.Acts.{interrupt, interrupted, irq_refusal}
 use Rattle.sx_machine.specs.Frame.{Framed, StepsFramed, InterruptsFramed}
 use Rattle.sx_machine.proofs.PlanGuard.{passes}
@@ -72,7 +72,7 @@ ReadFramed live own m0 (Err v) = Unit {0}
 sampled_framed : (live : List Section) (own : ℕ) (m0 : List ℕ) (device : ℕ) (w : Window) (x : Moment) → Framed live own m0 x.mem → ReadFramed live own m0 (Ok (sampled device w x))
 sampled_framed live own m0 device w x h = by w.fresh
   where
-    by : (b : Bool) → (let p : ℕ × Moment = if b then (0x8000 + w.value, record { mem = x.mem; devices = cleared x.devices device; touches = noted x.touches (DeviceRead device w.value) }) else (0, x) in Framed live own m0 p.1.mem)
+    by : (b : Bool) → (let p : ℕ × Moment = if b then (0x8000 + w.value, record { mem = x.mem; devices = cleared x.devices device; touches = with_touch x.touches (DeviceRead device w.value) }) else (0, x) in Framed live own m0 p.1.mem)
     by true = h
     by false = h
 
@@ -260,7 +260,7 @@ either_framed live own m false o p f g = g
 
 instruction_framed : (mac : Mac) (a : State) → Placed a.sections → FramedBy a.sections.live (own_of a) a.mem (instruction mac a)
 instruction_framed mac a p =
-    let g = given mac a in
+    let g = given_at_pc mac a in
     let w = word a.mem (pc_of a) in
     let code = w - 0x1380 in
     let by_row = exec a.sections (own_of a) (module_row mac code g) (untouched_with g a.mem) in
@@ -276,7 +276,7 @@ ordered_framed mac a (Some d) p = tt
 ordered_framed mac a None p = framed_if a.sections.live (own_of a) a.mem (in_order a.sections.live a.cur (pc_of a)) (instruction mac a) bad.Order (λ _. instruction_framed mac a p)
 
 settled_framed : (a : State) (o : Outcome) → FramedBy a.sections.live (own_of a) a.mem o
-    → Framed a.sections.live (own_of a) a.mem (settled a o).state.mem ⊎ ((settled a o).state ≡ reset a)
+    → Framed a.sections.live (own_of a) a.mem (settled_step a o).state.mem ⊎ ((settled_step a o).state ≡ reset a)
 settled_framed a (Finished regs x) h = inl h
 settled_framed a (Violated v) h = inr refl
 settled_framed a (Module regs x t e c) h = inl h

@@ -17,7 +17,7 @@ use Rattle.sx_machine.specs.declared.kinds.Event.TheVariants as event
 use Rattle.sx_machine.specs.State.{State, reset}
 use Rattle.sx_machine.specs.Run.{Outcome, Finished, Violated, Module, exec}
 use Rattle.sx_machine.specs.Protect.{layout_in, provider_in, identity_at, wiped}
-use Rattle.sx_machine.specs.Step.{Shows, step, start, attempt, settled}
+use Rattle.sx_machine.specs.Step.{Shown, step, start, attempt, settled_step}
 use Rattle.sx_machine.specs.Acts.{unless, put_refusal, take_refusal, busy, irq_refusal, interrupt, interrupted}
 use Rattle.sx_machine.specs.Guard.{Act, Step, Restart, Put, Set, Take, Sense, Interrupt, acted}
 use Rattle.sx_machine.specs.Events.{chain_key, Says}
@@ -27,7 +27,7 @@ use Rattle.sx_machine.proofs.Stays.{acted_key}
 use Rattle.sx_machine.proofs.Apart.{lives_push, lives_without}
 use Rattle.sx_machine.proofs.Meanings.{same_bytes, steps_say, others_keep_sections}
 use Rattle.sx_machine.proofs.Frame.{zeroed_other}
-use Rattle.sx_machine.proofs.Public.{public_kept}
+use Rattle.sx_machine.proofs.PublicKept.{public_kept}
 
 priv_bounds : (l : Layout) → good_bounds l ≡ true → nat_lt l.priv_from l.priv_to ≡ true
 priv_bounds l h = (and_parts (nat_lt l.priv_from l.priv_to) _ (and_parts (nat_lt l.pub_from l.pub_to) _ h).1).0
@@ -104,7 +104,7 @@ step_keys mac a p h n (event.Left id) says s m = from_old mac Step a s p h n (su
 
 -- The boot count stays, or the node was reset.
 
-settled_boot : (a : State) (o : Outcome) → ((settled a o).state.boot ≡ a.boot) ⊎ ((settled a o).state ≡ reset a)
+settled_boot : (a : State) (o : Outcome) → ((settled_step a o).state.boot ≡ a.boot) ⊎ ((settled_step a o).state ≡ reset a)
 settled_boot a (Finished regs x) = inl refl
 settled_boot a (Violated v) = inr refl
 settled_boot a (Module regs x t e c) = inl refl
@@ -114,7 +114,7 @@ interrupted_boot a (Finished regs x) = inl refl
 interrupted_boot a (Violated v) = inr refl
 interrupted_boot a (Module regs x t e c) = inl refl
 
-unless_boot : {T : Type 0} (o : Option Refused) (a : State) (done : Shows T) → (done.state.boot ≡ a.boot) ⊎ (done.state ≡ reset a)
+unless_boot : {T : Type 0} (o : Option Refused) (a : State) (done : Shown T) → (done.state.boot ≡ a.boot) ⊎ (done.state ≡ reset a)
     → ((unless o a done).state.boot ≡ a.boot) ⊎ ((unless o a done).state ≡ reset a)
 unless_boot None a done h = h
 unless_boot (Some r) a done h = inl refl

@@ -18,7 +18,7 @@ pub mod Sparse
 pub mod Attribution
 pub mod Meanings
 pub mod Frame
-pub mod Public
+pub mod PublicKept
 pub mod Keys
-pub mod Runs
-pub mod Doing
+pub mod RunsByTable
+pub mod DoesWhatStands

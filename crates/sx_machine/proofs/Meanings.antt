@@ -17,7 +17,7 @@ use Rattle.sx_machine.specs.Memory.{bytes_from, zeroed}
 use Rattle.sx_machine.specs.State.{State, reset}
 use Rattle.sx_machine.specs.Run.{Moment, Outcome, Finished, Violated, Module, exec}
 use Rattle.sx_machine.specs.Protect.{layout_in, provider_in, key_for, wiped}
-use Rattle.sx_machine.specs.Step.{Shows, step, own_of, pc_of, start, given, attempt, moved, left, settled}
+use Rattle.sx_machine.specs.Step.{Shown, step, own_of, pc_of, start, given_at_pc, attempt, state_after, left, settled_step}
 use Rattle.sx_machine.specs.Acts.{unless, put_refusal, take_refusal, busy, irq_refusal, interrupt, interrupted}
 use Rattle.sx_machine.specs.Guard.{Step, Restart, Put, Set, Take, Sense, Interrupt}
 use Rattle.sx_machine.specs.Events.{private_bytes, IsZeroed, chain_key, IsCodeOf, IsAdmitted, Says, StepsSay, OthersKeepSections, FreshSections}
@@ -78,15 +78,15 @@ own_is a s p found =
     let c = own_code a s p found in
     some_inj c.section s (sym (placed_found a.sections c.section p c.lives) ∙ ap (λ i. section_of a.sections.live i) c.named ∙ found)
 
-chain_is : (mac : Mac) (a : State) → key_for mac (given mac a) a.mem (layout_in a.regs) ≡ chain_key mac a (provider_in a.regs) (layout_in a.regs)
+chain_is : (mac : Mac) (a : State) → key_for mac (given_at_pc mac a) a.mem (layout_in a.regs) ≡ chain_key mac a (provider_in a.regs) (layout_in a.regs)
 unfolding module_key
 chain_is mac a = refl
 
-says_left : (mac : Mac) (a : State) (regs : List ℕ) (x : Moment) → Says mac a (moved a (own_of a) regs x a.sections a.exchange) (left a (own_of a) regs)
+says_left : (mac : Mac) (a : State) (regs : List ℕ) (x : Moment) → Says mac a (state_after a (own_of a) regs x a.sections a.exchange) (left a (own_of a) regs)
 says_left mac a regs x = by (own_of a == 0) (holder a.sections.live (slice_index regs 0) == own_of a) refl refl
   where
     by : (p q : Bool) → (own_of a == 0) ≡ p → (holder a.sections.live (slice_index regs 0) == own_of a) ≡ q
-        → Says mac a (moved a (own_of a) regs x a.sections a.exchange) (if p || q then event.Quiet else event.Left (own_of a))
+        → Says mac a (state_after a (own_of a) regs x a.sections a.exchange) (if p || q then event.Quiet else event.Left (own_of a))
     by true q e f = refl
     by false true e f = refl
     by false false e f = (
@@ -99,7 +99,7 @@ says_left mac a regs x = by (own_of a == 0) (holder a.sections.live (slice_index
         true_is_false h = cc
 
 says_told : (mac : Mac) (a : State) (regs : List ℕ) (x : Moment) (t : Sections) (e : Event) (c : Exchange) → Placed a.sections
-    → Told mac (given mac a) a.mem x.mem t e → Says mac a (moved a (own_of a) regs x t c) e
+    → Told mac (given_at_pc mac a) a.mem x.mem t e → Says mac a (state_after a (own_of a) regs x t c) e
 says_told mac a regs x t event.Quiet c p (Same h same) = same
 says_told mac a regs x t (event.Reset v) c p (Same h same) = absurd h
 says_told mac a regs x t (event.Protected id) c p (Same h same) = absurd h
@@ -127,7 +127,7 @@ says_told mac a regs x t e c p (Removes s found same wipe) =
           (ap (λ bs. private_bytes s.layout bs) wipe ∙ zeroed_bytes a.mem s.layout.priv_from (s.layout.priv_to - s.layout.priv_from));
     }
 
-settled_says : (mac : Mac) (a : State) (o : Outcome) → Placed a.sections → ToldBy mac (given mac a) a.mem o → Says mac a (settled a o).state (settled a o).shown.event
+settled_says : (mac : Mac) (a : State) (o : Outcome) → Placed a.sections → ToldBy mac (given_at_pc mac a) a.mem o → Says mac a (settled_step a o).state (settled_step a o).shown.event
 settled_says mac a (Finished regs x) p h = says_left mac a regs x
 settled_says mac a (Violated v) p h = refl
 settled_says mac a (Module regs x t e c) p h = says_told mac a regs x t e c p h
@@ -137,7 +137,7 @@ steps_say mac a p = settled_says mac a (attempt mac a) p (attempt_told mac a)
 
 -- The other acts.
 
-unless_keeps : {T : Type 0} (o : Option Refused) (a : State) (done : Shows T) → (done.state.sections ≡ a.sections) ⊎ (done.state ≡ reset a)
+unless_keeps : {T : Type 0} (o : Option Refused) (a : State) (done : Shown T) → (done.state.sections ≡ a.sections) ⊎ (done.state ≡ reset a)
     → ((unless o a done).state.sections ≡ a.sections) ⊎ ((unless o a done).state ≡ reset a)
 unless_keeps None a done h = h
 unless_keeps (Some r) a done h = inl refl

@@ -16,8 +16,8 @@ use Rattle.sx_bus.specs.Devices.{cleared}
 use Rattle.sx_machine.specs.declared.kinds.Touch.TheVariants.{DeviceRead}
 use Rattle.sx_machine.specs.Memory.{even, word, read_at, write_at, bytes_from, put_bytes}
 use Rattle.sx_machine.specs.Plan.{Plan, Done, Tell, Stop, Fetch, Load, Store, Need, Writable, Bytes, Put}
-use Rattle.sx_machine.specs.Run.{Moment, noted, Outcome, Finished, Violated, Module, may_at, may_range, may_each, sampled, device_of, read_device, read_place, load, write_device, write_place, store, fetch_place, fetch, after_read, after_write, after_fetch, exec}
-use Rattle.sx_machine.specs.Guard.{Alike, Kept}
+use Rattle.sx_machine.specs.Run.{Moment, with_touch, Outcome, Finished, Violated, Module, may_at, may_range, may_each, sampled, device_of, read_device, read_place, load, write_device, write_place, store, fetch_place, fetch, after_read, after_write, after_fetch, exec}
+use Rattle.sx_machine.specs.Guard.{Alike, PrivateKept}
 
 -- what all pass, each live section passes
 pub passes : (t : Section → Bool) (xs : List Section) (s : Section) → Lives xs s → list_all t xs ≡ true → t s ≡ true
@@ -90,12 +90,12 @@ write_alike s true m n at v h = set_alike s _ _ (even at + 1) (v / 256) (set_ali
 write_alike s false m n at v h = set_alike s m n at (v % 256) h
 
 -- a byte that isn't private is written
-pub set_kept : (s : Section) (m0 m : List ℕ) (i v : ℕ) → in_private s i ≡ false → Kept s m0 m → Kept s m0 (slice_set m i v)
+pub set_kept : (s : Section) (m0 m : List ℕ) (i v : ℕ) → in_private s i ≡ false → PrivateKept s m0 m → PrivateKept s m0 (slice_set m i v)
 set_kept s m0 m i v q h = λ k p.
     let ne : k ≢ i = λ e. true≢false (sym p ∙ ap (in_private s) e ∙ q) in
     get_or-set_other m i k v 0 ne ∙ h k p
 
-write_kept : (s : Section) (wide : Bool) (m0 m : List ℕ) (at v : ℕ) → Open s wide at → Kept s m0 m → Kept s m0 (write_at wide m at v)
+write_kept : (s : Section) (wide : Bool) (m0 m : List ℕ) (at v : ℕ) → Open s wide at → PrivateKept s m0 m → PrivateKept s m0 (write_at wide m at v)
 write_kept s true m0 m at v q h = set_kept s m0 _ (even at + 1) (v / 256) q.1 (set_kept s m0 m (even at) (v % 256) q.0 h)
 write_kept s false m0 m at v q h = set_kept s m0 m at (v % 256) q h
 
@@ -124,7 +124,7 @@ pub put_alike : (s : Section) (bs m n : List ℕ) (at : ℕ) → Alike s m n →
 put_alike s [] m n at h = h
 put_alike s (b ∷ bs) m n at h = put_alike s bs (slice_set m at (b % 256)) (slice_set n at (b % 256)) (at + 1) (set_alike s m n at (b % 256) h)
 
-put_each_kept : (live : List Section) (own : ℕ) (s : Section) → Lives live s → own ≢ s.id → (bs m0 m : List ℕ) (at : ℕ) → may_each live own Write at bs ≡ true → Kept s m0 m → Kept s m0 (put_bytes m at bs)
+put_each_kept : (live : List Section) (own : ℕ) (s : Section) → Lives live s → own ≢ s.id → (bs m0 m : List ℕ) (at : ℕ) → may_each live own Write at bs ≡ true → PrivateKept s m0 m → PrivateKept s m0 (put_bytes m at bs)
 put_each_kept live own s l ne [] m0 m at h g = g
 put_each_kept live own s l ne (b ∷ bs) m0 m at h g =
     let p = and_parts (may live own Write at) (may_each live own Write (at + 1) bs) h in
@@ -187,7 +187,7 @@ fetch_if b x y v f =
 
 sampled_alike : (s : Section) (device : ℕ) (w : Window) (x : Moment) (n : List ℕ) → Alike s x.mem n → SameRead s (Ok (sampled device w x)) (Ok (sampled device w (with_mem x n)))
 sampled_alike s device w x n h =
-    let told : Moment → ℕ × Moment = λ y. (0x8000 + w.value, record { mem = y.mem; devices = cleared y.devices device; touches = noted y.touches (DeviceRead device w.value) }) in
+    let told : Moment → ℕ × Moment = λ y. (0x8000 + w.value, record { mem = y.mem; devices = cleared y.devices device; touches = with_touch y.touches (DeviceRead device w.value) }) in
     elim (w.fresh) as (λ b. SameRead s (Ok (cond b (told x) (0, x))) (Ok (cond b (told (with_mem x n)) (0, with_mem x n))))
     [ true ↦ (refl, record { rest = refl; mem = h }) | false ↦ (refl, record { rest = refl; mem = h }) ]
 
@@ -289,62 +289,62 @@ exec_alike t own s l ne (Put at bs k) x n h =
 
 -- the private bytes of s after a plan
 abbrev pub KeptBy : Section → List ℕ → Outcome → Type 0
-KeptBy s m (Finished regs x) = Kept s m x.mem
+KeptBy s m (Finished regs x) = PrivateKept s m x.mem
 KeptBy s m (Violated v) = Unit {0}
-KeptBy s m (Module regs x t e c) = Kept s m x.mem × Lives t.live s
+KeptBy s m (Module regs x t e c) = PrivateKept s m x.mem × Lives t.live s
 
 abbrev ReadKept : Section → List ℕ → Result (ℕ × Moment) Violation → Type 0
-ReadKept s m (Ok r) = Kept s m r.1.mem
+ReadKept s m (Ok r) = PrivateKept s m r.1.mem
 ReadKept s m (Err v) = Unit {0}
 
 abbrev WriteKept : Section → List ℕ → Result Moment Violation → Type 0
-WriteKept s m (Ok x) = Kept s m x.mem
+WriteKept s m (Ok x) = PrivateKept s m x.mem
 WriteKept s m (Err v) = Unit {0}
 
 pub kept_if : (s : Section) (m : List ℕ) (b : Bool) (x : Outcome) (v : Violation) → (b ≡ true → KeptBy s m x) → KeptBy s m (cond b x (Violated v))
 kept_if s m b x v f =
     elim b as (λ c. (c ≡ true → KeptBy s m x) → KeptBy s m (cond c x (Violated v))) [ true ↦ λ g. g refl | false ↦ λ g. tt ] f
 
-read_device_kept : (s : Section) (m : List ℕ) (wide : Bool) (device : ℕ) (w : Window) (kind : Kind) (x : Moment) → Kept s m x.mem → ReadKept s m (read_device wide device w kind x)
+read_device_kept : (s : Section) (m : List ℕ) (wide : Bool) (device : ℕ) (w : Window) (kind : Kind) (x : Moment) → PrivateKept s m x.mem → ReadKept s m (read_device wide device w kind x)
 read_device_kept s m true device w Sensor x h =
-    let told : ℕ × Moment = (0x8000 + w.value, record { mem = x.mem; devices = cleared x.devices device; touches = noted x.touches (DeviceRead device w.value) }) in
+    let told : ℕ × Moment = (0x8000 + w.value, record { mem = x.mem; devices = cleared x.devices device; touches = with_touch x.touches (DeviceRead device w.value) }) in
     elim (w.fresh) as (λ b. ReadKept s m (Ok (cond b told (0, x)))) [ true ↦ h | false ↦ h ]
 read_device_kept s m false device w Sensor x h = tt
 read_device_kept s m true device w Actuator x h = tt
 read_device_kept s m false device w Actuator x h = tt
 
-read_place_kept : (s : Section) (m : List ℕ) (wide : Bool) (at : ℕ) (d : Option (ℕ × Window)) (x : Moment) → Kept s m x.mem → ReadKept s m (read_place wide at d x)
+read_place_kept : (s : Section) (m : List ℕ) (wide : Bool) (at : ℕ) (d : Option (ℕ × Window)) (x : Moment) → PrivateKept s m x.mem → ReadKept s m (read_place wide at d x)
 read_place_kept s m wide at None x h = h
 read_place_kept s m wide at (Some d) x h = read_device_kept s m wide d.0 d.1 d.1.kind x h
 
-load_kept : (s : Section) (m : List ℕ) (live : List Section) (own : ℕ) (wide : Bool) (at : ℕ) (x : Moment) → Kept s m x.mem → ReadKept s m (load live own wide at x)
+load_kept : (s : Section) (m : List ℕ) (live : List Section) (own : ℕ) (wide : Bool) (at : ℕ) (x : Moment) → PrivateKept s m x.mem → ReadKept s m (load live own wide at x)
 load_kept s m live own wide at x h =
     elim (may_at wide live own Read at) as (λ b. ReadKept s m (cond b (read_place wide at (device_of x.devices at) x) (Err bad.Read)))
     [ true ↦ read_place_kept s m wide at (device_of x.devices at) x h | false ↦ tt ]
 
-write_device_kept : (s : Section) (m : List ℕ) (wide : Bool) (device v : ℕ) (kind : Kind) (x : Moment) → Kept s m x.mem → WriteKept s m (write_device wide device v kind x)
+write_device_kept : (s : Section) (m : List ℕ) (wide : Bool) (device v : ℕ) (kind : Kind) (x : Moment) → PrivateKept s m x.mem → WriteKept s m (write_device wide device v kind x)
 write_device_kept s m true device v Actuator x h = h
 write_device_kept s m false device v Actuator x h = tt
 write_device_kept s m true device v Sensor x h = tt
 write_device_kept s m false device v Sensor x h = tt
 
-write_place_kept : (s : Section) (m : List ℕ) (wide : Bool) (at v : ℕ) (d : Option (ℕ × Window)) (x : Moment) → Open s wide at → Kept s m x.mem → WriteKept s m (write_place wide at v d x)
+write_place_kept : (s : Section) (m : List ℕ) (wide : Bool) (at v : ℕ) (d : Option (ℕ × Window)) (x : Moment) → Open s wide at → PrivateKept s m x.mem → WriteKept s m (write_place wide at v d x)
 write_place_kept s m wide at v None x p h = write_kept s wide m x.mem at v p h
 write_place_kept s m wide at v (Some d) x p h = write_device_kept s m wide d.0 v d.1.kind x h
 
-store_kept : (s : Section) (m : List ℕ) (live : List Section) (own : ℕ) → Lives live s → own ≢ s.id → (wide : Bool) (at v : ℕ) (x : Moment) → Kept s m x.mem
+store_kept : (s : Section) (m : List ℕ) (live : List Section) (own : ℕ) → Lives live s → own ≢ s.id → (wide : Bool) (at v : ℕ) (x : Moment) → PrivateKept s m x.mem
     → WriteKept s m (store live own wide at v x)
 store_kept s m live own l ne wide at v x h =
     elim (may_at wide live own Write at) as (λ b. (b ≡ true → Open s wide at) → WriteKept s m (cond b (write_place wide at v (device_of x.devices at) x) (Err bad.Write)))
     [ true ↦ λ f. write_place_kept s m wide at v (device_of x.devices at) x (f refl) h | false ↦ λ f. tt ]
     (barred_at wide live own Write at s l ne)
 
-after_read_kept : (s : Section) (m : List ℕ) (r : Result (ℕ × Moment) Violation) (f : ℕ → Moment → Outcome) → ReadKept s m r → ((v : ℕ) (x : Moment) → Kept s m x.mem → KeptBy s m (f v x))
+after_read_kept : (s : Section) (m : List ℕ) (r : Result (ℕ × Moment) Violation) (f : ℕ → Moment → Outcome) → ReadKept s m r → ((v : ℕ) (x : Moment) → PrivateKept s m x.mem → KeptBy s m (f v x))
     → KeptBy s m (after_read r f)
 after_read_kept s m (Ok r) f h g = g r.0 r.1 h
 after_read_kept s m (Err v) f h g = tt
 
-after_write_kept : (s : Section) (m : List ℕ) (r : Result Moment Violation) (f : Moment → Outcome) → WriteKept s m r → ((x : Moment) → Kept s m x.mem → KeptBy s m (f x))
+after_write_kept : (s : Section) (m : List ℕ) (r : Result Moment Violation) (f : Moment → Outcome) → WriteKept s m r → ((x : Moment) → PrivateKept s m x.mem → KeptBy s m (f x))
     → KeptBy s m (after_write r f)
 after_write_kept s m (Ok x) f h g = g x h
 after_write_kept s m (Err v) f h g = tt
@@ -353,7 +353,7 @@ after_fetch_kept : (s : Section) (m : List ℕ) (r : Result ℕ Violation) (f : 
 after_fetch_kept s m (Ok w) f g = g w
 after_fetch_kept s m (Err v) f g = tt
 
-pub exec_kept : (t : Sections) (own : ℕ) (s : Section) → Lives t.live s → own ≢ s.id → (p : Plan) (m : List ℕ) (x : Moment) → Kept s m x.mem
+pub exec_kept : (t : Sections) (own : ℕ) (s : Section) → Lives t.live s → own ≢ s.id → (p : Plan) (m : List ℕ) (x : Moment) → PrivateKept s m x.mem
     → KeptBy s m (exec t own p x)
 exec_kept t own s l ne (Done regs) m x h = h
 exec_kept t own s l ne (Tell regs event exchange) m x h = (h, l)

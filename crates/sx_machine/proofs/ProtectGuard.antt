@@ -14,7 +14,7 @@ use Rattle.sx_bus.specs.Devices.{places_of}
 use Rattle.sx_machine.specs.Memory.{zeroed}
 use Rattle.sx_machine.specs.Given.{Given}
 use Rattle.sx_machine.specs.Protect.{identity_at, layout_in, provider_in, protected_if, protect}
-use Rattle.sx_machine.specs.Guard.{Alike, Kept}
+use Rattle.sx_machine.specs.Guard.{Alike, PrivateKept}
 use Rattle.sx_machine.proofs.PlanGuard.{passes, set_alike, set_kept, bytes_alike, SameOutcome, KeptBy}
 
 abbrev chosen : Bool → Bool → Bool → Bool → Bool → Option Refusal
@@ -51,7 +51,7 @@ unfolding zeroed
 zeroed_alike s m n at zero h = h
 zeroed_alike s m n at (suc len) h = set_alike s (zeroed m at len) (zeroed n at len) (at + len) 0 (zeroed_alike s m n at len h)
 
-pub zeroed_kept : (s : Section) (m : List ℕ) (at len : ℕ) → ((k : ℕ) → at ≤ k → k < at + len → in_private s k ≡ false) → Kept s m (zeroed m at len)
+pub zeroed_kept : (s : Section) (m : List ℕ) (at len : ℕ) → ((k : ℕ) → at ≤ k → k < at + len → in_private s k ≡ false) → PrivateKept s m (zeroed m at len)
 unfolding zeroed
 zeroed_kept s m at zero f = λ k p. refl
 zeroed_kept s m at (suc len) f =

@@ -30,11 +30,11 @@ use Rattle.sx_bus.specs.Devices.{HaveSamples, cleared}
 use Rattle.sx_machine.specs.declared.kinds.Touch.TheVariants.{DeviceRead}
 use Rattle.sx_machine.specs.Memory.{bytes_from, put_bytes, word, read_at, write_at}
 use Rattle.sx_machine.specs.Plan.{Plan, Done, Tell, Stop, Fetch, Load, Store, Need, Writable, Bytes, Put}
-use Rattle.sx_machine.specs.Run.{Moment, noted, Outcome, Finished, Violated, Module, may_at, may_range, may_each, device_of, sampled, read_device, read_place, load, write_device, write_place, store, fetch_place, fetch, after_read, after_write, after_fetch, exec}
-use Rattle.sx_machine.specs.Registers.{cut, onward, reg, set_reg, at_pc, flags, set_flags, incremented}
-use Rattle.sx_machine.specs.Rows.{from_source, reads, writes, into_register, into_memory, on_memory, onto, lowered, pushed, in_memory, in_place, one, reti, taken, distance, jump, row, row_of, with_words, program, computed}
+use Rattle.sx_machine.specs.Run.{Moment, with_touch, Outcome, Finished, Violated, Module, may_at, may_range, may_each, device_of, sampled, read_device, read_place, load, write_device, write_place, store, fetch_place, fetch, after_read, after_write, after_fetch, exec}
+use Rattle.sx_machine.specs.Registers.{cut_value, onward, reg, set_reg, at_pc, flags, set_flags, incremented}
+use Rattle.sx_machine.specs.Rows.{from_source, reads, writes, into_register, into_memory, on_memory, onto, lowered, pushed, in_memory, in_place, one, reti, jump_taken, distance, jump, row, row_of, with_words, program, computed}
 use Rattle.sx_machine.specs.Acts.{interrupt}
-use Rattle.sx_bus.specs.Memory.{AreBytes}
+use Rattle.sx_bus.specs.Memory.{AreMemoryBytes}
 use Rattle.sx_machine.specs.Node.{AreRegisters, shapes}
 use Rattle.sx_machine.proofs.Registers.{Holds, holds_pc, holds_sp, holds_zero, pc_even, sp_even, set_registers, set_reg_registers, at_pc_registers, flags_registers, lowered_registers, incremented_registers, distance_even, word_small, read_small, write_bytes, put_small}
 use Rattle.sx_machine.proofs.Devices.{device_there, sample_small, cleared_shapes, cleared_samples}
@@ -56,7 +56,7 @@ Ranged (Put at bs k) = Ranged k
 
 -- memory in range, and devices as they were but for their fresh marks
 pub record Steady (devices : List Window) (x : Moment) : Type 0 where
-  pub memory : AreBytes x.mem
+  pub memory : AreMemoryBytes x.mem
   pub shapes : shapes x.devices ≡ shapes devices
   pub samples : HaveSamples x.devices
 
@@ -76,7 +76,7 @@ ReadRanged ds (Err v) = Unit {0}
 sampled_ranged : (ds : List Window) (k : ℕ) (w : Window) (x : Moment) → w.value < 32768 → Steady ds x → ReadRanged ds (Ok (sampled k w x))
 sampled_ranged ds k w x lt h = by w.fresh
   where
-    by : (b : Bool) → (let p : ℕ × Moment = if b then (0x8000 + w.value, record { mem = x.mem; devices = cleared x.devices k; touches = noted x.touches (DeviceRead k w.value) }) else (0, x) in (p.0 < 65536) × Steady ds p.1)
+    by : (b : Bool) → (let p : ℕ × Moment = if b then (0x8000 + w.value, record { mem = x.mem; devices = cleared x.devices k; touches = with_touch x.touches (DeviceRead k w.value) }) else (0, x) in (p.0 < 65536) × Steady ds p.1)
     by true = (omega (arith, lt), record { memory = h.memory; shapes = cleared_shapes x.devices k ∙ h.shapes; samples = cleared_samples x.devices k h.samples })
     by false = (omega arith, h)
 
@@ -161,7 +161,7 @@ exec_ranged t own ds (Put at bs k) x r h =
 
 -- Calculations give words.
 
-cut_small : (wide : Bool) (v : ℕ) → cut wide v < 65536
+cut_small : (wide : Bool) (v : ℕ) → cut_value wide v < 65536
 cut_small true v = omega arith
 cut_small false v = omega arith
 
@@ -217,14 +217,14 @@ ranged_if true p q f g = f
 ranged_if false p q f g = g
 
 ranged_source : (wide : Bool) (o : Operand) (regs : List ℕ) (k : ℕ → List ℕ → Plan) → IsSource o → AreRegisters regs → ((v : ℕ) (r : List ℕ) → v < 65536 → AreRegisters r → Ranged (k v r)) → Ranged (from_source wide o regs k)
-ranged_source wide (Reg r) regs k o h f = f (cut wide (reg regs r)) regs (cut_small wide (reg regs r)) h
+ranged_source wide (Reg r) regs k o h f = f (cut_value wide (reg regs r)) regs (cut_small wide (reg regs r)) h
 ranged_source wide (Indexed r x) regs k o h f = λ v lt. f v regs lt h
 ranged_source wide (Symbolic x) regs k o h f = λ v lt. f v regs lt h
 ranged_source wide (Absolute x) regs k o h f = λ v lt. f v regs lt h
 ranged_source wide (Indirect r) regs k o h f = λ v lt. f v regs lt h
 ranged_source wide (Increment r) regs k o h f = λ v lt. f v (incremented wide regs r) lt (incremented_registers wide regs r h o)
-ranged_source wide (Immediate x) regs k o h f = f (cut wide x) regs (cut_small wide x) h
-ranged_source wide (Const c) regs k o h f = f (cut wide c) regs (cut_small wide c) h
+ranged_source wide (Immediate x) regs k o h f = f (cut_value wide x) regs (cut_small wide x) h
+ranged_source wide (Const c) regs k o h f = f (cut_value wide c) regs (cut_small wide c) h
 
 ranged_register : (written : Bool) (r : ℕ) (result : ℕ × Flags) (regs : List ℕ) → result.0 < 65536 → AreRegisters regs → Ranged (into_register written r result regs)
 ranged_register true r result regs lt h = set_reg_registers (set_flags regs result.1) r result.0 (flags_registers regs result.1 h) lt
@@ -242,7 +242,7 @@ ranged_on op wide at s regs lt h =
 
 ranged_onto : (op : Op2) (wide : Bool) (o : Operand) (s : ℕ) (regs : List ℕ) → s < 65536 → AreRegisters regs → Ranged (onto op wide o s regs)
 ranged_onto op wide (Reg r) s regs lt h =
-    ranged_register (writes op) r (computed op wide s (cut wide (reg regs r)) (flags regs)) regs (computed_small op wide s (cut wide (reg regs r)) (flags regs) lt (cut_small wide (reg regs r))) h
+    ranged_register (writes op) r (computed op wide s (cut_value wide (reg regs r)) (flags regs)) regs (computed_small op wide s (cut_value wide (reg regs r)) (flags regs) lt (cut_small wide (reg regs r))) h
 ranged_onto op wide (Indexed r x) s regs lt h = ranged_on op wide (onward (reg regs r) x) s regs lt h
 ranged_onto op wide (Symbolic x) s regs lt h = ranged_on op wide (onward (reg regs 0) (65534 + x)) s regs lt h
 ranged_onto op wide (Absolute x) s regs lt h = ranged_on op wide x s regs lt h
@@ -256,7 +256,7 @@ ranged_in kind wide at regs h v lt = ranged_memory wide true at (alu.row kind wi
 
 ranged_place : (kind : Calc) (wide : Bool) (o : Operand) (regs : List ℕ) (next : ℕ) → IsSource o → AreRegisters regs → Holds 0 next → Ranged (in_place kind wide o regs next)
 ranged_place kind wide (Reg r) regs next o h n =
-    ranged_register true r (alu.row kind wide (cut wide (reg regs r)) 0 (flags regs)) (at_pc regs next) (alu_small kind wide (cut wide (reg regs r)) 0 (flags regs) (cut_small wide (reg regs r)) (omega arith)) (at_pc_registers regs next h n)
+    ranged_register true r (alu.row kind wide (cut_value wide (reg regs r)) 0 (flags regs)) (at_pc regs next) (alu_small kind wide (cut_value wide (reg regs r)) 0 (flags regs) (cut_small wide (reg regs r)) (omega arith)) (at_pc_registers regs next h n)
 ranged_place kind wide (Indexed r x) regs next o h n = ranged_in kind wide (onward (reg regs r) x) (at_pc regs next) (at_pc_registers regs next h n)
 ranged_place kind wide (Symbolic x) regs next o h n = ranged_in kind wide (onward (reg regs 0) x) (at_pc regs next) (at_pc_registers regs next h n)
 ranged_place kind wide (Absolute x) regs next o h n = ranged_in kind wide x (at_pc regs next) (at_pc_registers regs next h n)
@@ -287,7 +287,7 @@ ranged_reti regs h sr a pc b =
 
 ranged_jump : (c : ℕ) (o : ℤ) (regs : List ℕ) (next : ℕ) → AreRegisters regs → Holds 0 next → Ranged (jump c o regs next)
 ranged_jump c o regs next h n =
-    at_pc_registers regs (if taken c (flags regs) then onward next (distance o) else next) h (by (taken c (flags regs)))
+    at_pc_registers regs (if jump_taken c (flags regs) then onward next (distance o) else next) h (by (jump_taken c (flags regs)))
   where
     by : (b : Bool) → Holds 0 (if b then onward next (distance o) else next)
     by true = let e = n.1 in holds_pc (onward next (distance o)) (omega arith) (omega (arith, e, distance_even o))

@@ -10,8 +10,8 @@ use Rattle.sx_machine.specs.Memory.{even, word, read_at, write_at, put_bytes, ze
 use Rattle.sx_machine.specs.Registers.{onward, reg, kept_in, set_reg, at_pc, set_flags, incremented}
 use Rattle.sx_machine.specs.Given.{concluded}
 use Rattle.sx_machine.specs.Rows.{lowered, distance}
-use Rattle.sx_bus.specs.Memory.{AreBytes}
-use Rattle.sx_bus.proofs.Bytes.{AreBytes-set}
+use Rattle.sx_bus.specs.Memory.{AreMemoryBytes}
+use Rattle.sx_bus.proofs.Bytes.{AreMemoryBytes-set}
 use Rattle.sx_machine.specs.Node.{AreRegisters}
 
 -- a word that a register keeps
@@ -135,25 +135,25 @@ distance_even (negsuc n) = omega arith
 
 -- Bytes.
 
-pub word_small : (mem : List ℕ) (at : ℕ) → AreBytes mem → word mem at < 65536
+pub word_small : (mem : List ℕ) (at : ℕ) → AreMemoryBytes mem → word mem at < 65536
 word_small mem at h = omega (arith, h.bytes (even at), h.bytes (even at + 1))
 
-pub read_small : (wide : Bool) (mem : List ℕ) (at : ℕ) → AreBytes mem → read_at wide mem at < 65536
+pub read_small : (wide : Bool) (mem : List ℕ) (at : ℕ) → AreMemoryBytes mem → read_at wide mem at < 65536
 read_small true mem at h = word_small mem at h
 read_small false mem at h = omega (arith, h.bytes at)
 
-pub write_bytes : (wide : Bool) (mem : List ℕ) (at v : ℕ) → AreBytes mem → v < 65536 → AreBytes (write_at wide mem at v)
-write_bytes true mem at v h lt = AreBytes-set (slice_set mem (even at) (v % 256)) (even at + 1) (v / 256) (AreBytes-set mem (even at) (v % 256) h (omega arith)) (omega (arith, lt))
-write_bytes false mem at v h lt = AreBytes-set mem at (v % 256) h (omega arith)
+pub write_bytes : (wide : Bool) (mem : List ℕ) (at v : ℕ) → AreMemoryBytes mem → v < 65536 → AreMemoryBytes (write_at wide mem at v)
+write_bytes true mem at v h lt = AreMemoryBytes-set (slice_set mem (even at) (v % 256)) (even at + 1) (v / 256) (AreMemoryBytes-set mem (even at) (v % 256) h (omega arith)) (omega (arith, lt))
+write_bytes false mem at v h lt = AreMemoryBytes-set mem at (v % 256) h (omega arith)
 
-pub put_small : (bs mem : List ℕ) (at : ℕ) → AreBytes mem → AreBytes (put_bytes mem at bs)
+pub put_small : (bs mem : List ℕ) (at : ℕ) → AreMemoryBytes mem → AreMemoryBytes (put_bytes mem at bs)
 put_small [] mem at h = h
-put_small (b ∷ bs) mem at h = put_small bs (slice_set mem at (b % 256)) (at + 1) (AreBytes-set mem at (b % 256) h (omega arith))
+put_small (b ∷ bs) mem at h = put_small bs (slice_set mem at (b % 256)) (at + 1) (AreMemoryBytes-set mem at (b % 256) h (omega arith))
 
-pub zeroed_small : (mem : List ℕ) (at n : ℕ) → AreBytes mem → AreBytes (zeroed mem at n)
+pub zeroed_small : (mem : List ℕ) (at n : ℕ) → AreMemoryBytes mem → AreMemoryBytes (zeroed mem at n)
 unfolding zeroed
 zeroed_small mem at zero h = h
-zeroed_small mem at (suc n) h = AreBytes-set (zeroed mem at n) (at + n) 0 (zeroed_small mem at n h) (omega arith)
+zeroed_small mem at (suc n) h = AreMemoryBytes-set (zeroed mem at n) (at + n) 0 (zeroed_small mem at n h) (omega arith)
 
 -- zeros
 pub zero_at : (n k : ℕ) → slice_index (replicate n 0) k ≡ 0

@@ -22,7 +22,7 @@ use Rattle.sx_machine.specs.Given.{Given, own_section, untouched_with}
 use Rattle.sx_machine.specs.Protect.{layout_in, provider_in, key_for, protected_if, protect, removed_if, unprotect}
 use Rattle.sx_machine.specs.ModuleRows.{module_row}
 use Rattle.sx_machine.specs.Modules.{module_instruction}
-use Rattle.sx_machine.specs.Step.{Shows, pc_of, own_of, start, is_module_word, given, instruction, ordered, word_outside, attempt, settled, step}
+use Rattle.sx_machine.specs.Step.{Shown, pc_of, own_of, start, is_module_word, given_at_pc, instruction, ordered, word_outside, attempt, settled_step, step}
 use Rattle.sx_machine.specs.Acts.{unless, put_refusal, take_refusal, busy, irq_refusal, interrupt, interrupted}
 use Rattle.sx_machine.specs.Guard.{Act, Step, Restart, Put as PutAct, Set, Take, Sense, Interrupt, acted, acted_all}
 
@@ -90,14 +90,14 @@ module_placed mac code g m h =
 instruction_placed : (mac : Mac) (a : State) → Placed a.sections → PlacedBy (instruction mac a)
 instruction_placed mac a h =
     let w = word a.mem (pc_of a) in
-    either_placed (is_module_word w) (module_instruction mac (w - 0x1380) (given mac a) a.mem) (exec a.sections (own_of a) (program w a.regs) (start a))
-    (module_placed mac (w - 0x1380) (given mac a) a.mem h) (exec_placed a.sections (own_of a) h (program w a.regs) (start a))
+    either_placed (is_module_word w) (module_instruction mac (w - 0x1380) (given_at_pc mac a) a.mem) (exec a.sections (own_of a) (program w a.regs) (start a))
+    (module_placed mac (w - 0x1380) (given_at_pc mac a) a.mem h) (exec_placed a.sections (own_of a) h (program w a.regs) (start a))
 
 ordered_placed : (mac : Mac) (a : State) (d : Option ℕ) → Placed a.sections → PlacedBy (ordered mac a d)
 ordered_placed mac a (Some d) h = tt
 ordered_placed mac a None h = placed_if (in_order a.sections.live a.cur (pc_of a)) (instruction mac a) bad.Order (instruction_placed mac a h)
 
-settled_placed : (a : State) (o : Outcome) → Placed a.sections → PlacedBy o → Placed (settled a o).state.sections
+settled_placed : (a : State) (o : Outcome) → Placed a.sections → PlacedBy o → Placed (settled_step a o).state.sections
 settled_placed a (Finished regs x) h g = h
 settled_placed a (Violated v) h g = starts_placed
 settled_placed a (Module regs x t e c) h g = g
@@ -107,7 +107,7 @@ step_placed mac a h =
     settled_placed a (attempt mac a) h
     (placed_if (word_outside a.sections.live (pc_of a)) (ordered mac a (device_at a.devices (pc_of a))) bad.Fetch (ordered_placed mac a (device_at a.devices (pc_of a)) h))
 
-unless_placed : {T : Type 0} (o : Option Refused) (a : State) (done : Shows T) → Placed a.sections → Placed done.state.sections → Placed (unless o a done).state.sections
+unless_placed : {T : Type 0} (o : Option Refused) (a : State) (done : Shown T) → Placed a.sections → Placed done.state.sections → Placed (unless o a done).state.sections
 unless_placed None a done h g = g
 unless_placed (Some r) a done h g = h
 
@@ -126,6 +126,6 @@ acted_placed mac (Sense device v) a h = unless_placed (busy a) a _ h h
 acted_placed mac (Interrupt line) a h =
     unless_placed (irq_refusal a) a _ h (interrupted_placed a (exec a.sections 0 (interrupt line a.regs) (start a)) h)
 
-pub acted_all_placed : (mac : Mac) (acts : List Act) (a : State) → Placed a.sections → Placed (acted_all mac acts a).state.sections
-acted_all_placed mac [] a h = h
-acted_all_placed mac (act ∷ acts) a h = acted_all_placed mac acts (acted mac act a).state (acted_placed mac act a h)
+pub stays_placed : (mac : Mac) (acts : List Act) (a : State) → Placed a.sections → Placed (acted_all mac acts a).state.sections
+stays_placed mac [] a h = h
+stays_placed mac (act ∷ acts) a h = stays_placed mac acts (acted mac act a).state (acted_placed mac act a h)

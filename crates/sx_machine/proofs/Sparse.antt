@@ -33,7 +33,7 @@ use Rattle.sx_machine.specs.Given.{Given, own_section, untouched_with, concluded
 use Rattle.sx_machine.specs.Protect.{layout_in, protected_if, protect, removed_if, unprotect}
 use Rattle.sx_machine.specs.ModuleRows.{answer, within, exchanged, attested, attest, own_key, with_key, with_inputs, wrap, opened, unwrap, module_row}
 use Rattle.sx_machine.specs.Modules.{module_instruction}
-use Rattle.sx_machine.specs.Step.{Shows, own_of, pc_of, start, is_module_word, given, instruction, ordered, word_outside, attempt, settled}
+use Rattle.sx_machine.specs.Step.{Shown, own_of, pc_of, start, is_module_word, given_at_pc, instruction, ordered, word_outside, attempt, settled_step}
 use Rattle.sx_machine.specs.State.{reset}
 use Rattle.sx_machine.specs.declared.kinds.Refused.{Refused}
 use Rattle.sx_machine.specs.declared.kinds.Seen.{Seen}
@@ -205,7 +205,7 @@ outcome_if live own a false o v h = tt
 
 instruction_traced : (mac : Mac) (s : State) → ((k : ℕ) (w : Window) → slice_get s.devices k ≡ Some w → (w.at % 2 ≡ 0) × (w.at < 0xFFE0)) → TracedBy s.sections.live (own_of s) s.devices (instruction mac s)
 instruction_traced mac s ev =
-    let g = given mac s in
+    let g = given_at_pc mac s in
     let live = s.sections.live in
     let own = own_of s in
     let w = word s.mem (pc_of s) in
@@ -220,7 +220,7 @@ ordered_traced : (mac : Mac) (s : State) (d : Option ℕ) → ((k : ℕ) (w : Wi
 ordered_traced mac s (Some d) ev = tt
 ordered_traced mac s None ev = outcome_if s.sections.live (own_of s) s.devices (in_order s.sections.live s.cur (pc_of s)) (instruction mac s) bad.Order (instruction_traced mac s ev)
 
-settled_traced : (s : State) (o : Outcome) → TracedBy s.sections.live (own_of s) s.devices o → Replays s.sections.live (own_of s) (settled s o).shown.touch s.devices (settled s o).state.devices ⊎ ((settled s o).state ≡ reset s)
+settled_traced : (s : State) (o : Outcome) → TracedBy s.sections.live (own_of s) s.devices o → Replays s.sections.live (own_of s) (settled_step s o).shown.touch s.devices (settled_step s o).state.devices ⊎ ((settled_step s o).state ≡ reset s)
 settled_traced s (Finished regs x) h = inl h
 settled_traced s (Violated v) h = inr refl
 settled_traced s (Module regs x t e c) h = inl h
@@ -254,7 +254,7 @@ pub interrupted_shows : (line : ℕ) (s : State) → IsNode s
 interrupted_shows line s node = interrupted_traced s (exec s.sections 0 (interrupt line s.regs) (start s)) (interrupt_traced line s node)
 
 -- an act that was done leaves and shows what it does
-pub done_is : {T : Type 0} (o : Option Refused) (s : State) (done : Shows T) (shown : T) → (unless o s done).shown ≡ Ok shown → ((unless o s done).state ≡ done.state) × (done.shown ≡ shown)
+pub done_is : {T : Type 0} (o : Option Refused) (s : State) (done : Shown T) (shown : T) → (unless o s done).shown ≡ Ok shown → ((unless o s done).state ≡ done.state) × (done.shown ≡ shown)
 done_is None s done shown e = (refl, cc)
 done_is (Some r) s done shown e = absurd cc
 

@@ -13,8 +13,8 @@ use Rattle.sx_rules.specs.Placed.{Placed, AllSound}
 use Rattle.sx_rules.proofs.Placing.{starts_placed}
 use Rattle.sx_rules.proofs.Admits.{admits}
 use Rattle.sx_bus.specs.declared.devices.Window.{Window}
-use Rattle.sx_bus.specs.Devices.{ArePlaces, HaveSamples, places_of, device_at, sensed, all_stale}
-use Rattle.sx_bus.proofs.Bytes.{AreBytes-blank}
+use Rattle.sx_bus.specs.Devices.{ArePlaces, HaveSamples, places_of, device_at, with_sample, all_stale}
+use Rattle.sx_bus.proofs.Bytes.{AreMemoryBytes-blank}
 use Rattle.sx_tag.specs.Mac.{Mac}
 use Rattle.sx_tag.specs.Wrap.{wrapped, unwrapped}
 use Rattle.sx_machine.specs.declared.kinds.Refused.{Refused}
@@ -27,15 +27,15 @@ use Rattle.sx_machine.specs.Plan.{Plan, Tell, Writable, Bytes, Put}
 use Rattle.sx_machine.specs.Run.{Moment, Outcome, Finished, Violated, Module, exec}
 use Rattle.sx_machine.specs.Rows.{program}
 use Rattle.sx_machine.specs.Given.{Given, own_section, untouched_with, concluded}
-use Rattle.sx_machine.specs.Protect.{layout_in, number_of, answered, wiped, protected_if, protect, removed_if, unprotect}
+use Rattle.sx_machine.specs.Protect.{layout_in, number_of, answer_registers, wiped, protected_if, protect, removed_if, unprotect}
 use Rattle.sx_machine.specs.ModuleRows.{answer, within, vouches, exchanged, attested, attest, own_key, with_key, with_inputs, wrap, opened, unwrap, module_row}
 use Rattle.sx_machine.specs.Modules.{module_instruction}
-use Rattle.sx_machine.specs.Step.{Shows, step, own_of, pc_of, start, is_live, entered_from, is_module_word, given, instruction, ordered, word_outside, attempt, moved, settled}
+use Rattle.sx_machine.specs.Step.{Shown, step, own_of, pc_of, start, is_live, entered_from, is_module_word, given_at_pc, instruction, ordered, word_outside, attempt, state_after, settled_step}
 use Rattle.sx_machine.specs.Acts.{unless, put_refusal, take_refusal, busy, irq_refusal, interrupt, interrupted}
 use Rattle.sx_machine.specs.Guard.{Act, Step, Restart, Put as PutAct, Set, Take, Sense, Interrupt, acted}
 use Rattle.sx_machine.proofs.Sections.{acted_placed}
-use Rattle.sx_bus.specs.Memory.{AreBytes}
-use Rattle.sx_machine.specs.Node.{AreRegisters, AreApart, IsNode, IsInForm, shapes}
+use Rattle.sx_bus.specs.Memory.{AreMemoryBytes}
+use Rattle.sx_machine.specs.Node.{AreRegisters, AreApartDevices, IsNode, ActInForm, shapes}
 use Rattle.sx_machine.specs.NodeLaws.{PowerOnIsNode, StaysNode, KeepsDevices, KeepsKey}
 use Rattle.sx_machine.proofs.Registers.{set_registers, set_reg_registers, concluded_registers, word_small, put_small, zeroed_small, zero_registers}
 use Rattle.sx_machine.proofs.Devices.{some_inj, sensed_shapes, sensed_samples, stale_shapes, stale_samples, same_places}
@@ -126,7 +126,7 @@ ranged_module mac code g p c h =
     (ranged_if (code == 5) _ _ (ranged_within g (unwrap mac g) (own_section g) h (λ s. ranged_unwrap mac g s h))
     (ranged_if (code == 6) _ _ (ranged_answer g held h (holder_small g.sections (slice_index g.regs 9) p)) (ranged_within g (λ own. answer g g.caller) (own_section g) h (λ s. ranged_answer g g.caller h c)))))
 
-answered_registers : (regs : List ℕ) (id number : ℕ) → AreRegisters regs → id < 65536 → number < 65536 → AreRegisters (answered regs id number)
+answered_registers : (regs : List ℕ) (id number : ℕ) → AreRegisters regs → id < 65536 → number < 65536 → AreRegisters (answer_registers regs id number)
 answered_registers regs id number h a b = concluded_registers (slice_set regs 14 number) id (set_registers regs 14 number h (b, refl)) a
 
 number_small : (r : Refusal) → number_of r < 65536
@@ -136,23 +136,23 @@ number_small Device = omega arith
 number_small Full = omega arith
 number_small Ids = omega arith
 
-with_bytes : (g : Given) (mem : List ℕ) → HaveSamples g.devices → AreBytes mem → Steady g.devices (untouched_with g mem)
+with_bytes : (g : Given) (mem : List ℕ) → HaveSamples g.devices → AreMemoryBytes mem → Steady g.devices (untouched_with g mem)
 with_bytes g mem s h = record { memory = h; shapes = refl; samples = s }
 
-protected_ranged : (mac : Mac) (g : Given) (mem : List ℕ) (l : Layout) (o : Option Refusal) → refusal g.sections l (places_of g.devices) ≡ o → AreRegisters g.regs → HaveSamples g.devices → AreBytes mem → RangedBy g.devices (protected_if mac g mem l o)
+protected_ranged : (mac : Mac) (g : Given) (mem : List ℕ) (l : Layout) (o : Option Refusal) → refusal g.sections l (places_of g.devices) ≡ o → AreRegisters g.regs → HaveSamples g.devices → AreMemoryBytes mem → RangedBy g.devices (protected_if mac g mem l o)
 protected_ranged mac g mem l None e r s h =
     (answered_registers g.regs g.sections.next 0 r (omega (arith, (admits g.sections l (places_of g.devices) e).ids)) (omega arith), with_bytes g (wiped mem l) s (zeroed_small mem l.priv_from (l.priv_to - l.priv_from) h))
 protected_ranged mac g mem l (Some why) e r s h = (answered_registers g.regs 0 (number_of why) r (omega arith) (number_small why), with_bytes g mem s h)
 
-protect_ranged : (mac : Mac) (g : Given) (mem : List ℕ) → AreRegisters g.regs → HaveSamples g.devices → AreBytes mem → RangedBy g.devices (protect mac g mem)
+protect_ranged : (mac : Mac) (g : Given) (mem : List ℕ) → AreRegisters g.regs → HaveSamples g.devices → AreMemoryBytes mem → RangedBy g.devices (protect mac g mem)
 unfolding protect
 protect_ranged mac g mem r s h = protected_ranged mac g mem (layout_in g.regs) (refusal g.sections (layout_in g.regs) (places_of g.devices)) refl r s h
 
-removed_ranged : (g : Given) (mem : List ℕ) (o : Option Section) → AreRegisters g.regs → HaveSamples g.devices → AreBytes mem → RangedBy g.devices (removed_if g mem o)
+removed_ranged : (g : Given) (mem : List ℕ) (o : Option Section) → AreRegisters g.regs → HaveSamples g.devices → AreMemoryBytes mem → RangedBy g.devices (removed_if g mem o)
 removed_ranged g mem None r s h = (concluded_registers g.regs 0 r (omega arith), with_bytes g mem s h)
 removed_ranged g mem (Some own) r s h = (concluded_registers g.regs 1 r (omega arith), with_bytes g (wiped mem own.layout) s (zeroed_small mem own.layout.priv_from (own.layout.priv_to - own.layout.priv_from) h))
 
-unprotect_ranged : (g : Given) (mem : List ℕ) → AreRegisters g.regs → HaveSamples g.devices → AreBytes mem → RangedBy g.devices (unprotect g mem)
+unprotect_ranged : (g : Given) (mem : List ℕ) → AreRegisters g.regs → HaveSamples g.devices → AreMemoryBytes mem → RangedBy g.devices (unprotect g mem)
 unfolding unprotect
 unprotect_ranged g mem r s h = removed_ranged g mem (own_section g) r s h
 
@@ -164,7 +164,7 @@ either_ranged ds false o p f g = g
 
 instruction_ranged : (mac : Mac) (s : State) → IsNode s → RangedBy s.devices (instruction mac s)
 instruction_ranged mac s h =
-    let g = given mac s in
+    let g = given_at_pc mac s in
     let w = word s.mem (pc_of s) in
     let code = w - 0x1380 in
     let moment : Steady s.devices (start s) = record { memory = h.memory; shapes = refl; samples = h.samples } in
@@ -184,7 +184,7 @@ attempt_ranged mac s h = ranged_outcome s.devices (word_outside s.sections.live 
 pub reset_is_node : (s : State) → IsNode s → IsNode (reset s)
 reset_is_node s h = record {
   registers = zero_registers 16 refl;
-  memory = AreBytes-blank 65536 refl;
+  memory = AreMemoryBytes-blank 65536 refl;
   places = subst (λ z. ArePlaces z) (sym (same_places (all_stale s.devices) s.devices (stale_shapes s.devices))) h.places;
   samples = stale_samples s.devices h.samples;
   placed = starts_placed;
@@ -197,7 +197,7 @@ reset_is_node s h = record {
 pub power_on_is_node : PowerOnIsNode
 power_on_is_node key devices p s = record {
   registers = zero_registers 16 refl;
-  memory = AreBytes-blank 65536 refl;
+  memory = AreMemoryBytes-blank 65536 refl;
   places = p;
   samples = s;
   placed = starts_placed;
@@ -214,11 +214,11 @@ runs_or_not live own pc = by (holder live pc == own) refl
     by true e = inr (sym (eqb-true (holder live pc) own e))
     by false e = inl refl
 
-apart_same : (a b : List ℕ) (live : List Section) → a ≡ b → AreApart b live → AreApart a live
-apart_same a b live e h = subst (λ (z : List ℕ). AreApart z live) (sym e) h
+apart_same : (a b : List ℕ) (live : List Section) → a ≡ b → AreApartDevices b live → AreApartDevices a live
+apart_same a b live e h = subst (λ (z : List ℕ). AreApartDevices z live) (sym e) h
 
-moved_is_node : (s : State) (regs : List ℕ) (x : Moment) (t : Sections) (c : Exchange) → IsNode s → AreRegisters regs → Steady s.devices x → Placed t → AreApart (places_of s.devices) t.live
-    → IsNode (moved s (own_of s) regs x t c)
+moved_is_node : (s : State) (regs : List ℕ) (x : Moment) (t : Sections) (c : Exchange) → IsNode s → AreRegisters regs → Steady s.devices x → Placed t → AreApartDevices (places_of s.devices) t.live
+    → IsNode (state_after s (own_of s) regs x t c)
 moved_is_node s regs x t c h r m p a = record {
   registers = r;
   memory = m.memory;
@@ -231,17 +231,17 @@ moved_is_node s regs x t c h r m p a = record {
   runner = runs_or_not t.live (own_of s) (slice_index regs 0);
 }
 
-settled_is_node : (mac : Mac) (s : State) (o : Outcome) → IsNode s → RangedBy s.devices o → ToldBy mac (given mac s) s.mem o → Placed (settled s o).state.sections → IsNode (settled s o).state
+settled_is_node : (mac : Mac) (s : State) (o : Outcome) → IsNode s → RangedBy s.devices o → ToldBy mac (given_at_pc mac s) s.mem o → Placed (settled_step s o).state.sections → IsNode (settled_step s o).state
 settled_is_node mac s (Finished regs x) h r w p = moved_is_node s regs x s.sections s.exchange h r.0 r.1 p h.apart
 settled_is_node mac s (Violated v) h r w p = reset_is_node s h
-settled_is_node mac s (Module regs x t e c) h r w p = moved_is_node s regs x t c h r.0 r.1 p (apart_told mac (given mac s) s.mem x.mem t e w h.apart)
+settled_is_node mac s (Module regs x t e c) h r w p = moved_is_node s regs x t c h r.0 r.1 p (apart_told mac (given_at_pc mac s) s.mem x.mem t e w h.apart)
 
 pub step_is_node : (mac : Mac) (s : State) → IsNode s → IsNode (step mac s).state
 step_is_node mac s h = settled_is_node mac s (attempt mac s) h (attempt_ranged mac s h) (attempt_told mac s) (acted_placed mac Step s h.placed)
 
 -- The acts.
 
-unless_is_node : {T : Type 0} (o : Option Refused) (s : State) (done : Shows T) → IsNode s → (o ≡ None → IsNode done.state) → IsNode (unless o s done).state
+unless_is_node : {T : Type 0} (o : Option Refused) (s : State) (done : Shown T) → IsNode s → (o ≡ None → IsNode done.state) → IsNode (unless o s done).state
 unless_is_node None s done h f = f refl
 unless_is_node (Some r) s done h f = h
 
@@ -269,14 +269,14 @@ last_small false n lt = lt
 pub set_is_node : (s : State) (r v : ℕ) → v < 65536 → s.cur ≡ 0 → IsNode s → IsNode (record s { regs = set_reg s.regs r v; last = if r == 0 then 0 else s.last })
 set_is_node s r v lt idle h = record { registers = set_reg_registers s.regs r v h.registers lt; memory = h.memory; places = h.places; samples = h.samples; placed = h.placed; apart = h.apart; last = last_small (r == 0) s.last h.last; caller = h.caller; runner = inl idle }
 
-pub sense_is_node : (s : State) (device v : ℕ) → v < 32768 → IsNode s → IsNode (record s { devices = sensed s.devices device v })
+pub sense_is_node : (s : State) (device v : ℕ) → v < 32768 → IsNode s → IsNode (record s { devices = with_sample s.devices device v })
 sense_is_node s device v lt h = record {
   registers = h.registers;
   memory = h.memory;
-  places = subst (λ z. ArePlaces z) (sym (same_places (sensed s.devices device v) s.devices (sensed_shapes s.devices device v))) h.places;
+  places = subst (λ z. ArePlaces z) (sym (same_places (with_sample s.devices device v) s.devices (sensed_shapes s.devices device v))) h.places;
   samples = sensed_samples s.devices device v lt h.samples;
   placed = h.placed;
-  apart = apart_same (places_of (sensed s.devices device v)) (places_of s.devices) s.sections.live (same_places (sensed s.devices device v) s.devices (sensed_shapes s.devices device v)) h.apart;
+  apart = apart_same (places_of (with_sample s.devices device v)) (places_of s.devices) s.sections.live (same_places (with_sample s.devices device v) s.devices (sensed_shapes s.devices device v)) h.apart;
   last = h.last;
   caller = h.caller;
   runner = h.runner;
@@ -300,13 +300,13 @@ interrupted_is_node s (Finished regs x) idle h r = record {
 interrupted_is_node s (Violated v) idle h r = reset_is_node s h
 interrupted_is_node s (Module regs x t e c) idle h r = h
 
-pub acted_is_node : (mac : Mac) (act : Act) (s : State) → IsInForm act → IsNode s → IsNode (acted mac act s).state
+pub acted_is_node : (mac : Mac) (act : Act) (s : State) → ActInForm act → IsNode s → IsNode (acted mac act s).state
 acted_is_node mac Step s f h = step_is_node mac s h
 acted_is_node mac Restart s f h = reset_is_node s h
 acted_is_node mac (PutAct at bytes) s f h = unless_is_node {T = Unit {0}} (put_refusal s at (length bytes)) s (record { state = record s { mem = put_bytes s.mem at bytes }; shown = tt }) h (λ e. put_is_node s at bytes h)
 acted_is_node mac (Set r v) s f h = unless_is_node {T = Unit {0}} (busy s) s (record { state = record s { regs = set_reg s.regs r v; last = if r == 0 then 0 else s.last }; shown = tt }) h (λ e. set_is_node s r v f (busy_idle s e) h)
 acted_is_node mac (Take at n) s f h = unless_is_node (take_refusal s at n) s _ h (λ e. h)
-acted_is_node mac (Sense device v) s f h = unless_is_node {T = Unit {0}} (busy s) s (record { state = record s { devices = sensed s.devices device v }; shown = tt }) h (λ e. sense_is_node s device v f h)
+acted_is_node mac (Sense device v) s f h = unless_is_node {T = Unit {0}} (busy s) s (record { state = record s { devices = with_sample s.devices device v }; shown = tt }) h (λ e. sense_is_node s device v f h)
 acted_is_node mac (Interrupt line) s f h =
     unless_is_node (irq_refusal s) s (interrupted s (exec s.sections 0 (interrupt line s.regs) (start s))) h (λ e.
     interrupted_is_node s (exec s.sections 0 (interrupt line s.regs) (start s)) (irq_idle s e) h (interrupt_ranged s line h))
@@ -317,7 +317,7 @@ stays_node mac (act ∷ acts) s f h = stays_node mac acts (acted mac act s).stat
 
 -- Devices keep their places and kinds.
 
-settled_shapes : (s : State) (o : Outcome) → RangedBy s.devices o → shapes (settled s o).state.devices ≡ shapes s.devices
+settled_shapes : (s : State) (o : Outcome) → RangedBy s.devices o → shapes (settled_step s o).state.devices ≡ shapes s.devices
 settled_shapes s (Finished regs x) r = r.1.shapes
 settled_shapes s (Violated v) r = stale_shapes s.devices
 settled_shapes s (Module regs x t e c) r = r.1.shapes
@@ -327,7 +327,7 @@ interrupted_shapes s (Finished regs x) r = r.1.shapes
 interrupted_shapes s (Violated v) r = stale_shapes s.devices
 interrupted_shapes s (Module regs x t e c) r = refl
 
-unless_shapes : {T : Type 0} (o : Option Refused) (s : State) (done : Shows T) → shapes done.state.devices ≡ shapes s.devices → shapes (unless o s done).state.devices ≡ shapes s.devices
+unless_shapes : {T : Type 0} (o : Option Refused) (s : State) (done : Shown T) → shapes done.state.devices ≡ shapes s.devices → shapes (unless o s done).state.devices ≡ shapes s.devices
 unless_shapes None s done e = e
 unless_shapes (Some r) s done e = refl
 
@@ -337,7 +337,7 @@ acted_shapes mac Restart s h = stale_shapes s.devices
 acted_shapes mac (PutAct at bytes) s h = unless_shapes {T = Unit {0}} (put_refusal s at (length bytes)) s (record { state = record s { mem = put_bytes s.mem at bytes }; shown = tt }) refl
 acted_shapes mac (Set r v) s h = unless_shapes {T = Unit {0}} (busy s) s (record { state = record s { regs = set_reg s.regs r v; last = if r == 0 then 0 else s.last }; shown = tt }) refl
 acted_shapes mac (Take at n) s h = unless_shapes (take_refusal s at n) s _ refl
-acted_shapes mac (Sense device v) s h = unless_shapes {T = Unit {0}} (busy s) s (record { state = record s { devices = sensed s.devices device v }; shown = tt }) (sensed_shapes s.devices device v)
+acted_shapes mac (Sense device v) s h = unless_shapes {T = Unit {0}} (busy s) s (record { state = record s { devices = with_sample s.devices device v }; shown = tt }) (sensed_shapes s.devices device v)
 acted_shapes mac (Interrupt line) s h =
     unless_shapes (irq_refusal s) s (interrupted s (exec s.sections 0 (interrupt line s.regs) (start s)))
     (interrupted_shapes s (exec s.sections 0 (interrupt line s.regs) (start s)) (interrupt_ranged s line h))
@@ -348,7 +348,7 @@ keeps_devices mac (act ∷ acts) s f h = keeps_devices mac acts (acted mac act s
 
 -- The key.
 
-settled_key : (s : State) (o : Outcome) → (settled s o).state.key ≡ s.key
+settled_key : (s : State) (o : Outcome) → (settled_step s o).state.key ≡ s.key
 settled_key s (Finished regs x) = refl
 settled_key s (Violated v) = refl
 settled_key s (Module regs x t e c) = refl
@@ -358,7 +358,7 @@ interrupted_key s (Finished regs x) = refl
 interrupted_key s (Violated v) = refl
 interrupted_key s (Module regs x t e c) = refl
 
-unless_key : {T : Type 0} (o : Option Refused) (s : State) (done : Shows T) → done.state.key ≡ s.key → (unless o s done).state.key ≡ s.key
+unless_key : {T : Type 0} (o : Option Refused) (s : State) (done : Shown T) → done.state.key ≡ s.key → (unless o s done).state.key ≡ s.key
 unless_key None s done e = e
 unless_key (Some r) s done e = refl
 
@@ -368,7 +368,7 @@ acted_key mac Restart s = refl
 acted_key mac (PutAct at bytes) s = unless_key {T = Unit {0}} (put_refusal s at (length bytes)) s (record { state = record s { mem = put_bytes s.mem at bytes }; shown = tt }) refl
 acted_key mac (Set r v) s = unless_key {T = Unit {0}} (busy s) s (record { state = record s { regs = set_reg s.regs r v; last = if r == 0 then 0 else s.last }; shown = tt }) refl
 acted_key mac (Take at n) s = unless_key (take_refusal s at n) s _ refl
-acted_key mac (Sense device v) s = unless_key {T = Unit {0}} (busy s) s (record { state = record s { devices = sensed s.devices device v }; shown = tt }) refl
+acted_key mac (Sense device v) s = unless_key {T = Unit {0}} (busy s) s (record { state = record s { devices = with_sample s.devices device v }; shown = tt }) refl
 acted_key mac (Interrupt line) s =
     unless_key (irq_refusal s) s (interrupted s (exec s.sections 0 (interrupt line s.regs) (start s))) (interrupted_key s (exec s.sections 0 (interrupt line s.regs) (start s)))
 

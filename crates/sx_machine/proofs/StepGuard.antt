@@ -16,7 +16,7 @@ use Rattle.sx_machine.specs.State.{State}
 use Rattle.sx_machine.specs.Run.{Moment, untouched, Outcome, Finished, Violated, Module, exec}
 use Rattle.sx_machine.specs.Rows.{program}
 use Rattle.sx_machine.specs.Modules.{module_instruction}
-use Rattle.sx_machine.specs.Step.{Shows, pc_of, own_of, start, is_module_word, given, instruction, word_outside, ordered, is_let_run, attempt, settled, step}
+use Rattle.sx_machine.specs.Step.{Shown, pc_of, own_of, start, is_module_word, given_at_pc, instruction, word_outside, ordered, is_let_run, attempt, settled_step, step}
 use Rattle.sx_machine.specs.Guard.{Alike, Twins, Untouched, Guarded, Foreign}
 use Rattle.sx_machine.proofs.PlanGuard.{passes, word_alike, Moments, SameOutcome, KeptBy, same_if, kept_if, exec_alike, exec_kept}
 use Rattle.sx_machine.proofs.ModuleGuard.{module_kept, module_alike}
@@ -37,19 +37,19 @@ not_private s live at l h = not-true (in_private s at) (passes (λ x. not (in_pr
 
 -- the instruction whose first word is w
 abbrev at_word : Mac → ℕ → State → Outcome
-at_word mac w a = cond (is_module_word w) (module_instruction mac (w - 0x1380) (given mac a) a.mem) (exec a.sections (own_of a) (program w a.regs) (start a))
+at_word mac w a = cond (is_module_word w) (module_instruction mac (w - 0x1380) (given_at_pc mac a) a.mem) (exec a.sections (own_of a) (program w a.regs) (start a))
 
 at_word_kept : (mac : Mac) (s : Section) (a : State) (w : ℕ) → Placed a.sections → Lives a.sections.live s → own_of a ≢ s.id → KeptBy s a.mem (at_word mac w a)
 at_word_kept mac s a w p l ne =
-    elim (is_module_word w) as (λ b. KeptBy s a.mem (cond b (module_instruction mac (w - 0x1380) (given mac a) a.mem) (exec a.sections (own_of a) (program w a.regs) (start a))))
-    [ true ↦ module_kept mac s (given mac a) a.mem (w - 0x1380) p l ne | false ↦ exec_kept a.sections (own_of a) s l ne (program w a.regs) a.mem (start a) (λ k p. refl) ]
+    elim (is_module_word w) as (λ b. KeptBy s a.mem (cond b (module_instruction mac (w - 0x1380) (given_at_pc mac a) a.mem) (exec a.sections (own_of a) (program w a.regs) (start a))))
+    [ true ↦ module_kept mac s (given_at_pc mac a) a.mem (w - 0x1380) p l ne | false ↦ exec_kept a.sections (own_of a) s l ne (program w a.regs) a.mem (start a) (λ k p. refl) ]
 
 at_word_alike : (mac : Mac) (s : Section) (a : State) (n : List ℕ) (w : ℕ) → Lives a.sections.live s → own_of a ≢ s.id → Alike s a.mem n
     → SameOutcome s (at_word mac w a) (at_word mac w (with_mem a n))
 at_word_alike mac s a n w l ne h =
-    elim (is_module_word w) as (λ b. SameOutcome s (cond b (module_instruction mac (w - 0x1380) (given mac a) a.mem) (exec a.sections (own_of a) (program w a.regs) (start a)))
-    (cond b (module_instruction mac (w - 0x1380) (given mac a) n) (exec a.sections (own_of a) (program w a.regs) (start (with_mem a n)))))
-    [ true ↦ module_alike mac s (given mac a) a.mem n (w - 0x1380) l ne h | false ↦ exec_alike a.sections (own_of a) s l ne (program w a.regs) (start a) n h ]
+    elim (is_module_word w) as (λ b. SameOutcome s (cond b (module_instruction mac (w - 0x1380) (given_at_pc mac a) a.mem) (exec a.sections (own_of a) (program w a.regs) (start a)))
+    (cond b (module_instruction mac (w - 0x1380) (given_at_pc mac a) n) (exec a.sections (own_of a) (program w a.regs) (start (with_mem a n)))))
+    [ true ↦ module_alike mac s (given_at_pc mac a) a.mem n (w - 0x1380) l ne h | false ↦ exec_alike a.sections (own_of a) s l ne (program w a.regs) (start a) n h ]
 
 ordered_kept : (mac : Mac) (s : Section) (a : State) (d : Option ℕ) → Placed a.sections → Lives a.sections.live s → own_of a ≢ s.id → KeptBy s a.mem (ordered mac a d)
 ordered_kept mac s a (Some d) p l ne = tt
@@ -79,34 +79,34 @@ attempt_alike mac s a n l ne h =
     ordered_alike mac s a n (device_at a.devices pc) l ne h
     (word_alike s a.mem n pc h (not_private s live (even pc) l p.0, not_private s live (even pc + 1) l p.1)))
 
-settled_kept : (s : Section) (a : State) (o : Outcome) → Lives a.sections.live s → KeptBy s a.mem o → Untouched s a (settled a o).state
+settled_kept : (s : Section) (a : State) (o : Outcome) → Lives a.sections.live s → KeptBy s a.mem o → Untouched s a (settled_step a o).state
 settled_kept s a (Finished regs x) l h = inl (h, l)
 settled_kept s a (Violated v) l h = inr refl
 settled_kept s a (Module regs x t e c) l h = inl h
 
 -- two steps or acts that show the same and leave twins
-abbrev pub SameEnd : {T : Type 0} → Section → Shows T → Shows T → Type 0
+abbrev pub SameEnd : {T : Type 0} → Section → Shown T → Shown T → Type 0
 SameEnd s x y = (x.shown ≡ y.shown) × Twins s x.state y.state
 
-settled_finished : (s : Section) (a : State) (n r : List ℕ) (x y : Moment) → Moments s x y → SameEnd s (settled a (Finished r x)) (settled (with_mem a n) (Finished r y))
+settled_finished : (s : Section) (a : State) (n r : List ℕ) (x y : Moment) → Moments s x y → SameEnd s (settled_step a (Finished r x)) (settled_step (with_mem a n) (Finished r y))
 settled_finished s a n r x y h =
-    subst (λ (z : Moment). SameEnd s (settled a (Finished r x)) (settled (with_mem a n) (Finished r z))) (sym h.rest)
+    subst (λ (z : Moment). SameEnd s (settled_step a (Finished r x)) (settled_step (with_mem a n) (Finished r z))) (sym h.rest)
     (refl, record { rest = refl; mem = h.mem })
 
 settled_module : (s : Section) (a : State) (n r : List ℕ) (x y : Moment) (t : Sections) (e : Event) (c : Exchange) → Moments s x y
-    → SameEnd s (settled a (Module r x t e c)) (settled (with_mem a n) (Module r y t e c))
+    → SameEnd s (settled_step a (Module r x t e c)) (settled_step (with_mem a n) (Module r y t e c))
 settled_module s a n r x y t e c h =
-    subst (λ (z : Moment). SameEnd s (settled a (Module r x t e c)) (settled (with_mem a n) (Module r z t e c))) (sym h.rest)
+    subst (λ (z : Moment). SameEnd s (settled_step a (Module r x t e c)) (settled_step (with_mem a n) (Module r z t e c))) (sym h.rest)
     (refl, record { rest = refl; mem = h.mem })
 
-settled_alike : (s : Section) (a : State) (n : List ℕ) (o p : Outcome) → SameOutcome s o p → SameEnd s (settled a o) (settled (with_mem a n) p)
+settled_alike : (s : Section) (a : State) (n : List ℕ) (o p : Outcome) → SameOutcome s o p → SameEnd s (settled_step a o) (settled_step (with_mem a n) p)
 settled_alike s a n (Finished r x) (Finished q y) h =
-    subst (λ (z : List ℕ). SameEnd s (settled a (Finished r x)) (settled (with_mem a n) (Finished z y))) h.0 (settled_finished s a n r x y h.1)
+    subst (λ (z : List ℕ). SameEnd s (settled_step a (Finished r x)) (settled_step (with_mem a n) (Finished z y))) h.0 (settled_finished s a n r x y h.1)
 settled_alike s a n (Module r x t e c) (Module q y u f d) h =
-    subst (λ (z : List ℕ). SameEnd s (settled a (Module r x t e c)) (settled (with_mem a n) (Module z y u f d))) h.0
-    (subst (λ (z : Sections). SameEnd s (settled a (Module r x t e c)) (settled (with_mem a n) (Module r y z f d))) h.2
-    (subst (λ (z : Event). SameEnd s (settled a (Module r x t e c)) (settled (with_mem a n) (Module r y t z d))) h.3
-    (subst (λ (z : Exchange). SameEnd s (settled a (Module r x t e c)) (settled (with_mem a n) (Module r y t e z))) h.4
+    subst (λ (z : List ℕ). SameEnd s (settled_step a (Module r x t e c)) (settled_step (with_mem a n) (Module z y u f d))) h.0
+    (subst (λ (z : Sections). SameEnd s (settled_step a (Module r x t e c)) (settled_step (with_mem a n) (Module r y z f d))) h.2
+    (subst (λ (z : Event). SameEnd s (settled_step a (Module r x t e c)) (settled_step (with_mem a n) (Module r y t z d))) h.3
+    (subst (λ (z : Exchange). SameEnd s (settled_step a (Module r x t e c)) (settled_step (with_mem a n) (Module r y t e z))) h.4
     (settled_module s a n r x y t e c h.1))))
 settled_alike s a n (Violated v) (Violated w) h = (ap (λ u. record { touch = untouched; event = Reset u }) h, record { rest = refl; mem = alike_same s _ })
 settled_alike s a n (Finished r x) (Violated w) h = absurd h

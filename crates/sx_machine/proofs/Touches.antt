@@ -16,7 +16,7 @@ use Rattle.sx_machine.specs.declared.kinds.Touch.{Touch}
 use Rattle.sx_machine.specs.declared.kinds.Touch.TheVariants.{Quiet, DeviceRead, DeviceWrite}
 use Rattle.sx_machine.specs.Memory.{even, write_at, read_at, bytes_from, put_bytes}
 use Rattle.sx_machine.specs.Plan.{Plan, Done, Tell, Stop, Fetch, Load, Store, Need, Writable, Bytes, Put}
-use Rattle.sx_machine.specs.Run.{Moment, noted, Outcome, Finished, Violated, Module, may_at, may_range, may_each, device_of, sampled, read_device, read_place, write_device, write_place, fetch, after_read, after_write, after_fetch, exec}
+use Rattle.sx_machine.specs.Run.{Moment, with_touch, Outcome, Finished, Violated, Module, may_at, may_range, may_each, device_of, sampled, read_device, read_place, write_device, write_place, fetch, after_read, after_write, after_fetch, exec}
 use Rattle.sx_machine.specs.Touches.{Replays}
 use Rattle.sx_machine.proofs.Devices.{some_inj, device_of_parts, device_at_same, window_same, cleared_shapes, position_is}
 
@@ -60,7 +60,7 @@ quiet_replays live own (DeviceWrite k v ∷ ts) a q = absurd q
 
 -- one more touch
 read_noted : (live : List Section) (own n k : ℕ) (w : Window) (ts : List Touch) (a b : List Window) → Room (suc n) ts → Replays live own ts a b → slice_get b k ≡ Some w → w.kind ≡ Sensor → w.fresh ≡ true → may live own Read w.at ≡ true
-    → Replays live own (noted ts (DeviceRead k w.value)) a (cleared b k) × Room n (noted ts (DeviceRead k w.value))
+    → Replays live own (with_touch ts (DeviceRead k w.value)) a (cleared b k) × Room n (with_touch ts (DeviceRead k w.value))
 read_noted live own n k w [] a b r h e s f m = absurd (omega (arith, r))
 read_noted live own n k w (Quiet ∷ ts) a b r h e s f m =
     let same = quiet_same live own ts a b r.0 h in
@@ -71,7 +71,7 @@ read_noted live own n k w (DeviceWrite j v ∷ ts) a b r h e s f m =
     let g = read_noted live own n k w ts a b r h.4 e s f m in ((h.0, h.1, h.2, h.3, g.0), g.1)
 
 write_noted : (live : List Section) (own n k v : ℕ) (w : Window) (ts : List Touch) (a b : List Window) → Room (suc n) ts → Replays live own ts a b → slice_get b k ≡ Some w → w.kind ≡ Actuator → may live own Write w.at ≡ true
-    → Replays live own (noted ts (DeviceWrite k v)) a b × Room n (noted ts (DeviceWrite k v))
+    → Replays live own (with_touch ts (DeviceWrite k v)) a b × Room n (with_touch ts (DeviceWrite k v))
 write_noted live own n k v w [] a b r h e s m = absurd (omega (arith, r))
 write_noted live own n k v w (Quiet ∷ ts) a b r h e s m =
     let same = quiet_same live own ts a b r.0 h in
@@ -161,7 +161,7 @@ module _ (t : Sections) (own : ℕ) (a : List Window) where
   none_some d e = cc
 
   after_sample : (n : ℕ) (last : Option (Bool × ℕ)) (at k : ℕ) (w : Window) (x : Moment) → Is (suc n) last x → device_of x.devices at ≡ Some (k, w) → w.kind ≡ Sensor → w.fresh ≡ true → may_at true t.live own Read at ≡ true
-      → Is n (Some (true, at)) (record { mem = x.mem; devices = cleared x.devices k; touches = noted x.touches (DeviceRead k w.value) })
+      → Is n (Some (true, at)) (record { mem = x.mem; devices = cleared x.devices k; touches = with_touch x.touches (DeviceRead k w.value) })
   after_sample n last at k w x h d s f m =
       let p = device_of_parts x.devices at k w d in
       let o = window_open t.live own Read x.devices at k w d (h.evens k w p.1).0 m in
@@ -183,11 +183,11 @@ module _ (t : Sections) (own : ℕ) (a : List Window) where
   sampled_by : (n : ℕ) (last : Option (Bool × ℕ)) (at k : ℕ) (w : Window) (x : Moment) (f : ℕ → Moment → Outcome) (b : Bool) → Is (suc n) last x → device_of x.devices at ≡ Some (k, w) → w.kind ≡ Sensor → w.fresh ≡ b → may_at true t.live own Read at ≡ true
       → ((v : ℕ) (y : Moment) → Is n (Some (true, at)) y → By (f v y)) → By (after_read (Ok (sampled k w x)) f)
   sampled_by n last at k w x f true h d s fr m g =
-      let p : ℕ × Moment = (0x8000 + w.value, record { mem = x.mem; devices = cleared x.devices k; touches = noted x.touches (DeviceRead k w.value) }) in
+      let p : ℕ × Moment = (0x8000 + w.value, record { mem = x.mem; devices = cleared x.devices k; touches = with_touch x.touches (DeviceRead k w.value) }) in
       let e : sampled k w x ≡ p = ap (λ (b : Bool). let q : ℕ × Moment = (0, x) in if b then p else q) fr in
       subst (λ z. By (f z.0 z.1)) (sym e) (g p.0 p.1 (after_sample n last at k w x h d s fr m))
   sampled_by n last at k w x f false h d s fr m g =
-      let p : ℕ × Moment = (0x8000 + w.value, record { mem = x.mem; devices = cleared x.devices k; touches = noted x.touches (DeviceRead k w.value) }) in
+      let p : ℕ × Moment = (0x8000 + w.value, record { mem = x.mem; devices = cleared x.devices k; touches = with_touch x.touches (DeviceRead k w.value) }) in
       let q : ℕ × Moment = (0, x) in
       let e : sampled k w x ≡ q = ap (λ (b : Bool). if b then p else q) fr in
       subst (λ z. By (f z.0 z.1)) (sym e) (g 0 x (less n last (Some (true, at)) x (λ k2 w2 e2. ap (λ (z : ℕ × Window). z.1.kind) (some_inj (k2, w2) (k, w) (sym e2 ∙ d)) ∙ s) h))
@@ -236,7 +236,7 @@ module _ (t : Sections) (own : ℕ) (a : List Window) where
 
   -- a store that may touch an actuator
   after_actuated : (n : ℕ) (last : Option (Bool × ℕ)) (at k v : ℕ) (w : Window) (x : Moment) → Is (suc n) last x → device_of x.devices at ≡ Some (k, w) → w.kind ≡ Actuator → may_at true t.live own Write at ≡ true
-      → Is n None (record x { touches = noted x.touches (DeviceWrite k v) })
+      → Is n None (record x { touches = with_touch x.touches (DeviceWrite k v) })
   after_actuated n last at k v w x h d s m =
       let p = device_of_parts x.devices at k w d in
       let o = window_open t.live own Write x.devices at k w d (h.evens k w p.1).0 m in
@@ -245,7 +245,7 @@ module _ (t : Sections) (own : ℕ) (a : List Window) where
 
   actuate_by : (n : ℕ) (last : Option (Bool × ℕ)) (wide : Bool) (at v k : ℕ) (w : Window) (kind : Kind) (x : Moment) (f : Moment → Outcome) → Is (suc n) last x → device_of x.devices at ≡ Some (k, w) → w.kind ≡ kind → may_at wide t.live own Write at ≡ true
       → ((y : Moment) → Is n None y → By (f y)) → By (after_write (write_device wide k v kind x) f)
-  actuate_by n last true at v k w Actuator x f h d e m g = g (record x { touches = noted x.touches (DeviceWrite k v) }) (after_actuated n last at k v w x h d e m)
+  actuate_by n last true at v k w Actuator x f h d e m g = g (record x { touches = with_touch x.touches (DeviceWrite k v) }) (after_actuated n last at k v w x h d e m)
   actuate_by n last false at v k w Actuator x f h d e m g = tt
   actuate_by n last true at v k w Sensor x f h d e m g = tt
   actuate_by n last false at v k w Sensor x f h d e m g = tt

@@ -9,7 +9,8 @@ use Rattle.sx_bus.specs.Devices.{places_of}
 use Rattle.sx_tag.specs.Mac.{Mac}
 use Rattle.sx_tag.specs.Keys.{module_key}
 use Rattle.sx_machine.specs.declared.kinds.Event.{Event}
-use Rattle.sx_machine.specs.declared.kinds.Event.TheVariants.{Quiet, Reset, Protected, Removed, Wrapped, Unwrapped, Left}
+use Rattle.sx_machine.specs.declared.kinds.Event.TheVariants.{Quiet, Reset, Protected, Removed}
+use Rattle.sx_machine.specs.declared.kinds.Event.TheVariants.{Wrapped, Unwrapped, Left}
 use Rattle.sx_machine.specs.Memory.{bytes_from}
 use Rattle.sx_machine.specs.Protect.{identity_at, layout_in, provider_in, wiped}
 use Rattle.sx_machine.specs.State.{State, reset}
@@ -45,7 +46,8 @@ pub record IsCodeOf (live : List Section) (id at : ℕ) : Type 0 where
 pub record IsAdmitted (mac : Mac) (a b : State) (id : ℕ) : Type 0 where
   pub next : id ≡ a.sections.next
   pub admits : refusal a.sections (layout_in a.regs) (places_of a.devices) ≡ None
-  pub sections : b.sections ≡ admitted a.sections (layout_in a.regs) (provider_in a.regs) (chain_key mac a (provider_in a.regs) (layout_in a.regs))
+  pub sections : b.sections ≡ admitted a.sections (layout_in a.regs) (provider_in a.regs)
+      (chain_key mac a (provider_in a.regs) (layout_in a.regs))
   pub memory : b.mem ≡ wiped a.mem (layout_in a.regs)
   pub zeros : IsZeroed (layout_in a.regs) b.mem
 
@@ -66,11 +68,13 @@ Says mac a b (Removed id) = IsRemoved a b id
 Says mac a b (Wrapped id) = IsCodeOf a.sections.live id (pc_of a) × (b.sections ≡ a.sections)
 Says mac a b (Unwrapped id) = IsCodeOf a.sections.live id (pc_of a) × (b.sections ≡ a.sections)
 Says mac a b (Left id) =
-    IsCodeOf a.sections.live id (pc_of a) × (holder a.sections.live (pc_of b) ≢ id) × (b.sections ≡ a.sections)
+    IsCodeOf a.sections.live id (pc_of a) × (holder a.sections.live (pc_of b) ≢ id)
+    × (b.sections ≡ a.sections)
 
 -- each step's event says what it did to the sections, and whose code it was
 abbrev pub StepsSay : Type 0
-StepsSay = (mac : Mac) (a : State) → Placed a.sections → Says mac a (step mac a).state (step mac a).shown.event
+StepsSay = (mac : Mac) (a : State) → Placed a.sections
+    → Says mac a (step mac a).state (step mac a).shown.event
 
 -- an act that is no step
 abbrev pub IsFromOutside : Act → Type 0
@@ -89,5 +93,7 @@ OthersKeepSections = (mac : Mac) (act : Act) (a : State) → IsFromOutside act
 
 -- a section that was just protected has private bytes of 0
 abbrev pub FreshSections : Type 0
-FreshSections = (mac : Mac) (a : State) (id : ℕ) (s : Section) → Placed a.sections → (step mac a).shown.event ≡ Protected id
-    → section_of (step mac a).state.sections.live id ≡ Some s → IsZeroed s.layout (step mac a).state.mem
+FreshSections = (mac : Mac) (a : State) (id : ℕ) (s : Section) → Placed a.sections
+    → (step mac a).shown.event ≡ Protected id
+    → section_of (step mac a).state.sections.live id ≡ Some s
+    → IsZeroed s.layout (step mac a).state.mem

@@ -25,7 +25,8 @@ Framed live own m n = (k : ℕ) → may live own Write k ≡ false → slice_ind
 -- a step changes only bytes that the access table lets its code write, unless it resets the node
 abbrev pub StepsFramed : Type 0
 StepsFramed = (mac : Mac) (a : State) → Placed a.sections
-    → Framed a.sections.live (own_of a) a.mem (step mac a).state.mem ⊎ ((step mac a).state ≡ reset a)
+    → Framed a.sections.live (own_of a) a.mem (step mac a).state.mem
+    ⊎ ((step mac a).state ≡ reset a)
 
 -- an interrupt changes only bytes that code of no module may write, unless it resets the node
 abbrev pub InterruptsFramed : Type 0
@@ -38,23 +39,28 @@ KeptPublic s m n = (k : ℕ) → in_public s k ≡ true → slice_index n k ≡ 
 
 -- no act, of whatever code, changes a public byte of a live section, unless the node is reset
 abbrev pub PublicKept : Type 0
-PublicKept = (mac : Mac) (act : Act) (a : State) (s : Section) → Placed a.sections → Lives a.sections.live s
+PublicKept =
+    (mac : Mac) (act : Act) (a : State) (s : Section) → Placed a.sections → Lives a.sections.live s
     → KeptPublic s a.mem (acted mac act a).state.mem ⊎ ((acted mac act a).state ≡ reset a)
 
 -- a step that ends in neither `fetch` nor `order` had the right to run its word by the access
 -- table, as code of the module that ran
 abbrev pub RunsByTable : Type 0
 RunsByTable = (mac : Mac) (a : State) → IsNode a → (step mac a).shown.event ≢ Reset bad.Fetch
-    → (step mac a).shown.event ≢ Reset bad.Order → may_at true a.sections.live a.cur Run (pc_of a) ≡ true
+    → (step mac a).shown.event ≢ Reset bad.Order
+    → may_at true a.sections.live a.cur Run (pc_of a) ≡ true
 
 -- the key of each live section is the chain's for its present bytes
 abbrev pub HaveKeys : Mac → State → Type 0
-HaveKeys mac a = (s : Section) → Lives a.sections.live s → s.key ≡ chain_key mac a s.provider s.layout
+HaveKeys mac a =
+    (s : Section) → Lives a.sections.live s → s.key ≡ chain_key mac a s.provider s.layout
 
 -- every list of acts keeps that
 abbrev pub KeepsKeys : Type 0
-KeepsKeys = (mac : Mac) (acts : List Act) (a : State) → Placed a.sections → HaveKeys mac a → HaveKeys mac (acted_all mac acts a).state
+KeepsKeys = (mac : Mac) (acts : List Act) (a : State) → Placed a.sections → HaveKeys mac a
+    → HaveKeys mac (acted_all mac acts a).state
 
 -- at power-on each live section has its key
 abbrev pub PowerOnHasKeys : Type 0
-PowerOnHasKeys = (mac : Mac) (key : List ℕ) (devices : List Window) → HaveKeys mac (power_on key devices)
+PowerOnHasKeys =
+    (mac : Mac) (key : List ℕ) (devices : List Window) → HaveKeys mac (power_on key devices)

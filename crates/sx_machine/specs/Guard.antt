@@ -1,12 +1,13 @@
 -- What it means that a private section is guarded.
-use Rattle.std.specs.Prelude.{◌≡◌, ◌≢◌, ℕ, ◌<◌, true, false, ◌⊎◌, List, [], ◌∷◌, length, slice_index, Result}
+use Rattle.std.specs.Prelude.{◌≡◌, ◌≢◌, ℕ, ◌<◌, true, false, ◌⊎◌, List, [], ◌∷◌, length}
+use Rattle.std.specs.Prelude.{slice_index, Result}
 use Rattle.sx_rules.specs.declared.section.Section.{Section}
 use Rattle.sx_rules.specs.Access.{in_private, Lives}
 use Rattle.sx_tag.specs.Mac.{Mac}
 use Rattle.sx_machine.specs.declared.kinds.Seen.{Seen}
 use Rattle.sx_machine.specs.declared.kinds.Refused.{Refused}
 use Rattle.sx_machine.specs.State.{State, reset}
-use Rattle.sx_machine.specs.Step.{Shows, step, own_of, is_let_run}
+use Rattle.sx_machine.specs.Step.{Shown, step, own_of, is_let_run}
 use Rattle.sx_machine.specs.Acts.{put, set, take, sense, irq}
 
 -- two memories agree outside the private part of s
@@ -20,21 +21,22 @@ pub record Twins (s : Section) (a b : State) : Type 0 where
   pub mem : Alike s a.mem b.mem
 
 -- the private bytes of s are as before
-abbrev pub Kept : Section → List ℕ → List ℕ → Type 0
-Kept s m n = (k : ℕ) → in_private s k ≡ true → slice_index n k ≡ slice_index m k
+abbrev pub PrivateKept : Section → List ℕ → List ℕ → Type 0
+PrivateKept s m n = (k : ℕ) → in_private s k ≡ true → slice_index n k ≡ slice_index m k
 
 -- s still stands with its private bytes as before, or the node was reset, which makes all of its
 -- memory 0
 abbrev pub Untouched : Section → State → State → Type 0
-Untouched s a b = (Kept s a.mem b.mem × Lives b.sections.live s) ⊎ (b ≡ reset a)
+Untouched s a b = (PrivateKept s a.mem b.mem × Lives b.sections.live s) ⊎ (b ≡ reset a)
 
 -- What happens to a node doesn't read, change or show the private bytes of s.
-pub record Guarded (T : Type 0) (act : State → Shows T) (s : Section) (a : State) : Type 0 where
+pub record Guarded (T : Type 0) (act : State → Shown T) (s : Section) (a : State) : Type 0 where
   -- it changes none of them
   pub kept : Untouched s a (act a).state
   -- it reads none of them: nodes that differ in them alone show the same and differ in them alone
   -- afterwards
-  pub blind : (b : State) → Twins s a b → ((act a).shown ≡ (act b).shown) × Twins s (act a).state (act b).state
+  pub blind : (b : State) → Twins s a b → ((act a).shown ≡ (act b).shown)
+      × Twins s (act a).state (act b).state
 
 -- the step is no instruction of s that is let run: PC stands elsewhere, or where s may not be
 -- entered
@@ -60,11 +62,11 @@ pub data Sight : Type 0 where
   Interrupted : Result Seen Refused → Sight
 
 -- the same state, with what is shown in another form
-abbrev pub shown_as : {T : Type 0} → (T → Sight) → Shows T → Shows Sight
+abbrev pub shown_as : {T : Type 0} → (T → Sight) → Shown T → Shown Sight
 shown_as view x = record { state = x.state; shown = view x.shown }
 
 -- the state after an act, and what the act shows
-abbrev pub acted : Mac → Act → State → Shows Sight
+abbrev pub acted : Mac → Act → State → Shown Sight
 acted mac Step a = shown_as Stepped (step mac a)
 acted mac Restart a = record { state = reset a; shown = Restarted }
 acted mac (Put at bytes) a = shown_as Answered (put a at bytes)
@@ -74,7 +76,7 @@ acted mac (Sense device v) a = shown_as Answered (sense a device v)
 acted mac (Interrupt line) a = shown_as Interrupted (irq a line)
 
 -- what a list of acts shows, and leaves
-abbrev pub acted_all : Mac → List Act → State → Shows (List Sight)
+abbrev pub acted_all : Mac → List Act → State → Shown (List Sight)
 acted_all mac [] a = record { state = a; shown = [] }
 acted_all mac (act ∷ acts) a =
     let x = acted mac act a in
@@ -95,7 +97,8 @@ FromOutside s (Interrupt line) a = Unit {0}
 abbrev pub AllFromOutside : Mac → Section → List Act → State → Type 0
 AllFromOutside mac s [] a = Unit {0}
 AllFromOutside mac s (act ∷ acts) a =
-    (Lives a.sections.live s → FromOutside s act a) × AllFromOutside mac s acts (acted mac act a).state
+    (Lives a.sections.live s → FromOutside s act a)
+    × AllFromOutside mac s acts (acted mac act a).state
 
 -- s stands and the nodes differ at most in its private bytes, or they don't differ
 abbrev pub Same : Section → State → State → Type 0
@@ -106,7 +109,8 @@ Same s a b = (Lives a.sections.live s × Twins s a b) ⊎ (a ≡ b)
 abbrev pub AreGuarded : Mac → List Act → State → Type 0
 AreGuarded mac [] a = Unit {0}
 AreGuarded mac (act ∷ acts) a =
-    ((s : Section) → Lives a.sections.live s → FromOutside s act a → Guarded Sight (acted mac act) s a)
+    ((s : Section) → Lives a.sections.live s → FromOutside s act a
+    → Guarded Sight (acted mac act) s a)
     × AreGuarded mac acts (acted mac act a).state
 
 -- a list of acts from a state on is guarded
@@ -116,8 +120,10 @@ pub record GuardedRun (mac : Mac) (acts : List Act) (a : State) : Type 0 where
   -- where none is a step of s's own code, nodes that differ in the private bytes of s alone show
   -- the same all along, and at the end still differ in them alone, or not at all
   pub blind : (s : Section) (b : State) → AllFromOutside mac s acts a → Same s a b
-      → ((acted_all mac acts a).shown ≡ (acted_all mac acts b).shown) × Same s (acted_all mac acts a).state (acted_all mac acts b).state
+      → ((acted_all mac acts a).shown ≡ (acted_all mac acts b).shown)
+      × Same s (acted_all mac acts a).state (acted_all mac acts b).state
   -- and s stands with its private bytes as before, or the node was reset
   pub kept : (s : Section) → Lives a.sections.live s → AllFromOutside mac s acts a
-      → (Kept s a.mem (acted_all mac acts a).state.mem × Lives (acted_all mac acts a).state.sections.live s)
+      → (PrivateKept s a.mem (acted_all mac acts a).state.mem
+      × Lives (acted_all mac acts a).state.sections.live s)
       ⊎ (a.boot < (acted_all mac acts a).state.boot)

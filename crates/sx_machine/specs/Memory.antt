@@ -1,5 +1,6 @@
 -- Bytes and words of a memory.
-use Rattle.std.specs.Prelude.{ℕ, zero, suc, ◌+◌, ◌/◌, ◌%◌, Bool, if◌then◌else◌, List, [], ◌∷◌, ◌++◌, slice_index, slice_set}
+use Rattle.std.specs.Prelude.{ℕ, zero, suc, ◌+◌, ◌/◌, ◌%◌, Bool, if◌then◌else◌, List, [], ◌∷◌, ◌++◌}
+use Rattle.std.specs.Prelude.{slice_index, slice_set}
 pub use Rattle.sx_isa.specs.Memory.{even, word}
 
 -- the memory with a word written, the low byte first; an odd address counts as the even one below

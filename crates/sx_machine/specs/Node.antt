@@ -6,7 +6,7 @@ use Rattle.sx_rules.specs.Admission.{no_device}
 use Rattle.sx_rules.specs.Placed.{Placed}
 use Rattle.sx_bus.specs.declared.devices.Kind.{Kind}
 use Rattle.sx_bus.specs.declared.devices.Window.{Window}
-pub use Rattle.sx_bus.specs.Memory.{AreBytes}
+pub use Rattle.sx_bus.specs.Memory.{AreMemoryBytes}
 use Rattle.sx_bus.specs.Devices.{ArePlaces, HaveSamples, places_of}
 use Rattle.sx_machine.specs.Registers.{kept_in}
 use Rattle.sx_machine.specs.State.{State}
@@ -21,19 +21,19 @@ pub record AreRegisters (regs : List ℕ) : Type 0 where
   pub kept : (r : ℕ) → kept_in r (slice_index regs r) ≡ slice_index regs r
 
 -- no device's word meets the public part of a live section
-abbrev pub AreApart : List ℕ → List Section → Type 0
-AreApart places live = (s : Section) → Lives live s → no_device places s.layout ≡ true
+abbrev pub AreApartDevices : List ℕ → List Section → Type 0
+AreApartDevices places live = (s : Section) → Lives live s → no_device places s.layout ≡ true
 
 -- Registers, memory and the ids that it remembers are in range; devices stand at places of their
 -- own, in no public section, with values that a sensor can give; the sections are placed; and a
 -- module runs only where its public section holds PC.
 pub record IsNode (n : State) : Type 0 where
   pub registers : AreRegisters n.regs
-  pub memory : AreBytes n.mem
+  pub memory : AreMemoryBytes n.mem
   pub places : ArePlaces (places_of n.devices)
   pub samples : HaveSamples n.devices
   pub placed : Placed n.sections
-  pub apart : AreApart (places_of n.devices) n.sections.live
+  pub apart : AreApartDevices (places_of n.devices) n.sections.live
   pub last : n.last < 65536
   pub caller : n.caller < 65536
   pub runner : (n.cur ≡ 0) ⊎ (n.cur ≡ own_of n)
@@ -43,16 +43,16 @@ abbrev pub shapes : List Window → List (ℕ × Kind)
 shapes windows = map (λ w. (w.at, w.kind)) windows
 
 -- an act is in form: a register is set to a word, and a device to a value that a sensor can give
-abbrev pub IsInForm : Act → Type 0
-IsInForm Step = Unit {0}
-IsInForm Restart = Unit {0}
-IsInForm (Put at bytes) = Unit {0}
-IsInForm (Set r v) = v < 65536
-IsInForm (Take at n) = Unit {0}
-IsInForm (Sense device v) = v < 32768
-IsInForm (Interrupt line) = Unit {0}
+abbrev pub ActInForm : Act → Type 0
+ActInForm Step = Unit {0}
+ActInForm Restart = Unit {0}
+ActInForm (Put at bytes) = Unit {0}
+ActInForm (Set r v) = v < 65536
+ActInForm (Take at n) = Unit {0}
+ActInForm (Sense device v) = v < 32768
+ActInForm (Interrupt line) = Unit {0}
 
 -- each act is in form
-abbrev pub AreInForm : List Act → Type 0
-AreInForm [] = Unit {0}
-AreInForm (act ∷ acts) = IsInForm act × AreInForm acts
+abbrev pub ActsInForm : List Act → Type 0
+ActsInForm [] = Unit {0}
+ActsInForm (act ∷ acts) = ActInForm act × ActsInForm acts

@@ -5,19 +5,21 @@ use Rattle.sx_bus.specs.Devices.{ArePlaces, HaveSamples, places_of}
 use Rattle.sx_tag.specs.Mac.{Mac}
 use Rattle.sx_machine.specs.State.{State, power_on}
 use Rattle.sx_machine.specs.Guard.{Act, acted_all}
-use Rattle.sx_machine.specs.Node.{IsNode, AreInForm, shapes}
+use Rattle.sx_machine.specs.Node.{IsNode, ActsInForm, shapes}
 
 -- what holds of every node holds of one that is switched on
 abbrev pub PowerOnIsNode : Type 0
-PowerOnIsNode = (key : List ℕ) (devices : List Window) → ArePlaces (places_of devices) → HaveSamples devices → IsNode (power_on key devices)
+PowerOnIsNode = (key : List ℕ) (devices : List Window) → ArePlaces (places_of devices)
+    → HaveSamples devices → IsNode (power_on key devices)
 
 -- every list of acts keeps what holds of every node
 abbrev pub StaysNode : Type 0
-StaysNode = (mac : Mac) (acts : List Act) (a : State) → AreInForm acts → IsNode a → IsNode (acted_all mac acts a).state
+StaysNode = (mac : Mac) (acts : List Act) (a : State) → ActsInForm acts → IsNode a
+    → IsNode (acted_all mac acts a).state
 
 -- the devices of a node keep their places and kinds
 abbrev pub KeepsDevices : Type 0
-KeepsDevices = (mac : Mac) (acts : List Act) (a : State) → AreInForm acts → IsNode a
+KeepsDevices = (mac : Mac) (acts : List Act) (a : State) → ActsInForm acts → IsNode a
     → shapes (acted_all mac acts a).state.devices ≡ shapes a.devices
 
 -- a node keeps its key

@@ -5,7 +5,8 @@ use Rattle.sx_tag.specs.Keys.{section_key, identity}
 use Rattle.sx_rules.specs.declared.section.Layout.{Layout}
 use Rattle.sx_rules.specs.declared.section.Section.{Section}
 use Rattle.sx_rules.specs.declared.admission.Refusal.{Refusal}
-use Rattle.sx_rules.specs.declared.admission.Refusal.TheVariants.{Bounds, Overlap, Device, Full, Ids}
+use Rattle.sx_rules.specs.declared.admission.Refusal.TheVariants.{Bounds, Overlap, Device, Full}
+use Rattle.sx_rules.specs.declared.admission.Refusal.TheVariants.{Ids}
 use Rattle.sx_rules.specs.Admission.{refusal, admitted, removed}
 use Rattle.sx_bus.specs.Devices.{places_of}
 use Rattle.sx_machine.specs.declared.kinds.Event.TheVariants.{Quiet, Protected, Removed}
@@ -15,12 +16,19 @@ use Rattle.sx_machine.specs.Run.{Outcome, Module}
 
 -- a module's identity: the bytes of its public section, and its layout
 abbrev pub identity_at : List ℕ → Layout → List ℕ
-identity_at mem l = identity (bytes_from mem l.pub_from (l.pub_to - l.pub_from)) l.pub_from l.pub_to l.priv_from l.priv_to
+identity_at mem l = identity (bytes_from mem l.pub_from (l.pub_to - l.pub_from)) l.pub_from l.pub_to
+    l.priv_from l.priv_to
 
 -- R10 and R11 are the start and the end of the public section, R12 and R13 those of the private
 -- section
 abbrev pub layout_in : List ℕ → Layout
-layout_in regs = record { pub_from = slice_index regs 10; pub_to = slice_index regs 11; priv_from = slice_index regs 12; priv_to = slice_index regs 13 }
+layout_in regs = record {
+  pub_from = slice_index regs 10;
+  pub_to = slice_index regs 11;
+  priv_from =
+      slice_index regs 12;
+  priv_to = slice_index regs 13;
+}
 
 -- R9 is the provider
 abbrev pub provider_in : List ℕ → ℕ
@@ -35,8 +43,8 @@ number_of Full = 4
 number_of Ids = 5
 
 -- R15 is the id or 0, R14 the number of the refusal or 0
-abbrev pub answered : List ℕ → ℕ → ℕ → List ℕ
-answered regs id number = concluded (slice_set regs 14 number) id
+abbrev pub answer_registers : List ℕ → ℕ → ℕ → List ℕ
+answer_registers regs id number = concluded (slice_set regs 14 number) id
 
 -- the private bytes of a layout made zero
 abbrev pub wiped : List ℕ → Layout → List ℕ
@@ -49,10 +57,12 @@ key_for mac g mem l = section_key mac g.base (provider_in g.regs) (identity_at m
 -- the outcome of `protect`: a new section, or why there is none
 abbrev pub protected_if : Mac → Given → List ℕ → Layout → Option Refusal → Outcome
 protected_if mac g mem l None =
-    Module (answered g.regs g.sections.next 0) (untouched_with g (wiped mem l))
-    (admitted g.sections l (provider_in g.regs) (key_for mac g mem l)) (Protected g.sections.next) g.exchange
+    Module (answer_registers g.regs g.sections.next 0) (untouched_with g (wiped mem l))
+    (admitted g.sections l (provider_in g.regs) (key_for mac g mem l)) (Protected g.sections.next)
+    g.exchange
 protected_if mac g mem l (Some why) =
-    Module (answered g.regs 0 (number_of why)) (untouched_with g mem) g.sections Quiet g.exchange
+    Module (answer_registers g.regs 0 (number_of why)) (untouched_with g mem) g.sections Quiet
+    g.exchange
 
 -- The module is admitted under the next id, its private section is zeroed and its key derived; or
 -- it is refused, and nothing but the registers changes.
@@ -64,9 +74,11 @@ protect mac g mem =
 -- the outcome of `unprotect`: the module is removed and its private section zeroed, or nothing
 -- where the code is of no module
 abbrev pub removed_if : Given → List ℕ → Option Section → Outcome
-removed_if g mem None = Module (concluded g.regs 0) (untouched_with g mem) g.sections Quiet g.exchange
+removed_if g mem None =
+    Module (concluded g.regs 0) (untouched_with g mem) g.sections Quiet g.exchange
 removed_if g mem (Some own) =
-    Module (concluded g.regs 1) (untouched_with g (wiped mem own.layout)) (removed g.sections g.own) (Removed g.own) g.exchange
+    Module (concluded g.regs 1) (untouched_with g (wiped mem own.layout)) (removed g.sections g.own)
+    (Removed g.own) g.exchange
 
 -- The module whose code it is is removed, and its private section zeroed. Outside every module only
 -- R15 becomes 0.

@@ -1,12 +1,13 @@
 -- The sixteen registers.
-use Rattle.std.specs.Prelude.{ℕ, ◌+◌, ◌-◌, ◌%◌, ◌==◌, Bool, ◌||◌, if◌then◌else◌, List, slice_index, slice_set}
+use Rattle.std.specs.Prelude.{ℕ, ◌+◌, ◌-◌, ◌%◌, ◌==◌, Bool, ◌||◌, if◌then◌else◌, List, slice_index}
+use Rattle.std.specs.Prelude.{slice_set}
 use Rattle.sx_alu.specs.Table.{limit}
 use Rattle.sx_alu.specs.declared.flags.Flags.{Flags}
 use Rattle.sx_alu.specs.Status.{flags_of, with_flags_in}
 
 -- a value cut to a word, or in byte form to a byte
-abbrev pub cut : Bool → ℕ → ℕ
-cut wide v = v % limit wide
+abbrev pub cut_value : Bool → ℕ → ℕ
+cut_value wide v = v % limit wide
 
 -- the address n bytes on
 abbrev pub onward : ℕ → ℕ → ℕ
@@ -19,7 +20,8 @@ reg regs r = slice_index regs (r % 16)
 -- What a register keeps of a value: bit 0 of PC and of SP stays 0, bits 9 to 15 of SR read 0, and
 -- the constant generator R3 reads 0 and drops what is written.
 abbrev pub kept_in : ℕ → ℕ → ℕ
-kept_in r v = if (r == 0) || (r == 1) then v - v % 2 else if r == 2 then v % 512 else if r == 3 then 0 else v
+kept_in r v =
+    if (r == 0) || (r == 1) then v - v % 2 else if r == 2 then v % 512 else if r == 3 then 0 else v
 
 -- the registers with one set to what it keeps of a value
 abbrev pub set_reg : List ℕ → ℕ → ℕ → List ℕ
@@ -39,4 +41,5 @@ set_flags regs f = slice_set regs 2 (with_flags_in (slice_index regs 2) f)
 
 -- `@Rn+` goes on by 1 for bytes and 2 for words, always by 2 for SP
 abbrev pub incremented : Bool → List ℕ → ℕ → List ℕ
-incremented wide regs r = slice_set regs (r % 16) (onward (reg regs r) (if wide || (r == 1) then 2 else 1))
+incremented wide regs r =
+    slice_set regs (r % 16) (onward (reg regs r) (if wide || (r == 1) then 2 else 1))

@@ -1,9 +1,12 @@
 -- The rows of the plain instructions: the plan of each (TI's MSP430 user's guides).
-use Rattle.std.specs.Prelude.{ℕ, ℤ, pos, negsuc, ◌+◌, ◌-◌, ◌*◌, ◌%◌, ◌==◌, Bool, true, false, not, if◌then◌else◌, List, slice_index, slice_set, Option, Some, None}
+use Rattle.std.specs.Prelude.{ℕ, ℤ, pos, negsuc, ◌+◌, ◌-◌, ◌*◌, ◌%◌, ◌==◌, Bool, true, false, not}
+use Rattle.std.specs.Prelude.{if◌then◌else◌, List, slice_index, slice_set, Option, Some, None}
 use Rattle.sx_isa.specs.declared.instruction.Instr.{Instr}
 use Rattle.sx_isa.specs.declared.instruction.Instr.TheVariants.{Two, One, Reti, Jump, Sancus}
 use Rattle.sx_isa.specs.declared.instruction.Operand.{Operand}
-use Rattle.sx_isa.specs.declared.instruction.Operand.TheVariants.{Reg, Indexed, Indirect, Increment, Symbolic, Absolute, Immediate, Const}
+use Rattle.sx_isa.specs.declared.instruction.Operand.TheVariants.{Reg, Indexed, Indirect, Increment}
+use Rattle.sx_isa.specs.declared.instruction.Operand.TheVariants.{Symbolic, Absolute, Immediate}
+use Rattle.sx_isa.specs.declared.instruction.Operand.TheVariants.{Const}
 use Rattle.sx_isa.specs.declared.instruction.Op2.{Op2}
 use Rattle.sx_isa.specs.declared.instruction.Op2.TheVariants as op2
 use Rattle.sx_isa.specs.declared.instruction.Op1.{Op1}
@@ -16,20 +19,21 @@ use Rattle.sx_alu.specs.Table.{differ}
 use Rattle.sx_alu.specs.Table as alu
 use Rattle.sx_rules.specs.declared.access.Violation.TheVariants as bad
 use Rattle.sx_machine.specs.Plan.{Plan, Done, Stop, Fetch, Load, Store}
-use Rattle.sx_machine.specs.Registers.{cut, onward, reg, set_reg, at_pc, flags, set_flags, incremented}
+use Rattle.sx_machine.specs.Registers.{cut_value, onward, reg, set_reg, at_pc, flags, set_flags}
+use Rattle.sx_machine.specs.Registers.{incremented}
 
 -- The source operand is read, and its register goes on where the mode says so; what follows gets
 -- the value and the registers. PC is already after the first word, where the source's extension
 -- word is.
 abbrev pub from_source : Bool → Operand → List ℕ → (ℕ → List ℕ → Plan) → Plan
-from_source wide (Reg r) regs k = k (cut wide (reg regs r)) regs
+from_source wide (Reg r) regs k = k (cut_value wide (reg regs r)) regs
 from_source wide (Indexed r x) regs k = Load wide (onward (reg regs r) x) (λ v. k v regs)
 from_source wide (Symbolic x) regs k = Load wide (onward (reg regs 0) x) (λ v. k v regs)
 from_source wide (Absolute x) regs k = Load wide x (λ v. k v regs)
 from_source wide (Indirect r) regs k = Load wide (reg regs r) (λ v. k v regs)
 from_source wide (Increment r) regs k = Load wide (reg regs r) (λ v. k v (incremented wide regs r))
-from_source wide (Immediate x) regs k = k (cut wide x) regs
-from_source wide (Const c) regs k = k (cut wide c) regs
+from_source wide (Immediate x) regs k = k (cut_value wide x) regs
+from_source wide (Const c) regs k = k (cut_value wide c) regs
 
 -- what an operation on two operands gives of source and destination
 abbrev pub computed : Op2 → Bool → ℕ → ℕ → Flags → ℕ × Flags
@@ -77,24 +81,28 @@ writes op2.And = true
 -- register is SR.
 abbrev pub into_register : Bool → ℕ → ℕ × Flags → List ℕ → Plan
 into_register written r result regs =
-    if written then Done (set_reg (set_flags regs result.1) r result.0) else Done (set_flags regs result.1)
+    if written then Done (set_reg (set_flags regs result.1) r result.0) else
+    Done (set_flags regs result.1)
 
 -- the end of an operation on a place in memory
 abbrev pub into_memory : Bool → Bool → ℕ → ℕ × Flags → List ℕ → Plan
 into_memory wide written at result regs =
-    if written then Store wide at result.0 (Done (set_flags regs result.1)) else Done (set_flags regs result.1)
+    if written then Store wide at result.0 (Done (set_flags regs result.1)) else
+    Done (set_flags regs result.1)
 
 -- an operation whose destination is in memory: it is read where the operation needs it, and written
 -- where the operation writes
 abbrev pub on_memory : Op2 → Bool → ℕ → ℕ → List ℕ → Plan
 on_memory op wide at s regs =
-    if reads op then Load wide at (λ d. into_memory wide (writes op) at (computed op wide s d (flags regs)) regs)
+    if reads op then Load wide at (λ d. into_memory wide (writes op) at
+    (computed op wide s d (flags regs)) regs)
     else into_memory wide (writes op) at (computed op wide s 0 (flags regs)) regs
 
 -- An operation with its source read, at the destination. PC is already after the instruction, and
 -- an extension word of the destination is its last word.
 abbrev pub onto : Op2 → Bool → Operand → ℕ → List ℕ → Plan
-onto op wide (Reg r) s regs = into_register (writes op) r (computed op wide s (cut wide (reg regs r)) (flags regs)) regs
+onto op wide (Reg r) s regs =
+    into_register (writes op) r (computed op wide s (cut_value wide (reg regs r)) (flags regs)) regs
 onto op wide (Indexed r x) s regs = on_memory op wide (onward (reg regs r) x) s regs
 onto op wide (Symbolic x) s regs = on_memory op wide (onward (reg regs 0) (65534 + x)) s regs
 onto op wide (Absolute x) s regs = on_memory op wide x s regs
@@ -122,12 +130,16 @@ in_memory kind wide at regs =
 
 -- a calculation on one operand, whose result replaces the operand
 abbrev pub in_place : Calc → Bool → Operand → List ℕ → ℕ → Plan
-in_place kind wide (Reg r) regs next = into_register true r (alu.row kind wide (cut wide (reg regs r)) 0 (flags regs)) (at_pc regs next)
-in_place kind wide (Indexed r x) regs next = in_memory kind wide (onward (reg regs r) x) (at_pc regs next)
-in_place kind wide (Symbolic x) regs next = in_memory kind wide (onward (reg regs 0) x) (at_pc regs next)
+in_place kind wide (Reg r) regs next = into_register true r
+    (alu.row kind wide (cut_value wide (reg regs r)) 0 (flags regs)) (at_pc regs next)
+in_place kind wide (Indexed r x) regs next =
+    in_memory kind wide (onward (reg regs r) x) (at_pc regs next)
+in_place kind wide (Symbolic x) regs next =
+    in_memory kind wide (onward (reg regs 0) x) (at_pc regs next)
 in_place kind wide (Absolute x) regs next = in_memory kind wide x (at_pc regs next)
 in_place kind wide (Indirect r) regs next = in_memory kind wide (reg regs r) (at_pc regs next)
-in_place kind wide (Increment r) regs next = in_memory kind wide (reg regs r) (at_pc (incremented wide regs r) next)
+in_place kind wide (Increment r) regs next =
+    in_memory kind wide (reg regs r) (at_pc (incremented wide regs r) next)
 in_place kind wide (Immediate x) regs next = Stop bad.Illegal
 in_place kind wide (Const c) regs next = Stop bad.Illegal
 
@@ -144,11 +156,12 @@ one op1.Call wide arg regs next = from_source true arg regs (λ v r. pushed true
 abbrev pub reti : List ℕ → Plan
 reti regs =
     let sp = slice_index regs 1 in
-    Load true sp (λ sr. Load true (onward sp 2) (λ pc. Done (set_reg (slice_set (set_reg regs 2 sr) 1 (onward sp 4)) 0 pc)))
+    Load true sp (λ sr. Load true (onward sp 2) (λ pc.
+    Done (set_reg (slice_set (set_reg regs 2 sr) 1 (onward sp 4)) 0 pc)))
 
 -- whether a jump is taken: JNE, JEQ, JNC, JC, JN, JGE, JL, JMP
-abbrev pub taken : ℕ → Flags → Bool
-taken cond f =
+abbrev pub jump_taken : ℕ → Flags → Bool
+jump_taken cond f =
     if cond == 0 then not f.z else if cond == 1 then f.z
     else if cond == 2 then not f.c else if cond == 3 then f.c
     else if cond == 4 then f.n
@@ -162,7 +175,8 @@ distance (negsuc n) = 65536 - 2 * (n + 1)
 
 -- a jump: PC goes to the target where the condition holds
 abbrev pub jump : ℕ → ℤ → List ℕ → ℕ → Plan
-jump cond offset regs next = Done (at_pc regs (if taken cond (flags regs) then onward next (distance offset) else next))
+jump cond offset regs next =
+    Done (at_pc regs (if jump_taken cond (flags regs) then onward next (distance offset) else next))
 
 -- the plan of an instruction; PC is after its first word, and `next` is the address after the whole
 abbrev pub row : Instr → List ℕ → ℕ → Plan

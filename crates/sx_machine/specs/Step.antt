@@ -1,5 +1,6 @@
 -- One step of a node.
-use Rattle.std.specs.Prelude.{ℕ, ◌+◌, ◌-◌, ◌==◌, nat_le, Bool, ◌&&◌, ◌||◌, not, if◌then◌else◌, List, slice_index, Option, Some, None, is_some}
+use Rattle.std.specs.Prelude.{ℕ, ◌+◌, ◌-◌, ◌==◌, nat_le, Bool, ◌&&◌, ◌||◌, not, if◌then◌else◌, List}
+use Rattle.std.specs.Prelude.{slice_index, Option, Some, None, is_some}
 use Rattle.sx_rules.specs.declared.access.Violation.TheVariants as bad
 use Rattle.sx_rules.specs.declared.section.Section.{Section}
 use Rattle.sx_rules.specs.Access.{Sections, holder, outside_private, in_order, section_of}
@@ -18,7 +19,7 @@ use Rattle.sx_machine.specs.Given.{Given}
 use Rattle.sx_machine.specs.Modules.{is_code, module_instruction}
 
 -- a state, and what was shown on the way to it
-pub record Shows (T : Type 0) : Type 0 where
+pub record Shown (T : Type 0) : Type 0 where
   pub state : State
   pub shown : T
 
@@ -45,11 +46,12 @@ is_live live id = is_some (section_of live id)
 -- the module that entered `own`: one that begins to run was entered from that of the last
 -- instruction, if it still stands
 abbrev pub entered_from : State → ℕ → ℕ
-entered_from s own = if own == s.cur then s.caller else if is_live s.sections.live s.last then s.last else 0
+entered_from s own =
+    if own == s.cur then s.caller else if is_live s.sections.live s.last then s.last else 0
 
 -- what a module instruction at PC is given beside the memory
-abbrev pub given : Mac → State → Given
-given mac s = record {
+abbrev pub given_at_pc : Mac → State → Given
+given_at_pc mac s = record {
   regs = s.regs;
   devices = s.devices;
   sections = s.sections;
@@ -63,13 +65,14 @@ given mac s = record {
 abbrev pub instruction : Mac → State → Outcome
 instruction mac s =
     let w = word s.mem (pc_of s) in
-    if is_module_word w then module_instruction mac (w - 0x1380) (given mac s) s.mem
+    if is_module_word w then module_instruction mac (w - 0x1380) (given_at_pc mac s) s.mem
     else exec s.sections (own_of s) (program w s.regs) (start s)
 
 -- where PC lies on no device: in no public section but that of the module that runs, or at an entry
 abbrev pub ordered : Mac → State → Option ℕ → Outcome
 ordered mac s (Some device) = Violated bad.Device
-ordered mac s None = if in_order s.sections.live s.cur (pc_of s) then instruction mac s else Violated bad.Order
+ordered mac s None =
+    if in_order s.sections.live s.cur (pc_of s) then instruction mac s else Violated bad.Order
 
 -- the word at an address lies in no private section
 abbrev pub word_outside : List Section → ℕ → Bool
@@ -78,7 +81,8 @@ word_outside live at = outside_private live (even at) && outside_private live (e
 -- PC passes the tests, so that the instruction there is let run
 abbrev pub is_let_run : State → Bool
 is_let_run s =
-    word_outside s.sections.live (pc_of s) && (not (is_some (device_at s.devices (pc_of s))) && in_order s.sections.live s.cur (pc_of s))
+    word_outside s.sections.live (pc_of s) && (not (is_some (device_at s.devices (pc_of s)))
+    && in_order s.sections.live s.cur (pc_of s))
 
 -- what a step does, up to its first violation: the tests of PC, and then the instruction
 abbrev pub attempt : Mac → State → Outcome
@@ -87,8 +91,8 @@ attempt mac s =
     else Violated bad.Fetch
 
 -- The state after an instruction of `own`. The module still runs where PC is in its public section.
-abbrev pub moved : State → ℕ → List ℕ → Moment → Sections → Exchange → State
-moved s own regs x sections exchange = record {
+abbrev pub state_after : State → ℕ → List ℕ → Moment → Sections → Exchange → State
+state_after s own regs x sections exchange = record {
   regs = regs;
   mem = x.mem;
   devices = x.devices;
@@ -103,20 +107,22 @@ moved s own regs x sections exchange = record {
 
 -- a plain instruction shows that its module left its public section
 abbrev pub left : State → ℕ → List ℕ → Event
-left s own regs = if (own == 0) || (holder s.sections.live (slice_index regs 0) == own) then Quiet else Left own
+left s own regs =
+    if (own == 0) || (holder s.sections.live (slice_index regs 0) == own) then Quiet else Left own
 
 -- a violation resets the node, and nothing else of the step is seen
-abbrev pub settled : State → Outcome → Shows Seen
-settled s (Violated v) = record { state = reset s; shown = record { touch = untouched; event = Reset v } }
-settled s (Finished regs x) = record {
-  state = moved s (own_of s) regs x s.sections s.exchange;
+abbrev pub settled_step : State → Outcome → Shown Seen
+settled_step s (Violated v) =
+    record { state = reset s; shown = record { touch = untouched; event = Reset v } }
+settled_step s (Finished regs x) = record {
+  state = state_after s (own_of s) regs x s.sections s.exchange;
   shown = record { touch = x.touches; event = left s (own_of s) regs };
 }
-settled s (Module regs x sections event exchange) = record {
-  state = moved s (own_of s) regs x sections exchange;
+settled_step s (Module regs x sections event exchange) = record {
+  state = state_after s (own_of s) regs x sections exchange;
   shown = record { touch = x.touches; event = event };
 }
 
 -- one step of a node: the attempt, settled, so that a violation resets the node
-abbrev pub step : Mac → State → Shows Seen
-step mac s = settled s (attempt mac s)
+abbrev pub step : Mac → State → Shown Seen
+step mac s = settled_step s (attempt mac s)

@@ -1,11 +1,14 @@
 //! What holds of every node and every run of one. Each law is a function that does nothing: its
 //! contract is the law, for all states of a node.
 
-ghost use Rattle.sx_machine.specs.Laws.{PowerOnPlaced, StaysPlaced, ActsGuarded, RunsBlind, RunsKeep, RunsGuarded, BootsCount};
+ghost use Rattle.sx_machine.specs.Laws.{PowerOnPlaced, StaysPlaced, ActsGuarded, RunsBlind};
+ghost use Rattle.sx_machine.specs.Laws.{RunsKeep, RunsGuarded, BootsCount};
 ghost use Rattle.sx_machine.specs.Events.{StepsSay, OthersKeepSections, FreshSections};
-ghost use Rattle.sx_machine.specs.Frame.{StepsFramed, InterruptsFramed, PublicKept, RunsByTable, KeepsKeys, PowerOnHasKeys};
+ghost use Rattle.sx_machine.specs.Frame.{StepsFramed, InterruptsFramed, PublicKept, RunsByTable};
+ghost use Rattle.sx_machine.specs.Frame.{KeepsKeys, PowerOnHasKeys};
 ghost use Rattle.sx_machine.specs.Doing.{DoesWhatStands};
-ghost use Rattle.sx_machine.specs.Touches.{ShowsTouches, ShowsInterrupt, Attributes, AttributesInterrupt};
+ghost use Rattle.sx_machine.specs.Touches.{ShowsTouches, ShowsInterrupt, Attributes};
+ghost use Rattle.sx_machine.specs.Touches.{AttributesInterrupt};
 ghost use Rattle.sx_machine.specs.NodeLaws.{PowerOnIsNode, StaysNode, KeepsDevices, KeepsKey};
 
 /// The sections of a node that is switched on are placed.

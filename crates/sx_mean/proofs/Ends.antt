@@ -11,8 +11,8 @@ use Rattle.sx_mean.specs.declared.apps.Link.{Link}
 use Rattle.sx_mean.specs.declared.events.End.{End}
 use Rattle.sx_mean.specs.Application.{AppTree, PartTree, ends_from, ends_to, has_port, is_port, is_valid, leaves, links_from}
 use Rattle.sx_mean.specs.Valid.{IsTied}
-use Rattle.sx_mean.specs.Ends.{AreCounted, AreEnds, IsBefore, ends_after, ends_of, is_sending, ports_of, senders}
-use Rattle.sx_mean.proofs.Valid.{port_of_part, valid_applications}
+use Rattle.sx_mean.specs.Ends.{AreCountedEnds, AreEnds, IsBefore, ends_after, ends_of, is_sending, ports_of, senders}
+use Rattle.sx_mean.proofs.ValidApplications.{port_of_part, valid_applications}
 
 pub count_by-cons : {A : Type 0} (p : A → Bool) (x : A) (xs : List A) → count_by p (x ∷ xs) ≡ cond (p x) 1 0 + count_by p xs
 count_by-cons p x xs = sum_by-cons (λ y. cond (p y) 1 0) x xs
@@ -66,7 +66,7 @@ senders-ends (l ∷ ls) n p output = go (l.from == p) (l.to == p) refl (senders-
         ∙ ap (λ t. cond (t && (l.output == output)) 1 0 + links_from ls p output) (sym e)
         ∙ sym (count_by-cons (leaves p output) l ls)
 
-pub ends_counted : (app : AppTree) (p : ℕ) → AreCounted app p
+pub ends_counted : (app : AppTree) (p : ℕ) → AreCountedEnds app p
 ends_counted app p = record { all = length-ends app.links 0 p; sending = λ output. senders-ends app.links 0 p output }
 
 -- Order

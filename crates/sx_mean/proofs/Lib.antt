@@ -1,11 +1,11 @@
 pub mod Steps
 pub mod Kept
 pub mod Turns
-pub mod Valid
+pub mod ValidApplications
 pub mod Ends
 pub mod Handlers
 pub mod Scope
-pub mod Acts
+pub mod ActsGrow
 pub mod Words
 pub mod Variables
 pub mod Fine

@@ -12,7 +12,7 @@ use Rattle.sx_check.specs.Uses.{is_seen}
 use Rattle.sx_check.proofs.Distinct.{same-true}
 use Rattle.sx_mean.specs.declared.moments.Local.{Local}
 use Rattle.sx_mean.specs.Places.{place, array_length}
-use Rattle.sx_mean.specs.Meaning.{State, after_block, after_statement, assign, assign_element, forget, local_place, look_up, new_local, times, value}
+use Rattle.sx_mean.specs.Meaning.{HandlerState, after_block, after_statement, assign, assign_element, forget, local_place, look_up, new_local, times, value}
 use Rattle.sx_mean.specs.Scope.{IsIndexed, KeepsScope, index_of, names_of}
 
 pub length-names : (ls : List Local) → length (names_of ls) ≡ length ls
@@ -86,14 +86,14 @@ names_set (l ∷ ls) x v = go (same x l.name) refl (names_set ls x v)
         let q : 1 + local_place ls x ≡ suc (local_place ls x) = omega arith in
         ap (λ n. names_of (slice_set (l ∷ ls) n (new_local x v))) q ∙ ap (λ ns. l.name ∷ ns) more
 
-assign_names : (ds : List Decl) (x : List ℕ) (v : ℕ) (st : State) → names_of (assign ds x v st).locals ≡ names_of st.locals
+assign_names : (ds : List Decl) (x : List ℕ) (v : ℕ) (st : HandlerState) → names_of (assign ds x v st).locals ≡ names_of st.locals
 assign_names ds x v st = go (nat_lt (local_place st.locals x) (length st.locals))
   where
     go : (b : Bool) → names_of (if b then record st { locals = slice_set st.locals (local_place st.locals x) (new_local x v) } else record st { cells = slice_set st.cells (place ds x) v }).locals ≡ names_of st.locals
     go true = names_set st.locals x v
     go false = refl
 
-element_names : (ds : List Decl) (x : List ℕ) (i v : ℕ) (st : State) → names_of (assign_element ds x i v st).locals ≡ names_of st.locals
+element_names : (ds : List Decl) (x : List ℕ) (i v : ℕ) (st : HandlerState) → names_of (assign_element ds x i v st).locals ≡ names_of st.locals
 element_names ds x i v st = go (nat_lt i (array_length ds x))
   where
     go : (b : Bool) → names_of (if b then record st { cells = slice_set st.cells (place ds x + i) v } else st).locals ≡ names_of st.locals
@@ -101,23 +101,23 @@ element_names ds x i v st = go (nat_lt i (array_length ds x))
     go false = refl
 
 -- what a block defines is forgotten
-forget_names : (st r : State) (more : List (List ℕ)) → names_of r.locals ≡ names_of st.locals ++ more → names_of (forget (length st.locals) r).locals ≡ names_of st.locals
+forget_names : (st r : HandlerState) (more : List (List ℕ)) → names_of r.locals ≡ names_of st.locals ++ more → names_of (forget (length st.locals) r).locals ≡ names_of st.locals
 forget_names st r more h =
     names_take r.locals (length st.locals)
     ∙ ap (λ ns. take (length st.locals) ns) h
     ∙ ap (λ n. take n (names_of st.locals ++ more)) (sym (length-names st.locals))
     ∙ take-append_seam (names_of st.locals) more
 
-chosen : (b : Bool) (st x y : State) → names_of x.locals ≡ names_of st.locals → names_of y.locals ≡ names_of st.locals → names_of (if b then x else y).locals ≡ names_of st.locals
+chosen : (b : Bool) (st x y : HandlerState) → names_of x.locals ≡ names_of st.locals → names_of y.locals ≡ names_of st.locals → names_of (if b then x else y).locals ≡ names_of st.locals
 chosen true st x y p q = p
 chosen false st x y p q = q
 
-times_names : (n : ℕ) (f : State → State) (st : State) → ((a : State) → names_of (f a).locals ≡ names_of a.locals) → names_of (times n f st).locals ≡ names_of st.locals
+times_names : (n : ℕ) (f : HandlerState → HandlerState) (st : HandlerState) → ((a : HandlerState) → names_of (f a).locals ≡ names_of a.locals) → names_of (times n f st).locals ≡ names_of st.locals
 times_names zero f st h = refl
 times_names (suc n) f st h = times_names n f (f st) h ∙ h st
 
 mutual
-  pub statement_names : (ds : List Decl) (s : Statement) (st : State) → names_of (after_statement ds s st).locals ≡ names_of st.locals ++ defined s
+  pub statement_names : (ds : List Decl) (s : Statement) (st : HandlerState) → names_of (after_statement ds s st).locals ≡ names_of st.locals ++ defined s
   statement_names ds (Defines x e) st = names_push st.locals (new_local x (value ds st e))
   statement_names ds (Assigns x e) st = assign_names ds x (value ds st e) st ∙ sym (append-nil (names_of st.locals))
   statement_names ds (Stores x i e) st = element_names ds x (value ds st i) (value ds st e) st ∙ sym (append-nil (names_of st.locals))
@@ -130,14 +130,14 @@ mutual
   statement_names ds (Sends x e) st = sym (append-nil (names_of st.locals))
   statement_names ds (Emits e) st = sym (append-nil (names_of st.locals))
 
-  pub block_names : (ds : List Decl) (b : Block) (st : State) → names_of (after_block ds b st).locals ≡ names_of st.locals ++ definitions b
+  pub block_names : (ds : List Decl) (b : Block) (st : HandlerState) → names_of (after_block ds b st).locals ≡ names_of st.locals ++ definitions b
   block_names ds Done st = sym (append-nil (names_of st.locals))
   block_names ds (Then s b) st =
       block_names ds b (after_statement ds s st)
       ∙ ap (λ ns. ns ++ definitions b) (statement_names ds s st)
       ∙ append_assoc (names_of st.locals) (defined s) (definitions b)
 
-pub scopes_kept : (ds : List Decl) (st : State) → KeepsScope ds st
+pub scopes_kept : (ds : List Decl) (st : HandlerState) → KeepsScope ds st
 scopes_kept ds st = record {
   statement = λ s. statement_names ds s st;
   within_block = λ b. block_names ds b st;

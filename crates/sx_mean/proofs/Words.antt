@@ -21,7 +21,7 @@ use Rattle.sx_mean.specs.declared.events.SourceEvent.{SourceEvent}
 use Rattle.sx_mean.specs.declared.events.SourceEvent.TheVariants as event
 use Rattle.sx_mean.specs.declared.moments.Local.{Local}
 use Rattle.sx_mean.specs.Places.{place, array_length, initial_cells}
-use Rattle.sx_mean.specs.Meaning.{State, truth, apply, combine, look_up, or_cell, value, local_place, new_local, act, assign, assign_element, define, forget, times, after_statement, after_block}
+use Rattle.sx_mean.specs.Meaning.{HandlerState, truth, apply, combine, look_up, or_cell, value, local_place, new_local, act, assign, assign_element, define, forget, times, after_statement, after_block}
 use Rattle.sx_mean.specs.React.{handler_at, handler_of_name, input_names, nth, run, start, value_of}
 use Rattle.sx_mean.specs.Words.{ActsOnWord, AreCells, IsLocalWord, ReactsInWords, StateHasWords}
 
@@ -123,7 +123,7 @@ zero_or : (b : Bool) (c : ℕ) → IsWord c → IsWord (if b then c else 0)
 zero_or true c h = h
 zero_or false c h = omega arith
 
-pub values_are_words : (ds : List Decl) (st : State) (e : Expression) → StateHasWords st → AreWords e → IsWord (value ds st e)
+pub values_are_words : (ds : List Decl) (st : HandlerState) (e : Expression) → StateHasWords st → AreWords e → IsWord (value ds st e)
 values_are_words ds st (Constant n) s w = w
 values_are_words ds st (Variable x) s w = found_word st.locals x (get_or st.cells (place ds x) 0) s.locals (cell_word st.cells (place ds x) s.cells)
 values_are_words ds st (Indexed x e) s w = zero_or (nat_lt (value ds st e) (array_length ds x)) _ (cell_word st.cells (place ds x + value ds st e) s.cells)
@@ -132,47 +132,47 @@ values_are_words ds st (Combined op a b) s w = combine_word op _ _ (values_are_w
 
 -- Statements: each keeps words, and the number of cells
 
-pub record Keeps (a b : State) : Type 0 where
+pub record Keeps (a b : HandlerState) : Type 0 where
   pub words : StateHasWords b
   pub count : length b.cells ≡ length a.cells
 
-same_state : (a : State) → StateHasWords a → Keeps a a
+same_state : (a : HandlerState) → StateHasWords a → Keeps a a
 same_state a s = record { words = s; count = refl }
 
-on : (a b c : State) → Keeps a b → Keeps b c → Keeps a c
+on : (a b c : HandlerState) → Keeps a b → Keeps b c → Keeps a c
 on a b c p q = record { words = q.words; count = q.count ∙ p.count }
 
-either : (t : Bool) (a x y : State) → Keeps a x → Keeps a y → Keeps a (if t then x else y)
+either : (t : Bool) (a x y : HandlerState) → Keeps a x → Keeps a y → Keeps a (if t then x else y)
 either true a x y p q = p
 either false a x y p q = q
 
-defines : (x : List ℕ) (v : ℕ) (st : State) → IsWord v → StateHasWords st → Keeps st (define x v st)
+defines : (x : List ℕ) (v : ℕ) (st : HandlerState) → IsWord v → StateHasWords st → Keeps st (define x v st)
 defines x v st h s = record { words = record { locals = All-push IsLocalWord st.locals (new_local x v) s.locals h; cells = s.cells; acts = s.acts }; count = refl }
 
-assigns : (ds : List Decl) (x : List ℕ) (v : ℕ) (st : State) → IsWord v → StateHasWords st → Keeps st (assign ds x v st)
+assigns : (ds : List Decl) (x : List ℕ) (v : ℕ) (st : HandlerState) → IsWord v → StateHasWords st → Keeps st (assign ds x v st)
 assigns ds x v st h s =
     either (nat_lt (local_place st.locals x) (length st.locals)) st (record st { locals = slice_set st.locals (local_place st.locals x) (new_local x v) }) (record st { cells = slice_set st.cells (place ds x) v })
     (record { words = record { locals = all-slice_set IsLocalWord st.locals (local_place st.locals x) (new_local x v) h s.locals; cells = s.cells; acts = s.acts }; count = refl })
     (record { words = record { locals = s.locals; cells = all-slice_set IsWord st.cells (place ds x) v h s.cells; acts = s.acts }; count = length-slice_set st.cells (place ds x) v })
 
-stores : (ds : List Decl) (x : List ℕ) (i v : ℕ) (st : State) → IsWord v → StateHasWords st → Keeps st (assign_element ds x i v st)
+stores : (ds : List Decl) (x : List ℕ) (i v : ℕ) (st : HandlerState) → IsWord v → StateHasWords st → Keeps st (assign_element ds x i v st)
 stores ds x i v st h s =
     either (nat_lt i (array_length ds x)) st (record st { cells = slice_set st.cells (place ds x + i) v }) st
     (record { words = record { locals = s.locals; cells = all-slice_set IsWord st.cells (place ds x + i) v h s.cells; acts = s.acts }; count = length-slice_set st.cells (place ds x + i) v })
     (same_state st s)
 
-acts_on : (a : _) (st : State) → ActsOnWord a → StateHasWords st → Keeps st (act a st)
+acts_on : (a : _) (st : HandlerState) → ActsOnWord a → StateHasWords st → Keeps st (act a st)
 acts_on a st h s = record { words = record { locals = s.locals; cells = s.cells; acts = All-push ActsOnWord st.acts a s.acts h }; count = refl }
 
-forgets : (n : ℕ) (a b : State) → Keeps a b → Keeps a (forget n b)
+forgets : (n : ℕ) (a b : HandlerState) → Keeps a b → Keeps a (forget n b)
 forgets n a b k = record { words = record { locals = All-take IsLocalWord n b.locals k.words.locals; cells = k.words.cells; acts = k.words.acts }; count = k.count }
 
-turns : (n : ℕ) (f : State → State) (st : State) → ((a : State) → StateHasWords a → Keeps a (f a)) → StateHasWords st → Keeps st (times n f st)
+turns : (n : ℕ) (f : HandlerState → HandlerState) (st : HandlerState) → ((a : HandlerState) → StateHasWords a → Keeps a (f a)) → StateHasWords st → Keeps st (times n f st)
 turns zero f st h s = same_state st s
 turns (suc n) f st h s = let k = h st s in on st (f st) _ k (turns n f (f st) h k.words)
 
 mutual
-  pub statement_keeps : (ds : List Decl) (s : Statement) (st : State) → HasWords s → StateHasWords st → Keeps st (after_statement ds s st)
+  pub statement_keeps : (ds : List Decl) (s : Statement) (st : HandlerState) → HasWords s → StateHasWords st → Keeps st (after_statement ds s st)
   statement_keeps ds (Defines x e) st w h = defines x (value ds st e) st (values_are_words ds st e h w) h
   statement_keeps ds (Assigns x e) st w h = assigns ds x (value ds st e) st (values_are_words ds st e h w) h
   statement_keeps ds (Stores x i e) st w h = stores ds x (value ds st i) (value ds st e) st (values_are_words ds st e h w.1) h
@@ -185,7 +185,7 @@ mutual
   statement_keeps ds (Sends x e) st w h = acts_on _ st (values_are_words ds st e h w) h
   statement_keeps ds (Emits e) st w h = acts_on _ st (values_are_words ds st e h w) h
 
-  pub block_keeps : (ds : List Decl) (b : Block) (st : State) → BlockHasWords b → StateHasWords st → Keeps st (after_block ds b st)
+  pub block_keeps : (ds : List Decl) (b : Block) (st : HandlerState) → BlockHasWords b → StateHasWords st → Keeps st (after_block ds b st)
   block_keeps ds Done st w h = same_state st h
   block_keeps ds (Then s b) st w h =
       let k = statement_keeps ds s st w.0 h in

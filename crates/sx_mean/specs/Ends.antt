@@ -1,5 +1,7 @@
 -- The ends of connections that a part of an application holds.
-use Rattle.std.specs.Prelude.{◌≡◌, ℕ, ◌+◌, ◌<◌, ◌≤◌, ◌⊎◌, ◌==◌, if◌then◌else◌, Bool, true, false, List, [], ◌∷◌, length, Option, Some, None, All, AllPairs, slice_get, count_by}
+use Rattle.std.specs.Prelude.{◌≡◌, ℕ, ◌+◌, ◌<◌, ◌≤◌, ◌⊎◌, ◌==◌, if◌then◌else◌, Bool, true, false}
+use Rattle.std.specs.Prelude.{List, [], ◌∷◌, length, Option, Some, None, All, AllPairs, slice_get}
+use Rattle.std.specs.Prelude.{count_by}
 use Rattle.std.specs.List.{cons_option}
 use Rattle.sx_lang.specs.Tree.{ModuleTree}
 use Rattle.sx_lang.specs.declared.sides.Side.{Side}
@@ -11,7 +13,8 @@ use Rattle.sx_mean.specs.Application.{AppTree, PartTree, ends_from, ends_to, lin
 
 -- the part's sending end of the n-th connection
 abbrev pub sending : ℕ → ℕ → Link → Option End
-sending n p l = if l.from == p then Some (record { link = n; side = From; port = l.output }) else None
+sending n p l =
+    if l.from == p then Some (record { link = n; side = From; port = l.output }) else None
 
 -- the part's receiving end of the n-th connection
 abbrev pub receiving : ℕ → ℕ → Link → Option End
@@ -20,7 +23,8 @@ receiving n p l = if l.to == p then Some (record { link = n; side = To; port = l
 -- the ends of the connections from the n-th on
 abbrev pub ends_after : ℕ → ℕ → List Link → List End
 ends_after n p [] = []
-ends_after n p (l ∷ ls) = cons_option (sending n p l) (cons_option (receiving n p l) (ends_after (n + 1) p ls))
+ends_after n p (l ∷ ls) =
+    cons_option (sending n p l) (cons_option (receiving n p l) (ends_after (n + 1) p ls))
 
 -- the ends that the p-th part holds, in connection order, the sending end before the receiving one
 abbrev pub ends_of : AppTree → ℕ → List End
@@ -53,14 +57,15 @@ pub record AreEnds (m : ModuleTree) (ends : List End) : Type 0 where
   pub ports : All (λ e. e.port < ports_of m e.side) ends
 
 -- the ends of a part are those that its connections count
-pub record AreCounted (app : AppTree) (p : ℕ) : Type 0 where
+pub record AreCountedEnds (app : AppTree) (p : ℕ) : Type 0 where
   pub all : length (ends_of app p) ≡ ends_from app.links p + ends_to app.links p
   pub sending : (output : ℕ) → senders (ends_of app p) output ≡ links_from app.links p output
 
 -- in each application the ends of a part are those that its connections count
 abbrev pub EndsCounted : Type 0
-EndsCounted = (app : AppTree) (p : ℕ) → AreCounted app p
+EndsCounted = (app : AppTree) (p : ℕ) → AreCountedEnds app p
 
 -- each part of a valid application holds what a module's ends are
 abbrev pub EndsHold : Type 0
-EndsHold = (app : AppTree) (p : ℕ) (q : PartTree) → is_valid app ≡ true → slice_get app.parts p ≡ Some q → AreEnds q.tree (ends_of app p)
+EndsHold = (app : AppTree) (p : ℕ) (q : PartTree) → is_valid app ≡ true
+    → slice_get app.parts p ≡ Some q → AreEnds q.tree (ends_of app p)

@@ -24,7 +24,8 @@ number_of m (event.Sample v) = handler_number m.handlers None
 -- the event's handler is that of the number, and there is none where there is no number
 abbrev pub IsNumbered : ModuleTree → SourceEvent → Option ℕ → Type 0
 IsNumbered m e None = handler_at m e ≡ None
-IsNumbered m e (Some k) = (h : HandlerTree) × (handler_at m e ≡ Some h) × (slice_get m.handlers k ≡ Some h)
+IsNumbered m e (Some k) =
+    (h : HandlerTree) × (handler_at m e ≡ Some h) × (slice_get m.handlers k ≡ Some h)
 
 -- the handler of an event and its number fit together in every module
 abbrev pub HandlersNumbered : Type 0

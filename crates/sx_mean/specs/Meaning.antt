@@ -1,12 +1,17 @@
 -- What expressions and statements mean, by cases on the source.
-use Rattle.std.specs.Prelude.{ℕ, zero, suc, ◌+◌, ◌*◌, ◌-◌, ◌%◌, Bool, List, [], ◌∷◌, ◌++◌, Option, Some, None, ◌==◌, nat_lt, nat_le, if◌then◌else◌, length, take, slice_index, slice_set, bit_and, bit_or, bit_xor}
+use Rattle.std.specs.Prelude.{ℕ, zero, suc, ◌+◌, ◌*◌, ◌-◌, ◌%◌, Bool, List, [], ◌∷◌, ◌++◌, Option}
+use Rattle.std.specs.Prelude.{Some, None, ◌==◌, nat_lt, nat_le, if◌then◌else◌, length, take}
+use Rattle.std.specs.Prelude.{slice_index, slice_set, bit_and, bit_or, bit_xor}
 use Rattle.std.specs.List.{position_or_len}
 use Rattle.sx_lang.specs.declared.tree.Decl.{Decl}
 use Rattle.sx_lang.specs.declared.tree.UnOp.{UnOp}
 use Rattle.sx_lang.specs.declared.tree.UnOp.TheVariants.{Neg, Inv, Not}
 use Rattle.sx_lang.specs.declared.tree.BinOp.{BinOp}
-use Rattle.sx_lang.specs.declared.tree.BinOp.TheVariants.{Add, Sub, Or, Xor, Mul, And, Eq, Ne, Lt, Le, Gt, Ge}
-use Rattle.sx_lang.specs.Tree.{Expression, Constant, Variable, Indexed, Applied, Combined, Statement, Defines, Assigns, Stores, Chooses, Repeats, Sends, Emits, Block, Done, Then}
+use Rattle.sx_lang.specs.declared.tree.BinOp.TheVariants.{Add, Sub, Or, Xor, Mul, And, Eq, Ne, Lt}
+use Rattle.sx_lang.specs.declared.tree.BinOp.TheVariants.{Le, Gt, Ge}
+use Rattle.sx_lang.specs.Tree.{Expression, Constant, Variable, Indexed, Applied, Combined}
+use Rattle.sx_lang.specs.Tree.{Statement, Defines, Assigns, Stores, Chooses, Repeats, Sends, Emits}
+use Rattle.sx_lang.specs.Tree.{Block, Done, Then}
 use Rattle.sx_check.specs.Names.{same}
 use Rattle.sx_mean.specs.declared.events.Act.{Act}
 use Rattle.sx_mean.specs.declared.events.Act.TheVariants.{Send, Emit}
@@ -14,7 +19,7 @@ use Rattle.sx_mean.specs.declared.moments.Local.{Local}
 use Rattle.sx_mean.specs.Places.{place, array_length, output_number}
 
 -- where a handler stands: the locals in the order of their lets, the cells, and the acts so far
-pub record State : Type 0 where
+pub record HandlerState : Type 0 where
   pub locals : List Local
   pub cells : List ℕ
   pub acts : List Act
@@ -55,15 +60,16 @@ or_cell None cell = cell
 or_cell (Some value) cell = value
 
 -- the value of a name: a local's, or else that of a variable's cell
-abbrev pub word : List Decl → State → List ℕ → ℕ
+abbrev pub word : List Decl → HandlerState → List ℕ → ℕ
 word ds st x = or_cell (look_up st.locals x) (slice_index st.cells (place ds x))
 
 -- the value of an array's element; past the array's end it is 0
-abbrev pub element : List Decl → State → List ℕ → ℕ → ℕ
-element ds st x i = if nat_lt i (array_length ds x) then slice_index st.cells (place ds x + i) else 0
+abbrev pub element : List Decl → HandlerState → List ℕ → ℕ → ℕ
+element ds st x i =
+    if nat_lt i (array_length ds x) then slice_index st.cells (place ds x + i) else 0
 
 -- the value of an expression
-abbrev pub value : List Decl → State → Expression → ℕ
+abbrev pub value : List Decl → HandlerState → Expression → ℕ
 value ds st (Constant n) = n
 value ds st (Variable x) = word ds st x
 value ds st (Indexed x e) = element ds st x (value ds st e)
@@ -79,48 +85,52 @@ abbrev pub new_local : List ℕ → ℕ → Local
 new_local x v = record { name = x; value = v }
 
 -- the state with one more local
-abbrev pub define : List ℕ → ℕ → State → State
+abbrev pub define : List ℕ → ℕ → HandlerState → HandlerState
 define x v st = record st { locals = st.locals ++ new_local x v ∷ [] }
 
 -- the state with a new value of a local, or else of a variable
-abbrev pub assign : List Decl → List ℕ → ℕ → State → State
+abbrev pub assign : List Decl → List ℕ → ℕ → HandlerState → HandlerState
 assign ds x v st =
     if nat_lt (local_place st.locals x) (length st.locals)
     then record st { locals = slice_set st.locals (local_place st.locals x) (new_local x v) }
     else record st { cells = slice_set st.cells (place ds x) v }
 
 -- the state with a new value of an element; past the array's end nothing changes
-abbrev pub assign_element : List Decl → List ℕ → ℕ → ℕ → State → State
-assign_element ds x i v st = if nat_lt i (array_length ds x) then record st { cells = slice_set st.cells (place ds x + i) v } else st
+abbrev pub assign_element : List Decl → List ℕ → ℕ → ℕ → HandlerState → HandlerState
+assign_element ds x i v st = if nat_lt i (array_length ds x) then
+    record st { cells = slice_set st.cells (place ds x + i) v } else st
 
 -- the state with one more act
-abbrev pub act : Act → State → State
+abbrev pub act : Act → HandlerState → HandlerState
 act a st = record st { acts = st.acts ++ a ∷ [] }
 
 -- the state without the locals of a block that ended
-abbrev pub forget : ℕ → State → State
+abbrev pub forget : ℕ → HandlerState → HandlerState
 forget n st = record st { locals = take n st.locals }
 
 -- a change made this many times
-abbrev pub times : ℕ → (State → State) → State → State
+abbrev pub times : ℕ → (HandlerState → HandlerState) → HandlerState → HandlerState
 times zero f st = st
 times (suc n) f st = times n f (f st)
 
 -- the state after a statement and after a block
 abbrev mutual
-  pub after_statement : List Decl → Statement → State → State
+  pub after_statement : List Decl → Statement → HandlerState → HandlerState
   after_statement ds (Defines x e) st = define x (value ds st e) st
   after_statement ds (Assigns x e) st = assign ds x (value ds st e) st
   after_statement ds (Stores x i e) st = assign_element ds x (value ds st i) (value ds st e) st
-  after_statement ds (Chooses e a b) st = if value ds st e == 0 then forget (length st.locals) (after_block ds b st) else forget (length st.locals) (after_block ds a st)
-  after_statement ds (Repeats n a) st = times n (λ st. forget (length st.locals) (after_block ds a st)) st
+  after_statement ds (Chooses e a b) st = if value ds st e == 0 then
+      forget (length st.locals) (after_block ds b st) else
+      forget (length st.locals) (after_block ds a st)
+  after_statement ds (Repeats n a) st =
+      times n (λ st. forget (length st.locals) (after_block ds a st)) st
   after_statement ds (Sends x e) st = act (Send (output_number ds x) (value ds st e)) st
   after_statement ds (Emits e) st = act (Emit (value ds st e)) st
 
-  pub after_block : List Decl → Block → State → State
+  pub after_block : List Decl → Block → HandlerState → HandlerState
   after_block ds Done st = st
   after_block ds (Then s b) st = after_block ds b (after_statement ds s st)
 
 -- the state after a block whose locals are gone
-abbrev pub in_block : List Decl → Block → State → State
+abbrev pub in_block : List Decl → Block → HandlerState → HandlerState
 in_block ds b st = forget (length st.locals) (after_block ds b st)

@@ -51,6 +51,6 @@ initial_cells [] = []
 initial_cells (d ∷ ds) = first_cells d ++ initial_cells ds
 
 -- so few cells and outputs that their numbers fit, as the rules ask
-pub record IsSized (ds : List Decl) : Type 0 where
+pub record AreSizedDecls (ds : List Decl) : Type 0 where
   pub few_cells : declared_cells ds ≤ 1024
   pub few_outputs : count_by is_output ds ≤ 255

@@ -7,7 +7,7 @@ use Rattle.sx_lang.specs.Tree.{HandlerTree, ModuleTree}
 use Rattle.sx_check.specs.Names.{same_input}
 use Rattle.sx_mean.specs.declared.events.SourceEvent.{SourceEvent}
 use Rattle.sx_mean.specs.declared.events.SourceEvent.TheVariants as event
-use Rattle.sx_mean.specs.Meaning.{State, new_local, in_block}
+use Rattle.sx_mean.specs.Meaning.{HandlerState, new_local, in_block}
 
 -- the names of the inputs, in order of declaration
 abbrev pub input_names : List Decl → List (List ℕ)
@@ -43,14 +43,14 @@ value_of (event.Input j v) = v
 value_of (event.Sample v) = v
 
 -- where a handler begins: its parameter has the event's value
-abbrev pub start : HandlerTree → ℕ → List ℕ → State
+abbrev pub start : HandlerTree → ℕ → List ℕ → HandlerState
 start h v cells = record { locals = new_local h.param v ∷ []; cells = cells; acts = [] }
 
 -- without a handler the cells stay, and there are no acts
-abbrev pub run : List Decl → Option HandlerTree → ℕ → List ℕ → State
+abbrev pub run : List Decl → Option HandlerTree → ℕ → List ℕ → HandlerState
 run ds None v cells = record { locals = []; cells = cells; acts = [] }
 run ds (Some h) v cells = in_block ds h.body (start h v cells)
 
 -- what a module does at an event: its acts, and its cells after them
-abbrev pub react : ModuleTree → SourceEvent → List ℕ → State
+abbrev pub react : ModuleTree → SourceEvent → List ℕ → HandlerState
 react m e cells = run m.decls (handler_at m e) (value_of e) cells

@@ -7,7 +7,8 @@ use Rattle.sx_lang.specs.Tree.{Block, Statement}
 use Rattle.sx_check.specs.Names.{defined, same}
 use Rattle.sx_check.specs.Scopes.{definitions}
 use Rattle.sx_mean.specs.declared.moments.Local.{Local}
-use Rattle.sx_mean.specs.Meaning.{State, after_block, after_statement, in_block, local_place, look_up}
+use Rattle.sx_mean.specs.Meaning.{HandlerState, after_block, after_statement, in_block, local_place}
+use Rattle.sx_mean.specs.Meaning.{look_up}
 
 -- the names of the locals in scope, in the order of their lets
 abbrev pub names_of : List Local → List (List ℕ)
@@ -29,11 +30,13 @@ LocalsIndexed = (ls : List Local) (x : List ℕ) → IsIndexed ls x
 
 -- a statement adds the names that it defines itself, and a block ends with the names that it began
 -- with
-pub record KeepsScope (ds : List Decl) (st : State) : Type 0 where
-  pub statement : (s : Statement) → names_of (after_statement ds s st).locals ≡ names_of st.locals ++ defined s
-  pub within_block : (b : Block) → names_of (after_block ds b st).locals ≡ names_of st.locals ++ definitions b
+pub record KeepsScope (ds : List Decl) (st : HandlerState) : Type 0 where
+  pub statement : (s : Statement) → names_of (after_statement ds s st).locals
+      ≡ names_of st.locals ++ defined s
+  pub within_block : (b : Block) → names_of (after_block ds b st).locals
+      ≡ names_of st.locals ++ definitions b
   pub block : (b : Block) → names_of (in_block ds b st).locals ≡ names_of st.locals
 
 -- statements and blocks keep the locals that were there before
 abbrev pub ScopesKept : Type 0
-ScopesKept = (ds : List Decl) (st : State) → KeepsScope ds st
+ScopesKept = (ds : List Decl) (st : HandlerState) → KeepsScope ds st

@@ -1,7 +1,9 @@
 -- What holds of each valid application, of each device, part and connection alone.
 use Rattle.std.specs.Prelude.{◌≡◌, ℕ, ◌+◌, ◌<◌, ◌≤◌, true, false, All, length, Some, slice_get}
 use Rattle.sx_mean.specs.declared.apps.Link.{Link}
-use Rattle.sx_mean.specs.Application.{AppTree, PartTree, declared_kind, ends_from, ends_to, has_port, is_driven, is_port, is_valid, parts_at, parts_with, sends_too_much}
+use Rattle.sx_mean.specs.Application.{AppTree, PartTree, declared_kind, ends_from, ends_to}
+use Rattle.sx_mean.specs.Application.{has_port, is_driven, is_port, is_valid, parts_at, parts_with}
+use Rattle.sx_mean.specs.Application.{sends_too_much}
 
 -- The p-th part is at a node of the application with at most 8 parts; it has a device exactly where
 -- its module declares one, at its node, of that kind and of no other part; and it has neither too

@@ -1,11 +1,14 @@
 -- The cell of a variable or an element, and its first value. Nobody has to believe these: they are
 -- forms for code that is made from a module, which finds a name that is no local by its first
 -- declaration.
-use Rattle.std.specs.Prelude.{◌≡◌, ℕ, ◌+◌, ◌<◌, false, if◌then◌else◌, List, [], ◌∷◌, ◌++◌, length, get_or, nat_lt}
+use Rattle.std.specs.Prelude.{◌≡◌, ℕ, ◌+◌, ◌<◌, false, if◌then◌else◌, List, [], ◌∷◌, ◌++◌, length}
+use Rattle.std.specs.Prelude.{get_or, nat_lt}
 use Rattle.sx_lang.specs.declared.tree.Decl.{Decl}
 use Rattle.sx_lang.specs.declared.tree.Decl.TheVariants.{Device, Input, Output, Var, Array}
 use Rattle.sx_lang.specs.Sizes.{declared_cells}
-use Rattle.sx_lang.specs.Tree.{Expression, Constant, Variable, Indexed, Applied, Combined, Statement, Defines, Assigns, Stores, Chooses, Repeats, Sends, Emits, Block, Done, Then}
+use Rattle.sx_lang.specs.Tree.{Expression, Constant, Variable, Indexed, Applied, Combined}
+use Rattle.sx_lang.specs.Tree.{Statement, Defines, Assigns, Stores, Chooses, Repeats, Sends, Emits}
+use Rattle.sx_lang.specs.Tree.{Block, Done, Then}
 use Rattle.sx_lang.specs.Words.{IsWord}
 use Rattle.sx_check.specs.Names.{declares, defined}
 use Rattle.sx_mean.specs.Places.{place, initial_cells}
@@ -54,11 +57,13 @@ abbrev mutual
   FineStatement ds E names (Defines x e) = FineExpression ds names e
   FineStatement ds E names (Assigns x e) = IsKnown ds names x × FineExpression ds names e
   FineStatement ds E names (Stores x i e) = FineExpression ds names i × FineExpression ds names e
-  FineStatement ds E names (Chooses e a b) = FineExpression ds names e × FineBlock ds E names a × FineBlock ds E names b
+  FineStatement ds E names (Chooses e a b) =
+      FineExpression ds names e × FineBlock ds E names a × FineBlock ds E names b
   FineStatement ds E names (Repeats n a) = IsWord n × FineBlock ds E names a
   FineStatement ds E names (Sends x e) = FineExpression ds names e
   FineStatement ds E names (Emits e) = FineExpression ds names e × E
 
   pub FineBlock : List Decl → Type 0 → List (List ℕ) → Block → Type 0
   FineBlock ds E names Done = Unit {0}
-  FineBlock ds E names (Then s b) = FineStatement ds E names s × FineBlock ds E (names ++ defined s) b
+  FineBlock ds E names (Then s b) =
+      FineStatement ds E names s × FineBlock ds E (names ++ defined s) b

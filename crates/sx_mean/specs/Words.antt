@@ -9,7 +9,7 @@ use Rattle.sx_mean.specs.declared.events.Act.{Act}
 use Rattle.sx_mean.specs.declared.events.Act.TheVariants.{Send, Emit}
 use Rattle.sx_mean.specs.declared.events.SourceEvent.{SourceEvent}
 use Rattle.sx_mean.specs.declared.moments.Local.{Local}
-use Rattle.sx_mean.specs.Meaning.{State, value}
+use Rattle.sx_mean.specs.Meaning.{HandlerState, value}
 use Rattle.sx_mean.specs.Places.{initial_cells}
 use Rattle.sx_mean.specs.React.{react, value_of}
 
@@ -23,14 +23,15 @@ ActsOnWord (Send output v) = IsWord v
 ActsOnWord (Emit v) = IsWord v
 
 -- each local, cell and act has a word
-pub record StateHasWords (st : State) : Type 0 where
+pub record StateHasWords (st : HandlerState) : Type 0 where
   pub locals : All IsLocalWord st.locals
   pub cells : All IsWord st.cells
   pub acts : All ActsOnWord st.acts
 
 -- what an expression is worth is a word
 abbrev pub ValuesAreWords : Type 0
-ValuesAreWords = (ds : List Decl) (st : State) (e : Expression) → StateHasWords st → AreWords e → IsWord (value ds st e)
+ValuesAreWords = (ds : List Decl) (st : HandlerState) (e : Expression) → StateHasWords st
+    → AreWords e → IsWord (value ds st e)
 
 -- as many cells as are declared, each a word
 pub record AreCells (ds : List Decl) (cells : List ℕ) : Type 0 where
@@ -48,4 +49,5 @@ pub record ReactsInWords (m : ModuleTree) (e : SourceEvent) (cells : List ℕ) :
 
 -- a reaction to a word leaves words in the cells and acts on words
 abbrev pub ReactionsKeepWords : Type 0
-ReactionsKeepWords = (m : ModuleTree) (e : SourceEvent) (cells : List ℕ) → TreeHasWords m → IsWord (value_of e) → AreCells m.decls cells → ReactsInWords m e cells
+ReactionsKeepWords = (m : ModuleTree) (e : SourceEvent) (cells : List ℕ) → TreeHasWords m
+    → IsWord (value_of e) → AreCells m.decls cells → ReactsInWords m e cells

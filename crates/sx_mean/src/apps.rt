@@ -1,11 +1,17 @@
 //! Applications: modules on nodes, their devices and connections, and whether these fit together.
 
-ghost use Rattle.std.specs.Prelude.{◌≡◌, ℕ, ◌+◌, ◌*◌, ◌≤◌, ◌<◌, ◌==◌, ◌&&◌, Bool, count_by, length, map, min, nat_lt, not};
+ghost use Rattle.std.specs.Prelude.{◌≡◌, ℕ, ◌+◌, ◌*◌, ◌≤◌, ◌<◌, ◌==◌, ◌&&◌, Bool, count_by, length};
+ghost use Rattle.std.specs.Prelude.{map, min, nat_lt, not};
 ghost use Rattle.std.specs.List.{list_any};
 ghost use Rattle.sx_check.specs.Source.{source_tree};
 ghost use Rattle.sx_lang.specs.View.{block_of, handler_of, module_of, statement_of};
-ghost use Rattle.sx_mean.specs.Application.{any_part, block_packets, declared_kind, ends_from, ends_to, has_port, is_at, is_crowded, is_driven, is_loose, is_misplaced, is_overloaded, is_port, is_stray, is_too_large, is_valid, is_wrong, leaves, links_from, parts_at, parts_with, same_device, same_kind, sends_too_much, statement_packets};
-ghost use Rattle.sx_mean.specs.Places.{IsSized};
+ghost use Rattle.sx_mean.specs.Application.{any_part, block_packets, declared_kind, ends_from};
+ghost use Rattle.sx_mean.specs.Application.{ends_to, has_port, is_at, is_crowded, is_driven};
+ghost use Rattle.sx_mean.specs.Application.{is_loose, is_misplaced, is_overloaded, is_port};
+ghost use Rattle.sx_mean.specs.Application.{is_stray, is_too_large, is_valid, is_wrong, leaves};
+ghost use Rattle.sx_mean.specs.Application.{links_from, parts_at, parts_with, same_device};
+ghost use Rattle.sx_mean.specs.Application.{same_kind, sends_too_much, statement_packets};
+ghost use Rattle.sx_mean.specs.Places.{AreSizedDecls};
 ghost use Rattle.sx_mean.specs.View.{app_as, part_as};
 
 use crate::places::output_number;
@@ -215,8 +221,9 @@ fn packets_of_turns(turns: u16, packets: u64) -> u64
 
 #[cycle(packets)]
 fn packets_of_statement(links: &[Link], part: usize, decls: &[Decl], s: &Stmt) -> u64
-    requires { IsSized decls.now }
-    ensures { result ≡ min (statement_packets (links_from links.now part) decls.now (statement_of s.now)) CUT }
+    requires { AreSizedDecls decls.now }
+    ensures { result ≡ min (statement_packets (links_from links.now part) decls.now
+        (statement_of s.now)) CUT }
 {
     match s {
         Stmt::If(_, then, otherwise) => {
@@ -231,8 +238,9 @@ fn packets_of_statement(links: &[Link], part: usize, decls: &[Decl], s: &Stmt) -
 
 #[cycle(packets)]
 fn packets_of_block(links: &[Link], part: usize, decls: &[Decl], block: &Vec<Stmt>) -> u64
-    requires { IsSized decls.now }
-    ensures { result ≡ min (block_packets (links_from links.now part) decls.now (block_of block.now.items)) CUT }
+    requires { AreSizedDecls decls.now }
+    ensures { result ≡ min (block_packets (links_from links.now part) decls.now
+        (block_of block.now.items)) CUT }
 {
     let mut total = 0;
     for s in block {
@@ -244,7 +252,7 @@ fn packets_of_block(links: &[Link], part: usize, decls: &[Decl], block: &Vec<Stm
 /// Whether a handler of the part can make more than 16 packets: each send counts once for each
 /// connection from its output.
 pub fn sends_too_much(links: &[Link], part: usize, m: &Module) -> bool
-    requires { IsSized m.now.decls.items }
+    requires { AreSizedDecls m.now.decls.items }
     ensures { result ≡ sends_too_much links.now part (module_of m.now) }
 {
     for h in &m.handlers {

@@ -3,7 +3,7 @@
 ghost use Rattle.std.specs.Prelude.{◌≡◌, ℕ, ◌≤◌, slice_index};
 ghost use Rattle.sx_lang.specs.View.{expression_of};
 ghost use Rattle.sx_mean.specs.Meaning.{apply, combine, element, look_up, truth, value, word};
-ghost use Rattle.sx_mean.specs.Places.{IsSized};
+ghost use Rattle.sx_mean.specs.Places.{AreSizedDecls};
 ghost use Rattle.sx_mean.specs.View.{state_of};
 
 use crate::moments::{Local, Moment};
@@ -64,7 +64,7 @@ fn cell(cells: &[u16], at: usize) -> u16
 }
 
 fn word(decls: &[Decl], moment: &Moment, x: &Name) -> u16
-    requires { IsSized decls.now }
+    requires { AreSizedDecls decls.now }
     ensures { result ≡ word decls.now (state_of moment.now) x.now }
 {
     match look_up(&moment.locals, x) {
@@ -74,7 +74,7 @@ fn word(decls: &[Decl], moment: &Moment, x: &Name) -> u16
 }
 
 fn element(decls: &[Decl], moment: &Moment, x: &Name, index: u16) -> u16
-    requires { IsSized decls.now }
+    requires { AreSizedDecls decls.now }
     ensures { result ≡ element decls.now (state_of moment.now) x.now index }
 {
     if index < array_length(decls, x) {
@@ -86,7 +86,7 @@ fn element(decls: &[Decl], moment: &Moment, x: &Name, index: u16) -> u16
 
 /// The word that an expression is worth.
 pub fn evaluate(decls: &[Decl], moment: &Moment, e: &Expr) -> u16
-    requires { IsSized decls.now }
+    requires { AreSizedDecls decls.now }
     ensures { result ≡ value decls.now (state_of moment.now) (expression_of e.now) }
 {
     match e {

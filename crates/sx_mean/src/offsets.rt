@@ -1,7 +1,8 @@
 //! Where things lie in the private section of a compiled module: offsets in bytes from its start.
 
 ghost use Rattle.std.specs.Prelude.{◌≡◌, ℕ, ◌<◌, ◌≤◌};
-ghost use Rattle.sx_mean.specs.Offsets.{cell_at, end_at, end_key_at, end_number_at, end_open_at, local_at, saved_at};
+ghost use Rattle.sx_mean.specs.Offsets.{cell_at, end_at, end_key_at, end_number_at, end_open_at};
+ghost use Rattle.sx_mean.specs.Offsets.{local_at, saved_at};
 
 /// The event's value.
 pub const EVENT: u16 = 2;

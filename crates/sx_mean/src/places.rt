@@ -3,7 +3,8 @@
 ghost use Rattle.std.specs.Prelude.{◌≡◌, ℕ, ◌+◌, ◌≤◌};
 ghost use Rattle.sx_lang.specs.Sizes.{declaration_cells, declared_cells};
 ghost use Rattle.sx_check.specs.Names.{declares};
-ghost use Rattle.sx_mean.specs.Places.{array_length, outputs_in, output_number, own_length, place, IsSized};
+ghost use Rattle.sx_mean.specs.Places.{array_length, outputs_in, output_number, own_length, place};
+ghost use Rattle.sx_mean.specs.Places.{AreSizedDecls};
 
 use sx_lang::names::Name;
 use sx_lang::tree::Decl;
@@ -29,7 +30,7 @@ fn cells_of(d: &Decl) -> usize
 
 /// The place of the name's first cell.
 pub fn place(decls: &[Decl], x: &Name) -> usize
-    requires { IsSized decls.now }
+    requires { AreSizedDecls decls.now }
     ensures place { result ≡ place decls.now x.now }
     ensures small { result ≤ 1024 }
 {
@@ -75,7 +76,7 @@ fn outputs_of(d: &Decl) -> u8
 
 /// The number of the output of this name.
 pub fn output_number(decls: &[Decl], x: &Name) -> u8
-    requires { IsSized decls.now }
+    requires { AreSizedDecls decls.now }
     ensures { result ≡ output_number decls.now x.now }
 {
     let mut before: u8 = 0;

@@ -5,8 +5,9 @@ ghost use Rattle.std.specs.List.{find};
 ghost use Rattle.sx_check.specs.Names.{same_input};
 ghost use Rattle.sx_check.specs.Source.{source_tree};
 ghost use Rattle.sx_lang.specs.View.{block_of, handler_of, module_of};
-ghost use Rattle.sx_mean.specs.Places.{IsSized};
-ghost use Rattle.sx_mean.specs.React.{handler_at, handler_of_input, handler_of_name, input_names, nth, react, run, start};
+ghost use Rattle.sx_mean.specs.Places.{AreSizedDecls};
+ghost use Rattle.sx_mean.specs.React.{handler_at, handler_of_input, handler_of_name, input_names};
+ghost use Rattle.sx_mean.specs.React.{nth, react, run, start};
 ghost use Rattle.sx_mean.specs.View.{state_of};
 
 use crate::events::{Act, SourceEvent};
@@ -66,8 +67,9 @@ fn run_handler(
     value: u16,
     cells: &[u16],
 ) -> Result<Moment, AllocError>
-    requires { IsSized decls.now }
-    ensures { IfOk result (λ m. state_of m ≡ run decls.now (Some (handler_of h.now)) value cells.now) }
+    requires { AreSizedDecls decls.now }
+    ensures { IfOk result (λ m. state_of m ≡ run decls.now (Some (handler_of h.now)) value
+        cells.now) }
 {
     let mut moment = start(alloc, h, value, cells)?;
     run_block(decls, &h.body, &mut moment)?;
@@ -92,8 +94,9 @@ fn run_first(
     value: u16,
     cells: &[u16],
 ) -> Result<Moment, AllocError>
-    requires { IsSized m.now.decls.items }
-    ensures { IfOk result (λ n. state_of n ≡ run m.now.decls.items (handler_of_input input.now (map handler_of m.now.handlers.items)) value cells.now) }
+    requires { AreSizedDecls m.now.decls.items }
+    ensures { IfOk result (λ n. state_of n ≡ run m.now.decls.items
+        (handler_of_input input.now (map handler_of m.now.handlers.items)) value cells.now) }
 {
     for h in &m.handlers {
         if handles(h, input) {
@@ -109,7 +112,7 @@ fn outcome(
     event: SourceEvent,
     cells: &[u16],
 ) -> Result<Moment, AllocError>
-    requires { IsSized m.now.decls.items }
+    requires { AreSizedDecls m.now.decls.items }
     ensures { IfOk result (λ n. state_of n ≡ react (module_of m.now) event cells.now) }
 {
     match event {
@@ -131,8 +134,10 @@ pub fn react(
     store: &mut Store,
     event: SourceEvent,
 ) -> Result<Vec<Act>, AllocError>
-    ensures acts { IfOk result (λ acts. acts.items ≡ (react (source_tree m.now) event store.old.cells.items).acts) }
-    ensures cells { OnOk result (store.new.cells.items ≡ (react (source_tree m.now) event store.old.cells.items).cells) }
+    ensures acts { IfOk result (λ acts. acts.items
+        ≡ (react (source_tree m.now) event store.old.cells.items).acts) }
+    ensures cells { OnOk result (store.new.cells.items
+        ≡ (react (source_tree m.now) event store.old.cells.items).cells) }
     ensures unchanged { OnErr result (store.new ≡ store.old) }
 {
     let moment = outcome(alloc, m.module(), event, &store.cells)?;

@@ -2,8 +2,9 @@
 
 ghost use Rattle.std.specs.Prelude.{◌≡◌, ℕ, ◌<◌, ◌≤◌, OnOk, length, slice_set};
 ghost use Rattle.sx_lang.specs.View.{block_of, expression_of, statement_of};
-ghost use Rattle.sx_mean.specs.Meaning.{act, after_statement, assign, assign_element, define, in_block, local_place, new_local, times};
-ghost use Rattle.sx_mean.specs.Places.{IsSized};
+ghost use Rattle.sx_mean.specs.Meaning.{act, after_statement, assign, assign_element, define};
+ghost use Rattle.sx_mean.specs.Meaning.{in_block, local_place, new_local, times};
+ghost use Rattle.sx_mean.specs.Places.{AreSizedDecls};
 ghost use Rattle.sx_mean.specs.View.{state_of};
 
 use crate::events::Act;
@@ -50,7 +51,7 @@ fn set_local(locals: &mut [Local], at: usize, x: &Name, value: u16)
 }
 
 fn assign(decls: &[Decl], moment: &mut Moment, x: &Name, value: u16)
-    requires { IsSized decls.now }
+    requires { AreSizedDecls decls.now }
     ensures { state_of moment.new ≡ assign decls.now x.now value (state_of moment.old) }
 {
     let at = local_place(&moment.locals, x);
@@ -62,8 +63,9 @@ fn assign(decls: &[Decl], moment: &mut Moment, x: &Name, value: u16)
 }
 
 fn assign_element(decls: &[Decl], moment: &mut Moment, x: &Name, index: u16, value: u16)
-    requires { IsSized decls.now }
-    ensures { state_of moment.new ≡ assign_element decls.now x.now index value (state_of moment.old) }
+    requires { AreSizedDecls decls.now }
+    ensures { state_of moment.new ≡ assign_element decls.now x.now index value
+        (state_of moment.old) }
 {
     if index < array_length(decls, x) {
         set_cell(
@@ -83,8 +85,9 @@ fn perform(moment: &mut Moment, done: Act) -> Result<(), AllocError>
 
 #[cycle(run)]
 fn run_statement(decls: &[Decl], s: &Stmt, moment: &mut Moment) -> Result<(), AllocError>
-    requires { IsSized decls.now }
-    ensures { OnOk result (state_of moment.new ≡ after_statement decls.now (statement_of s.now) (state_of moment.old)) }
+    requires { AreSizedDecls decls.now }
+    ensures { OnOk result (state_of moment.new ≡ after_statement decls.now (statement_of s.now)
+        (state_of moment.old)) }
 {
     match s {
         Stmt::Let(x, e) => {
@@ -131,9 +134,10 @@ fn run_turns(
     body: &Vec<Stmt>,
     moment: &mut Moment,
 ) -> Result<(), AllocError>
-    requires { IsSized decls.now }
+    requires { AreSizedDecls decls.now }
     ensures { OnOk result (state_of moment.new
-        ≡ times turns (λ st. in_block decls.now (block_of body.now.items) st) (state_of moment.old)) }
+        ≡ times turns (λ st. in_block decls.now (block_of body.now.items) st)
+        (state_of moment.old)) }
 {
     for _turn in 0..turns {
         run_block(decls, body, moment)?;
@@ -144,8 +148,9 @@ fn run_turns(
 /// Runs a block, and drops its locals. The error says that memory ran out.
 #[cycle(run)]
 pub fn run_block(decls: &[Decl], block: &Vec<Stmt>, moment: &mut Moment) -> Result<(), AllocError>
-    requires { IsSized decls.now }
-    ensures { OnOk result (state_of moment.new ≡ in_block decls.now (block_of block.now.items) (state_of moment.old)) }
+    requires { AreSizedDecls decls.now }
+    ensures { OnOk result (state_of moment.new ≡ in_block decls.now (block_of block.now.items)
+        (state_of moment.old)) }
 {
     let outer = moment.locals.len();
     for s in block {

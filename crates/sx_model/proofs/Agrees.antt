@@ -15,7 +15,7 @@ use Rattle.sx_trace.specs.declared.items.Item.{Item}
 use Rattle.sx_trace.specs.declared.items.Item.TheVariants.{Reset, Protect, Sense, Read, Drain, Ask, Attested, Denied, Vouch, Open, Take, Out, Raw, Done, Packet, Forged, Busy, Skip, Budget}
 use Rattle.sx_model.specs.State.{EndView, Model, Pending, Present, Reading, Standing}
 use Rattle.sx_model.specs.Renewal.{boot_of, may_attest, may_open, opens, renewed, takes}
-use Rattle.sx_model.specs.Step.{◌>>?◌, changed, first_present, given, idle, is_fresh_with, is_nothing, is_sensor, is_vouched, is_word, kind_is, reacts, reset_at, step, undriven, waits, with_device, with_pending, with_present, with_standing, without_first}
+use Rattle.sx_model.specs.Step.{◌>>?◌, changed_views, first_present, state_if, idle, is_fresh_with, is_nothing, is_sensor, is_vouched, is_word, kind_is, reacts, reset_at, step, is_undriven, waits, with_device, with_pending, with_present, with_standing, without_first}
 use Rattle.sx_model.specs.Changes.{accepts_with, answers, at_index, finishes, if_so, is_accepted, is_end, is_finished, is_readable, is_refused, on_end, on_module, on_present, opens_ask, opens_end, opens_standing, protects, reacted, reads_from, refuses, resets, steps, takes_at, takes_fresh, takes_idle, vouches, with_stale, word_at, writes, writes_present}
 
 if_none : {A : Type 0} → (b : Bool) → if_so {A = A} b None ≡ None
@@ -53,15 +53,15 @@ reset_same app s n =
     ]
 
 drain_same : (s : Model) (d : ℕ) (free : Bool) (o : Option Reading) →
-    (o >>? (λ r. given (r.fresh && free) (with_device s d (record r { fresh = false })))) ≡
+    (o >>? (λ r. state_if (r.fresh && free) (with_device s d (record r { fresh = false })))) ≡
     ((o >>? (λ r. takes_fresh free r >>? (λ y. Some (slice_set s.devices d y)))) >>? (λ rs. Some (record s { devices = rs })))
 drain_same s d free None = refl
 drain_same s d free (Some r) =
-    ap (λ b. given b (with_device s d (record r { fresh = false }))) (and_comm r.fresh free)
+    ap (λ b. state_if b (with_device s d (record r { fresh = false }))) (and_comm r.fresh free)
     ∙ sym (if_then_then (free && r.fresh) (record r { fresh = false }) (λ y. Some (slice_set s.devices d y)) (λ rs. Some (record s { devices = rs })))
 
 protect_one : (s : Model) (m : ℕ) (p : Present) (a : Bool) (o : Option Standing) →
-    (o >>? (λ x. given (a && is_none x.present) (with_present s m x p))) ≡
+    (o >>? (λ x. state_if (a && is_none x.present) (with_present s m x p))) ≡
     if_so a ((o >>? (λ x. if_so (is_none x.present) (Some (record x { present = Some p })) >>? (λ y. Some (slice_set s.modules m y)))) >>? (λ xs. Some (record s { modules = xs })))
 protect_one s m p a None = sym (if_none a)
 protect_one s m p a (Some x) =
@@ -69,26 +69,26 @@ protect_one s m p a (Some x) =
     ∙ ap (λ o. if_so a o) (sym (if_then_then (is_none x.present) (record x { present = Some p }) (λ y. Some (slice_set s.modules m y)) (λ xs. Some (record s { modules = xs }))))
 
 protect_same : (app : AppTree) (s : Model) (n m : ℕ) (o : Option PartTree) →
-    (o >>? (λ q. slice_get s.modules m >>? (λ x. given ((q.node == n) && is_none x.present) (with_present s m x (first_present q.tree (ends_of app m)))))) ≡
+    (o >>? (λ q. slice_get s.modules m >>? (λ x. state_if ((q.node == n) && is_none x.present) (with_present s m x (first_present q.tree (ends_of app m)))))) ≡
     (o >>? (λ q. if_so (q.node == n) (on_module s m (protects q.tree (ends_of app m)))))
 protect_same app s n m None = refl
 protect_same app s n m (Some q) = protect_one s m (first_present q.tree (ends_of app m)) (q.node == n) (slice_get s.modules m)
 
 ask_same : (s : Model) (m a : ℕ) (o : Option Standing) →
-    (o >>? (λ x. given (a == s.asks) (record (with_standing s m (record x { asked = Some a })) { asks = s.asks + 1 }))) ≡
+    (o >>? (λ x. state_if (a == s.asks) (record (with_standing s m (record x { asked = Some a })) { asks = s.asks + 1 }))) ≡
     if_so (a == s.asks) (((o >>? (λ x. opens_ask a x >>? (λ y. Some (slice_set s.modules m y)))) >>? (λ xs. Some (record s { modules = xs }))) >>? (λ t. Some (record t { asks = t.asks + 1 })))
 ask_same s m a None = sym (if_none (a == s.asks))
 ask_same s m a (Some x) = refl
 
 attest_one : (s : Model) (m b : ℕ) (x : Standing) (epochs : List ℕ) (may : Bool) (o : Option ℕ) →
-    (o >>? (λ a. given (is_vouched a b x.vouched && may) (record (with_standing s m (record x { asked = None; attested = Some (record { boot = b; floors = epochs }) })) { epochs = epochs }))) ≡
+    (o >>? (λ a. state_if (is_vouched a b x.vouched && may) (record (with_standing s m (record x { asked = None; attested = Some (record { boot = b; floors = epochs }) })) { epochs = epochs }))) ≡
     if_so (answers o b x.vouched && may) (Some (record (with_standing s m (record x { asked = None; attested = Some (record { boot = b; floors = epochs }) })) { epochs = epochs }))
 attest_one s m b x epochs may None = refl
 attest_one s m b x epochs may (Some a) = refl
 
 attest_same : (app : AppTree) (s : Model) (m b : ℕ) (o : Option Standing) → slice_get s.modules m ≡ o →
     (o >>? (λ x. x.asked >>? (λ a.
-    given (is_vouched a b x.vouched && may_attest m app.links s.epochs (boot_of x.attested) b)
+    state_if (is_vouched a b x.vouched && may_attest m app.links s.epochs (boot_of x.attested) b)
     (record (with_standing s m (record x { asked = None; attested = Some (record { boot = b; floors = renewed m app.links (boot_of x.attested) s.epochs }) })) { epochs = renewed m app.links (boot_of x.attested) s.epochs })))) ≡
     ((o >>? (λ x. if_so (is_accepted m app.links s.epochs b x) (Some (renewed m app.links (boot_of x.attested) s.epochs)))) >>? (λ epochs. accepts_with s m b epochs))
 attest_same app s m b None e = refl
@@ -166,8 +166,8 @@ no_view change None = refl
 no_view change (Some i) = refl
 
 change_one : (change : EndView → Option EndView) (c : ℕ) (side : Side) (es : List End) (view : EndView) (views : List EndView) (b : Bool) →
-    changed change c side es views ≡ on_end change c side es views →
-    (if b then change view >>? (λ v. Some (v ∷ views)) else changed change c side es views >>? (λ vs. Some (view ∷ vs))) ≡
+    changed_views change c side es views ≡ on_end change c side es views →
+    (if b then change view >>? (λ v. Some (v ∷ views)) else changed_views change c side es views >>? (λ vs. Some (view ∷ vs))) ≡
     ((if b then Some 0 else position_from (is_end c side) (0 + 1) es) >>? (λ i. at_index (view ∷ views) i change))
 change_one change c side es view views true e = refl
 change_one change c side es view views false e =
@@ -176,7 +176,7 @@ change_one change c side es view views false e =
     ∙ ap (λ o. o >>? (λ i. at_index (view ∷ views) i change)) (sym (places_on (is_end c side) 0 es))
 
 changed_is : (change : EndView → Option EndView) (c : ℕ) (side : Side) (es : List End) (views : List EndView) →
-    changed change c side es views ≡ on_end change c side es views
+    changed_views change c side es views ≡ on_end change c side es views
 changed_is change c side [] views = refl
 changed_is change c side (e ∷ es) [] = no_view change (position_from (is_end c side) 0 (e ∷ es))
 changed_is change c side (e ∷ es) (view ∷ views) = change_one change c side es view views (is_end c side e) (changed_is change c side es views)
@@ -184,7 +184,7 @@ changed_is change c side (e ∷ es) (view ∷ views) = change_one change c side 
 -- an end opens
 
 open_ends : (s : Model) (m : ℕ) (x : Standing) (p : Present) (may : Bool) (o : Option (List EndView)) →
-    (o >>? (λ views. given may (with_present s m x (record p { ends = views; pending = Some (record { emits = []; pieces = 0 }) })))) ≡
+    (o >>? (λ views. state_if may (with_present s m x (record p { ends = views; pending = Some (record { emits = []; pieces = 0 }) })))) ≡
     (((if_so may (o >>? (λ views. Some (record p { ends = views; pending = Some (record { emits = []; pieces = 0 }) }))) >>? (λ q. Some (record x { present = Some q })))
     >>? (λ y. Some (slice_set s.modules m y))) >>? (λ xs. Some (record s { modules = xs })))
 open_ends s m x p true None = refl
@@ -193,8 +193,8 @@ open_ends s m x p false None = refl
 open_ends s m x p false (Some views) = refl
 
 open_idle : (s : Model) (m c : ℕ) (side : Side) (epoch : ℕ) (es : List End) (x : Standing) (p : Present) (now : ℕ) (i : Bool) (ob : Option ℕ) →
-    ((if i then Some p else None) >>? (λ p. ob >>? (λ boot. changed (opens epoch) c side es p.ends >>? (λ views.
-    given (may_open x.attested boot c epoch now) (with_present s m x (record p { ends = views; pending = Some (record { emits = []; pieces = 0 }) })))))) ≡
+    ((if i then Some p else None) >>? (λ p. ob >>? (λ boot. changed_views (opens epoch) c side es p.ends >>? (λ views.
+    state_if (may_open x.attested boot c epoch now) (with_present s m x (record p { ends = views; pending = Some (record { emits = []; pieces = 0 }) })))))) ≡
     (ob >>? (λ boot. ((if_so (i && may_open x.attested boot c epoch now) (on_end (opens epoch) c side es p.ends >>? (λ views. Some (record p { ends = views; pending = Some (record { emits = []; pieces = 0 }) })))
     >>? (λ q. Some (record x { present = Some q }))) >>? (λ y. Some (slice_set s.modules m y))) >>? (λ xs. Some (record s { modules = xs }))))
 open_idle s m c side epoch es x p now false None = refl
@@ -202,12 +202,12 @@ open_idle s m c side epoch es x p now false (Some boot) = refl
 open_idle s m c side epoch es x p now true None = refl
 open_idle s m c side epoch es x p now true (Some boot) =
     let may = may_open x.attested boot c epoch now in
-    ap (λ o. o >>? (λ views. given may (with_present s m x (record p { ends = views; pending = Some (record { emits = []; pieces = 0 }) })))) (changed_is (opens epoch) c side es p.ends)
+    ap (λ o. o >>? (λ views. state_if may (with_present s m x (record p { ends = views; pending = Some (record { emits = []; pieces = 0 }) })))) (changed_is (opens epoch) c side es p.ends)
     ∙ open_ends s m x p may (on_end (opens epoch) c side es p.ends)
 
 open_present : (s : Model) (m c : ℕ) (side : Side) (epoch : ℕ) (es : List End) (x : Standing) (now : ℕ) (ob : Option ℕ) (op : Option Present) →
-    ((op >>? (λ p. if is_none p.pending then Some p else None)) >>? (λ p. ob >>? (λ boot. changed (opens epoch) c side es p.ends >>? (λ views.
-    given (may_open x.attested boot c epoch now) (with_present s m x (record p { ends = views; pending = Some (record { emits = []; pieces = 0 }) })))))) ≡
+    ((op >>? (λ p. if is_none p.pending then Some p else None)) >>? (λ p. ob >>? (λ boot. changed_views (opens epoch) c side es p.ends >>? (λ views.
+    state_if (may_open x.attested boot c epoch now) (with_present s m x (record p { ends = views; pending = Some (record { emits = []; pieces = 0 }) })))))) ≡
     (ob >>? (λ boot. ((op >>? (λ p. opens_end (may_open x.attested boot c epoch now) epoch c side es p >>? (λ q. Some (record x { present = Some q })))) >>? (λ y. Some (slice_set s.modules m y)))
     >>? (λ xs. Some (record s { modules = xs }))))
 open_present s m c side epoch es x now None None = refl
@@ -215,8 +215,8 @@ open_present s m c side epoch es x now (Some boot) None = refl
 open_present s m c side epoch es x now ob (Some p) = open_idle s m c side epoch es x p now (is_none p.pending) ob
 
 open_standing : (s : Model) (m c : ℕ) (side : Side) (epoch : ℕ) (es : List End) (now : ℕ) (ob : Option ℕ) (ox : Option Standing) →
-    (ox >>? (λ x. idle x >>? (λ p. ob >>? (λ boot. changed (opens epoch) c side es p.ends >>? (λ views.
-    given (may_open x.attested boot c epoch now) (with_present s m x (record p { ends = views; pending = Some (record { emits = []; pieces = 0 }) }))))))) ≡
+    (ox >>? (λ x. idle x >>? (λ p. ob >>? (λ boot. changed_views (opens epoch) c side es p.ends >>? (λ views.
+    state_if (may_open x.attested boot c epoch now) (with_present s m x (record p { ends = views; pending = Some (record { emits = []; pieces = 0 }) }))))))) ≡
     (ob >>? (λ boot. (ox >>? (λ x. opens_standing boot now c side epoch es x >>? (λ y. Some (slice_set s.modules m y)))) >>? (λ xs. Some (record s { modules = xs }))))
 open_standing s m c side epoch es now None None = refl
 open_standing s m c side epoch es now (Some boot) None = refl
@@ -224,8 +224,8 @@ open_standing s m c side epoch es now ob (Some x) = open_present s m c side epoc
 
 open_same : (app : AppTree) (s : Model) (m c : ℕ) (side : Side) (epoch : ℕ) (o : Option PartTree) →
     (o >>? (λ q. slice_get s.modules m >>? (λ x. idle x >>? (λ p. slice_get s.boots q.node >>? (λ boot.
-    changed (opens epoch) c side (ends_of app m) p.ends >>? (λ views.
-    given (may_open x.attested boot c epoch (slice_index s.epochs c))
+    changed_views (opens epoch) c side (ends_of app m) p.ends >>? (λ views.
+    state_if (may_open x.attested boot c epoch (slice_index s.epochs c))
     (with_present s m x (record p { ends = views; pending = Some (record { emits = []; pieces = 0 }) })))))))) ≡
     (o >>? (λ q. slice_get s.boots q.node >>? (λ boot. on_module s m (opens_standing boot (slice_index s.epochs c) c side epoch (ends_of app m)))))
 open_same app s m c side epoch None = refl
@@ -259,18 +259,18 @@ write_same s m v (Some x) = write_present s m v x x.present
 -- an invocation that is done, or refused
 
 finish_pending : (s : Model) (m k : ℕ) (x : Standing) (p : Present) (o : Option Pending) →
-    (o >>? (λ owed. given (is_nothing owed.emits && (k == owed.pieces)) (with_present s m x (with_pending p None)))) ≡
+    (o >>? (λ owed. state_if (is_nothing owed.emits && (k == owed.pieces)) (with_present s m x (with_pending p None)))) ≡
     ((((o >>? (λ owed. if_so (is_finished k owed) (Some (with_pending p None)))) >>? (λ q. Some (record x { present = Some q }))) >>? (λ y. Some (slice_set s.modules m y))) >>? (λ xs. Some (record s { modules = xs })))
 finish_pending s m k x p None = refl
 finish_pending s m k x p (Some owed) = finish_if (is_finished k owed) where
-  finish_if : (b : Bool) → given b (with_present s m x (with_pending p None)) ≡
+  finish_if : (b : Bool) → state_if b (with_present s m x (with_pending p None)) ≡
       (((if_so b (Some (with_pending p None)) >>? (λ q. Some (record x { present = Some q }))) >>? (λ y. Some (slice_set s.modules m y))) >>? (λ xs. Some (record s { modules = xs })))
   finish_if true = refl
   finish_if false = refl
 
 done_present : (app : AppTree) (s : Model) (m status k : ℕ) (waiting b : Bool) (x : Standing) (o : Option Present) →
-    (o >>? (λ p. if b then p.pending >>? (λ owed. given (is_nothing owed.emits && (k == owed.pieces)) (with_present s m x (with_pending p None)))
-    else given ((nat_le 2 status && nat_le status 8) && ((k == 0) && (is_none p.pending && (not (status == 8) || waiting)))) s)) ≡
+    (o >>? (λ p. if b then p.pending >>? (λ owed. state_if (is_nothing owed.emits && (k == owed.pieces)) (with_present s m x (with_pending p None)))
+    else state_if ((nat_le 2 status && nat_le status 8) && ((k == 0) && (is_none p.pending && (not (status == 8) || waiting)))) s)) ≡
     (if b then ((o >>? (λ p. finishes k p >>? (λ q. Some (record x { present = Some q })))) >>? (λ y. Some (slice_set s.modules m y))) >>? (λ xs. Some (record s { modules = xs }))
     else if_so (refuses status k waiting o) (Some s))
 done_present app s m status k waiting true x None = refl
@@ -279,8 +279,8 @@ done_present app s m status k waiting true x (Some p) = finish_pending s m k x p
 done_present app s m status k waiting false x (Some p) = refl
 
 done_standing : (app : AppTree) (s : Model) (m status k : ℕ) (waiting b : Bool) (ox : Option Standing) →
-    (ox >>? (λ x. x.present >>? (λ p. if b then p.pending >>? (λ owed. given (is_nothing owed.emits && (k == owed.pieces)) (with_present s m x (with_pending p None)))
-    else given ((nat_le 2 status && nat_le status 8) && ((k == 0) && (is_none p.pending && (not (status == 8) || waiting)))) s))) ≡
+    (ox >>? (λ x. x.present >>? (λ p. if b then p.pending >>? (λ owed. state_if (is_nothing owed.emits && (k == owed.pieces)) (with_present s m x (with_pending p None)))
+    else state_if ((nat_le 2 status && nat_le status 8) && ((k == 0) && (is_none p.pending && (not (status == 8) || waiting)))) s))) ≡
     (if b then (ox >>? (λ x. on_present (finishes k) x >>? (λ y. Some (slice_set s.modules m y)))) >>? (λ xs. Some (record s { modules = xs }))
     else if_so (is_refused status k waiting ox) (Some s))
 done_standing app s m status k waiting true None = refl
@@ -289,8 +289,8 @@ done_standing app s m status k waiting b (Some x) = done_present app s m status 
 
 done_same : (app : AppTree) (s : Model) (m status k : ℕ) (o : Option PartTree) →
     (o >>? (λ q. slice_get s.modules m >>? (λ x. x.present >>? (λ p.
-    if status == 1 then p.pending >>? (λ owed. given (is_nothing owed.emits && (k == owed.pieces)) (with_present s m x (with_pending p None)))
-    else given ((nat_le 2 status && nat_le status 8) && ((k == 0) && (is_none p.pending && (not (status == 8) || waits app s.devices q.device)))) s)))) ≡
+    if status == 1 then p.pending >>? (λ owed. state_if (is_nothing owed.emits && (k == owed.pieces)) (with_present s m x (with_pending p None)))
+    else state_if ((nat_le 2 status && nat_le status 8) && ((k == 0) && (is_none p.pending && (not (status == 8) || waits app s.devices q.device)))) s)))) ≡
     (o >>? (λ q. if status == 1 then on_module s m (on_present (finishes k)) else if_so (is_refused status k (waits app s.devices q.device) (slice_get s.modules m)) (Some s)))
 done_same app s m status k None = refl
 done_same app s m status k (Some q) = done_standing app s m status k (waits app s.devices q.device) (status == 1) (slice_get s.modules m)
@@ -303,25 +303,25 @@ unfolding reacted
 reacted_is app s m q x p e is = rw is refl
 
 take_views : (b : Bool) (p : Present) (before : List EndView → Model) (after : Present → Model) (o : Option (List EndView)) → ((views : List EndView) → before views ≡ after (record p { ends = views })) →
-    (o >>? (λ views. given b (before views))) ≡ if_so b ((o >>? (λ views. Some (record p { ends = views }))) >>? (λ next. Some (after next)))
+    (o >>? (λ views. state_if b (before views))) ≡ if_so b ((o >>? (λ views. Some (record p { ends = views }))) >>? (λ next. Some (after next)))
 take_views b p before after None same = sym (if_none b)
-take_views b p before after (Some views) same = ap (λ t. given b t) (same views)
+take_views b p before after (Some views) same = ap (λ t. state_if b t) (same views)
 
 take_words : (app : AppTree) (s : Model) (m c i v input : ℕ) (q : PartTree) (x : Standing) (p : Present) (o : Option (List ℕ)) → slice_get s.modules m ≡ Some x →
-    (o >>? (λ words. changed (takes (i / 65536) (i % 65536)) c To (ends_of app m) p.ends >>? (λ views.
-    given (is_word v (slice_get words (i % 65536))) (reacts app s m q x (record p { ends = views }) (event.Input input v))))) ≡
+    (o >>? (λ words. changed_views (takes (i / 65536) (i % 65536)) c To (ends_of app m) p.ends >>? (λ views.
+    state_if (is_word v (slice_get words (i % 65536))) (reacts app s m q x (record p { ends = views }) (event.Input input v))))) ≡
     if_so (is_word v (o >>? (λ words. slice_get words (i % 65536)))) (takes_idle app s m q c i input v p)
 take_words app s m c i v input q x p None is = refl
 take_words app s m c i v input q x p (Some words) is =
     let b = is_word v (slice_get words (i % 65536)) in
-    ap (λ o. o >>? (λ views. given b (reacts app s m q x (record p { ends = views }) (event.Input input v)))) (changed_is (takes (i / 65536) (i % 65536)) c To (ends_of app m) p.ends)
+    ap (λ o. o >>? (λ views. state_if b (reacts app s m q x (record p { ends = views }) (event.Input input v)))) (changed_is (takes (i / 65536) (i % 65536)) c To (ends_of app m) p.ends)
     ∙ take_views b p (λ views. reacts app s m q x (record p { ends = views }) (event.Input input v)) (λ next. reacted q.tree (ends_of app m) (event.Input input v) s m next)
     (on_end (takes (i / 65536) (i % 65536)) c To (ends_of app m) p.ends)
     (λ views. sym (reacted_is app s m q x (record p { ends = views }) (event.Input input v) is))
 
 take_idle : (app : AppTree) (s : Model) (m c i v : ℕ) (q : PartTree) (x : Standing) (ol : Option Link) (op : Option Present) → slice_get s.modules m ≡ Some x →
-    (op >>? (λ p. ol >>? (λ l. slice_get s.sent (c + 256 * (i / 65536)) >>? (λ words. changed (takes (i / 65536) (i % 65536)) c To (ends_of app m) p.ends >>? (λ views.
-    given (is_word v (slice_get words (i % 65536))) (reacts app s m q x (record p { ends = views }) (event.Input l.input v))))))) ≡
+    (op >>? (λ p. ol >>? (λ l. slice_get s.sent (c + 256 * (i / 65536)) >>? (λ words. changed_views (takes (i / 65536) (i % 65536)) c To (ends_of app m) p.ends >>? (λ views.
+    state_if (is_word v (slice_get words (i % 65536))) (reacts app s m q x (record p { ends = views }) (event.Input l.input v))))))) ≡
     (ol >>? (λ l. if_so (is_word v (word_at s.sent c i)) (op >>? (λ p. takes_idle app s m q c i l.input v p))))
 take_idle app s m c i v q x None None is = refl
 take_idle app s m c i v q x (Some l) None is = sym (if_none (is_word v (word_at s.sent c i)))
@@ -329,8 +329,8 @@ take_idle app s m c i v q x None (Some p) is = refl
 take_idle app s m c i v q x (Some l) (Some p) is = take_words app s m c i v l.input q x p (slice_get s.sent (c + 256 * (i / 65536))) is
 
 take_standing : (app : AppTree) (s : Model) (m c i v : ℕ) (q : PartTree) (ol : Option Link) (ox : Option Standing) → slice_get s.modules m ≡ ox →
-    (ox >>? (λ x. idle x >>? (λ p. ol >>? (λ l. slice_get s.sent (c + 256 * (i / 65536)) >>? (λ words. changed (takes (i / 65536) (i % 65536)) c To (ends_of app m) p.ends >>? (λ views.
-    given (is_word v (slice_get words (i % 65536))) (reacts app s m q x (record p { ends = views }) (event.Input l.input v)))))))) ≡
+    (ox >>? (λ x. idle x >>? (λ p. ol >>? (λ l. slice_get s.sent (c + 256 * (i / 65536)) >>? (λ words. changed_views (takes (i / 65536) (i % 65536)) c To (ends_of app m) p.ends >>? (λ views.
+    state_if (is_word v (slice_get words (i % 65536))) (reacts app s m q x (record p { ends = views }) (event.Input l.input v)))))))) ≡
     (ol >>? (λ l. if_so (is_word v (word_at s.sent c i)) ((ox >>? idle) >>? (λ p. takes_idle app s m q c i l.input v p))))
 take_standing app s m c i v q None None is = refl
 take_standing app s m c i v q (Some l) None is = sym (if_none (is_word v (word_at s.sent c i)))
@@ -338,24 +338,24 @@ take_standing app s m c i v q ol (Some x) is = take_idle app s m c i v q x ol (i
 
 take_same : (app : AppTree) (s : Model) (m c i v : ℕ) (o : Option PartTree) →
     (o >>? (λ q. slice_get s.modules m >>? (λ x. idle x >>? (λ p. slice_get app.links c >>? (λ l. slice_get s.sent (c + 256 * (i / 65536)) >>? (λ words.
-    changed (takes (i / 65536) (i % 65536)) c To (ends_of app m) p.ends >>? (λ views.
-    given (is_word v (slice_get words (i % 65536)))
+    changed_views (takes (i / 65536) (i % 65536)) c To (ends_of app m) p.ends >>? (λ views.
+    state_if (is_word v (slice_get words (i % 65536)))
     (reacts app s m q x (record p { ends = views }) (event.Input l.input v))))))))) ≡
     (o >>? (λ q. slice_get app.links c >>? (λ l. if_so (is_word v (word_at s.sent c i)) (takes_at app s m q c i l.input v))))
 take_same app s m c i v None = refl
 take_same app s m c i v (Some q) = take_standing app s m c i v q (slice_get app.links c) (slice_get s.modules m) refl
 
 read_device : (app : AppTree) (s : Model) (m d v : ℕ) (q : PartTree) (x : Standing) (p : Present) (o : Option Reading) → slice_get s.modules m ≡ Some x → slice_get s.devices d ≡ o →
-    (o >>? (λ r. given (kind_is is_sensor (slice_get app.devices d) && is_fresh_with v r) (reacts app (with_device s d (record r { fresh = false })) m q x p (event.Sample v)))) ≡
+    (o >>? (λ r. state_if (kind_is is_sensor (slice_get app.devices d) && is_fresh_with v r) (reacts app (with_device s d (record r { fresh = false })) m q x p (event.Sample v)))) ≡
     if_so (is_readable app d v o) (Some (with_stale d (reacted q.tree (ends_of app m) (event.Sample v) s m p)))
 read_device app s m d v q x p None is there = refl
 read_device app s m d v q x p (Some r) is there =
     let old : with_stale d (reacts app s m q x p (event.Sample v)) ≡ reacts app (with_device s d (record r { fresh = false })) m q x p (event.Sample v) = rw there refl in
-    ap (λ t. given (kind_is is_sensor (slice_get app.devices d) && is_fresh_with v r) t) (sym old ∙ ap (λ t. with_stale d t) (sym (reacted_is app s m q x p (event.Sample v) is)))
+    ap (λ t. state_if (kind_is is_sensor (slice_get app.devices d) && is_fresh_with v r) t) (sym old ∙ ap (λ t. with_stale d t) (sym (reacted_is app s m q x p (event.Sample v) is)))
 
 read_idle : (app : AppTree) (s : Model) (m v : ℕ) (q : PartTree) (x : Standing) (od : Option ℕ) (op : Option Present) → slice_get s.modules m ≡ Some x →
     (op >>? (λ p. od >>? (λ d. slice_get s.devices d >>? (λ r.
-    given (kind_is is_sensor (slice_get app.devices d) && is_fresh_with v r) (reacts app (with_device s d (record r { fresh = false })) m q x p (event.Sample v)))))) ≡
+    state_if (kind_is is_sensor (slice_get app.devices d) && is_fresh_with v r) (reacts app (with_device s d (record r { fresh = false })) m q x p (event.Sample v)))))) ≡
     (od >>? (λ d. if_so (is_readable app d v (slice_get s.devices d)) (op >>? (λ p. Some (with_stale d (reacted q.tree (ends_of app m) (event.Sample v) s m p))))))
 read_idle app s m v q x None None is = refl
 read_idle app s m v q x (Some d) None is = sym (if_none (is_readable app d v (slice_get s.devices d)))
@@ -364,7 +364,7 @@ read_idle app s m v q x (Some d) (Some p) is = read_device app s m d v q x p (sl
 
 read_standing : (app : AppTree) (s : Model) (m v : ℕ) (q : PartTree) (od : Option ℕ) (ox : Option Standing) → slice_get s.modules m ≡ ox →
     (ox >>? (λ x. idle x >>? (λ p. od >>? (λ d. slice_get s.devices d >>? (λ r.
-    given (kind_is is_sensor (slice_get app.devices d) && is_fresh_with v r) (reacts app (with_device s d (record r { fresh = false })) m q x p (event.Sample v))))))) ≡
+    state_if (kind_is is_sensor (slice_get app.devices d) && is_fresh_with v r) (reacts app (with_device s d (record r { fresh = false })) m q x p (event.Sample v))))))) ≡
     (od >>? (λ d. if_so (is_readable app d v (slice_get s.devices d)) ((ox >>? idle) >>? (λ p. Some (with_stale d (reacted q.tree (ends_of app m) (event.Sample v) s m p))))))
 read_standing app s m v q None None is = refl
 read_standing app s m v q (Some d) None is = sym (if_none (is_readable app d v (slice_get s.devices d)))
@@ -372,7 +372,7 @@ read_standing app s m v q od (Some x) is = read_idle app s m v q x od (idle x) i
 
 read_same : (app : AppTree) (s : Model) (m v : ℕ) (o : Option PartTree) →
     (o >>? (λ q. slice_get s.modules m >>? (λ x. idle x >>? (λ p. q.device >>? (λ d. slice_get s.devices d >>? (λ r.
-    given (kind_is is_sensor (slice_get app.devices d) && is_fresh_with v r)
+    state_if (kind_is is_sensor (slice_get app.devices d) && is_fresh_with v r)
     (reacts app (with_device s d (record r { fresh = false })) m q x p (event.Sample v)))))))) ≡
     (o >>? (λ q. q.device >>? (λ d. reads_from app s m q d v)))
 read_same app s m v None = refl
@@ -385,7 +385,7 @@ steps_are app s (Protect n None) = refl
 steps_are app s (Protect n (Some m)) = protect_same app s n m (slice_get app.parts m)
 steps_are app s (Sense d v) = refl
 steps_are app s (Read m v) = read_same app s m v (slice_get app.parts m)
-steps_are app s (Drain d) = drain_same s d (kind_is is_sensor (slice_get app.devices d) && undriven app.parts s.modules d) (slice_get s.devices d)
+steps_are app s (Drain d) = drain_same s d (kind_is is_sensor (slice_get app.devices d) && is_undriven app.parts s.modules d) (slice_get s.devices d)
 steps_are app s (Ask m a) = ask_same s m a (slice_get s.modules m)
 steps_are app s (Attested m b) = attest_same app s m b (slice_get s.modules m) refl
 steps_are app s (Denied m) = refl

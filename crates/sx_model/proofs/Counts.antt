@@ -10,7 +10,7 @@ use Rattle.sx_mean.specs.declared.events.SourceEvent.{SourceEvent}
 use Rattle.sx_mean.specs.declared.events.SourceEvent.TheVariants as event
 use Rattle.sx_mean.specs.Ends.{ends_of}
 use Rattle.sx_model.specs.Reaction.{after_event, flow_of}
-use Rattle.sx_model.specs.Step.{◌>>?◌, absent_at, given, idle, is_sensor, is_word, kind_is, stale_at, undriven, waits, with_device}
+use Rattle.sx_model.specs.Step.{◌>>?◌, absent_at, state_if, idle, is_sensor, is_word, kind_is, stale_at, is_undriven, waits, with_device}
 use Rattle.sx_model.specs.Changes.{accepts, at_index, finishes, if_so, is_readable, is_refused, on_device, on_module, on_present, opens_ask, opens_standing, protects, puts, raised_at, reacted, reads_from, renewal, staled, steps, takes_at, takes_fresh, takes_present, vouches, with_module, with_stale, word_at, writes_present}
 use Rattle.sx_trace.specs.declared.items.Item.{Item}
 use Rattle.sx_trace.specs.declared.items.Item.TheVariants.{Reset, Protect, Sense, Read, Drain, Ask, Attested, Denied, Vouch, Open, Take, Out, Raw, Done, Packet, Forged, Busy, Skip, Budget}
@@ -18,7 +18,7 @@ use Rattle.sx_model.specs.State.{Model, Present, Reading, Standing, FIELDS, powe
 use Rattle.sx_mean.specs.declared.apps.Part.{Part}
 use Rattle.sx_mean.specs.declared.apps.App.{App}
 use Rattle.sx_mean.specs.View.{app_as, part_as}
-use Rattle.sx_model.specs.Counted.{AreCounted}
+use Rattle.sx_model.specs.Counted.{CountsWithin}
 
 -- the boots and the number of asks stay
 record Kept (s t : Model) : Type 0 where
@@ -54,7 +54,7 @@ reacted_keeps tree es e s m p =
     record { boots = put.boots; asks = put.asks }
 
 -- with these counts one more item is counted
-grown : (s t : Model) (n : ℕ) → Kept s t → AreCounted s n → AreCounted t (n + 1)
+grown : (s t : Model) (n : ℕ) → Kept s t → CountsWithin s n → CountsWithin t (n + 1)
 grown s t n k h =
     let boots : All (λ b. b ≤ n + 1) s.boots = All-weaker (λ b. b ≤ n) (λ b. b ≤ n + 1) (λ b le. omega arith) s.boots h.boots in
     let was : s.asks ≤ n = h.asks in
@@ -70,8 +70,8 @@ index_le ns i n h =
           omega arith
     ]
 
-reset_counted : (app : AppTree) (s : Model) (n boot : ℕ) (b : Bool) → AreCounted s n →
-    AreCounted (unwrap_or (if_so b (Some (record s { boots = raised_at s.boots boot; devices = stale_at boot app.devices s.devices; modules = absent_at boot app.parts s.modules }))) s) (n + 1)
+reset_counted : (app : AppTree) (s : Model) (n boot : ℕ) (b : Bool) → CountsWithin s n →
+    CountsWithin (unwrap_or (if_so b (Some (record s { boots = raised_at s.boots boot; devices = stale_at boot app.devices s.devices; modules = absent_at boot app.parts s.modules }))) s) (n + 1)
 reset_counted app s n boot false h = grown s s n (same s) h
 reset_counted app s n boot true h =
     let more : All (λ b. b ≤ n + 1) s.boots = All-weaker (λ b. b ≤ n) (λ b. b ≤ n + 1) (λ b le. omega arith) s.boots h.boots in
@@ -82,16 +82,16 @@ reset_counted app s n boot true h =
       asks = omega arith;
     }
 
-asked_counted : (s : Model) (n : ℕ) (o : Option (List Standing)) → AreCounted s n →
-    AreCounted (unwrap_or ((o >>? (λ xs. Some (record s { modules = xs }))) >>? (λ t. Some (record t { asks = t.asks + 1 }))) s) (n + 1)
+asked_counted : (s : Model) (n : ℕ) (o : Option (List Standing)) → CountsWithin s n →
+    CountsWithin (unwrap_or ((o >>? (λ xs. Some (record s { modules = xs }))) >>? (λ t. Some (record t { asks = t.asks + 1 }))) s) (n + 1)
 asked_counted s n None h = grown s s n (same s) h
 asked_counted s n (Some xs) h =
     let more : All (λ b. b ≤ n + 1) s.boots = All-weaker (λ b. b ≤ n) (λ b. b ≤ n + 1) (λ b le. omega arith) s.boots h.boots in
     let was : s.asks ≤ n = h.asks in
     record { boots = more; asks = omega arith }
 
-ask_counted : (s : Model) (n m a : ℕ) (b : Bool) → AreCounted s n →
-    AreCounted (unwrap_or (if_so b (on_module s m (opens_ask a) >>? (λ t. Some (record t { asks = t.asks + 1 })))) s) (n + 1)
+ask_counted : (s : Model) (n m a : ℕ) (b : Bool) → CountsWithin s n →
+    CountsWithin (unwrap_or (if_so b (on_module s m (opens_ask a) >>? (λ t. Some (record t { asks = t.asks + 1 })))) s) (n + 1)
 ask_counted s n m a false h = grown s s n (same s) h
 ask_counted s n m a true h = asked_counted s n (at_index s.modules m (opens_ask a)) h
 
@@ -116,22 +116,22 @@ done_keeps : (app : AppTree) (s : Model) (m status k : ℕ) (waiting b : Bool) �
 done_keeps app s m status k waiting true = module_keeps s m (on_present (finishes k))
 done_keeps app s m status k waiting false = if_keeps s (is_refused status k waiting (slice_get s.modules m)) (Some s) (same s)
 
-sense_keeps : (s : Model) (d v : ℕ) (b : Bool) → Kept s (unwrap_or (given b (with_device s d (record { value = v; fresh = true }))) s)
+sense_keeps : (s : Model) (d v : ℕ) (b : Bool) → Kept s (unwrap_or (state_if b (with_device s d (record { value = v; fresh = true }))) s)
 sense_keeps s d v true = record { boots = refl; asks = refl }
 sense_keeps s d v false = same s
 
-raw_keeps : (s : Model) (b : Bool) → Kept s (unwrap_or (given b s) s)
+raw_keeps : (s : Model) (b : Bool) → Kept s (unwrap_or (state_if b s) s)
 raw_keeps s true = same s
 raw_keeps s false = same s
 
-pub counted_more : (app : AppTree) (s : Model) (item : Item) (n : ℕ) → AreCounted s n → AreCounted (unwrap_or (steps app s item) s) (n + 1)
+pub counted_more : (app : AppTree) (s : Model) (item : Item) (n : ℕ) → CountsWithin s n → CountsWithin (unwrap_or (steps app s item) s) (n + 1)
 counted_more app s (Reset boot cause) n h = reset_counted app s n boot (nat_lt boot (length s.boots)) h
 counted_more app s (Protect node None) n h = grown s s n (same s) h
 counted_more app s (Protect node (Some m)) n h =
     grown s _ n (then_keeps s (slice_get app.parts m) _ (λ q. if_keeps s (q.node == node) _ (module_keeps s m (protects q.tree (ends_of app m))))) h
 counted_more app s (Sense d v) n h = grown s _ n (then_keeps s (slice_get app.devices d) _ (λ w. sense_keeps s d v (is_sensor w.kind))) h
 counted_more app s (Read m v) n h = grown s _ n (then_keeps s (slice_get app.parts m) _ (λ q. then_keeps s q.device _ (λ d. read_keeps app s m d v q))) h
-counted_more app s (Drain d) n h = grown s _ n (device_keeps s d (takes_fresh (kind_is is_sensor (slice_get app.devices d) && undriven app.parts s.modules d))) h
+counted_more app s (Drain d) n h = grown s _ n (device_keeps s d (takes_fresh (kind_is is_sensor (slice_get app.devices d) && is_undriven app.parts s.modules d))) h
 counted_more app s (Ask m a) n h = ask_counted s n m a (a == s.asks) h
 counted_more app s (Attested m b) n h =
     grown s _ n (then_keeps s (renewal app.links s m b) _ (λ epochs. attested_keeps s m b epochs (at_index s.modules m (accepts b epochs)))) h
@@ -144,7 +144,7 @@ counted_more app s (Take m c i v) n h =
     grown s _ n (then_keeps s (slice_get app.parts m) _ (λ q. then_keeps s (slice_get app.links c) _ (λ l.
     if_keeps s (is_word v (word_at s.sent c i)) _ (take_keeps app s m c i v l.input q)))) h
 counted_more app s (Out m v) n h = grown s _ n (module_keeps s m (on_present (writes_present v))) h
-counted_more app s (Raw d v) n h = grown s _ n (raw_keeps s (kind_is (λ k. not (is_sensor k)) (slice_get app.devices d) && undriven app.parts s.modules d)) h
+counted_more app s (Raw d v) n h = grown s _ n (raw_keeps s (kind_is (λ k. not (is_sensor k)) (slice_get app.devices d) && is_undriven app.parts s.modules d)) h
 counted_more app s (Done m status k) n h = grown s _ n (then_keeps s (slice_get app.parts m) _ (λ q. done_keeps app s m status k (waits app s.devices q.device) (status == 1))) h
 counted_more app s (Packet k len) n h = grown s s n (same s) h
 counted_more app s (Forged m) n h = grown s s n (same s) h
@@ -158,7 +158,7 @@ same_modules x [] = refl
 same_modules x (q ∷ parts) = ap (λ xs. x ∷ xs) (same_modules x parts)
 
 -- at power-on nothing is counted
-pub none_counted : (app : AppTree) → AreCounted (power_on app) 0
+pub none_counted : (app : AppTree) → CountsWithin (power_on app) 0
 none_counted app = record { boots = All-replicate (λ b. b ≤ 0) app.nodes 0 (omega arith); asks = omega arith }
 
 -- the state of these parts is that of power-on

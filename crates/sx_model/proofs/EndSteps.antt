@@ -13,7 +13,7 @@ use Rattle.sx_trace.specs.declared.items.Item.{Item}
 use Rattle.sx_trace.specs.declared.items.Item.TheVariants.{Open, Take}
 use Rattle.sx_model.specs.State.{EndView, Model, Present, Standing}
 use Rattle.sx_model.specs.Renewal.{boot_of, is_of, may_open, opens, renewed, takes}
-use Rattle.sx_model.specs.Step.{◌>>?◌, absent_at, changed, first_present, idle, is_vouched, same_side}
+use Rattle.sx_model.specs.Step.{◌>>?◌, absent_at, changed_views, first_present, idle, is_vouched, same_side}
 use Rattle.sx_model.proofs.EndViews.{changed_at, changed_other, first_closed, same_side-true, view_at}
 use Rattle.sx_model.proofs.HeldEnd.{Held, held_attested, held_opened, held_protected, held_raised, held_reset, held_taken, held_vouched, is_open}
 use Rattle.sx_model.proofs.Renewed.{renewed_at}
@@ -202,11 +202,11 @@ module _ (app : AppTree) (m c : ℕ) (side : Side) (q : PartTree) (l : Link) (eq
 
   -- another end is changed
   elsewhere : (change : EndView → Option EndView) (k d : ℕ) (to : Side) (z : Standing) (p w : Present) → slice_get xs k ≡ Some z → z.present ≡ Some p
-      → changed change d to (ends_of app k) p.ends ≡ Some w.ends → ((k == m) && ((d == c) && same_side to side)) ≡ false
+      → changed_views change d to (ends_of app k) p.ends ≡ Some w.ends → ((k == m) && ((d == c) && same_side to side)) ≡ false
       → Moved app m c side q.node None None low count boots (slice_set xs k (record z { present = Some w })) epochs
   elsewhere change k d to z p w ez ep ev n = alike k z (record z { present = Some w }) ez (λ s g.
       with_view z (view_of app m c side z) (view_at c side (ends_of app m) w.ends)
-      (seen z p ep ∙ sym (changed_other change c d side to (ends_of app m) p.ends w.ends (other s) (subst (λ k. changed change d to (ends_of app k) p.ends ≡ Some w.ends) s ev))) g)
+      (seen z p ep ∙ sym (changed_other change c d side to (ends_of app m) p.ends w.ends (other s) (subst (λ k. changed_views change d to (ends_of app k) p.ends ≡ Some w.ends) s ev))) g)
     where
       other : k ≡ m → ((d == c) && same_side to side) ≡ false
       other s = ap (λ b. b && ((d == c) && same_side to side)) (sym (eq-eqb k m s)) ∙ n
@@ -226,19 +226,19 @@ module _ (app : AppTree) (m c : ℕ) (side : Side) (q : PartTree) (l : Link) (eq
     pub is : view_at c side (ends_of app m) w.ends ≡ Some new
 
   here : (change : EndView → Option EndView) (k d : ℕ) (to : Side) (z : Standing) (p w : Present) → slice_get xs k ≡ Some z → z.present ≡ Some p
-      → changed change d to (ends_of app k) p.ends ≡ Some w.ends → ((k == m) && ((d == c) && same_side to side)) ≡ true → Here change k d to z p w
+      → changed_views change d to (ends_of app k) p.ends ≡ Some w.ends → ((k == m) && ((d == c) && same_side to side)) ≡ true → Here change k d to z p w
   here change k d to z p w ez ep ev t =
       let a = and_parts (k == m) ((d == c) && same_side to side) t in
       let b = and_parts (d == c) (same_side to side) a.1 in
       let s = eqb-true k m a.0 in
       let link = eqb-true d c b.0 in
-      let made = subst (λ to. changed change c to (ends_of app m) p.ends ≡ Some w.ends) (same_side-true to side b.1)
-      (subst (λ d. changed change d to (ends_of app m) p.ends ≡ Some w.ends) link (subst (λ k. changed change d to (ends_of app k) p.ends ≡ Some w.ends) s ev)) in
+      let made = subst (λ to. changed_views change c to (ends_of app m) p.ends ≡ Some w.ends) (same_side-true to side b.1)
+      (subst (λ d. changed_views change d to (ends_of app m) p.ends ≡ Some w.ends) link (subst (λ k. changed_views change d to (ends_of app k) p.ends ≡ Some w.ends) s ev)) in
       let r = changed_at change c side (ends_of app m) p.ends w.ends made in
       record { this = s; link = link; there = subst (λ k. slice_get xs k ≡ Some z) s ez; old = r.old; new = r.new; was = seen z p ep ∙ r.was; made = r.made; is = r.is }
 
   opened : (k d : ℕ) (to : Side) (epoch : ℕ) (r : PartTree) (z : Standing) (p w : Present) (boot : ℕ) → slice_get app.parts k ≡ Some r → slice_get xs k ≡ Some z → z.present ≡ Some p
-      → slice_get boots r.node ≡ Some boot → changed (opens epoch) d to (ends_of app k) p.ends ≡ Some w.ends → may_open z.attested boot d epoch (slice_index epochs d) ≡ true
+      → slice_get boots r.node ≡ Some boot → changed_views (opens epoch) d to (ends_of app k) p.ends ≡ Some w.ends → may_open z.attested boot d epoch (slice_index epochs d) ≡ true
       → Moved app m c side q.node (opens_at m c side (Open k d to epoch)) None low count boots (slice_set xs k (record z { present = Some w })) epochs
   opened k d to epoch r z p w boot er ez ep eb ev may = go ((k == m) && ((d == c) && same_side to side)) refl
     where
@@ -268,7 +268,7 @@ module _ (app : AppTree) (m c : ℕ) (side : Side) (q : PartTree) (l : Link) (eq
       go true t = at (here (opens epoch) k d to z p w ez ep ev t)
       go false t = elsewhere (opens epoch) k d to z p w ez ep ev t
 
-  took : (k d i v : ℕ) (z : Standing) (p w : Present) → slice_get xs k ≡ Some z → z.present ≡ Some p → changed (takes (i / 65536) (i % 65536)) d To (ends_of app k) p.ends ≡ Some w.ends
+  took : (k d i v : ℕ) (z : Standing) (p w : Present) → slice_get xs k ≡ Some z → z.present ≡ Some p → changed_views (takes (i / 65536) (i % 65536)) d To (ends_of app k) p.ends ≡ Some w.ends
       → Moved app m c side q.node None (takes_at m c side (Take k d i v)) low count boots (slice_set xs k (record z { present = Some w })) epochs
   took k d i v z p w ez ep ev = go ((k == m) && ((d == c) && same_side To side)) refl
     where

@@ -12,7 +12,7 @@ use Rattle.sx_mean.specs.Application.{AppTree}
 use Rattle.sx_mean.specs.Ends.{ends_after, ends_of, receiving}
 use Rattle.sx_model.specs.State.{EndView}
 use Rattle.sx_model.specs.Renewal.{is_of}
-use Rattle.sx_model.specs.Step.{◌>>?◌, changed, same_side}
+use Rattle.sx_model.specs.Step.{◌>>?◌, changed_views, same_side}
 
 -- the view of the end with this connection and side, if there is one
 abbrev pub view_at : ℕ → Side → List End → List EndView → Option EndView
@@ -36,7 +36,7 @@ behind_one : {A : Type 0} → (o : Option (List A)) (v : A) (ws : List A) → (o
 behind_one None v ws e = absurd cc
 behind_one (Some us) v ws e = (us, refl, same_Some (v ∷ us) ws e)
 
-pub changed_at : (change : EndView → Option EndView) (c : ℕ) (side : Side) (es : List End) (vs ws : List EndView) → changed change c side es vs ≡ Some ws
+pub changed_at : (change : EndView → Option EndView) (c : ℕ) (side : Side) (es : List End) (vs ws : List EndView) → changed_views change c side es vs ≡ Some ws
     → ChangedAt change c side es vs ws
 changed_at change c side [] vs ws h = absurd cc
 changed_at change c side (e ∷ es) [] ws h = absurd cc
@@ -52,8 +52,8 @@ changed_at change c side (e ∷ es) (v ∷ vs) ws h = here ((e.link == c) && sam
     }
 
     here : (b : Bool) → ((e.link == c) && same_side e.side side) ≡ b
-        → ((us : List EndView) → changed change c side es vs ≡ Some us → ChangedAt change c side es vs us)
-        → (if b then change v >>? (λ w. Some (w ∷ vs)) else changed change c side es vs >>? (λ us. Some (v ∷ us))) ≡ Some ws → ChangedAt change c side (e ∷ es) (v ∷ vs) ws
+        → ((us : List EndView) → changed_views change c side es vs ≡ Some us → ChangedAt change c side es vs us)
+        → (if b then change v >>? (λ w. Some (w ∷ vs)) else changed_views change c side es vs >>? (λ us. Some (v ∷ us))) ≡ Some ws → ChangedAt change c side (e ∷ es) (v ∷ vs) ws
     here true t more h =
         let r = one_more (change v) v vs ws h in
         record {
@@ -64,7 +64,7 @@ changed_at change c side (e ∷ es) (v ∷ vs) ws h = here ((e.link == c) && sam
           is = subst (λ ws. view_at c side (e ∷ es) ws ≡ Some r.0) r.2 (ap (λ b. if b then Some r.0 else view_at c side es vs) t);
         }
     here false t more h =
-        let r = behind_one (changed change c side es vs) v ws h in
+        let r = behind_one (changed_views change c side es vs) v ws h in
         later r.0 t r.2 (more r.0 r.1)
 
 pub same_side-true : (a b : Side) → same_side a b ≡ true → a ≡ b
@@ -83,14 +83,14 @@ other_end c d side to e t n =
 
 -- a change of another end
 pub changed_other : (change : EndView → Option EndView) (c d : ℕ) (side to : Side) (es : List End) (vs ws : List EndView) → ((d == c) && same_side to side) ≡ false
-    → changed change d to es vs ≡ Some ws → view_at c side es ws ≡ view_at c side es vs
+    → changed_views change d to es vs ≡ Some ws → view_at c side es ws ≡ view_at c side es vs
 changed_other change c d side to [] vs ws n h = absurd cc
 changed_other change c d side to (e ∷ es) [] ws n h = absurd cc
 changed_other change c d side to (e ∷ es) (v ∷ vs) ws n h = here ((e.link == d) && same_side e.side to) refl (λ us g. changed_other change c d side to es vs us n g) h
   where
     here : (b : Bool) → ((e.link == d) && same_side e.side to) ≡ b
-        → ((us : List EndView) → changed change d to es vs ≡ Some us → view_at c side es us ≡ view_at c side es vs)
-        → (if b then change v >>? (λ w. Some (w ∷ vs)) else changed change d to es vs >>? (λ us. Some (v ∷ us))) ≡ Some ws
+        → ((us : List EndView) → changed_views change d to es vs ≡ Some us → view_at c side es us ≡ view_at c side es vs)
+        → (if b then change v >>? (λ w. Some (w ∷ vs)) else changed_views change d to es vs >>? (λ us. Some (v ∷ us))) ≡ Some ws
         → view_at c side (e ∷ es) ws ≡ view_at c side (e ∷ es) (v ∷ vs)
     here true t more h =
         let r = one_more (change v) v vs ws h in
@@ -98,7 +98,7 @@ changed_other change c d side to (e ∷ es) (v ∷ vs) ws n h = here ((e.link ==
         subst (λ ws. view_at c side (e ∷ es) ws ≡ view_at c side (e ∷ es) (v ∷ vs)) r.2
         (ap (λ b. if b then Some r.0 else view_at c side es vs) f ∙ sym (ap (λ b. if b then Some v else view_at c side es vs) f))
     here false t more h =
-        let r = behind_one (changed change d to es vs) v ws h in
+        let r = behind_one (changed_views change d to es vs) v ws h in
         subst (λ ws. view_at c side (e ∷ es) ws ≡ view_at c side (e ∷ es) (v ∷ vs)) r.2
         (ap (λ o. if (e.link == c) && same_side e.side side then Some v else o) (more r.0 r.1))
 

@@ -11,8 +11,8 @@ use Rattle.sx_model.specs.State.{EndView, Reading, Standing}
 use Rattle.sx_model.specs.Sendings.{to_send}
 use Rattle.sx_model.specs.declared.sendings.Sending.{Sending}
 use Rattle.sx_mean.specs.declared.events.End.{End}
-use Rattle.sx_model.specs.Step.{absent_at, stale_at, undriven}
-use Rattle.sx_model.specs.Renewal.{is_spent, raised}
+use Rattle.sx_model.specs.Step.{absent_at, stale_at, is_undriven}
+use Rattle.sx_model.specs.Renewal.{is_spent, raised_epochs}
 
 -- a function of both that is known where one of them is at its end
 at_end : {A B C : Type 0} → (F : List A → List B → C) (value : C) → ((ys : List B) → F [] ys ≡ value) → ((xs : List A) → F xs [] ≡ value) →
@@ -35,14 +35,14 @@ changed_end F left right xs ys i h =
       | inr past ↦ rw (drop_of_length-le xs past) (ap (λ zs. take i ys ++ zs) (left (drop i ys)) ∙ take-append-drop i ys)
     ]
 
-undriven_nil : (parts : List Part) (d : ℕ) → undriven (map part_as parts) [] d ≡ true
+undriven_nil : (parts : List Part) (d : ℕ) → is_undriven (map part_as parts) [] d ≡ true
 undriven_nil [] d = refl
 undriven_nil (q ∷ qs) d = refl
 
 -- after the last part or the last module there is no driver
 pub undriven_end : (parts : List Part) (xs : List Standing) (d i : ℕ) → min (length parts) (length xs) ≤ i →
-    undriven (map part_as (drop i parts)) (drop i xs) d ≡ true
-undriven_end parts xs d i h = at_end (λ qs ys. undriven (map part_as qs) ys d) true (λ ys. refl) (λ qs. undriven_nil qs d) parts xs i h
+    is_undriven (map part_as (drop i parts)) (drop i xs) d ≡ true
+undriven_end parts xs d i h = at_end (λ qs ys. is_undriven (map part_as qs) ys d) true (λ ys. refl) (λ qs. undriven_nil qs d) parts xs i h
 
 stale_nil : (n : ℕ) (ds : List AppDevice) → stale_at n ds [] ≡ []
 stale_nil n [] = refl
@@ -58,12 +58,12 @@ absent_nil n (q ∷ qs) = refl
 pub absent_end : (n : ℕ) (qs : List Part) (xs : List Standing) (i : ℕ) → min (length qs) (length xs) ≤ i → take i xs ++ absent_at n (map part_as (drop i qs)) (drop i xs) ≡ xs
 absent_end n qs xs i h = changed_end (λ ps ys. absent_at n (map part_as ps) ys) (λ ys. refl) (absent_nil n) qs xs i h
 
-raised_nil : (m : ℕ) (ls : List Link) → raised m ls [] ≡ []
+raised_nil : (m : ℕ) (ls : List Link) → raised_epochs m ls [] ≡ []
 raised_nil m [] = refl
 raised_nil m (l ∷ ls) = refl
 
-pub raised_end : (m : ℕ) (ls : List Link) (es : List ℕ) (i : ℕ) → min (length ls) (length es) ≤ i → take i es ++ raised m (drop i ls) (drop i es) ≡ es
-raised_end m ls es i h = changed_end (raised m) (λ ys. refl) (raised_nil m) ls es i h
+pub raised_end : (m : ℕ) (ls : List Link) (es : List ℕ) (i : ℕ) → min (length ls) (length es) ≤ i → take i es ++ raised_epochs m (drop i ls) (drop i es) ≡ es
+raised_end m ls es i h = changed_end (raised_epochs m) (λ ys. refl) (raised_nil m) ls es i h
 
 spent_nil : (m : ℕ) (ls : List Link) → is_spent m ls [] ≡ false
 spent_nil m [] = refl

@@ -3,10 +3,10 @@ use Rattle.std.proofs.Common.{◌≡◌, ℕ, zero, suc, ◌+◌, ◌≤◌, Boo
 use Rattle.std.specs.Prelude.{slice_get}
 use Rattle.std.proofs.lemmas.Option.{same_Some}
 use Rattle.sx_mean.specs.declared.apps.Link.{Link}
-use Rattle.sx_model.specs.Renewal.{is_of, raised, renewed}
+use Rattle.sx_model.specs.Renewal.{is_of, raised_epochs, renewed}
 
 raised_at : (m : ℕ) (ls : List Link) (es : List ℕ) (c : ℕ) (l : Link) (e : ℕ) → slice_get ls c ≡ Some l → slice_get es c ≡ Some e
-    → slice_get (raised m ls es) c ≡ Some (if is_of m l then e + 1 else e)
+    → slice_get (raised_epochs m ls es) c ≡ Some (if is_of m l then e + 1 else e)
 raised_at m [] es c l e f g = absurd cc
 raised_at m (k ∷ ls) [] c l e f g = absurd cc
 raised_at m (k ∷ ls) (x ∷ es) zero l e f g =

@@ -13,13 +13,13 @@ use Rattle.sx_trace.specs.declared.items.Item.{Item}
 use Rattle.sx_trace.specs.declared.items.Item.TheVariants.{Reset, Protect, Sense, Read, Drain, Ask, Attested, Denied, Vouch, Open, Take, Out, Raw, Done, Packet, Forged, Busy, Skip, Budget}
 use Rattle.sx_model.specs.State.{EndView, Model, Pending, Present, Reading, Standing}
 use Rattle.sx_model.specs.Renewal.{boot_of, may_attest, may_open, opens, renewed, takes}
-use Rattle.sx_model.specs.Step.{◌>>?◌, changed, first_present, given, idle, is_fresh_with, is_nothing, is_sensor, is_vouched, is_word, kind_is, reacts, reset_at, step, undriven, waits, with_device, with_pending, with_present, with_standing, without_first}
+use Rattle.sx_model.specs.Step.{◌>>?◌, changed_views, first_present, state_if, idle, is_fresh_with, is_nothing, is_sensor, is_vouched, is_word, kind_is, reacts, reset_at, step, is_undriven, waits, with_device, with_pending, with_present, with_standing, without_first}
 
 looked_up : {A B : Type 0} → (o : Option A) (f : A → Option B) (Q : B → Type 0) → ((x : A) → o ≡ Some x → IfSome (f x) Q) → IfSome (o >>? f) Q
 looked_up None f Q h = tt
 looked_up (Some x) f Q h = h x refl
 
-tested : (b : Bool) (s : Model) (Q : Model → Type 0) → (b ≡ true → Q s) → IfSome (given b s) Q
+tested : (b : Bool) (s : Model) (Q : Model → Type 0) → (b ≡ true → Q s) → IfSome (state_if b s) Q
 tested true s Q h = h refl
 tested false s Q h = tt
 
@@ -38,14 +38,14 @@ OnRead app s Q m v =
 abbrev pub OnOpen : AppTree → Model → (Model → Type 0) → ℕ → ℕ → Side → ℕ → Type 0
 OnOpen app s Q m c side epoch =
     (q : PartTree) (x : Standing) (p : Present) (boot : ℕ) (views : List EndView) → slice_get app.parts m ≡ Some q → slice_get s.modules m ≡ Some x → idle x ≡ Some p
-    → slice_get s.boots q.node ≡ Some boot → changed (opens epoch) c side (ends_of app m) p.ends ≡ Some views
+    → slice_get s.boots q.node ≡ Some boot → changed_views (opens epoch) c side (ends_of app m) p.ends ≡ Some views
     → may_open x.attested boot c epoch (slice_index s.epochs c) ≡ true
     → Q (with_present s m x (record p { ends = views; pending = Some (record { emits = []; pieces = 0 }) }))
 
 abbrev pub OnTake : AppTree → Model → (Model → Type 0) → ℕ → ℕ → ℕ → ℕ → Type 0
 OnTake app s Q m c i v =
     (q : PartTree) (x : Standing) (p : Present) (l : Link) (views : List EndView) → slice_get app.parts m ≡ Some q → slice_get s.modules m ≡ Some x
-    → idle x ≡ Some p → slice_get app.links c ≡ Some l → changed (takes (i / 65536) (i % 65536)) c To (ends_of app m) p.ends ≡ Some views
+    → idle x ≡ Some p → slice_get app.links c ≡ Some l → changed_views (takes (i / 65536) (i % 65536)) c To (ends_of app m) p.ends ≡ Some views
     → Q (reacts app s m q x (record p { ends = views }) (event.Input l.input v))
 
 abbrev pub OnOut : Model → (Model → Type 0) → ℕ → ℕ → Type 0
@@ -65,14 +65,14 @@ on_read app s Q m v h =
 pub on_open : (app : AppTree) (s : Model) (Q : Model → Type 0) (m c : ℕ) (side : Side) (epoch : ℕ) → OnOpen app s Q m c side epoch → IfSome (step app s (Open m c side epoch)) Q
 on_open app s Q m c side epoch h =
     looked_up (slice_get app.parts m) _ _ (λ q eq. looked_up (slice_get s.modules m) _ _ (λ x ex. looked_up (idle x) _ _ (λ p ep.
-    looked_up (slice_get s.boots q.node) _ _ (λ boot eb. looked_up (changed (opens epoch) c side (ends_of app m) p.ends) _ _ (λ views ev.
+    looked_up (slice_get s.boots q.node) _ _ (λ boot eb. looked_up (changed_views (opens epoch) c side (ends_of app m) p.ends) _ _ (λ views ev.
     tested (may_open x.attested boot c epoch (slice_index s.epochs c)) _ _ (λ t. h q x p boot views eq ex ep eb ev t))))))
 
 pub on_take : (app : AppTree) (s : Model) (Q : Model → Type 0) (m c i v : ℕ) → OnTake app s Q m c i v → IfSome (step app s (Take m c i v)) Q
 on_take app s Q m c i v h =
     looked_up (slice_get app.parts m) _ _ (λ q eq. looked_up (slice_get s.modules m) _ _ (λ x ex. looked_up (idle x) _ _ (λ p ep.
     looked_up (slice_get app.links c) _ _ (λ l el. looked_up (slice_get s.sent (c + 256 * (i / 65536))) _ _ (λ words _.
-    looked_up (changed (takes (i / 65536) (i % 65536)) c To (ends_of app m) p.ends) _ _ (λ views ev.
+    looked_up (changed_views (takes (i / 65536) (i % 65536)) c To (ends_of app m) p.ends) _ _ (λ views ev.
     tested (is_word v (slice_get words (i % 65536))) _ _ (λ _. h q x p l views eq ex ep el ev)))))))
 
 pub on_out : (app : AppTree) (s : Model) (Q : Model → Type 0) (m v : ℕ) → OnOut s Q m v → IfSome (step app s (Out m v)) Q
@@ -123,7 +123,7 @@ module _ (app : AppTree) (s : Model) (P : Item → Model → Type 0) (c : Cases 
   drained : (d : ℕ) → IfSome (step app s (Drain d)) (P (Drain d))
   drained d =
       looked_up (slice_get s.devices d) _ _ (λ r _.
-      tested (r.fresh && (kind_is is_sensor (slice_get app.devices d) && undriven app.parts s.modules d)) _ _ (λ _. c.drain d r))
+      tested (r.fresh && (kind_is is_sensor (slice_get app.devices d) && is_undriven app.parts s.modules d)) _ _ (λ _. c.drain d r))
 
   was_attested : (m b : ℕ) → IfSome (step app s (Attested m b)) (P (Attested m b))
   was_attested m b =
@@ -160,7 +160,7 @@ module _ (app : AppTree) (s : Model) (P : Item → Model → Type 0) (c : Cases 
   by_step (Open m k side epoch) = on_open app s (P (Open m k side epoch)) m k side epoch (c.opened m k side epoch)
   by_step (Take m k i v) = on_take app s (P (Take m k i v)) m k i v (c.take m k i v)
   by_step (Out m v) = on_out app s (P (Out m v)) m v (c.out m v)
-  by_step (Raw d v) = tested (kind_is (λ k. not (is_sensor k)) (slice_get app.devices d) && undriven app.parts s.modules d) _ _ (λ _. c.raw d v)
+  by_step (Raw d v) = tested (kind_is (λ k. not (is_sensor k)) (slice_get app.devices d) && is_undriven app.parts s.modules d) _ _ (λ _. c.raw d v)
   by_step (Done m status k) = is_done m status k
   by_step (Packet k n) = c.packet k n
   by_step (Forged m) = c.forged m

@@ -1,6 +1,8 @@
 -- What items make of one device or module. Nobody has to believe this file: it is for contracts of
 -- functions that aren't public.
-use Rattle.std.specs.Prelude.{ℕ, ◌+◌, ◌*◌, ◌/◌, ◌%◌, ◌==◌, ◌&&◌, List, [], ◌∷◌, ◌++◌, Bool, true, false, ◌||◌, if◌then◌else◌, Option, Some, None, is_none, length, not, nat_le, nat_lt, slice_get, slice_index, slice_set, unwrap_or}
+use Rattle.std.specs.Prelude.{ℕ, ◌+◌, ◌*◌, ◌/◌, ◌%◌, ◌==◌, ◌&&◌, List, [], ◌∷◌, ◌++◌, Bool, true}
+use Rattle.std.specs.Prelude.{false, ◌||◌, if◌then◌else◌, Option, Some, None, is_none, length, not}
+use Rattle.std.specs.Prelude.{nat_le, nat_lt, slice_get, slice_index, slice_set, unwrap_or}
 use Rattle.std.specs.List.{position_from}
 use Rattle.sx_lang.specs.Tree.{ModuleTree}
 use Rattle.sx_lang.specs.declared.sides.Side.{Side}
@@ -13,9 +15,15 @@ use Rattle.sx_mean.specs.declared.events.SourceEvent.TheVariants as event
 use Rattle.sx_mean.specs.Ends.{ends_of}
 use Rattle.sx_model.specs.Reaction.{after_event, flow_of}
 use Rattle.sx_model.specs.State.{EndView, Model, Pending, Present, Reading, Standing, Vouched}
-use Rattle.sx_model.specs.Step.{◌>>?◌, absent_at, first_present, idle, is_fresh_with, is_word, is_nothing, is_sensor, kind_is, is_vouched, same_side, sensed, stale_at, undriven, waits, with_pending, without_first, wrote_raw}
+use Rattle.sx_model.specs.Step.{◌>>?◌, absent_at, first_present, idle, is_fresh_with, is_word}
+use Rattle.sx_model.specs.Step.{is_nothing, is_sensor, kind_is, is_vouched, same_side, after_sample}
+use Rattle.sx_model.specs.Step.{stale_at, is_undriven, waits, with_pending, without_first}
+use Rattle.sx_model.specs.Step.{wrote_raw}
 use Rattle.sx_trace.specs.declared.items.Item.{Item}
-use Rattle.sx_trace.specs.declared.items.Item.TheVariants.{Reset, Protect, Sense, Read, Drain, Ask, Attested, Denied, Vouch, Open, Take, Out, Raw, Done, Packet, Forged, Busy, Skip, Budget}
+use Rattle.sx_trace.specs.declared.items.Item.TheVariants.{Reset, Protect, Sense, Read, Drain, Ask}
+use Rattle.sx_trace.specs.declared.items.Item.TheVariants.{Attested, Denied, Vouch, Open, Take, Out}
+use Rattle.sx_trace.specs.declared.items.Item.TheVariants.{Raw, Done, Packet, Forged, Busy, Skip}
+use Rattle.sx_trace.specs.declared.items.Item.TheVariants.{Budget}
 use Rattle.sx_model.specs.Renewal.{boot_of, may_attest, may_open, opens, renewed, takes}
 
 -- the elements with that at the index replaced by what the change makes of it; none where it makes
@@ -45,7 +53,8 @@ takes_fresh is_free r = if_so (is_free && r.fresh) (Some (record r { fresh = fal
 
 -- a fresh reading of a sensor that no present module drives is taken by other code
 abbrev pub drains : AppTree → Model → ℕ → Option Model
-drains app s d = on_device s d (takes_fresh (kind_is is_sensor (slice_get app.devices d) && undriven app.parts s.modules d))
+drains app s d = on_device s d (takes_fresh (kind_is is_sensor (slice_get app.devices d)
+    && is_undriven app.parts s.modules d))
 
 -- the first emit that is owed is written
 abbrev pub writes : ℕ → Pending → Option Pending
@@ -53,7 +62,8 @@ writes v owed = without_first v owed.emits owed.pieces
 
 -- a module that is present writes the first emit that it owes
 abbrev pub writes_present : ℕ → Present → Option Present
-writes_present v p = p.pending >>? (λ owed. writes v owed >>? (λ left. Some (with_pending p (Some left))))
+writes_present v p =
+    p.pending >>? (λ owed. writes v owed >>? (λ left. Some (with_pending p (Some left))))
 
 -- an event without an emit that is owed is done with this many pieces
 abbrev pub is_finished : ℕ → Pending → Bool
@@ -65,7 +75,8 @@ finishes k p = p.pending >>? (λ owed. if_so (is_finished k owed) (Some (with_pe
 
 -- a module may be refused so
 abbrev pub may_refuse : ℕ → ℕ → Bool → Present → Bool
-may_refuse status k waiting p = (nat_le 2 status && nat_le status 8) && ((k == 0) && (is_none p.pending && (not (status == 8) || waiting)))
+may_refuse status k waiting p = (nat_le 2 status && nat_le status 8)
+    && ((k == 0) && (is_none p.pending && (not (status == 8) || waiting)))
 
 -- a module that is present may be refused so
 abbrev pub refuses : ℕ → ℕ → Bool → Option Present → Bool
@@ -83,7 +94,8 @@ opens_ask a x = Some (record x { asked = Some a })
 
 -- the deployer asks a module; challenges are counted
 abbrev pub asks : Model → ℕ → ℕ → Option Model
-asks s m a = if_so (a == s.asks) (on_module s m (opens_ask a) >>? (λ t. Some (record t { asks = t.asks + 1 })))
+asks s m a = if_so (a == s.asks) (on_module s m (opens_ask a) >>?
+    (λ t. Some (record t { asks = t.asks + 1 })))
 
 -- a module vouches for a challenge at a boot
 abbrev pub vouches : ℕ → ℕ → Standing → Option Standing
@@ -94,7 +106,8 @@ vouches a boot x = idle x >>? (λ p. Some (record x {
 
 -- an absent module is protected
 abbrev pub protects : ModuleTree → List End → Standing → Option Standing
-protects tree es x = if_so (is_none x.present) (Some (record x { present = Some (first_present tree es) }))
+protects tree es x =
+    if_so (is_none x.present) (Some (record x { present = Some (first_present tree es) }))
 
 -- the end is that of the connection and the side
 abbrev pub is_end : ℕ → Side → End → Bool
@@ -105,13 +118,19 @@ abbrev pub end_at : ℕ → Side → List End → Option ℕ
 end_at c side es = position_from (is_end c side) 0 es
 
 -- the views of the ends after a change of that end
-abbrev pub on_end : (EndView → Option EndView) → ℕ → Side → List End → List EndView → Option (List EndView)
+abbrev pub on_end : (EndView → Option EndView) → ℕ → Side → List End → List EndView
+    → Option (List EndView)
 on_end change c side es views = end_at c side es >>? (λ i. at_index views i change)
 
 -- an idle module opens an end
 abbrev pub opens_end : Bool → ℕ → ℕ → Side → List End → Present → Option Present
 opens_end may epoch c side es p =
-    if_so (is_none p.pending && may) (on_end (opens epoch) c side es p.ends >>? (λ views. Some (record p { ends = views; pending = Some (record { emits = []; pieces = 0 }) })))
+    if_so (is_none p.pending && may) (on_end (opens epoch) c side es p.ends >>?
+    (λ views. Some (record p {
+      ends = views;
+      pending =
+          Some (record { emits = []; pieces = 0 });
+    })))
 
 -- the numbers with that at the index raised by one
 abbrev pub raised_at : List ℕ → ℕ → List ℕ
@@ -127,7 +146,8 @@ resets app s n = if_so (nat_lt n (length s.boots)) (Some (record s {
 
 -- an end opens at a boot, where its connection has an epoch now
 abbrev pub opens_standing : ℕ → ℕ → ℕ → Side → ℕ → List End → Standing → Option Standing
-opens_standing boot now c side epoch es x = on_present (opens_end (may_open x.attested boot c epoch now) epoch c side es) x
+opens_standing boot now c side epoch es x =
+    on_present (opens_end (may_open x.attested boot c epoch now) epoch c side es) x
 
 -- a module opens an end, at the boot of its node and in an epoch
 abbrev pub opens_in : AppTree → Model → ℕ → ℕ → Side → ℕ → Option Model
@@ -137,11 +157,13 @@ opens_in app s m c side epoch =
 
 -- a module vouches for a challenge at the boot of its node
 abbrev pub vouches_in : AppTree → Model → ℕ → ℕ → Option Model
-vouches_in app s m a = slice_get app.parts m >>? (λ q. slice_get s.boots q.node >>? (λ boot. on_module s m (vouches a boot)))
+vouches_in app s m a = slice_get app.parts m >>?
+    (λ q. slice_get s.boots q.node >>? (λ boot. on_module s m (vouches a boot)))
 
 -- a module of the node is protected
 abbrev pub protects_in : AppTree → Model → ℕ → ℕ → Option Model
-protects_in app s n m = slice_get app.parts m >>? (λ q. if_so (q.node == n) (on_module s m (protects q.tree (ends_of app m))))
+protects_in app s n m = slice_get app.parts m >>?
+    (λ q. if_so (q.node == n) (on_module s m (protects q.tree (ends_of app m))))
 
 -- the challenge is open, and was vouched for at the boot
 abbrev pub answers : Option ℕ → ℕ → List Vouched → Bool
@@ -154,15 +176,18 @@ is_accepted m ls es b x = answers x.asked b x.vouched && may_attest m ls es (boo
 
 -- a module's answer is accepted at a boot, with these epochs after it
 abbrev pub accepts : ℕ → List ℕ → Standing → Option Standing
-accepts b epochs x = Some (record x { asked = None; attested = Some (record { boot = b; floors = epochs }) })
+accepts b epochs x =
+    Some (record x { asked = None; attested = Some (record { boot = b; floors = epochs }) })
 
 -- the deployer accepts a module's answer, and these are the epochs after it
 abbrev pub accepts_with : Model → ℕ → ℕ → List ℕ → Option Model
-accepts_with s m b epochs = on_module s m (accepts b epochs) >>? (λ t. Some (record t { epochs = epochs }))
+accepts_with s m b epochs =
+    on_module s m (accepts b epochs) >>? (λ t. Some (record t { epochs = epochs }))
 
 -- the epochs after an answer that is accepted
 abbrev pub renewal : List Link → Model → ℕ → ℕ → Option (List ℕ)
-renewal ls s m b = slice_get s.modules m >>? (λ x. if_so (is_accepted m ls s.epochs b x) (Some (renewed m ls (boot_of x.attested) s.epochs)))
+renewal ls s m b = slice_get s.modules m >>? (λ x.
+    if_so (is_accepted m ls s.epochs b x) (Some (renewed m ls (boot_of x.attested) s.epochs)))
 
 -- the deployer accepts a module's answer and renews its connections, where it may
 abbrev pub attests : AppTree → Model → ℕ → ℕ → Option Model
@@ -172,7 +197,8 @@ attests app s m b = renewal app.links s m b >>? (λ epochs. accepts_with s m b e
 abbrev pub is_done_in : AppTree → Model → ℕ → ℕ → ℕ → Option Model
 is_done_in app s m status k =
     slice_get app.parts m >>? (λ q. if status == 1 then on_module s m (on_present (finishes k))
-    else if_so (is_refused status k (waits app s.devices q.device) (slice_get s.modules m)) (Some s))
+    else if_so (is_refused status k (waits app s.devices q.device) (slice_get s.modules m))
+    (Some s))
 
 -- a module is present so
 abbrev pub puts : Present → Standing → Option Standing
@@ -205,7 +231,8 @@ with_stale d s = unwrap_or (on_device s d staled) s
 abbrev pub reads_from : AppTree → Model → ℕ → PartTree → ℕ → ℕ → Option Model
 reads_from app s m q d v =
     if_so (is_readable app d v (slice_get s.devices d))
-    ((slice_get s.modules m >>? idle) >>? (λ p. Some (with_stale d (reacted q.tree (ends_of app m) (event.Sample v) s m p))))
+    ((slice_get s.modules m >>? idle) >>? (λ p. Some
+    (with_stale d (reacted q.tree (ends_of app m) (event.Sample v) s m p))))
 
 -- a driver takes its sensor's fresh value and reacts to it
 abbrev pub reads : AppTree → Model → ℕ → ℕ → Option Model
@@ -217,28 +244,32 @@ word_at sent c i = slice_get sent (c + 256 * (i / 65536)) >>? (λ words. slice_g
 
 -- a module's receiving end takes a word
 abbrev pub takes_present : ℕ → ℕ → List End → Present → Option Present
-takes_present c i es p = on_end (takes (i / 65536) (i % 65536)) c To es p.ends >>? (λ views. Some (record p { ends = views }))
+takes_present c i es p = on_end (takes (i / 65536) (i % 65536)) c To es p.ends >>?
+    (λ views. Some (record p { ends = views }))
 
 -- an idle module takes a word at an input
 abbrev pub takes_idle : AppTree → Model → ℕ → PartTree → ℕ → ℕ → ℕ → ℕ → Present → Option Model
 takes_idle app s m q c i input v p =
-    takes_present c i (ends_of app m) p >>? (λ next. Some (reacted q.tree (ends_of app m) (event.Input input v) s m next))
+    takes_present c i (ends_of app m) p >>? (λ next.
+    Some (reacted q.tree (ends_of app m) (event.Input input v) s m next))
 
 -- a module that owes nothing takes a word at an input
 abbrev pub takes_at : AppTree → Model → ℕ → PartTree → ℕ → ℕ → ℕ → ℕ → Option Model
-takes_at app s m q c i input v = (slice_get s.modules m >>? idle) >>? (λ p. takes_idle app s m q c i input v p)
+takes_at app s m q c i input v =
+    (slice_get s.modules m >>? idle) >>? (λ p. takes_idle app s m q c i input v p)
 
 -- a module takes the word of this number from a connection, and reacts to it
 abbrev pub takes_in : AppTree → Model → ℕ → ℕ → ℕ → ℕ → Option Model
 takes_in app s m c i v =
-    slice_get app.parts m >>? (λ q. slice_get app.links c >>? (λ l. if_so (is_word v (word_at s.sent c i)) (takes_at app s m q c i l.input v)))
+    slice_get app.parts m >>? (λ q. slice_get app.links c >>?
+    (λ l. if_so (is_word v (word_at s.sent c i)) (takes_at app s m q c i l.input v)))
 
 -- the state after an allowed item, put together from these
 abbrev pub steps : AppTree → Model → Item → Option Model
 steps app s (Reset n cause) = resets app s n
 steps app s (Protect n None) = Some s
 steps app s (Protect n (Some m)) = protects_in app s n m
-steps app s (Sense d v) = sensed app s d v
+steps app s (Sense d v) = after_sample app s d v
 steps app s (Read m v) = reads app s m v
 steps app s (Drain d) = drains app s d
 steps app s (Ask m a) = asks s m a

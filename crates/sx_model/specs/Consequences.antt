@@ -1,10 +1,12 @@
 -- What a legal trace tells: which numbers rise along it, and what comes before a reading and an
 -- output.
-use Rattle.std.specs.Prelude.{◌≡◌, ℕ, ◌<◌, ◌==◌, ◌&&◌, Bool, true, false, List, ◌∷◌, ◌++◌, Option, Some, None, slice_get}
+use Rattle.std.specs.Prelude.{◌≡◌, ℕ, ◌<◌, ◌==◌, ◌&&◌, Bool, true, false, List, ◌∷◌, ◌++◌, Option}
+use Rattle.std.specs.Prelude.{Some, None, slice_get}
 use Rattle.std.specs.List.{list_any}
 use Rattle.sx_lang.specs.declared.sides.Side.{Side}
 use Rattle.sx_trace.specs.declared.items.Item.{Item}
-use Rattle.sx_trace.specs.declared.items.Item.TheVariants.{Reset, Protect, Sense, Read, Drain, Vouch, Open, Take, Out, Done}
+use Rattle.sx_trace.specs.declared.items.Item.TheVariants.{Reset, Protect, Sense, Read, Drain}
+use Rattle.sx_trace.specs.declared.items.Item.TheVariants.{Vouch, Open, Take, Out, Done}
 use Rattle.sx_mean.specs.declared.apps.AppDevice.{AppDevice}
 use Rattle.sx_mean.specs.Application.{PartTree, AppTree}
 use Rattle.sx_model.specs.Step.{◌>>?◌, drives}
@@ -12,12 +14,14 @@ use Rattle.sx_model.specs.Step.{◌>>?◌, drives}
 -- The numbers that are taken over a connection rise, so none is taken twice.
 abbrev pub TakesRise : List Item → Type 0
 TakesRise items =
-    (before between behind : List Item) (m k c i j v w : ℕ) → items ≡ before ++ Take m c i v ∷ between ++ Take k c j w ∷ behind → i < j
+    (before between behind : List Item) (m k c i j v w : ℕ)
+    → items ≡ before ++ Take m c i v ∷ between ++ Take k c j w ∷ behind → i < j
 
 -- The epochs with which a module opens an end rise, so it opens it at most once in each.
 abbrev pub OpensRise : List Item → Type 0
 OpensRise items =
-    (before between behind : List Item) (m c : ℕ) (side : Side) (d e : ℕ) → items ≡ before ++ Open m c side d ∷ between ++ Open m c side e ∷ behind → d < e
+    (before between behind : List Item) (m c : ℕ) (side : Side) (d e : ℕ)
+    → items ≡ before ++ Open m c side d ∷ between ++ Open m c side e ∷ behind → d < e
 
 -- an item of the first kind is there, and none of the second after it
 pub record Since (begins ends : Item → Bool) (items : List Item) : Type 0 where
@@ -81,10 +85,11 @@ ends_event app m _ = false
 -- Before an output an event of its module began, and since then the module did nothing but outputs.
 abbrev pub OutsAreCaused : AppTree → List Item → Type 0
 OutsAreCaused app items =
-    (before behind : List Item) (m v : ℕ) → items ≡ before ++ Out m v ∷ behind → Since (begins_event m) (ends_event app m) before
+    (before behind : List Item) (m v : ℕ) → items ≡ before ++ Out m v ∷ behind
+    → Since (begins_event m) (ends_event app m) before
 
 -- What a reader may take from a trace: each of these.
-pub record Tells (app : AppTree) (items : List Item) : Type 0 where
+pub record TellsReader (app : AppTree) (items : List Item) : Type 0 where
   pub takes_rise : TakesRise items
   pub opens_rise : OpensRise items
   pub reads_are_sensed : ReadsAreSensed app items

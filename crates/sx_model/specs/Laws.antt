@@ -2,7 +2,8 @@
 use Rattle.std.specs.Prelude.{◌≡◌, Bool, true, false, List, [], ◌∷◌, ◌++◌, Some, is_some}
 use Rattle.sx_lang.specs.declared.sides.Side.TheVariants.{To}
 use Rattle.sx_trace.specs.declared.items.Item.{Item}
-use Rattle.sx_trace.specs.declared.items.Item.TheVariants.{Reset, Protect, Ask, Attested, Vouch, Open, Take, Out, Raw, Done}
+use Rattle.sx_trace.specs.declared.items.Item.TheVariants.{Reset, Protect, Ask, Attested, Vouch}
+use Rattle.sx_trace.specs.declared.items.Item.TheVariants.{Open, Take, Out, Raw, Done}
 use Rattle.sx_trace.specs.declared.items.Cause.TheVariants.{Asked}
 use Rattle.sx_model.specs.State.{power_on}
 use Rattle.sx_model.specs.Legal.{after}
@@ -39,8 +40,10 @@ pub record DriverIsAlone : Type 0 where
 pub record VouchedAreAttested : Type 0 where
   pub unvouched : allows (Protect 1 (Some 2) ∷ Ask 2 0 ∷ Attested 2 0 ∷ []) ≡ false
   pub other_boot : allows (again ++ Attested 2 2 ∷ []) ≡ false
-  pub other_ask : allows (Protect 1 (Some 2) ∷ Ask 2 0 ∷ Vouch 2 0 ∷ Done 2 1 1 ∷ Ask 2 1 ∷ Attested 2 0 ∷ []) ≡ false
-  pub twice : allows (again ++ Attested 2 1 ∷ Ask 2 4 ∷ Vouch 2 4 ∷ Done 2 1 1 ∷ Attested 2 1 ∷ []) ≡ false
+  pub other_ask : allows (Protect 1 (Some 2) ∷ Ask 2 0 ∷ Vouch 2 0 ∷ Done 2 1 1 ∷ Ask 2 1
+      ∷ Attested 2 0 ∷ []) ≡ false
+  pub twice : allows (again ++ Attested 2 1 ∷ Ask 2 4 ∷ Vouch 2 4 ∷ Done 2 1 1 ∷ Attested 2 1 ∷ [])
+      ≡ false
 
 -- an end opens once in an epoch, and not in one before its floor or beyond its connection's
 pub record RenewalIsLegal : Type 0 where

@@ -1,5 +1,6 @@
 -- The legal runs of the source.
-use Rattle.std.specs.Prelude.{Bool, true, false, if◌then◌else◌, List, [], ◌∷◌, Option, Some, IsSome, option_and_then}
+use Rattle.std.specs.Prelude.{Bool, true, false, if◌then◌else◌, List, [], ◌∷◌, Option, Some, IsSome}
+use Rattle.std.specs.Prelude.{option_and_then}
 use Rattle.sx_trace.specs.declared.items.Item.{Item}
 use Rattle.sx_trace.specs.declared.items.Item.TheVariants.{Forged}
 use Rattle.sx_mean.specs.Application.{AppTree}

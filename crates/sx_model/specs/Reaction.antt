@@ -1,5 +1,7 @@
 -- What an event makes of a module: its cells, what it sends, and what it owes.
-use Rattle.std.specs.Prelude.{ℕ, ◌+◌, ◌*◌, ◌==◌, ◌&&◌, nat_lt, Bool, true, false, if◌then◌else◌, List, [], ◌∷◌, ◌++◌, length, slice_get, slice_set, Option, Some, None, is_some}
+use Rattle.std.specs.Prelude.{ℕ, ◌+◌, ◌*◌, ◌==◌, ◌&&◌, nat_lt, Bool, true, false, if◌then◌else◌}
+use Rattle.std.specs.Prelude.{List, [], ◌∷◌, ◌++◌, length, slice_get, slice_set, Option, Some, None}
+use Rattle.std.specs.Prelude.{is_some}
 use Rattle.sx_lang.specs.Tree.{ModuleTree}
 use Rattle.sx_lang.specs.declared.sides.Side.{Side}
 use Rattle.sx_lang.specs.declared.sides.Side.TheVariants.{From, To}
@@ -34,7 +36,10 @@ field_of e view = field_at e.link view.epoch
 abbrev pub sent_over : ℕ → ℕ → Option (List ℕ) → Flow → Flow
 sent_over c v None f = f
 sent_over c v (Some words) f =
-    if nat_lt (length words) MOST_SENT then record f { sent = slice_set f.sent c (words ++ v ∷ []); pieces = f.pieces + 1 } else f
+    if nat_lt (length words) MOST_SENT then record f {
+      sent = slice_set f.sent c (words ++ v ∷ []);
+      pieces = f.pieces + 1;
+    } else f
 
 -- the sending side
 abbrev pub is_from : Side → Bool
@@ -50,7 +55,8 @@ abbrev pub sent_to : List End → List EndView → ℕ → ℕ → Flow → Flow
 sent_to [] views output v f = f
 sent_to (e ∷ es) [] output v f = f
 sent_to (e ∷ es) (view ∷ views) output v f =
-    sent_to es views output v (if sends output e view then sent_over (field_of e view) v (slice_get f.sent (field_of e view)) f else f)
+    sent_to es views output v (if sends output e view then
+    sent_over (field_of e view) v (slice_get f.sent (field_of e view)) f else f)
 
 -- an act is done: a value is sent, or is one more emit
 abbrev pub done : List End → List EndView → Act → Flow → Flow
@@ -64,8 +70,13 @@ all_done es views (a ∷ acts) f = all_done es views acts (done es views a f)
 
 -- what an event's acts come to
 abbrev pub flow_of : ModuleTree → List End → SourceEvent → Present → List (List ℕ) → Flow
-flow_of tree es event p sent = all_done es p.ends (react tree event p.cells).acts (record { sent = sent; emits = []; pieces = 0 })
+flow_of tree es event p sent = all_done es p.ends (react tree event p.cells).acts
+    (record { sent = sent; emits = []; pieces = 0 })
 
 -- the module after the event, with what it owes
 abbrev pub after_event : ModuleTree → SourceEvent → Flow → Present → Present
-after_event tree event f p = record p { cells = (react tree event p.cells).cells; pending = Some (record { emits = f.emits; pieces = f.pieces }) }
+after_event tree event f p = record p {
+  cells = (react tree event p.cells).cells;
+  pending =
+      Some (record { emits = f.emits; pieces = f.pieces });
+}

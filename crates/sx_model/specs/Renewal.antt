@@ -1,5 +1,6 @@
 -- Epochs: which connections an attestation renews, and which ends open and take in an epoch.
-use Rattle.std.specs.Prelude.{ℕ, ◌+◌, ◌==◌, ◌&&◌, ◌||◌, nat_lt, nat_le, not, Bool, true, false, if◌then◌else◌, List, [], ◌∷◌, slice_index, Option, Some, None}
+use Rattle.std.specs.Prelude.{ℕ, ◌+◌, ◌==◌, ◌&&◌, ◌||◌, nat_lt, nat_le, not, Bool, true, false}
+use Rattle.std.specs.Prelude.{if◌then◌else◌, List, [], ◌∷◌, slice_index, Option, Some, None}
 use Rattle.sx_mean.specs.declared.apps.Link.{Link}
 use Rattle.sx_model.specs.State.{EndView, Attestation}
 
@@ -8,10 +9,10 @@ abbrev pub is_of : ℕ → Link → Bool
 is_of m l = (l.from == m) || (l.to == m)
 
 -- the epochs with those of the module's connections raised by one
-abbrev pub raised : ℕ → List Link → List ℕ → List ℕ
-raised m [] es = es
-raised m (l ∷ ls) [] = []
-raised m (l ∷ ls) (e ∷ es) = (if is_of m l then e + 1 else e) ∷ raised m ls es
+abbrev pub raised_epochs : ℕ → List Link → List ℕ → List ℕ
+raised_epochs m [] es = es
+raised_epochs m (l ∷ ls) [] = []
+raised_epochs m (l ∷ ls) (e ∷ es) = (if is_of m l then e + 1 else e) ∷ raised_epochs m ls es
 
 -- one of the module's connections has the last epoch
 abbrev pub is_spent : ℕ → List Link → List ℕ → Bool
@@ -27,7 +28,7 @@ may_attest m ls es (Some last) b = nat_lt last b && not (is_spent m ls es)
 -- the epochs after it: where it was attested before, its connections are renewed
 abbrev pub renewed : ℕ → List Link → Option ℕ → List ℕ → List ℕ
 renewed m ls None es = es
-renewed m ls (Some last) es = raised m ls es
+renewed m ls (Some last) es = raised_epochs m ls es
 
 -- the boot of an attestation, if any
 abbrev pub boot_of : Option Attestation → Option ℕ
@@ -41,12 +42,14 @@ is_below (Some old) epoch = nat_lt old epoch
 
 -- the end as it opens in the epoch, with the first number to be taken
 abbrev pub opens : ℕ → EndView → Option EndView
-opens epoch view = if is_below view.epoch epoch then Some (record { epoch = Some epoch; next = 0 }) else None
+opens epoch view =
+    if is_below view.epoch epoch then Some (record { epoch = Some epoch; next = 0 }) else None
 
 -- a module so attested may open an end of the connection with the epoch
 abbrev pub may_open : Option Attestation → ℕ → ℕ → ℕ → ℕ → Bool
 may_open None boot c epoch now = false
-may_open (Some a) boot c epoch now = (a.boot == boot) && (nat_le (slice_index a.floors c) epoch && nat_le epoch now)
+may_open (Some a) boot c epoch now =
+    (a.boot == boot) && (nat_le (slice_index a.floors c) epoch && nat_le epoch now)
 
 -- the end is open with this epoch
 abbrev pub is_at : Option ℕ → ℕ → Bool
@@ -55,4 +58,5 @@ is_at (Some a) b = a == b
 
 -- a receiving end that is open with the epoch takes the n-th word
 abbrev pub takes : ℕ → ℕ → EndView → Option EndView
-takes epoch n view = if is_at view.epoch epoch && nat_le view.next n then Some (record { epoch = view.epoch; next = n + 1 }) else None
+takes epoch n view = if is_at view.epoch epoch && nat_le view.next n then
+    Some (record { epoch = view.epoch; next = n + 1 }) else None

@@ -64,7 +64,8 @@ abbrev pub power_on : AppTree → Model
 power_on app = record {
   boots = replicate app.nodes 0;
   devices = map (λ d. record { value = 0; fresh = false }) app.devices;
-  modules = map (λ p. record { present = None; asked = None; vouched = []; attested = None }) app.parts;
+  modules =
+      map (λ p. record { present = None; asked = None; vouched = []; attested = None }) app.parts;
   epochs = map (λ l. 0) app.links;
   sent = replicate FIELDS [];
   asks = 0;

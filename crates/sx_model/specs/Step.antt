@@ -1,5 +1,7 @@
 -- Which items the source allows, and what each makes of its state: none where it isn't allowed.
-use Rattle.std.specs.Prelude.{ℕ, ◌+◌, ◌*◌, ◌/◌, ◌%◌, ◌==◌, ◌&&◌, ◌||◌, nat_le, not, Bool, true, false, if◌then◌else◌, List, [], ◌∷◌, ◌++◌, map, slice_get, slice_set, slice_index, Option, Some, None, is_some, is_none, option_and_then}
+use Rattle.std.specs.Prelude.{ℕ, ◌+◌, ◌*◌, ◌/◌, ◌%◌, ◌==◌, ◌&&◌, ◌||◌, nat_le, not, Bool, true}
+use Rattle.std.specs.Prelude.{false, if◌then◌else◌, List, [], ◌∷◌, ◌++◌, map, slice_get, slice_set}
+use Rattle.std.specs.Prelude.{slice_index, Option, Some, None, is_some, is_none, option_and_then}
 use Rattle.std.specs.List.{list_any}
 use Rattle.sx_lang.specs.Tree.{ModuleTree}
 use Rattle.sx_lang.specs.declared.tree.DeviceKind.{DeviceKind}
@@ -12,7 +14,10 @@ use Rattle.sx_mean.specs.declared.events.End.{End}
 use Rattle.sx_mean.specs.declared.events.SourceEvent.{SourceEvent}
 use Rattle.sx_mean.specs.declared.events.SourceEvent.TheVariants as event
 use Rattle.sx_trace.specs.declared.items.Item.{Item}
-use Rattle.sx_trace.specs.declared.items.Item.TheVariants.{Reset, Protect, Sense, Read, Drain, Ask, Attested, Denied, Vouch, Open, Take, Out, Raw, Done, Packet, Forged, Busy, Skip, Budget}
+use Rattle.sx_trace.specs.declared.items.Item.TheVariants.{Reset, Protect, Sense, Read, Drain, Ask}
+use Rattle.sx_trace.specs.declared.items.Item.TheVariants.{Attested, Denied, Vouch, Open, Take, Out}
+use Rattle.sx_trace.specs.declared.items.Item.TheVariants.{Raw, Done, Packet, Forged, Busy, Skip}
+use Rattle.sx_trace.specs.declared.items.Item.TheVariants.{Budget}
 use Rattle.sx_mean.specs.Application.{PartTree, AppTree}
 use Rattle.sx_mean.specs.Ends.{ends_of}
 use Rattle.sx_model.specs.State.{Reading, EndView, Pending, Present, Vouched, Standing, Model}
@@ -25,8 +30,8 @@ abbrev pub ◌>>?◌ : {A B : Type 0} → Option A → (A → Option B) → Opti
 o >>? f = option_and_then f o
 
 -- the state, where the test holds
-abbrev pub given : Bool → Model → Option Model
-given b s = if b then Some s else None
+abbrev pub state_if : Bool → Model → Option Model
+state_if b s = if b then Some s else None
 
 -- the state with another standing of a module
 abbrev pub with_standing : Model → ℕ → Standing → Model
@@ -59,10 +64,11 @@ drives None d = false
 drives (Some x) d = x == d
 
 -- no driver of the device is present
-abbrev pub undriven : List PartTree → List Standing → ℕ → Bool
-undriven [] xs d = true
-undriven (q ∷ qs) [] d = true
-undriven (q ∷ qs) (x ∷ xs) d = not (drives q.device d && is_some x.present) && undriven qs xs d
+abbrev pub is_undriven : List PartTree → List Standing → ℕ → Bool
+is_undriven [] xs d = true
+is_undriven (q ∷ qs) [] d = true
+is_undriven (q ∷ qs) (x ∷ xs) d =
+    not (drives q.device d && is_some x.present) && is_undriven qs xs d
 
 -- the node's modules are absent
 abbrev pub absent_at : ℕ → List PartTree → List Standing → List Standing
@@ -75,7 +81,8 @@ absent_at n (q ∷ qs) (x ∷ xs) =
 abbrev pub stale_at : ℕ → List AppDevice → List Reading → List Reading
 stale_at n [] rs = rs
 stale_at n (d ∷ ds) [] = []
-stale_at n (d ∷ ds) (r ∷ rs) = (if d.node == n then record r { fresh = false } else r) ∷ stale_at n ds rs
+stale_at n (d ∷ ds) (r ∷ rs) =
+    (if d.node == n then record r { fresh = false } else r) ∷ stale_at n ds rs
 
 -- a node is reset: its modules are absent, its sensors aren't fresh, and its boot rises
 abbrev pub reset_at : AppTree → Model → ℕ → ℕ → Model
@@ -87,18 +94,25 @@ reset_at app s n boot = record s {
 
 -- a module as it begins
 abbrev pub first_present : ModuleTree → List End → Present
-first_present tree es = record { cells = initial_cells tree.decls; ends = map (λ e. record { epoch = None; next = 0 }) es; pending = None }
+first_present tree es = record {
+  cells = initial_cells tree.decls;
+  ends =
+      map (λ e. record { epoch = None; next = 0 }) es;
+  pending = None;
+}
 
 -- an absent module of the node is protected, or other code
 abbrev pub protected_as : AppTree → Model → ℕ → Option ℕ → Option Model
 protected_as app s n None = Some s
 protected_as app s n (Some m) =
     slice_get app.parts m >>? (λ q. slice_get s.modules m >>? (λ x.
-    given ((q.node == n) && is_none x.present) (with_present s m x (first_present q.tree (ends_of app m)))))
+    state_if ((q.node == n) && is_none x.present)
+    (with_present s m x (first_present q.tree (ends_of app m)))))
 
 -- a sensor gets a value
-abbrev pub sensed : AppTree → Model → ℕ → ℕ → Option Model
-sensed app s d v = slice_get app.devices d >>? (λ w. given (is_sensor w.kind) (with_device s d (record { value = v; fresh = true })))
+abbrev pub after_sample : AppTree → Model → ℕ → ℕ → Option Model
+after_sample app s d v = slice_get app.devices d >>?
+    (λ w. state_if (is_sensor w.kind) (with_device s d (record { value = v; fresh = true })))
 
 -- the module reacts to an event
 abbrev pub reacts : AppTree → Model → ℕ → PartTree → Standing → Present → SourceEvent → Model
@@ -118,27 +132,33 @@ kind_is test (Some w) = test w.kind
 -- a driver takes its sensor's fresh value, and reacts to it
 abbrev pub has_read : AppTree → Model → ℕ → ℕ → Option Model
 has_read app s m v =
-    slice_get app.parts m >>? (λ q. slice_get s.modules m >>? (λ x. idle x >>? (λ p. q.device >>? (λ d. slice_get s.devices d >>? (λ r.
-    given (kind_is is_sensor (slice_get app.devices d) && is_fresh_with v r)
+    slice_get app.parts m >>? (λ q. slice_get s.modules m >>?
+    (λ x. idle x >>? (λ p. q.device >>? (λ d. slice_get s.devices d >>? (λ r.
+    state_if (kind_is is_sensor (slice_get app.devices d) && is_fresh_with v r)
     (reacts app (with_device s d (record r { fresh = false })) m q x p (event.Sample v)))))))
 
 -- other code takes a sensor's fresh value, while no driver of it is present
-abbrev pub drained : AppTree → Model → ℕ → Option Model
-drained app s d =
+abbrev pub after_drain : AppTree → Model → ℕ → Option Model
+after_drain app s d =
     slice_get s.devices d >>? (λ r.
-    given (r.fresh && (kind_is is_sensor (slice_get app.devices d) && undriven app.parts s.modules d))
+    state_if (r.fresh && (kind_is is_sensor (slice_get app.devices d)
+    && is_undriven app.parts s.modules d))
     (with_device s d (record r { fresh = false })))
 
 -- the deployer asks a module; the challenge is the number of asks before
 abbrev pub asked_of : Model → ℕ → ℕ → Option Model
 asked_of s m a =
     slice_get s.modules m >>? (λ x.
-    given (a == s.asks) (record (with_standing s m (record x { asked = Some a })) { asks = s.asks + 1 }))
+    state_if (a == s.asks) (record (with_standing s m (record x { asked = Some a })) {
+      asks =
+          s.asks + 1;
+    }))
 
 -- a module vouches for a challenge at its node's boot, in one piece
 abbrev pub has_vouched : AppTree → Model → ℕ → ℕ → Option Model
 has_vouched app s m a =
-    slice_get app.parts m >>? (λ q. slice_get s.modules m >>? (λ x. idle x >>? (λ p. slice_get s.boots q.node >>? (λ boot.
+    slice_get app.parts m >>? (λ q. slice_get s.modules m >>?
+    (λ x. idle x >>? (λ p. slice_get s.boots q.node >>? (λ boot.
     Some (with_standing s m (record x {
       present = Some (with_pending p (Some (record { emits = []; pieces = 1 })));
       vouched = x.vouched ++ record { challenge = a; boot = boot } ∷ [];
@@ -153,8 +173,12 @@ abbrev pub was_attested : AppTree → Model → ℕ → ℕ → Option Model
 was_attested app s m b =
     slice_get s.modules m >>? (λ x. x.asked >>? (λ a.
     let epochs = renewed m app.links (boot_of x.attested) s.epochs in
-    given (is_vouched a b x.vouched && may_attest m app.links s.epochs (boot_of x.attested) b)
-    (record (with_standing s m (record x { asked = None; attested = Some (record { boot = b; floors = epochs }) })) { epochs = epochs })))
+    state_if (is_vouched a b x.vouched && may_attest m app.links s.epochs (boot_of x.attested) b)
+    (record (with_standing s m (record x {
+      asked = None;
+      attested =
+          Some (record { boot = b; floors = epochs });
+    })) { epochs = epochs })))
 
 -- two sides are the same
 abbrev pub same_side : Side → Side → Bool
@@ -165,20 +189,26 @@ same_side To To = true
 
 -- the views of the ends, with a change of that of the end with this connection and side; none where
 -- there is no such end
-abbrev pub changed : (EndView → Option EndView) → ℕ → Side → List End → List EndView → Option (List EndView)
-changed change c side [] views = None
-changed change c side (e ∷ es) [] = None
-changed change c side (e ∷ es) (view ∷ views) =
+abbrev pub changed_views : (EndView → Option EndView) → ℕ → Side → List End → List EndView
+    → Option (List EndView)
+changed_views change c side [] views = None
+changed_views change c side (e ∷ es) [] = None
+changed_views change c side (e ∷ es) (view ∷ views) =
     if (e.link == c) && same_side e.side side then change view >>? (λ v. Some (v ∷ views))
-    else changed change c side es views >>? (λ vs. Some (view ∷ vs))
+    else changed_views change c side es views >>? (λ vs. Some (view ∷ vs))
 
 -- a module opens an end in an epoch from its floor to the connection's
 abbrev pub has_opened : AppTree → Model → ℕ → ℕ → Side → ℕ → Option Model
 has_opened app s m c side epoch =
-    slice_get app.parts m >>? (λ q. slice_get s.modules m >>? (λ x. idle x >>? (λ p. slice_get s.boots q.node >>? (λ boot.
-    changed (opens epoch) c side (ends_of app m) p.ends >>? (λ views.
-    given (may_open x.attested boot c epoch (slice_index s.epochs c))
-    (with_present s m x (record p { ends = views; pending = Some (record { emits = []; pieces = 0 }) })))))))
+    slice_get app.parts m >>? (λ q. slice_get s.modules m >>?
+    (λ x. idle x >>? (λ p. slice_get s.boots q.node >>? (λ boot.
+    changed_views (opens epoch) c side (ends_of app m) p.ends >>? (λ views.
+    state_if (may_open x.attested boot c epoch (slice_index s.epochs c))
+    (with_present s m x (record p {
+      ends = views;
+      pending =
+          Some (record { emits = []; pieces = 0 });
+    })))))))
 
 -- the word is there, and is this one
 abbrev pub is_word : ℕ → Option ℕ → Bool
@@ -189,9 +219,11 @@ is_word v (Some w) = w == v
 -- times the epoch plus the word's index
 abbrev pub has_taken : AppTree → Model → ℕ → ℕ → ℕ → ℕ → Option Model
 has_taken app s m c i v =
-    slice_get app.parts m >>? (λ q. slice_get s.modules m >>? (λ x. idle x >>? (λ p. slice_get app.links c >>? (λ l. slice_get s.sent (c + 256 * (i / 65536)) >>? (λ words.
-    changed (takes (i / 65536) (i % 65536)) c To (ends_of app m) p.ends >>? (λ views.
-    given (is_word v (slice_get words (i % 65536)))
+    slice_get app.parts m >>? (λ q. slice_get s.modules m >>?
+    (λ x. idle x >>? (λ p. slice_get app.links c >>?
+    (λ l. slice_get s.sent (c + 256 * (i / 65536)) >>? (λ words.
+    changed_views (takes (i / 65536) (i % 65536)) c To (ends_of app m) p.ends >>? (λ views.
+    state_if (is_word v (slice_get words (i % 65536)))
     (reacts app s m q x (record p { ends = views }) (event.Input l.input v))))))))
 
 -- the first of the emits that are owed, written
@@ -202,7 +234,8 @@ without_first v (e ∷ es) k = if e == v then Some (record { emits = es; pieces 
 -- a module writes the first emit that it owes
 abbrev pub has_written : Model → ℕ → ℕ → Option Model
 has_written s m v =
-    slice_get s.modules m >>? (λ x. x.present >>? (λ p. p.pending >>? (λ owed. without_first v owed.emits owed.pieces >>? (λ left.
+    slice_get s.modules m >>? (λ x. x.present >>?
+    (λ p. p.pending >>? (λ owed. without_first v owed.emits owed.pieces >>? (λ left.
     Some (with_present s m x (with_pending p (Some left)))))))
 
 -- no emit is left
@@ -218,27 +251,32 @@ is_stale (Some r) = not r.fresh
 -- the module drives a sensor that isn't fresh
 abbrev pub waits : AppTree → List Reading → Option ℕ → Bool
 waits app devices None = false
-waits app devices (Some d) = kind_is is_sensor (slice_get app.devices d) && is_stale (slice_get devices d)
+waits app devices (Some d) =
+    kind_is is_sensor (slice_get app.devices d) && is_stale (slice_get devices d)
 
 -- an invocation that did its event, or that was refused with a status from 2 to 8
 abbrev pub is_done : AppTree → Model → ℕ → ℕ → ℕ → Option Model
 is_done app s m status k =
     slice_get app.parts m >>? (λ q. slice_get s.modules m >>? (λ x. x.present >>? (λ p.
     if status == 1 then p.pending >>? (λ owed.
-    given (is_nothing owed.emits && (k == owed.pieces)) (with_present s m x (with_pending p None)))
-    else given ((nat_le 2 status && nat_le status 8) && ((k == 0) && (is_none p.pending && (not (status == 8) || waits app s.devices q.device)))) s)))
+    state_if (is_nothing owed.emits && (k == owed.pieces))
+    (with_present s m x (with_pending p None)))
+    else state_if ((nat_le 2 status && nat_le status 8)
+    && ((k == 0) && (is_none p.pending && (not (status == 8) || waits app s.devices q.device))))
+    s)))
 
 -- other code writes an actuator, while no driver of it is present
 abbrev pub wrote_raw : AppTree → Model → ℕ → Option Model
-wrote_raw app s d = given (kind_is (λ k. not (is_sensor k)) (slice_get app.devices d) && undriven app.parts s.modules d) s
+wrote_raw app s d = state_if (kind_is (λ k. not (is_sensor k)) (slice_get app.devices d)
+    && is_undriven app.parts s.modules d) s
 
 -- the state after an allowed item
 abbrev pub step : AppTree → Model → Item → Option Model
 step app s (Reset n cause) = slice_get s.boots n >>? (λ boot. Some (reset_at app s n boot))
 step app s (Protect n m) = protected_as app s n m
-step app s (Sense d v) = sensed app s d v
+step app s (Sense d v) = after_sample app s d v
 step app s (Read m v) = has_read app s m v
-step app s (Drain d) = drained app s d
+step app s (Drain d) = after_drain app s d
 step app s (Ask m a) = asked_of s m a
 step app s (Attested m b) = was_attested app s m b
 step app s (Denied m) = Some s

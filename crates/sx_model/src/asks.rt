@@ -1,8 +1,11 @@
 //! Attestation: the deployer asks a module, a module vouches for itself, and the deployer accepts
 //! its answer.
 
-ghost use Rattle.std.specs.Prelude.{◌≡◌, ◌+◌, ◌<◌, ◌&&◌, ◌==◌, IfOk, MatchOption, OnErr, OnOk, is_some, unwrap_or};
-ghost use Rattle.sx_model.specs.Changes.{accepts, accepts_with, answers, asks, attests, is_accepted, on_module, opens_ask, renewal, vouches, vouches_in};
+ghost use Rattle.std.specs.Prelude.{◌≡◌, ◌+◌, ◌<◌, ◌&&◌, ◌==◌, IfOk, MatchOption, OnErr, OnOk};
+ghost use Rattle.std.specs.Prelude.{is_some, unwrap_or};
+ghost use Rattle.sx_model.specs.Changes.{accepts, accepts_with, answers, asks, attests};
+ghost use Rattle.sx_model.specs.Changes.{is_accepted, on_module, opens_ask, renewal, vouches};
+ghost use Rattle.sx_model.specs.Changes.{vouches_in};
 ghost use Rattle.sx_mean.specs.View.{app_as};
 ghost use Rattle.sx_model.specs.Renewal.{boot_of};
 ghost use Rattle.sx_model.specs.Step.{is_vouched};
@@ -23,7 +26,8 @@ fn open_ask(standing: &mut Standing, challenge: u128) -> bool
 #[tactic(auto, using(crate::proofs::Changed::module_changed, crate::proofs::Changed::module_answered, crate::proofs::Changed::no_module))]
 fn ask_module(state: &mut State, module: u8, challenge: u128) -> bool
     ensures answer { result ≡ is_some (on_module state.old «module» (opens_ask challenge)) }
-    ensures state { state.new ≡ unwrap_or (on_module state.old «module» (opens_ask challenge)) state.old }
+    ensures state { state.new ≡ unwrap_or (on_module state.old «module» (opens_ask challenge))
+        state.old }
 {
     match state.modules.get_mut(usize::from(module)) {
         Some(standing) => open_ask(standing, challenge),
@@ -54,7 +58,8 @@ fn vouch_standing(
     boot: u32,
 ) -> Result<bool, AllocError>
     ensures answer { IfOk result (λ b. b ≡ is_some (vouches challenge boot standing.old)) }
-    ensures standing { OnOk result (standing.new ≡ unwrap_or (vouches challenge boot standing.old) standing.old) }
+    ensures standing { OnOk result (standing.new
+        ≡ unwrap_or (vouches challenge boot standing.old) standing.old) }
     ensures err { OnErr result (standing.new ≡ standing.old) }
 {
     let Some(present) = &mut standing.present else {
@@ -79,8 +84,10 @@ fn vouch_at(
     challenge: u128,
     boot: u32,
 ) -> Result<bool, AllocError>
-    ensures answer { IfOk result (λ b. b ≡ is_some (on_module state.old «module» (vouches challenge boot))) }
-    ensures state { OnOk result (state.new ≡ unwrap_or (on_module state.old «module» (vouches challenge boot)) state.old) }
+    ensures answer { IfOk result (λ b. b ≡ is_some
+        (on_module state.old «module» (vouches challenge boot))) }
+    ensures state { OnOk result (state.new ≡ unwrap_or
+        (on_module state.old «module» (vouches challenge boot)) state.old) }
     ensures err { OnErr result (state.new ≡ state.old) }
 {
     match state.modules.get_mut(usize::from(module)) {
@@ -97,8 +104,10 @@ pub(crate) fn vouch(
     module: u8,
     challenge: u128,
 ) -> Result<bool, AllocError>
-    ensures answer { IfOk result (λ b. b ≡ is_some (vouches_in (app_as app.now) state.old «module» challenge)) }
-    ensures state { OnOk result (state.new ≡ unwrap_or (vouches_in (app_as app.now) state.old «module» challenge) state.old) }
+    ensures answer { IfOk result (λ b. b ≡ is_some
+        (vouches_in (app_as app.now) state.old «module» challenge)) }
+    ensures state { OnOk result (state.new ≡ unwrap_or
+        (vouches_in (app_as app.now) state.old «module» challenge) state.old) }
     ensures err { OnErr result (state.new ≡ state.old) }
 {
     let Some(part) = app.parts.get(usize::from(module)) else {
@@ -158,7 +167,8 @@ fn is_accepted(m: u8, links: &[Link], epochs: &[u8], boot: u32, standing: &Stand
 
 fn accept_standing(standing: &mut Standing, boot: u32, floors: Vec<u8>) -> bool
     ensures answer { result ≡ is_some (accepts boot floors.items standing.old) }
-    ensures standing { standing.new ≡ unwrap_or (accepts boot floors.items standing.old) standing.old }
+    ensures standing { standing.new ≡ unwrap_or (accepts boot floors.items standing.old)
+        standing.old }
 {
     standing.asked = None;
     standing.attested = Some(Attestation { boot, floors });
@@ -168,7 +178,8 @@ fn accept_standing(standing: &mut Standing, boot: u32, floors: Vec<u8>) -> bool
 #[tactic(auto, using(crate::proofs::Changed::module_changed, crate::proofs::Changed::module_answered, crate::proofs::Changed::no_module))]
 fn accept_module(state: &mut State, module: u8, boot: u32, floors: Vec<u8>) -> bool
     ensures answer { result ≡ is_some (on_module state.old «module» (accepts boot floors.items)) }
-    ensures state { state.new ≡ unwrap_or (on_module state.old «module» (accepts boot floors.items)) state.old }
+    ensures state { state.new ≡ unwrap_or (on_module state.old «module» (accepts boot floors.items))
+        state.old }
 {
     match state.modules.get_mut(usize::from(module)) {
         Some(standing) => accept_standing(standing, boot, floors),
@@ -180,7 +191,8 @@ fn accept_module(state: &mut State, module: u8, boot: u32, floors: Vec<u8>) -> b
 fn accept(state: &mut State, module: u8, boot: u32, floors: Vec<u8>, epochs: Vec<u8>) -> bool
     requires { epochs.items ≡ floors.items }
     ensures answer { result ≡ is_some (accepts_with state.old «module» boot floors.items) }
-    ensures state { state.new ≡ unwrap_or (accepts_with state.old «module» boot floors.items) state.old }
+    ensures state { state.new ≡ unwrap_or (accepts_with state.old «module» boot floors.items)
+        state.old }
 {
     if !accept_module(state, module, boot, floors) {
         return false;
@@ -197,7 +209,8 @@ fn renewal(
     module: u8,
     boot: u32,
 ) -> Result<Option<Vec<u8>>, AllocError>
-    ensures { IfOk result (λ o. MatchOption o (renewal links.now state.now «module» boot ≡ None) (λ epochs. renewal links.now state.now «module» boot ≡ Some epochs.items)) }
+    ensures { IfOk result (λ o. MatchOption o (renewal links.now state.now «module» boot ≡ None)
+        (λ epochs. renewal links.now state.now «module» boot ≡ Some epochs.items)) }
 {
     let Some(standing) = state.modules.get(usize::from(module)) else {
         return Ok(None);
@@ -224,8 +237,10 @@ pub(crate) fn attest(
     module: u8,
     boot: u32,
 ) -> Result<bool, AllocError>
-    ensures answer { IfOk result (λ b. b ≡ is_some (attests (app_as app.now) state.old «module» boot)) }
-    ensures state { OnOk result (state.new ≡ unwrap_or (attests (app_as app.now) state.old «module» boot) state.old) }
+    ensures answer { IfOk result (λ b. b ≡ is_some
+        (attests (app_as app.now) state.old «module» boot)) }
+    ensures state { OnOk result (state.new ≡ unwrap_or
+        (attests (app_as app.now) state.old «module» boot) state.old) }
     ensures err { OnErr result (state.new ≡ state.old) }
 {
     match renewal(alloc, state, &app.links, module, boot)? {

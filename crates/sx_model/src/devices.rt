@@ -1,8 +1,10 @@
 //! Sensors and actuators: readings, and code of others at a device.
 
-ghost use Rattle.std.specs.Prelude.{◌≡◌, ◌<◌, ◌&&◌, false, is_some, length, map, not, slice_get, slice_set, unwrap_or};
+ghost use Rattle.std.specs.Prelude.{◌≡◌, ◌<◌, ◌&&◌, false, is_some, length, map, not, slice_get};
+ghost use Rattle.std.specs.Prelude.{slice_set, unwrap_or};
 ghost use Rattle.sx_mean.specs.View.{app_as, part_as};
-ghost use Rattle.sx_model.specs.Step.{drained, drives, is_sensor, is_stale, kind_is, sensed, undriven, waits, wrote_raw};
+ghost use Rattle.sx_model.specs.Step.{after_drain, drives, is_sensor, is_stale, kind_is};
+ghost use Rattle.sx_model.specs.Step.{after_sample, is_undriven, waits, wrote_raw};
 ghost use Rattle.sx_model.specs.Changes.{drains, takes_fresh};
 
 use crate::state::{Reading, Standing, State};
@@ -38,8 +40,9 @@ fn set_reading(readings: &mut [Reading], at: usize, value: u16, fresh: bool)
 
 /// A sensor gets a value.
 pub(crate) fn sense(state: &mut State, app: &App, device: u8, value: u16) -> bool
-    ensures answer { result ≡ is_some (sensed (app_as app.now) state.old device value) }
-    ensures state { state.new ≡ unwrap_or (sensed (app_as app.now) state.old device value) state.old }
+    ensures answer { result ≡ is_some (after_sample (app_as app.now) state.old device value) }
+    ensures state { state.new ≡ unwrap_or (after_sample (app_as app.now) state.old device value)
+        state.old }
 {
     if !has_sensor(&app.devices, device) {
         return false;
@@ -83,7 +86,7 @@ fn is_driving(part: &Part, standing: &Standing, device: u8) -> bool
 /// Whether no driver of the device is present.
 #[tactic(auto, using(crate::proofs::Paired::undriven_end))]
 fn is_undriven(parts: &[Part], modules: &[Standing], device: u8) -> bool
-    ensures { result ≡ undriven (map part_as parts.now) modules.now device }
+    ensures { result ≡ is_undriven (map part_as parts.now) modules.now device }
 {
     for m in 0..parts.len().min(modules.len()) {
         if is_driving(&parts[m], &modules[m], device) {
@@ -106,7 +109,8 @@ fn drain_reading(reading: &mut Reading, is_free: bool) -> bool
 
 /// Whether the device is a sensor whose driver is absent.
 fn is_free(app: &App, modules: &[Standing], device: u8) -> bool
-    ensures { result ≡ (kind_is is_sensor (slice_get app.now.devices.items device) && undriven (app_as app.now).parts modules.now device) }
+    ensures { result ≡ (kind_is is_sensor (slice_get app.now.devices.items device)
+        && is_undriven (app_as app.now).parts modules.now device) }
 {
     has_sensor(&app.devices, device) && is_undriven(&app.parts, modules, device)
 }

@@ -1,6 +1,7 @@
 //! The ends of connections that a module holds, and how they open.
 
-ghost use Rattle.std.specs.Prelude.{◌≡◌, ◌+◌, ◌<◌, ◌≤◌, ◌&&◌, ◌++◌, IfOk, OnOk, false, is_some, length, slice_index, unwrap_or};
+ghost use Rattle.std.specs.Prelude.{◌≡◌, ◌+◌, ◌<◌, ◌≤◌, ◌&&◌, ◌++◌, IfOk, OnOk, false, is_some};
+ghost use Rattle.std.specs.Prelude.{length, slice_index, unwrap_or};
 ghost use Rattle.std.specs.Option.{option_to_list};
 ghost use Rattle.sx_mean.specs.Ends.{ends_after, receiving, sending};
 ghost use Rattle.sx_model.specs.Changes.{at_index, end_at, is_end, on_end};
@@ -120,7 +121,8 @@ fn open_view(view: &mut EndView, epoch: u8) -> bool
 #[tactic(auto, using(crate::proofs::Changed::index_changed, crate::proofs::Changed::index_answered, crate::proofs::Changed::no_index))]
 fn open_view_at(views: &mut Vec<EndView>, at: usize, epoch: u8) -> bool
     ensures answer { result ≡ is_some (at_index views.old.items at (opens epoch)) }
-    ensures views { views.new.items ≡ unwrap_or (at_index views.old.items at (opens epoch)) views.old.items }
+    ensures views { views.new.items ≡ unwrap_or (at_index views.old.items at (opens epoch))
+        views.old.items }
 {
     match views.get_mut(at) {
         Some(view) => open_view(view, epoch),
@@ -137,7 +139,8 @@ pub(crate) fn open_end(
     epoch: u8,
 ) -> bool
     ensures answer { result ≡ is_some (on_end (opens epoch) link side ends.now views.old.items) }
-    ensures views { views.new.items ≡ unwrap_or (on_end (opens epoch) link side ends.now views.old.items) views.old.items }
+    ensures views { views.new.items ≡ unwrap_or (on_end (opens epoch) link side ends.now
+        views.old.items) views.old.items }
 {
     match end_at(ends, link, side) {
         Some(at) => open_view_at(views, at, epoch),

@@ -1,7 +1,8 @@
 //! What a module owes of an event: the emits that it writes, and the end of its invocation.
 
 ghost use Rattle.std.specs.Prelude.{◌≡◌, ◌<◌, is_some, length, slice_get, unwrap_or};
-ghost use Rattle.sx_model.specs.Changes.{finishes, is_done_in, is_finished, is_refused, may_refuse, on_module, on_present, refuses, writes, writes_present};
+ghost use Rattle.sx_model.specs.Changes.{finishes, is_done_in, is_finished, is_refused, may_refuse};
+ghost use Rattle.sx_model.specs.Changes.{on_module, on_present, refuses, writes, writes_present};
 ghost use Rattle.sx_mean.specs.View.{app_as};
 
 use crate::devices::waits;
@@ -33,7 +34,8 @@ fn write_pending(present: &mut Present, value: u16) -> bool
 
 fn write_present(standing: &mut Standing, value: u16) -> bool
     ensures answer { result ≡ is_some (on_present (writes_present value) standing.old) }
-    ensures standing { standing.new ≡ unwrap_or (on_present (writes_present value) standing.old) standing.old }
+    ensures standing { standing.new ≡ unwrap_or (on_present (writes_present value) standing.old)
+        standing.old }
 {
     match &mut standing.present {
         Some(present) => write_pending(present, value),
@@ -44,8 +46,10 @@ fn write_present(standing: &mut Standing, value: u16) -> bool
 /// A module writes the first emit that it owes.
 #[tactic(auto, using(crate::proofs::Changed::module_changed, crate::proofs::Changed::module_answered, crate::proofs::Changed::no_module))]
 pub(crate) fn write(state: &mut State, module: u8, value: u16) -> bool
-    ensures answer { result ≡ is_some (on_module state.old «module» (on_present (writes_present value))) }
-    ensures state { state.new ≡ unwrap_or (on_module state.old «module» (on_present (writes_present value))) state.old }
+    ensures answer { result ≡ is_some (on_module state.old «module»
+        (on_present (writes_present value))) }
+    ensures state { state.new ≡ unwrap_or (on_module state.old «module»
+        (on_present (writes_present value))) state.old }
 {
     match state.modules.get_mut(usize::from(module)) {
         Some(standing) => write_present(standing, value),
@@ -75,7 +79,8 @@ fn finish_present(present: &mut Present, pieces: u16) -> bool
 
 fn finish_standing(standing: &mut Standing, pieces: u16) -> bool
     ensures answer { result ≡ is_some (on_present (finishes pieces) standing.old) }
-    ensures standing { standing.new ≡ unwrap_or (on_present (finishes pieces) standing.old) standing.old }
+    ensures standing { standing.new ≡ unwrap_or (on_present (finishes pieces) standing.old)
+        standing.old }
 {
     match &mut standing.present {
         Some(present) => finish_present(present, pieces),
@@ -86,8 +91,10 @@ fn finish_standing(standing: &mut Standing, pieces: u16) -> bool
 /// An invocation did its event.
 #[tactic(auto, using(crate::proofs::Changed::module_changed, crate::proofs::Changed::module_answered, crate::proofs::Changed::no_module))]
 fn finish(state: &mut State, module: u8, pieces: u16) -> bool
-    ensures answer { result ≡ is_some (on_module state.old «module» (on_present (finishes pieces))) }
-    ensures state { state.new ≡ unwrap_or (on_module state.old «module» (on_present (finishes pieces))) state.old }
+    ensures answer { result ≡ is_some (on_module state.old «module»
+        (on_present (finishes pieces))) }
+    ensures state { state.new ≡ unwrap_or (on_module state.old «module»
+        (on_present (finishes pieces))) state.old }
 {
     match state.modules.get_mut(usize::from(module)) {
         Some(standing) => finish_standing(standing, pieces),
@@ -125,8 +132,10 @@ fn is_refused(modules: &[Standing], m: u8, status: u16, pieces: u16, waiting: bo
 
 /// An invocation did its event, or was refused.
 pub(crate) fn done(state: &mut State, app: &App, module: u8, status: u16, pieces: u16) -> bool
-    ensures answer { result ≡ is_some (is_done_in (app_as app.now) state.old «module» status pieces) }
-    ensures state { state.new ≡ unwrap_or (is_done_in (app_as app.now) state.old «module» status pieces) state.old }
+    ensures answer { result ≡ is_some (is_done_in (app_as app.now) state.old «module» status
+        pieces) }
+    ensures state { state.new ≡ unwrap_or (is_done_in (app_as app.now) state.old «module» status
+        pieces) state.old }
 {
     let Some(part) = app.parts.get(usize::from(module)) else {
         return false;

@@ -4,7 +4,8 @@
 ghost use Rattle.std.specs.Prelude.{List};
 ghost use Rattle.sx_mean.specs.Application.{AppTree};
 ghost use Rattle.sx_model.specs.Consequences.{OpensRise, OutsAreCaused, ReadsAreSensed, TakesRise};
-ghost use Rattle.sx_model.specs.Laws.{DoneNeedsEmits, DriverIsAlone, EventsAreTaken, LightingIsLegal, RenewalIsLegal, VouchedAreAttested};
+ghost use Rattle.sx_model.specs.Laws.{DoneNeedsEmits, DriverIsAlone, EventsAreTaken};
+ghost use Rattle.sx_model.specs.Laws.{LightingIsLegal, RenewalIsLegal, VouchedAreAttested};
 ghost use Rattle.sx_model.specs.Legal.{Legal};
 ghost use Rattle.sx_trace.specs.declared.items.Item.{Item};
 

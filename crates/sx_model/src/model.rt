@@ -1,9 +1,11 @@
 //! The model as code: it tells whether a trace is a legal run, item by item.
 
-ghost use Rattle.std.specs.Prelude.{◌≡◌, ◌+◌, ◌*◌, ◌<◌, ◌≤◌, [], All, IfOk, OnErr, OnOk, if◌then◌else◌, is_some, length, slice_index_or, true, unwrap_or};
+ghost use Rattle.std.specs.Prelude.{◌≡◌, ◌+◌, ◌*◌, ◌<◌, ◌≤◌, [], All, IfOk, OnErr, OnOk};
+ghost use Rattle.std.specs.Prelude.{if◌then◌else◌, is_some, length, slice_index_or, true};
+ghost use Rattle.std.specs.Prelude.{unwrap_or};
 ghost use Rattle.sx_mean.specs.View.{app_as};
 ghost use Rattle.sx_mean.specs.Application.{is_valid};
-ghost use Rattle.sx_model.specs.Counted.{AreCounted};
+ghost use Rattle.sx_model.specs.Counted.{CountsWithin};
 ghost use Rattle.sx_model.specs.State.{power_on};
 ghost use Rattle.sx_model.specs.Step.{step};
 ghost use Rattle.sx_model.specs.Changes.{is_plain, steps};
@@ -51,7 +53,8 @@ fn take_item(alloc: Global, state: &mut State, app: &App, item: Item) -> Result<
     requires asks { state.old.asks < 4294967295 }
     requires links { length app.now.links.items ≤ 256 }
     ensures answer { IfOk result (λ b. b ≡ is_some (steps (app_as app.now) state.old item)) }
-    ensures state { OnOk result (state.new ≡ unwrap_or (steps (app_as app.now) state.old item) state.old) }
+    ensures state { OnOk result (state.new ≡ unwrap_or (steps (app_as app.now) state.old item)
+        state.old) }
     ensures err { OnErr result (state.new ≡ state.old) }
 {
     match item {
@@ -84,7 +87,7 @@ pub struct Model {
     alloc: Global,
     state: State,
     taken: u64,
-    ghost counted: { AreCounted state taken },
+    ghost counted: { CountsWithin state taken },
 }
 
 fn count_in(sent: &[Words], field: usize) -> u32
@@ -123,10 +126,14 @@ impl Model {
     pub fn step(&mut self, app: &App, item: &Item) -> Result<bool, AllocError>
         requires valid { is_valid (app_as app.now) ≡ true }
         requires few { self.old.taken < 4294967295 }
-        ensures answer { IfOk result (λ b. b ≡ is_some (step (app_as app.now) self.old.state item.now)) }
-        ensures state { OnOk result (self.new.state ≡ unwrap_or (step (app_as app.now) self.old.state item.now) self.old.state) }
-        ensures taken { IfOk result (λ b. self.new.taken ≡ (if b then self.old.taken + 1 else self.old.taken)) }
-        ensures err { OnErr result ((self.new.state ≡ self.old.state) × (self.new.taken ≡ self.old.taken)) }
+        ensures answer { IfOk result (λ b. b ≡ is_some
+            (step (app_as app.now) self.old.state item.now)) }
+        ensures state { OnOk result (self.new.state
+            ≡ unwrap_or (step (app_as app.now) self.old.state item.now) self.old.state) }
+        ensures taken { IfOk result (λ b. self.new.taken
+            ≡ (if b then self.old.taken + 1 else self.old.taken)) }
+        ensures err { OnErr result ((self.new.state ≡ self.old.state)
+            × (self.new.taken ≡ self.old.taken)) }
     {
         let is_allowed = take_item(self.alloc, &mut self.state, app, *item)?;
         if is_allowed {

@@ -1,6 +1,7 @@
 //! Resets: a node's modules are absent, its sensors aren't fresh, and its boot rises.
 
-ghost use Rattle.std.specs.Prelude.{◌≡◌, ◌+◌, ◌<◌, All, None, false, if◌then◌else◌, is_some, length, map, unwrap_or};
+ghost use Rattle.std.specs.Prelude.{◌≡◌, ◌+◌, ◌<◌, All, None, false, if◌then◌else◌, is_some};
+ghost use Rattle.std.specs.Prelude.{length, map, unwrap_or};
 ghost use Rattle.sx_mean.specs.View.{app_as, part_as};
 ghost use Rattle.sx_model.specs.Step.{absent_at, stale_at};
 ghost use Rattle.sx_model.specs.Changes.{raised_at, resets};
@@ -9,7 +10,8 @@ use crate::state::{Reading, Standing, State};
 use sx_mean::apps::{App, AppDevice, Part};
 
 fn make_stale(reading: &mut Reading, is_there: bool)
-    ensures { reading.new ≡ (if is_there then record reading.old { fresh = false } else reading.old) }
+    ensures { reading.new ≡ (if is_there then record reading.old { fresh = false } else
+        reading.old) }
 {
     if is_there {
         reading.fresh = false;
@@ -17,7 +19,8 @@ fn make_stale(reading: &mut Reading, is_there: bool)
 }
 
 fn make_absent(standing: &mut Standing, is_there: bool)
-    ensures { standing.new ≡ (if is_there then record standing.old { present = None } else standing.old) }
+    ensures { standing.new ≡ (if is_there then record standing.old { present = None } else
+        standing.old) }
 {
     if is_there {
         standing.present = None;

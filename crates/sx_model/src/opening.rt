@@ -1,6 +1,7 @@
 //! A module opens an end of a connection.
 
-ghost use Rattle.std.specs.Prelude.{◌≡◌, ◌<◌, ◌≤◌, IfOk, OnErr, OnOk, is_some, length, slice_index, unwrap_or};
+ghost use Rattle.std.specs.Prelude.{◌≡◌, ◌<◌, ◌≤◌, IfOk, OnErr, OnOk, is_some, length, slice_index};
+ghost use Rattle.std.specs.Prelude.{unwrap_or};
 ghost use Rattle.sx_mean.specs.View.{app_as};
 ghost use Rattle.sx_model.specs.Changes.{on_module, opens_end, opens_in, opens_standing};
 ghost use Rattle.sx_model.specs.Renewal.{may_open};
@@ -52,8 +53,10 @@ fn open_present(
     opening: Opening,
     ends: &[End],
 ) -> bool
-    ensures answer { result ≡ is_some (opens_end may opening.epoch opening.link opening.side ends.now present.old) }
-    ensures present { present.new ≡ unwrap_or (opens_end may opening.epoch opening.link opening.side ends.now present.old) present.old }
+    ensures answer { result ≡ is_some (opens_end may opening.epoch opening.link opening.side
+        ends.now present.old) }
+    ensures present { present.new ≡ unwrap_or (opens_end may opening.epoch opening.link opening.side
+        ends.now present.old) present.old }
 {
     if present.pending.is_some() {
         return false;
@@ -85,8 +88,10 @@ fn open_standing(
     now: u8,
     ends: &[End],
 ) -> bool
-    ensures answer { result ≡ is_some (opens_standing boot now opening.link opening.side opening.epoch ends.now standing.old) }
-    ensures standing { standing.new ≡ unwrap_or (opens_standing boot now opening.link opening.side opening.epoch ends.now standing.old) standing.old }
+    ensures answer { result ≡ is_some (opens_standing boot now opening.link opening.side
+        opening.epoch ends.now standing.old) }
+    ensures standing { standing.new ≡ unwrap_or (opens_standing boot now opening.link opening.side
+        opening.epoch ends.now standing.old) standing.old }
 {
     let may = may_open(standing, opening, boot, now);
     match &mut standing.present {
@@ -105,8 +110,10 @@ fn open_module(
     now: u8,
     ends: &[End],
 ) -> bool
-    ensures answer { result ≡ is_some (on_module state.old «module» (opens_standing boot now opening.link opening.side opening.epoch ends.now)) }
-    ensures state { state.new ≡ unwrap_or (on_module state.old «module» (opens_standing boot now opening.link opening.side opening.epoch ends.now)) state.old }
+    ensures answer { result ≡ is_some (on_module state.old «module»
+        (opens_standing boot now opening.link opening.side opening.epoch ends.now)) }
+    ensures state { state.new ≡ unwrap_or (on_module state.old «module»
+        (opens_standing boot now opening.link opening.side opening.epoch ends.now)) state.old }
 {
     match state.modules.get_mut(usize::from(module)) {
         Some(standing) => open_standing(alloc, standing, opening, boot, now, ends),
@@ -123,8 +130,11 @@ pub(crate) fn open(
     opening: Opening,
 ) -> Result<bool, AllocError>
     requires { length app.now.links.items ≤ 256 }
-    ensures answer { IfOk result (λ b. b ≡ is_some (opens_in (app_as app.now) state.old «module» opening.link opening.side opening.epoch)) }
-    ensures state { OnOk result (state.new ≡ unwrap_or (opens_in (app_as app.now) state.old «module» opening.link opening.side opening.epoch) state.old) }
+    ensures answer { IfOk result (λ b. b ≡ is_some
+        (opens_in (app_as app.now) state.old «module» opening.link opening.side opening.epoch)) }
+    ensures state { OnOk result (state.new ≡ unwrap_or
+        (opens_in (app_as app.now) state.old «module» opening.link opening.side opening.epoch)
+        state.old) }
     ensures err { OnErr result (state.new ≡ state.old) }
 {
     let Some(part) = app.parts.get(usize::from(module)) else {

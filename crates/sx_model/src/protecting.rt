@@ -1,6 +1,7 @@
 //! A module is protected at its node.
 
-ghost use Rattle.std.specs.Prelude.{◌≡◌, ◌<◌, ◌≤◌, IfOk, None, OnErr, OnOk, is_some, length, map, replicate, unwrap_or};
+ghost use Rattle.std.specs.Prelude.{◌≡◌, ◌<◌, ◌≤◌, IfOk, None, OnErr, OnOk, is_some, length, map};
+ghost use Rattle.std.specs.Prelude.{replicate, unwrap_or};
 ghost use Rattle.sx_check.specs.Source.{source_tree};
 ghost use Rattle.sx_mean.specs.View.{app_as};
 ghost use Rattle.sx_model.specs.Changes.{on_module, protects, protects_in};
@@ -24,7 +25,8 @@ fn closed_view() -> EndView
 }
 
 fn closed_views(alloc: Global, ends: &[End]) -> Result<Vec<EndView>, AllocError>
-    ensures { IfOk result (λ views. views.items ≡ map (λ e. record { epoch = None; next = 0 }) ends.now) }
+    ensures { IfOk result (λ views. views.items ≡ map
+        (λ e. record { epoch = None; next = 0 }) ends.now) }
 {
     ends.iter().map(|_| closed_view()).collect(alloc)
 }
@@ -48,8 +50,10 @@ fn protect_standing(
     code: &Checked,
     ends: &[End],
 ) -> Result<bool, AllocError>
-    ensures answer { IfOk result (λ b. b ≡ is_some (protects (source_tree code.now) ends.now standing.old)) }
-    ensures standing { OnOk result (standing.new ≡ unwrap_or (protects (source_tree code.now) ends.now standing.old) standing.old) }
+    ensures answer { IfOk result (λ b. b ≡ is_some
+        (protects (source_tree code.now) ends.now standing.old)) }
+    ensures standing { OnOk result (standing.new
+        ≡ unwrap_or (protects (source_tree code.now) ends.now standing.old) standing.old) }
     ensures err { OnErr result (standing.new ≡ standing.old) }
 {
     if standing.present.is_some() {
@@ -67,8 +71,10 @@ fn protect_module(
     code: &Checked,
     ends: &[End],
 ) -> Result<bool, AllocError>
-    ensures answer { IfOk result (λ b. b ≡ is_some (on_module state.old «module» (protects (source_tree code.now) ends.now))) }
-    ensures state { OnOk result (state.new ≡ unwrap_or (on_module state.old «module» (protects (source_tree code.now) ends.now)) state.old) }
+    ensures answer { IfOk result (λ b. b ≡ is_some
+        (on_module state.old «module» (protects (source_tree code.now) ends.now))) }
+    ensures state { OnOk result (state.new ≡ unwrap_or
+        (on_module state.old «module» (protects (source_tree code.now) ends.now)) state.old) }
     ensures err { OnErr result (state.new ≡ state.old) }
 {
     match state.modules.get_mut(usize::from(module)) {
@@ -86,8 +92,10 @@ pub(crate) fn protect(
     module: u8,
 ) -> Result<bool, AllocError>
     requires { length app.now.links.items ≤ 256 }
-    ensures answer { IfOk result (λ b. b ≡ is_some (protects_in (app_as app.now) state.old node «module»)) }
-    ensures state { OnOk result (state.new ≡ unwrap_or (protects_in (app_as app.now) state.old node «module») state.old) }
+    ensures answer { IfOk result (λ b. b ≡ is_some
+        (protects_in (app_as app.now) state.old node «module»)) }
+    ensures state { OnOk result (state.new ≡ unwrap_or
+        (protects_in (app_as app.now) state.old node «module») state.old) }
     ensures err { OnErr result (state.new ≡ state.old) }
 {
     let Some(part) = app.parts.get(usize::from(module)) else {

@@ -1,6 +1,7 @@
 //! A module reacts to an event.
 
-ghost use Rattle.std.specs.Prelude.{◌≡◌, ◌<◌, IfOk, OnErr, OnOk, is_none, is_some, slice_get, true, unwrap_or};
+ghost use Rattle.std.specs.Prelude.{◌≡◌, ◌<◌, IfOk, OnErr, OnOk, is_none, is_some, slice_get, true};
+ghost use Rattle.std.specs.Prelude.{unwrap_or};
 ghost use Rattle.sx_check.specs.Source.{source_tree};
 ghost use Rattle.sx_mean.specs.React.{react};
 ghost use Rattle.sx_model.specs.Sendings.{all_to_send, owed_of, sent_words};
@@ -27,9 +28,13 @@ fn outcome(
     views: &[EndView],
     sent: &mut Vec<Words>,
 ) -> Result<Pending, AllocError>
-    ensures owed { IfOk result (λ owed. owed ≡ owed_of (source_tree code.now) ends.now event store.old.cells.items views.now sent.old.items) }
-    ensures cells { OnOk result (store.new.cells.items ≡ (react (source_tree code.now) event store.old.cells.items).cells) }
-    ensures sent { OnOk result (sent.new.items ≡ sent_words (all_to_send ends.now views.now (react (source_tree code.now) event store.old.cells.items).acts) sent.old.items) }
+    ensures owed { IfOk result (λ owed. owed ≡ owed_of (source_tree code.now) ends.now event
+        store.old.cells.items views.now sent.old.items) }
+    ensures cells { OnOk result (store.new.cells.items
+        ≡ (react (source_tree code.now) event store.old.cells.items).cells) }
+    ensures sent { OnOk result (sent.new.items ≡ sent_words
+        (all_to_send ends.now views.now (react (source_tree code.now) event
+        store.old.cells.items).acts) sent.old.items) }
     ensures err { OnErr result (sent.new.items ≡ sent.old.items) }
 {
     let acts = react(alloc, code, store, event)?;
@@ -48,8 +53,10 @@ fn react_present(
     present: &mut Present,
     sent: &mut Vec<Words>,
 ) -> Result<(), AllocError>
-    ensures present { OnOk result (present.new ≡ after_event (source_tree code.now) event (flow_of (source_tree code.now) ends.now event present.old sent.old.items) present.old) }
-    ensures sent { OnOk result (sent.new.items ≡ (flow_of (source_tree code.now) ends.now event present.old sent.old.items).sent) }
+    ensures present { OnOk result (present.new ≡ after_event (source_tree code.now) event
+        (flow_of (source_tree code.now) ends.now event present.old sent.old.items) present.old) }
+    ensures sent { OnOk result (sent.new.items ≡ (flow_of (source_tree code.now) ends.now event
+        present.old sent.old.items).sent) }
     ensures err { OnErr result (sent.new.items ≡ sent.old.items) }
 {
     let owed = outcome(
@@ -143,7 +150,8 @@ pub(crate) fn react_module(
     event: SourceEvent,
     mut present: Present,
 ) -> Result<(), AllocError>
-    ensures state { OnOk result (state.new ≡ reacted (source_tree code.now) ends.now event state.old «module» present) }
+    ensures state { OnOk result (state.new ≡ reacted (source_tree code.now) ends.now event state.old
+        «module» present) }
     ensures err { OnErr result (state.new ≡ state.old) }
 {
     react_present(alloc, code, ends, event, &mut present, &mut state.sent)?;

@@ -1,7 +1,8 @@
 //! Whether a module may be attested, and the connections' epochs after the attestation.
 
-ghost use Rattle.std.specs.Prelude.{◌≡◌, ◌+◌, ◌<◌, ◌&&◌, IfOk, false, if◌then◌else◌, length, nat_le, true};
-ghost use Rattle.sx_model.specs.Renewal.{is_of, is_spent, may_attest, raised, renewed};
+ghost use Rattle.std.specs.Prelude.{◌≡◌, ◌+◌, ◌<◌, ◌&&◌, IfOk, false, if◌then◌else◌, length};
+ghost use Rattle.std.specs.Prelude.{nat_le, true};
+ghost use Rattle.sx_model.specs.Renewal.{is_of, is_spent, may_attest, raised_epochs, renewed};
 
 use std::alloc::{AllocError, Global};
 use sx_mean::apps::Link;
@@ -51,7 +52,7 @@ fn next_epoch(epoch: u8, is_raised: bool) -> u8
 #[tactic(auto, using(crate::proofs::Paired::raised_end))]
 fn raise(m: u8, links: &[Link], epochs: &mut [u8])
     requires { is_spent m links.now epochs.old ≡ false }
-    ensures { epochs.new ≡ raised m links.now epochs.old }
+    ensures { epochs.new ≡ raised_epochs m links.now epochs.old }
 {
     for at in 0..links.len().min(epochs.len()) {
         epochs[at] = next_epoch(epochs[at], is_of(m, &links[at]));

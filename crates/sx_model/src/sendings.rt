@@ -1,8 +1,11 @@
 //! What the acts of an event are sent as, over which connections.
 
-ghost use Rattle.std.specs.Prelude.{◌≡◌, ◌+◌, ◌*◌, ◌<◌, ◌≤◌, ◌-◌, ◌++◌, ◌∷◌, [], IfOk, OnErr, OnOk, if◌then◌else◌, is_some, length, nat_lt, slice_get, take};
+ghost use Rattle.std.specs.Prelude.{◌≡◌, ◌+◌, ◌*◌, ◌<◌, ◌≤◌, ◌-◌, ◌++◌, ◌∷◌, [], IfOk, OnErr, OnOk};
+ghost use Rattle.std.specs.Prelude.{if◌then◌else◌, is_some, length, nat_lt, slice_get, take};
 ghost use Rattle.std.specs.Option.{option_to_list};
-ghost use Rattle.sx_model.specs.Sendings.{act_to_send, all_to_send, emits_of, emits_of_act, has_room, sending_of, sent_one, sent_pieces, sent_words, to_send, without_last};
+ghost use Rattle.sx_model.specs.Sendings.{act_to_send, all_to_send, emits_of, emits_of_act};
+ghost use Rattle.sx_model.specs.Sendings.{has_room, sending_of, sent_one, sent_pieces, sent_words};
+ghost use Rattle.sx_model.specs.Sendings.{to_send, without_last};
 
 use crate::state::{EndView, Words};
 use std::alloc::{AllocError, Global};
@@ -63,7 +66,8 @@ fn add_sent(
     output: u8,
     value: u16,
 ) -> Result<(), AllocError>
-    ensures { OnOk result (sendings.new.items ≡ sendings.old.items ++ to_send ends.now views.now output value) }
+    ensures { OnOk result (sendings.new.items ≡ sendings.old.items
+        ++ to_send ends.now views.now output value) }
 {
     for at in 0..ends.len().min(views.len()) {
         let sending = sending_of(&ends[at], &views[at], output, value);
@@ -78,7 +82,8 @@ fn add_act(
     views: &[EndView],
     act: Act,
 ) -> Result<(), AllocError>
-    ensures { OnOk result (sendings.new.items ≡ sendings.old.items ++ act_to_send ends.now views.now act) }
+    ensures { OnOk result (sendings.new.items ≡ sendings.old.items
+        ++ act_to_send ends.now views.now act) }
 {
     match act {
         Act::Send(output, value) => add_sent(sendings, ends, views, output, value),
@@ -127,7 +132,8 @@ pub(crate) fn emits_of(alloc: Global, acts: &[Act]) -> Result<Vec<u16>, AllocErr
 
 fn push_word(words: &mut Words, value: u16) -> Result<bool, AllocError>
     ensures answer { IfOk result (λ b. b ≡ nat_lt (length words.old) 65535) }
-    ensures words { OnOk result (words.new ≡ (if nat_lt (length words.old) 65535 then words.old ++ value ∷ [] else words.old)) }
+    ensures words { OnOk result (words.new ≡ (if nat_lt (length words.old) 65535 then
+        words.old ++ value ∷ [] else words.old)) }
     ensures err { OnErr result (words.new ≡ words.old) }
 {
     if words.words.len() >= MOST_SENT {

@@ -28,7 +28,8 @@ fn first_reading() -> Reading
 }
 
 fn first_readings(alloc: Global, devices: &[AppDevice]) -> Result<Vec<Reading>, AllocError>
-    ensures { IfOk result (λ readings. readings.items ≡ map (λ d. record { value = 0; fresh = false }) devices.now) }
+    ensures { IfOk result (λ readings. readings.items
+        ≡ map (λ d. record { value = 0; fresh = false }) devices.now) }
 {
     devices.iter().map(|_| first_reading()).collect(alloc)
 }
@@ -45,7 +46,9 @@ fn first_standing(alloc: Global) -> Standing
 }
 
 fn first_standings(alloc: Global, parts: &[Part]) -> Result<Vec<Standing>, AllocError>
-    ensures { IfOk result (λ modules. modules.items ≡ map (λ q. record { present = None; asked = None; vouched = []; attested = None }) parts.now) }
+    ensures { IfOk result (λ modules. modules.items
+        ≡ map (λ q. record { present = None; asked = None; vouched = []; attested = None })
+        parts.now) }
 {
     parts.iter().map(|_| first_standing(alloc)).collect(alloc)
 }

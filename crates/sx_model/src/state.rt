@@ -109,7 +109,12 @@ impl Model for Standing {
 
     ghost Value = { Seen };
 
-    ghost view = { λ x. record { present = x.present; asked = x.asked; vouched = x.vouched.items; attested = x.attested } };
+    ghost view = { λ x. record {
+      present = x.present;
+      asked = x.asked;
+      vouched = x.vouched.items;
+      attested = x.attested;
+    } };
 }
 
 /// The words that were sent over a connection in an epoch.

@@ -1,12 +1,15 @@
 //! Events: a driver takes its sensor's value, and a module takes a word that was sent.
 
-ghost use Rattle.std.specs.Prelude.{◌≡◌, ◌+◌, ◌*◌, ◌/◌, ◌%◌, ◌<◌, ◌≤◌, ◌&&◌, IfOk, OnErr, OnOk, is_some, length, slice_get, unwrap_or};
+ghost use Rattle.std.specs.Prelude.{◌≡◌, ◌+◌, ◌*◌, ◌/◌, ◌%◌, ◌<◌, ◌≤◌, ◌&&◌, IfOk, OnErr, OnOk};
+ghost use Rattle.std.specs.Prelude.{is_some, length, slice_get, unwrap_or};
 ghost use Rattle.sx_check.specs.Source.{source_tree};
 ghost use Rattle.sx_mean.specs.Ends.{ends_of};
 ghost use Rattle.sx_mean.specs.declared.events.SourceEvent.TheVariants.{Sample};
 ghost use Rattle.sx_mean.specs.View.{app_as, part_as};
 ghost use Rattle.sx_lang.specs.declared.sides.Side.TheVariants.{To};
-ghost use Rattle.sx_model.specs.Changes.{at_index, is_readable, on_device, on_end, reads, reacted, reads_from, staled, takes_at, takes_idle, takes_in, takes_present, with_stale, word_at};
+ghost use Rattle.sx_model.specs.Changes.{at_index, is_readable, on_device, on_end, reads, reacted};
+ghost use Rattle.sx_model.specs.Changes.{reads_from, staled, takes_at, takes_idle, takes_in};
+ghost use Rattle.sx_model.specs.Changes.{takes_present, with_stale, word_at};
 ghost use Rattle.sx_model.specs.Renewal.{is_at, takes};
 ghost use Rattle.sx_model.specs.Step.{◌>>?◌, is_fresh_with, is_word};
 
@@ -27,7 +30,8 @@ fn is_fresh_with(value: u16, reading: &Reading) -> bool
 
 /// Whether the device is a sensor with this value, which no one took yet.
 fn is_readable(app: &App, state: &State, device: u8, value: u16) -> bool
-    ensures { result ≡ is_readable (app_as app.now) device value (slice_get state.now.devices device) }
+    ensures { result ≡ is_readable (app_as app.now) device value
+        (slice_get state.now.devices device) }
 {
     match state.devices.get(usize::from(device)) {
         Some(reading) => has_sensor(&app.devices, device) && is_fresh_with(value, reading),
@@ -81,7 +85,8 @@ fn take_view(view: &mut EndView, epoch: u32, index: u32) -> bool
 fn take_view_at(views: &mut Vec<EndView>, at: usize, epoch: u32, index: u32) -> bool
     requires { index < 65536 }
     ensures answer { result ≡ is_some (at_index views.old.items at (takes epoch index)) }
-    ensures views { views.new.items ≡ unwrap_or (at_index views.old.items at (takes epoch index)) views.old.items }
+    ensures views { views.new.items ≡ unwrap_or (at_index views.old.items at (takes epoch index))
+        views.old.items }
 {
     match views.get_mut(at) {
         Some(view) => take_view(view, epoch, index),
@@ -92,8 +97,10 @@ fn take_view_at(views: &mut Vec<EndView>, at: usize, epoch: u32, index: u32) -> 
 /// A receiving end takes the word of this index in an epoch.
 fn take_end(views: &mut Vec<EndView>, ends: &[End], link: u8, epoch: u32, index: u32) -> bool
     requires { index < 65536 }
-    ensures answer { result ≡ is_some (on_end (takes epoch index) link To ends.now views.old.items) }
-    ensures views { views.new.items ≡ unwrap_or (on_end (takes epoch index) link To ends.now views.old.items) views.old.items }
+    ensures answer { result ≡ is_some (on_end (takes epoch index) link To ends.now
+        views.old.items) }
+    ensures views { views.new.items ≡ unwrap_or (on_end (takes epoch index) link To ends.now
+        views.old.items) views.old.items }
 {
     match end_at(ends, link, Side::To) {
         Some(at) => take_view_at(views, at, epoch, index),
@@ -125,8 +132,10 @@ impl Taking {
 
 /// A module's receiving end takes a word.
 fn take_present(present: &mut Present, ends: &[End], taking: Taking) -> bool
-    ensures answer { result ≡ is_some (takes_present taking.link taking.number ends.now present.old) }
-    ensures present { present.new ≡ unwrap_or (takes_present taking.link taking.number ends.now present.old) present.old }
+    ensures answer { result ≡ is_some (takes_present taking.link taking.number ends.now
+        present.old) }
+    ensures present { present.new ≡ unwrap_or (takes_present taking.link taking.number ends.now
+        present.old) present.old }
 {
     let epoch = taking.number / 65_536;
     let index = taking.number % 65_536;
@@ -171,7 +180,9 @@ fn read_idle(
     present: Present,
 ) -> Result<(), AllocError>
     requires { length app.now.links.items ≤ 256 }
-    ensures state { OnOk result (state.new ≡ with_stale device (reacted (source_tree part.now.code) (ends_of (app_as app.now) «module») (Sample value) state.old «module» present)) }
+    ensures state { OnOk result (state.new ≡ with_stale device
+        (reacted (source_tree part.now.code) (ends_of (app_as app.now) «module») (Sample value)
+        state.old «module» present)) }
     ensures err { OnErr result (state.new ≡ state.old) }
 {
     let ends = ends_of(alloc, &app.links, module)?;
@@ -192,8 +203,11 @@ fn read_from(
     value: u16,
 ) -> Result<bool, AllocError>
     requires { length app.now.links.items ≤ 256 }
-    ensures answer { IfOk result (λ b. b ≡ is_some (reads_from (app_as app.now) state.old «module» (part_as part.now) device value)) }
-    ensures state { OnOk result (state.new ≡ unwrap_or (reads_from (app_as app.now) state.old «module» (part_as part.now) device value) state.old) }
+    ensures answer { IfOk result (λ b. b ≡ is_some
+        (reads_from (app_as app.now) state.old «module» (part_as part.now) device value)) }
+    ensures state { OnOk result (state.new ≡ unwrap_or
+        (reads_from (app_as app.now) state.old «module» (part_as part.now) device value)
+        state.old) }
     ensures err { OnErr result (state.new ≡ state.old) }
 {
     if !is_readable(app, state, device, value) {
@@ -215,8 +229,10 @@ pub(crate) fn read(
     value: u16,
 ) -> Result<bool, AllocError>
     requires { length app.now.links.items ≤ 256 }
-    ensures answer { IfOk result (λ b. b ≡ is_some (reads (app_as app.now) state.old «module» value)) }
-    ensures state { OnOk result (state.new ≡ unwrap_or (reads (app_as app.now) state.old «module» value) state.old) }
+    ensures answer { IfOk result (λ b. b ≡ is_some
+        (reads (app_as app.now) state.old «module» value)) }
+    ensures state { OnOk result (state.new ≡ unwrap_or
+        (reads (app_as app.now) state.old «module» value) state.old) }
     ensures err { OnErr result (state.new ≡ state.old) }
 {
     let Some(part) = app.parts.get(usize::from(module)) else {
@@ -240,8 +256,12 @@ fn take_idle(
     mut present: Present,
 ) -> Result<bool, AllocError>
     requires { length app.now.links.items ≤ 256 }
-    ensures answer { IfOk result (λ b. b ≡ is_some (takes_idle (app_as app.now) state.old «module» (part_as part.now) taking.link taking.number input taking.value present)) }
-    ensures state { OnOk result (state.new ≡ unwrap_or (takes_idle (app_as app.now) state.old «module» (part_as part.now) taking.link taking.number input taking.value present) state.old) }
+    ensures answer { IfOk result (λ b. b ≡ is_some
+        (takes_idle (app_as app.now) state.old «module» (part_as part.now) taking.link taking.number
+        input taking.value present)) }
+    ensures state { OnOk result (state.new ≡ unwrap_or
+        (takes_idle (app_as app.now) state.old «module» (part_as part.now) taking.link taking.number
+        input taking.value present) state.old) }
     ensures err { OnErr result (state.new ≡ state.old) }
 {
     let ends = ends_of(alloc, &app.links, module)?;
@@ -264,8 +284,12 @@ fn take_at(
     input: u8,
 ) -> Result<bool, AllocError>
     requires { length app.now.links.items ≤ 256 }
-    ensures answer { IfOk result (λ b. b ≡ is_some (takes_at (app_as app.now) state.old «module» (part_as part.now) taking.link taking.number input taking.value)) }
-    ensures state { OnOk result (state.new ≡ unwrap_or (takes_at (app_as app.now) state.old «module» (part_as part.now) taking.link taking.number input taking.value) state.old) }
+    ensures answer { IfOk result (λ b. b ≡ is_some
+        (takes_at (app_as app.now) state.old «module» (part_as part.now) taking.link taking.number
+        input taking.value)) }
+    ensures state { OnOk result (state.new ≡ unwrap_or
+        (takes_at (app_as app.now) state.old «module» (part_as part.now) taking.link taking.number
+        input taking.value) state.old) }
     ensures err { OnErr result (state.new ≡ state.old) }
 {
     let Some(present) = idle_copy(alloc, state, module)? else {
@@ -283,8 +307,11 @@ pub(crate) fn take(
     taking: Taking,
 ) -> Result<bool, AllocError>
     requires { length app.now.links.items ≤ 256 }
-    ensures answer { IfOk result (λ b. b ≡ is_some (takes_in (app_as app.now) state.old «module» taking.link taking.number taking.value)) }
-    ensures state { OnOk result (state.new ≡ unwrap_or (takes_in (app_as app.now) state.old «module» taking.link taking.number taking.value) state.old) }
+    ensures answer { IfOk result (λ b. b ≡ is_some
+        (takes_in (app_as app.now) state.old «module» taking.link taking.number taking.value)) }
+    ensures state { OnOk result (state.new ≡ unwrap_or
+        (takes_in (app_as app.now) state.old «module» taking.link taking.number taking.value)
+        state.old) }
     ensures err { OnErr result (state.new ≡ state.old) }
 {
     let Some(part) = app.parts.get(usize::from(module)) else {

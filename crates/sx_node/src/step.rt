@@ -11,7 +11,8 @@ ghost use Rattle.sx_machine.specs.declared.kinds.Event.TheVariants.{Reset};
 ghost use Rattle.sx_machine.specs.Run.{exec, untouched};
 ghost use Rattle.sx_machine.specs.Rows.{program};
 ghost use Rattle.sx_machine.specs.Modules.{is_code, module_instruction};
-ghost use Rattle.sx_machine.specs.Step.{step, attempt, instruction, given, is_module_word, ordered};
+ghost use Rattle.sx_machine.specs.Step.{step, attempt, instruction, given_at_pc, is_module_word};
+ghost use Rattle.sx_machine.specs.Step.{ordered};
 ghost use Rattle.sx_machine.specs.Step.{word_outside, pc_of, own_of, start, entered_from, left};
 ghost use Rattle.sx_machine.specs.Answers.{Attempts};
 ghost use Rattle.sx_machine.specs.Guard.{Guarded, Foreign};
@@ -160,7 +161,8 @@ impl<B: Bus, T: Tag> Node<B, T> {
         requires own { own ≡ own_of self.old }
         requires code { is_code code ≡ true }
         ensures { Attempts self.old
-            (module_instruction T.mac code (given T.mac self.old) self.old.mem) result self.new }
+            (module_instruction T.mac code (given_at_pc T.mac self.old) self.old.mem) result
+            self.new }
     {
         let caller = self.entered_from(own);
         let base = boot_key(&self.tag, &self.key, self.boot);

@@ -3,8 +3,8 @@ use Rattle.std.proofs.Common.{◌≡◌, ℕ, zero, suc, ◌+◌, ◌-◌, ◌*�
 use Rattle.std.proofs.lemmas.List.{get_or_append_left, get_or-append_right, set-append_left, set-append_right, replicate-append-replicate, length-replicate}
 use Rattle.std.proofs.lemmas.List.Elements.{All-head, All-tail, All-set, All-get_or, All-replicate}
 use Rattle.std.specs.Prelude.{All}
-use Rattle.sx_bus.specs.Memory.{blank, AreBytes}
-use Rattle.sx_bus.proofs.Bytes.{AreBytes-set, AreBytes-blank}
+use Rattle.sx_bus.specs.Memory.{blank, AreMemoryBytes}
+use Rattle.sx_bus.proofs.Bytes.{AreMemoryBytes-set, AreMemoryBytes-blank}
 use Rattle.sx_pages.specs.Pages.{Pages, zeros, no_pages}
 use Rattle.sx_paged.specs.Memory.{page_bytes, joined, IsMemory, byte_at, after_put}
 
@@ -70,8 +70,8 @@ pub IsMemory-none : IsMemory no_pages
 unfolding no_pages
 IsMemory-none = record { count = length-replicate {A = Option (List ℕ)} 256 None; even = All-replicate Even 256 None length-zeros }
 
-pub AreBytes-none : AreBytes (joined no_pages)
-AreBytes-none = subst AreBytes (sym joined-none) (AreBytes-blank 65536 refl)
+pub AreMemoryBytes-none : AreMemoryBytes (joined no_pages)
+AreMemoryBytes-none = subst AreMemoryBytes (sym joined-none) (AreMemoryBytes-blank 65536 refl)
 
-pub AreBytes-put : (pages : Pages) (at byte : ℕ) → IsMemory pages → at < 65536 → byte < 256 → AreBytes (joined pages) → AreBytes (joined (after_put pages at byte))
-AreBytes-put pages at byte is h small bytes = subst AreBytes (sym (joined-put pages at byte is h)) (AreBytes-set (joined pages) at byte bytes small)
+pub AreMemoryBytes-put : (pages : Pages) (at byte : ℕ) → IsMemory pages → at < 65536 → byte < 256 → AreMemoryBytes (joined pages) → AreMemoryBytes (joined (after_put pages at byte))
+AreMemoryBytes-put pages at byte is h small bytes = subst AreMemoryBytes (sym (joined-put pages at byte is h)) (AreMemoryBytes-set (joined pages) at byte bytes small)

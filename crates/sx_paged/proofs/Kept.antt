@@ -278,8 +278,8 @@ all-none [] (suc n) long empty = absurd (omega (arith, long))
 all-none (x ∷ ps) zero long empty = absurd (omega (arith, long))
 all-none (x ∷ ps) (suc n) long empty = (λ j. empty 0 (omega arith) j ∷ all-none ps n (omega (arith, long)) (λ i h. empty (suc i) (omega (arith, h))) j)
 
-pub present-grows : PresentGrows
-present-grows pages address byte is h =
+pub present_grows : PresentGrows
+present_grows pages address byte is h =
     let within : address / 256 < length pages = omega (arith, is.count, h) in
     let more : suc (size pages) ≡ size pages + 1 = omega arith in
     (size-write pages (address / 256) _, λ f. size-put pages (address / 256) _ within f ∙ more)

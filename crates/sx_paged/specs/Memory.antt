@@ -4,7 +4,8 @@
 --     IsMemory      how many pages there are, and of how many bytes
 -- A page of the memory is named by its index: the page at the index i has the addresses 256 i to
 -- 256 i + 255.
-use Rattle.std.specs.Prelude.{◌≡◌, ℕ, ◌/◌, ◌%◌, List, [], ◌∷◌, ◌++◌, length, get_or, set, All, Option, Some, None}
+use Rattle.std.specs.Prelude.{◌≡◌, ℕ, ◌/◌, ◌%◌, List, [], ◌∷◌, ◌++◌, length, get_or, set, All}
+use Rattle.std.specs.Prelude.{Option, Some, None}
 use Rattle.sx_pages.specs.Pages.{Pages, zeros}
 
 -- the bytes of a page: zeros where it is absent
@@ -29,4 +30,5 @@ byte_at pages address = get_or (page_bytes (get_or pages (address / 256) None)) 
 -- the pages after a byte was written, in a page that is made where it was absent
 abbrev pub after_put : Pages → ℕ → ℕ → Pages
 after_put pages address byte =
-    set pages (address / 256) (Some (set (page_bytes (get_or pages (address / 256) None)) (address % 256) byte))
+    set pages (address / 256) (Some (set (page_bytes (get_or pages (address / 256) None))
+    (address % 256) byte))

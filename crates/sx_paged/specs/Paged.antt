@@ -20,5 +20,6 @@ pub record IsPaged (arena : Pages) (numbers : List (Option ℕ)) : Type 0 where
   pub whole : length arena ≡ 256
   pub long : length numbers ≡ 256
   pub live : (index page : ℕ) → get_or numbers index None ≡ Some page → is_live arena page ≡ true
-  pub apart : (index other page : ℕ) → get_or numbers index None ≡ Some page → get_or numbers other None ≡ Some page → index ≡ other
+  pub apart : (index other page : ℕ) → get_or numbers index None ≡ Some page
+      → get_or numbers other None ≡ Some page → index ≡ other
   pub counted : size arena ≡ count numbers

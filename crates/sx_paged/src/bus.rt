@@ -1,7 +1,7 @@
 //! The memory of 65,536 bytes, as its callers see it.
 
 ghost use Rattle.std.specs.Prelude.{◌≡◌, ℕ, slice_index, slice_set, IfOk};
-ghost use Rattle.sx_bus.specs.Memory.{blank, AreBytes};
+ghost use Rattle.sx_bus.specs.Memory.{blank, AreMemoryBytes};
 ghost use Rattle.sx_pages.specs.Pages.{no_pages, size};
 ghost use Rattle.sx_paged.specs.Memory.{IsMemory, joined, after_put};
 
@@ -15,7 +15,7 @@ use sx_bus::{Bus, Copied};
 pub struct PagedBus {
     pages: Paged,
     ghost shaped: { IsMemory pages },
-    ghost ranged: { AreBytes (joined pages) },
+    ghost ranged: { AreMemoryBytes (joined pages) },
 }
 
 impl PagedBus {

@@ -8,13 +8,13 @@ use prog.Model.{Model}
 use types.Logic.{Logic, sem}
 use types.Kit.{‵, ◌⊛◌, ◌$◌, ◌∵◌, !, qed, by, move, keep, use1, split, rewrite}
 use denote.RawPtr.{block_ptr}
-use Rattle.sx_pages.specs.Ownership.{Slot, IsBlock, slot_own, pages_own, block_owns}
+use Rattle.sx_pages.specs.Ownership.{Slot, IsArenaBlock, slot_own, pages_own, block_owns}
 use Rattle.sx_pages.proofs.Memory.{Besides, slot_out, slot_room}
 use Rattle.sx_pages.proofs.Slots.{length-page}
 
 -- if a byte of the one were a byte of the other, the two couldn't both be owned
 pub share_no_byte : {M : Type 1} {𝓤 : Ura M} (𝓛 : Logic 𝓤) (𝓜 : Model 𝓤 𝓛.H) (b o r : ℕ) (ps qs : List (List Slot)) (p at q there : ℕ)
-    → IsBlock ps → IsBlock qs → p < 256 → at < 256 → q < 256 → there < 256 → q * 256 + there + r ≡ p * 256 + at + o
+    → IsArenaBlock ps → IsArenaBlock qs → p < 256 → at < 256 → q < 256 → there < 256 → q * 256 + there + r ≡ p * 256 + at + o
     → ent 𝓤 (sep 𝓤 (sem 𝓛 (block_owns (block_ptr b o) ps)) (sem 𝓛 (block_owns (block_ptr b r) qs))) (never 𝓤)
 share_no_byte {𝓤 = 𝓤} 𝓛 𝓜 b o r ps qs p at q there is is' hp hat hq hthere same =
     let k = p * 256 + at + o in

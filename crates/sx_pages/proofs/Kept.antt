@@ -4,8 +4,8 @@ use Rattle.std.proofs.lemmas.Bool.{false≢true, cases_eq}
 use Rattle.std.proofs.lemmas.List.{get_or-set_same, get_or-set_other, length-replicate}
 use Rattle.std.proofs.lemmas.List.Elements.{All-set, All-replicate, All-get_or}
 use Rattle.std.specs.Prelude.{All}
-use Rattle.sx_pages.specs.Ownership.{Slot, IsBlock}
-use Rattle.sx_pages.specs.Arena.{byte_in, IsWritten, first, IsChain, IsArena, zeroed, AllLinked, AreCopied}
+use Rattle.sx_pages.specs.Ownership.{Slot, IsArenaBlock}
+use Rattle.sx_pages.specs.Arena.{byte_in, HasByte, first, IsChain, IsArena, zeroed, AllLinked, AreCopied}
 use Rattle.sx_pages.proofs.Slots.{length-page, choose}
 use Rattle.sx_pages.proofs.Views.{count-taken, count-released, count-none}
 
@@ -42,41 +42,41 @@ back (true ∷ ls) zero e = refl
 back (l ∷ ls) (suc p) e = ap (λ (z : Lives). l ∷ z) (back ls p e)
 
 -- a page is written whole
-full-set : (lives : Lives) (pages : Blocks) (p : ℕ) (x : List Slot) → p < length pages → (get_or lives p false ≡ true → All IsWritten x)
-    → ((q : ℕ) → q < 256 → q ≢ p → get_or lives q false ≡ true → All IsWritten (get_or pages q []))
-    → (q : ℕ) → q < 256 → get_or lives q false ≡ true → All IsWritten (get_or (set pages p x) q [])
+full-set : (lives : Lives) (pages : Blocks) (p : ℕ) (x : List Slot) → p < length pages → (get_or lives p false ≡ true → All HasByte x)
+    → ((q : ℕ) → q < 256 → q ≢ p → get_or lives q false ≡ true → All HasByte (get_or pages q []))
+    → (q : ℕ) → q < 256 → get_or lives q false ≡ true → All HasByte (get_or (set pages p x) q [])
 full-set lives pages p x hp new old q h t = choose (cases_eq q p)
-    (λ e. subst (λ (k : ℕ). All IsWritten (get_or (set pages p x) k [])) (sym e) (subst (All IsWritten) (sym (get_or-set_same pages p x [] hp)) (new (subst (λ (k : ℕ). get_or lives k false ≡ true) e t))))
-    (λ ne. subst (All IsWritten) (sym (get_or-set_other pages p q x [] ne)) (old q h ne t))
+    (λ e. subst (λ (k : ℕ). All HasByte (get_or (set pages p x) k [])) (sym e) (subst (All HasByte) (sym (get_or-set_same pages p x [] hp)) (new (subst (λ (k : ℕ). get_or lives k false ≡ true) e t))))
+    (λ ne. subst (All HasByte) (sym (get_or-set_other pages p q x [] ne)) (old q h ne t))
 
 -- the links stay where no page but one changed
-links-set : (lives now : Lives) (pages : Blocks) (p : ℕ) (x : List Slot) → (get_or now p false ≡ false → IsWritten (first (set pages p x) p))
-    → ((q : ℕ) → q < 256 → get_or lives q false ≡ false → IsWritten (first pages q)) → ((q : ℕ) → q ≢ p → get_or now q false ≡ get_or lives q false)
-    → (q : ℕ) → q < 256 → get_or now q false ≡ false → IsWritten (first (set pages p x) q)
+links-set : (lives now : Lives) (pages : Blocks) (p : ℕ) (x : List Slot) → (get_or now p false ≡ false → HasByte (first (set pages p x) p))
+    → ((q : ℕ) → q < 256 → get_or lives q false ≡ false → HasByte (first pages q)) → ((q : ℕ) → q ≢ p → get_or now q false ≡ get_or lives q false)
+    → (q : ℕ) → q < 256 → get_or now q false ≡ false → HasByte (first (set pages p x) q)
 links-set lives now pages p x new old same q h f = choose (cases_eq q p)
-    (λ e. subst (λ (k : ℕ). IsWritten (first (set pages p x) k)) (sym e) (new (subst (λ (k : ℕ). get_or now k false ≡ false) e f)))
+    (λ e. subst (λ (k : ℕ). HasByte (first (set pages p x) k)) (sym e) (new (subst (λ (k : ℕ). get_or now k false ≡ false) e f)))
     (λ ne. let it = old q h (sym (same q ne) ∙ f) in (it.0, first-other pages p q x ne ∙ it.1))
 
-pub written : (lives : Lives) (pages : Blocks) (head free p at : ℕ) → IsBlock pages → IsArena lives pages head free → p < 256 → at < 256 → get_or lives p false ≡ true
-    → IsWritten (get_or (get_or pages p []) at None)
-written lives pages head free p at is a hp hat t = All-get_or IsWritten (get_or pages p []) at None (omega (arith, length-page pages p hp is, hat)) (a.full p hp t)
+pub written : (lives : Lives) (pages : Blocks) (head free p at : ℕ) → IsArenaBlock pages → IsArena lives pages head free → p < 256 → at < 256 → get_or lives p false ≡ true
+    → HasByte (get_or (get_or pages p []) at None)
+written lives pages head free p at is a hp hat t = All-get_or HasByte (get_or pages p []) at None (omega (arith, length-page pages p hp is, hat)) (a.full p hp t)
 
-pub IsArena-write : (lives : Lives) (pages : Blocks) (head free p at byte : ℕ) → IsBlock pages → IsArena lives pages head free → p < 256 → get_or lives p false ≡ true
+pub IsArena-write : (lives : Lives) (pages : Blocks) (head free p at byte : ℕ) → IsArenaBlock pages → IsArena lives pages head free → p < 256 → get_or lives p false ≡ true
     → IsArena lives (set pages p (set (get_or pages p []) at (Some byte))) head free
 IsArena-write lives pages head free p at byte is a hp t = record {
   flags = a.flags;
   begins = a.begins;
   links = links-set lives lives pages p _ (λ f. absurd (false≢true (sym f ∙ t))) a.links (λ q ne. refl);
-  full = full-set lives pages p _ (omega (arith, is.0, hp)) (λ _. All-set IsWritten (get_or pages p []) at (Some byte) (byte, refl) (a.full p hp t)) (λ q h ne. a.full q h);
+  full = full-set lives pages p _ (omega (arith, is.0, hp)) (λ _. All-set HasByte (get_or pages p []) at (Some byte) (byte, refl) (a.full p hp t)) (λ q h ne. a.full q h);
   chained = chain-same lives pages _ head free (λ q h f. first-other pages p q _ (apart lives p q t f)) a.chained;
   counted = a.counted;
 }
 
-pub first-put : (pages : Blocks) (p byte : ℕ) → IsBlock pages → p < 256 → first (set pages p (set (get_or pages p []) 0 (Some byte))) p ≡ Some byte
+pub first-put : (pages : Blocks) (p byte : ℕ) → IsArenaBlock pages → p < 256 → first (set pages p (set (get_or pages p []) 0 (Some byte))) p ≡ Some byte
 first-put pages p byte is hp =
     ap (λ (page : List Slot). get_or page 0 None) (get_or-set_same pages p _ [] (omega (arith, is.0, hp))) ∙ get_or-set_same (get_or pages p []) 0 (Some byte) None (omega (arith, length-page pages p hp is))
 
-pub IsArena-release : (lives : Lives) (pages : Blocks) (head free p : ℕ) → IsBlock pages → IsArena lives pages head free → p < 256 → get_or lives p false ≡ true
+pub IsArena-release : (lives : Lives) (pages : Blocks) (head free p : ℕ) → IsArenaBlock pages → IsArena lives pages head free → p < 256 → get_or lives p false ≡ true
     → IsArena (set lives p false) (set pages p (set (get_or pages p []) 0 (Some head))) p (free + 1)
 IsArena-release lives pages head free p is a hp t =
     let new = set pages p (set (get_or pages p []) 0 (Some head)) in
@@ -96,11 +96,11 @@ pub positive : (n : ℕ) → (n ≡ 0 → ⊥) → 0 < n
 positive zero f = absurd (f refl)
 positive (suc n) f = omega arith
 
-pub linked : (lives : Lives) (pages : Blocks) (head free : ℕ) → IsArena lives pages head free → 0 < free → (head < 256) × (get_or lives head false ≡ false) × IsWritten (first pages head)
+pub linked : (lives : Lives) (pages : Blocks) (head free : ℕ) → IsArena lives pages head free → 0 < free → (head < 256) × (get_or lives head false ≡ false) × HasByte (first pages head)
 linked lives pages head zero a h = absurd (omega (arith, h))
 linked lives pages head (suc n) a h = let c = a.chained in (c.0, c.1, (c.2, c.4))
 
-pub IsArena-take : (lives : Lives) (pages : Blocks) (head free next : ℕ) → IsBlock pages → IsArena lives pages head free → 0 < free → first pages head ≡ Some next
+pub IsArena-take : (lives : Lives) (pages : Blocks) (head free next : ℕ) → IsArenaBlock pages → IsArena lives pages head free → 0 < free → first pages head ≡ Some next
     → IsArena (set lives head true) (set pages head zeroed) next (free - 1)
 unfolding zeroed
 IsArena-take lives pages head zero next is a h e = absurd (omega (arith, h))
@@ -114,7 +114,7 @@ IsArena-take lives pages head (suc n) next is a h e =
       flags = length-set lives head true ∙ a.flags;
       begins = subst (λ (k : ℕ). k < 256) same c.3;
       links = links-set lives (set lives head true) pages head _ (λ f. absurd (false≢true (sym f ∙ now))) a.links (λ q ne. get_or-set_other lives head q true false ne);
-      full = full-set (set lives head true) pages head _ (omega (arith, is.0, c.0)) (λ _. All-replicate IsWritten 256 (Some 0) (0, refl)) (λ q h' ne u. a.full q h' (sym (get_or-set_other lives head q true false ne) ∙ u));
+      full = full-set (set lives head true) pages head _ (omega (arith, is.0, c.0)) (λ _. All-replicate HasByte 256 (Some 0) (0, refl)) (λ q h' ne u. a.full q h' (sym (get_or-set_other lives head q true false ne) ∙ u));
       chained = subst (λ (k : ℕ). IsChain (set lives head true) (set pages head zeroed) next k) less rest;
       counted = omega (arith, count-taken lives head (omega (arith, a.flags, c.0)) c.1, a.counted);
     }
@@ -153,7 +153,7 @@ IsArena-copy lives from to head free a copied = record {
   flags = a.flags;
   begins = a.begins;
   links = λ q h f. ((a.links q h f).0, (copied q h).1 f ∙ (a.links q h f).1);
-  full = λ q h t. subst (All IsWritten) (sym ((copied q h).0 t)) (a.full q h t);
+  full = λ q h t. subst (All HasByte) (sym ((copied q h).0 t)) (a.full q h t);
   chained = chain-same lives from to head free (λ q h f. (copied q h).1 f) a.chained;
   counted = a.counted;
 }

@@ -2,22 +2,22 @@
 use Rattle.std.proofs.Common.{◌≡◌, ℕ, ◌<◌, List, [], length, get_or, set, ◌∙◌, arith, length-set, Some, None, ◌⊎◌, inl, inr}
 use Rattle.std.proofs.lemmas.List.{length-replicate}
 use Rattle.std.proofs.lemmas.List.Elements.{All-get_or, All-set, All-replicate}
-use Rattle.sx_pages.specs.Ownership.{Slot, IsBlock, unwritten_page, unwritten}
+use Rattle.sx_pages.specs.Ownership.{Slot, IsArenaBlock, unwritten_page, unwritten}
 
 pub length-unwritten_page : length unwritten_page ≡ 256
 unfolding unwritten_page
 length-unwritten_page = length-replicate {A = Slot} 256 None
 
-pub IsBlock-unwritten : IsBlock (unwritten 256)
+pub IsArenaBlock-unwritten : IsArenaBlock (unwritten 256)
 unfolding unwritten
-IsBlock-unwritten = (length-replicate 256 unwritten_page, All-replicate (λ page. length page ≡ 256) 256 unwritten_page length-unwritten_page)
+IsArenaBlock-unwritten = (length-replicate 256 unwritten_page, All-replicate (λ page. length page ≡ 256) 256 unwritten_page length-unwritten_page)
 
-pub length-page : (pages : List (List Slot)) (p : ℕ) → p < 256 → IsBlock pages → length (get_or pages p []) ≡ 256
+pub length-page : (pages : List (List Slot)) (p : ℕ) → p < 256 → IsArenaBlock pages → length (get_or pages p []) ≡ 256
 length-page pages p h is = All-get_or (λ page. length page ≡ 256) pages p [] (omega (arith, is.0)) is.1
 
-pub IsBlock-set : (pages : List (List Slot)) (p at byte : ℕ) → p < 256 → IsBlock pages
-    → IsBlock (set pages p (set (get_or pages p []) at (Some byte)))
-IsBlock-set pages p at byte h is =
+pub IsArenaBlock-set : (pages : List (List Slot)) (p at byte : ℕ) → p < 256 → IsArenaBlock pages
+    → IsArenaBlock (set pages p (set (get_or pages p []) at (Some byte)))
+IsArenaBlock-set pages p at byte h is =
     (length-set pages p _ ∙ is.0, All-set (λ page. length page ≡ 256) pages p _ (length-set (get_or pages p []) at (Some byte) ∙ length-page pages p h is) is.1)
 
 -- by cases

@@ -1,6 +1,7 @@
 -- How an arena keeps its pages in the block. Nobody has to believe it: the contracts of `Arena`
 -- cite Pages.antt alone.
-use Rattle.std.specs.Prelude.{◌≡◌, ℕ, zero, suc, ◌+◌, ◌<◌, Bool, true, false, List, [], ◌∷◌, length, get_or, set, map, replicate, All, Option, Some, None}
+use Rattle.std.specs.Prelude.{◌≡◌, ℕ, zero, suc, ◌+◌, ◌<◌, Bool, true, false, List, [], ◌∷◌, length}
+use Rattle.std.specs.Prelude.{get_or, set, map, replicate, All, Option, Some, None}
 use Rattle.sx_pages.specs.Ownership.{Slot}
 use Rattle.sx_pages.specs.Pages.{Pages}
 
@@ -21,8 +22,8 @@ pages_of (live ∷ lives) [] = page_of live [] ∷ pages_of lives []
 pages_of (live ∷ lives) (page ∷ pages) = page_of live page ∷ pages_of lives pages
 
 -- a byte is in the slot
-abbrev pub IsWritten : Slot → Type 0
-IsWritten slot = (byte : ℕ) × (slot ≡ Some byte)
+abbrev pub HasByte : Slot → Type 0
+HasByte slot = (byte : ℕ) × (slot ≡ Some byte)
 
 -- one slot of a page
 abbrev pub slot_of : List (List Slot) → ℕ → ℕ → Slot
@@ -41,7 +42,8 @@ first pages page = slot_of pages page 0
 abbrev pub IsChain : List Bool → List (List Slot) → ℕ → ℕ → Type 0
 IsChain lives pages page zero = Unit {0}
 IsChain lives pages page (suc n) =
-    (page < 256) × (get_or lives page false ≡ false) × (next : ℕ) × (next < 256) × (first pages page ≡ Some next) × IsChain (set lives page true) pages next n
+    (page < 256) × (get_or lives page false ≡ false) × (next : ℕ) × (next < 256)
+    × (first pages page ≡ Some next) × IsChain (set lives page true) pages next n
 
 -- how many are marked
 abbrev pub count : List Bool → ℕ
@@ -53,8 +55,9 @@ count (true ∷ lives) = suc (count lives)
 pub record IsArena (lives : List Bool) (pages : List (List Slot)) (head free : ℕ) : Type 0 where
   pub flags : length lives ≡ 256
   pub begins : head < 256
-  pub full : (page : ℕ) → page < 256 → get_or lives page false ≡ true → All IsWritten (get_or pages page [])
-  pub links : (page : ℕ) → page < 256 → get_or lives page false ≡ false → IsWritten (first pages page)
+  pub full : (page : ℕ) → page < 256 → get_or lives page false ≡ true
+      → All HasByte (get_or pages page [])
+  pub links : (page : ℕ) → page < 256 → get_or lives page false ≡ false → HasByte (first pages page)
   pub chained : IsChain lives pages head free
   pub counted : free + count lives ≡ 256
 
@@ -64,14 +67,17 @@ zeroed = replicate 256 (Some 0)
 
 -- each page is linked to the next
 abbrev pub AllLinked : List (List Slot) → ℕ → Type 0
-AllLinked pages n = (page : ℕ) → page < n → (next : ℕ) × (next < 256) × (first pages page ≡ Some next) × (page < 255 → next ≡ page + 1)
+AllLinked pages n = (page : ℕ) → page < n → (next : ℕ) × (next < 256)
+    × (first pages page ≡ Some next) × (page < 255 → next ≡ page + 1)
 
 -- what a copy reads is written: the live pages whole, and the links of the others
 abbrev pub CanCopy : List Bool → List (List Slot) → Type 0
 CanCopy lives pages = (page : ℕ) → page < 256
-    → (get_or lives page false ≡ true → All IsWritten (get_or pages page [])) × (get_or lives page false ≡ false → IsWritten (first pages page))
+    → (get_or lives page false ≡ true → All HasByte (get_or pages page []))
+    × (get_or lives page false ≡ false → HasByte (first pages page))
 
 -- the live pages among the first n are copied whole, and the links of the others
 abbrev pub AreCopied : List Bool → List (List Slot) → List (List Slot) → ℕ → Type 0
 AreCopied lives from to n = (page : ℕ) → page < n
-    → (get_or lives page false ≡ true → get_or to page [] ≡ get_or from page []) × (get_or lives page false ≡ false → first to page ≡ first from page)
+    → (get_or lives page false ≡ true → get_or to page [] ≡ get_or from page [])
+    × (get_or lives page false ≡ false → first to page ≡ first from page)

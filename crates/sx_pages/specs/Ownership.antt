@@ -25,8 +25,8 @@ unfoldable pub unwritten : ℕ → List (List Slot)
 unwritten n = replicate n unwritten_page
 
 -- 256 pages of 256 slots
-abbrev pub IsBlock : List (List Slot) → Type 0
-IsBlock pages = (length pages ≡ 256) × All (λ page. length page ≡ 256) pages
+abbrev pub IsArenaBlock : List (List Slot) → Type 0
+IsArenaBlock pages = (length pages ≡ 256) × All (λ page. length page ≡ 256) pages
 
 -- a slot at the offset o of the block b is owned, with its byte or as room for one
 abbrev pub slot_own : Slot → ℕ → ℕ → Fml
@@ -43,7 +43,13 @@ in_page = record { part = λ _. slot_own }
 
 -- a page as a type that lies in memory
 abbrev pub page : SemTy
-page = record { rep = List Slot; coded = coded_list (coded_option coded_ℕ); size = 256; own_at = parts slot in_page full_share }
+page = record {
+  rep = List Slot;
+  coded = coded_list (coded_option coded_ℕ);
+  size = 256;
+  own_at =
+      parts slot in_page full_share;
+}
 
 -- each part of a block is a page
 abbrev pub in_block : Parts page

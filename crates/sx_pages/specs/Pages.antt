@@ -3,7 +3,8 @@
 --     is_live, held, size      its domain, its values, and how many there are
 --     with_byte      the pages after a byte was written
 --     Takes      what a page that is taken has to be
-use Rattle.std.specs.Prelude.{◌≡◌, ℕ, suc, ◌<◌, Bool, true, false, List, [], ◌∷◌, get_or, set, replicate, Option, Some, None}
+use Rattle.std.specs.Prelude.{◌≡◌, ℕ, suc, ◌<◌, Bool, true, false, List, [], ◌∷◌, get_or, set}
+use Rattle.std.specs.Prelude.{replicate, Option, Some, None}
 
 -- for each number what the page holds, if it is live
 abbrev pub Pages : Type 0
@@ -46,6 +47,7 @@ abbrev pub with_byte : Pages → ℕ → ℕ → ℕ → Pages
 with_byte pages page at byte = set pages page (Some (set (held pages page) at byte))
 
 -- a page that was free becomes live and is all zeros; none is taken exactly where all 256 are live
-abbrev pub Takes : Pages → Option ℕ → Pages → Type 0
-Takes old (Some page) new = (page < 256) × (size old < 256) × (is_live old page ≡ false) × (new ≡ set old page (Some zeros))
-Takes old None new = (size old ≡ 256) × (new ≡ old)
+abbrev pub TakesPage : Pages → Option ℕ → Pages → Type 0
+TakesPage old (Some page) new =
+    (page < 256) × (size old < 256) × (is_live old page ≡ false) × (new ≡ set old page (Some zeros))
+TakesPage old None new = (size old ≡ 256) × (new ≡ old)

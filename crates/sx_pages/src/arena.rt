@@ -1,7 +1,8 @@
 //! The arena: pages that are taken and released.
 
-ghost use Rattle.std.specs.Prelude.{◌≡◌, ℕ, ◌+◌, ◌<◌, true, length, slice_index, slice_set, IfOk, None};
-ghost use Rattle.sx_pages.specs.Pages.{no_pages, is_live, held, size, with_byte, Takes};
+ghost use Rattle.std.specs.Prelude.{◌≡◌, ℕ, ◌+◌, ◌<◌, true, length, slice_index, slice_set, IfOk};
+ghost use Rattle.std.specs.Prelude.{None};
+ghost use Rattle.sx_pages.specs.Pages.{no_pages, is_live, held, size, with_byte, TakesPage};
 
 use crate::block::{Block, Lease};
 use std::alloc::{AllocError as OutOfMemory, Global};
@@ -60,7 +61,7 @@ impl Arena {
     /// Makes a free page live, with all its bytes 0, and gives its number. None exactly where all
     /// 256 pages are live; then nothing changes.
     pub fn take(&mut self) -> Option<u8>
-        ensures { Takes self.old result self.new }
+        ensures { TakesPage self.old result self.new }
     {
         if self.free == 0 {
             return None;

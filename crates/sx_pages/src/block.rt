@@ -1,9 +1,12 @@
 //! The block of memory behind a raw pointer. Everything that touches the pointer is in this file.
 
-ghost use Rattle.std.specs.Prelude.{◌≡◌, ◌<◌, List, All, length, get_or, slice_set, IfSome, Some, []};
+ghost use Rattle.std.specs.Prelude.{◌≡◌, ◌<◌, List, All, length, get_or, slice_set, IfSome, Some};
+ghost use Rattle.std.specs.Prelude.{[]};
 ghost use denote.RawPtr.{Ptr};
-ghost use Rattle.sx_pages.specs.Arena.{IsWritten, slot_of, with_slot, zeroed, AllLinked, CanCopy, AreCopied};
-ghost use Rattle.sx_pages.specs.Ownership.{Slot, IsBlock, unwritten, block_owns, block_lends, block_type};
+ghost use Rattle.sx_pages.specs.Arena.{HasByte, slot_of, with_slot, zeroed, AllLinked, CanCopy};
+ghost use Rattle.sx_pages.specs.Arena.{AreCopied};
+ghost use Rattle.sx_pages.specs.Ownership.{Slot, IsArenaBlock, unwritten, block_owns, block_lends};
+ghost use Rattle.sx_pages.specs.Ownership.{block_type};
 ghost use base.Fml.{ftrue};
 
 use std::alloc::Allocator;
@@ -16,7 +19,7 @@ const BYTES: usize = 65536;
 pub(crate) struct Block {
     start: *mut u8,
     pub(crate) ghost pages: { List (List Slot) },
-    pub(crate) ghost shaped: { IsBlock pages },
+    pub(crate) ghost shaped: { IsArenaBlock pages },
 }
 
 impl Model for Block {
@@ -64,7 +67,7 @@ impl Block {
 
     /// A byte that was written.
     pub(crate) fn byte(&self, page: u8, at: u8) -> &u8
-        requires { IsWritten (slot_of self.now.pages page at) }
+        requires { HasByte (slot_of self.now.pages page at) }
         ensures { slot_of self.now.pages page at ≡ Some result.now }
     {
         unsafe { &*self.start.add(page as usize * 256 + at as usize) }
@@ -116,7 +119,7 @@ impl Block {
     }
 
     fn copy_page(&mut self, from: &Block, page: u8)
-        requires { All IsWritten (get_or from.now.pages page []) }
+        requires { All HasByte (get_or from.now.pages page []) }
         ensures { (self.new.start ≡ self.old.start)
             × (self.new.pages ≡ slice_set self.old.pages page (get_or from.now.pages page [])) }
     {

@@ -5,14 +5,14 @@ use Rattle.sx_lang.specs.declared.tree.DeviceKind.{DeviceKind}
 use Rattle.sx_lex.specs.declared.tokens.Kind.{Kind}
 use Rattle.sx_lex.specs.declared.tokens.Kind.TheVariants.{Sensor, Actuator, Input, Output, Var, Array, Semicolon, Equals}
 use Rattle.sx_lex.specs.declared.tokens.Placed.{Placed}
-use Rattle.sx_grammar.specs.Machine.{Symbol, Value, Sign, Want, Say, A_semicolon, An_open_square, A_close_square, A_name, After, After_input, After_output, After_var, After_array, A_number, For_initial, For_length, Initial_of, Do_declare, Declarations, Handlers, follow, act, read, step, Outcome, Refused, begun, nothing}
+use Rattle.sx_grammar.specs.Machine.{Symbol, Value, Sign, Want, Say, A_semicolon, An_open_square, A_close_square, A_name, After, After_input, After_output, After_var, After_array, A_number, For_initial, For_length, Initial_of, Do_declare, Declarations, Handlers, follow, reduce, read, step, ReadOutcome, Refused, begun, nothing}
 use Rattle.sx_grammar.specs.Machine as machine
 use Rattle.sx_parse.specs.Wanted.{declarations_wanted, end_wanted, length_wanted}
-use Rattle.sx_parse.specs.Reading.{Stops, Takes, Named, Numbered, done}
-use Rattle.sx_parse.specs.Declaring.{Declares, Passes, Declared, Answers, holding}
+use Rattle.sx_parse.specs.Reading.{Stops, TakesSign, Named, Numbered, done}
+use Rattle.sx_parse.specs.Declaring.{Declares, Passes, Declared, AnswersText, holding}
 use Rattle.sx_parse.proofs.Expressions.{said, none_left}
 
-pub ended : (ts r : List Placed) (ds us : List Decl) (d : Decl) → Takes A_semicolon ts r → us ≡ ds ++ d ∷ [] → Declares (end_wanted d) ds ts us done r
+pub ended : (ts r : List Placed) (ds us : List Decl) (d : Decl) → TakesSign A_semicolon ts r → us ≡ ds ++ d ∷ [] → Declares (end_wanted d) ds ts us done r
 ended ts r ds us d s e = rw e (record { declares = λ st. s.takes (Say (Do_declare d) ∷ st) (holding ds []) ∙ said (Do_declare d) st (holding ds []) r })
 
 pub initial_none : (x : List ℕ) (ts a : List Placed) (f : Placed) (ds us : List Decl) → ts ≡ f ∷ a → f.kind ≡ Semicolon → us ≡ ds ++ Decl.Var x 0 ∷ [] → Declares (λ st. Initial_of x ∷ st) ds ts us done a
@@ -24,7 +24,7 @@ initial_number x n ts a b r f ds us h k p q = record { declares = λ st. rw (h, 
 pub initial_breaks : (x : List ℕ) (n : ℕ) (ts a b : List Placed) (f : Placed) (t : Option Placed) → ts ≡ f ∷ a → f.kind ≡ Equals → Numbered a n b → Stops (end_wanted (Decl.Var x n)) 0 b t → Stops (λ st. Initial_of x ∷ st) 0 ts t
 initial_breaks x n ts a b f t h k p q = record { stops = λ st vs o. rw (h, k) (p.numbered (For_initial x) st vs ∙ q.stops st vs o) }
 
-pub array : (x : List ℕ) (n : ℕ) (ts a b c r : List Placed) (ds us : List Decl) → Takes An_open_square ts a → Numbered a n b → Takes A_close_square b c → Declares (end_wanted (Decl.Array x n)) ds c us done r → Declares (length_wanted x) ds ts us done r
+pub array : (x : List ℕ) (n : ℕ) (ts a b c r : List Placed) (ds us : List Decl) → TakesSign An_open_square ts a → Numbered a n b → TakesSign A_close_square b c → Declares (end_wanted (Decl.Array x n)) ds c us done r → Declares (length_wanted x) ds ts us done r
 array x n ts a b c r ds us p q s v = record {
   declares = λ st.
       p.takes (A_number (For_length x) ∷ st) (holding ds [])
@@ -33,7 +33,7 @@ array x n ts a b c r ds us p q s v = record {
       ∙ v.declares st;
 }
 
-pub array_breaks : (x : List ℕ) (n : ℕ) (ts a b c : List Placed) (t : Option Placed) → Takes An_open_square ts a → Numbered a n b → Takes A_close_square b c → Stops (end_wanted (Decl.Array x n)) 0 c t → Stops (length_wanted x) 0 ts t
+pub array_breaks : (x : List ℕ) (n : ℕ) (ts a b c : List Placed) (t : Option Placed) → TakesSign An_open_square ts a → Numbered a n b → TakesSign A_close_square b c → Stops (end_wanted (Decl.Array x n)) 0 c t → Stops (length_wanted x) 0 ts t
 array_breaks x n ts a b c t p q s v = record {
   stops = λ st vs o.
       p.takes (A_number (For_length x) ∷ st) vs
@@ -84,5 +84,5 @@ goes_on ts a r ds us p q = record { declared = p.declared ∙ q.declares [] }
 pub ends : (ts a : List Placed) (ds us : List Decl) → Declared ts ds Declarations a → Passes ds a us → Declared ts us Handlers a
 ends ts a ds us p q = rw q.same (record { declared = p.declared ∙ q.passes [] (holding ds []) })
 
-pub breaks : (ts a : List Placed) (ds : List Decl) (t : Option Placed) → Declared ts ds Declarations a → Stops declarations_wanted 0 a t → Answers ts (Refused t)
+pub breaks : (ts a : List Placed) (ds : List Decl) (t : Option Placed) → Declared ts ds Declarations a → Stops declarations_wanted 0 a t → AnswersText ts (Refused t)
 breaks ts a ds t p q = record { answers = p.declared ∙ q.stops [] (holding ds []) refl }

@@ -8,15 +8,15 @@ use Rattle.sx_lex.specs.declared.tokens.Kind.TheVariants.{On, Sample}
 use Rattle.sx_lex.specs.declared.tokens.Placed.{Placed}
 use Rattle.sx_grammar.specs.Machine.{Of_block, Want, Say, An_open, A_close, A_block, A_name, After_on, After_open, Do_handle, Handlers}
 use Rattle.sx_parse.specs.Wanted.{handlers_wanted, parameter_wanted}
-use Rattle.sx_parse.specs.Reading.{Reads, Stops, Takes, Named, done}
-use Rattle.sx_parse.specs.Declaring.{Handles, NoHandler, Ends, Breaks, holding}
+use Rattle.sx_parse.specs.Reading.{ReadsValue, Stops, TakesSign, Named, done}
+use Rattle.sx_parse.specs.Declaring.{Handles, NoHandler, HandlersEnd, HandlersBreak, holding}
 use Rattle.sx_parse.proofs.Expressions.{said, none_left}
 
 map-push : (hs : List Handler) (h : Handler) → map handler_of (hs ++ h ∷ []) ≡ map handler_of hs ++ handler_of h ∷ []
 map-push [] h = refl
 map-push (g ∷ hs) h = ap (λ l. handler_of g ∷ l) (map-push hs h)
 
-pub reads : (i : Option (List ℕ)) (v : List ℕ) (ts a b c r : List Placed) (body : Block) (hs gs : List Handler) (h : Handler) → Takes An_open ts a → Named a v b → Takes A_close b c → Reads (λ st. A_block ∷ st) 0 c (Of_block body) done r
+pub reads : (i : Option (List ℕ)) (v : List ℕ) (ts a b c r : List Placed) (body : Block) (hs gs : List Handler) (h : Handler) → TakesSign An_open ts a → Named a v b → TakesSign A_close b c → ReadsValue (λ st. A_block ∷ st) 0 c (Of_block body) done r
     → gs ≡ hs ++ h ∷ [] → handler_of h ≡ record { input = i; param = v; body = body } → Handles (parameter_wanted i) (map handler_of hs) ts (map handler_of gs) r
 reads i v ts a b c r body hs gs h p n q s e same = rw (e, map-push hs h, same) (record {
   handles = λ ds.
@@ -42,8 +42,8 @@ begins ts hs e = rw e (record { handles = λ ds. refl })
 pub goes_on : (ts a r : List Placed) (hs gs : List HandlerTree) → Handles done [] ts hs a → Handles done hs a gs r → Handles done [] ts gs r
 goes_on ts a r hs gs p q = record { handles = λ ds. p.handles ds ∙ q.handles ds }
 
-pub ends : (ts a : List Placed) (hs gs : List Handler) → Handles done [] ts (map handler_of hs) a → NoHandler a hs gs → Ends ts (map handler_of gs)
+pub ends : (ts a : List Placed) (hs gs : List Handler) → Handles done [] ts (map handler_of hs) a → NoHandler a hs gs → HandlersEnd ts (map handler_of gs)
 ends ts a hs gs p q = rw q.same (record { ends = λ ds. p.handles ds ∙ rw q.none refl })
 
-pub breaks : (ts a : List Placed) (hs : List HandlerTree) (t : Option Placed) → Handles done [] ts hs a → Stops handlers_wanted 0 a t → Breaks ts t
+pub breaks : (ts a : List Placed) (hs : List HandlerTree) (t : Option Placed) → Handles done [] ts hs a → Stops handlers_wanted 0 a t → HandlersBreak ts t
 breaks ts a hs t p q = record { breaks = λ ds. p.handles ds ∙ q.stops [] (holding ds hs) refl }

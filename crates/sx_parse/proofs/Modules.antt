@@ -8,28 +8,28 @@ use Rattle.sx_lex.specs.declared.tokens.Place.{Place}
 use Rattle.sx_lex.specs.declared.tokens.Placed.{Placed}
 use Rattle.sx_lex.specs.Lexed.{start}
 use Rattle.sx_lex.proofs.Same.{one_reading}
-use Rattle.sx_grammar.specs.Tokens.{given}
+use Rattle.sx_grammar.specs.Tokens.{given_tokens}
 use Rattle.sx_grammar.specs.Grammar.{IsModule}
 use Rattle.sx_grammar.specs.Text.{Spells, place_of}
 use Rattle.sx_grammar.specs.Machine.{Handlers, Refused}
 use Rattle.sx_grammar.specs.Machine as machine
 use Rattle.sx_grammar.proofs.Faults.{read_is_module, refused_is_fault, refused_no_module}
 use Rattle.sx_grammar.proofs.Texts.{one_module_of_text}
-use Rattle.sx_parse.specs.Declaring.{Declared, Ends, Breaks, Answers, holding}
-use Rattle.sx_parse.specs.Parsed.{at, IsError, Read, Told}
+use Rattle.sx_parse.specs.Declaring.{Declared, HandlersEnd, HandlersBreak, AnswersText, holding}
+use Rattle.sx_parse.specs.Parsed.{at, IsError, Read, ParseTold}
 use Rattle.sx_parse.specs.declared.error.ParseError.{ParseError}
 use Rattle.sx_parse.specs.declared.error.ParseError.TheVariants.{Fault, OutOfMemory}
 
-pub joins : (ts r : List Placed) (ds : List Decl) (hs : List HandlerTree) → Declared ts ds Handlers r → Ends r hs → Answers ts (machine.Read (holding ds hs))
+pub joins : (ts r : List Placed) (ds : List Decl) (hs : List HandlerTree) → Declared ts ds Handlers r → HandlersEnd r hs → AnswersText ts (machine.Read (holding ds hs))
 joins ts r ds hs p q = record { answers = p.declared ∙ q.ends ds }
 
-pub joins_break : (ts r : List Placed) (ds : List Decl) (t : Option Placed) → Declared ts ds Handlers r → Breaks r t → Answers ts (Refused t)
+pub joins_break : (ts r : List Placed) (ds : List Decl) (t : Option Placed) → Declared ts ds Handlers r → HandlersBreak r t → AnswersText ts (Refused t)
 joins_break ts r ds t p q = record { answers = p.declared ∙ q.breaks ds }
 
 spelled : (text : List ℕ) (m : Module) → Read text m → Spells text (module_of m)
 spelled text m h = record { tokens = h.tokens; end = h.end; lexed = h.lexed; stands = read_is_module h.tokens (module_of m) h.reaches.answers }
 
-pub told_found : (text : List ℕ) (r : Result Module ParseError) → Told text r → IfOk r (λ m. Spells text (module_of m))
+pub told_found : (text : List ℕ) (r : Result Module ParseError) → ParseTold text r → IfOk r (λ m. Spells text (module_of m))
 told_found text (Ok m) h = spelled text m h
 told_found text (Err e) h = tt
 
@@ -39,7 +39,7 @@ same_place p q l c =
     let b : record { line = q.line; column = p.column } ≡ q = ap (λ n. record { line = q.line; column = n }) c in
     a ∙ b
 
-pub told_fault : (text : List ℕ) (r : Result Module ParseError) → Told text r → IfErr r (λ e. IsError text e)
+pub told_fault : (text : List ℕ) (r : Result Module ParseError) → ParseTold text r → IfErr r (λ e. IsError text e)
 told_fault text (Ok m) h = tt
 told_fault text (Err (Fault f)) h = record {
   tokens = h.tokens;
@@ -51,9 +51,9 @@ told_fault text (Err (Fault f)) h = record {
 }
 told_fault text (Err OutOfMemory) h = tt
 
-pub told_only : (text : List ℕ) (r : Result Module ParseError) → Told text r → (m : ModuleTree) → Spells text m → MatchResult r (λ n. module_of n ≡ m) (λ e. e ≡ OutOfMemory)
+pub told_only : (text : List ℕ) (r : Result Module ParseError) → ParseTold text r → (m : ModuleTree) → Spells text m → MatchResult r (λ n. module_of n ≡ m) (λ e. e ≡ OutOfMemory)
 told_only text (Ok n) h m s = one_module_of_text text (module_of n) m (spelled text n h) s
 told_only text (Err (Fault f)) h m s =
     let same : s.tokens ≡ h.tokens = (one_reading start s.end h.end text s.tokens h.tokens s.lexed h.lexed).0 in
-    absurd (refused_no_module h.tokens h.token h.answers.answers m (subst (λ ts. IsModule (given ts) m) same s.stands))
+    absurd (refused_no_module h.tokens h.token h.answers.answers m (subst (λ ts. IsModule (given_tokens ts) m) same s.stands))
 told_only text (Err OutOfMemory) h m s = refl

@@ -5,8 +5,8 @@ use Rattle.sx_lex.specs.declared.tokens.Place.{Place}
 use Rattle.sx_lex.specs.declared.tokens.Placed.{Placed}
 use Rattle.sx_lex.specs.Lexed.{Lexed, start}
 use Rattle.sx_grammar.specs.Machine.{Refused}
-use Rattle.sx_grammar.specs.Text.{IsFault, place_of}
-use Rattle.sx_parse.specs.Declaring.{Reaches, Answers}
+use Rattle.sx_grammar.specs.Text.{IsFirstFault, place_of}
+use Rattle.sx_parse.specs.Declaring.{ReachesModule, AnswersText}
 use Rattle.sx_parse.specs.declared.error.ParseError.{ParseError}
 use Rattle.sx_parse.specs.declared.error.ParseError.TheVariants.{Fault, OutOfMemory}
 use Rattle.sx_parse.specs.declared.error.ParseFault.{ParseFault}
@@ -17,7 +17,7 @@ at f = record { line = f.line; column = f.column }
 
 -- a fault is the first of its text; memory may run out on every text
 abbrev pub IsError : List ℕ → ParseError → Type 0
-IsError text (Fault f) = IsFault text (at f)
+IsError text (Fault f) = IsFirstFault text (at f)
 IsError text OutOfMemory = Unit {0}
 
 -- The same of the grammar's machine.
@@ -27,7 +27,7 @@ pub record Read (text : List ℕ) (m : Module) : Type 0 where
   pub tokens : List Placed
   pub end : Place
   pub lexed : Lexed start text tokens end
-  pub reaches : Reaches tokens m
+  pub reaches : ReachesModule tokens m
 
 -- the text has its first fault at this place, by its tokens
 pub record Stopped (text : List ℕ) (f : ParseFault) : Type 0 where
@@ -35,15 +35,15 @@ pub record Stopped (text : List ℕ) (f : ParseFault) : Type 0 where
   pub end : Place
   pub token : Option Placed
   pub lexed : Lexed start text tokens end
-  pub answers : Answers tokens (Refused token)
+  pub answers : AnswersText tokens (Refused token)
   pub line : f.line ≡ (place_of end token).line
   pub column : f.column ≡ (place_of end token).column
 
 -- a call's error is the text's first fault, or that memory ran out
-abbrev pub StopsAt : List ℕ → ParseError → Type 0
-StopsAt text (Fault f) = Stopped text f
-StopsAt text OutOfMemory = Unit {0}
+abbrev pub ParseStopsAt : List ℕ → ParseError → Type 0
+ParseStopsAt text (Fault f) = Stopped text f
+ParseStopsAt text OutOfMemory = Unit {0}
 
 -- a call's answer is what the text is
-abbrev pub Told : List ℕ → Result Module ParseError → Type 0
-Told text r = MatchResult r (λ m. Read text m) (λ e. StopsAt text e)
+abbrev pub ParseTold : List ℕ → Result Module ParseError → Type 0
+ParseTold text r = MatchResult r (λ m. Read text m) (λ e. ParseStopsAt text e)

@@ -1,21 +1,28 @@
 -- What reading a part of a text does to the machine of the grammar, whatever is required after it.
 use Rattle.std.specs.Prelude.{◌≡◌, ℕ, List, ◌∷◌, Option, Result, MatchResult}
 use Rattle.sx_lex.specs.declared.tokens.Placed.{Placed}
-use Rattle.sx_grammar.specs.Machine.{Symbol, Value, opens, read, Refused, Want, After, A_name, follow, Purpose, A_number, follow_number, An_open, A_close, An_open_square, A_close_square, A_semicolon, An_equals}
+use Rattle.sx_grammar.specs.Machine.{Symbol, Value, opens, read, Refused, Want, After, A_name}
+use Rattle.sx_grammar.specs.Machine.{follow, Purpose, A_number, follow_number, An_open, A_close}
+use Rattle.sx_grammar.specs.Machine.{An_open_square, A_close_square, A_semicolon, An_equals}
 use Rattle.sx_grammar.specs.Machine as machine
 use Rattle.sx_parse.specs.declared.sign.Sign.{Sign}
-use Rattle.sx_parse.specs.declared.sign.Sign.TheVariants.{Open, Close, OpenSquare, CloseSquare, Semicolon, Equals}
+use Rattle.sx_parse.specs.declared.sign.Sign.TheVariants.{Open, Close, OpenSquare, CloseSquare}
+use Rattle.sx_parse.specs.declared.sign.Sign.TheVariants.{Semicolon, Equals}
 use Rattle.sx_parse.specs.declared.stop.Stop.{Stop}
 use Rattle.sx_parse.specs.declared.stop.Stop.TheVariants.{Fault, Memory}
 
 -- With this many brackets open, what is required is read before rest and is worth v; then `to` is
 -- required.
-pub record Reads (want : List Symbol → List Symbol) (depth : ℕ) (ts : List Placed) (v : Value) (to : List Symbol → List Symbol) (rest : List Placed) : Type 0 where
-  pub reads : (st : List Symbol) (vs : List Value) → opens st ≡ depth → read (want st) vs ts ≡ read (to st) (v ∷ vs) rest
+pub record ReadsValue (want : List Symbol → List Symbol) (depth : ℕ) (ts : List Placed) (v : Value)
+    (to : List Symbol → List Symbol) (rest : List Placed) : Type 0 where
+  pub reads : (st : List Symbol) (vs : List Value) → opens st ≡ depth
+      → read (want st) vs ts ≡ read (to st) (v ∷ vs) rest
 
 -- the grammar refuses the tokens at this one, where this is required
-pub record Stops (want : List Symbol → List Symbol) (depth : ℕ) (ts : List Placed) (t : Option Placed) : Type 0 where
-  pub stops : (st : List Symbol) (vs : List Value) → opens st ≡ depth → read (want st) vs ts ≡ Refused t
+pub record Stops (want : List Symbol → List Symbol) (depth : ℕ) (ts : List Placed)
+    (t : Option Placed) : Type 0 where
+  pub stops : (st : List Symbol) (vs : List Value) → opens st ≡ depth
+      → read (want st) vs ts ≡ Refused t
 
 -- a call stops where the grammar does, or since memory ran out
 abbrev pub StopsAs : (List Symbol → List Symbol) → ℕ → List Placed → Stop → Type 0
@@ -27,9 +34,11 @@ abbrev pub done : List Symbol → List Symbol
 done st = st
 
 -- what was read is what is wanted, worth a value in front of the rest, or reading stops as it must
-abbrev pub ReadsOr : {A : Type 0} → Result A Stop → (List Symbol → List Symbol) → ℕ → List Placed → (A → Value) → (A → List Placed) → Type 0
+abbrev pub ReadsOr : {A : Type 0} → Result A Stop → (List Symbol → List Symbol) → ℕ → List Placed
+    → (A → Value) → (A → List Placed) → Type 0
 ReadsOr result want depth ts value rest =
-    MatchResult result (λ found. Reads want depth ts (value found) done (rest found)) (λ e. StopsAs want depth ts e)
+    MatchResult result (λ found. ReadsValue want depth ts (value found) done (rest found))
+    (λ e. StopsAs want depth ts e)
 
 -- the code's sign as the grammar has it
 abbrev pub sign_of : Sign → machine.Sign
@@ -41,7 +50,7 @@ sign_of Semicolon = A_semicolon
 sign_of Equals = An_equals
 
 -- the sign stands before rest
-pub record Takes (f : machine.Sign) (ts rest : List Placed) : Type 0 where
+pub record TakesSign (f : machine.Sign) (ts rest : List Placed) : Type 0 where
   pub takes : (st : List Symbol) (vs : List Value) → read (Want f ∷ st) vs ts ≡ read st vs rest
 
 -- the grammar refuses the tokens at this one, where the sign is required
@@ -55,11 +64,13 @@ Lacks f ts Memory = ⊥
 
 -- a name stands before rest
 pub record Named (ts : List Placed) (x : List ℕ) (rest : List Placed) : Type 0 where
-  pub named : (w : After) (st : List Symbol) (vs : List Value) → read (A_name w ∷ st) vs ts ≡ read (follow w x st) vs rest
+  pub named : (w : After) (st : List Symbol) (vs : List Value)
+      → read (A_name w ∷ st) vs ts ≡ read (follow w x st) vs rest
 
 -- the grammar refuses the tokens at this one, where a name is required
 pub record NoName (ts : List Placed) (t : Option Placed) : Type 0 where
-  pub no_name : (w : After) (st : List Symbol) (vs : List Value) → read (A_name w ∷ st) vs ts ≡ Refused t
+  pub no_name : (w : After) (st : List Symbol) (vs : List Value)
+      → read (A_name w ∷ st) vs ts ≡ Refused t
 
 -- no name stands here; this call takes no memory
 abbrev pub NameLacks : List Placed → Stop → Type 0
@@ -68,11 +79,13 @@ NameLacks ts Memory = ⊥
 
 -- a number stands before rest
 pub record Numbered (ts : List Placed) (n : ℕ) (rest : List Placed) : Type 0 where
-  pub numbered : (w : Purpose) (st : List Symbol) (vs : List Value) → read (A_number w ∷ st) vs ts ≡ read (follow_number w n st) vs rest
+  pub numbered : (w : Purpose) (st : List Symbol) (vs : List Value)
+      → read (A_number w ∷ st) vs ts ≡ read (follow_number w n st) vs rest
 
 -- the grammar refuses the tokens at this one, where a number is required
 pub record NoNumber (ts : List Placed) (t : Option Placed) : Type 0 where
-  pub no_number : (w : Purpose) (st : List Symbol) (vs : List Value) → read (A_number w ∷ st) vs ts ≡ Refused t
+  pub no_number : (w : Purpose) (st : List Symbol) (vs : List Value)
+      → read (A_number w ∷ st) vs ts ≡ Refused t
 
 -- no number stands here; this call takes no memory
 abbrev pub NumberLacks : List Placed → Stop → Type 0

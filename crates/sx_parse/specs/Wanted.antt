@@ -1,7 +1,10 @@
 -- What the grammar's machine wants where a part of a text begins, in front of any symbols.
 use Rattle.std.specs.Prelude.{ℕ, List, ◌∷◌, Option}
 use Rattle.sx_lang.specs.declared.tree.Decl.{Decl}
-use Rattle.sx_grammar.specs.Machine.{Symbol, Want, Say, Operand, Factors, Addends, An_expression, A_block, Otherwise, A_name, After_open, A_number, For_length, Declarations, Handlers, A_semicolon, An_open, An_open_square, A_close_square, An_equals, Do_store, Do_choose, Do_declare}
+use Rattle.sx_grammar.specs.Machine.{Symbol, Want, Say, Operand, Factors, Addends, An_expression}
+use Rattle.sx_grammar.specs.Machine.{A_block, Otherwise, A_name, After_open, A_number, For_length}
+use Rattle.sx_grammar.specs.Machine.{Declarations, Handlers, A_semicolon, An_open, An_open_square}
+use Rattle.sx_grammar.specs.Machine.{A_close_square, An_equals, Do_store, Do_choose, Do_declare}
 
 -- a sum, from its first operand on
 abbrev pub sum_wanted : List Symbol → List Symbol
@@ -13,7 +16,8 @@ value_wanted st = An_expression ∷ Want A_semicolon ∷ st
 
 -- what follows the name of an array and the `[` behind it
 abbrev pub element_wanted : List ℕ → List Symbol → List Symbol
-element_wanted x st = An_expression ∷ Want A_close_square ∷ Want An_equals ∷ An_expression ∷ Want A_semicolon ∷ Say (Do_store x) ∷ st
+element_wanted x st = An_expression ∷ Want A_close_square ∷ Want An_equals ∷ An_expression
+    ∷ Want A_semicolon ∷ Say (Do_store x) ∷ st
 
 -- what follows `if`
 abbrev pub choice_wanted : List Symbol → List Symbol

@@ -3,7 +3,7 @@
 ghost use Rattle.std.specs.Prelude.{◌<◌, ◌∷◌, length, MatchResult, IfOk, IfSome};
 ghost use Rattle.sx_grammar.specs.Machine.{Initial_of, Declarations, Handlers};
 ghost use Rattle.sx_parse.specs.Wanted.{end_wanted, length_wanted};
-ghost use Rattle.sx_parse.specs.Declaring.{DeclaresOr, DeclaresNext, Declared, Refuses};
+ghost use Rattle.sx_parse.specs.Declaring.{DeclaresOr, DeclaresNext, Declared, RefusesText};
 
 use crate::sign::{Sign, identifier, number, take};
 use crate::stop::{Front, Stop};
@@ -15,7 +15,8 @@ use sx_lex::tokens::{Kind, Placed};
 /// Adds a declaration that was read up to its `;`.
 #[tactic(auto, using(crate::proofs::Declarations::ended))]
 fn ended<'a>(all: &mut Vec<Decl>, found: Decl, tokens: &'a [Placed]) -> Result<&'a [Placed], Stop>
-    ensures declares { DeclaresOr result (end_wanted found) all.old.items tokens.now all.new.items (λ rest. rest.now) }
+    ensures declares { DeclaresOr result (end_wanted found) all.old.items tokens.now all.new.items
+        (λ rest. rest.now) }
     ensures shorter { IfOk result (λ rest. length rest.now < length tokens.now) }
 {
     let rest = take(tokens, Sign::Semicolon)?;
@@ -26,7 +27,8 @@ fn ended<'a>(all: &mut Vec<Decl>, found: Decl, tokens: &'a [Placed]) -> Result<&
 /// Adds a variable whose name was read.
 #[tactic(auto, using(crate::proofs::Declarations::initial_none, crate::proofs::Declarations::initial_number, crate::proofs::Declarations::initial_breaks))]
 fn variable<'a>(all: &mut Vec<Decl>, name: Name, tokens: &'a [Placed]) -> Result<&'a [Placed], Stop>
-    ensures declares { DeclaresOr result (λ st. Initial_of name ∷ st) all.old.items tokens.now all.new.items (λ rest. rest.now) }
+    ensures declares { DeclaresOr result (λ st. Initial_of name ∷ st) all.old.items tokens.now
+        all.new.items (λ rest. rest.now) }
     ensures shorter { IfOk result (λ rest. length rest.now < length tokens.now) }
 {
     let Some((first, rest)) = tokens.split_first() else {
@@ -48,7 +50,8 @@ fn variable<'a>(all: &mut Vec<Decl>, name: Name, tokens: &'a [Placed]) -> Result
 /// Adds an array whose name was read.
 #[tactic(auto, using(crate::proofs::Declarations::array, crate::proofs::Declarations::array_breaks))]
 fn array<'a>(all: &mut Vec<Decl>, name: Name, tokens: &'a [Placed]) -> Result<&'a [Placed], Stop>
-    ensures declares { DeclaresOr result (length_wanted name) all.old.items tokens.now all.new.items (λ rest. rest.now) }
+    ensures declares { DeclaresOr result (length_wanted name) all.old.items tokens.now all.new.items
+        (λ rest. rest.now) }
     ensures shorter { IfOk result (λ rest. length rest.now < length tokens.now) }
 {
     let rest = take(tokens, Sign::OpenSquare)?;
@@ -61,7 +64,8 @@ fn array<'a>(all: &mut Vec<Decl>, name: Name, tokens: &'a [Placed]) -> Result<&'
 /// stands.
 #[tactic(auto, using(crate::proofs::Declarations::sensor, crate::proofs::Declarations::actuator, crate::proofs::Declarations::input, crate::proofs::Declarations::output, crate::proofs::Declarations::variable, crate::proofs::Declarations::array_word, crate::proofs::Declarations::passes, crate::proofs::Declarations::passes_end))]
 fn declaration<'a>(all: &mut Vec<Decl>, tokens: &'a [Placed]) -> Result<Option<&'a [Placed]>, Stop>
-    ensures declares { DeclaresNext result all.old.items tokens.now all.new.items (λ rest. rest.now) }
+    ensures declares { DeclaresNext result all.old.items tokens.now all.new.items
+        (λ rest. rest.now) }
     ensures shorter { IfOk result (λ p. IfSome p (λ rest. length rest.now < length tokens.now)) }
 {
     let Some((first, rest)) = tokens.split_first() else {
@@ -104,7 +108,8 @@ fn declaration<'a>(all: &mut Vec<Decl>, tokens: &'a [Placed]) -> Result<Option<&
 /// it, or where memory runs out.
 #[tactic(auto, using(crate::proofs::Declarations::begins, crate::proofs::Declarations::goes_on, crate::proofs::Declarations::ends, crate::proofs::Declarations::breaks))]
 pub fn declarations<'a>(alloc: Global, tokens: &'a [Placed]) -> Front<'a, Vec<Decl>>
-    ensures { MatchResult result (λ p. Declared tokens.now p.0.items Handlers p.1.now) (λ e. Refuses tokens.now e) }
+    ensures { MatchResult result (λ p. Declared tokens.now p.0.items Handlers p.1.now)
+        (λ e. RefusesText tokens.now e) }
 {
     let mut all = Vec::new(alloc);
     let mut rest = tokens;

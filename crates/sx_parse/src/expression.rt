@@ -3,7 +3,8 @@
 ghost use Rattle.std.specs.Prelude.{◌≡◌, ◌+◌, ◌<◌, ◌≤◌, ◌∷◌, length, IfOk};
 ghost use Rattle.sx_lang.specs.Tree.{Indexed, Applied, Combined};
 ghost use Rattle.sx_lang.specs.View.{expression_of};
-ghost use Rattle.sx_grammar.specs.Machine.{Operand, Factors, Index_of, An_expression, Of_expression};
+ghost use Rattle.sx_grammar.specs.Machine.{Operand, Factors, Index_of, An_expression};
+ghost use Rattle.sx_grammar.specs.Machine.{Of_expression};
 ghost use Rattle.sx_parse.specs.Wanted.{sum_wanted, value_wanted};
 ghost use Rattle.sx_parse.specs.Reading.{ReadsOr};
 
@@ -20,7 +21,8 @@ use sx_lex::tokens::{Kind, Placed};
 pub const MOST: u8 = 48;
 
 fn combined(alloc: Global, op: BinOp, left: Expr, right: Expr) -> Result<Expr, AllocError>
-    ensures { IfOk result (λ e. expression_of e ≡ Combined op (expression_of left) (expression_of right)) }
+    ensures { IfOk result (λ e. expression_of e ≡ Combined op (expression_of left)
+        (expression_of right)) }
 {
     Ok(Expr::Binary(op, Box::new(alloc, left)?, Box::new(alloc, right)?))
 }
@@ -42,7 +44,8 @@ fn applied(alloc: Global, op: UnOp, operand: Expr) -> Result<Expr, AllocError>
 #[tactic(auto, using(crate::proofs::Expressions::unary_operand))]
 fn operand<'a>(alloc: Global, tokens: &'a [Placed], depth: u8) -> Front<'a, Expr>
     requires { depth ≤ 48 }
-    ensures reads { ReadsOr result (λ st. Operand ∷ st) depth tokens.now (λ p. Of_expression (expression_of p.0)) (λ p. p.1.now) }
+    ensures reads { ReadsOr result (λ st. Operand ∷ st) depth tokens.now
+        (λ p. Of_expression (expression_of p.0)) (λ p. p.1.now) }
     ensures shorter { IfOk result (λ p. length p.1.now < length tokens.now) }
 {
     let Some((first, rest)) = tokens.split_first() else {
@@ -76,7 +79,8 @@ fn operand<'a>(alloc: Global, tokens: &'a [Placed], depth: u8) -> Front<'a, Expr
 #[tactic(auto, using(crate::proofs::Expressions::name_indexed))]
 fn variable<'a>(alloc: Global, name: Name, tokens: &'a [Placed], depth: u8) -> Front<'a, Expr>
     requires { depth ≤ 48 }
-    ensures reads { ReadsOr result (λ st. Index_of name ∷ st) depth tokens.now (λ p. Of_expression (expression_of p.0)) (λ p. p.1.now) }
+    ensures reads { ReadsOr result (λ st. Index_of name ∷ st) depth tokens.now
+        (λ p. Of_expression (expression_of p.0)) (λ p. p.1.now) }
     ensures shorter { IfOk result (λ p. length p.1.now ≤ length tokens.now) }
 {
     let Some((first, rest)) = tokens.split_first() else {
@@ -100,7 +104,8 @@ fn variable<'a>(alloc: Global, name: Name, tokens: &'a [Placed], depth: u8) -> F
 #[tactic(auto, using(crate::proofs::Expressions::one_factor))]
 fn term<'a>(alloc: Global, tokens: &'a [Placed], depth: u8) -> Front<'a, Expr>
     requires { depth ≤ 48 }
-    ensures reads { ReadsOr result (λ st. Operand ∷ Factors 0 ∷ st) depth tokens.now (λ p. Of_expression (expression_of p.0)) (λ p. p.1.now) }
+    ensures reads { ReadsOr result (λ st. Operand ∷ Factors 0 ∷ st) depth tokens.now
+        (λ p. Of_expression (expression_of p.0)) (λ p. p.1.now) }
     ensures shorter { IfOk result (λ p. length p.1.now < length tokens.now) }
 {
     let (mut left, mut rest) = operand(alloc, tokens, depth)?;
@@ -124,7 +129,8 @@ fn term<'a>(alloc: Global, tokens: &'a [Placed], depth: u8) -> Front<'a, Expr>
 #[tactic(auto, using(crate::proofs::Expressions::one_addend))]
 fn sum<'a>(alloc: Global, tokens: &'a [Placed], depth: u8) -> Front<'a, Expr>
     requires { depth ≤ 48 }
-    ensures reads { ReadsOr result sum_wanted depth tokens.now (λ p. Of_expression (expression_of p.0)) (λ p. p.1.now) }
+    ensures reads { ReadsOr result sum_wanted depth tokens.now
+        (λ p. Of_expression (expression_of p.0)) (λ p. p.1.now) }
     ensures shorter { IfOk result (λ p. length p.1.now < length tokens.now) }
 {
     let (mut left, mut rest) = term(alloc, tokens, depth)?;
@@ -150,7 +156,8 @@ fn sum<'a>(alloc: Global, tokens: &'a [Placed], depth: u8) -> Front<'a, Expr>
 #[tactic(auto, using(crate::proofs::Expressions::expression_stops, crate::proofs::Expressions::expression_ends, crate::proofs::Expressions::expression_alone, crate::proofs::Expressions::expression_compares, crate::proofs::Expressions::expression_breaks))]
 pub fn expression<'a>(alloc: Global, tokens: &'a [Placed], depth: u8) -> Front<'a, Expr>
     requires { depth ≤ 48 }
-    ensures reads { ReadsOr result (λ st. An_expression ∷ st) depth tokens.now (λ p. Of_expression (expression_of p.0)) (λ p. p.1.now) }
+    ensures reads { ReadsOr result (λ st. An_expression ∷ st) depth tokens.now
+        (λ p. Of_expression (expression_of p.0)) (λ p. p.1.now) }
     ensures shorter { IfOk result (λ p. length p.1.now < length tokens.now) }
 {
     let (left, rest) = sum(alloc, tokens, depth)?;
@@ -170,7 +177,8 @@ pub fn expression<'a>(alloc: Global, tokens: &'a [Placed], depth: u8) -> Front<'
 #[tactic(auto, using(crate::proofs::Expressions::value_ends, crate::proofs::Expressions::value_breaks))]
 pub fn value<'a>(alloc: Global, tokens: &'a [Placed], depth: u8) -> Front<'a, Expr>
     requires { depth ≤ 48 }
-    ensures reads { ReadsOr result value_wanted depth tokens.now (λ p. Of_expression (expression_of p.0)) (λ p. p.1.now) }
+    ensures reads { ReadsOr result value_wanted depth tokens.now
+        (λ p. Of_expression (expression_of p.0)) (λ p. p.1.now) }
     ensures shorter { IfOk result (λ p. length p.1.now < length tokens.now) }
 {
     let (found, rest) = expression(alloc, tokens, depth)?;

@@ -3,7 +3,7 @@
 ghost use Rattle.std.specs.Prelude.{◌<◌, length, map, MatchResult, IfOk, IfSome};
 ghost use Rattle.sx_lang.specs.View.{handler_of};
 ghost use Rattle.sx_parse.specs.Wanted.{parameter_wanted};
-ghost use Rattle.sx_parse.specs.Declaring.{HandlesOr, HandlesNext, Ends, BreaksAs};
+ghost use Rattle.sx_parse.specs.Declaring.{HandlesOr, HandlesNext, HandlersEnd, HandlersBreakAs};
 
 use crate::sign::{Sign, identifier, take};
 use crate::statement::block;
@@ -21,7 +21,8 @@ fn body<'a>(
     input: Option<Name>,
     tokens: &'a [Placed],
 ) -> Result<&'a [Placed], Stop>
-    ensures handles { HandlesOr result (parameter_wanted input) all.old.items tokens.now all.new.items (λ rest. rest.now) }
+    ensures handles { HandlesOr result (parameter_wanted input) all.old.items tokens.now
+        all.new.items (λ rest. rest.now) }
     ensures shorter { IfOk result (λ rest. length rest.now < length tokens.now) }
 {
     let rest = take(tokens, Sign::Open)?;
@@ -67,7 +68,8 @@ fn handler<'a>(
 /// it, or where memory runs out.
 #[tactic(auto, using(crate::proofs::Handlers::begins, crate::proofs::Handlers::goes_on, crate::proofs::Handlers::ends, crate::proofs::Handlers::breaks))]
 pub fn handlers(alloc: Global, tokens: &[Placed]) -> Result<Vec<Handler>, Stop>
-    ensures { MatchResult result (λ hs. Ends tokens.now (map handler_of hs.items)) (λ e. BreaksAs tokens.now e) }
+    ensures { MatchResult result (λ hs. HandlersEnd tokens.now (map handler_of hs.items))
+        (λ e. HandlersBreakAs tokens.now e) }
 {
     let mut all = Vec::new(alloc);
     let mut rest = tokens;

@@ -4,8 +4,8 @@ ghost use Rattle.std.specs.Prelude.{◌≡◌, MatchResult, IfOk, IfErr};
 ghost use Rattle.sx_lang.specs.Tree.{ModuleTree};
 ghost use Rattle.sx_lang.specs.View.{module_of};
 ghost use Rattle.sx_grammar.specs.Text.{Spells, place_of};
-ghost use Rattle.sx_parse.specs.Declaring.{Reaches, Refuses};
-ghost use Rattle.sx_parse.specs.Parsed.{IsError, Told};
+ghost use Rattle.sx_parse.specs.Declaring.{ReachesModule, RefusesText};
+ghost use Rattle.sx_parse.specs.Parsed.{IsError, ParseTold};
 ghost use Rattle.sx_parse.specs.declared.error.ParseError.TheVariants.{OutOfMemory};
 
 use crate::declaration::declarations;
@@ -20,7 +20,7 @@ use sx_lex::tokens::{Place, Placed};
 /// The module that the tokens are.
 #[tactic(auto, using(crate::proofs::Modules::joins, crate::proofs::Modules::joins_break))]
 fn module_of_tokens(alloc: Global, tokens: &[Placed]) -> Result<Module, Stop>
-    ensures { MatchResult result (λ m. Reaches tokens.now m) (λ e. Refuses tokens.now e) }
+    ensures { MatchResult result (λ m. ReachesModule tokens.now m) (λ e. RefusesText tokens.now e) }
 {
     let (decls, rest) = declarations(alloc, tokens)?;
     let handlers = handlers(alloc, rest)?;
@@ -43,7 +43,7 @@ fn fault_at(token: Option<Placed>, end: Place) -> ParseFault
 }
 
 fn module_of_text(alloc: Global, text: &str) -> Result<Module, ParseError>
-    ensures { Told text.now result }
+    ensures { ParseTold text.now result }
 {
     let tokens = tokens_of(alloc, text.as_bytes())?;
     match module_of_tokens(alloc, &tokens.list) {
@@ -62,7 +62,8 @@ pub fn parse(alloc: Global, text: &str) -> Result<Module, ParseError>
     // what is read is in the grammar
     ensures found { IfOk result (λ m. Spells text.now (module_of m)) }
     // what is in the grammar is read, unless memory runs out
-    ensures only { (m : ModuleTree) → Spells text.now m → MatchResult result (λ n. module_of n ≡ m) (λ e. e ≡ OutOfMemory) }
+    ensures only { (m : ModuleTree) → Spells text.now m
+        → MatchResult result (λ n. module_of n ≡ m) (λ e. e ≡ OutOfMemory) }
     // a fault is at the first token that can't follow those before it
     ensures fault { IfErr result (λ e. IsError text.now e) }
 {

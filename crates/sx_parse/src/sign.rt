@@ -2,7 +2,8 @@
 
 ghost use Rattle.std.specs.Prelude.{◌≡◌, ◌<◌, length, MatchResult, IfOk};
 ghost use Rattle.sx_grammar.specs.Machine.{is_sign};
-ghost use Rattle.sx_parse.specs.Reading.{sign_of, Takes, Lacks, Named, NameLacks, Numbered, NumberLacks};
+ghost use Rattle.sx_parse.specs.Reading.{sign_of, TakesSign, Lacks, Named, NameLacks, Numbered};
+ghost use Rattle.sx_parse.specs.Reading.{NumberLacks};
 
 use crate::stop::{Front, Stop};
 use sx_lang::names::Name;
@@ -43,7 +44,8 @@ impl Sign {
 /// What follows the sign that must stand here. It stops where another token stands.
 #[tactic(auto, using(crate::proofs::Signs::takes, crate::proofs::Signs::misses))]
 pub fn take<'a>(tokens: &'a [Placed], sign: Sign) -> Result<&'a [Placed], Stop>
-    ensures takes { MatchResult result (λ rest. Takes (sign_of sign) tokens.now rest.now) (λ e. Lacks (sign_of sign) tokens.now e) }
+    ensures takes { MatchResult result (λ rest. TakesSign (sign_of sign) tokens.now rest.now)
+        (λ e. Lacks (sign_of sign) tokens.now e) }
     ensures shorter { IfOk result (λ rest. length rest.now < length tokens.now) }
 {
     let Some((first, rest)) = tokens.split_first() else {
@@ -57,7 +59,8 @@ pub fn take<'a>(tokens: &'a [Placed], sign: Sign) -> Result<&'a [Placed], Stop>
 
 /// The name that must stand here. It stops where another token stands.
 pub fn identifier<'a>(tokens: &'a [Placed]) -> Front<'a, &'a Name>
-    ensures named { MatchResult result (λ p. Named tokens.now p.0.now p.1.now) (λ e. NameLacks tokens.now e) }
+    ensures named { MatchResult result (λ p. Named tokens.now p.0.now p.1.now)
+        (λ e. NameLacks tokens.now e) }
     ensures shorter { IfOk result (λ p. length p.1.now < length tokens.now) }
 {
     let Some((first, rest)) = tokens.split_first() else {
@@ -71,7 +74,8 @@ pub fn identifier<'a>(tokens: &'a [Placed]) -> Front<'a, &'a Name>
 
 /// The number that must stand here. It stops where another token stands.
 pub fn number<'a>(tokens: &'a [Placed]) -> Front<'a, u16>
-    ensures numbered { MatchResult result (λ p. Numbered tokens.now p.0 p.1.now) (λ e. NumberLacks tokens.now e) }
+    ensures numbered { MatchResult result (λ p. Numbered tokens.now p.0 p.1.now)
+        (λ e. NumberLacks tokens.now e) }
     ensures shorter { IfOk result (λ p. length p.1.now < length tokens.now) }
 {
     let Some((first, rest)) = tokens.split_first() else {

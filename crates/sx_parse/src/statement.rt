@@ -3,10 +3,11 @@
 ghost use Rattle.std.specs.Prelude.{◌≡◌, ◌<◌, ◌≤◌, ◌∷◌, length, MatchResult, IfOk, MatchOption};
 ghost use Rattle.sx_lang.specs.Tree.{Chooses, Repeats};
 ghost use Rattle.sx_lang.specs.View.{expression_of, statement_of, block_of};
-ghost use Rattle.sx_grammar.specs.Machine.{A_block, Otherwise, A_name, After_let, After_send, A_number, For_repeat, Target_of, Argument_of, Of_block};
+ghost use Rattle.sx_grammar.specs.Machine.{A_block, Otherwise, A_name, After_let, After_send};
+ghost use Rattle.sx_grammar.specs.Machine.{A_number, For_repeat, Target_of, Argument_of, Of_block};
 ghost use Rattle.sx_parse.specs.Wanted.{choice_wanted, element_wanted};
 ghost use Rattle.sx_parse.specs.Reading.{ReadsOr, done};
-ghost use Rattle.sx_parse.specs.Adding.{Adds, AddsOr, FailsAs, Closes};
+ghost use Rattle.sx_parse.specs.Adding.{AddsStatement, AddsOr, FailsAs, Closes};
 
 use crate::expression::{MOST, expression, value};
 use crate::sign::{Sign, identifier, number, take};
@@ -18,7 +19,8 @@ use sx_lex::tokens::{Kind, Placed};
 
 #[tactic(auto, using(sx_lang::proofs::Rows::if_is))]
 fn choice(test: Expr, then: Vec<Stmt>, otherwise: Vec<Stmt>) -> Stmt
-    ensures { statement_of result ≡ Chooses (expression_of test) (block_of then.items) (block_of otherwise.items) }
+    ensures { statement_of result ≡ Chooses (expression_of test) (block_of then.items)
+        (block_of otherwise.items) }
 {
     Stmt::If(test, then, otherwise)
 }
@@ -34,7 +36,8 @@ fn repeated(turns: u16, body: Vec<Stmt>) -> Stmt
 #[tactic(auto, using(crate::proofs::Statements::defines))]
 fn definition<'a>(alloc: Global, tokens: &'a [Placed], depth: u8) -> Front<'a, Stmt>
     requires { depth ≤ 48 }
-    ensures adds { AddsOr result (λ st. A_name After_let ∷ st) depth tokens.now (λ p. statement_of p.0) (λ p. p.1.now) }
+    ensures adds { AddsOr result (λ st. A_name After_let ∷ st) depth tokens.now
+        (λ p. statement_of p.0) (λ p. p.1.now) }
     ensures shorter { IfOk result (λ p. length p.1.now < length tokens.now) }
 {
     let (name, rest) = identifier(tokens)?;
@@ -47,7 +50,8 @@ fn definition<'a>(alloc: Global, tokens: &'a [Placed], depth: u8) -> Front<'a, S
 #[tactic(auto, using(crate::proofs::Statements::assigns, crate::proofs::Statements::assigns_element, crate::proofs::Statements::fails_element))]
 fn assignment<'a>(alloc: Global, name: Name, tokens: &'a [Placed], depth: u8) -> Front<'a, Stmt>
     requires { depth ≤ 48 }
-    ensures adds { AddsOr result (λ st. Target_of name ∷ st) depth tokens.now (λ p. statement_of p.0) (λ p. p.1.now) }
+    ensures adds { AddsOr result (λ st. Target_of name ∷ st) depth tokens.now
+        (λ p. statement_of p.0) (λ p. p.1.now) }
     ensures shorter { IfOk result (λ p. length p.1.now < length tokens.now) }
 {
     let Some((first, rest)) = tokens.split_first() else {
@@ -72,7 +76,8 @@ fn assignment<'a>(alloc: Global, name: Name, tokens: &'a [Placed], depth: u8) ->
 #[tactic(auto, using(crate::proofs::Statements::stores))]
 fn element<'a>(alloc: Global, name: Name, tokens: &'a [Placed], depth: u8) -> Front<'a, Stmt>
     requires { depth < 48 }
-    ensures adds { AddsOr result (element_wanted name) depth tokens.now (λ p. statement_of p.0) (λ p. p.1.now) }
+    ensures adds { AddsOr result (element_wanted name) depth tokens.now (λ p. statement_of p.0)
+        (λ p. p.1.now) }
     ensures shorter { IfOk result (λ p. length p.1.now < length tokens.now) }
 {
     let (index, rest) = expression(alloc, tokens, depth + 1)?;
@@ -86,7 +91,8 @@ fn element<'a>(alloc: Global, name: Name, tokens: &'a [Placed], depth: u8) -> Fr
 #[tactic(auto, using(crate::proofs::Statements::sends, crate::proofs::Statements::fails_sending))]
 fn sending<'a>(alloc: Global, tokens: &'a [Placed], depth: u8) -> Front<'a, Stmt>
     requires { depth ≤ 48 }
-    ensures adds { AddsOr result (λ st. A_name After_send ∷ st) depth tokens.now (λ p. statement_of p.0) (λ p. p.1.now) }
+    ensures adds { AddsOr result (λ st. A_name After_send ∷ st) depth tokens.now
+        (λ p. statement_of p.0) (λ p. p.1.now) }
     ensures shorter { IfOk result (λ p. length p.1.now < length tokens.now) }
 {
     let (output, rest) = identifier(tokens)?;
@@ -97,7 +103,8 @@ fn sending<'a>(alloc: Global, tokens: &'a [Placed], depth: u8) -> Front<'a, Stmt
 #[tactic(auto, using(crate::proofs::Statements::argument))]
 fn sent<'a>(alloc: Global, output: Name, tokens: &'a [Placed], depth: u8) -> Front<'a, Stmt>
     requires { depth ≤ 48 }
-    ensures adds { AddsOr result (λ st. Argument_of output ∷ st) depth tokens.now (λ p. statement_of p.0) (λ p. p.1.now) }
+    ensures adds { AddsOr result (λ st. Argument_of output ∷ st) depth tokens.now
+        (λ p. statement_of p.0) (λ p. p.1.now) }
     ensures shorter { IfOk result (λ p. length p.1.now < length tokens.now) }
 {
     let Some((first, rest)) = tokens.split_first() else {
@@ -121,7 +128,8 @@ fn sent<'a>(alloc: Global, output: Name, tokens: &'a [Placed], depth: u8) -> Fro
 #[tactic(auto, using(crate::proofs::Statements::opens_block, crate::proofs::Statements::goes_on, crate::proofs::Statements::ends_block, crate::proofs::Statements::breaks_block))]
 pub fn block<'a>(alloc: Global, tokens: &'a [Placed], depth: u8) -> Front<'a, Vec<Stmt>>
     requires { depth ≤ 48 }
-    ensures reads { ReadsOr result (λ st. A_block ∷ st) depth tokens.now (λ p. Of_block (block_of p.0.items)) (λ p. p.1.now) }
+    ensures reads { ReadsOr result (λ st. A_block ∷ st) depth tokens.now
+        (λ p. Of_block (block_of p.0.items)) (λ p. p.1.now) }
     ensures shorter { IfOk result (λ p. length p.1.now < length tokens.now) }
 {
     let Some((first, after)) = tokens.split_first() else {
@@ -151,7 +159,9 @@ pub fn block<'a>(alloc: Global, tokens: &'a [Placed], depth: u8) -> Front<'a, Ve
 #[tactic(auto, using(crate::proofs::Statements::emits))]
 fn statement<'a>(alloc: Global, tokens: &'a [Placed], depth: u8) -> Front<'a, Option<Stmt>>
     requires { depth ≤ 48 }
-    ensures adds { MatchResult result (λ p. MatchOption p.0 (Closes tokens.now p.1.now) (λ s. Adds done depth tokens.now (statement_of s) p.1.now)) (λ e. FailsAs done depth tokens.now e) }
+    ensures adds { MatchResult result (λ p. MatchOption p.0 (Closes tokens.now p.1.now)
+        (λ s. AddsStatement done depth tokens.now (statement_of s) p.1.now))
+        (λ e. FailsAs done depth tokens.now e) }
     ensures shorter { IfOk result (λ p. length p.1.now < length tokens.now) }
 {
     let Some((first, rest)) = tokens.split_first() else {
@@ -192,7 +202,8 @@ fn statement<'a>(alloc: Global, tokens: &'a [Placed], depth: u8) -> Front<'a, Op
 #[tactic(auto, using(crate::proofs::Statements::chooses))]
 fn condition<'a>(alloc: Global, tokens: &'a [Placed], depth: u8) -> Front<'a, Stmt>
     requires { depth ≤ 48 }
-    ensures adds { AddsOr result choice_wanted depth tokens.now (λ p. statement_of p.0) (λ p. p.1.now) }
+    ensures adds { AddsOr result choice_wanted depth tokens.now (λ p. statement_of p.0)
+        (λ p. p.1.now) }
     ensures shorter { IfOk result (λ p. length p.1.now < length tokens.now) }
 {
     let (test, rest) = expression(alloc, tokens, depth)?;
@@ -206,7 +217,8 @@ fn condition<'a>(alloc: Global, tokens: &'a [Placed], depth: u8) -> Front<'a, St
 #[tactic(auto, using(crate::proofs::Statements::no_else_end, crate::proofs::Statements::no_else, crate::proofs::Statements::with_else))]
 fn otherwise<'a>(alloc: Global, tokens: &'a [Placed], depth: u8) -> Front<'a, Vec<Stmt>>
     requires { depth ≤ 48 }
-    ensures reads { ReadsOr result (λ st. Otherwise ∷ st) depth tokens.now (λ p. Of_block (block_of p.0.items)) (λ p. p.1.now) }
+    ensures reads { ReadsOr result (λ st. Otherwise ∷ st) depth tokens.now
+        (λ p. Of_block (block_of p.0.items)) (λ p. p.1.now) }
     ensures shorter { IfOk result (λ p. length p.1.now ≤ length tokens.now) }
 {
     let Some((first, after)) = tokens.split_first() else {
@@ -224,7 +236,8 @@ fn otherwise<'a>(alloc: Global, tokens: &'a [Placed], depth: u8) -> Front<'a, Ve
 #[tactic(auto, using(crate::proofs::Statements::repeats))]
 fn repetition<'a>(alloc: Global, tokens: &'a [Placed], depth: u8) -> Front<'a, Stmt>
     requires { depth ≤ 48 }
-    ensures adds { AddsOr result (λ st. A_number For_repeat ∷ st) depth tokens.now (λ p. statement_of p.0) (λ p. p.1.now) }
+    ensures adds { AddsOr result (λ st. A_number For_repeat ∷ st) depth tokens.now
+        (λ p. statement_of p.0) (λ p. p.1.now) }
     ensures shorter { IfOk result (λ p. length p.1.now < length tokens.now) }
 {
     let (turns, rest) = number(tokens)?;

@@ -14,7 +14,7 @@ use Rattle.sx_lex.specs.Words.{kind_of, first_is, is_name, is_lower, is_digit, i
 use Rattle.sx_lex.specs.Lexed.{along, below, Lexed, at_end, space, newline, token}
 use Rattle.sx_lex.proofs.Found.{and_left, and_right, digit_is_decimal}
 use Rattle.sx_grammar.specs.Tokens as grammar
-use Rattle.sx_grammar.specs.Tokens.{Token, given}
+use Rattle.sx_grammar.specs.Tokens.{Token, given_tokens}
 use Rattle.sx_print.specs.declared.words.Gap.{Gap}
 use Rattle.sx_print.specs.declared.words.Gap.TheVariants.{Nothing, Space, Line}
 use Rattle.sx_print.specs.Printable.{is_plain}
@@ -65,7 +65,7 @@ pub record Reads (at : Place) (text : List ℕ) (ks : List Token) : Type 0 where
   pub tokens : List Placed
   pub end : Place
   pub lexed : Lexed at text tokens end
-  pub same : given tokens ≡ ks
+  pub same : given_tokens tokens ≡ ks
 
 first-append : (sort : ℕ → Bool) (w rest : List ℕ) → first_is sort w ≡ true → first_is sort (w ++ rest) ≡ true
 first-append sort [] rest h = absurd (cc)

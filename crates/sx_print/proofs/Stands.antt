@@ -11,20 +11,20 @@ use Rattle.sx_lang.specs.Tree.{Expression, Constant, Variable, Indexed, Applied,
 use Rattle.sx_lex.specs.declared.tokens.Kind.TheVariants.{Semicolon, Else, Close, CloseSquare, CloseBrace}
 use Rattle.sx_grammar.specs.Tokens.{Token, token, fits, unary_operator}
 use Rattle.sx_grammar.specs.Grammar as g
-use Rattle.sx_grammar.specs.Grammar.{Stands, IsStatement, IsBlock, AreStatements, IsDeclaration, AreDeclarations, IsHandler, AreHandlers, IsModule}
+use Rattle.sx_grammar.specs.Grammar.{IsExpression, IsStatement, IsBlock, AreStatements, IsDeclaration, AreDeclarations, IsHandler, AreHandlers, IsModule}
 use Rattle.sx_print.specs.declared.words.Gap.{Gap}
 use Rattle.sx_print.specs.declared.words.Gap.TheVariants.{Nothing, Space, Line}
 use Rattle.sx_print.specs.Printable.{expression_open, statement_open, block_open, handlers_open, module_open}
 use Rattle.sx_print.specs.Pieces.{Piece, quoted, expression_pieces, margin, deeper, value_pieces, statement_pieces, statements_pieces, block_pieces, else_pieces, declared_pieces, declarations_pieces, handler_pieces, handlers_pieces, module_pieces, binary_sign, unary_sign}
 use Rattle.sx_print.proofs.Read.{tokens_of}
 
-alone : {d : ℕ} {ts rest : List Token} {e : Expression} → Stands g.Unary d ts e rest → Stands g.Term d ts e rest
+alone : {d : ℕ} {ts rest : List Token} {e : Expression} → IsExpression g.Unary d ts e rest → IsExpression g.Term d ts e rest
 alone s = g.term s g.no_factor
 
-alone_sum : {d : ℕ} {ts rest : List Token} {e : Expression} → Stands g.Unary d ts e rest → Stands g.Sum d ts e rest
+alone_sum : {d : ℕ} {ts rest : List Token} {e : Expression} → IsExpression g.Unary d ts e rest → IsExpression g.Sum d ts e rest
 alone_sum s = g.sum (alone s) g.no_addend
 
-alone_whole : {d : ℕ} {ts rest : List Token} {e : Expression} → Stands g.Unary d ts e rest → Stands g.Whole d ts e rest
+alone_whole : {d : ℕ} {ts rest : List Token} {e : Expression} → IsExpression g.Unary d ts e rest → IsExpression g.Whole d ts e rest
 alone_whole s = g.whole (alone_sum s)
 
 sign_operator : (op : UnOp) → unary_operator (unary_sign op) ≡ Some op
@@ -32,7 +32,7 @@ sign_operator Neg = refl
 sign_operator Inv = refl
 sign_operator Not = refl
 
-joined : {d : ℕ} {ts us rest : List Token} {x y : Expression} (op : BinOp) → Stands g.Unary d ts x (token (binary_sign op) true ∷ us) → Stands g.Unary d us y rest → Stands g.Whole d ts (Combined op x y) rest
+joined : {d : ℕ} {ts us rest : List Token} {x y : Expression} (op : BinOp) → IsExpression g.Unary d ts x (token (binary_sign op) true ∷ us) → IsExpression g.Unary d us y rest → IsExpression g.Whole d ts (Combined op x y) rest
 joined Add s t = g.whole (g.sum (alone s) (g.addend refl refl (alone t) g.no_addend))
 joined Sub s t = g.whole (g.sum (alone s) (g.addend refl refl (alone t) g.no_addend))
 joined Or s t = g.whole (g.sum (alone s) (g.addend refl refl (alone t) g.no_addend))
@@ -53,7 +53,7 @@ room d n h = grind (arith, nat_tests)
 inner : (d n : ℕ) → d + (1 + n) ≤ 48 → (d + 1) + n ≤ 48
 inner d n h = omega (arith, h)
 
-expression_stands : (k : Gap) (e : Expression) (ps : List Piece) (d : ℕ) → d + expression_open e ≤ 48 → Stands g.Unary d (tokens_of (expression_pieces k e ps)) e (tokens_of ps)
+expression_stands : (k : Gap) (e : Expression) (ps : List Piece) (d : ℕ) → d + expression_open e ≤ 48 → IsExpression g.Unary d (tokens_of (expression_pieces k e ps)) e (tokens_of ps)
 expression_stands k (Constant n) ps d h = g.plain g.number
 expression_stands k (Variable x) ps d h = g.plain g.name
 expression_stands k (Indexed x i) ps d h = g.plain (g.element (room d (expression_open i) h) (alone_whole (expression_stands Nothing i (quoted CloseSquare k ∷ ps) (d + 1) (inner d (expression_open i) h))))
@@ -65,11 +65,11 @@ expression_stands k (Combined op a b) ps d h =
     (expression_stands Space a (quoted (binary_sign op) Space ∷ expression_pieces Nothing b (quoted Close k ∷ ps)) (d + 1) (omega (arith, i)))
     (expression_stands Nothing b (quoted Close k ∷ ps) (d + 1) (omega (arith, i)))))
 
-whole_stands : (k : Gap) (e : Expression) (ps : List Piece) (d : ℕ) → d + expression_open e ≤ 48 → Stands g.Whole d (tokens_of (expression_pieces k e ps)) e (tokens_of ps)
+whole_stands : (k : Gap) (e : Expression) (ps : List Piece) (d : ℕ) → d + expression_open e ≤ 48 → IsExpression g.Whole d (tokens_of (expression_pieces k e ps)) e (tokens_of ps)
 whole_stands k e ps d h = alone_whole (expression_stands k e ps d h)
 
 -- with the semicolon
-value_stands : (e : Expression) (ps : List Piece) (d : ℕ) → d + expression_open e ≤ 48 → Stands g.Whole d (tokens_of (expression_pieces Nothing e (quoted Semicolon Line ∷ ps))) e (token Semicolon true ∷ tokens_of ps)
+value_stands : (e : Expression) (ps : List Piece) (d : ℕ) → d + expression_open e ≤ 48 → IsExpression g.Whole d (tokens_of (expression_pieces Nothing e (quoted Semicolon Line ∷ ps))) e (token Semicolon true ∷ tokens_of ps)
 value_stands e ps d h = whole_stands Nothing e (quoted Semicolon Line ∷ ps) d h
 
 margin_tokens : (n : ℕ) (ps : List Piece) → tokens_of (margin n ps) ≡ tokens_of ps

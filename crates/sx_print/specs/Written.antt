@@ -16,7 +16,8 @@ are_short (p ∷ ps) = is_short p && are_short ps
 
 -- the first text with the one part still to come is the second text with the other, whatever
 -- follows
-pub record Goes (before : List ℕ) (left : List Piece → List Piece) (after : List ℕ) (then : List Piece → List Piece) : Type 0 where
+pub record Goes (before : List ℕ) (left : List Piece
+    → List Piece) (after : List ℕ) (then : List Piece → List Piece) : Type 0 where
   pub text : (rest : List Piece) → before ++ text_of (left rest) ≡ after ++ text_of (then rest)
   pub short : (rest : List Piece) → are_short (then rest) ≡ true → are_short (left rest) ≡ true
 

@@ -6,7 +6,11 @@ ghost use Rattle.sx_lang.specs.Tree.{Sends, Stores};
 ghost use Rattle.sx_lang.specs.View.{block_of, expression_of, handler_of, module_of, statement_of};
 ghost use Rattle.sx_grammar.specs.Text.{Spells};
 ghost use Rattle.sx_print.specs.Printable.{is_printable};
-ghost use Rattle.sx_print.specs.Pieces.{Piece, block_pieces, declarations_pieces, declared_pieces, device_word, else_pieces, event_pieces, expression_pieces, handler_pieces, handlers_pieces, module_pieces, name, quoted, statement_pieces, statements_pieces, text_of, value_pieces};
+ghost use Rattle.sx_print.specs.Pieces.{Piece, block_pieces, declarations_pieces, declared_pieces};
+ghost use Rattle.sx_print.specs.Pieces.{device_word, else_pieces, event_pieces, expression_pieces};
+ghost use Rattle.sx_print.specs.Pieces.{handler_pieces, handlers_pieces, module_pieces, name};
+ghost use Rattle.sx_print.specs.Pieces.{quoted, statement_pieces, statements_pieces, text_of};
+ghost use Rattle.sx_print.specs.Pieces.{value_pieces};
 ghost use Rattle.sx_print.specs.Written.{Wrote};
 
 use crate::words::{Gap, binary_sign, deeper, put, put_margin, put_name, put_number, unary_sign};
@@ -16,7 +20,8 @@ use sx_lang::tree::{Decl, DeviceKind, Expr, Handler, Module, Stmt};
 use sx_lex::tokens::Kind;
 
 fn put_expression(out: &mut Vec<u8>, e: &Expr, gap: Gap) -> Result<(), OutOfMemory>
-    ensures { OnOk result (Wrote out.old.items (expression_pieces gap (expression_of e.now)) out.new.items) }
+    ensures { OnOk result (Wrote out.old.items (expression_pieces gap (expression_of e.now))
+        out.new.items) }
 {
     match e {
         Expr::Number(n) => put_number(out, *n, gap),
@@ -53,7 +58,8 @@ fn put_value(out: &mut Vec<u8>, e: &Expr) -> Result<(), OutOfMemory>
 /// Writes an assignment to an element, which is the same in a line of each depth.
 fn put_element(out: &mut Vec<u8>, x: &Name, index: &Expr, e: &Expr) -> Result<(), OutOfMemory>
     ensures { (depth : ℕ) → OnOk result (Wrote out.old.items
-        (statement_pieces depth (Stores x.now (expression_of index.now) (expression_of e.now))) out.new.items) }
+        (statement_pieces depth (Stores x.now (expression_of index.now) (expression_of e.now)))
+        out.new.items) }
 {
     put_name(out, x, Gap::Nothing)?;
     put(out, Kind::OpenSquare, Gap::Nothing)?;
@@ -77,7 +83,8 @@ fn put_send(out: &mut Vec<u8>, x: &Name, e: &Expr) -> Result<(), OutOfMemory>
 
 #[cycle(blocks)]
 fn put_statement(out: &mut Vec<u8>, s: &Stmt, depth: u8) -> Result<(), OutOfMemory>
-    ensures { OnOk result (Wrote out.old.items (statement_pieces depth (statement_of s.now)) out.new.items) }
+    ensures { OnOk result (Wrote out.old.items (statement_pieces depth (statement_of s.now))
+        out.new.items) }
 {
     match s {
         Stmt::Let(x, e) => {
@@ -114,7 +121,8 @@ fn put_statement(out: &mut Vec<u8>, s: &Stmt, depth: u8) -> Result<(), OutOfMemo
 /// Writes a block in a line of this depth, up to the margin of the brace that ends it.
 #[cycle(blocks)]
 fn put_block(out: &mut Vec<u8>, block: &Vec<Stmt>, depth: u8) -> Result<(), OutOfMemory>
-    ensures { OnOk result (Wrote out.old.items (block_pieces depth (block_of block.now.items)) out.new.items) }
+    ensures { OnOk result (Wrote out.old.items (block_pieces depth (block_of block.now.items))
+        out.new.items) }
 {
     put(out, Kind::OpenBrace, Gap::Line)?;
     put_statements(out, block, deeper(depth))?;
@@ -123,7 +131,8 @@ fn put_block(out: &mut Vec<u8>, block: &Vec<Stmt>, depth: u8) -> Result<(), OutO
 
 #[cycle(blocks)]
 fn put_statements(out: &mut Vec<u8>, block: &Vec<Stmt>, depth: u8) -> Result<(), OutOfMemory>
-    ensures { OnOk result (Wrote out.old.items (statements_pieces depth (block_of block.now.items)) out.new.items) }
+    ensures { OnOk result (Wrote out.old.items (statements_pieces depth (block_of block.now.items))
+        out.new.items) }
 {
     for s in block {
         put_margin(out, depth)?;
@@ -135,7 +144,8 @@ fn put_statements(out: &mut Vec<u8>, block: &Vec<Stmt>, depth: u8) -> Result<(),
 /// Writes the brace that ends an `if`'s first block, and the second block unless it is empty.
 #[cycle(blocks)]
 fn put_else(out: &mut Vec<u8>, otherwise: &Vec<Stmt>, depth: u8) -> Result<(), OutOfMemory>
-    ensures { OnOk result (Wrote out.old.items (else_pieces depth (block_of otherwise.now.items)) out.new.items) }
+    ensures { OnOk result (Wrote out.old.items (else_pieces depth (block_of otherwise.now.items))
+        out.new.items) }
 {
     if otherwise.is_empty() {
         return put(out, Kind::CloseBrace, Gap::Line);
@@ -221,7 +231,8 @@ fn put_handler(out: &mut Vec<u8>, h: &Handler) -> Result<(), OutOfMemory>
 }
 
 fn put_handlers(out: &mut Vec<u8>, handlers: &[Handler]) -> Result<(), OutOfMemory>
-    ensures { OnOk result (Wrote out.old.items (handlers_pieces (map handler_of handlers.now)) out.new.items) }
+    ensures { OnOk result (Wrote out.old.items (handlers_pieces (map handler_of handlers.now))
+        out.new.items) }
 {
     for h in handlers {
         put_handler(out, h)?;

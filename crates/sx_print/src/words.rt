@@ -2,7 +2,8 @@
 
 ghost use Rattle.std.specs.Prelude.{◌≡◌, ◌∷◌, ◌++◌, min, OnOk};
 ghost use Rattle.sx_lang.specs.declared.tree.BinOp.{BinOp};
-ghost use Rattle.sx_print.specs.Pieces.{binary_sign, deeper, gap_bytes, margin, name, number, quoted, spelling, unary_sign};
+ghost use Rattle.sx_print.specs.Pieces.{binary_sign, deeper, gap_bytes, margin, name, number};
+ghost use Rattle.sx_print.specs.Pieces.{quoted, spelling, unary_sign};
 ghost use Rattle.sx_print.specs.Written.{Wrote};
 
 use itoa::Buffer;

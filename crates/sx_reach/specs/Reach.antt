@@ -8,7 +8,10 @@ pub data Stepped (S V : Type 0) : Type 0 where
 
 -- Within a cost of n, where each step has its own, the system comes to a state of Q, or it ends
 -- with a v of which B holds; each state before has P. B is said of the state before the last step.
-pub data Comes (S V : Type 0) (step : S → Stepped S V) (cost : S → ℕ) (P : S → Type 0) (B : S → V → Type 0) (Q : S → Type 0) : ℕ → S → Type 0 where
+pub data Comes (S V : Type 0) (step : S → Stepped S V) (cost : S → ℕ) (P : S → Type 0) (B : S → V
+    → Type 0) (Q : S → Type 0) : ℕ → S → Type 0 where
   Here : {n : ℕ} {s : S} → Q s → Comes S V step cost P B Q n s
-  Next : {k n : ℕ} {s t : S} → P s → step s ≡ Goes t → cost s + k ≤ n → Comes S V step cost P B Q k t → Comes S V step cost P B Q n s
-  Ends : {n : ℕ} {s : S} {v : V} → P s → step s ≡ Stops v → cost s ≤ n → B s v → Comes S V step cost P B Q n s
+  Next : {k n : ℕ} {s t : S} → P s → step s ≡ Goes t → cost s + k ≤ n
+      → Comes S V step cost P B Q k t → Comes S V step cost P B Q n s
+  Ends : {n : ℕ} {s : S} {v : V} → P s → step s ≡ Stops v → cost s ≤ n → B s v
+      → Comes S V step cost P B Q n s

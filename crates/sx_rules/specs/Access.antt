@@ -6,7 +6,8 @@
 --     holder, outside_private, in_order, extends      what a step asks of an instruction's bytes
 --     both_bytes      a test of the two bytes of a word
 --     Lives, section_of      a live section, and one by its id
-use Rattle.std.specs.Prelude.{◌≡◌, ◌⊎◌, ℕ, ◌+◌, ◌-◌, ◌%◌, ◌==◌, nat_lt, nat_le, Bool, ◌&&◌, ◌||◌, not, if◌then◌else◌, List, [], ◌∷◌, Option, find}
+use Rattle.std.specs.Prelude.{◌≡◌, ◌⊎◌, ℕ, ◌+◌, ◌-◌, ◌%◌, ◌==◌, nat_lt, nat_le, Bool, ◌&&◌, ◌||◌}
+use Rattle.std.specs.Prelude.{not, if◌then◌else◌, List, [], ◌∷◌, Option, find}
 use Rattle.std.specs.List.{list_all}
 use Rattle.sx_rules.specs.declared.access.Access.{Access}
 use Rattle.sx_rules.specs.declared.access.Access.TheVariants.{Read, Write, Run}
@@ -36,7 +37,8 @@ at_entry s at = nat_le s.layout.pub_from at && nat_lt at (s.layout.pub_from + 2)
 abbrev pub allows : ℕ → Access → ℕ → Section → Bool
 allows own Read at s = not (in_private s at) || own == s.id
 allows own Write at s = not (in_public s at) && (not (in_private s at) || own == s.id)
-allows own Run at s = not (in_private s at) && (not (in_public s at) || (own == s.id || at_entry s at))
+allows own Run at s =
+    not (in_private s at) && (not (in_public s at) || (own == s.id || at_entry s at))
 
 -- the access table (Sancus 2.0): every live section allows the access
 unfoldable pub may : List Section → ℕ → Access → ℕ → Bool
@@ -53,12 +55,14 @@ outside_private live at = list_all (λ s. not (in_private s at)) live
 
 -- PC lies in no public section other than that of `cur`, or at such a section's first byte
 abbrev pub in_order : List Section → ℕ → ℕ → Bool
-in_order live cur pc = list_all (λ s. not (in_public s pc) || (cur == s.id || pc == s.layout.pub_from)) live
+in_order live cur pc =
+    list_all (λ s. not (in_public s pc) || (cur == s.id || pc == s.layout.pub_from)) live
 
 -- a byte of an extension word of an instruction of `own` may stand here: in unprotected memory or
 -- in the public section of `own`
 abbrev pub extends : List Section → ℕ → ℕ → Bool
-extends live own at = list_all (λ s. not (in_private s at) && (not (in_public s at) || own == s.id)) live
+extends live own at =
+    list_all (λ s. not (in_private s at) && (not (in_public s at) || own == s.id)) live
 
 -- both bytes of the word at an address, whose bit 0 doesn't count, pass the test
 abbrev pub both_bytes : (ℕ → Bool) → ℕ → Bool

@@ -1,12 +1,14 @@
 -- When a section is admitted, and what a table holds afterwards.
 --     refusal      the first refusal of a new section, in the order of the table (own profile)
 --     admitted, removed      the table after a section was admitted, and after one was removed
-use Rattle.std.specs.Prelude.{ℕ, ◌+◌, ◌%◌, ◌==◌, nat_lt, nat_le, Bool, ◌&&◌, ◌||◌, not, if◌then◌else◌, List, [], ◌∷◌, ◌++◌, length, Option, Some, None}
+use Rattle.std.specs.Prelude.{ℕ, ◌+◌, ◌%◌, ◌==◌, nat_lt, nat_le, Bool, ◌&&◌, ◌||◌, not}
+use Rattle.std.specs.Prelude.{if◌then◌else◌, List, [], ◌∷◌, ◌++◌, length, Option, Some, None}
 use Rattle.std.specs.List.{list_all}
 use Rattle.sx_rules.specs.declared.section.Layout.{Layout}
 use Rattle.sx_rules.specs.declared.section.Section.{Section}
 use Rattle.sx_rules.specs.declared.admission.Refusal.{Refusal}
-use Rattle.sx_rules.specs.declared.admission.Refusal.TheVariants.{Bounds, Overlap, Device, Full, Ids}
+use Rattle.sx_rules.specs.declared.admission.Refusal.TheVariants.{Bounds, Overlap, Device, Full}
+use Rattle.sx_rules.specs.declared.admission.Refusal.TheVariants.{Ids}
 use Rattle.sx_rules.specs.Access.{Sections}
 
 -- two ranges, from the first number up to but not the second, don't meet
@@ -30,8 +32,10 @@ parts_apart l = apart l.pub_from l.pub_to l.priv_from l.priv_to
 -- neither part meets a part of the section
 abbrev pub clear_of : Layout → Section → Bool
 clear_of l s =
-    apart l.pub_from l.pub_to s.layout.pub_from s.layout.pub_to && (apart l.pub_from l.pub_to s.layout.priv_from s.layout.priv_to
-    && (apart l.priv_from l.priv_to s.layout.pub_from s.layout.pub_to && apart l.priv_from l.priv_to s.layout.priv_from s.layout.priv_to))
+    apart l.pub_from l.pub_to s.layout.pub_from s.layout.pub_to
+    && (apart l.pub_from l.pub_to s.layout.priv_from s.layout.priv_to
+    && (apart l.priv_from l.priv_to s.layout.pub_from s.layout.pub_to
+    && apart l.priv_from l.priv_to s.layout.priv_from s.layout.priv_to))
 
 -- the two parts meet neither each other nor a live section
 abbrev pub no_overlap : List Section → Layout → Bool

@@ -5,13 +5,16 @@
 --     IsIndex      what a table keeps for its live sections
 --     answer      what a section says to a question about a byte
 --     IsFree      what holds of a byte of an open page
-use Rattle.std.specs.Prelude.{◌≡◌, ℕ, ◌+◌, ◌*◌, ◌/◌, ◌==◌, ◌<◌, nat_lt, nat_le, Bool, true, false, ◌&&◌, ◌||◌, not, if◌then◌else◌, List, [], ◌∷◌, slice_index}
+use Rattle.std.specs.Prelude.{◌≡◌, ℕ, ◌+◌, ◌*◌, ◌/◌, ◌==◌, ◌<◌, nat_lt, nat_le, Bool, true, false}
+use Rattle.std.specs.Prelude.{◌&&◌, ◌||◌, not, if◌then◌else◌, List, [], ◌∷◌, slice_index}
 use Rattle.std.specs.List.{list_all}
 use Rattle.sx_rules.specs.declared.access.Access.{Access}
 use Rattle.sx_rules.specs.declared.access.Question.{Question}
-use Rattle.sx_rules.specs.declared.access.Question.TheVariants.{Allows, OutsidePrivate, InOrder, Extends}
+use Rattle.sx_rules.specs.declared.access.Question.TheVariants.{Allows, OutsidePrivate, InOrder}
+use Rattle.sx_rules.specs.declared.access.Question.TheVariants.{Extends}
 use Rattle.sx_rules.specs.declared.section.Section.{Section}
-use Rattle.sx_rules.specs.Access.{in_public, in_private, allows, may, holder, outside_private, in_order, extends, Lives}
+use Rattle.sx_rules.specs.Access.{in_public, in_private, allows, may, holder, outside_private}
+use Rattle.sx_rules.specs.Access.{in_order, extends, Lives}
 
 -- the part from `from` up to `to`, if it has any bytes, has bytes of the page
 abbrev pub reaches : ℕ → ℕ → ℕ → Bool
@@ -20,7 +23,8 @@ reaches from to page = nat_le (from / 256) page && nat_lt (256 * page) to
 -- one of the section's parts does
 abbrev pub meets : ℕ → Section → Bool
 meets page s =
-    reaches s.layout.pub_from s.layout.pub_to page || reaches s.layout.priv_from s.layout.priv_to page
+    reaches s.layout.pub_from s.layout.pub_to page
+    || reaches s.layout.priv_from s.layout.priv_to page
 
 -- the sections that meet the page, as a number: bit i is set where the i-th does
 abbrev pub meeting : ℕ → List Section → ℕ
@@ -32,8 +36,8 @@ abbrev pub is_open : List Section → ℕ → Bool
 is_open live page = list_all (λ s. not (meets page s)) live
 
 -- what is kept for each of the 256 pages: the sections that meet it
-abbrev pub IsIndex : List ℕ → List Section → Type 0
-IsIndex pages live = (page : ℕ) → page < 256 → slice_index pages page ≡ meeting page live
+abbrev pub IsPageIndex : List ℕ → List Section → Type 0
+IsPageIndex pages live = (page : ℕ) → page < 256 → slice_index pages page ≡ meeting page live
 
 -- what a section says to a question about a byte; the access table and a step's other tests require
 -- a yes from every live one

@@ -62,12 +62,15 @@ RemoveRemoves = (t : Sections) (id : ℕ) → Placed t → section_of (removed t
 
 -- two live sections of different ids don't meet
 abbrev pub PlacedBeside : Type 0
-PlacedBeside = (t : Sections) (s u : Section) → Placed t → Lives t.live s → Lives t.live u → s.id ≢ u.id → Beside s u
+PlacedBeside = (t : Sections) (s u : Section) → Placed t → Lives t.live s → Lives t.live u
+    → s.id ≢ u.id → Beside s u
 
 -- a live section is found by its id, and holds the bytes of its public part
 abbrev pub PlacedFound : Type 0
-PlacedFound = (t : Sections) (s : Section) → Placed t → Lives t.live s → section_of t.live s.id ≡ Some s
+PlacedFound =
+    (t : Sections) (s : Section) → Placed t → Lives t.live s → section_of t.live s.id ≡ Some s
 
 -- a byte of a live section's public part belongs to that section alone
 abbrev pub PlacedHolds : Type 0
-PlacedHolds = (t : Sections) (s : Section) (at : ℕ) → Placed t → Lives t.live s → in_public s at ≡ true → holder t.live at ≡ s.id
+PlacedHolds = (t : Sections) (s : Section) (at : ℕ) → Placed t → Lives t.live s
+    → in_public s at ≡ true → holder t.live at ≡ s.id

@@ -2,7 +2,8 @@
 
 ghost use Rattle.std.specs.Prelude.{◌≡◌, ◌/◌, ◌^◌, if◌then◌else◌, IfSome};
 ghost use Rattle.std.specs.List.{list_all};
-ghost use Rattle.sx_rules.specs.Access.{in_public, in_private, at_entry, allows, holder, section_of};
+ghost use Rattle.sx_rules.specs.Access.{in_public, in_private, at_entry, allows, holder};
+ghost use Rattle.sx_rules.specs.Access.{section_of};
 ghost use Rattle.sx_rules.specs.Pages.{meeting, answer};
 
 use crate::section::Section;

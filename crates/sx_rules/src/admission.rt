@@ -2,7 +2,8 @@
 
 ghost use Rattle.std.specs.Prelude.{◌≡◌, ◌+◌, ◌<◌, ◌≤◌, List, ℕ, length, IfNone};
 ghost use Rattle.std.specs.List.{list_all};
-ghost use Rattle.sx_rules.specs.Admission.{apart, even, good_bounds, parts_apart, clear_of, no_overlap, no_device, refusal};
+ghost use Rattle.sx_rules.specs.Admission.{apart, even, good_bounds, parts_apart, clear_of};
+ghost use Rattle.sx_rules.specs.Admission.{no_overlap, no_device, refusal};
 
 use crate::section::{Layout, Section};
 
@@ -100,7 +101,8 @@ pub fn first_refusal(
     layout: &Layout,
     places: &[u16],
 ) -> Option<Refusal>
-    ensures refusal { result ≡ refusal (record { live = live.now; next = next }) layout.now places.now }
+    ensures refusal { result ≡ refusal (record { live = live.now; next = next }) layout.now
+        places.now }
     ensures room { IfNone result (length live.now < 8) }
     ensures ids { IfNone result (next ≤ 65535) }
 {

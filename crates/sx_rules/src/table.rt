@@ -1,10 +1,13 @@
 //! The table of live sections.
 
-ghost use Rattle.std.specs.Prelude.{◌≡◌, ◌<◌, ◌≤◌, ◌+◌, ◌-◌, ◌/◌, ℕ, [], ◌∷◌, ◌++◌, take, drop, length, is_some, Option, None, IfOk, OnOk, OnErr, MatchOption, IsSome};
+ghost use Rattle.std.specs.Prelude.{◌≡◌, ◌<◌, ◌≤◌, ◌+◌, ◌-◌, ◌/◌, ℕ, [], ◌∷◌, ◌++◌, take, drop};
+ghost use Rattle.std.specs.Prelude.{length, is_some, Option, None, IfOk, OnOk, OnErr, MatchOption};
+ghost use Rattle.std.specs.Prelude.{IsSome};
 ghost use Rattle.std.specs.List.{list_all};
 ghost use Rattle.std.specs.Bool.{OnTrue};
 ghost use Rattle.std.specs.Result.{result_err};
-ghost use Rattle.sx_rules.specs.Access.{may, holder, outside_private, in_order, extends, both_bytes, section_of};
+ghost use Rattle.sx_rules.specs.Access.{may, holder, outside_private, in_order, extends};
+ghost use Rattle.sx_rules.specs.Access.{both_bytes, section_of};
 ghost use Rattle.sx_rules.specs.Admission.{refusal, admitted, removed, without};
 ghost use Rattle.sx_rules.specs.Pages.{meeting, is_open, answer, IsFree};
 ghost use Rattle.sx_rules.specs.Unused.{AreUnused};
@@ -28,7 +31,7 @@ pub struct Table {
 impl Model for Table {
     ghost use Rattle.std.specs.Prelude.{take, ◌≤◌};
     ghost use Rattle.sx_rules.specs.Access.{Sections};
-    ghost use Rattle.sx_rules.specs.Pages.{IsIndex};
+    ghost use Rattle.sx_rules.specs.Pages.{IsPageIndex};
     ghost use Rattle.sx_rules.specs.Unused.{AreUnused};
 
     ghost Value = { Sections };
@@ -36,7 +39,7 @@ impl Model for Table {
     ghost view = { λ t. record { live = take t.live t.sections; next = t.next } };
 
     ghost invariant = { λ t. (t.live ≤ 8) × (t.next ≤ 65536) × AreUnused t.live t.sections
-        × IsIndex t.pages (take t.live t.sections) };
+        × IsPageIndex t.pages (take t.live t.sections) };
 }
 
 const UNUSED: Section = Section {
@@ -269,7 +272,9 @@ fn place(sections: &mut [Section], at: usize, section: Section)
 
 fn index_of(live: &[Section], id: u16) -> Option<usize>
     ensures there { is_some result ≡ is_some (section_of live.now id) }
-    ensures index { MatchOption result (without live.now id ≡ live.now) (λ index. (index < length live.now) × (without live.now id ≡ take index live.now ++ drop (index + 1) live.now)) }
+    ensures index { MatchOption result (without live.now id ≡ live.now)
+        (λ index. (index < length live.now) × (without live.now id
+        ≡ take index live.now ++ drop (index + 1) live.now)) }
 {
     for (index, section) in live.iter().enumerate() {
         if section.id == id {
@@ -282,7 +287,8 @@ fn index_of(live: &[Section], id: u16) -> Option<usize>
 /// Takes the section at the index out, so that the last slot is unused.
 fn remove_at(live: &mut [Section], index: usize)
     requires { index < length live.old }
-    ensures removed { take (length live.old - 1) live.new ≡ take index live.old ++ drop (index + 1) live.old }
+    ensures removed { take (length live.old - 1) live.new
+        ≡ take index live.old ++ drop (index + 1) live.old }
     ensures unused { AreUnused (length live.old - 1) live.new }
 {
     close_gap(live, index);
@@ -292,7 +298,8 @@ fn remove_at(live: &mut [Section], index: usize)
 
 fn close_gap(live: &mut [Section], index: usize)
     requires { index < length live.old }
-    ensures { take (length live.old - 1) live.new ≡ take index live.old ++ drop (index + 1) live.old }
+    ensures { take (length live.old - 1) live.new
+        ≡ take index live.old ++ drop (index + 1) live.old }
 {
     live[index..].rotate_left(1);
 }

@@ -22,12 +22,12 @@ use Rattle.sx_executor.specs.declared.buffer.Buffer.{Buffer}
 use Rattle.sx_executor.specs.Machine.{Machine, reaches}
 
 -- the buffer is as two registers name it: its place, and how many bytes it has
-abbrev pub IsNamed : List ℕ → ℕ → ℕ → Buffer → Type 0
-IsNamed regs at n b = (b.at ≡ slice_index regs at) × (b.count ≡ slice_index regs n)
+abbrev pub IsNamedBuffer : List ℕ → ℕ → ℕ → Buffer → Type 0
+IsNamedBuffer regs at n b = (b.at ≡ slice_index regs at) × (b.count ≡ slice_index regs n)
 
 -- it is the 16 bytes at the place in a register
-abbrev pub IsBlock : List ℕ → ℕ → Buffer → Type 0
-IsBlock regs at b = (b.at ≡ slice_index regs at) × (b.count ≡ 16)
+abbrev pub IsSixteenBytes : List ℕ → ℕ → Buffer → Type 0
+IsSixteenBytes regs at b = (b.at ≡ slice_index regs at) × (b.count ≡ 16)
 
 -- it is that of the key at R9, which is empty where the module's own key is used
 abbrev pub IsKeyPlace : List ℕ → Buffer → Type 0
@@ -65,8 +65,8 @@ attested_by mac g m at own tag =
     exec m.sections m.own (attested mac g own tag other) (untouched_with g m.mem)
 
 -- the answer of an instruction that does nothing else
-abbrev pub answered : Given → Machine → ℕ → Outcome
-answered g m id = exec m.sections m.own (answer g id) (untouched_with g m.mem)
+abbrev pub answer_outcome : Given → Machine → ℕ → Outcome
+answer_outcome g m id = exec m.sections m.own (answer g id) (untouched_with g m.mem)
 
 -- what follows the tests of all buffers that R9 to R15 name
 abbrev pub tested_buffers : List ℕ → List Window → Outcome → Outcome

@@ -8,7 +8,7 @@ use Rattle.sx_machine.specs.declared.kinds.Exchange.{Exchange}
 use Rattle.sx_machine.specs.Given.{Given, untouched_with}
 use Rattle.sx_machine.specs.Plan.{Plan}
 use Rattle.sx_machine.specs.Run.{Outcome, exec}
-use Rattle.sx_machine.specs.Answers.{Tells}
+use Rattle.sx_machine.specs.Answers.{EndsModule}
 use Rattle.sx_executor.specs.Machine.{Machine}
 use Rattle.sx_sancus.specs.declared.event.SancusEvent.{SancusEvent}
 use Rattle.sx_sancus.specs.declared.event.SancusEvent.TheVariants.{Quiet, Protected, Removed}
@@ -53,7 +53,7 @@ told own (Err v) = Err v
 abbrev pub Concludes : Outcome → Machine
     → Result SancusEvent Violation → Machine → Exchange → Type 0
 Concludes outcome m answer n exchange =
-    Tells m.devices outcome (told m.own answer) n.regs n.mem n.sections exchange
+    EndsModule m.devices outcome (told m.own answer) n.regs n.mem n.sections exchange
     × (n.devices ≡ m.devices)
 
 -- The same of the plan that an instruction makes of what it is given, from one exchange to the

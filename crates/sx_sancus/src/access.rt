@@ -4,7 +4,7 @@ ghost use Rattle.std.specs.Prelude.{◌≡◌, ◌≤◌, true, false, length, I
 ghost use Rattle.sx_rules.specs.declared.access.Access.TheVariants.{Read, Write};
 ghost use Rattle.sx_rules.specs.declared.access.Violation.TheVariants as bad;
 ghost use Rattle.sx_machine.specs.Memory.{bytes_from};
-ghost use Rattle.sx_executor.specs.Machine.{reaches, reaches_each, written, IsClear};
+ghost use Rattle.sx_executor.specs.Machine.{reaches, reaches_each, with_bytes, IsClear};
 
 use crate::text::Text;
 use sx_bus::Bus;
@@ -54,7 +54,7 @@ pub fn write<B: Bus>(
     ensures closed { IfErr result (λ why. (why ≡ bad.Write)
         × (reaches_each executor.old Write buffer.at bytes.now ≡ false)) }
     ensures open { OnOk result (reaches_each executor.old Write buffer.at bytes.now ≡ true) }
-    ensures bytes { OnOk result (executor.new ≡ written executor.old buffer.at bytes.now) }
+    ensures bytes { OnOk result (executor.new ≡ with_bytes executor.old buffer.at bytes.now) }
     ensures unchanged { OnErr result (executor.new ≡ executor.old) }
 {
     executor.writable(buffer)?;

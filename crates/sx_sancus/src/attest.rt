@@ -7,7 +7,8 @@ ghost use Rattle.sx_machine.specs.ModuleRows.{attest, answer, vouches};
 ghost use Rattle.sx_machine.specs.Run.{Outcome};
 ghost use Rattle.sx_machine.specs.Answers.{followed};
 ghost use Rattle.sx_sancus.specs.Told.{ran_of, RunsRow};
-ghost use Rattle.sx_sancus.specs.Parts.{given_tag, reads_public, public_of, attested_by, answered};
+ghost use Rattle.sx_sancus.specs.Parts.{given_tag, reads_public, public_of, attested_by};
+ghost use Rattle.sx_sancus.specs.Parts.{answer_outcome};
 
 use crate::access::read_block;
 use crate::event::SancusEvent;
@@ -55,7 +56,7 @@ fn attested<B: Bus, T: Tag>(
     given: &[u8; 16],
 ) -> Result<u16, Violation>
     ensures { (g : Given) → attested_by T.mac g executor.now at own.now given.now
-        ≡ followed result (answered g executor.now) }
+        ≡ followed result (answer_outcome g executor.now) }
 {
     let Some(other) = executor.section(executor.holder(at)) else {
         return Ok(0);

@@ -13,7 +13,7 @@ ghost use Rattle.sx_machine.specs.Run.{Outcome};
 ghost use Rattle.sx_machine.specs.Answers.{followed};
 ghost use Rattle.sx_executor.specs.Machine.{IsClear};
 ghost use Rattle.sx_sancus.specs.Told.{ran_of};
-ghost use Rattle.sx_sancus.specs.Parts.{IsNamed, IsBlock, IsKeyPlace, IsOff, IsApart};
+ghost use Rattle.sx_sancus.specs.Parts.{IsNamedBuffer, IsSixteenBytes, IsKeyPlace, IsOff, IsApart};
 ghost use Rattle.sx_sancus.specs.Parts.{tested_buffers};
 
 use crate::access::{read_block, read_text};
@@ -47,10 +47,10 @@ impl Buffers {
         ensures within { OnOk result
             (list_any (λ b. passes_end b.at b.count) (buffers regs.now) ≡ false) }
         ensures key { IfOk result (λ b. IsKeyPlace regs.now b.key) }
-        ensures header { IfOk result (λ b. IsNamed regs.now 10 11 b.header) }
-        ensures text { IfOk result (λ b. IsNamed regs.now 12 13 b.text) }
-        ensures output { IfOk result (λ b. IsNamed regs.now 14 13 b.output) }
-        ensures tag { IfOk result (λ b. IsBlock regs.now 15 b.tag) }
+        ensures header { IfOk result (λ b. IsNamedBuffer regs.now 10 11 b.header) }
+        ensures text { IfOk result (λ b. IsNamedBuffer regs.now 12 13 b.text) }
+        ensures output { IfOk result (λ b. IsNamedBuffer regs.now 14 13 b.output) }
+        ensures tag { IfOk result (λ b. IsSixteenBytes regs.now 15 b.tag) }
     {
         let key_count = if own_key(regs) { 0 } else { 16 };
         Ok(Buffers {
@@ -86,10 +86,10 @@ fn tested(regs: &[u16; 16], windows: &Windows) -> Result<Buffers, Violation>
     ensures then { (rest : Outcome)
         → tested_buffers regs.now windows.now rest ≡ followed result (λ b. rest) }
     ensures key { IfOk result (λ b. IsKeyPlace regs.now b.key) }
-    ensures header { IfOk result (λ b. IsNamed regs.now 10 11 b.header) }
-    ensures text { IfOk result (λ b. IsNamed regs.now 12 13 b.text) }
-    ensures output { IfOk result (λ b. IsNamed regs.now 14 13 b.output) }
-    ensures tag { IfOk result (λ b. IsBlock regs.now 15 b.tag) }
+    ensures header { IfOk result (λ b. IsNamedBuffer regs.now 10 11 b.header) }
+    ensures text { IfOk result (λ b. IsNamedBuffer regs.now 12 13 b.text) }
+    ensures output { IfOk result (λ b. IsNamedBuffer regs.now 14 13 b.output) }
+    ensures tag { IfOk result (λ b. IsSixteenBytes regs.now 15 b.tag) }
     ensures short { IfOk result (λ b. (b.header.count ≤ 32) × (b.text.count ≤ 32)) }
     ensures key_apart { IfOk result (λ b. IsApart windows.now b.key) }
     ensures header_apart { IfOk result (λ b. IsApart windows.now b.header) }
@@ -152,8 +152,8 @@ pub fn read_inputs<B: Bus>(executor: &Executor<B>, own: &Section) -> Result<Inpu
     ensures header { IfOk result (λ i. length i.header ≤ 32) }
     ensures text { IfOk result (λ i. length i.text ≡ slice_index executor.now.regs 13) }
     ensures short { IfOk result (λ i. length i.text ≤ 32) }
-    ensures output { IfOk result (λ i. IsNamed executor.now.regs 14 13 i.output) }
-    ensures tag { IfOk result (λ i. IsBlock executor.now.regs 15 i.tag) }
+    ensures output { IfOk result (λ i. IsNamedBuffer executor.now.regs 14 13 i.output) }
+    ensures tag { IfOk result (λ i. IsSixteenBytes executor.now.regs 15 i.tag) }
     ensures output_apart { IfOk result (λ i. IsApart executor.now.devices i.output) }
     ensures tag_apart { IfOk result (λ i. IsApart executor.now.devices i.tag) }
 {

@@ -5,7 +5,8 @@ ghost use Rattle.std.specs.Result.{result_err};
 ghost use Rattle.sx_bus.specs.Devices.{places_of};
 ghost use Rattle.sx_rules.specs.Admission.{refusal};
 ghost use Rattle.sx_machine.specs.declared.kinds.Exchange.{Exchange};
-ghost use Rattle.sx_machine.specs.Protect.{protect, unprotect, layout_in, answered, number_of};
+ghost use Rattle.sx_machine.specs.Protect.{protect, unprotect, layout_in, answer_registers};
+ghost use Rattle.sx_machine.specs.Protect.{number_of};
 ghost use Rattle.sx_sancus.specs.Told.{given_by, Concludes};
 ghost use Rattle.sx_sancus.specs.Parts.{after_admission};
 
@@ -44,7 +45,10 @@ fn layout_in<B: Bus>(executor: &Executor<B>) -> Layout
 
 /// Moves PC on, and answers an id and the number of a refusal.
 fn answer<B: Bus>(executor: &mut Executor<B>, id: u16, number: u16)
-    ensures { executor.new ≡ record executor.old { regs = answered executor.old.regs id number } }
+    ensures { executor.new ≡ record executor.old {
+      regs =
+          answer_registers executor.old.regs id number;
+    } }
 {
     executor.set_word(14, number);
     executor.conclude(id);

@@ -14,7 +14,7 @@ use Rattle.sx_asm.specs.Assembled.{assembled}
 use Rattle.sx_sched.specs.HexText.{is_hex_text}
 use Rattle.sx_sched.specs.declared.lines.LineError.{LineError}
 use Rattle.sx_sched.specs.declared.lines.LineError.TheVariants.{Fault, OutOfMemory}
-use Rattle.sx_sched.specs.Reading.{no_bytes, no_code, decoded, bytes_of, code_in, code_of, AreSaid, MayWant, Answers}
+use Rattle.sx_sched.specs.Reading.{no_bytes, no_code, decoded_bytes, bytes_of, code_in, code_of, AreSaid, MayWant, Answers}
 
 one_way : (t : Bool) (b : List ℕ) → is_ok (if t then Ok b else Err no_bytes) ≡ t
 one_way true b = refl
@@ -44,11 +44,11 @@ says_bytes most word = by_result (decode_of word) refl
         let half : length word / 2 ≡ length b = let twice = facts.2 in omega (arith, twice) in
         rw (digits, even, half, h) (sym (one_way (nat_le 1 (length b) && nat_le (length b) most) b))
 
-decoded_only : (most : ℕ) (r : Result (List ℕ) FromHexError) → is_ok (decoded most r) ≡ false → decoded most r ≡ Err no_bytes
+decoded_only : (most : ℕ) (r : Result (List ℕ) FromHexError) → is_ok (decoded_bytes most r) ≡ false → decoded_bytes most r ≡ Err no_bytes
 decoded_only most (Err e) h = refl
 decoded_only most (Ok b) h = by_test (nat_le 1 (length b) && nat_le (length b) most) refl
   where
-    by_test : (t : Bool) → (nat_le 1 (length b) && nat_le (length b) most) ≡ t → decoded most (Ok b) ≡ Err no_bytes
+    by_test : (t : Bool) → (nat_le 1 (length b) && nat_le (length b) most) ≡ t → decoded_bytes most (Ok b) ≡ Err no_bytes
     by_test false e = rw e refl
     by_test true e = absurd (let no : true ≡ false = sym (ap (λ (t : Bool). is_ok (if t then Ok b else Err no_bytes)) e) ∙ h in cc)
 
@@ -67,8 +67,8 @@ says_some most word h = are_said (bytes_of most word) (sym (says_bytes most word
 pub says_these : (most : ℕ) (word b : List ℕ) → is_hex_text most word ≡ true → decode_of word ≡ Ok b → bytes_of most word ≡ Ok b
 says_these most word b h e = by_test (nat_le 1 (length b) && nat_le (length b) most) refl
   where
-    said : bytes_of most word ≡ decoded most (Ok b)
-    said = ap (decoded most) e
+    said : bytes_of most word ≡ decoded_bytes most (Ok b)
+    said = ap (decoded_bytes most) e
 
     by_test : (t : Bool) → (nat_le 1 (length b) && nat_le (length b) most) ≡ t → bytes_of most word ≡ Ok b
     by_test true t = said ∙ rw t refl

@@ -1,9 +1,9 @@
 -- Words and the runs of bytes that they are.
 use Rattle.std.proofs.Common.{◌≡◌, ℕ, zero, suc, ◌+◌, ◌<◌, ◌≤◌, true, false, List, [], ◌∷◌, ◌++◌, length, take, drop, get_or, refl, sym, ap, ◌∙◌, append_assoc, arith}
 use Rattle.std.proofs.lemmas.List.{append-nil, get_or-drop}
-use Rattle.sx_sched.specs.Words.{is_blank, closed, words_behind, words_of}
+use Rattle.sx_sched.specs.Words.{is_blank, ended_word, words_behind, words_of}
 
-parted : (begun : List ℕ) (b : ℕ) (bs : List ℕ) → is_blank b ≡ true → words_behind begun (b ∷ bs) ≡ closed begun (words_behind [] bs)
+parted : (begun : List ℕ) (b : ℕ) (bs : List ℕ) → is_blank b ≡ true → words_behind begun (b ∷ bs) ≡ ended_word begun (words_behind [] bs)
 parted begun b bs e = rw e refl
 
 longer : (begun : List ℕ) (b : ℕ) (bs : List ℕ) → is_blank b ≡ false → words_behind begun (b ∷ bs) ≡ words_behind (begun ++ b ∷ []) bs
@@ -22,16 +22,16 @@ past_blanks (b ∷ bs) (suc i) h f =
 
 -- a word that has begun goes on to the first blank
 goes_on : (begun text : List ℕ) (i : ℕ) → i ≤ length text → ((k : ℕ) → k < i → is_blank (get_or text k 0) ≡ false)
-    → (i < length text → is_blank (get_or text i 0) ≡ true) → words_behind begun text ≡ closed (begun ++ take i text) (words_behind [] (drop i text))
+    → (i < length text → is_blank (get_or text i 0) ≡ true) → words_behind begun text ≡ ended_word (begun ++ take i text) (words_behind [] (drop i text))
 goes_on begun [] zero h f e = rw append-nil refl
 goes_on begun (b ∷ bs) zero h f e =
     let blank : is_blank b ≡ true = e (omega arith) in
-    parted begun b bs blank ∙ (rw append-nil (ap (closed begun) (sym (parted [] b bs blank))))
+    parted begun b bs blank ∙ (rw append-nil (ap (ended_word begun) (sym (parted [] b bs blank))))
 goes_on begun [] (suc i) h f e = absurd (omega (arith, h))
 goes_on begun (b ∷ bs) (suc i) h f e =
     longer begun b bs (f 0 (omega arith))
     ∙ goes_on (begun ++ b ∷ []) bs i (omega (arith, h)) (λ k lt. f (suc k) (omega (arith, lt))) (λ lt. e (omega (arith, lt)))
-    ∙ ap (λ (begun : List ℕ). closed begun (words_behind [] (drop i bs))) (append_assoc begun (b ∷ []) (take i bs))
+    ∙ ap (λ (begun : List ℕ). ended_word begun (words_behind [] (drop i bs))) (append_assoc begun (b ∷ []) (take i bs))
 
 -- the first word of a text that begins with one
 pub first_word : (b : ℕ) (bs : List ℕ) (i : ℕ) → is_blank b ≡ false → i ≤ length (b ∷ bs) → ((k : ℕ) → k < i → is_blank (get_or (b ∷ bs) k 0) ≡ false)

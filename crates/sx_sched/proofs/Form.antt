@@ -16,8 +16,8 @@ use Rattle.sx_io.specs.Numbers.{number_of, written_number, up_to}
 use Rattle.sx_trace.specs.Names.{NameLists, place_of, if_sensor, sensor_place}
 use Rattle.sx_sched.specs.declared.lines.Line.{Line as Read}
 use Rattle.sx_sched.specs.declared.lines.LineError.{LineError}
-use Rattle.sx_sched.specs.Lines.{Line, Blank, Run, Finish, Put, Set, Take, Give, Forge, Sense, Irq, Reset, Ask, Answer, Load, Call, line_of, AreBytes, IsLine}
-use Rattle.sx_sched.specs.Reading.{no_name, no_number, no_bytes, no_code, node_of, sensor_of, module_of, registers, register_in, register_of, at_least, number_in, number16, number32, decoded, bytes_of, code_in, code_of, one_word, two_words, three_words, four_words, two_before, one, two, three, four, code_line, Kind, kinds, said_by, is_comment, said_in, said, SaidInForm, MayWant, TakesMemory, Answers, ◌>>=◌}
+use Rattle.sx_sched.specs.Lines.{Line, Blank, Run, Finish, Put, Set, Take, Give, Forge, Sense, Irq, Reset, Ask, Answer, Load, Call, line_of, AreFewBytes, IsLine}
+use Rattle.sx_sched.specs.Reading.{no_name, no_number, no_bytes, no_code, node_of, sensor_of, module_of, registers, register_in, register_of, at_least, number_in, number16, number32, decoded_bytes, bytes_of, code_in, code_of, one_word, two_words, three_words, four_words, two_before, one, two, three, four, code_line, Kind, kinds, said_by, is_comment, said_in, said_line, SaidInForm, MayWant, TakesMemory, Answers, ◌>>=◌}
 use Rattle.sx_sched.specs.Words.{words_of, text_behind}
 
 bind_ok : {A B : Type 0} (r : Result A LineError) (g : A → Result B LineError) (y : B) → (r >>= g) ≡ Ok y → (x : A) × (r ≡ Ok x) × (g x ≡ Ok y)
@@ -119,46 +119,46 @@ number_fits low high w k h =
     let got = low_enough low (number_of w high) k (ok_some (at_least low (number_of w high)) no_number k h) in
     (got.1, number_within w high k got.0)
 
-bytes_fit : (most : ℕ) (w b : List ℕ) → bytes_of most w ≡ Ok b → AreBytes most b
+bytes_fit : (most : ℕ) (w b : List ℕ) → bytes_of most w ≡ Ok b → AreFewBytes most b
 bytes_fit most w b h = by_result (decode_of w) refl h
   where
     by_test : (b' : List ℕ) (t : Bool) → decode_of w ≡ Ok b' → (nat_le 1 (length b') && nat_le (length b') most) ≡ t
-        → ◌≡◌ {A = Result (List ℕ) LineError} (if t then Ok b' else Err no_bytes) (Ok b) → AreBytes most b
+        → ◌≡◌ {A = Result (List ℕ) LineError} (if t then Ok b' else Err no_bytes) (Ok b) → AreFewBytes most b
     by_test b' true e t f =
         let both = and_true (nat_le 1 (length b')) (nat_le (length b') most) t in
         let one_or_more : 1 ≤ length b' = let x = both.0 in grind (arith, nat_tests, x) in
         let few : length b' ≤ most = let x = both.1 in grind (arith, nat_tests, x) in
         let same : b' ≡ b = cc in
-        subst (AreBytes most) same (one_or_more, few, (decode_of-ok w b' e).3)
+        subst (AreFewBytes most) same (one_or_more, few, (decode_of-ok w b' e).3)
     by_test b' false e t f = absurd (cc)
 
-    by_result : (r : Result (List ℕ) FromHexError) → decode_of w ≡ r → decoded most r ≡ Ok b → AreBytes most b
+    by_result : (r : Result (List ℕ) FromHexError) → decode_of w ≡ r → decoded_bytes most r ≡ Ok b → AreFewBytes most b
     by_result (Err x) e f = absurd (cc)
     by_result (Ok b') e f = by_test b' (nat_le 1 (length b') && nat_le (length b') most) e refl f
 
 -- What a text says.
 
-assembled_fit : (at : ℕ) (text b : List ℕ) → code_in (assembled at text) ≡ Ok b → AreBytes 1024 b
+assembled_fit : (at : ℕ) (text b : List ℕ) → code_in (assembled at text) ≡ Ok b → AreFewBytes 1024 b
 assembled_fit at text b h = by_result (assembled at text) refl h
   where
     by_test : (b' : List ℕ) (t : Bool) → assembled at text ≡ Ok b' → (nat_le 1 (length b') && nat_le (length b') 1024) ≡ t
-        → ◌≡◌ {A = Result (List ℕ) LineError} (if t then Ok b' else Err no_code) (Ok b) → AreBytes 1024 b
+        → ◌≡◌ {A = Result (List ℕ) LineError} (if t then Ok b' else Err no_code) (Ok b) → AreFewBytes 1024 b
     by_test b' true e t f =
         let both = and_true (nat_le 1 (length b')) (nat_le (length b') 1024) t in
         let one_or_more : 1 ≤ length b' = let x = both.0 in grind (arith, nat_tests, x) in
         let few : length b' ≤ 1024 = let x = both.1 in grind (arith, nat_tests, x) in
         let same : b' ≡ b = cc in
-        subst (AreBytes 1024) same (one_or_more, few, λ i. byte_at b' i (assembled_bytes at text b' e))
+        subst (AreFewBytes 1024) same (one_or_more, few, λ i. byte_at b' i (assembled_bytes at text b' e))
     by_test b' false e t f = absurd (cc)
 
-    by_result : (r : Result (List ℕ) AsmError) → assembled at text ≡ r → code_in r ≡ Ok b → AreBytes 1024 b
+    by_result : (r : Result (List ℕ) AsmError) → assembled at text ≡ r → code_in r ≡ Ok b → AreFewBytes 1024 b
     by_result (Err x) e f = absurd (cc)
     by_result (Ok b') e f = by_test b' (nat_le 1 (length b') && nat_le (length b') 1024) e refl f
 
-code_fits : (at : ℕ) (text b : List ℕ) → code_of at text ≡ Ok b → AreBytes 1024 b
+code_fits : (at : ℕ) (text b : List ℕ) → code_of at text ≡ Ok b → AreFewBytes 1024 b
 code_fits at text b h = by_test (is_utf8 text) h
   where
-    by_test : (t : Bool) → (if t then code_in (assembled at text) else Err no_code) ≡ Ok b → AreBytes 1024 b
+    by_test : (t : Bool) → (if t then code_in (assembled at text) else Err no_code) ≡ Ok b → AreFewBytes 1024 b
     by_test true f = assembled_fit at text b f
     by_test false f = absurd (cc)
 
@@ -227,11 +227,11 @@ kinds_fit : (n : NameLists) (text : List ℕ) → AreKindsFit n (kinds n text)
 kinds_fit n text = (put, (forge, (code_line_fits n text, (run, (finish, (set_register, (take_bytes, (give, (sense, (irq, (reset, (ask, (answer, (load, (call_fits n, tt)))))))))))))))
   where
     put : KindFits n (three (node_of n) number16 (bytes_of 1024) Put)
-    put = three_fits n (node_of n) number16 (bytes_of 1024) Put (λ i. i < length n.nodes) (IsBetween 0 65535) (AreBytes 1024)
+    put = three_fits n (node_of n) number16 (bytes_of 1024) Put (λ i. i < length n.nodes) (IsBetween 0 65535) (AreFewBytes 1024)
         (place_fits n.nodes) (number_fits 0 65535) (bytes_fit 1024) (λ i at b hi hat hb. let x = hat.1 in (hi, omega (arith, x), hb))
 
     forge : KindFits n (one (bytes_of 384) Forge)
-    forge = one_fits n (bytes_of 384) Forge (AreBytes 384) (bytes_fit 384) (λ b h. h)
+    forge = one_fits n (bytes_of 384) Forge (AreFewBytes 384) (bytes_fit 384) (λ b h. h)
 
     run : KindFits n (two (node_of n) (number_in 1 65535) Run)
     run = two_fits n (node_of n) (number_in 1 65535) Run (λ i. i < length n.nodes) (IsBetween 1 65535) (place_fits n.nodes) (number_fits 1 65535)
@@ -287,7 +287,7 @@ in_words n text (first ∷ fields) line h =
     (said_fits n (kinds n text) first fields line (kinds_fit n text)) h
 
 pub said_in_form : SaidInForm
-unfolding said
+unfolding said_line
 said_in_form n text line h = in_words n (text_behind 3 text) (words_of text) line h
 
 -- a line that is the answer is in form

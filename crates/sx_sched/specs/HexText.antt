@@ -7,4 +7,5 @@ use Rattle.hex.specs.Hex.{is_hex_digit}
 -- the hexadecimal text of 1 to this many bytes
 abbrev pub is_hex_text : ℕ → List ℕ → Bool
 is_hex_text most word =
-    (list_all is_hex_digit word && length word % 2 == 0) && (nat_le 1 (length word / 2) && nat_le (length word / 2) most)
+    (list_all is_hex_digit word && length word % 2 == 0)
+    && (nat_le 1 (length word / 2) && nat_le (length word / 2) most)

@@ -1,5 +1,6 @@
 -- What a text says as a line of a schedule: a line, or the first rule that it breaks.
-use Rattle.std.specs.Prelude.{◌≡◌, ℕ, ◌==◌, nat_le, Bool, false, ◌&&◌, if◌then◌else◌, List, [], ◌∷◌, length, codes, Option, Some, None, Result, Ok, Err, IsTrue, ok_or}
+use Rattle.std.specs.Prelude.{◌≡◌, ℕ, ◌==◌, nat_le, Bool, false, ◌&&◌, if◌then◌else◌, List, [], ◌∷◌}
+use Rattle.std.specs.Prelude.{length, codes, Option, Some, None, Result, Ok, Err, IsTrue, ok_or}
 use Rattle.std.specs.Borrow.{Bor}
 use Rattle.std.specs.Str.{bytes_eq, is_utf8}
 use Rattle.hex.specs.Hex.{decode_of}
@@ -11,7 +12,8 @@ use Rattle.sx_trace.specs.Names.{NameLists, place_of, sensor_place}
 use Rattle.sx_sched.specs.declared.lines.Line.{Line as Read}
 use Rattle.sx_sched.specs.declared.lines.LineError.{LineError}
 use Rattle.sx_sched.specs.declared.lines.LineError.TheVariants.{Fault, OutOfMemory}
-use Rattle.sx_sched.specs.Lines.{line_of, IsLine, Line, Blank, Run, Finish, Put, Set, Take, Give, Forge, Sense, Irq, Reset, Ask, Answer, Load, Call}
+use Rattle.sx_sched.specs.Lines.{line_of, IsLine, Line, Blank, Run, Finish, Put, Set, Take, Give}
+use Rattle.sx_sched.specs.Lines.{Forge, Sense, Irq, Reset, Ask, Answer, Load, Call}
 use Rattle.sx_sched.specs.Words.{words_of, text_behind}
 
 -- rule 3: the first word is none of the kinds of line
@@ -39,13 +41,14 @@ abbrev pub no_code : LineError
 no_code = Fault 8
 
 -- a broken rule, and not a lack of memory
-abbrev pub IsFault : LineError → Type 0
-IsFault (Fault rule) = Unit {0}
-IsFault OutOfMemory = ⊥
+abbrev pub IsBrokenRule : LineError → Type 0
+IsBrokenRule (Fault rule) = Unit {0}
+IsBrokenRule OutOfMemory = ⊥
 
 -- the first answer, and what is made of it
 infixl 10 ◌>>=◌
-abbrev pub ◌>>=◌ : {A B : Type 0} → Result A LineError → (A → Result B LineError) → Result B LineError
+abbrev pub ◌>>=◌ : {A B : Type 0} → Result A LineError → (A → Result B LineError)
+    → Result B LineError
 Ok x >>= f = f x
 Err e >>= f = Err e
 
@@ -66,8 +69,10 @@ module_of n word = ok_or (place_of n.modules word) no_name
 -- the names of the registers; R3, which keeps no value, isn't set
 abbrev pub registers : List (List ℕ × ℕ)
 registers =
-    (codes "pc", 0) ∷ (codes "sp", 1) ∷ (codes "sr", 2) ∷ (codes "r0", 0) ∷ (codes "r1", 1) ∷ (codes "r2", 2) ∷ (codes "r4", 4) ∷ (codes "r5", 5)
-    ∷ (codes "r6", 6) ∷ (codes "r7", 7) ∷ (codes "r8", 8) ∷ (codes "r9", 9) ∷ (codes "r10", 10) ∷ (codes "r11", 11) ∷ (codes "r12", 12)
+    (codes "pc", 0) ∷ (codes "sp", 1) ∷ (codes "sr", 2) ∷ (codes "r0", 0) ∷ (codes "r1", 1)
+    ∷ (codes "r2", 2) ∷ (codes "r4", 4) ∷ (codes "r5", 5)
+    ∷ (codes "r6", 6) ∷ (codes "r7", 7) ∷ (codes "r8", 8) ∷ (codes "r9", 9) ∷ (codes "r10", 10)
+    ∷ (codes "r11", 11) ∷ (codes "r12", 12)
     ∷ (codes "r13", 13) ∷ (codes "r14", 14) ∷ (codes "r15", 15) ∷ []
 
 -- an entry of a table as code has it
@@ -77,7 +82,8 @@ entry_of entry = (entry.0.now, entry.1)
 -- the number of the first entry with this name
 abbrev pub register_in : List (List ℕ × ℕ) → List ℕ → Option ℕ
 register_in [] word = None
-register_in (entry ∷ more) word = if bytes_eq word entry.0 then Some entry.1 else register_in more word
+register_in (entry ∷ more) word =
+    if bytes_eq word entry.0 then Some entry.1 else register_in more word
 
 -- the number of a register that can be set
 unfoldable pub register_of : List ℕ → Result ℕ LineError
@@ -101,20 +107,22 @@ abbrev pub number32 : List ℕ → Result ℕ LineError
 number32 word = number_in 0 4294967295 word
 
 -- 1 to this many of the bytes that were decoded
-abbrev pub decoded : ℕ → Result (List ℕ) FromHexError → Result (List ℕ) LineError
-decoded most (Err e) = Err no_bytes
-decoded most (Ok bytes) = if nat_le 1 (length bytes) && nat_le (length bytes) most then Ok bytes else Err no_bytes
+abbrev pub decoded_bytes : ℕ → Result (List ℕ) FromHexError → Result (List ℕ) LineError
+decoded_bytes most (Err e) = Err no_bytes
+decoded_bytes most (Ok bytes) =
+    if nat_le 1 (length bytes) && nat_le (length bytes) most then Ok bytes else Err no_bytes
 
 -- 1 to this many bytes as hexadecimal text
 abbrev pub bytes_of : ℕ → List ℕ → Result (List ℕ) LineError
-bytes_of most word = decoded most (decode_of word)
+bytes_of most word = decoded_bytes most (decode_of word)
 
 -- What a text says.
 
 -- 1 to 1,024 of the bytes that were assembled
 abbrev pub code_in : Result (List ℕ) AsmError → Result (List ℕ) LineError
 code_in (Err e) = Err no_code
-code_in (Ok code) = if nat_le 1 (length code) && nat_le (length code) 1024 then Ok code else Err no_code
+code_in (Ok code) =
+    if nat_le 1 (length code) && nat_le (length code) 1024 then Ok code else Err no_code
 
 -- the code at an address of a text, which is UTF-8
 abbrev pub code_of : ℕ → List ℕ → Result (List ℕ) LineError
@@ -163,7 +171,8 @@ two_before [] = Err wrong_count
 two_before (a ∷ rest) = one_before rest >>= (λ b. Ok (a, b))
 
 -- a line of one field, which is read by the first function
-abbrev pub one : {A : Type 0} → (List ℕ → Result A LineError) → (A → Line) → List (List ℕ) → Result Line LineError
+abbrev pub one : {A : Type 0} → (List ℕ → Result A LineError) → (A → Line) → List (List ℕ)
+    → Result Line LineError
 one f make fields = do
   word ← one_word fields
   a ← f word
@@ -179,7 +188,8 @@ two f g make fields = do
   Ok (make a b)
 
 -- a line of three fields, each read by a function of its own
-abbrev pub three : {A B C : Type 0} → (List ℕ → Result A LineError) → (List ℕ → Result B LineError) → (List ℕ → Result C LineError)
+abbrev pub three : {A B C : Type 0} → (List ℕ → Result A LineError) → (List ℕ → Result B LineError)
+    → (List ℕ → Result C LineError)
     → (A → B → C → Line) → List (List ℕ) → Result Line LineError
 three f g h make fields = do
   word ← three_words fields
@@ -189,7 +199,8 @@ three f g h make fields = do
   Ok (make a b c)
 
 -- a line of four fields, each read by a function of its own
-abbrev pub four : {A B C D : Type 0} → (List ℕ → Result A LineError) → (List ℕ → Result B LineError) → (List ℕ → Result C LineError)
+abbrev pub four : {A B C D : Type 0} → (List ℕ → Result A LineError) → (List ℕ → Result B LineError)
+    → (List ℕ → Result C LineError)
     → (List ℕ → Result D LineError) → (A → B → C → D → Line) → List (List ℕ) → Result Line LineError
 four f g h i make fields = do
   word ← four_words fields
@@ -248,7 +259,8 @@ kinds n text =
 -- what the kind of this first word says of the words after it
 abbrev pub said_by : List Kind → List ℕ → List (List ℕ) → Result Line LineError
 said_by [] first fields = Err no_kind
-said_by (kind ∷ more) first fields = if bytes_eq first kind.0 then kind.1 fields else said_by more first fields
+said_by (kind ∷ more) first fields =
+    if bytes_eq first kind.0 then kind.1 fields else said_by more first fields
 
 -- a word that begins with `#` begins a comment
 abbrev pub is_comment : List ℕ → Bool
@@ -258,20 +270,22 @@ is_comment (c ∷ cs) = c == 35
 -- what words say; none say nothing, as a comment does
 abbrev pub said_in : NameLists → List ℕ → List (List ℕ) → Result Line LineError
 said_in n text [] = Ok Blank
-said_in n text (first ∷ fields) = if is_comment first then Ok Blank else said_by (kinds n text) first fields
+said_in n text (first ∷ fields) =
+    if is_comment first then Ok Blank else said_by (kinds n text) first fields
 
 -- what a text says: one line, or one broken rule
-unfoldable pub said : NameLists → List ℕ → Result Line LineError
-said n text = said_in n (text_behind 3 text) (words_of text)
+unfoldable pub said_line : NameLists → List ℕ → Result Line LineError
+said_line n text = said_in n (text_behind 3 text) (words_of text)
 
 -- what is said is in form
 abbrev pub SaidInForm : Type 0
-SaidInForm = (n : NameLists) (text : List ℕ) (line : Line) → said n text ≡ Ok line → IsLine n line
+SaidInForm =
+    (n : NameLists) (text : List ℕ) (line : Line) → said_line n text ≡ Ok line → IsLine n line
 
 -- an answer of the code, its line seen as such
-abbrev pub seen : Result Read LineError → Result Line LineError
-seen (Ok line) = Ok (line_of line)
-seen (Err e) = Err e
+abbrev pub seen_line : Result Read LineError → Result Line LineError
+seen_line (Ok line) = Ok (line_of line)
+seen_line (Err e) = Err e
 
 -- lines whose bytes take memory
 abbrev pub TakesMemory : Line → Type 0
@@ -304,7 +318,8 @@ MayWant Takes text (Err (Fault rule)) = (rule ≡ 8) × IsTrue (is_utf8 text)
 MayWant Takes text (Err OutOfMemory) = ⊥
 
 -- the answer is the defined one; memory may run out only where some may be needed
-abbrev pub Answers : {T V : Type 0} → (T → V) → (Result V LineError → Type 0) → Result V LineError → Result T LineError → Type 0
+abbrev pub Answers : {T V : Type 0} → (T → V) → (Result V LineError → Type 0) → Result V LineError
+    → Result T LineError → Type 0
 Answers view Wants meant (Ok x) = meant ≡ Ok (view x)
 Answers view Wants meant (Err (Fault rule)) = meant ≡ Err (Fault rule)
 Answers view Wants meant (Err OutOfMemory) = Wants meant

@@ -6,14 +6,15 @@ abbrev pub is_blank : ℕ → Bool
 is_blank b = b == 32 || b == 9
 
 -- a word that has begun, before the words after it
-abbrev pub closed : List ℕ → List (List ℕ) → List (List ℕ)
-closed [] rest = rest
-closed (b ∷ bs) rest = (b ∷ bs) ∷ rest
+abbrev pub ended_word : List ℕ → List (List ℕ) → List (List ℕ)
+ended_word [] rest = rest
+ended_word (b ∷ bs) rest = (b ∷ bs) ∷ rest
 
 -- the words of a text after a word that has begun
 abbrev pub words_behind : List ℕ → List ℕ → List (List ℕ)
-words_behind begun [] = closed begun []
-words_behind begun (b ∷ bs) = if is_blank b then closed begun (words_behind [] bs) else words_behind (begun ++ b ∷ []) bs
+words_behind begun [] = ended_word begun []
+words_behind begun (b ∷ bs) =
+    if is_blank b then ended_word begun (words_behind [] bs) else words_behind (begun ++ b ∷ []) bs
 
 -- the longest runs of bytes that aren't blanks, in order
 unfoldable pub words_of : List ℕ → List (List ℕ)

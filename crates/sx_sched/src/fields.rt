@@ -1,11 +1,14 @@
 //! What one word of a line says, and what a text does.
 
-ghost use Rattle.std.specs.Prelude.{◌≡◌, ◌≤◌, ◌<◌, ◌^◌, ℕ, List, map, nat_le, ◌&&◌, Ok, Err, Some, None, IsTrue, IfOk, IfErr};
+ghost use Rattle.std.specs.Prelude.{◌≡◌, ◌≤◌, ◌<◌, ◌^◌, ℕ, List, map, nat_le, ◌&&◌, Ok, Err, Some};
+ghost use Rattle.std.specs.Prelude.{None, IsTrue, IfOk, IfErr};
 ghost use Rattle.std.specs.List.{list_all};
 ghost use Rattle.hex.specs.Hex.{is_hex_digit};
 ghost use Rattle.sx_sched.specs.HexText.{is_hex_text};
 ghost use Rattle.sx_trace.specs.Names.{are_valid};
-ghost use Rattle.sx_sched.specs.Reading.{IsFault, node_of, sensor_of, module_of, entry_of, register_in, register_of, number_in, number16, number32, bytes_of, code_in, code_of, AreSaid, MayWant, Answers};
+ghost use Rattle.sx_sched.specs.Reading.{IsBrokenRule, node_of, sensor_of, module_of, entry_of};
+ghost use Rattle.sx_sched.specs.Reading.{register_in, register_of, number_in, number16, number32};
+ghost use Rattle.sx_sched.specs.Reading.{bytes_of, code_in, code_of, AreSaid, MayWant, Answers};
 ghost use Rattle.sx_asm.specs.Assembled.{assembled};
 
 use crate::lines::{LineError, NO_BYTES, NO_CODE, NO_NAME, NO_NUMBER};
@@ -42,7 +45,7 @@ const REGISTERS: [(&[u8], u8); 18] = [
 pub fn node_of(names: &Names, word: &[u8]) -> Result<u8, LineError>
     requires { IsTrue (are_valid names.now) }
     ensures index { result ≡ node_of names.now word.now }
-    ensures fault { IfErr result IsFault }
+    ensures fault { IfErr result IsBrokenRule }
 {
     names.node(word).ok_or(NO_NAME)
 }
@@ -51,7 +54,7 @@ pub fn node_of(names: &Names, word: &[u8]) -> Result<u8, LineError>
 pub fn sensor_of(names: &Names, word: &[u8]) -> Result<u8, LineError>
     requires { IsTrue (are_valid names.now) }
     ensures index { result ≡ sensor_of names.now word.now }
-    ensures fault { IfErr result IsFault }
+    ensures fault { IfErr result IsBrokenRule }
 {
     names.sensor(word).ok_or(NO_NAME)
 }
@@ -60,7 +63,7 @@ pub fn sensor_of(names: &Names, word: &[u8]) -> Result<u8, LineError>
 pub fn module_of(names: &Names, word: &[u8]) -> Result<u8, LineError>
     requires { IsTrue (are_valid names.now) }
     ensures index { result ≡ module_of names.now word.now }
-    ensures fault { IfErr result IsFault }
+    ensures fault { IfErr result IsBrokenRule }
 {
     names.module(word).ok_or(NO_NAME)
 }
@@ -81,7 +84,7 @@ fn register_in(table: &[(&[u8], u8)], word: &[u8]) -> Option<u8>
 #[tactic(auto, unfolding(crate::specs::Reading::register_of))]
 pub fn register_of(word: &[u8]) -> Result<u8, LineError>
     ensures number { result ≡ register_of word.now }
-    ensures fault { IfErr result IsFault }
+    ensures fault { IfErr result IsBrokenRule }
 {
     register_in(&REGISTERS, word).ok_or(NO_NAME)
 }
@@ -90,7 +93,7 @@ pub fn register_of(word: &[u8]) -> Result<u8, LineError>
 pub fn number_in(low: u32, high: u32, word: &[u8]) -> Result<u32, LineError>
     ensures number { result ≡ number_in low high word.now }
     ensures within { IfOk result (λ n. n ≤ high) }
-    ensures fault { IfErr result IsFault }
+    ensures fault { IfErr result IsBrokenRule }
 {
     match number(word, u64::from(high)) {
         Some(n) if u64::from(low) <= n => Ok(n as u32),
@@ -101,7 +104,7 @@ pub fn number_in(low: u32, high: u32, word: &[u8]) -> Result<u32, LineError>
 /// A number of 16 bits. The error is rule 5.
 pub fn number16(word: &[u8]) -> Result<u16, LineError>
     ensures number { result ≡ number16 word.now }
-    ensures fault { IfErr result IsFault }
+    ensures fault { IfErr result IsBrokenRule }
 {
     let n = number_in(0, 65535, word)?;
     Ok(n as u16)
@@ -110,7 +113,7 @@ pub fn number16(word: &[u8]) -> Result<u16, LineError>
 /// A number of 32 bits. The error is rule 5.
 pub fn number32(word: &[u8]) -> Result<u32, LineError>
     ensures number { result ≡ number32 word.now }
-    ensures fault { IfErr result IsFault }
+    ensures fault { IfErr result IsBrokenRule }
 {
     number_in(0, 4294967295, word)
 }
@@ -170,7 +173,8 @@ fn code_in(alloc: Global, at: u16, text: &str) -> Result<Vec<u8>, LineError>
 /// The code of a text at an address, 1 to 1,024 bytes. No memory is asked for where the text isn't
 /// UTF-8.
 pub fn code_of(alloc: Global, at: u16, text: &[u8]) -> Result<Vec<u8>, LineError>
-    ensures { Answers (λ v. v.items) (MayWant (λ code. Unit {0}) text.now) (code_of at text.now) result }
+    ensures { Answers (λ v. v.items) (MayWant (λ code. Unit {0}) text.now) (code_of at text.now)
+        result }
 {
     match str::from_utf8(text) {
         Ok(text) => code_in(alloc, at, text),

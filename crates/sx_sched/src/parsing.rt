@@ -3,8 +3,13 @@
 ghost use Rattle.std.specs.Prelude.{◌≡◌, IfOk, IfErr, IsTrue};
 ghost use Rattle.sx_trace.specs.Names.{are_valid};
 ghost use Rattle.sx_sched.specs.Words.{words_of, text_behind};
-ghost use Rattle.sx_sched.specs.Lines.{line_of, IsLine, Run, Finish, Put, Set, Take, Give, Forge, Sense, Irq, Reset, Ask, Answer, Load, Call};
-ghost use Rattle.sx_sched.specs.Reading.{IsFault, node_of, sensor_of, module_of, register_of, number_in, number16, number32, bytes_of, one, two, three, four, code_line, module_kinds, plain_kinds, kinds, said_by, is_comment, said, seen, TakesMemory, MayWant, Answers};
+ghost use Rattle.sx_sched.specs.Lines.{line_of, IsLine, Run, Finish, Put, Set, Take, Give, Forge};
+ghost use Rattle.sx_sched.specs.Lines.{Sense, Irq, Reset, Ask, Answer, Load, Call};
+ghost use Rattle.sx_sched.specs.Reading.{IsBrokenRule, node_of, sensor_of, module_of, register_of};
+ghost use Rattle.sx_sched.specs.Reading.{number_in, number16, number32, bytes_of, one, two, three};
+ghost use Rattle.sx_sched.specs.Reading.{four, code_line, module_kinds, plain_kinds, kinds};
+ghost use Rattle.sx_sched.specs.Reading.{said_by, is_comment, said_line, seen_line, TakesMemory};
+ghost use Rattle.sx_sched.specs.Reading.{MayWant, Answers};
 
 use crate::fields::{
     bytes_of, code_of, module_of, node_of, number_in, number16, number32, register_of, sensor_of,
@@ -16,8 +21,9 @@ use sx_trace::names::Names;
 
 fn run_line(names: &Names, fields: &[u8]) -> Result<Line, LineError>
     requires { IsTrue (are_valid names.now) }
-    ensures line { seen result ≡ two (node_of names.now) (number_in 1 65535) Run (words_of fields.now) }
-    ensures fault { IfErr result IsFault }
+    ensures line { seen_line result ≡ two (node_of names.now) (number_in 1 65535) Run
+        (words_of fields.now) }
+    ensures fault { IfErr result IsBrokenRule }
 {
     let (name, count) = two_words(fields)?;
     let node = node_of(names, name)?;
@@ -30,8 +36,8 @@ fn run_line(names: &Names, fields: &[u8]) -> Result<Line, LineError>
 
 fn finish_line(names: &Names, fields: &[u8]) -> Result<Line, LineError>
     requires { IsTrue (are_valid names.now) }
-    ensures line { seen result ≡ one (node_of names.now) Finish (words_of fields.now) }
-    ensures fault { IfErr result IsFault }
+    ensures line { seen_line result ≡ one (node_of names.now) Finish (words_of fields.now) }
+    ensures fault { IfErr result IsBrokenRule }
 {
     let name = one_word(fields)?;
     let node = node_of(names, name)?;
@@ -40,8 +46,9 @@ fn finish_line(names: &Names, fields: &[u8]) -> Result<Line, LineError>
 
 fn set_line(names: &Names, fields: &[u8]) -> Result<Line, LineError>
     requires { IsTrue (are_valid names.now) }
-    ensures line { seen result ≡ three (node_of names.now) register_of number16 Set (words_of fields.now) }
-    ensures fault { IfErr result IsFault }
+    ensures line { seen_line result ≡ three (node_of names.now) register_of number16 Set
+        (words_of fields.now) }
+    ensures fault { IfErr result IsBrokenRule }
 {
     let (name, reg, value) = three_words(fields)?;
     let node = node_of(names, name)?;
@@ -52,8 +59,9 @@ fn set_line(names: &Names, fields: &[u8]) -> Result<Line, LineError>
 
 fn take_line(names: &Names, fields: &[u8]) -> Result<Line, LineError>
     requires { IsTrue (are_valid names.now) }
-    ensures line { seen result ≡ three (node_of names.now) number16 (number_in 1 384) Take (words_of fields.now) }
-    ensures fault { IfErr result IsFault }
+    ensures line { seen_line result ≡ three (node_of names.now) number16 (number_in 1 384) Take
+        (words_of fields.now) }
+    ensures fault { IfErr result IsBrokenRule }
 {
     let (name, at, len) = three_words(fields)?;
     let node = node_of(names, name)?;
@@ -68,8 +76,9 @@ fn take_line(names: &Names, fields: &[u8]) -> Result<Line, LineError>
 
 fn give_line(names: &Names, fields: &[u8]) -> Result<Line, LineError>
     requires { IsTrue (are_valid names.now) }
-    ensures line { seen result ≡ three number32 (node_of names.now) number16 Give (words_of fields.now) }
-    ensures fault { IfErr result IsFault }
+    ensures line { seen_line result ≡ three number32 (node_of names.now) number16 Give
+        (words_of fields.now) }
+    ensures fault { IfErr result IsBrokenRule }
 {
     let (packet, name, at) = three_words(fields)?;
     let packet = number32(packet)?;
@@ -80,8 +89,9 @@ fn give_line(names: &Names, fields: &[u8]) -> Result<Line, LineError>
 
 fn sense_line(names: &Names, fields: &[u8]) -> Result<Line, LineError>
     requires { IsTrue (are_valid names.now) }
-    ensures line { seen result ≡ two (sensor_of names.now) (number_in 0 32767) Sense (words_of fields.now) }
-    ensures fault { IfErr result IsFault }
+    ensures line { seen_line result ≡ two (sensor_of names.now) (number_in 0 32767) Sense
+        (words_of fields.now) }
+    ensures fault { IfErr result IsBrokenRule }
 {
     let (name, value) = two_words(fields)?;
     let device = sensor_of(names, name)?;
@@ -94,8 +104,9 @@ fn sense_line(names: &Names, fields: &[u8]) -> Result<Line, LineError>
 
 fn irq_line(names: &Names, fields: &[u8]) -> Result<Line, LineError>
     requires { IsTrue (are_valid names.now) }
-    ensures line { seen result ≡ two (node_of names.now) (number_in 0 14) Irq (words_of fields.now) }
-    ensures fault { IfErr result IsFault }
+    ensures line { seen_line result ≡ two (node_of names.now) (number_in 0 14) Irq
+        (words_of fields.now) }
+    ensures fault { IfErr result IsBrokenRule }
 {
     let (name, line) = two_words(fields)?;
     let node = node_of(names, name)?;
@@ -108,8 +119,8 @@ fn irq_line(names: &Names, fields: &[u8]) -> Result<Line, LineError>
 
 fn reset_line(names: &Names, fields: &[u8]) -> Result<Line, LineError>
     requires { IsTrue (are_valid names.now) }
-    ensures line { seen result ≡ one (node_of names.now) Reset (words_of fields.now) }
-    ensures fault { IfErr result IsFault }
+    ensures line { seen_line result ≡ one (node_of names.now) Reset (words_of fields.now) }
+    ensures fault { IfErr result IsBrokenRule }
 {
     let name = one_word(fields)?;
     let node = node_of(names, name)?;
@@ -118,8 +129,8 @@ fn reset_line(names: &Names, fields: &[u8]) -> Result<Line, LineError>
 
 fn ask_line(names: &Names, fields: &[u8]) -> Result<Line, LineError>
     requires { IsTrue (are_valid names.now) }
-    ensures line { seen result ≡ one (module_of names.now) Ask (words_of fields.now) }
-    ensures fault { IfErr result IsFault }
+    ensures line { seen_line result ≡ one (module_of names.now) Ask (words_of fields.now) }
+    ensures fault { IfErr result IsBrokenRule }
 {
     let name = one_word(fields)?;
     let module = module_of(names, name)?;
@@ -128,8 +139,9 @@ fn ask_line(names: &Names, fields: &[u8]) -> Result<Line, LineError>
 
 fn answer_line(names: &Names, fields: &[u8]) -> Result<Line, LineError>
     requires { IsTrue (are_valid names.now) }
-    ensures line { seen result ≡ three (module_of names.now) number32 number32 Answer (words_of fields.now) }
-    ensures fault { IfErr result IsFault }
+    ensures line { seen_line result ≡ three (module_of names.now) number32 number32 Answer
+        (words_of fields.now) }
+    ensures fault { IfErr result IsBrokenRule }
 {
     let (name, boot, packet) = three_words(fields)?;
     let module = module_of(names, name)?;
@@ -144,8 +156,8 @@ fn answer_line(names: &Names, fields: &[u8]) -> Result<Line, LineError>
 
 fn load_line(names: &Names, fields: &[u8]) -> Result<Line, LineError>
     requires { IsTrue (are_valid names.now) }
-    ensures line { seen result ≡ one (module_of names.now) Load (words_of fields.now) }
-    ensures fault { IfErr result IsFault }
+    ensures line { seen_line result ≡ one (module_of names.now) Load (words_of fields.now) }
+    ensures fault { IfErr result IsBrokenRule }
 {
     let name = one_word(fields)?;
     let module = module_of(names, name)?;
@@ -154,8 +166,9 @@ fn load_line(names: &Names, fields: &[u8]) -> Result<Line, LineError>
 
 fn call_line(names: &Names, fields: &[u8]) -> Result<Line, LineError>
     requires { IsTrue (are_valid names.now) }
-    ensures line { seen result ≡ four (module_of names.now) number16 number16 number16 Call (words_of fields.now) }
-    ensures fault { IfErr result IsFault }
+    ensures line { seen_line result ≡ four (module_of names.now) number16 number16 number16 Call
+        (words_of fields.now) }
+    ensures fault { IfErr result IsBrokenRule }
 {
     let (name, entry, input, output) = four_words(fields)?;
     let module = module_of(names, name)?;
@@ -173,8 +186,9 @@ fn call_line(names: &Names, fields: &[u8]) -> Result<Line, LineError>
 /// A line that begins with a module.
 fn module_line(names: &Names, first: &[u8], fields: &[u8]) -> Result<Line, LineError>
     requires { IsTrue (are_valid names.now) }
-    ensures line { seen result ≡ said_by (module_kinds names.now) first.now (words_of fields.now) }
-    ensures fault { IfErr result IsFault }
+    ensures line { seen_line result ≡ said_by (module_kinds names.now) first.now
+        (words_of fields.now) }
+    ensures fault { IfErr result IsBrokenRule }
 {
     if first == b"ask".as_slice() {
         return ask_line(names, fields);
@@ -194,8 +208,9 @@ fn module_line(names: &Names, first: &[u8], fields: &[u8]) -> Result<Line, LineE
 /// A line without bytes.
 fn plain_line(names: &Names, first: &[u8], fields: &[u8]) -> Result<Line, LineError>
     requires { IsTrue (are_valid names.now) }
-    ensures line { seen result ≡ said_by (plain_kinds names.now) first.now (words_of fields.now) }
-    ensures fault { IfErr result IsFault }
+    ensures line { seen_line result ≡ said_by (plain_kinds names.now) first.now
+        (words_of fields.now) }
+    ensures fault { IfErr result IsBrokenRule }
 {
     if first == b"run".as_slice() {
         return run_line(names, fields);
@@ -263,7 +278,8 @@ fn code_line(alloc: Global, names: &Names, fields: &[u8]) -> Result<Line, LineEr
 fn kind_line(alloc: Global, names: &Names, first: &[u8], fields: &[u8]) -> Result<Line, LineError>
     requires { IsTrue (are_valid names.now) }
     ensures { Answers line_of (MayWant TakesMemory (text_behind 2 fields.now))
-        (said_by (kinds names.now (text_behind 2 fields.now)) first.now (words_of fields.now)) result }
+        (said_by (kinds names.now (text_behind 2 fields.now)) first.now (words_of fields.now))
+        result }
 {
     if first == b"put".as_slice() {
         return put_line(alloc, names, fields);
@@ -291,11 +307,11 @@ fn is_comment(word: &[u8]) -> bool
 /// the text breaks: 3, 7, then word by word 4, 5 or 6, and last 8. `OutOfMemory` comes only of a
 /// `put` or a `forge` that breaks none, and of an `asm` that breaks none before rule 8 and whose
 /// text is UTF-8: whether it breaks rule 8 isn't known then. The line is in form for the names.
-#[tactic(auto, unfolding(crate::specs::Reading::said))]
+#[tactic(auto, unfolding(crate::specs::Reading::said_line))]
 pub fn parse_line(alloc: Global, names: &Names, text: &[u8]) -> Result<Line, LineError>
     requires { IsTrue (are_valid names.now) }
     ensures answer { Answers line_of (MayWant TakesMemory (text_behind 3 text.now))
-        (said names.now text.now) result }
+        (said_line names.now text.now) result }
     ensures in_form { IfOk result (λ line. IsLine names.now (line_of line)) }
 {
     let Some((first, fields)) = split_word(text) else {

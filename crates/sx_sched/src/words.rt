@@ -1,9 +1,12 @@
 //! The words of a schedule line, the longest runs of bytes other than spaces and tabs, and the text
 //! after some of them.
 
-ghost use Rattle.std.specs.Prelude.{◌≡◌, ◌<◌, ◌≤◌, ℕ, true, false, [], ◌∷◌, length, slice_index, None, Some, MatchOption, IfSome, Ok, Err, MatchResult, IfOk, IfErr};
+ghost use Rattle.std.specs.Prelude.{◌≡◌, ◌<◌, ◌≤◌, ℕ, true, false, [], ◌∷◌, length, slice_index};
+ghost use Rattle.std.specs.Prelude.{None, Some, MatchOption, IfSome, Ok, Err, MatchResult, IfOk};
+ghost use Rattle.std.specs.Prelude.{IfErr};
 ghost use Rattle.sx_sched.specs.Words.{is_blank, words_of, past_blanks, past_word, text_behind};
-ghost use Rattle.sx_sched.specs.Reading.{IsFault, no_word, one_word, two_words, three_words, four_words, some_word, one_before, two_before};
+ghost use Rattle.sx_sched.specs.Reading.{IsBrokenRule, no_word, one_word, two_words, three_words};
+ghost use Rattle.sx_sched.specs.Reading.{four_words, some_word, one_before, two_before};
 
 use crate::lines::{LineError, WRONG_COUNT};
 
@@ -53,7 +56,8 @@ fn word_length(text: &[u8]) -> usize
 
 /// The first word and what follows it; None exactly where there is no word.
 pub fn split_word(text: &[u8]) -> Option<(&[u8], &[u8])>
-    ensures words { MatchOption result (words_of text.now ≡ []) (λ split. words_of text.now ≡ split.0.now ∷ words_of split.1.now) }
+    ensures words { MatchOption result (words_of text.now ≡ [])
+        (λ split. words_of text.now ≡ split.0.now ∷ words_of split.1.now) }
     ensures rest { IfSome result (λ split. split.1.now ≡ past_word (past_blanks text.now)) }
 {
     let begun = past_blanks(text);
@@ -66,7 +70,7 @@ pub fn split_word(text: &[u8]) -> Option<(&[u8], &[u8])>
 /// Nothing, where there is no word left.
 fn no_word(text: &[u8]) -> Result<(), LineError>
     ensures words { result ≡ no_word (words_of text.now) }
-    ensures fault { IfErr result IsFault }
+    ensures fault { IfErr result IsBrokenRule }
 {
     match split_word(text) {
         None => Ok(()),
@@ -78,7 +82,7 @@ fn no_word(text: &[u8]) -> Result<(), LineError>
 pub fn one_word(text: &[u8]) -> Result<&[u8], LineError>
     ensures word { MatchResult result (λ a. one_word (words_of text.now) ≡ Ok a.now)
         (λ e. one_word (words_of text.now) ≡ Err e) }
-    ensures fault { IfErr result IsFault }
+    ensures fault { IfErr result IsBrokenRule }
 {
     match split_word(text) {
         None => Err(WRONG_COUNT),
@@ -93,7 +97,7 @@ pub fn one_word(text: &[u8]) -> Result<&[u8], LineError>
 pub fn two_words(text: &[u8]) -> Result<(&[u8], &[u8]), LineError>
     ensures words { MatchResult result (λ w. two_words (words_of text.now) ≡ Ok (w.0.now, w.1.now))
         (λ e. two_words (words_of text.now) ≡ Err e) }
-    ensures fault { IfErr result IsFault }
+    ensures fault { IfErr result IsBrokenRule }
 {
     match split_word(text) {
         None => Err(WRONG_COUNT),
@@ -106,9 +110,10 @@ pub fn two_words(text: &[u8]) -> Result<(&[u8], &[u8]), LineError>
 
 /// The three words. The error is rule 7.
 pub fn three_words(text: &[u8]) -> Result<(&[u8], &[u8], &[u8]), LineError>
-    ensures words { MatchResult result (λ w. three_words (words_of text.now) ≡ Ok (w.0.now, w.1.now, w.2.now))
+    ensures words { MatchResult result (λ w. three_words (words_of text.now)
+        ≡ Ok (w.0.now, w.1.now, w.2.now))
         (λ e. three_words (words_of text.now) ≡ Err e) }
-    ensures fault { IfErr result IsFault }
+    ensures fault { IfErr result IsBrokenRule }
 {
     match split_word(text) {
         None => Err(WRONG_COUNT),
@@ -121,9 +126,10 @@ pub fn three_words(text: &[u8]) -> Result<(&[u8], &[u8], &[u8]), LineError>
 
 /// The four words. The error is rule 7.
 pub fn four_words(text: &[u8]) -> Result<(&[u8], &[u8], &[u8], &[u8]), LineError>
-    ensures words { MatchResult result (λ w. four_words (words_of text.now) ≡ Ok (w.0.now, w.1.now, w.2.now, w.3.now))
+    ensures words { MatchResult result (λ w. four_words (words_of text.now)
+        ≡ Ok (w.0.now, w.1.now, w.2.now, w.3.now))
         (λ e. four_words (words_of text.now) ≡ Err e) }
-    ensures fault { IfErr result IsFault }
+    ensures fault { IfErr result IsBrokenRule }
 {
     match split_word(text) {
         None => Err(WRONG_COUNT),
@@ -139,7 +145,7 @@ fn some_text(text: &[u8]) -> Result<&[u8], LineError>
     ensures words { MatchResult result (λ begun. some_word (words_of text.now) ≡ Ok tt)
         (λ e. some_word (words_of text.now) ≡ Err e) }
     ensures text { IfOk result (λ begun. begun.now ≡ text_behind 0 text.now) }
-    ensures fault { IfErr result IsFault }
+    ensures fault { IfErr result IsBrokenRule }
 {
     match split_word(text) {
         None => Err(WRONG_COUNT),
@@ -152,7 +158,7 @@ fn one_before(text: &[u8]) -> Result<(&[u8], &[u8]), LineError>
     ensures words { MatchResult result (λ w. one_before (words_of text.now) ≡ Ok w.0.now)
         (λ e. one_before (words_of text.now) ≡ Err e) }
     ensures text { IfOk result (λ w. w.1.now ≡ text_behind 1 text.now) }
-    ensures fault { IfErr result IsFault }
+    ensures fault { IfErr result IsBrokenRule }
 {
     match split_word(text) {
         None => Err(WRONG_COUNT),
@@ -169,7 +175,7 @@ pub fn two_before(text: &[u8]) -> Result<(&[u8], &[u8], &[u8]), LineError>
     ensures words { MatchResult result (λ w. two_before (words_of text.now) ≡ Ok (w.0.now, w.1.now))
         (λ e. two_before (words_of text.now) ≡ Err e) }
     ensures text { IfOk result (λ w. w.2.now ≡ text_behind 2 text.now) }
-    ensures fault { IfErr result IsFault }
+    ensures fault { IfErr result IsBrokenRule }
 {
     match split_word(text) {
         None => Err(WRONG_COUNT),

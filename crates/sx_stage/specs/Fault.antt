@@ -37,7 +37,8 @@ passes None = Ok tt
 passes (Some f) = Err f
 
 -- the answer is one of those that are allowed, unless memory ran out
-abbrev pub GivesOne : {T V : Type 0} → (T → V) → Result T DeployError → (Result V DeployFault → Type 0) → Type 0
+abbrev pub GivesOne : {T V : Type 0} → (T → V) → Result T DeployError
+    → (Result V DeployFault → Type 0) → Type 0
 GivesOne view (Ok x) AreMeant = AreMeant (Ok (view x))
 GivesOne view (Err OutOfMemory) AreMeant = Unit {0}
 GivesOne view (Err (Fault f)) AreMeant = AreMeant (Err f)

@@ -1,5 +1,6 @@
 -- The lines of the table of rules: each is a test of entries, and its fault's place.
-use Rattle.std.specs.Prelude.{ℕ, Bool, if◌then◌else◌, List, [], ◌∷◌, ◌++◌, length, Option, Some, None, option_map}
+use Rattle.std.specs.Prelude.{ℕ, Bool, if◌then◌else◌, List, [], ◌∷◌, ◌++◌, length, Option, Some}
+use Rattle.std.specs.Prelude.{None, option_map}
 use Rattle.sx_stage.specs.Fault.{fault, nth}
 use Rattle.sx_stage.specs.declared.fault.Sort.{Sort}
 use Rattle.sx_stage.specs.declared.fault.Place.TheVariants.{Kind}
@@ -8,7 +9,8 @@ use Rattle.sx_stage.specs.declared.fault.DeployFault.{DeployFault}
 -- the place of the first entry that is bad after those before it
 abbrev pub first_bad : {A : Type 0} → (List A → A → Bool) → List A → List A → Option ℕ
 first_bad bad earlier [] = None
-first_bad bad earlier (x ∷ xs) = if bad earlier x then Some (length earlier) else first_bad bad (earlier ++ x ∷ []) xs
+first_bad bad earlier (x ∷ xs) =
+    if bad earlier x then Some (length earlier) else first_bad bad (earlier ++ x ∷ []) xs
 
 -- a line that is tried on each entry
 abbrev pub entries : {A : Type 0} → ℕ → Sort → (List A → A → Bool) → List A → Option DeployFault

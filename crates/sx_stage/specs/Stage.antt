@@ -10,6 +10,7 @@ in_entry rule sort n None = Err (fault rule (nth sort n))
 in_entry rule sort n (Some b) = Ok b
 
 -- what the entries become, after those that are done: the first fault ends it
-abbrev pub made_after : {A B : Type 0} → (List B → A → Result B DeployFault) → List B → List A → Result (List B) DeployFault
+abbrev pub made_after : {A B : Type 0} → (List B → A → Result B DeployFault) → List B → List A
+    → Result (List B) DeployFault
 made_after make done [] = Ok done
 made_after make done (x ∷ xs) = make done x >>= (λ b. made_after make (done ++ b ∷ []) xs)

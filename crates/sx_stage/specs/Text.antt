@@ -19,7 +19,8 @@ abbrev pub place_text : Place → List ℕ
 place_text Nowhere = codes "-"
 place_text (Kind sort) = sort_text sort
 place_text (Entry sort n) = sort_text sort ++ codes " " ++ decimal n
-place_text (Source n line column) = codes "module " ++ decimal n ++ codes " " ++ decimal line ++ codes " " ++ decimal column
+place_text (Source n line column) =
+    codes "module " ++ decimal n ++ codes " " ++ decimal line ++ codes " " ++ decimal column
 place_text (Broken n rule) = codes "module " ++ decimal n ++ codes " " ++ decimal rule
 
 -- the words of a fault: `D`, the rule's number, and the place

@@ -10,18 +10,18 @@ use Rattle.sx_machine.specs.Memory.{put_bytes, bytes_from}
 use Rattle.sx_reach.specs.Reach.{Goes}
 use Rattle.sx_invoke.specs.Setup.{Setup, Call}
 use Rattle.sx_invoke.specs.Marks as mark
-use Rattle.sx_invoke.specs.Marks.{Mark, piece_size, made}
+use Rattle.sx_invoke.specs.Marks.{Mark, piece_size, made_bytes}
 use Rattle.sx_invoke.specs.Windows.{is_bad_window, write_bytes}
 use Rattle.sx_invoke.specs.Progress.{Progress, Returns, Violates, finished}
 use Rattle.sx_invoke.specs.Entries.{attest, with_received}
 use Rattle.sx_invoke.specs.Acts.{copied_to}
-use Rattle.sx_invoke.proofs.Tally.{tag_length}
+use Rattle.sx_invoke.proofs.PiecesMarked.{tag_length}
 use Rattle.sx_ir.specs.Conf.{Conf}
-use Rattle.sx_ir.specs.Meaning.{After, do_op, copied_out, copy_out, has_copy_room, on_top, when, saved, next}
+use Rattle.sx_ir.specs.Meaning.{OperationResult, do_op, copied_out, copy_out, has_copy_room, on_top, when, saved, next}
 use Rattle.sx_ir.specs.declared.ir.Ir.{Ir}
 use Rattle.sx_ir.specs.declared.ir.Ir.TheVariants as ir
 use Rattle.sx_stub.specs.Stub.{answer_code, attest_code, refuse_if, is_wrong_kind}
-use Rattle.sx_stub.specs.Invokes.{Shows, Invokes}
+use Rattle.sx_stub.specs.Invokes.{ShowsCall, Invokes}
 use Rattle.sx_stub.proofs.Mem.{AllBytes, bytes_from_put, get-put_bytes_other, length-put_bytes, AllBytes-put_bytes}
 use Rattle.sx_stub.proofs.Straight.{At, at, at_front, at_back}
 use Rattle.sx_stub.proofs.Slots.{IsKept, with_priv, shows_priv, shows_at}
@@ -46,17 +46,17 @@ with_mark c m = record c { marks = c.marks ++ m ∷ [] }
 abbrev pub progress_mark : Progress → Mark → Progress
 progress_mark p m = record p { marks = p.marks ++ m ∷ [] }
 
-pub shows_mark : (s : Setup) (call : Call) (p : Progress) (c : Conf) (m : Mark) → Shows s call p c
-    → Shows s call (progress_mark p m) (with_mark c m)
+pub shows_mark : (s : Setup) (call : Call) (p : Progress) (c : Conf) (m : Mark) → ShowsCall s call p c
+    → ShowsCall s call (progress_mark p m) (with_mark c m)
 shows_mark s call p c m h = record { size = h.size; bytes = h.bytes; state = h.state; mem = h.mem; devices = h.devices; marks = ap (λ (x : List Mark). x ++ m ∷ []) h.marks; entry = h.entry; input = h.input; output = h.output; back = h.back }
 
-made_more : (ms : List Mark) (m : Mark) → made (ms ++ m ∷ []) ≡ made ms + piece_size m
+made_more : (ms : List Mark) (m : Mark) → made_bytes (ms ++ m ∷ []) ≡ made_bytes ms + piece_size m
 made_more [] m = omega arith
 made_more (x ∷ ms) m = let e = made_more ms m in omega (arith, e)
 
 -- a copy to the out-window
-pub copy_out_does : (s : Setup) (call : Call) (handle : ℕ → Conf → After) (p : Progress) (c : Conf) (n o off : ℕ) (rest piece : List ℕ)
-    → Shows s call p c → is_bad_window s call.output 384 ≡ false → has_copy_room c off n ≡ true
+pub copy_out_does : (s : Setup) (call : Call) (handle : ℕ → Conf → OperationResult) (p : Progress) (c : Conf) (n o off : ℕ) (rest piece : List ℕ)
+    → ShowsCall s call p c → is_bad_window s call.output 384 ≡ false → has_copy_room c off n ≡ true
     → bytes_from c.priv o n ≡ piece → c.stack ≡ off ∷ rest
     → do_op s handle (ir.CopyOut n o) c ≡ copied_out (write_bytes s p.devices p.mem (call.output + off) piece) c (λ mem. record (next c rest) { mem = mem })
 copy_out_does s call handle p c n o off rest piece h window room e stack =
@@ -69,7 +69,7 @@ copy_out_does s call handle p c n o off rest piece h window room e stack =
     ∙ ap (λ (x : List Window). copied_out (write_bytes s x p.mem (call.output + off) (bytes_from c.priv o n)) c (λ mem. record (next c rest) { mem = mem })) h.devices
     ∙ ap (λ (x : List ℕ). copied_out (write_bytes s p.devices p.mem (call.output + off) x) c (λ mem. record (next c rest) { mem = mem })) e
 
-module _ (s : Setup) (call : Call) (handle : ℕ → Conf → After) (given : ℕ → ℕ) (code : List Ir) (p : Progress) (c : Conf) (shows : Shows s call p c) (none : p.pieces ≡ []) (bytes : AllBytes p.mem) (room : 512 ≤ length c.priv) (window : is_bad_window s call.input 40 ≡ false) (outside : is_bad_window s call.output 384 ≡ false) (tag : IsTag s.mac) where
+module _ (s : Setup) (call : Call) (handle : ℕ → Conf → OperationResult) (given : ℕ → ℕ) (code : List Ir) (p : Progress) (c : Conf) (shows : ShowsCall s call p c) (none : p.pieces ≡ []) (bytes : AllBytes p.mem) (room : 512 ≤ length c.priv) (window : is_bad_window s call.input 40 ≡ false) (outside : is_bad_window s call.output 384 ≡ false) (tag : IsTag s.mac) where
   abbrev answer_of : List ℕ → List ℕ
   answer_of ask = (wrapped s.mac s.section.key ask []).tag
 
@@ -99,9 +99,9 @@ module _ (s : Setup) (call : Call) (handle : ℕ → Conf → After) (given : �
       let size = length-put_bytes c.priv 16 ask in
       let read : bytes_from c1.priv 34 16 ≡ piece = ap (bytes_from c1.priv 34) (sym len) ∙ bytes_from_put priv 34 piece isb (omega (arith, len, size, room)) in
       let shows0 = copied_shows s call handle given code p c shows none bytes room window ask q (omega (arith, e)) in
-      let shows1 : Shows s call p1 c1 = shows_mark s call p (with_priv c (put_bytes priv 34 piece) (q + 1) []) m
+      let shows1 : ShowsCall s call p1 c1 = shows_mark s call p (with_priv c (put_bytes priv 34 piece) (q + 1) []) m
       (shows_priv s call p (with_priv c priv q []) (put_bytes priv 34 piece) (q + 1) [] shows0 (length-put_bytes priv 34 piece) (AllBytes-put_bytes priv 34 piece shows0.bytes) (λ i kept. get-put_bytes_other priv 34 piece i (apart i kept (length piece) len))) in
-      let made_room : has_copy_room c1 0 16 ≡ true = let x = made_more c.marks m in le-leb 16 (made c1.marks) (omega (arith, x)) in
+      let made_room : has_copy_room c1 0 16 ≡ true = let x = made_more c.marks m in le-leb 16 (made_bytes c1.marks) (omega (arith, x)) in
       let r = finished (copied_to (write_bytes s p1.devices p1.mem (call.output + 24 * length p1.pieces) piece) (record p1 { pieces = p1.pieces ++ piece ∷ [] })) in
       goes_on s call handle given code r (ir.Seal 0 16 18 56 0) (with_priv c priv q []) c1 k 272 a.0 (seals ask q e h) refl (omega (arith, le))
       (runs_on s call handle given code r (ir.Push 0 ∷ []) c1 (q + 1) (q + 1 + 1) [] (0 ∷ []) 272 264 (a.1.0, tt) refl refl (omega arith)
@@ -114,7 +114,7 @@ module _ (s : Setup) (call : Call) (handle : ℕ → Conf → After) (given : �
       apart i (inl k) n e = inl (omega (arith, k.1))
       apart i (inr k) n e = inr (omega (arith, k, e))
 
-      copy : (r : Result (List ℕ) Violation) (c1 : Conf) (p1 : Progress) (piece : List ℕ) → Shows s call p1 c1
+      copy : (r : Result (List ℕ) Violation) (c1 : Conf) (p1 : Progress) (piece : List ℕ) → ShowsCall s call p1 c1
           → do_op s handle (ir.CopyOut 16 34) (at c1 (q + 1 + 1) (0 ∷ [])) ≡ copied_out r (at c1 (q + 1 + 1) (0 ∷ [])) (λ mem. record (next (at c1 (q + 1 + 1) (0 ∷ [])) []) { mem = mem })
           → 1 ≡ length (p1.pieces ++ piece ∷ [])
           → Invokes s call handle given code (finished (copied_to r (record p1 { pieces = p1.pieces ++ piece ∷ [] }))) 264 (at c1 (q + 1 + 1) (0 ∷ []))
@@ -125,7 +125,7 @@ module _ (s : Setup) (call : Call) (handle : ℕ → Conf → After) (given : �
           let p2 = record p1 { pieces = p1.pieces ++ piece ∷ []; mem = mem } in
           let c2 = record c1 { mem = mem } in
           let r = Returns 1 p2 in
-          let shows2 : Shows s call p2 c2 = record { size = h.size; bytes = h.bytes; state = h.state; mem = refl; devices = h.devices; marks = h.marks; entry = h.entry; input = h.input; output = h.output; back = h.back } in
+          let shows2 : ShowsCall s call p2 c2 = record { size = h.size; bytes = h.bytes; state = h.state; mem = refl; devices = h.devices; marks = h.marks; entry = h.entry; input = h.input; output = h.output; back = h.back } in
           goes_on s call handle given code r (ir.CopyOut 16 34) (at c1 (q + 1 + 1) (0 ∷ [])) (at c2 (q + 1 + 1 + 1) []) 264 16 a.1.1.0 d refl (omega arith)
           (runs_on s call handle given code r (ir.Push 1 ∷ ir.Push 1 ∷ []) c2 (q + 1 + 1 + 1) (q + 1 + 1 + 1 + 1 + 1) [] (1 ∷ 1 ∷ []) 16 0 (a.1.1.1.0, (a.1.1.1.1.0, tt)) refl (omega arith) (omega arith)
           (returned s call handle given code 1 1 p2 c2 (q + 1 + 1 + 1 + 1 + 1) 0 a.1.1.1.1.1.0 shows2 one))

@@ -9,7 +9,7 @@ use Rattle.sx_reach.specs.Reach.{Goes}
 use Rattle.sx_invoke.specs.Setup.{Setup, Call}
 use Rattle.sx_invoke.specs.Progress.{Invoked}
 use Rattle.sx_ir.specs.Conf.{Conf}
-use Rattle.sx_ir.specs.Meaning.{After}
+use Rattle.sx_ir.specs.Meaning.{OperationResult}
 use Rattle.sx_ir.specs.declared.ir.IrOp.TheVariants as op
 use Rattle.sx_ir.specs.declared.ir.Ir.{Ir}
 use Rattle.sx_ir.specs.declared.ir.Ir.TheVariants as ir
@@ -36,7 +36,7 @@ abbrev pub AreWords : Cases → ℕ → List End → Type 0
 AreWords cs k [] = Unit {0}
 AreWords cs k (e ∷ es) = (cs.number k e < 65536) × AreWords cs (k + 1) es
 
-module _ (s : Setup) (call : Call) (handle : ℕ → Conf → After) (given : ℕ → ℕ) (code : List Ir) (result : Invoked) (cs : Cases) (v : ℕ) (c : Conf) (here : word c.priv cs.offset ≡ v) (small : v < 65536) where
+module _ (s : Setup) (call : Call) (handle : ℕ → Conf → OperationResult) (given : ℕ → ℕ) (code : List Ir) (result : Invoked) (cs : Cases) (v : ℕ) (c : Conf) (here : word c.priv cs.offset ≡ v) (small : v < 65536) where
   abbrev Goal : ℕ → ℕ → Type 0
   Goal n p = Invokes s call handle given code result n (at c p [])
 

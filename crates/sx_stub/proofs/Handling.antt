@@ -12,12 +12,12 @@ use Rattle.sx_invoke.specs.Progress.{Progress, Invoked, Returns, Violates, Cours
 use Rattle.sx_invoke.specs.Acts.{handled, with_acts}
 use Rattle.sx_ir.specs.Conf.{Conf, Halt}
 use Rattle.sx_ir.specs.Conf as conf
-use Rattle.sx_ir.specs.Meaning.{After, op_step, op_count, OnViolation}
-use Rattle.sx_ir.specs.Invoking.{Represents, Breaks, GoesOn, Does}
+use Rattle.sx_ir.specs.Meaning.{OperationResult, op_step, op_count, OnViolation}
+use Rattle.sx_ir.specs.Invoking.{Represents, CourseBreaks, CourseGoesOn, DoesCourse}
 use Rattle.sx_ir.specs.declared.ir.Ir.{Ir}
 use Rattle.sx_ir.specs.declared.ir.Ir.TheVariants as ir
 use Rattle.sx_stub.specs.Stub.{handled_by}
-use Rattle.sx_stub.specs.Invokes.{Shows, EndsSo, Ready, IsBehind, HandlerDoes, Invokes, LeavesSo}
+use Rattle.sx_stub.specs.Invokes.{ShowsCall, EndsSo, Ready, IsBehind, HandlerDoes, Invokes, LeavesSo}
 use Rattle.sx_stub.proofs.Straight.{At, at}
 use Rattle.sx_stub.proofs.Slots.{shows_at}
 use Rattle.sx_stub.proofs.Refuse.{returned, returns_does, runs_on}
@@ -31,10 +31,10 @@ none_handled s call e p h =
 
 -- where the course goes on, the configuration stands for it, at the next place
 abbrev pub IsDone : Setup → Call → Course → Conf → Conf → Type 0
-IsDone s call course c t = GoesOn course (λ p. Represents s call p t × IsBehind c t)
+IsDone s call course c t = CourseGoesOn course (λ p. Represents s call p t × IsBehind c t)
 
 -- what stands for a progress shows it, too
-pub represents_shows : (s : Setup) (call : Call) (p : Progress) (c : Conf) → Represents s call p c → Shows s call p c
+pub represents_shows : (s : Setup) (call : Call) (p : Progress) (c : Conf) → Represents s call p c → ShowsCall s call p c
 represents_shows s call p c h = record {
   size = h.size;
   bytes = h.bytes;
@@ -48,7 +48,7 @@ represents_shows s call p c h = record {
   back = h.back;
 }
 
-module _ (s : Setup) (call : Call) (handle : ℕ → Conf → After) (given : ℕ → ℕ) (code : List Ir) where
+module _ (s : Setup) (call : Call) (handle : ℕ → Conf → OperationResult) (given : ℕ → ℕ) (code : List Ir) where
   abbrev Goal : Invoked → ℕ → Conf → Type 0
   Goal result n c = Invokes s call handle given code result n c
 
@@ -66,24 +66,24 @@ module _ (s : Setup) (call : Call) (handle : ℕ → Conf → After) (given : �
       (returned s call handle given code 1 (word t.priv 4) p t (q + 1 + 1) 0 a.1.1.0 (represents_shows s call p t h) h.count)))
 
   by_course : (course : Course) (c : Conf) (n : ℕ) → At code (c.place + 1) behind
-      → Does s call handle given code course (IsBehind c) n c → Goal (finished course) (n + 16) c
+      → DoesCourse s call handle given code course (IsBehind c) n c → Goal (finished course) (n + 16) c
   by_course (Going p) c n a d =
       let r = Returns 1 p in
       let done = IsDone s call (Going p) c in
       and_then Conf Halt (op_step s handle code) (op_count given code) (λ c. Unit {0}) (OnViolation (EndsSo r)) done (LeavesSo s call code r) n 16 (n + 16) c (omega arith)
-      (weaken Conf Halt (op_step s handle code) (op_count given code) (λ c. Unit {0}) (λ c. Unit {0}) (OnViolation (Breaks (Going p))) (OnViolation (EndsSo r)) done done n n c
+      (weaken Conf Halt (op_step s handle code) (op_count given code) (λ c. Unit {0}) (λ c. Unit {0}) (OnViolation (CourseBreaks (Going p))) (OnViolation (EndsSo r)) done done n n c
       (omega arith) (λ t x. x) never (λ t x. x) d)
       (λ t x. ends p t (c.place + 1) 16 x.0 x.1.0 x.1.1 a (omega arith))
     where
-      never : (t : Conf) (v : Halt) → OnViolation (Breaks (Going p)) t v → OnViolation (EndsSo (Returns 1 p)) t v
+      never : (t : Conf) (v : Halt) → OnViolation (CourseBreaks (Going p)) t v → OnViolation (EndsSo (Returns 1 p)) t v
       never t (conf.Violates v marks) x = x
       never t conf.Stuck x = x
   by_course (Broken v p) c n a d =
       let r = Violates v p in
-      weaken Conf Halt (op_step s handle code) (op_count given code) (λ c. Unit {0}) (λ c. Unit {0}) (OnViolation (Breaks (Broken v p))) (OnViolation (EndsSo r))
+      weaken Conf Halt (op_step s handle code) (op_count given code) (λ c. Unit {0}) (λ c. Unit {0}) (OnViolation (CourseBreaks (Broken v p))) (OnViolation (EndsSo r))
       (IsDone s call (Broken v p) c) (LeavesSo s call code r) n (n + 16) c (omega arith) (λ t x. x) same (λ t x. absurd x) d
     where
-      same : (t : Conf) (w : Halt) → OnViolation (Breaks (Broken v p)) t w → OnViolation (EndsSo (Violates v p)) t w
+      same : (t : Conf) (w : Halt) → OnViolation (CourseBreaks (Broken v p)) t w → OnViolation (EndsSo (Violates v p)) t w
       same t (conf.Violates w marks) x = x
       same t conf.Stuck x = x
 

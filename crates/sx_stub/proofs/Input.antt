@@ -22,15 +22,15 @@ use Rattle.sx_invoke.specs.ModuleState.{EndState, end_of, end_state, epoch_of, l
 use Rattle.sx_invoke.specs.Windows.{is_bad_window}
 use Rattle.sx_invoke.specs.Progress.{Progress, Invoked, Returns, finished}
 use Rattle.sx_invoke.specs.Acts.{handled}
-use Rattle.sx_invoke.specs.Entries.{input, input_at, event_numbered, event_opened, taken, field_in, second_in, header_in, end_found, with_received}
+use Rattle.sx_invoke.specs.Entries.{input, input_at, event_numbered, event_opened, number_taken, field_in, second_in, header_in, end_found, with_received}
 use Rattle.sx_invoke.specs.Devices.{HasDevices}
 use Rattle.sx_ir.specs.Conf.{Conf}
-use Rattle.sx_ir.specs.Meaning.{After, do_op, element, opened, key_at}
+use Rattle.sx_ir.specs.Meaning.{OperationResult, do_op, element, opened, key_at}
 use Rattle.sx_ir.specs.declared.ir.Ir.{Ir}
 use Rattle.sx_ir.specs.declared.ir.Ir.TheVariants as ir
 use Rattle.sx_ir.specs.declared.ir.IrOp.TheVariants as op
 use Rattle.sx_stub.specs.Stub.{input_code, input_found, key_found, key_place, search_code, refuse_if, cases, find_any, take_receiving, take_event, taken_code, is_receiving, is_to, is_wrong_kind, wanted_receiving, is_closed_code, is_other_epoch, is_past_number, is_last_number, is_opened_not, handled_by}
-use Rattle.sx_stub.specs.Invokes.{Shows, Ready, Invokes, HandlersDo}
+use Rattle.sx_stub.specs.Invokes.{ShowsCall, Ready, Invokes, HandlersDo}
 use Rattle.sx_stub.proofs.Mem.{AllBytes, word_lt, word_same, word-put_same, word-put_other, get-put_other, length-put_word, length-put_bytes, AllBytes-put_word, AllBytes-put_bytes, get-put_bytes_other, get-put_bytes_in, bytes_from_same, AllBytes-bytes_from}
 use Rattle.sx_stub.proofs.Straight.{At, at, at_front, at_back, pure}
 use Rattle.sx_stub.proofs.Slots.{Same, IsKept, with_priv, shows_priv, end_with, end_state_is, end_in_slot, end_state_same}
@@ -114,27 +114,27 @@ number_end priv k v le =
 end_same : (m n : List ℕ) (k : ℕ) → ((i : ℕ) → 512 ≤ i → Same m n i) → end_state n k ≡ end_state m k
 end_same m n k f = end_state_same m n k (λ i p q. f i (omega (arith, p)))
 
-module _ (s : Setup) (call : Call) (handle : ℕ → Conf → After) (given : ℕ → ℕ) (code : List Ir) (p : Progress) (none : p.pieces ≡ []) (tag : IsTag s.mac) (few : length s.ends ≤ 16) (links : FewLinks s.ends) (outside : is_bad_window s call.output 384 ≡ false) (devices : HasDevices p.devices (declared_kind s.tree.decls) s.section.layout) (cost : ℕ) (does : HandlersDo s handle given code cost) where
+module _ (s : Setup) (call : Call) (handle : ℕ → Conf → OperationResult) (given : ℕ → ℕ) (code : List Ir) (p : Progress) (none : p.pieces ≡ []) (tag : IsTag s.mac) (few : length s.ends ≤ 16) (links : FewLinks s.ends) (outside : is_bad_window s call.output 384 ≡ false) (devices : HasDevices p.devices (declared_kind s.tree.decls) s.section.layout) (cost : ℕ) (does : HandlersDo s handle given code cost) where
   -- the event is taken, and handled
   takes : (packet body : List ℕ) (j : ℕ) (e : End) (place : ℕ) (c : Conf) → length packet ≡ 24 → AllBytes packet
       → AllBytes body → length body ≡ 32 → j < length s.ends → c.back ≡ None → second_in packet ≢ 65535
-      → Shows s call (progress_mark p (mark.Unwrapped (header_in packet) (take 2 body) false)) c
+      → ShowsCall s call (progress_mark p (mark.Unwrapped (header_in packet) (take 2 body) false)) c
       → word c.priv 20 ≡ second_in packet → word c.priv 56 ≡ word body 0 → end_state c.priv j ≡ end_of p.state.ends j
       → At code place (taken_code s.tree j e)
-      → Invokes s call handle given code (finished (handled s call (event.Input e.port (word body 0)) (taken j packet (take 2 body) (end_of p.state.ends j) p))) (cost + 100) (at c place [])
+      → Invokes s call handle given code (finished (handled s call (event.Input e.port (word body 0)) (number_taken j packet (take 2 body) (end_of p.state.ends j) p))) (cost + 100) (at c place [])
   takes packet body j e place c len h isb len32 lt back last shows second value state a =
       let m = mark.Unwrapped (header_in packet) (take 2 body) false in
       let st = end_of p.state.ends j in
       let v = second_in packet + 1 in
       let ev = event.Input e.port (word body 0) in
-      let p2 = taken j packet (take 2 body) st p in
+      let p2 = number_taken j packet (take 2 body) st p in
       let r = finished (handled s call ev p2) in
       let small : second_in packet < 65536 = word_lt packet 4 h in
       let sum : pure s c.priv (ir.Load 20 ∷ ir.Push 1 ∷ ir.Op op.Add ∷ []) [] ≡ Some (v ∷ []) = ap (λ (x : ℕ). Some ((x + 1) % 65536 ∷ [])) second ∙ ap (λ (x : ℕ). Some (x ∷ [])) (omega (arith, small, last)) in
       let size = shows.size in
       let priv5 = put_word c.priv (end_at j + 2) v in
       let c5 = with_priv c priv5 (place + 4) [] in
-      let shows5 : Shows s call p2 c5 = shows_slot s call (progress_mark p m) c priv5 (place + 4) [] j (record st { number = v }) shows lt (length-put_word c.priv (end_at j + 2) v) (AllBytes-put_word c.priv (end_at j + 2) v (omega (arith, small, last)) shows.bytes)
+      let shows5 : ShowsCall s call p2 c5 = shows_slot s call (progress_mark p m) c priv5 (place + 4) [] j (record st { number = v }) shows lt (length-put_word c.priv (end_at j + 2) v) (AllBytes-put_word c.priv (end_at j + 2) v (omega (arith, small, last)) shows.bytes)
       (λ i o. get-put_other c.priv (end_at j + 2) v i (omega arith) (apart i o 0 (end_at j + 2) (omega arith) (omega arith)) (apart i o 1 (end_at j + 2 + 1) (omega arith) (omega arith)))
       (number_end c.priv j v (omega (arith, size, lt)) ∙ ap (λ (x : EndState). record x { number = v }) state) in
       let value5 : word priv5 56 ≡ word body 0 = word-put_other c.priv (end_at j + 2) v 56 (omega arith) refl (omega arith) ∙ value in
@@ -143,7 +143,7 @@ module _ (s : Setup) (call : Call) (handle : ℕ → Conf → After) (given : �
       let priv6 = put_word priv5 2 w in
       let c6 = with_priv c priv6 (place + 6) [] in
       let size5 = shows5.size in
-      let shows6 : Shows s call p2 c6 = shows_priv s call p2 c5 priv6 (place + 6) [] shows5 (length-put_word priv5 2 w) (AllBytes-put_word priv5 2 w smallw shows5.bytes) (λ i kept. get-put_other priv5 2 w i refl (low i kept 2 (omega arith)) (low i kept 3 (omega arith))) in
+      let shows6 : ShowsCall s call p2 c6 = shows_priv s call p2 c5 priv6 (place + 6) [] shows5 (length-put_word priv5 2 w) (AllBytes-put_word priv5 2 w smallw shows5.bytes) (λ i kept. get-put_other priv5 2 w i refl (low i kept 2 (omega arith)) (low i kept 3 (omega arith))) in
       let ready : Ready s call ev p2 c6 = record { shows = shows6; value = word-put_same priv5 2 w refl (omega (arith, size5)); pieces = none; stack = refl; back = back; window = outside; devices = devices } in
       runs_on s call handle given code r (ir.Load 20 ∷ ir.Push 1 ∷ ir.Op op.Add ∷ []) c place (place + 3) [] (v ∷ []) (cost + 100) (cost + 76) (a.0, (a.1.0, (a.1.1.0, tt))) sum refl (omega arith)
       (goes_on s call handle given code r (ir.Store (end_number_at j)) (at c (place + 3) (v ∷ [])) (at c5 (place + 3 + 1) []) (cost + 76) (cost + 68) (ap (slice_get code) (omega arith) ∙ a.1.1.1.0) refl refl (omega arith)
@@ -164,7 +164,7 @@ module _ (s : Setup) (call : Call) (handle : ℕ → Conf → After) (given : �
 
   -- the packet is opened
   opens : (packet : List ℕ) (j : ℕ) (e : End) (place : ℕ) (c : Conf) → length packet ≡ 24 → AllBytes packet
-      → j < length s.ends → c.back ≡ None → second_in packet ≢ 65535 → Shows s call p c → Holds c.priv packet
+      → j < length s.ends → c.back ≡ None → second_in packet ≢ 65535 → ShowsCall s call p c → Holds c.priv packet
       → At code place (take_event s.tree place j e)
       → Invokes s call handle given code (event_opened s call (j, e) packet (unwrapped s.mac (end_of p.state.ends j).key (header_in packet) (take 2 (drop 6 packet)) (drop 8 packet)) p) (cost + 200) (at c place [])
   opens packet j e place c len h lt back last shows holds a =
@@ -199,12 +199,12 @@ module _ (s : Setup) (call : Call) (handle : ℕ → Conf → After) (given : �
           let isv : AllBytes value = All-take (λ (b : ℕ). b < 256) 2 body g.1 in
           let m = mark.Unwrapped (header_in packet) value false in
           let p1 = progress_mark p m in
-          let r = finished (handled s call (event.Input e.port (word body 0)) (taken j packet value (end_of p.state.ends j) p)) in
+          let r = finished (handled s call (event.Input e.port (word body 0)) (number_taken j packet value (end_of p.state.ends j) p)) in
           let size = shows.size in
           let len2 : length value ≡ 2 = omega (arith, lv, g.0) in
           let priv4 = put_bytes c.priv 56 value in
           let c4 = with_mark (with_priv c priv4 (place + 1) (1 ∷ [])) m in
-          let shows4 : Shows s call p1 c4 = shows_mark s call p (with_priv c priv4 (place + 1) (1 ∷ [])) m
+          let shows4 : ShowsCall s call p1 c4 = shows_mark s call p (with_priv c priv4 (place + 1) (1 ∷ [])) m
           (shows_priv s call p c priv4 (place + 1) (1 ∷ []) shows (length-put_bytes c.priv 56 value) (AllBytes-put_bytes c.priv 56 value shows.bytes) (λ i kept. get-put_bytes_other c.priv 56 value i (apart i kept (length value) len2))) in
           let own : (end_at j + 8 == 0) ≡ false = ne_eqb (end_at j + 8) 0 (omega arith) in
           let d2 : do_op s handle (ir.Open (end_at j + 8) 16 6 56 2) (at c place []) ≡ Goes c4 = d ∙ ap (λ (b : Bool). Goes (with_mark (with_priv c priv4 (place + 1) (1 ∷ [])) (mark.Unwrapped (header_in packet) value b))) own in
@@ -223,7 +223,7 @@ module _ (s : Setup) (call : Call) (handle : ℕ → Conf → After) (given : �
 
   -- from the end that was found on, its index kept
   found_does : (packet : List ℕ) (j : ℕ) (e : End) (t : ℕ → End → Bool) (c3 : Conf) (q : ℕ) → length packet ≡ 24
-      → AllBytes packet → c3.back ≡ None → Shows s call p c3 → Holds c3.priv packet → word c3.priv 74 ≡ 12 * j
+      → AllBytes packet → c3.back ≡ None → ShowsCall s call p c3 → Holds c3.priv packet → word c3.priv 74 ≡ 12 * j
       → found_by t 0 s.ends ≡ Some (j, e) → ((i : ℕ) (d : End) → d.link < 256 → t i d ≡ true → is_receiving d ≡ true)
       → At code q (input_found s.tree s.ends q)
       → Invokes s call handle given code (input_at s call packet (Some (j, e)) p) (cost + 1400) (at c3 q [])
@@ -279,7 +279,7 @@ receives_to found link i d p q h = go d.side (let e = eqb-true (link + 256 * 1) 
     go To e = refl
     go From e = absurd (omega (arith, e, p, q))
 
-module _ (s : Setup) (call : Call) (handle : ℕ → Conf → After) (given : ℕ → ℕ) (code : List Ir) (p : Progress) (c : Conf) (shows : Shows s call p c) (none : p.pieces ≡ []) (bytes : AllBytes p.mem) (back : c.back ≡ None) (window : is_bad_window s call.input 40 ≡ false) (outside : is_bad_window s call.output 384 ≡ false) (tag : IsTag s.mac) (few : length s.ends ≤ 16) (links : FewLinks s.ends) (devices : HasDevices p.devices (declared_kind s.tree.decls) s.section.layout) (cost : ℕ) (does : HandlersDo s handle given code cost) (entry : call.entry ≡ 2) (search : ℕ) (at_search : At code search (search_code s.tree s.ends search)) where
+module _ (s : Setup) (call : Call) (handle : ℕ → Conf → OperationResult) (given : ℕ → ℕ) (code : List Ir) (p : Progress) (c : Conf) (shows : ShowsCall s call p c) (none : p.pieces ≡ []) (bytes : AllBytes p.mem) (back : c.back ≡ None) (window : is_bad_window s call.input 40 ≡ false) (outside : is_bad_window s call.output 384 ≡ false) (tag : IsTag s.mac) (few : length s.ends ≤ 16) (links : FewLinks s.ends) (devices : HasDevices p.devices (declared_kind s.tree.decls) s.section.layout) (cost : ℕ) (does : HandlersDo s handle given code cost) (entry : call.entry ≡ 2) (search : ℕ) (at_search : At code search (search_code s.tree s.ends search)) where
   room512 : 512 ≤ length c.priv
   room512 = omega (arith, shows.size)
 

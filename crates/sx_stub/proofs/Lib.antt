@@ -12,12 +12,12 @@ pub mod SetKey
 pub mod Handling
 pub mod Input
 pub mod Sample
-pub mod Whole
-pub mod Joined
-pub mod Weight
+pub mod StubInvokes
+pub mod JoinedInvokes
+pub mod StubFits
 pub mod Plain
 pub mod Fit
-pub mod Sound
+pub mod StubSound
 pub mod Steps
 pub mod Few
 pub mod Made

@@ -19,8 +19,8 @@ use Rattle.sx_stub.specs.Sound.{AreSound, is_plain}
 use Rattle.sx_stub.specs.Weight.{FitsWeight}
 use Rattle.sx_stub.specs.Stubs.{StubsTo}
 use Rattle.sx_stub.proofs.Fit.{length-find}
-use Rattle.sx_stub.proofs.Weight.{stub_fits}
-use Rattle.sx_stub.proofs.Sound.{stub_sound}
+use Rattle.sx_stub.proofs.StubFits.{stub_fits}
+use Rattle.sx_stub.proofs.StubSound.{stub_sound}
 
 -- this many operations at most for each end
 cases_within : (cs : Cases) (n : ℕ) → ((place k : ℕ) (e : End) → length (cs.body place k e) ≤ n) → (place k : ℕ) (es : List End) → length (cases cs place k es) ≤ (5 + n) * length es

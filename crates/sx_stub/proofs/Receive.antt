@@ -16,11 +16,11 @@ use Rattle.sx_invoke.specs.Windows.{is_bad_window, read_byte, read_bytes, then_,
 use Rattle.sx_invoke.specs.Progress.{Progress, Invoked, Returns, Violates}
 use Rattle.sx_invoke.specs.Entries.{is_kind, received}
 use Rattle.sx_ir.specs.Conf.{Conf}
-use Rattle.sx_ir.specs.Meaning.{After, do_op, copied_in, when, saved}
+use Rattle.sx_ir.specs.Meaning.{OperationResult, do_op, copied_in, when, saved}
 use Rattle.sx_ir.specs.declared.ir.Ir.{Ir}
 use Rattle.sx_ir.specs.declared.ir.Ir.TheVariants as ir
 use Rattle.sx_stub.specs.Stub.{refuse_if, is_wrong_kind}
-use Rattle.sx_stub.specs.Invokes.{Shows, Invokes}
+use Rattle.sx_stub.specs.Invokes.{ShowsCall, Invokes}
 use Rattle.sx_stub.proofs.Mem.{AllBytes, byte_at, word_lt, word_even, get-put_bytes_in, get-put_bytes_other, length-put_bytes, AllBytes-put_bytes}
 use Rattle.sx_stub.proofs.Straight.{At, at, pure}
 use Rattle.sx_stub.proofs.Slots.{IsKept, with_priv, shows_priv}
@@ -92,7 +92,7 @@ pub good_window : (b : Bool) → b ≡ false → not b ≡ true
 good_window true e = absurd (true≢false e)
 good_window false e = refl
 
-module _ (s : Setup) (call : Call) (handle : ℕ → Conf → After) (given : ℕ → ℕ) (code : List Ir) (p : Progress) (c : Conf) (shows : Shows s call p c) (none : p.pieces ≡ []) (bytes : AllBytes p.mem) (room : 512 ≤ length c.priv) (window : is_bad_window s call.input 40 ≡ false) where
+module _ (s : Setup) (call : Call) (handle : ℕ → Conf → OperationResult) (given : ℕ → ℕ) (code : List Ir) (p : Progress) (c : Conf) (shows : ShowsCall s call p c) (none : p.pieces ≡ []) (bytes : AllBytes p.mem) (room : 512 ≤ length c.priv) (window : is_bad_window s call.input 40 ≡ false) where
   -- the copy is done or refused as the protocol says
   copies : (place n : ℕ) → nat_le n 40 ≡ true
       → do_op s handle (ir.CopyIn n 16) (at c place []) ≡ copied_in (at c place []) 16 (read_bytes s p.devices p.mem call.input n)
@@ -105,7 +105,7 @@ module _ (s : Setup) (call : Call) (handle : ℕ → Conf → After) (given : �
       ∙ ap (λ (x : List Window). copied_in (at c place []) 16 (read_bytes s x p.mem call.input n)) shows.devices
 
   pub copied_shows : (packet : List ℕ) (q : ℕ) → length packet ≤ 40
-      → Shows s call p (with_priv c (put_bytes c.priv 16 packet) q [])
+      → ShowsCall s call p (with_priv c (put_bytes c.priv 16 packet) q [])
   copied_shows packet q le =
       shows_priv s call p c (put_bytes c.priv 16 packet) q [] shows (length-put_bytes c.priv 16 packet) (AllBytes-put_bytes c.priv 16 packet shows.bytes) (λ i k. get-put_bytes_other c.priv 16 packet i (apart i k))
     where

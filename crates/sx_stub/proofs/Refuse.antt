@@ -11,16 +11,16 @@ use Rattle.sx_invoke.specs.Setup.{Setup, Call}
 use Rattle.sx_invoke.specs.Progress.{Progress, Invoked, Returns}
 use Rattle.sx_ir.specs.Conf.{Conf, Violates}
 use Rattle.sx_ir.specs.Counts.{count_of}
-use Rattle.sx_ir.specs.Meaning.{After, do_op, handler_count}
+use Rattle.sx_ir.specs.Meaning.{OperationResult, do_op, handler_count}
 use Rattle.sx_ir.specs.declared.ir.Ir.{Ir}
 use Rattle.sx_ir.specs.declared.ir.Ir.TheVariants as ir
 use Rattle.sx_stub.specs.Stub.{returns, refuse_if}
-use Rattle.sx_stub.specs.Invokes.{Shows, EndsSo, LeavesSo, Invokes}
+use Rattle.sx_stub.specs.Invokes.{ShowsCall, EndsSo, LeavesSo, Invokes}
 use Rattle.sx_stub.proofs.Straight.{At, at, at_front, at_back, pure, counts, goes, halts, runs, wider}
 use Rattle.sx_stub.proofs.Slots.{shows_at}
 
 -- A code does what is left of an invocation whose result is known: `Invokes` at each configuration on the way.
-module _ (s : Setup) (call : Call) (handle : ℕ → Conf → After) (given : ℕ → ℕ) (code : List Ir) where
+module _ (s : Setup) (call : Call) (handle : ℕ → Conf → OperationResult) (given : ℕ → ℕ) (code : List Ir) where
   abbrev Goal : Invoked → ℕ → Conf → Type 0
   Goal result n c = Invokes s call handle given code result n c
 
@@ -49,12 +49,12 @@ module _ (s : Setup) (call : Call) (handle : ℕ → Conf → After) (given : �
 
   -- the end
   pub returned : (status count : ℕ) (p : Progress) (c : Conf) (q n : ℕ) → slice_get code q ≡ Some ir.Leave
-      → Shows s call p c
+      → ShowsCall s call p c
       → count ≡ length p.pieces → Goal (Returns status p) n (at c q (count ∷ status ∷ []))
   returned status count p c q n leave h e =
       Here (shows_at s call p c q (count ∷ status ∷ []) h, record { rest = []; at = leave; stack = ap (λ (x : ℕ). x ∷ status ∷ []) e })
 
-  pub returns_does : (status : ℕ) (p : Progress) (c : Conf) (q n : ℕ) → At code q (returns status) → Shows s call p c
+  pub returns_does : (status : ℕ) (p : Progress) (c : Conf) (q n : ℕ) → At code q (returns status) → ShowsCall s call p c
       → p.pieces ≡ [] → 16 ≤ n → Goal (Returns status p) n (at c q [])
   returns_does status p c q n a h none le =
       let front = ir.Push status ∷ ir.Push 0 ∷ [] in
@@ -64,7 +64,7 @@ module _ (s : Setup) (call : Call) (handle : ℕ → Conf → After) (given : �
   -- a test, and what is done where it holds not
   pub refuse_zero : (b : Bool) (test : List Ir) (status v : ℕ) (c : Conf) (p q n m : ℕ) (stack : List ℕ) (result : Invoked) (progress : Progress)
       → At code p (refuse_if p test status) → pure s c.priv test stack ≡ Some (v ∷ []) → (v == 0) ≡ not b
-      → Shows s call progress c → progress.pieces ≡ [] → p + length test + 4 ≡ q → counts test + 24 + m ≤ n
+      → ShowsCall s call progress c → progress.pieces ≡ [] → p + length test + 4 ≡ q → counts test + 24 + m ≤ n
       → (b ≡ false → Goal result m (at c q [])) → Goal (if b then Returns status progress else result) n (at c p stack)
   refuse_zero b test status v c p q n m stack result progress a e t h none f le r =
       let over = ir.JumpZero (p + length test + 4) in
@@ -88,7 +88,7 @@ module _ (s : Setup) (call : Call) (handle : ℕ → Conf → After) (given : �
 
   pub refuse_does : (b : Bool) (test : List Ir) (status v : ℕ) (c : Conf) (p q n m : ℕ) (stack : List ℕ) (result : Invoked) (progress : Progress)
       → At code p (refuse_if p test status) → pure s c.priv test stack ≡ Some (v ∷ []) → v ≡ truth b
-      → Shows s call progress c → progress.pieces ≡ [] → p + length test + 4 ≡ q → counts test + 24 + m ≤ n
+      → ShowsCall s call progress c → progress.pieces ≡ [] → p + length test + 4 ≡ q → counts test + 24 + m ≤ n
       → (b ≡ false → Goal result m (at c q [])) → Goal (if b then Returns status progress else result) n (at c p stack)
   refuse_does b test status v c p q n m stack result progress a e t h none f le r =
       refuse_zero b test status v c p q n m stack result progress a e (ap (λ (x : ℕ). x == 0) t ∙ truth_zero b) h none f le r

@@ -11,7 +11,7 @@ use Rattle.sx_mean.specs.Meaning.{truth}
 use Rattle.sx_mean.specs.Handlers.{number_of}
 use Rattle.sx_bus.specs.declared.devices.Kind.TheVariants as kind
 use Rattle.sx_bus.specs.declared.devices.Window.{Window}
-use Rattle.sx_bus.specs.Devices.{device_at, cleared, changed, stale, on_word, HaveSamples}
+use Rattle.sx_bus.specs.Devices.{device_at, cleared, with_changed, stale, on_word, HaveSamples}
 use Rattle.sx_machine.specs.Memory.{word, put_word}
 use Rattle.sx_machine.specs.Run.{device_of, found, with_window}
 use Rattle.sx_invoke.specs.Setup.{Setup, Call}
@@ -20,15 +20,15 @@ use Rattle.sx_invoke.specs.Marks.{Mark}
 use Rattle.sx_invoke.specs.Windows.{is_bad_window}
 use Rattle.sx_invoke.specs.Progress.{Progress, Returns, finished}
 use Rattle.sx_invoke.specs.Acts.{handled, own_window}
-use Rattle.sx_invoke.specs.Entries.{sample, sample_of, sampled}
+use Rattle.sx_invoke.specs.Entries.{sample, sample_of, sample_read}
 use Rattle.sx_invoke.specs.Devices.{HasDevices, Drives}
 use Rattle.sx_ir.specs.Conf.{Conf}
-use Rattle.sx_ir.specs.Meaning.{After, do_op, sense, sensed, pushed}
+use Rattle.sx_ir.specs.Meaning.{OperationResult, do_op, sense, sensor_read, pushed}
 use Rattle.sx_ir.specs.declared.ir.Ir.{Ir}
 use Rattle.sx_ir.specs.declared.ir.Ir.TheVariants as ir
 use Rattle.sx_ir.specs.declared.ir.IrOp.TheVariants as op
 use Rattle.sx_stub.specs.Stub.{sample_code, sampled_code, refuse_if, is_stale_code, handled_by}
-use Rattle.sx_stub.specs.Invokes.{Shows, Ready, Invokes, HandlersDo}
+use Rattle.sx_stub.specs.Invokes.{ShowsCall, Ready, Invokes, HandlersDo}
 use Rattle.sx_stub.proofs.Mem.{word-put_same, get-put_other, length-put_word, AllBytes-put_word}
 use Rattle.sx_stub.proofs.Straight.{At, at, at_front, at_back}
 use Rattle.sx_stub.proofs.Slots.{IsKept, with_priv, shows_priv}
@@ -69,13 +69,13 @@ slice_all P (x ∷ ws) zero w h e = subst P (some_same e) (h 0 x (omega arith))
 slice_all P (x ∷ ws) (suc i) w h e = slice_all P ws i w (λ k d p. h (suc k) d (omega (arith, p))) e
 
 position_cleared : (a : ℕ) (ws : List Window) (k d : ℕ)
-    → position_from (on_word a) k (changed stale ws d) ≡ position_from (on_word a) k ws
+    → position_from (on_word a) k (with_changed stale ws d) ≡ position_from (on_word a) k ws
 position_cleared a [] k d = refl
 position_cleared a (w ∷ ws) k zero = refl
 position_cleared a (w ∷ ws) k (suc d) = ap (λ (x : Option ℕ). cond (on_word a w) (Some k) x) (position_cleared a ws (k + 1) d)
 
 slice_cleared : (ws : List Window) (d : ℕ) (w : Window) → slice_get ws d ≡ Some w
-    → slice_get (changed stale ws d) d ≡ Some (stale w)
+    → slice_get (with_changed stale ws d) d ≡ Some (stale w)
 slice_cleared [] d w e = absurd (none_some e)
   where
     none_some : ◌≡◌ {A = Option Window} None (Some w) → ⊥
@@ -92,7 +92,7 @@ device_cleared ws a d w h =
     let q = device_parts ws a d w h in
     ap (found (cleared ws d)) (position_cleared a ws 0 d ∙ q.0) ∙ ap (with_window d) (slice_cleared ws d w q.1)
 
-module _ (s : Setup) (call : Call) (handle : ℕ → Conf → After) (given : ℕ → ℕ) (code : List Ir) (p : Progress) (c : Conf) (shows : Shows s call p c) (none : p.pieces ≡ []) (back : c.back ≡ None) (outside : is_bad_window s call.output 384 ≡ false) (sensor : declared_kind s.tree.decls ≡ Some Sensor) (drives : Drives p.devices kind.Sensor s.section.layout) (samples : HaveSamples p.devices) (cost : ℕ) (does : HandlersDo s handle given code cost) where
+module _ (s : Setup) (call : Call) (handle : ℕ → Conf → OperationResult) (given : ℕ → ℕ) (code : List Ir) (p : Progress) (c : Conf) (shows : ShowsCall s call p c) (none : p.pieces ≡ []) (back : c.back ≡ None) (outside : is_bad_window s call.output 384 ≡ false) (sensor : declared_kind s.tree.decls ≡ Some Sensor) (drives : Drives p.devices kind.Sensor s.section.layout) (samples : HaveSamples p.devices) (cost : ℕ) (does : HandlersDo s handle given code cost) where
   abbrev dev : ℕ
   dev = drives.device
 
@@ -106,15 +106,15 @@ module _ (s : Setup) (call : Call) (handle : ℕ → Conf → After) (given : �
   low i (inl k) b lt = omega (arith, k.0, lt)
   low i (inr k) b lt = omega (arith, k, lt)
 
-  event_word : (p : Progress) (c : Conf) (v q : ℕ) → Shows s call p c → v < 65536
-      → Shows s call p (with_priv c (put_word c.priv 2 v) q [])
+  event_word : (p : Progress) (c : Conf) (v q : ℕ) → ShowsCall s call p c → v < 65536
+      → ShowsCall s call p (with_priv c (put_word c.priv 2 v) q [])
   event_word p c v q h lt = shows_priv s call p c (put_word c.priv 2 v) q [] h (length-put_word c.priv 2 v) (AllBytes-put_word c.priv 2 v lt h.bytes) (λ i kept. get-put_other c.priv 2 v i refl (low i kept 2 (omega arith)) (low i kept 3 (omega arith)))
 
-  senses : (place : ℕ) → do_op s handle ir.Sense (at c place []) ≡ sensed (at c place []) dev win kind.Sensor
+  senses : (place : ℕ) → do_op s handle ir.Sense (at c place []) ≡ sensor_read (at c place []) dev win kind.Sensor
   senses place =
       ap (λ (x : List Window). sense (at c place []) (own_window s x)) shows.devices
       ∙ ap (sense (at c place [])) drives.found
-      ∙ ap (sensed (at c place []) dev win) drives.kind
+      ∙ ap (sensor_read (at c place []) dev win) drives.kind
 
   still : HasDevices (cleared p.devices dev) (declared_kind s.tree.decls) s.section.layout
   still = subst (λ (x : Option DeviceKind). HasDevices (cleared p.devices dev) x s.section.layout) (sym sensor)
@@ -134,7 +134,7 @@ module _ (s : Setup) (call : Call) (handle : ℕ → Conf → After) (given : �
       (by_fresh win.fresh refl (senses place))
     where
       by_fresh : (f : Bool) → win.fresh ≡ f
-          → do_op s handle ir.Sense (at c place []) ≡ sensed (at c place []) dev win kind.Sensor
+          → do_op s handle ir.Sense (at c place []) ≡ sensor_read (at c place []) dev win kind.Sensor
           → Invokes s call handle given code (sample_of s call (Some (dev, win)) p) k (at c place [])
       by_fresh false f d =
           let r = Returns 8 p in
@@ -142,7 +142,7 @@ module _ (s : Setup) (call : Call) (handle : ℕ → Conf → After) (given : �
           let size = shows.size in
           let shows1 = event_word p c 0 (place + 2) shows (omega arith) in
           let e : word c1.priv 2 ≡ 0 = word-put_same c.priv 2 0 refl (omega (arith, size)) in
-          subst (λ (b : Bool). Invokes s call handle given code (if b then finished (handled s call (event.Sample win.value) (sampled (dev, win) p)) else Returns 8 p) k (at c place [])) (sym f)
+          subst (λ (b : Bool). Invokes s call handle given code (if b then finished (handled s call (event.Sample win.value) (sample_read (dev, win) p)) else Returns 8 p) k (at c place [])) (sym f)
           (goes_on s call handle given code r ir.Sense (at c place []) (at c (place + 1) (0 ∷ [])) k (cost + 290) a.0
           (d ∙ ap (λ (b : Bool). if b then pushed (record (at c place []) { devices = cleared c.devices dev; marks = c.marks ++ mark.Sampled dev win.value ∷ [] }) (0x8000 + win.value) else pushed (at c place []) 0) f) refl (omega (arith, le))
           (goes_on s call handle given code r (ir.Store 2) (at c (place + 1) (0 ∷ [])) (at c1 (place + 1 + 1) []) (cost + 290) (cost + 280) a.1.0 refl refl (omega arith)
@@ -151,11 +151,11 @@ module _ (s : Setup) (call : Call) (handle : ℕ → Conf → After) (given : �
           (at_front code (place + 2) (refuse_if (place + 2) is_stale_code 8) (sampled_code s.tree) (subst (λ (x : ℕ). At code x (refuse_if (place + 2) is_stale_code 8 ++ sampled_code s.tree)) (omega arith) a.1.1)) refl (ap (λ (x : ℕ). truth (x == 0)) e) shows1 none (omega arith) (omega arith) (λ x. absurd (true≢false x))))))
       by_fresh true f d =
           let v = win.value in
-          let p1 = sampled (dev, win) p in
+          let p1 = sample_read (dev, win) p in
           let r = finished (handled s call (event.Sample v) p1) in
           let m = mark.Sampled dev v in
           let c0 = record c { devices = cleared c.devices dev; marks = c.marks ++ m ∷ [] } in
-          let shows0 : Shows s call p1 c0 = record { size = shows.size; bytes = shows.bytes; state = shows.state; mem = shows.mem; devices = ap (λ (x : List Window). cleared x dev) shows.devices; marks = ap (λ (x : List Mark). x ++ m ∷ []) shows.marks; entry = shows.entry; input = shows.input; output = shows.output; back = shows.back } in
+          let shows0 : ShowsCall s call p1 c0 = record { size = shows.size; bytes = shows.bytes; state = shows.state; mem = shows.mem; devices = ap (λ (x : List Window). cleared x dev) shows.devices; marks = ap (λ (x : List Mark). x ++ m ∷ []) shows.marks; entry = shows.entry; input = shows.input; output = shows.output; back = shows.back } in
           let c1 = with_priv c0 (put_word c0.priv 2 (0x8000 + v)) (place + 2) [] in
           let size = shows.size in
           let shows1 = event_word p1 c0 (0x8000 + v) (place + 2) shows0 (omega (arith, small)) in
@@ -167,7 +167,7 @@ module _ (s : Setup) (call : Call) (handle : ℕ → Conf → After) (given : �
           let a2 : At code (place + 2) (refuse_if (place + 2) is_stale_code 8 ++ all) = subst (λ (x : ℕ). At code x (refuse_if (place + 2) is_stale_code 8 ++ all)) (omega arith) a.1.1 in
           let a3 = at_back code (place + 2) (place + 9) (refuse_if (place + 2) is_stale_code 8) all (omega arith) a2 in
           let ready : Ready s call (event.Sample v) p1 c2 = record { shows = shows2; value = word-put_same c1.priv 2 v refl (omega (arith, size1)); pieces = none; stack = refl; back = back; window = outside; devices = still } in
-          subst (λ (b : Bool). Invokes s call handle given code (if b then finished (handled s call (event.Sample win.value) (sampled (dev, win) p)) else Returns 8 p) k (at c place [])) (sym f)
+          subst (λ (b : Bool). Invokes s call handle given code (if b then finished (handled s call (event.Sample win.value) (sample_read (dev, win) p)) else Returns 8 p) k (at c place [])) (sym f)
           (goes_on s call handle given code r ir.Sense (at c place []) (at c0 (place + 1) ((0x8000 + v) ∷ [])) k (cost + 290) a.0
           (d ∙ ap (λ (b : Bool). if b then pushed (record (at c place []) { devices = cleared c.devices dev; marks = c.marks ++ mark.Sampled dev win.value ∷ [] }) (0x8000 + win.value) else pushed (at c place []) 0) f) refl (omega (arith, le))
           (goes_on s call handle given code r (ir.Store 2) (at c0 (place + 1) ((0x8000 + v) ∷ [])) (at c1 (place + 1 + 1) []) (cost + 290) (cost + 280) a.1.0 refl refl (omega arith)

@@ -6,11 +6,11 @@ use Rattle.sx_machine.specs.Memory.{word, put_word}
 use Rattle.sx_invoke.specs.Setup.{Setup, Call}
 use Rattle.sx_invoke.specs.Progress.{Progress, Invoked, Returns}
 use Rattle.sx_ir.specs.Conf.{Conf}
-use Rattle.sx_ir.specs.Meaning.{After}
+use Rattle.sx_ir.specs.Meaning.{OperationResult}
 use Rattle.sx_ir.specs.declared.ir.Ir.{Ir}
 use Rattle.sx_ir.specs.declared.ir.Ir.TheVariants as ir
 use Rattle.sx_stub.specs.Stub.{search_code, found_code, input_found, key_found, key_place, returns, cases, find_any}
-use Rattle.sx_stub.specs.Invokes.{Shows, Invokes}
+use Rattle.sx_stub.specs.Invokes.{ShowsCall, Invokes}
 use Rattle.sx_stub.proofs.Mem.{word-put_same, get-put_other, length-put_word, AllBytes-put_word}
 use Rattle.sx_stub.proofs.Straight.{At, at, at_front, at_back}
 use Rattle.sx_stub.proofs.Slots.{IsKept, with_priv, shows_priv}
@@ -31,8 +31,8 @@ some_none x h = cc
 
 -- a word kept for the stub itself
 pub shows_kept_word : (s : Setup) (call : Call) (p : Progress) (c : Conf) (a v q : ℕ) (stack : List ℕ)
-    → Shows s call p c → a % 2 ≡ 0 → 14 ≤ a → a + 1 < 512 → v < 65536
-    → Shows s call p (with_priv c (put_word c.priv a v) q stack)
+    → ShowsCall s call p c → a % 2 ≡ 0 → 14 ≤ a → a + 1 < 512 → v < 65536
+    → ShowsCall s call p (with_priv c (put_word c.priv a v) q stack)
 shows_kept_word s call p c a v q stack h e lo hi small =
     shows_priv s call p c (put_word c.priv a v) q stack h (length-put_word c.priv a v) (AllBytes-put_word c.priv a v small h.bytes) (λ i kept. get-put_other c.priv a v i e (ne i kept 0 a (omega arith) (omega arith)) (ne i kept 1 (a + 1) refl (omega arith)))
   where
@@ -66,11 +66,11 @@ key_at tree ends code q a =
     let found = q + 7 * length ends + 3 in
     at_back code (found + 3) (key_place tree ends found) (input_found tree ends (found + 3)) (key_found ends (key_place tree ends found)) refl (both_at tree ends code q a)
 
-module _ (s : Setup) (call : Call) (handle : ℕ → Conf → After) (given : ℕ → ℕ) (code : List Ir) (p : Progress) (none : p.pieces ≡ []) (few : length s.ends ≤ 16) (links : FewLinks s.ends) where
+module _ (s : Setup) (call : Call) (handle : ℕ → Conf → OperationResult) (given : ℕ → ℕ) (code : List Ir) (p : Progress) (none : p.pieces ≡ []) (few : length s.ends ≤ 16) (links : FewLinks s.ends) where
   -- the end that is looked for is found, and its index kept; or it is refused
-  pub search_does : (r : Invoked) (v : ℕ) (c : Conf) → Shows s call p c → word c.priv 72 ≡ v → v < 65536 → (q n m : ℕ)
+  pub search_does : (r : Invoked) (v : ℕ) (c : Conf) → ShowsCall s call p c → word c.priv 72 ≡ v → v < 65536 → (q n m : ℕ)
       → At code q (search_code s.tree s.ends q) → 700 + m ≤ n
-      → ((j : ℕ) (e : End) → found_by (case_test (find_any (q + 7 * length s.ends + 3)) v) 0 s.ends ≡ Some (j, e) → j < length s.ends → (c3 : Conf) → Shows s call p c3 → c3.back ≡ c.back → word c3.priv 74 ≡ 12 * j
+      → ((j : ℕ) (e : End) → found_by (case_test (find_any (q + 7 * length s.ends + 3)) v) 0 s.ends ≡ Some (j, e) → j < length s.ends → (c3 : Conf) → ShowsCall s call p c3 → c3.back ≡ c.back → word c3.priv 74 ≡ 12 * j
       → ((packet : List ℕ) → 16 + length packet ≤ 74 → Holds c.priv packet → Holds c3.priv packet)
       → Invokes s call handle given code r m (at c3 (q + 7 * length s.ends + 3 + 1) []))
       → (found_by (case_test (find_any (q + 7 * length s.ends + 3)) v) 0 s.ends ≡ None → r ≡ Returns 5 p)

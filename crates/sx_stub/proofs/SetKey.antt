@@ -19,14 +19,14 @@ use Rattle.sx_invoke.specs.Marks.{Mark}
 use Rattle.sx_invoke.specs.ModuleState.{ModuleState, EndState, end_of, end_state, with_end, state_of, epoch_of, link_of}
 use Rattle.sx_invoke.specs.Windows.{is_bad_window}
 use Rattle.sx_invoke.specs.Progress.{Progress, Invoked, Returns}
-use Rattle.sx_invoke.specs.Entries.{set_key, set_key_at, key_opened, keyed, is_keyed, field_in, second_in, header_in, end_on, side_of, with_received}
+use Rattle.sx_invoke.specs.Entries.{set_key, set_key_at, key_opened, end_keyed, is_keyed, field_in, second_in, header_in, end_on, side_of, with_received}
 use Rattle.sx_ir.specs.Conf.{Conf}
-use Rattle.sx_ir.specs.Meaning.{After, do_op, element, opened, unseal, pushed}
+use Rattle.sx_ir.specs.Meaning.{OperationResult, do_op, element, opened, unseal, pushed}
 use Rattle.sx_ir.specs.Meaning as meaning
 use Rattle.sx_ir.specs.declared.ir.Ir.{Ir}
 use Rattle.sx_ir.specs.declared.ir.Ir.TheVariants as ir
 use Rattle.sx_stub.specs.Stub.{set_key_code, key_found, key_place, search_code, refuse_if, cases, find_any, open_any, open_end, is_wrong_kind, is_no_side, wanted_end, is_keyed_code, is_opened_not, is_to}
-use Rattle.sx_stub.specs.Invokes.{Shows, Invokes}
+use Rattle.sx_stub.specs.Invokes.{ShowsCall, Invokes}
 use Rattle.sx_stub.proofs.Mem.{AllBytes, word_lt, word_same, word-put_same, word-put_other, get-put_other, length-put_word, length-put_bytes, AllBytes-put_word, AllBytes-put_bytes, get-put_bytes_other, bytes_from_put, AllBytes-bytes_from}
 use Rattle.sx_stub.proofs.Straight.{At, at, at_front, at_back, pure}
 use Rattle.sx_stub.proofs.Slots.{Same, IsKept, with_priv, shows_priv, end_state_is, end_in_slot, state_put}
@@ -61,7 +61,7 @@ keyed_word priv ends j field h few lt index is small s =
     ∙ sym (ap (λ (x : EndState). Some (truth (is_keyed x field) ∷ [])) (end_state_is priv j opened at_end (word priv (end_at j + 2)) (bytes_from priv (end_at j + 8) 16) refl refl refl refl))
 
 -- the slot with its new key
-pub keyed_end : (priv key : List ℕ) (k field : ℕ) → AllBytes key → length key ≡ 16 → end_at k + 24 ≤ length priv → end_state (meaning.keyed priv k field key) k ≡ record { is_open = true; field = field; number = 0; key = key }
+pub keyed_end : (priv key : List ℕ) (k field : ℕ) → AllBytes key → length key ≡ 16 → end_at k + 24 ≤ length priv → end_state (meaning.slot_keyed priv k field key) k ≡ record { is_open = true; field = field; number = 0; key = key }
 keyed_end priv key k field h len le =
     let p1 = put_word priv (end_at k) field in
     let p2 = put_word p1 (end_at k + 2) 0 in
@@ -81,7 +81,7 @@ keyed_end priv key k field h len le =
 
 -- nothing but the slot changes
 pub keyed_other : (priv key : List ℕ) (k field i : ℕ) → length key ≡ 16 → (i < end_at k) ⊎ (end_at k + 24 ≤ i)
-    → Same priv (meaning.keyed priv k field key) i
+    → Same priv (meaning.slot_keyed priv k field key) i
 keyed_other priv key k field i len o =
     let p1 = put_word priv (end_at k) field in
     let p2 = put_word p1 (end_at k + 2) 0 in
@@ -104,9 +104,9 @@ with_slot p k new = record p { state = record p.state { ends = with_end p.state.
 
 -- a change of one slot alone
 pub shows_slot : (s : Setup) (call : Call) (p : Progress) (c : Conf) (priv : List ℕ) (q : ℕ) (stack : List ℕ) (k : ℕ) (new : EndState)
-    → Shows s call p c → k < length s.ends → length priv ≡ length c.priv → AllBytes priv
+    → ShowsCall s call p c → k < length s.ends → length priv ≡ length c.priv → AllBytes priv
     → ((i : ℕ) → (i < end_at k) ⊎ (end_at k + 24 ≤ i) → Same c.priv priv i) → end_state priv k ≡ new
-    → Shows s call (with_slot p k new) (with_priv c priv q stack)
+    → ShowsCall s call (with_slot p k new) (with_priv c priv q stack)
 shows_slot s call p c priv q stack k new h lt len bytes f e = record {
   size = len ∙ h.size;
   bytes = bytes;
@@ -125,18 +125,18 @@ shows_slot s call p c priv q stack k new h lt len bytes f e = record {
     kept : (a : ℕ) → a % 2 ≡ 0 → a + 1 < 512 → word priv a ≡ word c.priv a
     kept a e lt = word_same c.priv priv a a e e (f a (inl (omega (arith, lt)))) (f (a + 1) (inl (omega (arith, lt))))
 
-module _ (s : Setup) (call : Call) (handle : ℕ → Conf → After) (given : ℕ → ℕ) (code : List Ir) (p : Progress) (none : p.pieces ≡ []) (tag : IsTag s.mac) (few : length s.ends ≤ 16) (links : FewLinks s.ends) where
+module _ (s : Setup) (call : Call) (handle : ℕ → Conf → OperationResult) (given : ℕ → ℕ) (code : List Ir) (p : Progress) (none : p.pieces ≡ []) (tag : IsTag s.mac) (few : length s.ends ≤ 16) (links : FewLinks s.ends) where
   -- the end is opened
   opens : (packet key : List ℕ) (j place : ℕ) (c : Conf) → length packet ≡ 38 → AllBytes packet → AllBytes key
       → length key ≡ 16 → j < length s.ends
-      → Shows s call (progress_mark p (mark.Unwrapped (header_in packet) key true)) c → word c.priv 18 ≡ field_in packet
+      → ShowsCall s call (progress_mark p (mark.Unwrapped (header_in packet) key true)) c → word c.priv 18 ≡ field_in packet
       → bytes_from c.priv 56 16 ≡ key → 512 + 24 * length s.ends ≤ length c.priv
       → At code place (open_end place j (record { link = 0; side = From; port = 0 }))
-      → Invokes s call handle given code (Returns 1 (keyed j packet key p)) 60 (at c place [])
+      → Invokes s call handle given code (Returns 1 (end_keyed j packet key p)) 60 (at c place [])
   opens packet key j place c e h isb len lt shows field read room a =
       let m = mark.Unwrapped (header_in packet) key true in
-      let r = Returns 1 (keyed j packet key p) in
-      let priv = meaning.keyed c.priv j (field_in packet) key in
+      let r = Returns 1 (end_keyed j packet key p) in
+      let priv = meaning.slot_keyed c.priv j (field_in packet) key in
       let new : EndState = record { is_open = true; field = field_in packet; number = 0; key = key } in
       let l1 = length-put_word c.priv (end_at j) (field_in packet) in
       let l2 = length-put_word (put_word c.priv (end_at j) (field_in packet)) (end_at j + 2) 0 in
@@ -147,21 +147,21 @@ module _ (s : Setup) (call : Call) (handle : ℕ → Conf → After) (given : �
       (AllBytes-put_word (put_word (put_word c.priv (end_at j) (field_in packet)) (end_at j + 2) 0) (end_at j + 4) 1 (omega arith)
       (AllBytes-put_word (put_word c.priv (end_at j) (field_in packet)) (end_at j + 2) 0 (omega arith)
       (AllBytes-put_word c.priv (end_at j) (field_in packet) (word_lt packet 2 h) shows.bytes))) in
-      let shows5 : Shows s call (keyed j packet key p) (with_priv c priv (place + 1) []) =
+      let shows5 : ShowsCall s call (end_keyed j packet key p) (with_priv c priv (place + 1) []) =
       shows_slot s call (progress_mark p m) c priv (place + 1) [] j new shows lt (l4 ∙ l3 ∙ l2 ∙ l1) bytes5 (λ i o. keyed_other c.priv key j (field_in packet) i len o) (keyed_end c.priv key j (field_in packet) isb len (omega (arith, lt, room))) in
       let does : do_op s handle (ir.SetEnd j) (at c place []) ≡ Goes (with_priv c priv (place + 1) []) =
-      ap (λ (x : ℕ). Goes (with_priv c (meaning.keyed c.priv j x (bytes_from c.priv 56 16)) (place + 1) [])) field
-      ∙ ap (λ (x : List ℕ). Goes (with_priv c (meaning.keyed c.priv j (field_in packet) x) (place + 1) [])) read in
+      ap (λ (x : ℕ). Goes (with_priv c (meaning.slot_keyed c.priv j x (bytes_from c.priv 56 16)) (place + 1) [])) field
+      ∙ ap (λ (x : List ℕ). Goes (with_priv c (meaning.slot_keyed c.priv j (field_in packet) x) (place + 1) [])) read in
       goes_on s call handle given code r (ir.SetEnd j) (at c place []) (with_priv c priv (place + 1) []) 60 16 a.0 does refl (omega arith)
       (runs_on s call handle given code r (ir.Push 1 ∷ ir.Push 0 ∷ []) (with_priv c priv (place + 1) []) (place + 1) (place + 1 + 1 + 1) [] (0 ∷ 1 ∷ []) 16 0 (a.1.0, (a.1.1.0, tt)) refl (omega arith) (omega arith)
-      (returned s call handle given code 1 0 (keyed j packet key p) (with_priv c priv (place + 1) []) (place + 1 + 1 + 1) 0 a.1.1.1.0 shows5 (ap length (sym none))))
+      (returned s call handle given code 1 0 (end_keyed j packet key p) (with_priv c priv (place + 1) []) (place + 1 + 1 + 1) 0 a.1.1.1.0 shows5 (ap length (sym none))))
 
-  room_is : (c : Conf) → Shows s call p c → 512 + 24 * length s.ends ≤ length c.priv
+  room_is : (c : Conf) → ShowsCall s call p c → 512 + 24 * length s.ends ≤ length c.priv
   room_is c h = omega (arith, h.size)
 
   -- from the end that was found on, its index kept
   found_does : (packet : List ℕ) (j : ℕ) (e : End) (t : ℕ → End → Bool) (c3 : Conf) (q : ℕ) → length packet ≡ 38
-      → AllBytes packet → Shows s call p c3 → Holds c3.priv packet → word c3.priv 74 ≡ 12 * j
+      → AllBytes packet → ShowsCall s call p c3 → Holds c3.priv packet → word c3.priv 74 ≡ 12 * j
       → found_by t 0 s.ends ≡ Some (j, e) → At code q (key_found s.ends q)
       → Invokes s call handle given code (set_key_at s packet (Some (j, e)) p) 1100 (at c3 q [])
   found_does packet j e t c3 q len h shows3 holds3 index3 found a =
@@ -183,7 +183,7 @@ module _ (s : Setup) (call : Call) (handle : ℕ → Conf → After) (given : �
       (λ x. unseals packet j e t c3 q len h shows3 holds3 found lt index3 a1)
     where
       unseals : (packet : List ℕ) (j : ℕ) (e : End) (t : ℕ → End → Bool) (c3 : Conf) (q : ℕ) → length packet ≡ 38
-          → AllBytes packet → Shows s call p c3 → Holds c3.priv packet → found_by t 0 s.ends ≡ Some (j, e)
+          → AllBytes packet → ShowsCall s call p c3 → Holds c3.priv packet → found_by t 0 s.ends ≡ Some (j, e)
           → j < length s.ends → word c3.priv 74 ≡ 12 * j
           → At code (q + 23) (ir.Open 0 16 6 56 16 ∷ refuse_if (q + 24) is_opened_not 7 ++ cases open_any (q + 29) 0 s.ends)
           → Invokes s call handle given code (key_opened j packet (unwrapped s.mac s.section.key (header_in packet) (take 16 (drop 6 packet)) (drop 22 packet)) p) 900 (at c3 (q + 23) [])
@@ -215,13 +215,13 @@ module _ (s : Setup) (call : Call) (handle : ℕ → Conf → After) (given : �
               let lk = length-take 16 body in
               let isk : AllBytes key = All-take (λ (b : ℕ). b < 256) 16 body g.1 in
               let m = mark.Unwrapped (header_in packet) key true in
-              let r = Returns 1 (keyed j packet key p) in
+              let r = Returns 1 (end_keyed j packet key p) in
               let p1 = progress_mark p m in
               let room = room_is c3 shows3 in
               let priv4 = put_bytes c3.priv 56 key in
               let c4 = with_mark (with_priv c3 priv4 (q + 23 + 1) (1 ∷ [])) m in
               let lp = length-put_bytes c3.priv 56 key in
-              let shows4 : Shows s call p1 c4 = shows_mark s call p (with_priv c3 priv4 (q + 23 + 1) (1 ∷ [])) m
+              let shows4 : ShowsCall s call p1 c4 = shows_mark s call p (with_priv c3 priv4 (q + 23 + 1) (1 ∷ [])) m
               (shows_priv s call p c3 priv4 (q + 23 + 1) (1 ∷ []) shows3 lp (AllBytes-put_bytes c3.priv 56 key shows3.bytes) (λ i kept. get-put_bytes_other c3.priv 56 key i (apart i kept (length key) (omega (arith, lk, g.0))))) in
               let read : bytes_from priv4 56 16 ≡ key = ap (bytes_from priv4 56) (omega (arith, lk, g.0)) ∙ bytes_from_put c3.priv 56 key isk (omega (arith, lk, room)) in
               let index4 : word priv4 74 ≡ 12 * j = word_same c3.priv priv4 74 74 refl refl (get-put_bytes_other c3.priv 56 key 74 (inr (omega (arith, lk)))) (get-put_bytes_other c3.priv 56 key 75 (inr (omega (arith, lk)))) ∙ index3 in
@@ -260,7 +260,7 @@ if_same : (b : Bool) (x y : Invoked) → (b ≡ true → y ≡ x) → (if b then
 if_same true x y f = sym (f refl)
 if_same false x y f = refl
 
-module _ (s : Setup) (call : Call) (handle : ℕ → Conf → After) (given : ℕ → ℕ) (code : List Ir) (p : Progress) (c : Conf) (shows : Shows s call p c) (none : p.pieces ≡ []) (bytes : AllBytes p.mem) (window : is_bad_window s call.input 40 ≡ false) (tag : IsTag s.mac) (few : length s.ends ≤ 16) (links : FewLinks s.ends) (entry : call.entry ≡ 0) (search : ℕ) (at_search : At code search (search_code s.tree s.ends search)) where
+module _ (s : Setup) (call : Call) (handle : ℕ → Conf → OperationResult) (given : ℕ → ℕ) (code : List Ir) (p : Progress) (c : Conf) (shows : ShowsCall s call p c) (none : p.pieces ≡ []) (bytes : AllBytes p.mem) (window : is_bad_window s call.input 40 ≡ false) (tag : IsTag s.mac) (few : length s.ends ≤ 16) (links : FewLinks s.ends) (entry : call.entry ≡ 0) (search : ℕ) (at_search : At code search (search_code s.tree s.ends search)) where
   room512 : 512 ≤ length c.priv
   room512 = omega (arith, shows.size)
 
@@ -284,7 +284,7 @@ module _ (s : Setup) (call : Call) (handle : ℕ → Conf → After) (given : �
       (λ x. wanted (some_side second x) c1 shows1 holds1 f18 s20 a1))
     where
       wanted : (side_of (second_in packet) ≡ Some (side_at (second_in packet))) × (second_in packet ≡ truth (is_to (side_at (second_in packet))))
-          → (c1 : Conf) → Shows s call p c1 → Holds c1.priv packet → word c1.priv 18 ≡ field_in packet
+          → (c1 : Conf) → ShowsCall s call p c1 → Holds c1.priv packet → word c1.priv 18 ≡ field_in packet
           → word c1.priv 20 ≡ second_in packet → At code (place + 15) (wanted_end ++ ir.Store 72 ∷ ir.Jump search ∷ [])
           → Invokes s call handle given code (set_key s packet p) 2240 (at c1 (place + 15) [])
       wanted side c1 shows1 holds1 f18 s20 a1 =

@@ -9,7 +9,7 @@ use Rattle.sx_invoke.specs.Setup.{Setup, Call}
 use Rattle.sx_invoke.specs.ModuleState.{ModuleState, EndState, end_state, end_states, end_of, with_end, cells_from, state_of}
 use Rattle.sx_invoke.specs.Progress.{Progress}
 use Rattle.sx_ir.specs.Conf.{Conf}
-use Rattle.sx_stub.specs.Invokes.{Shows}
+use Rattle.sx_stub.specs.Invokes.{ShowsCall}
 use Rattle.sx_stub.proofs.Mem.{word_same, bytes_from_same, AllBytes}
 use Rattle.sx_stub.proofs.Straight.{at}
 
@@ -110,7 +110,7 @@ end_of_states m (e ∷ es) j zero lt = ap (end_state m) (omega arith)
 end_of_states m (e ∷ es) j (suc k) lt = end_of_states m es (j + 1) k (omega (arith, lt)) ∙ ap (end_state m) (omega arith)
 
 -- the k-th end's state stands in its slot
-pub end_in_slot : (s : Setup) (call : Call) (p : Progress) (c : Conf) (k : ℕ) → Shows s call p c → k < length s.ends
+pub end_in_slot : (s : Setup) (call : Call) (p : Progress) (c : Conf) (k : ℕ) → ShowsCall s call p c → k < length s.ends
     → end_of p.state.ends k ≡ end_state c.priv k
 unfolding state_of
 end_in_slot s call p c k h lt =
@@ -118,8 +118,8 @@ end_in_slot s call p c k h lt =
 
 -- Configurations that show the same.
 
-pub shows_at : (s : Setup) (call : Call) (p : Progress) (c : Conf) (q : ℕ) (stack : List ℕ) → Shows s call p c
-    → Shows s call p (at c q stack)
+pub shows_at : (s : Setup) (call : Call) (p : Progress) (c : Conf) (q : ℕ) (stack : List ℕ) → ShowsCall s call p c
+    → ShowsCall s call p (at c q stack)
 shows_at s call p c q stack h = record { size = h.size; bytes = h.bytes; state = h.state; mem = h.mem; devices = h.devices; marks = h.marks; entry = h.entry; input = h.input; output = h.output; back = h.back }
 
 abbrev pub with_priv : Conf → List ℕ → ℕ → List ℕ → Conf
@@ -130,8 +130,8 @@ abbrev pub IsKept : ℕ → Type 0
 IsKept i = ((6 ≤ i) × (i < 14)) ⊎ (512 ≤ i)
 
 pub shows_priv : (s : Setup) (call : Call) (p : Progress) (c : Conf) (priv : List ℕ) (q : ℕ) (stack : List ℕ)
-    → Shows s call p c → length priv ≡ length c.priv → AllBytes priv → ((i : ℕ) → IsKept i → Same c.priv priv i)
-    → Shows s call p (with_priv c priv q stack)
+    → ShowsCall s call p c → length priv ≡ length c.priv → AllBytes priv → ((i : ℕ) → IsKept i → Same c.priv priv i)
+    → ShowsCall s call p (with_priv c priv q stack)
 shows_priv s call p c priv q stack h len bytes f = record {
   size = len ∙ h.size;
   bytes = bytes;

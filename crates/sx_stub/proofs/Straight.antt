@@ -13,7 +13,7 @@ use Rattle.sx_invoke.specs.Setup.{Setup}
 use Rattle.sx_invoke.specs.Windows.{is_bad_window}
 use Rattle.sx_ir.specs.Conf.{Conf, Violates}
 use Rattle.sx_ir.specs.Counts.{count_of}
-use Rattle.sx_ir.specs.Meaning.{After, do_op, do_at, op_step, op_count, count_at, handler_count, Reaches, element, is_saved, next, pushed, when, on_top, saved, operated}
+use Rattle.sx_ir.specs.Meaning.{OperationResult, do_op, do_at, op_step, op_count, count_at, handler_count, CodeReaches, element, is_saved, next, pushed, when, on_top, saved, operated}
 use Rattle.sx_ir.specs.declared.ir.IrOp.{IrOp}
 use Rattle.sx_ir.specs.declared.ir.IrOp.TheVariants as op
 use Rattle.sx_ir.specs.declared.ir.Ir.{Ir}
@@ -108,7 +108,7 @@ some_same x y h = cc
 none_some : (x : List ℕ) → ◌≡◌ {A = Option (List ℕ)} None (Some x) → ⊥
 none_some x h = cc
 
-module _ (s : Setup) (handle : ℕ → Conf → After) where
+module _ (s : Setup) (handle : ℕ → Conf → OperationResult) where
   -- the operation does that
 
   room_does : (c : Conf) (v : ℕ) (st : List ℕ) → with_room v c.stack ≡ Some st → pushed c v ≡ Goes (next c st)
@@ -179,9 +179,9 @@ module _ (s : Setup) (handle : ℕ → Conf → After) where
   pure_count given (ir.Handler x) priv stack st h = absurd (none_some st h)
   pure_count given i priv stack st h = refl
 
-module _ (s : Setup) (handle : ℕ → Conf → After) (given : ℕ → ℕ) (code : List Ir) (B : Violation → List Mark → Type 0) (Q : Conf → Type 0) where
+module _ (s : Setup) (handle : ℕ → Conf → OperationResult) (given : ℕ → ℕ) (code : List Ir) (B : Violation → List Mark → Type 0) (Q : Conf → Type 0) where
   abbrev pub Runs : ℕ → Conf → Type 0
-  Runs n c = Reaches s handle given code B Q n c
+  Runs n c = CodeReaches s handle given code B Q n c
 
   pub wider : (n m : ℕ) (c : Conf) → m ≤ n → Runs m c → Runs n c
   wider n m c le (Here x) = Here x

@@ -1,5 +1,6 @@
 -- What it means that stack code does an invocation.
-use Rattle.std.specs.Prelude.{◌≡◌, ℕ, ◌+◌, ◌<◌, ◌≤◌, false, List, [], length, All, slice_get, Some, None}
+use Rattle.std.specs.Prelude.{◌≡◌, ℕ, ◌+◌, ◌<◌, ◌≤◌, false, List, [], length, All, slice_get, Some}
+use Rattle.std.specs.Prelude.{None}
 use Rattle.sx_lang.specs.Sizes.{module_data_size}
 use Rattle.sx_mean.specs.declared.events.SourceEvent.{SourceEvent}
 use Rattle.sx_mean.specs.Application.{declared_kind}
@@ -21,12 +22,12 @@ use Rattle.sx_invoke.specs.Devices.{HasDevices}
 use Rattle.sx_ir.specs.declared.ir.Ir.{Ir}
 use Rattle.sx_ir.specs.declared.ir.Ir.TheVariants as ir
 use Rattle.sx_ir.specs.Conf.{Conf}
-use Rattle.sx_ir.specs.Meaning.{After, saved, Reaches, Leaving}
-use Rattle.sx_ir.specs.Invoking.{Does}
+use Rattle.sx_ir.specs.Meaning.{OperationResult, saved, CodeReaches, Leaving}
+use Rattle.sx_ir.specs.Invoking.{DoesCourse}
 use Rattle.sx_stub.specs.Stub.{stub_code}
 
 -- the configuration stands for this progress of this call, but for the count of pieces
-pub record Shows (s : Setup) (call : Call) (p : Progress) (c : Conf) : Type 0 where
+pub record ShowsCall (s : Setup) (call : Call) (p : Progress) (c : Conf) : Type 0 where
   pub size : length c.priv ≡ module_data_size s.tree (length s.ends)
   pub bytes : All (λ b. b < 256) c.priv
   pub state : state_of s.tree s.ends c.priv ≡ p.state
@@ -39,8 +40,8 @@ pub record Shows (s : Setup) (call : Call) (p : Progress) (c : Conf) : Type 0 wh
   pub back : saved c 15 ≡ call.back
 
 -- A call begins: nothing of it is done yet, and this is true of the module and the node.
-pub record Begun (s : Setup) (call : Call) (p : Progress) (c : Conf) : Type 0 where
-  pub shows : Shows s call p c
+pub record CallBegun (s : Setup) (call : Call) (p : Progress) (c : Conf) : Type 0 where
+  pub shows : ShowsCall s call p c
   pub pieces : p.pieces ≡ []
   pub back : c.back ≡ None
   pub mem : All (λ b. b < 256) p.mem
@@ -63,20 +64,21 @@ ReturnsSo (Violates v p) Q = ⊥
 -- it comes to `Leave`, with the invocation's status and number of pieces, and shows its progress
 abbrev pub LeavesSo : Setup → Call → List Ir → Invoked → Conf → Type 0
 LeavesSo s call code result c =
-    ReturnsSo result (λ status p. Shows s call p c × Leaving code status (length p.pieces) c)
+    ReturnsSo result (λ status p. ShowsCall s call p c × Leaving code status (length p.pieces) c)
 
 -- The code does this invocation within this many instructions: where the invocation returns, the
 -- code comes to `Leave` so; else the code ends with its violation, after its marks.
-abbrev pub Invokes : Setup → Call → (ℕ → Conf → After) → (ℕ → ℕ) → List Ir
+abbrev pub Invokes : Setup → Call → (ℕ → Conf → OperationResult) → (ℕ → ℕ) → List Ir
     → Invoked → ℕ → Conf → Type 0
 Invokes s call handle given code result n c =
-    Reaches s handle given code (EndsSo result) (LeavesSo s call code result) n c
+    CodeReaches s handle given code (EndsSo result) (LeavesSo s call code result) n c
 
 -- Where the operation `Handler` may stand: the event's value is in its place, no piece was made,
 -- the stack is empty, the out-window is one that a caller may give, and the module's devices are
 -- there.
-pub record Ready (s : Setup) (call : Call) (e : SourceEvent) (p : Progress) (c : Conf) : Type 0 where
-  pub shows : Shows s call p c
+pub record Ready (s : Setup) (call : Call) (e : SourceEvent) (p : Progress) (c : Conf) : Type
+    0 where
+  pub shows : ShowsCall s call p c
   pub value : word c.priv event_at ≡ value_of e
   pub pieces : p.pieces ≡ []
   pub stack : c.stack ≡ []
@@ -89,15 +91,15 @@ abbrev pub IsBehind : Conf → Conf → Type 0
 IsBehind c t = (t.place ≡ c.place + 1) × (t.stack ≡ []) × (t.back ≡ None)
 
 -- the operation `Handler h` does the handler of the event, and goes on to the next place
-abbrev pub HandlerDoes : Setup → (ℕ → Conf → After) → (ℕ → ℕ) → List Ir
+abbrev pub HandlerDoes : Setup → (ℕ → Conf → OperationResult) → (ℕ → ℕ) → List Ir
     → ℕ → SourceEvent → ℕ → Type 0
 HandlerDoes s handle given code h e n =
     (call : Call) (p : Progress) (c : Conf)
     → slice_get code c.place ≡ Some (ir.Handler h) → Ready s call e p c
-    → Does s call handle given code (handled s call e p) (IsBehind c) n c
+    → DoesCourse s call handle given code (handled s call e p) (IsBehind c) n c
 
 -- each `Handler` does the handler of its event, within this count
-abbrev pub HandlersDo : Setup → (ℕ → Conf → After) → (ℕ → ℕ) → List Ir → ℕ → Type 0
+abbrev pub HandlersDo : Setup → (ℕ → Conf → OperationResult) → (ℕ → ℕ) → List Ir → ℕ → Type 0
 HandlersDo s handle given code n =
     (e : SourceEvent) (h : ℕ) → number_of s.tree e ≡ Some h
     → HandlerDoes s handle given code h e n
@@ -114,8 +116,8 @@ stub_count = 3300
 -- `Handler` does the handler of its event.
 abbrev pub StubInvokes : Type 0
 StubInvokes =
-    (s : Setup) (call : Call) (p : Progress) (handle : ℕ → Conf → After) (given : ℕ → ℕ)
+    (s : Setup) (call : Call) (p : Progress) (handle : ℕ → Conf → OperationResult) (given : ℕ → ℕ)
     (code : List Ir) (c : Conf) (cost : ℕ)
-    → Begun s call p c → c.place ≡ 0 → c.stack ≡ []
+    → CallBegun s call p c → c.place ≡ 0 → c.stack ≡ []
     → StartsWith code (stub_code s.tree s.ends) → HandlersDo s handle given code cost
     → Invokes s call handle given code (invoke s call p) (stub_count + cost) c

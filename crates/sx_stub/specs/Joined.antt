@@ -10,7 +10,7 @@ use Rattle.sx_ir.specs.Conf.{Conf}
 use Rattle.sx_ir.specs.Meaning.{part_from, no_count}
 use Rattle.sx_ir.specs.Invoking.{PartDoes}
 use Rattle.sx_stub.specs.Stub.{stub_code}
-use Rattle.sx_stub.specs.Invokes.{Begun, Invokes, StartsWith, stub_count}
+use Rattle.sx_stub.specs.Invokes.{CallBegun, Invokes, StartsWith, stub_count}
 
 -- the first place of a handler's part
 abbrev pub begins_at : List (ℕ × ℕ) → ℕ → ℕ → Type 0
@@ -27,6 +27,6 @@ abbrev pub JoinedInvokes : Type 0
 JoinedInvokes =
     (s : Setup) (call : Call) (p : Progress) (code : List Ir) (parts : List (ℕ × ℕ)) (c : Conf)
     (cost : ℕ)
-    → Begun s call p c → c.place ≡ 0 → c.stack ≡ []
+    → CallBegun s call p c → c.place ≡ 0 → c.stack ≡ []
     → StartsWith code (stub_code s.tree s.ends) → PartsDo s code parts cost
     → Invokes s call (part_from parts) no_count code (invoke s call p) (stub_count + 16 + cost) c

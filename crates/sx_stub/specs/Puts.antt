@@ -5,7 +5,8 @@ use Rattle.sx_mean.specs.declared.events.End.{End}
 use Rattle.sx_ir.specs.declared.ir.IrOp.TheVariants as op
 use Rattle.sx_ir.specs.declared.ir.Ir.{Ir}
 use Rattle.sx_ir.specs.declared.ir.Ir.TheVariants as ir
-use Rattle.sx_stub.specs.Stub.{Cases, case_of, cases, index_at, refuse_if, take_receiving, wanted_at}
+use Rattle.sx_stub.specs.Stub.{Cases, case_of, cases, index_at, refuse_if, take_receiving}
+use Rattle.sx_stub.specs.Stub.{wanted_at}
 
 -- these operations
 abbrev pub Puts : List Ir → List Ir → List Ir → Type 0
@@ -16,8 +17,8 @@ abbrev pub PutsAt : (ℕ → List Ir) → List Ir → List Ir → Type 0
 PutsAt piece old new = Puts (piece (length old)) old new
 
 -- a return with this status where the test leaves a word other than 0
-abbrev pub Refuses : List Ir → ℕ → List Ir → List Ir → Type 0
-Refuses test status = PutsAt (λ p. refuse_if p test status)
+abbrev pub RefusesWith : List Ir → ℕ → List Ir → List Ir → Type 0
+RefusesWith test status = PutsAt (λ p. refuse_if p test status)
 
 -- the case of the end at this index
 abbrev pub PutsCase : Cases → ℕ → End → List Ir → List Ir → Type 0
@@ -30,7 +31,8 @@ PutsCases cs ends = PutsAt (λ p. cases cs p 0 ends)
 -- a choice: the code goes on after it where the word at an offset is the number, and else at the
 -- place
 abbrev pub choice : ℕ → ℕ → ℕ → ℕ → List Ir
-choice offset number otherwise place = ir.Load offset ∷ ir.Push number ∷ ir.Op op.Sub ∷ ir.JumpZero (place + 5) ∷ ir.Jump otherwise ∷ []
+choice offset number otherwise place = ir.Load offset ∷ ir.Push number ∷ ir.Op op.Sub
+    ∷ ir.JumpZero (place + 5) ∷ ir.Jump otherwise ∷ []
 
 -- what is searched for is kept, and searched for
 abbrev pub searched : ℕ → List Ir

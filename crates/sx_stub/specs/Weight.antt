@@ -23,4 +23,5 @@ FitsWeight ends code = ops_bytes code + once_bytes + routine_bytes ends ≤ 2048
 
 -- the stub's operations fit into the weight
 abbrev pub StubFits : Type 0
-StubFits = (tree : ModuleTree) (ends : List End) → length ends ≤ 16 → FitsWeight ends (stub_ops tree ends)
+StubFits =
+    (tree : ModuleTree) (ends : List End) → length ends ≤ 16 → FitsWeight ends (stub_ops tree ends)

@@ -4,8 +4,12 @@ ghost use Rattle.std.specs.Prelude.{◌≡◌, ◌+◌, ◌<◌, ◌≤◌, ◌+
 ghost use Rattle.sx_lang.specs.View.{module_of};
 ghost use Rattle.sx_mean.specs.declared.events.SourceEvent.TheVariants as event;
 ghost use Rattle.sx_mean.specs.Handlers.{number_of};
-ghost use Rattle.sx_stub.specs.Stub.{case_of, cases, input_code, input_found, is_closed_code, is_last_number, is_other_epoch, is_past_number, is_receiving, refuse_if, take_event, take_receiving, taken_code, wanted_receiving};
-ghost use Rattle.sx_stub.specs.Puts.{Puts, PutsAt, PutsCase, PutsCases, Refuses, behind_cases, searched};
+ghost use Rattle.sx_stub.specs.Stub.{case_of, cases, input_code, input_found, is_closed_code};
+ghost use Rattle.sx_stub.specs.Stub.{is_last_number, is_other_epoch, is_past_number, is_receiving};
+ghost use Rattle.sx_stub.specs.Stub.{refuse_if, take_event, take_receiving, taken_code};
+ghost use Rattle.sx_stub.specs.Stub.{wanted_receiving};
+ghost use Rattle.sx_stub.specs.Puts.{Puts, PutsAt, PutsCase, PutsCases, RefusesWith, behind_cases};
+ghost use Rattle.sx_stub.specs.Puts.{searched};
 
 use crate::handled::{handled_len, input_handler, put_handled};
 use crate::pieces::{
@@ -19,7 +23,8 @@ use sx_mean::events::End;
 use sx_mean::offsets::{EVENT, PACKET, PLAIN, end_key_at, end_number_at};
 
 fn put_wanted_receiving(code: &mut Vec<Ir>, search: u16) -> Result<(), AllocError>
-    ensures { OnOk result (Puts (wanted_receiving ++ searched search) code.old.items code.new.items) }
+    ensures { OnOk result (Puts (wanted_receiving ++ searched search) code.old.items
+        code.new.items) }
 {
     let ops = [
         Ir::Load(FIELD),
@@ -55,7 +60,8 @@ fn is_receiving(e: &End) -> bool
 
 fn put_taken(code: &mut Vec<Ir>, tree: &Module, k: u8, e: &End) -> Result<(), AllocError>
     requires few { length tree.now.handlers.items ≤ 256 }
-    ensures { OnOk result (Puts (taken_code (module_of tree.now) k e.now) code.old.items code.new.items) }
+    ensures { OnOk result (Puts (taken_code (module_of tree.now) k e.now) code.old.items
+        code.new.items) }
 {
     let ops = [
         Ir::Load(SECOND),
@@ -161,7 +167,7 @@ pub fn behind_input_found(tree: &Module, ends: &[End], place: u16) -> u16
 fn put_closed_test(code: &mut Vec<Ir>, ends: u16) -> Result<(), AllocError>
     requires short { length code.old.items < 60000 }
     requires few { ends ≤ 16 }
-    ensures { OnOk result (Refuses (is_closed_code ends) 5 code.old.items code.new.items) }
+    ensures { OnOk result (RefusesWith (is_closed_code ends) 5 code.old.items code.new.items) }
 {
     let test = [
         Ir::Load(INDEX),
@@ -177,7 +183,7 @@ fn put_closed_test(code: &mut Vec<Ir>, ends: u16) -> Result<(), AllocError>
 fn put_epoch_test(code: &mut Vec<Ir>, ends: u16) -> Result<(), AllocError>
     requires short { length code.old.items < 60000 }
     requires few { ends ≤ 16 }
-    ensures { OnOk result (Refuses (is_other_epoch ends) 5 code.old.items code.new.items) }
+    ensures { OnOk result (RefusesWith (is_other_epoch ends) 5 code.old.items code.new.items) }
 {
     let test = [
         Ir::Load(INDEX),
@@ -197,7 +203,7 @@ fn put_epoch_test(code: &mut Vec<Ir>, ends: u16) -> Result<(), AllocError>
 fn put_past_test(code: &mut Vec<Ir>, ends: u16) -> Result<(), AllocError>
     requires short { length code.old.items < 60000 }
     requires few { ends ≤ 16 }
-    ensures { OnOk result (Refuses (is_past_number ends) 6 code.old.items code.new.items) }
+    ensures { OnOk result (RefusesWith (is_past_number ends) 6 code.old.items code.new.items) }
 {
     let test = [
         Ir::Load(SECOND),
@@ -212,7 +218,7 @@ fn put_past_test(code: &mut Vec<Ir>, ends: u16) -> Result<(), AllocError>
 
 fn put_last_test(code: &mut Vec<Ir>) -> Result<(), AllocError>
     requires short { length code.old.items < 60000 }
-    ensures { OnOk result (Refuses is_last_number 6 code.old.items code.new.items) }
+    ensures { OnOk result (RefusesWith is_last_number 6 code.old.items code.new.items) }
 {
     put_refuse(
         code,

@@ -1,7 +1,7 @@
 //! Set-key: the tests, and the opening of an end's slot.
 
 ghost use Rattle.std.specs.Prelude.{◌<◌, ◌≤◌, ◌++◌, OnOk, length};
-ghost use Rattle.sx_stub.specs.Puts.{Puts, PutsAt, PutsCase, PutsCases, Refuses, searched};
+ghost use Rattle.sx_stub.specs.Puts.{Puts, PutsAt, PutsCase, PutsCases, RefusesWith, searched};
 ghost use Rattle.sx_stub.specs.Stub.{is_keyed_code, key_found, open_any, set_key_code, wanted_end};
 
 use crate::pieces::{
@@ -44,7 +44,7 @@ pub fn put_set_key(code: &mut Vec<Ir>, search: u16) -> Result<(), AllocError>
 fn put_keyed_test(code: &mut Vec<Ir>, ends: u16) -> Result<(), AllocError>
     requires short { length code.old.items < 60000 }
     requires few { ends ≤ 16 }
-    ensures { OnOk result (Refuses (is_keyed_code ends) 5 code.old.items code.new.items) }
+    ensures { OnOk result (RefusesWith (is_keyed_code ends) 5 code.old.items code.new.items) }
 {
     let words = 12 * ends;
     let test = [

@@ -1,7 +1,7 @@
 //! Pieces of code of which the protocol's parts are made.
 
 ghost use Rattle.std.specs.Prelude.{◌+◌, ◌<◌, ◌∷◌, [], OnOk, length};
-ghost use Rattle.sx_stub.specs.Puts.{Puts, PutsAt, Refuses, choice, searched};
+ghost use Rattle.sx_stub.specs.Puts.{Puts, PutsAt, RefusesWith, choice, searched};
 ghost use Rattle.sx_stub.specs.Stub.{jump_on, returns};
 
 use std::alloc::AllocError;
@@ -54,7 +54,7 @@ pub fn put_returns(code: &mut Vec<Ir>, status: u16) -> Result<(), AllocError>
 /// memory ran out.
 pub fn put_refuse(code: &mut Vec<Ir>, test: &[Ir], status: u16) -> Result<(), AllocError>
     requires short { length code.old.items + length test.now < 65532 }
-    ensures { OnOk result (Refuses test.now status code.old.items code.new.items) }
+    ensures { OnOk result (RefusesWith test.now status code.old.items code.new.items) }
 {
     let next = (code.len() + test.len() + 4) as u16;
     put_all(code, test)?;

@@ -6,7 +6,7 @@ ghost use Rattle.sx_lang.specs.View.{module_of};
 ghost use Rattle.sx_invoke.specs.Invocation.{is_sensor_driver};
 ghost use Rattle.sx_mean.specs.Application.{declared_kind};
 ghost use Rattle.sx_stub.specs.Stub.{entries, is_above_three, is_no_sample, stub_ops, tests};
-ghost use Rattle.sx_stub.specs.Puts.{Puts, Refuses};
+ghost use Rattle.sx_stub.specs.Puts.{Puts, RefusesWith};
 ghost use Rattle.sx_stub.specs.Stubs.{StubsTo};
 
 use crate::answers::put_attest;
@@ -35,7 +35,8 @@ fn has_no_sensor(tree: &Module) -> bool
 
 fn put_sample_test(code: &mut Vec<Ir>, tree: &Module) -> Result<(), AllocError>
     requires short { length code.old.items < 60000 }
-    ensures { OnOk result (Refuses (is_no_sample (module_of tree.now)) 2 code.old.items code.new.items) }
+    ensures { OnOk result (RefusesWith (is_no_sample (module_of tree.now)) 2 code.old.items
+        code.new.items) }
 {
     let test = [
         Ir::Saved(12),
@@ -49,7 +50,7 @@ fn put_sample_test(code: &mut Vec<Ir>, tree: &Module) -> Result<(), AllocError>
 
 fn put_entry_test(code: &mut Vec<Ir>) -> Result<(), AllocError>
     requires short { length code.old.items < 60000 }
-    ensures { OnOk result (Refuses is_above_three 2 code.old.items code.new.items) }
+    ensures { OnOk result (RefusesWith is_above_three 2 code.old.items code.new.items) }
 {
     put_refuse(code, &[Ir::Push(3), Ir::Saved(12), Ir::Op(IrOp::Lt)], 2)
 }
@@ -69,7 +70,8 @@ fn put_entries(code: &mut Vec<Ir>, tree: &Module, ends: &[End]) -> Result<(), Al
     requires here { length code.old.items ≡ 27 }
     requires few { length tree.now.handlers.items ≤ 256 }
     requires ends { length ends.now ≤ 16 }
-    ensures { OnOk result (Puts (entries (module_of tree.now) ends.now) code.old.items code.new.items) }
+    ensures { OnOk result (Puts (entries (module_of tree.now) ends.now) code.old.items
+        code.new.items) }
 {
     let set_key = 39 + sample_len(tree);
     let attest = set_key + 24;

@@ -39,7 +39,8 @@ fn put_sampled(code: &mut Vec<Ir>, tree: &Module) -> Result<(), AllocError>
 pub fn put_sample(code: &mut Vec<Ir>, tree: &Module) -> Result<(), AllocError>
     requires short { length code.old.items < 60000 }
     requires few { length tree.now.handlers.items ≤ 256 }
-    ensures { OnOk result (PutsAt (sample_code (module_of tree.now)) code.old.items code.new.items) }
+    ensures { OnOk result (PutsAt (sample_code (module_of tree.now)) code.old.items
+        code.new.items) }
 {
     put(code, Ir::Sense)?;
     put(code, Ir::Store(EVENT))?;

@@ -1,1 +1,1 @@
-pub mod Xor
+pub mod UnwrapsWrapped

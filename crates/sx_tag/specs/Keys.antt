@@ -17,16 +17,19 @@ section_key mac base provider identity = kdf mac (kdf mac base (to_le_bytes w16 
 
 -- the key of a module, from the node's key, the boot, the provider and the module's identity
 unfoldable pub module_key : Mac → List ℕ → ℕ → ℕ → List ℕ → List ℕ
-module_key mac node_key boot provider identity = section_key mac (boot_key mac node_key boot) provider identity
+module_key mac node_key boot provider identity =
+    section_key mac (boot_key mac node_key boot) provider identity
 
 -- a layout's four bounds, two bytes each
 abbrev pub layout_bytes : ℕ → ℕ → ℕ → ℕ → List ℕ
 layout_bytes pub_from pub_to priv_from priv_to =
-    to_le_bytes w16 pub_from ++ to_le_bytes w16 pub_to ++ to_le_bytes w16 priv_from ++ to_le_bytes w16 priv_to
+    to_le_bytes w16 pub_from ++ to_le_bytes w16 pub_to ++ to_le_bytes w16 priv_from
+    ++ to_le_bytes w16 priv_to
 
 -- a module's identity: the bytes of its public section, then its layout
 unfoldable pub identity : List ℕ → ℕ → ℕ → ℕ → ℕ → List ℕ
-identity public pub_from pub_to priv_from priv_to = public ++ layout_bytes pub_from pub_to priv_from priv_to
+identity public pub_from pub_to priv_from priv_to =
+    public ++ layout_bytes pub_from pub_to priv_from priv_to
 
 -- what vouches for a module: 16 bytes of the tag over `A` and its identity
 unfoldable pub attest_tag : Mac → List ℕ → List ℕ → List ℕ

@@ -1,5 +1,6 @@
 -- Tag functions.
-use Rattle.std.specs.Prelude.{◌≡◌, ℕ, ◌+◌, ◌-◌, ◌%◌, ◌<◌, List, ◌++◌, length, map, sum, replicate, bit_xor, All}
+use Rattle.std.specs.Prelude.{◌≡◌, ℕ, ◌+◌, ◌-◌, ◌%◌, ◌<◌, List, ◌++◌, length, map, sum, replicate}
+use Rattle.std.specs.Prelude.{bit_xor, All}
 use Rattle.sha2.specs.Sha256.{sha256}
 
 -- a tag function gives 32 bytes for a key and a message

@@ -1,6 +1,7 @@
 -- Each tag function here is lawful. Nobody has to believe these proofs: they stand in specs/, since
 -- what an impl of `Tag` says of its function is a specification.
-use Rattle.std.proofs.Common.{◌≡◌, ℕ, zero, suc, ◌+◌, ◌%◌, ◌/◌, ◌^◌, ◌<◌, List, ◌++◌, length, sum, lit<}
+use Rattle.std.proofs.Common.{◌≡◌, ℕ, zero, suc, ◌+◌, ◌%◌, ◌/◌, ◌^◌, ◌<◌, List, ◌++◌, length, sum}
+use Rattle.std.proofs.Common.{lit<}
 use Rattle.std.specs.Prelude.{All, slice_index}
 use Rattle.std.specs.Int.{to_be_bytes, w32, byte_at, bytes_high_first}
 use Rattle.std.proofs.lemmas.Nat.{mod_below}
@@ -16,12 +17,15 @@ byte_at-byte (suc i) n = mod_below (n / 256 ^ suc i) 256 (lit< tt)
 
 bytes_high_first-bytes : (k n : ℕ) → All (λ b. b < 256) (bytes_high_first k n)
 bytes_high_first-bytes zero n = All-nil (λ b. b < 256)
-bytes_high_first-bytes (suc k) n = All-cons (λ b. b < 256) (byte_at k n) (bytes_high_first k n) (byte_at-byte k n) (bytes_high_first-bytes k n)
+bytes_high_first-bytes (suc k) n = All-cons (λ b. b < 256) (byte_at k n) (bytes_high_first k n)
+    (byte_at-byte k n) (bytes_high_first-bytes k n)
 
 digest_bytes-bytes : (h : List ℕ) (n : ℕ) → All (λ b. b < 256) (digest_bytes h n)
 unfolding digest_bytes
 digest_bytes-bytes h zero = All-nil (λ b. b < 256)
-digest_bytes-bytes h (suc n) = All-append (λ b. b < 256) (digest_bytes h n) (to_be_bytes w32 (slice_index h n)) (digest_bytes-bytes h n) (bytes_high_first-bytes 4 (slice_index h n))
+digest_bytes-bytes h (suc n) = All-append (λ b. b < 256) (digest_bytes h n)
+    (to_be_bytes w32 (slice_index h n)) (digest_bytes-bytes h n)
+    (bytes_high_first-bytes 4 (slice_index h n))
 
 sha256-bytes : (m : List ℕ) → All (λ b. b < 256) (sha256 m)
 unfolding sha256
@@ -41,7 +45,8 @@ weak-width key message = length-replicate 32 ((sum key + sum message) % 256)
 
 weak-bytes : (key message : List ℕ) → All (λ b. b < 256) (weak key message)
 unfolding weak
-weak-bytes key message = All-replicate (λ b. b < 256) 32 ((sum key + sum message) % 256) (mod_below (sum key + sum message) 256 (lit< tt))
+weak-bytes key message = All-replicate (λ b. b < 256) 32
+    ((sum key + sum message) % 256) (mod_below (sum key + sum message) 256 (lit< tt))
 
 -- HMAC-SHA-256 is a tag
 pub hmac_sha256-is_tag : IsTag hmac_sha256

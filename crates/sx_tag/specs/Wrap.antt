@@ -1,6 +1,7 @@
 -- Authenticated encryption of a header `ad` and a body of at most 32 bytes each, over any tag
 -- function (own).
-use Rattle.std.specs.Prelude.{◌≡◌, ℕ, ◌-◌, ◌≤◌, List, [], ◌∷◌, ◌++◌, length, take, replicate, bit_xor, bytes_eq, if◌then◌else◌, Option, Some, None}
+use Rattle.std.specs.Prelude.{◌≡◌, ℕ, ◌-◌, ◌≤◌, List, [], ◌∷◌, ◌++◌, length, take, replicate}
+use Rattle.std.specs.Prelude.{bit_xor, bytes_eq, if◌then◌else◌, Option, Some, None}
 use Rattle.sx_tag.specs.Mac.{Mac, GivesTags}
 
 -- each byte XOR the byte of the stream beside it, up to the end of the shorter list
@@ -28,7 +29,8 @@ pub record Wrapped : Type 0 where
 
 -- a body wrapped with its header: the cipher, and the tag of both
 abbrev pub wrapped : Mac → List ℕ → List ℕ → List ℕ → Wrapped
-wrapped mac key ad body = record { cipher = crypt mac key ad body; tag = wrap_tag mac key ad (crypt mac key ad body) }
+wrapped mac key ad body =
+    record { cipher = crypt mac key ad body; tag = wrap_tag mac key ad (crypt mac key ad body) }
 
 -- a body with zeros after it up to 32 bytes
 abbrev pub padded : List ℕ → List ℕ
@@ -37,9 +39,11 @@ padded body = body ++ replicate (32 - length body) 0
 -- the body after a cipher, where the tag is the cipher's
 unfoldable pub unwrapped : Mac → List ℕ → List ℕ → List ℕ → List ℕ → Option (List ℕ)
 unwrapped mac key ad cipher tag =
-    if bytes_eq tag (wrap_tag mac key ad cipher) then Some (padded (crypt mac key ad cipher)) else None
+    if bytes_eq tag (wrap_tag mac key ad cipher) then Some (padded (crypt mac key ad cipher)) else
+    None
 
 -- what was wrapped is unwrapped, by any tag function
 abbrev pub UnwrapsWrapped : Type 0
 UnwrapsWrapped = (mac : Mac) (key ad body : List ℕ) → GivesTags mac → length body ≤ 32 →
-    unwrapped mac key ad (wrapped mac key ad body).cipher (wrapped mac key ad body).tag ≡ Some (padded body)
+    unwrapped mac key ad (wrapped mac key ad body).cipher (wrapped mac key ad body).tag
+    ≡ Some (padded body)

@@ -31,7 +31,8 @@ impl Tag for Hmac {
 
     ghost mac = { hmac_sha256 };
 
-    ghost has = { λ run key message. Holds256 run.inner (inner_key key ++ message) × Holds256 run.outer (outer_key key) };
+    ghost has = { λ run key message. Holds256 run.inner (inner_key key ++ message)
+        × Holds256 run.outer (outer_key key) };
 
     fn begin(&self, key: &[u8]) -> HmacRun {
         HmacRun {

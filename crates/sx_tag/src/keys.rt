@@ -71,14 +71,16 @@ pub fn begin_attest_tag<T: Tag>(tag: &T, key: &[u8; 16]) -> T::Run
 
 /// Feeds a part to a run of `begin_module_key` or `begin_attest_tag`.
 pub fn feed_answer<T: Tag>(tag: &T, run: &mut T::Run, part: &[u8])
-    ensures { (answer : List ℕ → List ℕ) (fed : List ℕ) → Leads T.has T.mac answer run.old fed → Leads T.has T.mac answer run.new (fed ++ part.now) }
+    ensures { (answer : List ℕ → List ℕ) (fed : List ℕ) → Leads T.has T.mac answer run.old fed
+        → Leads T.has T.mac answer run.new (fed ++ part.now) }
 {
     tag.feed(run, part);
 }
 
 /// The answer to all that the run was fed.
 pub fn finish_answer<T: Tag>(tag: &T, run: T::Run) -> [u8; 16]
-    ensures { (answer : List ℕ → List ℕ) (fed : List ℕ) → Leads T.has T.mac answer run fed → result ≡ answer fed }
+    ensures { (answer : List ℕ → List ℕ) (fed : List ℕ) → Leads T.has T.mac answer run fed
+        → result ≡ answer fed }
 {
     half(&tag.finish(run))
 }

@@ -20,7 +20,8 @@ pub trait Tag: Drop {
 
     /// Appends a part to the message.
     fn feed(&self, run: &mut Self::Run, part: &[u8])
-        ensures { (key message : List ℕ) → has run.old key message → has run.new key (message ++ part.now) };
+        ensures { (key message : List ℕ) → has run.old key message
+            → has run.new key (message ++ part.now) };
 
     /// The tag of the key and the whole message.
     fn finish(&self, run: Self::Run) -> [u8; 32]

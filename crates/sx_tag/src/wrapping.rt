@@ -1,6 +1,7 @@
 //! Authenticated encryption of a header and a body.
 
-ghost use Rattle.std.specs.Prelude.{◌≡◌, ◌≢◌, ◌≤◌, ◌++◌, ◌↔◌, length, drop, IsNone, IsTrue, bytes_eq};
+ghost use Rattle.std.specs.Prelude.{◌≡◌, ◌≢◌, ◌≤◌, ◌++◌, ◌↔◌, length, drop, IsNone, IsTrue};
+ghost use Rattle.std.specs.Prelude.{bytes_eq};
 ghost use Rattle.sx_tag.specs.Wrap as spec;
 
 use crate::keys::half;
@@ -22,7 +23,8 @@ pub fn wrap<T: Tag>(
 ) -> [u8; 16]
     requires ad { length ad.now ≤ 32 }
     requires body { length body.now ≤ 32 }
-    ensures cipher { cipher.new ≡ (spec.wrapped T.mac key.now ad.now body.now).cipher ++ drop (length body.now) cipher.old }
+    ensures cipher { cipher.new ≡ (spec.wrapped T.mac key.now ad.now body.now).cipher
+        ++ drop (length body.now) cipher.old }
     ensures tag { result ≡ (spec.wrapped T.mac key.now ad.now body.now).tag }
 {
     crypt(tag, key, ad, body, cipher);
@@ -77,7 +79,8 @@ fn is_same(tag: &[u8; 16], expected: &[u8; 16]) -> bool
 fn crypt<T: Tag>(tag: &T, key: &[u8; 16], ad: &[u8], bytes: &[u8], into: &mut [u8; 32])
     requires ad { length ad.now ≤ 32 }
     requires bytes { length bytes.now ≤ 32 }
-    ensures { into.new ≡ spec.crypt T.mac key.now ad.now bytes.now ++ drop (length bytes.now) into.old }
+    ensures { into.new ≡ spec.crypt T.mac key.now ad.now bytes.now
+        ++ drop (length bytes.now) into.old }
 {
     let mut run = tag.begin(key);
     tag.feed(&mut run, &[STREAM_LABEL, ad.len() as u8]);

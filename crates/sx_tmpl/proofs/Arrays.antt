@@ -13,7 +13,7 @@ use Rattle.sx_ir.specs.Conf.{Conf}
 use Rattle.sx_ir.specs.Meaning.{next, element, with_element}
 use Rattle.sx_tmpl.specs.Running.{Regs, Fixed, Data, running, Safe}
 use Rattle.sx_tmpl.proofs.MidRun.{Stands, Runs, put_cell}
-use Rattle.sx_tmpl.specs.Shows.{base_of, IsData, Holds, Shows}
+use Rattle.sx_tmpl.specs.Shows.{base_of, IsData, MemoryHolds, ShowsConfiguration}
 use Rattle.sx_tmpl.proofs.Steps.{Text, one, two}
 use Rattle.sx_tmpl.proofs.Flags.{flags_after, no_borrow, borrow}
 use Rattle.std.specs.Prelude.{pos}
@@ -40,7 +40,7 @@ module _ (f : Fixed) (st : Stands f) (all : List Mark) (B : Watched → Violatio
   load_words o n = 0x413c ∷ 0x903c ∷ n ∷ 0x2c04 ∷ 0x5c0c ∷ 0x121c ∷ (base_of f + o) ∷ 0x3c01 ∷ 0x1203 ∷ []
 
   -- the index is popped and compared
-  load_begins : (Q : Watched → Type 0) (c : Conf) (o n i k : ℕ) (rest : List ℕ) (r : Regs) (d : Data) → Text f (at c.place) 9 (load_words o n) → Shows f at (record c { stack = i ∷ rest }) r d → Safe f all (running f r d)
+  load_begins : (Q : Watched → Type 0) (c : Conf) (o n i k : ℕ) (rest : List ℕ) (r : Regs) (d : Data) → Text f (at c.place) 9 (load_words o n) → ShowsConfiguration f at (record c { stack = i ∷ rest }) r d → Safe f all (running f r d)
       → (let r2 = record r { pc = at c.place + 6; sp = r.sp + 2; r12 = i; sr = flags_after op2.Cmp (n % 65536) (i % 65536) (flags_after op2.Mov 0 0 r.sr) } in Safe f all (running f r2 d) → Runs f all B Q k (running f r2 d)) → Runs f all B Q (suc (suc k)) (running f r d)
   load_begins Q c o n i k rest r d t sh safe after =
       let h = sh.holds in
@@ -189,7 +189,7 @@ module _ (f : Fixed) (st : Stands f) (all : List Mark) (B : Watched → Violatio
   abbrev store_words : ℕ → ℕ → List ℕ
   store_words o n = 0x413d ∷ 0x413c ∷ 0x903c ∷ n ∷ 0x2c03 ∷ 0x5c0c ∷ 0x4d8c ∷ (base_of f + o) ∷ []
 
-  store_begins : (Q : Watched → Type 0) (c : Conf) (o n i v k : ℕ) (rest : List ℕ) (r : Regs) (d : Data) → Text f (at c.place) 8 (store_words o n) → Shows f at (record c { stack = v ∷ i ∷ rest }) r d → Safe f all (running f r d)
+  store_begins : (Q : Watched → Type 0) (c : Conf) (o n i v k : ℕ) (rest : List ℕ) (r : Regs) (d : Data) → Text f (at c.place) 8 (store_words o n) → ShowsConfiguration f at (record c { stack = v ∷ i ∷ rest }) r d → Safe f all (running f r d)
       → (let r3 = record r { pc = at c.place + 8; sp = r.sp + 4; r12 = i; r13 = v; sr = flags_after op2.Cmp (n % 65536) (i % 65536) (flags_after op2.Mov 0 0 (flags_after op2.Mov 0 0 r.sr)) } in Safe f all (running f r3 d) → Runs f all B Q k (running f r3 d)) → Runs f all B Q (suc (suc (suc k))) (running f r d)
   store_begins Q c o n i v k rest r d t sh safe after =
       let h = sh.holds in
@@ -230,9 +230,9 @@ module _ (f : Fixed) (st : Stands f) (all : List Mark) (B : Watched → Violatio
         ),
       )
 
-  popped_twice : (c : Conf) (v i sp : ℕ) (rest m : List ℕ) → Holds f at c.back (v ∷ i ∷ rest) c.priv c.mem sp m → Holds f at c.back rest c.priv c.mem (sp + 4) m
+  popped_twice : (c : Conf) (v i sp : ℕ) (rest m : List ℕ) → MemoryHolds f at c.back (v ∷ i ∷ rest) c.priv c.mem sp m → MemoryHolds f at c.back rest c.priv c.mem (sp + 4) m
   popped_twice c v i sp rest m h =
-      subst (λ s. Holds f at c.back rest c.priv c.mem s m) (omega arith) (holds_pop f st at c.back i rest c.priv c.mem (sp + 2) m (holds_pop f st at c.back v (i ∷ rest) c.priv c.mem sp m h))
+      subst (λ s. MemoryHolds f at c.back rest c.priv c.mem s m) (omega arith) (holds_pop f st at c.back i rest c.priv c.mem (sp + 2) m (holds_pop f st at c.back v (i ∷ rest) c.priv c.mem sp m h))
 
   store_element : (c : Conf) (o n i v : ℕ) (rest : List ℕ) → n < 65536 → IsArray o n (length c.priv) → i < n → L 8 (store_words o n) 6 (record c { stack = v ∷ i ∷ rest }) (record c { place = c.place + 1; stack = rest; priv = put_word c.priv (o + 2 * i) v })
   store_element c o n i v rest ln a lt r d t on sh safe =

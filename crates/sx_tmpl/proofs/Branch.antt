@@ -14,8 +14,8 @@ use Rattle.sx_ir.specs.Conf.{Conf}
 use Rattle.sx_ir.specs.Meaning.{next}
 use Rattle.sx_tmpl.specs.Running.{Regs, Fixed, Data, running, Safe}
 use Rattle.sx_tmpl.proofs.MidRun.{Stands, Runs, put_cell}
-use Rattle.sx_tmpl.specs.Shows.{Holds, Shows, Stood}
-use Rattle.sx_machine.specs.Rows.{taken}
+use Rattle.sx_tmpl.specs.Shows.{MemoryHolds, ShowsConfiguration, Stood}
+use Rattle.sx_machine.specs.Rows.{jump_taken}
 use Rattle.sx_tmpl.proofs.Steps.{Text, InText, Reads, one, two}
 use Rattle.sx_tmpl.proofs.Flags.{flags_after, no_borrow, borrow, equal, unequal, carry_of, zero_of}
 use Rattle.std.specs.Prelude.{pos, slice_get, nat_lt, ◌==◌}
@@ -36,7 +36,7 @@ module _ (f : Fixed) (st : Stands f) (all : List Mark) (B : Watched → Violatio
       (λ kept. (r2, rw e refl, to, λ safe2. stood f st all B at (record c { place = q }) r2 d.mem d 0 safe2 refl sh.holds sh.devices sh.marks))
 
   -- the first two instructions of a test of the top word
-  tested : (Q : Watched → Type 0) (c : Conf) (x q : ℕ) (rest : List ℕ) (k : ℕ) (r : Regs) (d : Data) → Text f (at c.place) 5 (0x413c ∷ 0x930c ∷ 0x2002 ∷ 0x4030 ∷ at q ∷ []) → Shows f at (record c { stack = x ∷ rest }) r d → Safe f all (running f r d)
+  tested : (Q : Watched → Type 0) (c : Conf) (x q : ℕ) (rest : List ℕ) (k : ℕ) (r : Regs) (d : Data) → Text f (at c.place) 5 (0x413c ∷ 0x930c ∷ 0x2002 ∷ 0x4030 ∷ at q ∷ []) → ShowsConfiguration f at (record c { stack = x ∷ rest }) r d → Safe f all (running f r d)
       → (let r2 = record r { pc = at c.place + 4; sp = r.sp + 2; r12 = x; sr = flags_after op2.Cmp 0 (x % 65536) (flags_after op2.Mov 0 0 r.sr) } in Safe f all (running f r2 d) → Runs f all B Q k (running f r2 d)) → Runs f all B Q (suc (suc k)) (running f r d)
   tested Q c x q rest k r d t sh safe after =
       let h = sh.holds in
@@ -94,8 +94,8 @@ module _ (f : Fixed) (st : Stands f) (all : List Mark) (B : Watched → Violatio
       (λ kept. (r3, rw (z, to) refl, inside t 5 (omega arith), λ s3. stood f st all B at (next c rest) r3 d.mem d 1 s3 (omega (arith, on)) (holds_pop f st at c.back (suc v) rest c.priv c.mem r.sp d.mem h) sh.devices sh.marks)))
 
   -- the end of a comparison: a jump over the next instruction, which makes the top word 1, is taken where it doesn't hold
-  pub compare_end : {P n : ℕ} {ws : List ℕ} (t : Text f P n ws) (k : ℕ) (c2 : Conf) (rest : List ℕ) (jw cond : ℕ) (b : Bool) (r : Regs) (d : Data) → slice_get ws k ≡ Some jw → slice_get ws (k + 1) ≡ Some 0x4391 → slice_get ws (k + 1 + 1) ≡ Some 0 → k + 1 + 2 ≤ n → Reads jw 1 (λ x y. Jump cond (pos 2)) → taken cond (flags_of r.sr) ≡ not b
-      → r.pc ≡ P + 2 * k → at c2.place ≡ P + 2 * (k + 1 + 2) → c2.stack ≡ truth b ∷ rest → Holds f at c2.back (0 ∷ rest) c2.priv c2.mem r.sp d.mem → d.devices ≡ c2.devices → d.marks ≡ c2.marks → Safe f all (running f r d)
+  pub compare_end : {P n : ℕ} {ws : List ℕ} (t : Text f P n ws) (k : ℕ) (c2 : Conf) (rest : List ℕ) (jw cond : ℕ) (b : Bool) (r : Regs) (d : Data) → slice_get ws k ≡ Some jw → slice_get ws (k + 1) ≡ Some 0x4391 → slice_get ws (k + 1 + 1) ≡ Some 0 → k + 1 + 2 ≤ n → Reads jw 1 (λ x y. Jump cond (pos 2)) → jump_taken cond (flags_of r.sr) ≡ not b
+      → r.pc ≡ P + 2 * k → at c2.place ≡ P + 2 * (k + 1 + 2) → c2.stack ≡ truth b ∷ rest → MemoryHolds f at c2.back (0 ∷ rest) c2.priv c2.mem r.sp d.mem → d.devices ≡ c2.devices → d.marks ≡ c2.marks → Safe f all (running f r d)
       → Runs f all B (Stood f all at c2) 2 (running f r d)
   compare_end {P = P} t k c2 rest jw cond true r d g0 g1 g2 le reads tk pc on stack h dev marks safe =
       let p2 = stack_word f st r.sp (length (0 ∷ rest)) h.top (omega arith) (omega (arith, h.room)) in
@@ -120,7 +120,7 @@ module _ (f : Fixed) (st : Stands f) (all : List Mark) (B : Watched → Violatio
                 refl,
                 inside t (k + 1 + 2) le,
                 λ s5.
-                    stood f st all B at c2 r5 (put_cell d.mem r.sp 1) d 0 s5 (sym on) (subst (λ l. Holds f at c2.back l c2.priv c2.mem r.sp (put_cell d.mem r.sp 1)) (sym stack) (holds_replace f st at c2.back 0 1 rest c2.priv c2.mem r.sp d.mem safe.memory h)) dev marks,
+                    stood f st all B at c2 r5 (put_cell d.mem r.sp 1) d 0 s5 (sym on) (subst (λ l. MemoryHolds f at c2.back l c2.priv c2.mem r.sp (put_cell d.mem r.sp 1)) (sym stack) (holds_replace f st at c2.back 0 1 rest c2.priv c2.mem r.sp d.mem safe.memory h)) dev marks,
               ),
             ),
       ))
@@ -133,12 +133,12 @@ module _ (f : Fixed) (st : Stands f) (all : List Mark) (B : Watched → Violatio
         rw (tk, to) refl,
         inside t (k + 1 + 2) le,
         λ s4.
-            stood f st all B at c2 r4 d.mem d 1 s4 (sym on) (subst (λ l. Holds f at c2.back l c2.priv c2.mem r.sp d.mem) (sym stack) h) dev marks,
+            stood f st all B at c2 r4 d.mem d 1 s4 (sym on) (subst (λ l. MemoryHolds f at c2.back l c2.priv c2.mem r.sp d.mem) (sym stack) h) dev marks,
       ))
 
   -- A comparison of the two upper words: the first is popped and compared, and 0 takes the place of the other.
   compare_leads : (c : Conf) (x y : ℕ) (rest : List ℕ) (jw cond : ℕ) (b : Bool) → Reads jw 1 (λ x y. Jump cond (pos 2))
-      → ((sr : ℕ) → y < 65536 → x < 65536 → taken cond (flags_of (flags_after op2.Mov 0 0 (flags_after op2.Cmp (y % 65536) x sr))) ≡ not b)
+      → ((sr : ℕ) → y < 65536 → x < 65536 → jump_taken cond (flags_of (flags_after op2.Mov 0 0 (flags_after op2.Cmp (y % 65536) x sr))) ≡ not b)
       → L 8 (0x413c ∷ 0x9c81 ∷ 0 ∷ 0x4381 ∷ 0 ∷ jw ∷ 0x4391 ∷ 0 ∷ []) 5 (record c { stack = y ∷ x ∷ rest }) (next c (truth b ∷ rest))
   compare_leads c x y rest jw cond b reads jumps r d t on sh safe =
       let h = sh.holds in

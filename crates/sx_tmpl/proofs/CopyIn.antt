@@ -27,7 +27,7 @@ use Rattle.sx_invoke.specs.Marks.{Mark}
 use Rattle.sx_image.specs.Watched.{Watched}
 use Rattle.sx_tmpl.specs.Running.{Regs, Fixed, Data, running, Safe}
 use Rattle.sx_tmpl.proofs.MidRun.{Stands, Runs}
-use Rattle.sx_tmpl.specs.Shows.{base_of, IsData, Holds}
+use Rattle.sx_tmpl.specs.Shows.{base_of, IsData, MemoryHolds}
 use Rattle.sx_tmpl.proofs.Steps.{Text, one, two}
 use Rattle.sx_tmpl.proofs.Flags.{flags_after, equal, unequal}
 use Rattle.std.specs.Prelude.{negsuc}
@@ -104,9 +104,9 @@ module _ (f : Fixed) (st : Stands f) (all : List Mark) (B : Watched → Violatio
         ))
 
     -- one byte, or the end
-    one_byte : (r : Regs) (d : Data) (sr src o left j : ℕ) (priv : List ℕ) → left < 65535 → src < 65536 → IsData o → o < length priv → Holds f at back stack priv outside r.sp d.mem → Safe f all (running f (turn_at r sr src (base_of f + o) (suc left)) d)
+    one_byte : (r : Regs) (d : Data) (sr src o left j : ℕ) (priv : List ℕ) → left < 65535 → src < 65536 → IsData o → o < length priv → MemoryHolds f at back stack priv outside r.sp d.mem → Safe f all (running f (turn_at r sr src (base_of f + o) (suc left)) d)
         → ((v : Violation) → refused f Read bad.Read src ≡ Some v → B (running f (turn_at r sr src (base_of f + o) (suc left)) d) v)
-        → (refused f Read bad.Read src ≡ None → (m : List ℕ) (sr : ℕ) → Holds f at back stack (slice_set priv o (slice_index d.mem src % 256)) outside r.sp m
+        → (refused f Read bad.Read src ≡ None → (m : List ℕ) (sr : ℕ) → MemoryHolds f at back stack (slice_set priv o (slice_index d.mem src % 256)) outside r.sp m
         → Safe f all (running f (record r { pc = behind left; sr = sr; r12 = (src + 1) % 65536; r13 = base_of f + (o + 1); r15 = left }) (record d { mem = m })) → Runs f all B Q j (running f (record r { pc = behind left; sr = sr; r12 = (src + 1) % 65536; r13 = base_of f + (o + 1); r15 = left }) (record d { mem = m })))
         → Runs f all B Q (suc (suc (suc (suc j)))) (running f (turn_at r sr src (base_of f + o) (suc left)) d)
     one_byte r d sr src o left j priv lt ls i fits h safe stop allowed =
@@ -162,9 +162,9 @@ module _ (f : Fixed) (st : Stands f) (all : List Mark) (B : Watched → Violatio
 
     -- the whole copy
     pub copy_in_runs : (n : ℕ) (r : Regs) (d : Data) (sr src o j : ℕ) (priv : List ℕ) → n < 65535 → src + suc n ≤ 65536 → ((a : ℕ) → src ≤ a → a < src + suc n → in_private f.setup.section a ≡ false) → IsRange o (suc n) (length priv)
-        → Holds f at back stack priv outside r.sp d.mem → Safe f all (running f (turn_at r sr src (base_of f + o) (suc n)) d)
+        → MemoryHolds f at back stack priv outside r.sp d.mem → Safe f all (running f (turn_at r sr src (base_of f + o) (suc n)) d)
         → ((v : Violation) → read_bytes f.setup ds outside src (suc n) ≡ Err v → (r2 : Regs) (m2 : List ℕ) → B (running f r2 (record d { mem = m2 })) v)
-        → ((bs : List ℕ) → read_bytes f.setup ds outside src (suc n) ≡ Ok bs → (sr a s : ℕ) (m2 : List ℕ) → Holds f at back stack (put_bytes priv o bs) outside r.sp m2
+        → ((bs : List ℕ) → read_bytes f.setup ds outside src (suc n) ≡ Ok bs → (sr a s : ℕ) (m2 : List ℕ) → MemoryHolds f at back stack (put_bytes priv o bs) outside r.sp m2
         → Safe f all (running f (record r { pc = P + 22; sr = sr; r12 = a; r13 = s; r15 = 0 }) (record d { mem = m2 })) → Runs f all B Q j (running f (record r { pc = P + 22; sr = sr; r12 = a; r13 = s; r15 = 0 }) (record d { mem = m2 })))
         → Runs f all B Q (4 * suc n + j) (running f (turn_at r sr src (base_of f + o) (suc n)) d)
     copy_in_runs zero r d sr src o j priv lt le free rg h safe stop done =
@@ -173,7 +173,7 @@ module _ (f : Fixed) (st : Stands f) (all : List Mark) (B : Watched → Violatio
         (one_byte r d sr src o 0 j priv (omega arith) (omega arith) (record { low = rg.low; beside = elim (rg.beside) [ inl q ↦ inl (omega arith) | inr q ↦ inr q ] }) (omega arith) h safe
         (λ v e. stop v (not_taken src 0 v e) (turn_at r sr src (base_of f + o) 1) d.mem)
         (λ ok m sr3 h2 s3. done (slice_index outside src ∷ []) (byte_taken src 0 ok ∙ ap (λ r. then_ r (λ bs. Ok (slice_index outside src ∷ bs))) (nothing (src + 1))) sr3 ((src + 1) % 65536) (base_of f + (o + 1)) m
-        (subst (λ b. Holds f at back stack (slice_set priv o (b % 256)) outside r.sp m) (h.others src (free src (omega arith) (omega arith))) h2) s3))
+        (subst (λ b. MemoryHolds f at back stack (slice_set priv o (b % 256)) outside r.sp m) (h.others src (free src (omega arith) (omega arith))) h2) s3))
     copy_in_runs (suc n) r d sr src o j priv lt le free rg h safe stop done =
         let fits = rg.fits in
         let next_ : (src + 1) % 65536 ≡ src + 1 = omega arith in
@@ -187,15 +187,15 @@ module _ (f : Fixed) (st : Stands f) (all : List Mark) (B : Watched → Violatio
         subst (λ a. Safe f all (running f (turn_at r sr3 a (base_of f + (o + 1)) (suc n)) (record d { mem = m })) → Runs f all B Q (4 * suc n + j) (running f (turn_at r sr3 a (base_of f + (o + 1)) (suc n)) (record d { mem = m }))) (sym next_)
         (λ s. copy_in_runs n r (record d { mem = m }) sr3 (src + 1) (o + 1) j (slice_set priv o (b % 256)) (omega arith) (omega arith) (λ a p q. free a (omega arith) (omega arith))
         (record { low = omega (arith, rg.low); beside = elim (rg.beside) [ inl q ↦ inl (omega arith) | inr q ↦ inr (omega arith) ]; fits = omega arith })
-        (subst (λ b. Holds f at back stack (slice_set priv o (b % 256)) outside r.sp m) is_b h2) s
+        (subst (λ b. MemoryHolds f at back stack (slice_set priv o (b % 256)) outside r.sp m) is_b h2) s
         (λ v e. stop v (byte_taken src (suc n) ok ∙ ap (λ r. then_ r (λ bs. Ok (b ∷ bs))) e))
         (λ bs e. done (b ∷ bs) (byte_taken src (suc n) ok ∙ ap (λ r. then_ r (λ bs. Ok (b ∷ bs))) e))) s3))
 
     -- the three loads before the loop, and the loop
     pub copy_in_whole : (r : Regs) (d : Data) (src n j : ℕ) (priv : List ℕ) → count ≡ suc n → n < 65535 → src + suc n ≤ 65536 → ((a : ℕ) → src ≤ a → a < src + suc n → in_private f.setup.section a ≡ false) → IsRange from_ (suc n) (length priv)
-        → word priv 8 ≡ src → r.pc ≡ P + 2 * 0 → Holds f at back stack priv outside r.sp d.mem → Safe f all (running f r d)
+        → word priv 8 ≡ src → r.pc ≡ P + 2 * 0 → MemoryHolds f at back stack priv outside r.sp d.mem → Safe f all (running f r d)
         → ((v : Violation) → read_bytes f.setup ds outside src (suc n) ≡ Err v → (r2 : Regs) (m2 : List ℕ) → B (running f r2 (record d { mem = m2 })) v)
-        → ((bs : List ℕ) → read_bytes f.setup ds outside src (suc n) ≡ Ok bs → (r2 : Regs) (m2 : List ℕ) → r2.pc ≡ P + 22 → r2.sp ≡ r.sp → Holds f at back stack (put_bytes priv from_ bs) outside r.sp m2
+        → ((bs : List ℕ) → read_bytes f.setup ds outside src (suc n) ≡ Ok bs → (r2 : Regs) (m2 : List ℕ) → r2.pc ≡ P + 22 → r2.sp ≡ r.sp → MemoryHolds f at back stack (put_bytes priv from_ bs) outside r.sp m2
         → Safe f all (running f r2 (record d { mem = m2 })) → Runs f all B Q j (running f r2 (record d { mem = m2 })))
         → Runs f all B Q (suc (suc (suc (4 * suc n + j)))) (running f r d)
     copy_in_whole r d src n j priv ec lt le free rg ew pc h safe stop done =

@@ -24,7 +24,7 @@ use Rattle.sx_invoke.specs.Marks.{Mark}
 use Rattle.sx_image.specs.Watched.{Watched}
 use Rattle.sx_tmpl.specs.Running.{Regs, Fixed, Data, running, Safe}
 use Rattle.sx_tmpl.proofs.MidRun.{Stands, Runs}
-use Rattle.sx_tmpl.specs.Shows.{Holds}
+use Rattle.sx_tmpl.specs.Shows.{MemoryHolds}
 use Rattle.sx_tmpl.proofs.Steps.{Text, one, two}
 use Rattle.sx_tmpl.proofs.Flags.{flags_after, equal, unequal}
 use Rattle.std.specs.Prelude.{negsuc, slice_get}
@@ -107,9 +107,9 @@ module _ (f : Fixed) (st : Stands f) (all : List Mark) (B : Watched → Violatio
     after_turn r sr dst src left = record r { pc = behind left; sr = sr; r12 = (dst % 65536 + 1 + 0) % 65536; r13 = src + 1; r15 = left }
 
     -- one byte, or the end
-    one_byte : (r : Regs) (d : Data) (sr dst src b left j : ℕ) (outside : List ℕ) → left < 65535 → f.from ≤ dst → dst < f.to → PrivateByte f src → slice_index d.mem src ≡ b → Holds f at back stack priv outside r.sp d.mem → Safe f all (running f (turn_at r sr dst src (suc left)) d)
+    one_byte : (r : Regs) (d : Data) (sr dst src b left j : ℕ) (outside : List ℕ) → left < 65535 → f.from ≤ dst → dst < f.to → PrivateByte f src → slice_index d.mem src ≡ b → MemoryHolds f at back stack priv outside r.sp d.mem → Safe f all (running f (turn_at r sr dst src (suc left)) d)
         → ((v : Violation) → refused f Write bad.Write dst ≡ Some v → B (running f (turn_at r sr dst src (suc left)) d) v)
-        → (refused f Write bad.Write dst ≡ None → (m : List ℕ) → m ≡ slice_set d.mem dst b → (sr : ℕ) → Holds f at back stack priv (slice_set outside dst b) r.sp m
+        → (refused f Write bad.Write dst ≡ None → (m : List ℕ) → m ≡ slice_set d.mem dst b → (sr : ℕ) → MemoryHolds f at back stack priv (slice_set outside dst b) r.sp m
         → Safe f all (running f (after_turn r sr dst src left) (record d { mem = m })) → Runs f all B Q j (running f (after_turn r sr dst src left) (record d { mem = m })))
         → Runs f all B Q (suc (suc (suc (suc j)))) (running f (turn_at r sr dst src (suc left)) d)
     one_byte r d sr dst src b left j outside lt d1 d2 p is h safe stop allowed =
@@ -145,7 +145,7 @@ module _ (f : Fixed) (st : Stands f) (all : List Mark) (B : Watched → Violatio
                     λ s2.
                         count_down r (record d { mem = m1 }) (flags_after op2.Add 1 (dst % 65536) sr1) ((dst % 65536 + 1 + 0) % 65536) (src + 1) left j lt s2
                         (λ sr3 s3. allowed ok m1 (ap (slice_set d.mem dst) cut) sr3
-                        (subst (λ b. Holds f at back stack priv (slice_set outside dst b) r.sp m1) cut (holds_outside f st at back stack priv outside r.sp d.mem dst (slice_index d.mem src % 256) safe.memory h (st.window_apart dst d1 d2) (omega arith))) s3),
+                        (subst (λ b. MemoryHolds f at back stack priv (slice_set outside dst b) r.sp m1) cut (holds_outside f st at back stack priv outside r.sp d.mem dst (slice_index d.mem src % 256) safe.memory h (st.window_apart dst d1 d2) (omega arith))) s3),
                   )),
             ),
           ),
@@ -165,9 +165,9 @@ module _ (f : Fixed) (st : Stands f) (all : List Mark) (B : Watched → Violatio
 
     -- the whole copy: it comes to its end where no byte is refused, and else ends at the first that is
     pub copy_runs : (bs : List ℕ) (b : ℕ) (r : Regs) (d : Data) (sr dst src j : ℕ) (outside : List ℕ) → length bs < 65535 → f.from ≤ dst → dst + suc (length bs) ≤ f.to → PrivateRange f src (suc (length bs)) → BytesAt d.mem src (b ∷ bs)
-        → Holds f at back stack priv outside r.sp d.mem → Safe f all (running f (turn_at r sr dst src (suc (length bs))) d)
+        → MemoryHolds f at back stack priv outside r.sp d.mem → Safe f all (running f (turn_at r sr dst src (suc (length bs))) d)
         → ((v : Violation) → write_bytes f.setup ds outside dst (b ∷ bs) ≡ Err v → (r2 : Regs) (m2 : List ℕ) → B (running f r2 (record d { mem = m2 })) v)
-        → ((mem : List ℕ) → write_bytes f.setup ds outside dst (b ∷ bs) ≡ Ok mem → (sr a s : ℕ) (m2 : List ℕ) → Holds f at back stack priv mem r.sp m2
+        → ((mem : List ℕ) → write_bytes f.setup ds outside dst (b ∷ bs) ≡ Ok mem → (sr a s : ℕ) (m2 : List ℕ) → MemoryHolds f at back stack priv mem r.sp m2
         → Safe f all (running f (record r { pc = P + 2 * (k + 2 + 1 + 1 + 1); sr = sr; r12 = a; r13 = s; r15 = 0 }) (record d { mem = m2 }))
         → Runs f all B Q j (running f (record r { pc = P + 2 * (k + 2 + 1 + 1 + 1); sr = sr; r12 = a; r13 = s; r15 = 0 }) (record d { mem = m2 })))
         → Runs f all B Q (4 * suc (length bs) + j) (running f (turn_at r sr dst src (suc (length bs))) d)

@@ -17,13 +17,13 @@ use Rattle.sx_tmpl.proofs.CopyIn.{copy_in_words, copy_in_whole}
 use Rattle.sx_tmpl.proofs.PacketOp.{Breaks}
 use Rattle.sx_tmpl.proofs.SealOps.{length_from}
 use Rattle.sx_ir.specs.Meaning.{copy_out, has_copy_room}
-use Rattle.sx_invoke.specs.Marks.{made}
+use Rattle.sx_invoke.specs.Marks.{made_bytes}
 use Rattle.sx_tmpl.proofs.Holding.{holds_from}
 use Rattle.sx_reach.specs.Reach.{Goes, Stops}
 use Rattle.sx_ir.specs.Conf.{Violates, Stuck}
 use Rattle.sx_invoke.specs.Windows.{read_bytes}
 use Rattle.std.proofs.lemmas.Bool.{or_right, and_from}
-use Rattle.sx_ir.specs.Meaning.{copy_in, copied_in, has_in_window, After, copied_out, saved, has_out_window}
+use Rattle.sx_ir.specs.Meaning.{copy_in, copied_in, has_in_window, OperationResult, copied_out, saved, has_out_window}
 use Rattle.sx_machine.specs.Ranges.{passes_end}
 use Rattle.sx_invoke.specs.Windows.{is_bad_window}
 use Rattle.std.proofs.lemmas.Bool.{or_left, leb-true, ltb-true, and_parts}
@@ -36,7 +36,7 @@ use Rattle.sx_ir.specs.Conf.{Conf}
 use Rattle.sx_ir.specs.Meaning.{next}
 use Rattle.sx_tmpl.specs.Running.{Regs, Fixed, Data, running, Safe}
 use Rattle.sx_tmpl.proofs.MidRun.{Stands, Runs}
-use Rattle.sx_tmpl.specs.Shows.{base_of, Holds, Shows, Stood}
+use Rattle.sx_tmpl.specs.Shows.{base_of, MemoryHolds, ShowsConfiguration, Stood}
 use Rattle.sx_tmpl.proofs.Steps.{Text, one, two}
 use Rattle.sx_tmpl.proofs.Flags.{flags_after}
 use Rattle.std.specs.Prelude.{nat_lt}
@@ -55,7 +55,7 @@ err_same : (x y : Violation) → ◌≡◌ {A = Result (List ℕ) Violation} (Er
 err_same x y e = cc
 
 -- an operation that may break: it goes on, breaks in a violation, or has no meaning
-pub data Ending (after : After) (Goes_on : Conf → Type 0) (Breaks_in : Violation → List Mark → Type 0) : Type 0 where
+pub data Ending (after : OperationResult) (Goes_on : Conf → Type 0) (Breaks_in : Violation → List Mark → Type 0) : Type 0 where
   Goes_to : (t : Conf) → after ≡ Goes t → Goes_on t → Ending after Goes_on Breaks_in
   Breaks_off : (v : Violation) (m : List Mark) → after ≡ Stops (Violates v m) → Breaks_in v m → Ending after Goes_on Breaks_in
   No_meaning : after ≡ Stops Stuck → Ending after Goes_on Breaks_in
@@ -100,7 +100,7 @@ module _ (f : Fixed) (st : Stands f) (all : List Mark) (B : Watched → Violatio
       weaker Q j k x le (Next {k = i} p e g r) = Next {k = i} p e (omega arith) r
       weaker Q j k x le (Ends p e g b) = Ends p e (omega arith) b
 
-      core : (Q : Watched → Type 0) → (has_in_window f.setup c && nat_le (suc n) 40) ≡ true → (r : Regs) (d : Data) → Text f (at c.place) 11 (copy_in_words (base_of f) (suc n) o) → at (c.place + 1) ≡ at c.place + 2 * 11 → Shows f at c r d → Safe f all (running f r d)
+      core : (Q : Watched → Type 0) → (has_in_window f.setup c && nat_le (suc n) 40) ≡ true → (r : Regs) (d : Data) → Text f (at c.place) 11 (copy_in_words (base_of f) (suc n) o) → at (c.place + 1) ≡ at c.place + 2 * 11 → ShowsConfiguration f at c r d → Safe f all (running f r d)
           → ((v : Violation) → W ≡ Err v → (w : Watched) → w.marks ≡ c.marks → B w v) → ((bs : List ℕ) → W ≡ Ok bs → (w : Watched) → Stood f all at (record (next c c.stack) { priv = put_bytes c.priv o bs }) w → Q w) → Runs f all B Q (7 + 4 * suc n) (running f r d)
       core Q ok r d t on sh safe stop done =
           let p = and_parts (has_in_window f.setup c) (nat_le (suc n) 40) ok in
@@ -111,7 +111,7 @@ module _ (f : Fixed) (st : Stands f) (all : List Mark) (B : Watched → Violatio
           (copy_in_whole f st all B at Q (at c.place) (suc n) o t d.devices safe.devices c.back c.stack c.mem r d (saved c 13) n 0 c.priv refl lt (omega arith) (λ a x y. win.1 a x (omega arith)) rg refl (omega (arith, sh.pc)) sh.holds safe
           (λ v e r2 m2. stop v (ap (λ ds. read_bytes f.setup ds c.mem (saved c 13) (suc n)) (sym sh.devices) ∙ e) (running f r2 (record d { mem = m2 })) sh.marks)
           (λ bs e r2 m2 pc2 sp2 h2 s2. Here (done bs (ap (λ ds. read_bytes f.setup ds c.mem (saved c 13) (suc n)) (sym sh.devices) ∙ e) (running f r2 (record d { mem = m2 }))
-          (record { regs = r2; rest = record d { mem = m2 }; state = refl; safe = s2; shows = record { pc = pc2 ∙ omega (arith, on); holds = subst (λ s. Holds f at c.back c.stack (put_bytes c.priv o bs) c.mem s m2) (sym sp2) h2; devices = sh.devices; marks = sh.marks } }))))
+          (record { regs = r2; rest = record d { mem = m2 }; state = refl; safe = s2; shows = record { pc = pc2 ∙ omega (arith, on); holds = subst (λ s. MemoryHolds f at c.back c.stack (put_bytes c.priv o bs) c.mem s m2) (sym sp2) h2; devices = sh.devices; marks = sh.marks } }))))
 
       read : (w : Result (List ℕ) Violation) → W ≡ w → (has_in_window f.setup c && nat_le (suc n) 40) ≡ true → Ending (copied_in c o w) G E
       read (Ok bs) ew ok = Goes_to (record (next c c.stack) { priv = put_bytes c.priv o bs }) refl (λ r d t on sh safe. core (Stood f all at (record (next c c.stack) { priv = put_bytes c.priv o bs })) ok r d t on sh safe
@@ -156,10 +156,10 @@ module _ (f : Fixed) (st : Stands f) (all : List Mark) (B : Watched → Violatio
       weaker Q j k x le (Ends p e g b) = Ends p e (omega arith) b
 
       -- the loop, by the list of the bytes
-      loop : (Q : Watched → Type 0) (xs : List ℕ) → bytes_from c.priv o (suc n) ≡ xs → length xs ≡ suc n → saved c 14 + v < 65536 → (r : Regs) (d : Data) (sr : ℕ) → (t : Text f (at c.place) 12 (copy_out_words (base_of f) (suc n) o)) → d.devices ≡ c.devices → d.marks ≡ c.marks → BytesAt d.mem (base_of f + o) xs → Holds f at c.back rest c.priv c.mem r.sp d.mem
+      loop : (Q : Watched → Type 0) (xs : List ℕ) → bytes_from c.priv o (suc n) ≡ xs → length xs ≡ suc n → saved c 14 + v < 65536 → (r : Regs) (d : Data) (sr : ℕ) → (t : Text f (at c.place) 12 (copy_out_words (base_of f) (suc n) o)) → d.devices ≡ c.devices → d.marks ≡ c.marks → BytesAt d.mem (base_of f + o) xs → MemoryHolds f at c.back rest c.priv c.mem r.sp d.mem
           → Safe f all (running f (record r { pc = at c.place + 14; sr = sr; r12 = saved c 14 + v; r13 = base_of f + o; r15 = suc n }) d)
           → ((x : Violation) → write_bytes f.setup c.devices c.mem (saved c 14 + v) xs ≡ Err x → (w : Watched) → w.marks ≡ c.marks → B w x)
-          → ((mem : List ℕ) → write_bytes f.setup c.devices c.mem (saved c 14 + v) xs ≡ Ok mem → (r2 : Regs) (m2 : List ℕ) → r2.pc ≡ at c.place + 24 → Holds f at c.back rest c.priv mem r2.sp m2 → Safe f all (running f r2 (record d { mem = m2 })) → Q (running f r2 (record d { mem = m2 })))
+          → ((mem : List ℕ) → write_bytes f.setup c.devices c.mem (saved c 14 + v) xs ≡ Ok mem → (r2 : Regs) (m2 : List ℕ) → r2.pc ≡ at c.place + 24 → MemoryHolds f at c.back rest c.priv mem r2.sp m2 → Safe f all (running f r2 (record d { mem = m2 })) → Q (running f r2 (record d { mem = m2 })))
           → Runs f all B Q (4 * suc n) (running f (record r { pc = at c.place + 14; sr = sr; r12 = saved c 14 + v; r13 = base_of f + o; r15 = suc n }) d)
       loop Q [] eq len lw r d sr t dv mk stand h safe stop done = absurd (omega arith)
       loop Q (b ∷ bs) eq len lw r d sr t dv mk stand h safe stop done =
@@ -174,11 +174,11 @@ module _ (f : Fixed) (st : Stands f) (all : List Mark) (B : Watched → Violatio
           (λ x e r2 m2. stop x (ap (λ ds. write_bytes f.setup ds c.mem (saved c 14 + v) (b ∷ bs)) (sym dv) ∙ e) (running f r2 (record d { mem = m2 })) mk)
           (λ mem e sr2 a s m2 h2 s2. Here (done mem (ap (λ ds. write_bytes f.setup ds c.mem (saved c 14 + v) (b ∷ bs)) (sym dv) ∙ e) (record r { pc = at c.place + 24; sr = sr2; r12 = a; r13 = s; r15 = 0 }) m2 refl h2 s2))))
 
-      core : (Q : Watched → Type 0) → (has_out_window f.setup c && has_copy_room c v (suc n)) ≡ true → (r : Regs) (d : Data) → Text f (at c.place) 12 (copy_out_words (base_of f) (suc n) o) → at (c.place + 1) ≡ at c.place + 2 * 12 → Shows f at c1 r d → Safe f all (running f r d)
+      core : (Q : Watched → Type 0) → (has_out_window f.setup c && has_copy_room c v (suc n)) ≡ true → (r : Regs) (d : Data) → Text f (at c.place) 12 (copy_out_words (base_of f) (suc n) o) → at (c.place + 1) ≡ at c.place + 2 * 12 → ShowsConfiguration f at c1 r d → Safe f all (running f r d)
           → ((x : Violation) → W ≡ Err x → (w : Watched) → w.marks ≡ c.marks → B w x) → ((mem : List ℕ) → W ≡ Ok mem → (w : Watched) → Stood f all at (after mem) w → Q w) → Runs f all B Q (8 + 4 * suc n) (running f r d)
       core Q ok r d t on sh safe stop done =
           let p = and_parts (has_out_window f.setup c) (has_copy_room c v (suc n)) ok in
-          let small : v + suc n ≤ 384 = leb-true (v + suc n) 384 (and_parts (nat_le (v + suc n) 384) (nat_le (v + suc n) (made c.marks)) p.1).0 in
+          let small : v + suc n ≤ 384 = leb-true (v + suc n) 384 (and_parts (nat_le (v + suc n) 384) (nat_le (v + suc n) (made_bytes c.marks)) p.1).0 in
           let win = window_free f (saved c 14) 384 (omega arith) p.0 in
           let lim = win.0 in
           let h = sh.holds in

@@ -21,9 +21,9 @@ use Rattle.sx_rules.specs.Access.{holder}
 use Rattle.sx_machine.specs.declared.kinds.Touch.{Touch}
 use Rattle.sx_machine.specs.declared.kinds.Touch.TheVariants.{DeviceRead, DeviceWrite}
 use Rattle.sx_bus.specs.declared.devices.Kind.TheVariants.{Sensor, Actuator}
-use Rattle.sx_bus.specs.Devices.{on_word, changed, stale, cleared}
+use Rattle.sx_bus.specs.Devices.{on_word, with_changed, stale, cleared}
 use Rattle.std.specs.List.{position_from}
-use Rattle.sx_machine.specs.Run.{Moment, Finished, untouched, noted, device_of, load, store, after_read, after_write}
+use Rattle.sx_machine.specs.Run.{Moment, Finished, untouched, with_touch, device_of, load, store, after_read, after_write}
 use Rattle.sx_image.specs.Watched.{marks_of_touches}
 use Rattle.sx_tmpl.proofs.Owned.{may_read, may_write}
 use Rattle.sx_tmpl.proofs.Owes.{load_word, store_word, kept_word}
@@ -41,7 +41,7 @@ use Rattle.sx_tmpl.proofs.MidRun.{Stands, Runs, put_cell}
 use Rattle.sx_tmpl.specs.Shows.{base_of, Stood}
 use Rattle.sx_machine.specs.Rows.{row}
 use Rattle.sx_machine.specs.Registers.{at_pc}
-use Rattle.sx_tmpl.specs.Running.{Kept}
+use Rattle.sx_tmpl.specs.Running.{OutsideKept}
 use Rattle.sx_tmpl.proofs.Steps.{Text, InText, Reads}
 use Rattle.sx_tmpl.proofs.Flags.{flags_after}
 use Rattle.std.specs.Prelude.{slice_get, ◌==◌}
@@ -51,7 +51,7 @@ use Rattle.sx_tmpl.proofs.Words as words
 use Rattle.sx_tmpl.proofs.Holding.{stack_word, holds_push, holds_pop}
 
 -- clearing a sensor's sample leaves where the devices are
-at_cleared : (ds : List Window) (i n a : ℕ) → position_from (on_word a) n (changed stale ds i) ≡ position_from (on_word a) n ds
+at_cleared : (ds : List Window) (i n a : ℕ) → position_from (on_word a) n (with_changed stale ds i) ≡ position_from (on_word a) n ds
 at_cleared [] i n a = refl
 at_cleared (w ∷ ds) zero n a = refl
 at_cleared (w ∷ ds) (suc i) n a = ap (λ o. cond (on_word a w) (Some n) o) (at_cleared ds i (n + 1) a)
@@ -79,7 +79,7 @@ module _ (f : Fixed) (st : Stands f) (all : List Mark) (B : Watched → Violatio
 
   -- a step that touches a device
   from_touched : (n : ℕ) (r r2 : Regs) (d : Data) (m : List ℕ) (ds : List Window) (ts : List Touch) (new : List Mark) → Safe f all (running f r d) → InText f r.pc → InText f r2.pc
-      → attempt f.setup.mac (running f r d).node ≡ Finished (regs16 f r2) (record { mem = m; devices = ds; touches = ts }) → marks_of_touches ts ≡ new → Kept f m → ((a : ℕ) → device_at ds a ≡ device_at d.devices a) → HasPrefix all (d.marks ++ new)
+      → attempt f.setup.mac (running f r d).node ≡ Finished (regs16 f r2) (record { mem = m; devices = ds; touches = ts }) → marks_of_touches ts ≡ new → OutsideKept f m → ((a : ℕ) → device_at ds a ≡ device_at d.devices a) → HasPrefix all (d.marks ++ new)
       → (Safe f all (running f r2 (record { mem = m; devices = ds; exchange = d.exchange; marks = d.marks ++ new })) → Runs f all B Q n (running f r2 (record { mem = m; devices = ds; exchange = d.exchange; marks = d.marks ++ new }))) → Runs f all B Q (suc n) (running f r d)
   unfolding watch
   from_touched n r r2 d m ds ts new safe here there at_ told kept same marks after =
@@ -97,7 +97,7 @@ module _ (f : Fixed) (st : Stands f) (all : List Mark) (B : Watched → Violatio
   base_word = omega (arith, st.room)
 
   -- a write to the actuator at the private section's start
-  store_actuator : (x : Moment) (v i : ℕ) (w : Window) → device_of x.devices (base_of f) ≡ Some (i, w) → w.kind ≡ Actuator → store f.setup.live f.setup.section.id true (base_of f) v x ≡ Ok (record x { touches = noted x.touches (DeviceWrite i v) })
+  store_actuator : (x : Moment) (v i : ℕ) (w : Window) → device_of x.devices (base_of f) ≡ Some (i, w) → w.kind ≡ Actuator → store f.setup.live f.setup.section.id true (base_of f) v x ≡ Ok (record x { touches = with_touch x.touches (DeviceWrite i v) })
   store_actuator x v i w found kind =
       let le = base_word in
       let e0 = even_is (base_of f) st.base_even in
@@ -106,7 +106,7 @@ module _ (f : Fixed) (st : Stands f) (all : List Mark) (B : Watched → Violatio
       rw (e0, m1, m2, found, kind) refl
 
   -- a read of the sensor there, which is fresh, and of one which isn't
-  load_fresh : (x : Moment) (i : ℕ) (w : Window) → device_of x.devices (base_of f) ≡ Some (i, w) → w.kind ≡ Sensor → w.fresh ≡ true → load f.setup.live f.setup.section.id true (base_of f) x ≡ Ok (0x8000 + w.value, record { mem = x.mem; devices = cleared x.devices i; touches = noted x.touches (DeviceRead i w.value) })
+  load_fresh : (x : Moment) (i : ℕ) (w : Window) → device_of x.devices (base_of f) ≡ Some (i, w) → w.kind ≡ Sensor → w.fresh ≡ true → load f.setup.live f.setup.section.id true (base_of f) x ≡ Ok (0x8000 + w.value, record { mem = x.mem; devices = cleared x.devices i; touches = with_touch x.touches (DeviceRead i w.value) })
   load_fresh x i w found kind fresh =
       let le = base_word in
       let e0 = even_is (base_of f) st.base_even in
@@ -136,14 +136,14 @@ module _ (f : Fixed) (st : Stands f) (all : List Mark) (B : Watched → Violatio
       let here : device_of d.devices (base_of f) ≡ Some (i, w) = ap (λ ds. device_of ds (base_of f)) sh.devices ∙ found in
       let is : cell d.mem r.sp ≡ v = h.words.0 in
       let g : List ℕ = at_pc (regs16 f (record r { sp = (r.sp + 2) % 65536; sr = flags_after op2.Mov 0 0 r.sr })) (at c.place + 4) in
-      let done : after_write (store f.setup.live f.setup.section.id true (base_of f) (cell d.mem r.sp) x) (λ y. Finished g y) ≡ Finished (regs16 f r2) (record x { touches = noted untouched (DeviceWrite i v) }) =
+      let done : after_write (store f.setup.live f.setup.section.id true (base_of f) (cell d.mem r.sp) x) (λ y. Finished g y) ≡ Finished (regs16 f r2) (record x { touches = with_touch untouched (DeviceWrite i v) }) =
       ap (λ r. after_write r (λ y. Finished g y)) (store_actuator x (cell d.mem r.sp) i w here kind)
-      ∙ ap (λ v. Finished g (record x { touches = noted untouched (DeviceWrite i v) })) is
-      ∙ ap (λ g. Finished g (record x { touches = noted untouched (DeviceWrite i v) })) (rw (up, flags_stay r.sr) refl) in
+      ∙ ap (λ v. Finished g (record x { touches = with_touch untouched (DeviceWrite i v) })) is
+      ∙ ap (λ g. Finished g (record x { touches = with_touch untouched (DeviceWrite i v) })) (rw (up, flags_stay r.sr) refl) in
       let at_ = two_attempt f st all B Q t 0 0x41b2 (base_of f) (λ x y. Two op2.Mov false (Increment 1) (Absolute x)) refl refl (omega arith) words.pop_absolute r d (omega (arith, sh.pc)) safe
       ∙ ap (λ r. after_read r (λ v y. after_write (store f.setup.live f.setup.section.id true (base_of f) v y) (λ y. Finished g y))) (load_word f st r.sp r.sp x refl p1 safe.devices) ∙ done in
       let mk : d.marks ++ mark.Actuated i v ∷ [] ≡ c.marks ++ mark.Actuated i v ∷ [] = ap (λ l. l ++ mark.Actuated i v ∷ []) sh.marks in
-      from_touched f st all B Q 0 r r2 d d.mem d.devices (noted untouched (DeviceWrite i v)) (mark.Actuated i v ∷ []) safe (record { from = omega (arith, sh.pc); to = omega (arith, sh.pc) }) (inside t 2 (omega arith)) at_ refl safe.memory (λ a. refl) (subst (λ l. HasPrefix all l) (sym mk) begins)
+      from_touched f st all B Q 0 r r2 d d.mem d.devices (with_touch untouched (DeviceWrite i v)) (mark.Actuated i v ∷ []) safe (record { from = omega (arith, sh.pc); to = omega (arith, sh.pc) }) (inside t 2 (omega arith)) at_ refl safe.memory (λ a. refl) (subst (λ l. HasPrefix all l) (sym mk) begins)
       (λ s. Here (record { regs = r2; rest = record d { marks = d.marks ++ mark.Actuated i v ∷ [] }; state = refl; safe = s; shows = record { pc = omega (arith, on); holds = holds_pop f st at c.back v rest c.priv c.mem r.sp d.mem h; devices = sh.devices; marks = mk } }))
 
   -- the sensor's word is pushed: fresh, with its mark, and stale
@@ -162,7 +162,7 @@ module _ (f : Fixed) (st : Stands f) (all : List Mark) (B : Watched → Violatio
       let r2 = record r { pc = at c.place + 4; sp = sp } in
       let x = start (running f r d).node in
       let here : device_of d.devices (base_of f) ≡ Some (i, w) = ap (λ ds. device_of ds (base_of f)) sh.devices ∙ found in
-      let y : Moment = record { mem = d.mem; devices = cleared d.devices i; touches = noted untouched (DeviceRead i w.value) } in
+      let y : Moment = record { mem = d.mem; devices = cleared d.devices i; touches = with_touch untouched (DeviceRead i w.value) } in
       let same : (a : ℕ) → device_at (cleared d.devices i) a ≡ device_at f.devices a = λ a. at_cleared d.devices i 0 a ∙ safe.devices a in
       let g : List ℕ = at_pc (slice_set (at_pc (regs16 f r) (at c.place + 2)) 1 ((r.sp + 65534) % 65536)) (at c.place + 4) in
       let m2 = put_cell d.mem sp v in
@@ -171,7 +171,7 @@ module _ (f : Fixed) (st : Stands f) (all : List Mark) (B : Watched → Violatio
       ∙ ap (λ o. after_write o (λ y. Finished g y)) (store_word f st ((r.sp + 65534) % 65536) sp v y down pr same)
       ∙ ap (λ g. Finished g (record y { mem = m2 })) (rw down refl) in
       let mk : d.marks ++ mark.Sampled i w.value ∷ [] ≡ c.marks ++ mark.Sampled i w.value ∷ [] = ap (λ l. l ++ mark.Sampled i w.value ∷ []) sh.marks in
-      from_touched f st all B Q 0 r r2 d m2 (cleared d.devices i) (noted untouched (DeviceRead i w.value)) (mark.Sampled i w.value ∷ []) safe (record { from = omega (arith, sh.pc); to = omega (arith, sh.pc) }) (inside t 2 (omega arith)) at_ refl
+      from_touched f st all B Q 0 r r2 d m2 (cleared d.devices i) (with_touch untouched (DeviceRead i w.value)) (mark.Sampled i w.value ∷ []) safe (record { from = omega (arith, sh.pc); to = omega (arith, sh.pc) }) (inside t 2 (omega arith)) at_ refl
       (kept_word f st d.mem sp v safe.memory pr (omega arith)) (λ a. at_cleared d.devices i 0 a) (subst (λ l. HasPrefix all l) (sym mk) begins)
       (λ s. Here (record {
         regs = r2;

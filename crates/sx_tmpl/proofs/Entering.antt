@@ -28,7 +28,7 @@ use Rattle.sx_machine.specs.Ranges.{meets, passes_end}
 use Rattle.sx_reach.proofs.Reaching.{weaken}
 use Rattle.sx_invoke.specs.Setup.{Setup}
 use Rattle.sx_invoke.specs.Devices.{HasDevices}
-use Rattle.sx_invoke.specs.Marks.{Mark, made}
+use Rattle.sx_invoke.specs.Marks.{Mark, made_bytes}
 use Rattle.sx_invoke.specs.Progress.{Invoked, bytes_in, marks_in, pieces_in}
 use Rattle.sx_invoke.specs.Windows.{is_bad_window}
 use Rattle.sx_image.specs.Watched.{Watched, watch}
@@ -191,13 +191,13 @@ module _ (s : Setup) (n : State) (result : Invoked) (e : Ready s n) where
     window_apart = λ a lo hi. apart_ (is_bad_window s out 384) refl a lo hi;
   }
     where
-      fits : (b : Bool) → is_bad_window s out 384 ≡ b → pieces_end b out (made all) ≤ 65536
+      fits : (b : Bool) → is_bad_window s out 384 ≡ b → pieces_end b out (made_bytes all) ≤ 65536
       fits true h = let w = e.node.registers.words 14 in omega (arith, w)
-      fits false h = let w = window_short s out h in let m = min-le_right (made all) 384 in omega (arith, w, m)
+      fits false h = let w = window_short s out h in let m = min-le_right (made_bytes all) 384 in omega (arith, w, m)
 
-      apart_ : (b : Bool) → is_bad_window s out 384 ≡ b → (a : ℕ) → out ≤ a → a < pieces_end b out (made all) → in_private s.section a ≡ false
+      apart_ : (b : Bool) → is_bad_window s out 384 ≡ b → (a : ℕ) → out ≤ a → a < pieces_end b out (made_bytes all) → in_private s.section a ≡ false
       apart_ true h a lo hi = absurd (omega (arith, lo, hi))
-      apart_ false h a lo hi = let m = min-le_right (made all) 384 in outside_window s out a h lo (omega (arith, hi, m))
+      apart_ false h a lo hi = let m = min-le_right (made_bytes all) 384 in outside_window s out a h lo (omega (arith, hi, m))
 
   pub sp_even : f.sp % 2 ≡ 0
   sp_even = let k : slice_index n.regs 1 - slice_index n.regs 1 % 2 ≡ slice_index n.regs 1 = e.node.registers.kept 1 in omega (arith, k)
@@ -216,7 +216,7 @@ module _ (s : Setup) (n : State) (result : Invoked) (e : Ready s n) where
       ∙ ap (λ z. record { node = record n { regs = regs16 f (regs_at n); cur = 0; sections = z }; marks = []; event = event.Quiet }) (sym sections_same)
 
   -- a moment of the templates' runs is one of the invocation's
-  underway : bytes_in (pieces_in result) ≡ made all → (w : Watched) → Safe f all w → Underway s result n w
+  underway : bytes_in (pieces_in result) ≡ made_bytes all → (w : Watched) → Safe f all w → Underway s result n w
   underway sizes w h = record {
     inside = h.inside;
     sections = h.sections ∙ sections_same;
@@ -224,7 +224,7 @@ module _ (s : Setup) (n : State) (result : Invoked) (e : Ready s n) where
     marks = h.marks;
   }
     where
-      beside : (b : Bool) (at : ℕ) → is_piece_address s out (pieces_in result) at ≡ false → (at < out) ⊎ (pieces_end b out (made all) ≤ at) ⊎ (may s.live s.section.id Write at ≡ false)
+      beside : (b : Bool) (at : ℕ) → is_piece_address s out (pieces_in result) at ≡ false → (at < out) ⊎ (pieces_end b out (made_bytes all) ≤ at) ⊎ (may s.live s.section.id Write at ≡ false)
       beside b at not_ = elim (cases_lt at out) [
         | inl lt ↦ inl lt
         | inr ge ↦ elim (cases_lt at (out + bytes_in (pieces_in result))) [
@@ -236,11 +236,11 @@ module _ (s : Setup) (n : State) (result : Invoked) (e : Ready s n) where
         ]
       ]
         where
-          past : (b : Bool) → out ≤ at → out + bytes_in (pieces_in result) ≤ at → pieces_end b out (made all) ≤ at
+          past : (b : Bool) → out ≤ at → out + bytes_in (pieces_in result) ≤ at → pieces_end b out (made_bytes all) ≤ at
           past true p q = p
-          past false p q = let m = min-le_left (made all) 384 in omega (arith, q, sizes, m)
+          past false p q = let m = min-le_left (made_bytes all) 384 in omega (arith, q, sizes, m)
 
-  pub weak : bytes_in (pieces_in result) ≡ made all → (B C : Watched → Violation → Type 0) (Q R : Watched → Type 0) (k : ℕ) (w : Watched) → ((w : Watched) (v : Violation) → B w v → C w v) → ((w : Watched) → Q w → R w) → Runs f all B Q k w → upper.Runs s result n C R k w
+  pub weak : bytes_in (pieces_in result) ≡ made_bytes all → (B C : Watched → Violation → Type 0) (Q R : Watched → Type 0) (k : ℕ) (w : Watched) → ((w : Watched) (v : Violation) → B w v → C w v) → ((w : Watched) → Q w → R w) → Runs f all B Q k w → upper.NodeRuns s result n C R k w
   weak sizes B C Q R k w b q run = weaken Watched Violation (watch s.mac) (λ _. 1) (Safe f all) (Underway s result n) B C Q R k k w (omega arith) (λ w h. underway sizes w h) b q run
 
   bytes_at : (o : ℕ) → o < length (private_bytes l n.mem) → slice_index n.mem (l.priv_from + o) ≡ slice_index (private_bytes l n.mem) o
@@ -249,7 +249,7 @@ module _ (s : Setup) (n : State) (result : Invoked) (e : Ready s n) where
       sym (bytes_from_get n.mem l.priv_from (l.priv_to - l.priv_from) o (omega (arith, lt, z)))
 
   -- the entry
-  pub enters : bytes_in (pieces_in result) ≡ made all → (at : ℕ → ℕ) → Text f l.pub_from 12 (entry_words (base_of f)) → at 0 ≡ l.pub_from + 24 → upper.Runs s result n upper.Never (Stood f all at (entry_conf l n)) 6 (begins n)
+  pub enters : bytes_in (pieces_in result) ≡ made_bytes all → (at : ℕ → ℕ) → Text f l.pub_from 12 (entry_words (base_of f)) → at 0 ≡ l.pub_from + 24 → upper.NodeRuns s result n upper.Never (Stood f all at (entry_conf l n)) 6 (begins n)
   enters sizes at text first =
       let own : own_of n ≡ s.section.id = ap (λ l. holder l (pc_of n)) (sym e.live) ∙ run_holder f stands (pc_of n) (let z = e.entry in omega (arith, z)) (let z = e.entry in let y = e.begins in omega (arith, z, y)) in
       let safe : Safe f all (entering f (regs_at n) (data_at n) n.last n.caller event.Quiet) = record {
@@ -260,7 +260,7 @@ module _ (s : Setup) (n : State) (result : Invoked) (e : Ready s n) where
         marks = (all, refl);
       } in
       let len = length-bytes_from n.mem l.priv_from (l.priv_to - l.priv_from) in
-      subst (λ w. upper.Runs s result n upper.Never (Stood f all at (entry_conf l n)) 6 w) (sym begins_is)
+      subst (λ w. upper.NodeRuns s result n upper.Never (Stood f all at (entry_conf l n)) 6 w) (sym begins_is)
       (weak sizes upper.Never upper.Never (Stood f all at (entry_conf l n)) (Stood f all at (entry_conf l n)) 6 _ (λ w v x. x) (λ w x. x)
       (entry_run f stands all upper.Never at text (regs_at n) (data_at n) n.last n.caller event.Quiet (private_bytes l n.mem) n.mem e.entry safe caller_same
       (record { sp = refl; sp_word = e.node.registers.words 1; r12 = e.node.registers.words 12; r13 = e.node.registers.words 13; r14 = e.node.registers.words 14; r15 = e.node.registers.words 15 })

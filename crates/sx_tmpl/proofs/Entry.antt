@@ -34,10 +34,10 @@ use Rattle.sx_invoke.specs.Marks.{Mark}
 use Rattle.sx_image.specs.Watched.{Watched}
 use Rattle.sx_tmpl.specs.Running.{Regs, regs16, Fixed, Data, running, Safe, cell}
 use Rattle.sx_tmpl.proofs.MidRun.{Stands, Runs, put_cell}
-use Rattle.sx_tmpl.specs.Shows.{base_of, IsData, Holds, Stood}
+use Rattle.sx_tmpl.specs.Shows.{base_of, IsData, MemoryHolds, Stood}
 use Rattle.sx_machine.specs.Rows.{row}
 use Rattle.sx_machine.specs.Registers.{at_pc}
-use Rattle.sx_tmpl.specs.Running.{Kept}
+use Rattle.sx_tmpl.specs.Running.{OutsideKept}
 use Rattle.sx_tmpl.proofs.Owes.{Owes}
 use Rattle.sx_tmpl.proofs.Steps.{Text, InText, Then, NoTell, two}
 use Rattle.std.specs.Prelude.{◌==◌}
@@ -148,7 +148,7 @@ module _ (f : Fixed) (st : Stands f) (all : List Mark) (B : Watched → Violatio
   Q0 priv outside r d = Stood f all at (record { place = 0; stack = []; priv = with_saved priv r; mem = outside; devices = d.devices; marks = d.marks; back = None })
 
   -- SP is saved first
-  holds_first : (priv outside m : List ℕ) → Loaded f priv outside m → Kept f m → Holds f at None [] priv outside (base_of f + 512) (put_cell m (base_of f + 148) f.sp)
+  holds_first : (priv outside m : List ℕ) → Loaded f priv outside m → OutsideKept f m → MemoryHolds f at None [] priv outside (base_of f + 512) (put_cell m (base_of f + 148) f.sp)
   holds_first priv outside m l k =
       let p = data_word f st 148 (omega arith) refl (omega (arith, st.room)) in
       record {
@@ -170,7 +170,7 @@ module _ (f : Fixed) (st : Stands f) (all : List Mark) (B : Watched → Violatio
       apart1 o i e = elim (i.beside) [ inl q ↦ omega arith | inr q ↦ omega arith ]
 
   -- a register is stored in its place
-  store : (o v : ℕ) (priv outside m : List ℕ) → 2 ≤ o → o + 2 ≤ 104 → o % 2 ≡ 0 → Kept f m → Holds f at None [] priv outside (base_of f + 512) m → Holds f at None [] (put_word priv o v) outside (base_of f + 512) (put_cell m (base_of f + o) v)
+  store : (o v : ℕ) (priv outside m : List ℕ) → 2 ≤ o → o + 2 ≤ 104 → o % 2 ≡ 0 → OutsideKept f m → MemoryHolds f at None [] priv outside (base_of f + 512) m → MemoryHolds f at None [] (put_word priv o v) outside (base_of f + 512) (put_cell m (base_of f + o) v)
   store o v priv outside m p q ev k h = holds_store f st at None [] priv outside (base_of f + 512) m o v k h ev (record { low = p; beside = inl (omega arith) }) (let z = h.size in let y = st.room in omega arith)
 
   pub entry_run : (t : Text f f.setup.section.layout.pub_from 12 (entry_words (base_of f))) (r : Regs) (d : Data) (last caller : ℕ) (e : Event) (priv outside : List ℕ) → r.pc ≡ f.setup.section.layout.pub_from → Safe f all (entering f r d last caller e) → entered_from (entering f r d last caller e).node f.setup.section.id ≡ f.caller

@@ -10,7 +10,7 @@ use Rattle.sx_ir.specs.declared.ir.Ir.TheVariants as ir
 use Rattle.sx_ir.specs.declared.ir.Code.{Code}
 use Rattle.sx_ir.specs.Sizes.{bytes, has_routine, is_packet}
 use Rattle.sx_ir.specs.Sound.{are_sealed, has_slot, is_even, is_free, is_sound, is_sound_op, may_change, private_size}
-use Rattle.sx_tmpl.specs.Fits.{Fits}
+use Rattle.sx_tmpl.specs.Fits.{OperationFits}
 use Rattle.sx_tmpl.specs.Performs.{HasRoom}
 use Rattle.sx_tmpl.proofs.SoundOps.{are_sound, changes, free, seals}
 
@@ -72,7 +72,7 @@ module _ (code : Code) (l : Layout) (room : HasRoom l) (sound : is_sound code.op
   low : (o : ℕ) → o ≤ 512 → l.priv_from + o < 65536
   low o le = let lim = room.private_below in let rm = room.private_size in omega (arith, le, lim, rm)
 
-  fit : (i : Ir) → is_sound_op (length ops) (length parts) size i ≡ true → Fits l code i
+  fit : (i : Ir) → is_sound_op (length ops) (length parts) size i ≡ true → OperationFits l code i
   fit (ir.Push n) h = tt
   fit (ir.Load o) h = let x = below o 2 (and_parts (is_even o) (is_free size o 2) h).1 in omega (arith, x)
   fit (ir.Store o) h = let x = below o 2 (changes size o 2 (and_parts (is_even o) (may_change size o 2) h).1) in omega (arith, x)
@@ -100,7 +100,7 @@ module _ (code : Code) (l : Layout) (room : HasRoom l) (sound : is_sound code.op
   fit (ir.Handler g) h = let lt = ltb-true g (length parts) h in (lt, (are_sound ops parts l sound).begins g lt, low 104 (omega arith))
   fit ir.Leave h = tt
 
-  pub all_fit : (p : ℕ) (i : Ir) → slice_get ops p ≡ Some i → Fits l code i
+  pub all_fit : (p : ℕ) (i : Ir) → slice_get ops p ≡ Some i → OperationFits l code i
   all_fit p i e = fit i ((are_sound ops parts l sound).each p i e)
 
   pub slots_fit : (k : ℕ) → has_routine ops k ≡ true → l.priv_from + (offsets.end_at k + 24) < 65536

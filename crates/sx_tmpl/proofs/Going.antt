@@ -7,14 +7,14 @@ use Rattle.sx_rules.specs.declared.access.Violation.{Violation}
 use Rattle.sx_tag.specs.Mac.{IsTag}
 use Rattle.sx_machine.proofs.Devices.{device_there, sample_small}
 use Rattle.sx_reach.specs.Reach.{Goes, Stops}
-use Rattle.sx_invoke.specs.Marks.{HasPrefix, Mark, made}
+use Rattle.sx_invoke.specs.Marks.{HasPrefix, Mark, made_bytes}
 use Rattle.sx_invoke.specs.Windows.{is_bad_window}
 use Rattle.sx_image.specs.Watched.{Watched}
 use Rattle.sx_ir.specs.Conf.{Conf, Halt}
 use Rattle.sx_ir.specs.Conf as conf
 use Rattle.sx_ir.specs.declared.ir.Code.{Code}
 use Rattle.sx_ir.specs.declared.ir.Ir.{Ir}
-use Rattle.sx_ir.specs.Meaning.{no_count, After, op_count, op_step, part_from}
+use Rattle.sx_ir.specs.Meaning.{no_count, OperationResult, op_count, op_step, part_from}
 use Rattle.sx_tmpl.specs.Performs.{IsNarrow, IsRegular, Never, ReturnsBehind, With}
 use Rattle.sx_tmpl.specs.Running.{Fixed, pieces_end}
 use Rattle.sx_tmpl.proofs.MidRun.{Runs, Stands}
@@ -28,16 +28,16 @@ use Rattle.sx_invoke.specs.Setup.{Call}
 
 -- What `part_from` does.
 
-goes_same : (a b : Conf) → ◌≡◌ {A = After} (Goes a) (Goes b) → a ≡ b
+goes_same : (a b : Conf) → ◌≡◌ {A = OperationResult} (Goes a) (Goes b) → a ≡ b
 goes_same a b e = cc
 
-stuck_goes : (b : Conf) → ◌≡◌ {A = After} (Stops conf.Stuck) (Goes b) → ⊥
+stuck_goes : (b : Conf) → ◌≡◌ {A = OperationResult} (Stops conf.Stuck) (Goes b) → ⊥
 stuck_goes b e = cc
 
-goes_stops : (a : Conf) (h : Halt) → ◌≡◌ {A = After} (Goes a) (Stops h) → ⊥
+goes_stops : (a : Conf) (h : Halt) → ◌≡◌ {A = OperationResult} (Goes a) (Stops h) → ⊥
 goes_stops a h e = cc
 
-stops_same : (g h : Halt) → ◌≡◌ {A = After} (Stops g) (Stops h) → g ≡ h
+stops_same : (g h : Halt) → ◌≡◌ {A = OperationResult} (Stops g) (Stops h) → g ≡ h
 stops_same g h e = cc
 
 part_goes : (parts : List (ℕ × ℕ)) (h : ℕ) (c t : Conf) → part_from parts h c ≡ Goes t → record c { place = part_place parts h; back = Some (c.place + 1) } ≡ t
@@ -50,7 +50,7 @@ part_stops [] h c w e = stops_same conf.Stuck w e
 part_stops (p ∷ parts) zero c w e = absurd (goes_stops (record c { place = p.0; back = Some (c.place + 1) }) w e)
 part_stops (p ∷ parts) (suc h) c w e = part_stops parts h c w e
 
-module _ (f : Fixed) (st : Stands f) (all : List Mark) (window : f.to ≡ pieces_end (is_bad_window f.setup f.from 384) f.from (made all)) (tag : IsTag f.setup.mac) (code : Code) (sound : AreSound code.ops.items code.parts.items f.setup.section.layout)
+module _ (f : Fixed) (st : Stands f) (all : List Mark) (window : f.to ≡ pieces_end (is_bad_window f.setup f.from 384) f.from (made_bytes all)) (tag : IsTag f.setup.mac) (code : Code) (sound : AreSound code.ops.items code.parts.items f.setup.section.layout)
     (narrow : (p : ℕ) (i : Ir) → slice_get code.ops.items p ≡ Some i → IsNarrow i) (text : (k : ℕ) → k < 2 * length (text_words f.setup.section.layout code) → slice_index f.entered (f.setup.section.layout.pub_from + k) ≡ slice_index (bytes_of (text_words f.setup.section.layout code)) k) where
   abbrev ops : List Ir
   ops = code.ops.items
@@ -82,8 +82,8 @@ module _ (f : Fixed) (st : Stands f) (all : List Mark) (window : f.to ≡ pieces
     back = λ p is. back p (subst (ReturnsBehind ops) is h.back);
   }
     where
-      to : (b : Bool) → pieces_end b f.from (made all) ≡ f.to → not b ≡ true → (k : ℕ) → k ≤ 384 → k ≤ made all → f.from + k ≤ f.to
-      to false e ok k short few = let m : k ≤ min (made all) 384 = le-min few short in omega (arith, m, e)
+      to : (b : Bool) → pieces_end b f.from (made_bytes all) ≡ f.to → not b ≡ true → (k : ℕ) → k ≤ 384 → k ≤ made_bytes all → f.from + k ≤ f.to
+      to false e ok k short few = let m : k ≤ min (made_bytes all) 384 = le-min few short in omega (arith, m, e)
       to true e ok k short few = absurd (true≢false (sym ok))
 
       back : (p : ℕ) → ReturnsBehind ops (Some p) → IsTarget f (a.at p)

@@ -31,7 +31,7 @@ use Rattle.sx_ir.specs.Conf.{Conf}
 use Rattle.sx_ir.specs.Meaning.{next}
 use Rattle.sx_tmpl.specs.Running.{Regs, regs16, Fixed, Data, running, Safe, cell}
 use Rattle.sx_tmpl.proofs.MidRun.{Stands, Runs}
-use Rattle.sx_tmpl.specs.Shows.{base_of, Holds, Shows, Stood}
+use Rattle.sx_tmpl.specs.Shows.{base_of, MemoryHolds, ShowsConfiguration, Stood}
 use Rattle.sx_tmpl.proofs.Steps.{Text, one, two}
 use Rattle.sx_tmpl.proofs.Flags.{flags_after, no_borrow, borrow}
 use Rattle.std.specs.Prelude.{pos, slice_get}
@@ -63,7 +63,7 @@ abbrev pub inside_words : Fixed → List ℕ
 inside_words f = 0x421c ∷ (base_of f + 12) ∷ 0x903c ∷ f.setup.section.layout.pub_from ∷ 0x2804 ∷ 0x903c ∷ f.setup.section.layout.pub_to ∷ 0x2c01 ∷ 0 ∷ []
 
 module _ (f : Fixed) (st : Stands f) (all : List Mark) (B : Watched → Violation → Type 0) (at : ℕ → ℕ) where
-  core : (Q : Watched → Type 0) (c : Conf) (r : Regs) (d : Data) → Text f (at c.place) 9 (inside_words f) → Shows f at c r d → Safe f all (running f r d)
+  core : (Q : Watched → Type 0) (c : Conf) (r : Regs) (d : Data) → Text f (at c.place) 9 (inside_words f) → ShowsConfiguration f at c r d → Safe f all (running f r d)
       → (in_public f.setup.section (even (saved c 15)) ≡ true → (w : Watched) → w.marks ≡ c.marks → B w bad.Illegal)
       → (in_public f.setup.section (even (saved c 15)) ≡ false → (r2 : Regs) → r2.pc ≡ at c.place + 18 → r2.sp ≡ r.sp → Safe f all (running f r2 d) → Q (running f r2 d)) → Runs f all B Q 6 (running f r d)
   core Q c r d t sh safe stop done =
@@ -153,4 +153,4 @@ module _ (f : Fixed) (st : Stands f) (all : List Mark) (B : Watched → Violatio
       either : (b : Bool) → in_public f.setup.section (even (saved c 15)) ≡ b → Ending (cond b (Stops (Violates bad.Illegal c.marks)) (Goes (next c c.stack))) (λ t. Leads f st all B at 9 (inside_words f) 6 c t) (λ v m. Breaks f st all B at 9 (inside_words f) 6 c v m)
       either true e = Breaks_off bad.Illegal c.marks refl (λ r d t on sh safe ends. core (λ _. ⊥) c r d t sh safe (λ _ w m. ends w m) (λ out. absurd (true≢false (sym e ∙ out))))
       either false e = Goes_to (next c c.stack) refl (λ r d t on sh safe. core (Stood f all at (next c c.stack)) c r d t sh safe (λ in_. absurd (true≢false (sym in_ ∙ e)))
-          (λ _ r2 pc2 sp2 s2. record { regs = r2; rest = d; state = refl; safe = s2; shows = record { pc = pc2 ∙ omega (arith, on); holds = subst (λ s. Holds f at c.back c.stack c.priv c.mem s d.mem) (sym sp2) sh.holds; devices = sh.devices; marks = sh.marks } }))
+          (λ _ r2 pc2 sp2 s2. record { regs = r2; rest = d; state = refl; safe = s2; shows = record { pc = pc2 ∙ omega (arith, on); holds = subst (λ s. MemoryHolds f at c.back c.stack c.priv c.mem s d.mem) (sym sp2) sh.holds; devices = sh.devices; marks = sh.marks } }))

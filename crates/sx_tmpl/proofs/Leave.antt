@@ -31,10 +31,10 @@ use Rattle.sx_image.specs.Watched.{Watched}
 use Rattle.sx_ir.specs.Conf.{Conf}
 use Rattle.sx_tmpl.specs.Running.{Regs, regs16, Fixed, Data, running, Safe, cell}
 use Rattle.sx_tmpl.proofs.MidRun.{Stands, Runs}
-use Rattle.sx_tmpl.specs.Shows.{base_of, IsData, Holds, Shows}
+use Rattle.sx_tmpl.specs.Shows.{base_of, IsData, MemoryHolds, ShowsConfiguration}
 use Rattle.sx_machine.specs.Rows.{row}
 use Rattle.sx_machine.specs.Registers.{at_pc}
-use Rattle.sx_tmpl.specs.Running.{Kept}
+use Rattle.sx_tmpl.specs.Running.{OutsideKept}
 use Rattle.sx_tmpl.proofs.Steps.{Text, InText, NoTell, one, two}
 use Rattle.sx_tmpl.proofs.Flags.{flags_after}
 use Rattle.std.specs.Prelude.{slice_get, ◌==◌}
@@ -74,7 +74,7 @@ exited f r d = record {
 module _ (f : Fixed) (st : Stands f) (all : List Mark) (B : Watched → Violation → Type 0) (Q : Watched → Type 0) where
   -- what is to follow a plain instruction that leaves the text
   abbrev Out : ℕ → Data → List ℕ → List ℕ → Type 0
-  Out n d regs m = (r2 : Regs) × (regs ≡ regs16 f r2) × (in_public f.setup.section r2.pc ≡ false) × (Kept f m → Runs f all B Q n (exited f r2 (record d { mem = m })))
+  Out n d regs m = (r2 : Regs) × (regs ≡ regs16 f r2) × (in_public f.setup.section r2.pc ≡ false) × (OutsideKept f m → Runs f all B Q n (exited f r2 (record d { mem = m })))
 
   not_held : (a : ℕ) → in_public f.setup.section a ≡ false → (holder f.setup.live a == f.setup.section.id) ≡ false
   not_held a h = elim (cases_eq (holder f.setup.live a) f.setup.section.id) [
@@ -111,16 +111,16 @@ exit_regs f status count back = record { pc = back; sp = f.sp; sr = 0; r4 = 0; r
 pub record Departed (f : Fixed) (at : ℕ → ℕ) (c : Conf) (status count : ℕ) (w : Watched) : Type 0 where
   pub rest : Data
   pub state : w ≡ exited f (exit_regs f status count (saved c 15 - saved c 15 % 2)) rest
-  pub kept : Kept f rest.mem
+  pub kept : OutsideKept f rest.mem
   pub sp : ℕ
-  pub holds : Holds f at c.back c.stack c.priv c.mem sp rest.mem
+  pub holds : MemoryHolds f at c.back c.stack c.priv c.mem sp rest.mem
   pub devices : rest.devices ≡ c.devices
   pub marks : rest.marks ≡ c.marks
 
 module _ (f : Fixed) (st : Stands f) (all : List Mark) (B : Watched → Violation → Type 0) (at : ℕ → ℕ) where
   -- the last instruction: MOV &return, PC
   return_out : (Q : Watched → Type 0) {P n : ℕ} {ws : List ℕ} (t : Text f P n ws) (k : ℕ) → slice_get ws k ≡ Some 0x4210 → slice_get ws (k + 1) ≡ Some (base_of f + 12) → k + 2 ≤ n → (r : Regs) (d : Data) (back : ℕ) → r.pc ≡ P + 2 * k → Safe f all (running f r d)
-      → cell d.mem (base_of f + 12) ≡ back → in_public f.setup.section (back - back % 2) ≡ false → r.sr ≡ 0 → (Kept f d.mem → Q (exited f (record r { pc = back - back % 2; sr = 0 }) d)) → Runs f all B Q 1 (running f r d)
+      → cell d.mem (base_of f + 12) ≡ back → in_public f.setup.section (back - back % 2) ≡ false → r.sr ≡ 0 → (OutsideKept f d.mem → Q (exited f (record r { pc = back - back % 2; sr = 0 }) d)) → Runs f all B Q 1 (running f r d)
   return_out Q {P = P} {n = n} t k has has1 fits r d back pc safe is out sr0 after =
       let low = t.from in
       let high = t.to in
@@ -143,7 +143,7 @@ module _ (f : Fixed) (st : Stands f) (all : List Mark) (B : Watched → Violatio
       (owes_met f st (Out f st all B Q 0 d) (NoTell f st all B Q) (B (running f r d)) (row (Two op2.Mov false (Absolute (base_of f + 12)) (Reg 0)) (at_pc (regs16 f r) ((r.pc + 2) % 65536)) ((r.pc + 4) % 65536)) x safe.devices safe.memory
       (base_of f + 12, refl, p12, back, is, λ kept. (r2, rw stay refl, out, λ kept2. Here (after kept2))))
 
-  pub leave_run : (c : Conf) (status count : ℕ) (rest : List ℕ) → f.sp % 2 ≡ 0 → in_public f.setup.section (saved c 15 - saved c 15 % 2) ≡ false → 14 ≤ length c.priv → (r : Regs) (d : Data) → Text f (at c.place) 17 (leave_words (base_of f)) → Shows f at (record c { stack = count ∷ status ∷ rest }) r d → Safe f all (running f r d)
+  pub leave_run : (c : Conf) (status count : ℕ) (rest : List ℕ) → f.sp % 2 ≡ 0 → in_public f.setup.section (saved c 15 - saved c 15 % 2) ≡ false → 14 ≤ length c.priv → (r : Regs) (d : Data) → Text f (at c.place) 17 (leave_words (base_of f)) → ShowsConfiguration f at (record c { stack = count ∷ status ∷ rest }) r d → Safe f all (running f r d)
       → Runs f all B (Departed f at (record c { stack = count ∷ status ∷ rest }) status count) 15 (running f r d)
   leave_run c status count rest sp_even out long r d t sh safe =
       let Q = Departed f at (record c { stack = count ∷ status ∷ rest }) status count in

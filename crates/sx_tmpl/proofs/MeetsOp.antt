@@ -20,7 +20,7 @@ use Rattle.sx_ir.specs.Conf.{Conf}
 use Rattle.sx_ir.specs.Meaning.{next}
 use Rattle.sx_tmpl.specs.Running.{Regs, Fixed, running, Safe}
 use Rattle.sx_tmpl.proofs.MidRun.{Stands, Runs, put_cell}
-use Rattle.sx_tmpl.specs.Shows.{base_of, Holds, Stood}
+use Rattle.sx_tmpl.specs.Shows.{base_of, MemoryHolds, Stood}
 use Rattle.sx_tmpl.proofs.Steps.{one, two}
 use Rattle.sx_tmpl.proofs.Flags.{flags_after, no_borrow, borrow}
 use Rattle.std.specs.Prelude.{pos, nat_lt}
@@ -164,7 +164,7 @@ module _ (f : Fixed) (st : Stands f) (all : List Mark) (B : Watched → Violatio
           let to : (at c.place + 26 + 2) % 65536 ≡ at c.place + 28 = omega (arith, t.to, st.below) in
           let r3 = record r2 { pc = at c.place + 24; sp = sp } in
           let r4 = record r3 { pc = at c.place + 28 } in
-          let hp = holds_push f st at c.back c.stack c.priv c.mem r2.sp d.mem sp 1 safe.memory (subst (λ s. Holds f at c.back c.stack c.priv c.mem s d.mem) (sym sp_) h) (omega arith) (omega arith) in
+          let hp = holds_push f st at c.back c.stack c.priv c.mem r2.sp d.mem sp 1 safe.memory (subst (λ s. MemoryHolds f at c.back c.stack c.priv c.mem s d.mem) (sym sp_) h) (omega arith) (omega arith) in
           subst (λ v. Runs f all B (Stood f all at (next c (truth v ∷ c.stack))) (suc (suc j)) (running f r2 d)) (sym e)
           (one f st all B _ t 11 0x1213 (λ x y. One op1.Push false (Const 1)) refl (omega arith) w.push_one event.Quiet r2 d (suc j) pc safe2 (
             sp,
@@ -192,7 +192,7 @@ module _ (f : Fixed) (st : Stands f) (all : List Mark) (B : Watched → Violatio
           let pr = stack_word f st sp (length (0 ∷ c.stack)) (omega arith) (omega arith) (omega arith) in
           let down : (r2.sp + 65534) % 65536 ≡ sp = omega (arith, st.beneath, st.room) in
           let r3 = record r2 { pc = at c.place + 28; sp = sp } in
-          let hp = holds_push f st at c.back c.stack c.priv c.mem r2.sp d.mem sp 0 safe.memory (subst (λ s. Holds f at c.back c.stack c.priv c.mem s d.mem) (sym sp_) h) (omega arith) (omega arith) in
+          let hp = holds_push f st at c.back c.stack c.priv c.mem r2.sp d.mem sp 0 safe.memory (subst (λ s. MemoryHolds f at c.back c.stack c.priv c.mem s d.mem) (sym sp_) h) (omega arith) (omega arith) in
           subst (λ v. Runs f all B (Stood f all at (next c (truth v ∷ c.stack))) (suc (suc j)) (running f r2 d)) (sym e)
           (one f st all B _ t 13 0x1203 (λ x y. One op1.Push false (Const 0)) refl (omega arith) w.push_zero event.Quiet r2 d (suc j) pc safe2 (
             sp,

@@ -35,7 +35,7 @@ use Rattle.sx_invoke.specs.Marks.{Mark}
 use Rattle.sx_image.specs.Watched.{Watched}
 use Rattle.sx_tmpl.specs.Running.{Regs, Fixed, Data, running, Safe, cell}
 use Rattle.sx_tmpl.proofs.MidRun.{Stands, Runs, put_cell}
-use Rattle.sx_tmpl.specs.Shows.{base_of, IsData, Holds}
+use Rattle.sx_tmpl.specs.Shows.{base_of, IsData, MemoryHolds}
 use Rattle.sx_tmpl.proofs.Steps.{Text, InText, one, two}
 use Rattle.sx_tmpl.proofs.Flags.{flags_after, equal, unequal}
 use Rattle.std.specs.Prelude.{pos, slice_get, nat_lt, ◌==◌}
@@ -58,7 +58,7 @@ module _ (f : Fixed) (st : Stands f) (all : List Mark) (B : Watched → Violatio
   more n m c le (Ends p e h b) = Ends p e (omega arith) b
 
   abbrev H : List ℕ → List ℕ → ℕ → List ℕ → Type 0
-  H stack outside sp m = Holds f at back stack priv outside sp m
+  H stack outside sp m = MemoryHolds f at back stack priv outside sp m
 
   -- a word of the end's slot
   slot_word : (o : ℕ) (stack outside : List ℕ) (sp : ℕ) (m : List ℕ) → o % 2 ≡ 0 → o + 2 ≤ 24 → H stack outside sp m → (cell m (base_of f + (512 + 24 * k + o)) ≡ word priv (512 + 24 * k + o)) × PrivateWord f (base_of f + (512 + 24 * k + o))
@@ -489,8 +489,8 @@ module _ (f : Fixed) (st : Stands f) (all : List Mark) (B : Watched → Violatio
           )
 
   -- back to where the routine was called
-  pub return_run : (r : Regs) (d : Data) (priv2 stack outside : List ℕ) (ret j : ℕ) → r.pc ≡ A + 2 * 55 → Holds f at back (ret ∷ stack) priv2 outside r.sp d.mem → InText f ret → ret % 2 ≡ 0 → Safe f all (running f r d)
-      → (Holds f at back stack priv2 outside (r.sp + 2) d.mem → Safe f all (running f (record r { pc = ret; sp = r.sp + 2 }) d) → R j (running f (record r { pc = ret; sp = r.sp + 2 }) d)) → R (suc j) (running f r d)
+  pub return_run : (r : Regs) (d : Data) (priv2 stack outside : List ℕ) (ret j : ℕ) → r.pc ≡ A + 2 * 55 → MemoryHolds f at back (ret ∷ stack) priv2 outside r.sp d.mem → InText f ret → ret % 2 ≡ 0 → Safe f all (running f r d)
+      → (MemoryHolds f at back stack priv2 outside (r.sp + 2) d.mem → Safe f all (running f (record r { pc = ret; sp = r.sp + 2 }) d) → R j (running f (record r { pc = ret; sp = r.sp + 2 }) d)) → R (suc j) (running f r d)
   return_run r d priv2 stack outside ret j pc h to ev safe after =
       let p1 = stack_word f st r.sp (length (ret ∷ stack)) h.top (omega arith) (omega (arith, h.room)) in
       let up : (r.sp + 2) % 65536 ≡ r.sp + 2 = omega (arith, p1.high, st.beneath) in
@@ -500,7 +500,7 @@ module _ (f : Fixed) (st : Stands f) (all : List Mark) (B : Watched → Violatio
 
   -- number and count of pieces rise
   pub counts_run : (e : EndState) → end_state priv k ≡ e → (r : Regs) (d : Data) (stack outside : List ℕ) (ret p j : ℕ) → r.pc ≡ A + 2 * 51 → H (ret ∷ stack) outside r.sp d.mem → e.number < 65535 → word priv offsets.pieces_at ≡ p → p < 65535 → InText f ret → ret % 2 ≡ 0 → Safe f all (running f r d)
-      → ((sr : ℕ) (m : List ℕ) → Holds f at back stack (put_word (put_word priv (offsets.end_number_at k) (e.number + 1)) offsets.pieces_at (p + 1)) outside (r.sp + 2) m
+      → ((sr : ℕ) (m : List ℕ) → MemoryHolds f at back stack (put_word (put_word priv (offsets.end_number_at k) (e.number + 1)) offsets.pieces_at (p + 1)) outside (r.sp + 2) m
       → Safe f all (running f (record r { pc = ret; sp = r.sp + 2; sr = sr }) (record d { mem = m })) → R j (running f (record r { pc = ret; sp = r.sp + 2; sr = sr }) (record d { mem = m })))
       → R (suc (suc (suc j))) (running f r d)
   unfolding end_state
@@ -578,7 +578,7 @@ module _ (f : Fixed) (st : Stands f) (all : List Mark) (B : Watched → Violatio
       → (marks : List Mark) → d.marks ++ mark.Wrapped (event_header e) (windows.two v) false ∷ [] ≡ marks → HasPrefix all marks
       → ((x : Violation) → write_bytes f.setup d.devices outside (out + 24 * p) (event_packet f.setup e v) ≡ Err x → (c : Watched) → c.marks ≡ marks → B c x)
       → ((mem : List ℕ) → write_bytes f.setup d.devices outside (out + 24 * p) (event_packet f.setup e v) ≡ Ok mem → (r2 : Regs) (d2 : Data) → r2.pc ≡ ret
-      → Holds f at back (v ∷ rest) (put_word (put_word priv (offsets.end_number_at k) (e.number + 1)) offsets.pieces_at (p + 1)) mem r2.sp d2.mem → d2.devices ≡ d.devices → d2.marks ≡ marks → Safe f all (running f r2 d2) → R j (running f r2 d2))
+      → MemoryHolds f at back (v ∷ rest) (put_word (put_word priv (offsets.end_number_at k) (e.number + 1)) offsets.pieces_at (p + 1)) mem r2.sp d2.mem → d2.devices ≡ d.devices → d2.marks ≡ marks → Safe f all (running f r2 d2) → R j (running f r2 d2))
       → R (121 + j) (running f r d)
   send_run tag e is r d ret v rest outside p out j pc h safe ln ip lp io lo w1 w2 to ev marks em begins stop done =
       let W = wrapped f.setup.mac e.key (event_header e) (windows.two v) in

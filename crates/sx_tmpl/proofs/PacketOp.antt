@@ -14,7 +14,7 @@ use Rattle.sx_tag.specs.Mac.{IsTag}
 use Rattle.sx_tmpl.proofs.Packet.{is_ready, tests_run, send_run, return_run}
 use Rattle.sx_reach.specs.Reach.{Goes, Stops}
 use Rattle.sx_ir.specs.Conf.{Halt, Violates, Stuck}
-use Rattle.sx_ir.specs.Meaning.{After, send, send_open, copied_out, packed, sealed_event, saved, pieces, has_out_window}
+use Rattle.sx_ir.specs.Meaning.{OperationResult, send, send_open, copied_out, packed, sealed_event, saved, pieces, has_out_window}
 use Rattle.sx_machine.specs.Ranges.{passes_end}
 use Rattle.sx_invoke.specs.Windows.{is_bad_window}
 use Rattle.std.proofs.lemmas.Bool.{or_left, leb-true, ltb-true, and_parts}
@@ -32,29 +32,29 @@ use Rattle.sx_ir.specs.Conf.{Conf}
 use Rattle.sx_ir.specs.Meaning.{next}
 use Rattle.sx_tmpl.specs.Running.{Regs, Fixed, Data, running, Safe}
 use Rattle.sx_tmpl.proofs.MidRun.{Stands, Runs, put_cell}
-use Rattle.sx_tmpl.specs.Shows.{base_of, Holds, Shows, Stood}
+use Rattle.sx_tmpl.specs.Shows.{base_of, MemoryHolds, ShowsConfiguration, Stood}
 use Rattle.sx_tmpl.proofs.Steps.{Text, InText, two}
 use Rattle.std.specs.Prelude.{nat_lt}
 use Rattle.std.proofs.lemmas.Bool.{cases_lt, lt-ltb}
 use Rattle.sx_tmpl.proofs.Plain.{inside, Leads}
-use Rattle.sx_tmpl.proofs.Made.{made-append, made_prefix}
+use Rattle.sx_tmpl.proofs.Made.{made_bytes-append, made_prefix}
 use Rattle.sx_ir.specs.Meaning.{has_packet_room}
-use Rattle.sx_invoke.specs.Marks.{made}
+use Rattle.sx_invoke.specs.Marks.{made_bytes}
 use Rattle.sx_tmpl.proofs.Words as w
 use Rattle.sx_tmpl.proofs.Holding.{stack_word, holds_push}
 
 -- with the packet's wrap the marks make its bytes, too
-packet_made : (all marks : List Mark) (header body : List ℕ) (p : ℕ) → 24 * p ≤ made marks → HasPrefix all (marks ++ mark.Wrapped header body false ∷ []) → 24 * p + 24 ≤ made all
+packet_made : (all marks : List Mark) (header body : List ℕ) (p : ℕ) → 24 * p ≤ made_bytes marks → HasPrefix all (marks ++ mark.Wrapped header body false ∷ []) → 24 * p + 24 ≤ made_bytes all
 packet_made all marks header body p room begins =
     let x = made_prefix all (marks ++ mark.Wrapped header body false ∷ []) begins in
-    let y = made-append marks (mark.Wrapped header body false ∷ []) in
+    let y = made_bytes-append marks (mark.Wrapped header body false ∷ []) in
     omega (arith, room, x, y)
 
 -- what `Packet` does, in words
-pub data Sending (f : Fixed) (c : Conf) (k v : ℕ) (e : EndState) (after : After) : Type 0 where
+pub data Sending (f : Fixed) (c : Conf) (k v : ℕ) (e : EndState) (after : OperationResult) : Type 0 where
   Idle : is_ready e ≡ false → after ≡ Goes (next c c.stack) → Sending f c k v e after
-  Sent : (mem : List ℕ) → is_ready e ≡ true → has_out_window f.setup c ≡ true → saved c 14 + 384 ≤ 65536 → 24 * pieces c + 24 ≤ 384 → 24 * pieces c ≤ made c.marks → write_bytes f.setup c.devices c.mem (saved c 14 + 24 * pieces c) (event_packet f.setup e v) ≡ Ok mem → after ≡ Goes (packed (sealed_event c e v) k e mem) → Sending f c k v e after
-  Refused : (x : Violation) → is_ready e ≡ true → has_out_window f.setup c ≡ true → saved c 14 + 384 ≤ 65536 → 24 * pieces c + 24 ≤ 384 → 24 * pieces c ≤ made c.marks → write_bytes f.setup c.devices c.mem (saved c 14 + 24 * pieces c) (event_packet f.setup e v) ≡ Err x → after ≡ Stops (Violates x (sealed_event c e v).marks) → Sending f c k v e after
+  Sent : (mem : List ℕ) → is_ready e ≡ true → has_out_window f.setup c ≡ true → saved c 14 + 384 ≤ 65536 → 24 * pieces c + 24 ≤ 384 → 24 * pieces c ≤ made_bytes c.marks → write_bytes f.setup c.devices c.mem (saved c 14 + 24 * pieces c) (event_packet f.setup e v) ≡ Ok mem → after ≡ Goes (packed (sealed_event c e v) k e mem) → Sending f c k v e after
+  Refused : (x : Violation) → is_ready e ≡ true → has_out_window f.setup c ≡ true → saved c 14 + 384 ≤ 65536 → 24 * pieces c + 24 ≤ 384 → 24 * pieces c ≤ made_bytes c.marks → write_bytes f.setup c.devices c.mem (saved c 14 + 24 * pieces c) (event_packet f.setup e v) ≡ Err x → after ≡ Stops (Violates x (sealed_event c e v).marks) → Sending f c k v e after
   Nothing_said : after ≡ Stops Stuck → Sending f c k v e after
 
 pub sending : (f : Fixed) (c : Conf) (k v : ℕ) (e : EndState) → Sending f c k v e (send f.setup c k v e)
@@ -69,14 +69,14 @@ sending f c k v e = window (has_out_window f.setup c) refl
       | inr ge ↦ ge
     ]
 
-    copied : (w : Result (List ℕ) Violation) → W ≡ w → has_out_window f.setup c ≡ true → is_ready e ≡ true → 24 * pieces c + 24 ≤ 384 → 24 * pieces c ≤ made c.marks → Sending f c k v e (copied_out w (sealed_event c e v) (packed (sealed_event c e v) k e))
+    copied : (w : Result (List ℕ) Violation) → W ≡ w → has_out_window f.setup c ≡ true → is_ready e ≡ true → 24 * pieces c + 24 ≤ 384 → 24 * pieces c ≤ made_bytes c.marks → Sending f c k v e (copied_out w (sealed_event c e v) (packed (sealed_event c e v) k e))
     copied (Ok mem) ew h r n m = Sent mem r h (short h) n m ew refl
     copied (Err x) ew h r n m = Refused x r h (short h) n m ew refl
 
     fits : (b : Bool) → has_packet_room c ≡ b → has_out_window f.setup c ≡ true → is_ready e ≡ true → Sending f c k v e (cond b (copied_out W (sealed_event c e v) (packed (sealed_event c e v) k e)) (Stops Stuck))
     fits true n h r =
-        let b = and_parts (nat_le (24 * pieces c + 24) 384) (nat_le (24 * pieces c) (made c.marks)) n in
-        copied W refl h r (leb-true (24 * pieces c + 24) 384 b.0) (leb-true (24 * pieces c) (made c.marks) b.1)
+        let b = and_parts (nat_le (24 * pieces c + 24) 384) (nat_le (24 * pieces c) (made_bytes c.marks)) n in
+        copied W refl h r (leb-true (24 * pieces c + 24) 384 b.0) (leb-true (24 * pieces c) (made_bytes c.marks) b.1)
     fits false n h r = Nothing_said refl
 
     ready : (b : Bool) → is_ready e ≡ b → has_out_window f.setup c ≡ true → Sending f c k v e (cond b (send_open f.setup c k v e) (Goes (next c c.stack)))
@@ -90,12 +90,12 @@ sending f c k v e = window (has_out_window f.setup c) refl
 module _ (f : Fixed) (st : Stands f) (all : List Mark) (B : Watched → Violation → Type 0) (at : ℕ → ℕ) where
   -- the call and the tests, and then either branch
   packet_core : (Q : Watched → Type 0) → IsTag f.setup.mac → (c : Conf) (k v A : ℕ) (rest : List ℕ) (j : ℕ) → offsets.end_at k + 24 ≤ length c.priv → length (v ∷ rest) ≤ 160
-      → (r : Regs) (d : Data) → Text f (at c.place) 2 (0x12b0 ∷ A ∷ []) → Text f A 56 (routine_words (base_of f) k) → at (c.place + 1) ≡ at c.place + 2 * 2 → Shows f at (record c { stack = v ∷ rest }) r d → Safe f all (running f r d)
+      → (r : Regs) (d : Data) → Text f (at c.place) 2 (0x12b0 ∷ A ∷ []) → Text f A 56 (routine_words (base_of f) k) → at (c.place + 1) ≡ at c.place + 2 * 2 → ShowsConfiguration f at (record c { stack = v ∷ rest }) r d → Safe f all (running f r d)
       → (let e = end_state c.priv k in let marks = c.marks ++ mark.Wrapped (event_header e) (windows.two v) false ∷ [] in
-      (is_ready e ≡ false → (r2 : Regs) (d2 : Data) → Shows f at (next c (v ∷ rest)) r2 d2 → Safe f all (running f r2 d2) → Runs f all B Q j (running f r2 d2))
+      (is_ready e ≡ false → (r2 : Regs) (d2 : Data) → ShowsConfiguration f at (next c (v ∷ rest)) r2 d2 → Safe f all (running f r2 d2) → Runs f all B Q j (running f r2 d2))
       → (is_ready e ≡ true → (saved c 14 + 384 ≤ 65536) × (24 * pieces c + 24 ≤ 384) × (f.from ≤ saved c 14 + 24 * pieces c) × (saved c 14 + 24 * pieces c + 24 ≤ f.to) × HasPrefix all marks)
       → (is_ready e ≡ true → (x : Violation) → write_bytes f.setup c.devices c.mem (saved c 14 + 24 * pieces c) (event_packet f.setup e v) ≡ Err x → (w : Watched) → w.marks ≡ marks → B w x)
-      → (is_ready e ≡ true → (mem : List ℕ) → write_bytes f.setup c.devices c.mem (saved c 14 + 24 * pieces c) (event_packet f.setup e v) ≡ Ok mem → (r2 : Regs) (d2 : Data) → Shows f at (packed (sealed_event (record c { stack = v ∷ rest }) e v) k e mem) r2 d2 → Safe f all (running f r2 d2) → Runs f all B Q j (running f r2 d2))
+      → (is_ready e ≡ true → (mem : List ℕ) → write_bytes f.setup c.devices c.mem (saved c 14 + 24 * pieces c) (event_packet f.setup e v) ≡ Ok mem → (r2 : Regs) (d2 : Data) → ShowsConfiguration f at (packed (sealed_event (record c { stack = v ∷ rest }) e v) k e mem) r2 d2 → Safe f all (running f r2 d2) → Runs f all B Q j (running f r2 d2))
       → Runs f all B Q (126 + j) (running f r d))
   packet_core Q tag c k v A rest j slot len r d t rt on sh safe idle fine stop done =
       let e = end_state c.priv k in
@@ -139,7 +139,7 @@ module _ (f : Fixed) (st : Stands f) (all : List Mark) (B : Watched → Violatio
               let same_marks : d1.marks ++ mark.Wrapped (event_header e) (windows.two v) false ∷ [] ≡ marks = ap (λ l. l ++ mark.Wrapped (event_header e) (windows.two v) false ∷ []) sh.marks in
               subst (λ ds. ((x : Violation) → write_bytes f.setup ds c.mem (saved c 14 + 24 * pieces c) (event_packet f.setup e v) ≡ Err x → (w : Watched) → w.marks ≡ marks → B w x)
               → ((mem : List ℕ) → write_bytes f.setup ds c.mem (saved c 14 + 24 * pieces c) (event_packet f.setup e v) ≡ Ok mem → (r2 : Regs) (d2 : Data) → r2.pc ≡ ret
-              → Holds f at c.back (v ∷ rest) (put_word (put_word c.priv (offsets.end_number_at k) (e.number + 1)) offsets.pieces_at (pieces c + 1)) mem r2.sp d2.mem → d2.devices ≡ d.devices → d2.marks ≡ marks → Safe f all (running f r2 d2) → Runs f all B Q j (running f r2 d2))
+              → MemoryHolds f at c.back (v ∷ rest) (put_word (put_word c.priv (offsets.end_number_at k) (e.number + 1)) offsets.pieces_at (pieces c + 1)) mem r2.sp d2.mem → d2.devices ≡ d.devices → d2.marks ≡ marks → Safe f all (running f r2 d2) → Runs f all B Q j (running f r2 d2))
               → Runs f all B Q (121 + j) (running f (record r1 { pc = A + 12; sr = sr }) d1)) sh.devices
               (send_run f st all B at Q k A rt c.back c.priv slot tag e refl (record r1 { pc = A + 12; sr = sr }) d1 ret v rest c.mem (pieces c) (saved c 14) j refl h1 s2 ln refl ok.1 refl ok.0 ok.2 ok.3 to ev marks same_marks ok.4)
               (stop yr)
@@ -161,13 +161,13 @@ module _ (f : Fixed) (st : Stands f) (all : List Mark) (B : Watched → Violatio
   err_same : (x y : Violation) → ◌≡◌ {A = Result (List ℕ) Violation} (Err x) (Err y) → x ≡ y
   err_same x y e = cc
 
-  goes_same : (a b : Conf) → ◌≡◌ {A = After} (Goes a) (Goes b) → a ≡ b
+  goes_same : (a b : Conf) → ◌≡◌ {A = OperationResult} (Goes a) (Goes b) → a ≡ b
   goes_same a b e = cc
 
-  goes_stops : (a : Conf) (h : Halt) → ◌≡◌ {A = After} (Goes a) (Stops h) → ⊥
+  goes_stops : (a : Conf) (h : Halt) → ◌≡◌ {A = OperationResult} (Goes a) (Stops h) → ⊥
   goes_stops a h e = cc
 
-  stops_same : (g h : Halt) → ◌≡◌ {A = After} (Stops g) (Stops h) → g ≡ h
+  stops_same : (g h : Halt) → ◌≡◌ {A = OperationResult} (Stops g) (Stops h) → g ≡ h
   stops_same g h e = cc
 
   stuck_violates : (v : Violation) (m : List Mark) → Stuck ≡ Violates v m → ⊥
@@ -178,19 +178,19 @@ module _ (f : Fixed) (st : Stands f) (all : List Mark) (B : Watched → Violatio
 
   -- the words at the configuration's place lead to an end in this violation, after these marks
   abbrev pub Breaks : ℕ → List ℕ → ℕ → Conf → Violation → List Mark → Type 0
-  Breaks n ws count c v marks = (r : Regs) (d : Data) → Text f (at c.place) n ws → at (c.place + 1) ≡ at c.place + 2 * n → Shows f at c r d → Safe f all (running f r d)
+  Breaks n ws count c v marks = (r : Regs) (d : Data) → Text f (at c.place) n ws → at (c.place + 1) ≡ at c.place + 2 * n → ShowsConfiguration f at c r d → Safe f all (running f r d)
       → ((w : Watched) → w.marks ≡ marks → B w v) → Runs f all B (λ _. ⊥) count (running f r d)
 
   pub packet_goes : IsTag f.setup.mac → (c c2 : Conf) (k v A : ℕ) (rest : List ℕ) → offsets.end_at k + 24 ≤ length c.priv → length (v ∷ rest) ≤ 160 → Text f A 56 (routine_words (base_of f) k)
-      → send f.setup (record c { stack = v ∷ rest }) k v (end_state c.priv k) ≡ Goes c2 → HasPrefix all c2.marks → saved c 14 ≡ f.from → (has_out_window f.setup c ≡ true → (n : ℕ) → n ≤ 384 → n ≤ made all → f.from + n ≤ f.to)
+      → send f.setup (record c { stack = v ∷ rest }) k v (end_state c.priv k) ≡ Goes c2 → HasPrefix all c2.marks → saved c 14 ≡ f.from → (has_out_window f.setup c ≡ true → (n : ℕ) → n ≤ 384 → n ≤ made_bytes all → f.from + n ≤ f.to)
       → Leads f st all B at 2 (0x12b0 ∷ A ∷ []) 126 (record c { stack = v ∷ rest }) c2
   packet_goes tag c c2 k v A rest slot len rt goes begins w1 w2 r d t on sh safe = by_case (sending f (record c { stack = v ∷ rest }) k v e)
     where
       e : EndState
       e = end_state c.priv k
 
-      shown : (c3 : Conf) (r2 : Regs) (d2 : Data) → c3 ≡ c2 → Shows f at c3 r2 d2 → Safe f all (running f r2 d2) → Runs f all B (Stood f all at c2) 0 (running f r2 d2)
-      shown c3 r2 d2 same s safe2 = Here (record { regs = r2; rest = d2; state = refl; safe = safe2; shows = subst (λ c. Shows f at c r2 d2) same s })
+      shown : (c3 : Conf) (r2 : Regs) (d2 : Data) → c3 ≡ c2 → ShowsConfiguration f at c3 r2 d2 → Safe f all (running f r2 d2) → Runs f all B (Stood f all at c2) 0 (running f r2 d2)
+      shown c3 r2 d2 same s safe2 = Here (record { regs = r2; rest = d2; state = refl; safe = safe2; shows = subst (λ c. ShowsConfiguration f at c r2 d2) same s })
 
       by_case : Sending f (record c { stack = v ∷ rest }) k v e (send f.setup (record c { stack = v ∷ rest }) k v e) → Runs f all B (Stood f all at c2) 126 (running f r d)
       by_case (Idle nr is) =
@@ -212,7 +212,7 @@ module _ (f : Fixed) (st : Stands f) (all : List Mark) (B : Watched → Violatio
       by_case (Nothing_said is) = absurd (goes_stops c2 Stuck (sym goes ∙ is))
 
   pub packet_breaks : IsTag f.setup.mac → (c : Conf) (k v A : ℕ) (rest : List ℕ) (x : Violation) (marks : List Mark) → offsets.end_at k + 24 ≤ length c.priv → length (v ∷ rest) ≤ 160 → Text f A 56 (routine_words (base_of f) k)
-      → send f.setup (record c { stack = v ∷ rest }) k v (end_state c.priv k) ≡ Stops (Violates x marks) → HasPrefix all marks → saved c 14 ≡ f.from → (has_out_window f.setup c ≡ true → (n : ℕ) → n ≤ 384 → n ≤ made all → f.from + n ≤ f.to)
+      → send f.setup (record c { stack = v ∷ rest }) k v (end_state c.priv k) ≡ Stops (Violates x marks) → HasPrefix all marks → saved c 14 ≡ f.from → (has_out_window f.setup c ≡ true → (n : ℕ) → n ≤ 384 → n ≤ made_bytes all → f.from + n ≤ f.to)
       → Breaks 2 (0x12b0 ∷ A ∷ []) 126 (record c { stack = v ∷ rest }) x marks
   packet_breaks tag c k v A rest x marks slot len rt stops begins w1 w2 r d t on sh safe ends = by_case (sending f (record c { stack = v ∷ rest }) k v e)
     where

@@ -13,7 +13,7 @@ use Rattle.sx_reach.specs.Reach.{Goes, Stops}
 use Rattle.sx_reach.proofs.Reaching.{and_then, weaken}
 use Rattle.sx_invoke.specs.Setup.{Setup}
 use Rattle.sx_invoke.specs.Devices.{HasDevices}
-use Rattle.sx_invoke.specs.Marks.{HasPrefix, Mark, made}
+use Rattle.sx_invoke.specs.Marks.{HasPrefix, Mark, made_bytes}
 use Rattle.sx_invoke.specs.Progress.{Invoked, bytes_in, marks_in, pieces_in}
 use Rattle.sx_image.specs.Watched.{Watched, watch}
 use Rattle.sx_image.specs.Image.{call_at, public_bytes, setup_at}
@@ -28,7 +28,7 @@ use Rattle.sx_tmpl.specs.Performs.{DoesCode, HasRoom, IsNarrow, IsRegular, LeftF
 use Rattle.sx_tmpl.specs.Performs as upper
 use Rattle.sx_tmpl.specs.Running.{Fixed, running, fixed_at, Safe}
 use Rattle.sx_tmpl.proofs.MidRun.{Runs, Stands}
-use Rattle.sx_tmpl.specs.Shows.{Holds, Shows, Stood, base_of}
+use Rattle.sx_tmpl.specs.Shows.{MemoryHolds, ShowsConfiguration, Stood, base_of}
 use Rattle.sx_tmpl.specs.Template.{Addresses}
 use Rattle.sx_tmpl.specs.Text.{addresses, bytes_of, text_words}
 use Rattle.sx_tmpl.proofs.Branch.{jump_leads}
@@ -41,7 +41,7 @@ use Rattle.sx_tmpl.proofs.TextStands.{entry_text, exit_text, first_at}
 use Rattle.sx_tmpl.proofs.Going as going
 use Rattle.sx_tmpl.proofs.Whole.{Emitted}
 
-module _ (s : Setup) (n : State) (result : Invoked) (e : Ready s n) (sizes : bytes_in (pieces_in result) ≡ made (marks_in result)) (tag : IsTag s.mac) (code : Code) (sound : AreSound code.ops.items code.parts.items s.section.layout) (narrow : (p : ℕ) (i : Ir) → slice_get code.ops.items p ≡ Some i → IsNarrow i)
+module _ (s : Setup) (n : State) (result : Invoked) (e : Ready s n) (sizes : bytes_in (pieces_in result) ≡ made_bytes (marks_in result)) (tag : IsTag s.mac) (code : Code) (sound : AreSound code.ops.items code.parts.items s.section.layout) (narrow : (p : ℕ) (i : Ir) → slice_get code.ops.items p ≡ Some i → IsNarrow i)
     (text : (k : ℕ) → k < 2 * length (text_words s.section.layout code) → slice_index n.mem (s.section.layout.pub_from + k) ≡ slice_index (bytes_of (text_words s.section.layout code)) k) where
   abbrev f : Fixed
   f = fixed_at s n result
@@ -67,13 +67,13 @@ module _ (s : Setup) (n : State) (result : Invoked) (e : Ready s n) (sizes : byt
   done : Emitted f a ops
   done = going.done f st all refl tag code sound narrow text
 
-  goes : (c t : Conf) (w : Watched) → Sim c w → IsRegular ops (call_at n) all c → HasPrefix all t.marks → op_step s (part_from parts) ops c ≡ Goes t → upper.Runs s result n Never (Sim t) (op_count no_count ops c) w
+  goes : (c t : Conf) (w : Watched) → Sim c w → IsRegular ops (call_at n) all c → HasPrefix all t.marks → op_step s (part_from parts) ops c ≡ Goes t → upper.NodeRuns s result n Never (Sim t) (op_count no_count ops c) w
   goes c t w x h begins is =
       weak s n result e sizes Never Never (Sim t) (Sim t) (op_count no_count ops c) w (λ w v x. x) (λ w x. x)
       (going.op_goes_on f st all refl tag code sound narrow text (call_at n) c t w refl x h begins is)
 
   stops : (c : Conf) (v : Violation) (marks : List Mark) (w : Watched) → Sim c w → IsRegular ops (call_at n) all c → HasPrefix all marks → op_step s (part_from parts) ops c ≡ Stops (conf.Violates v marks)
-      → upper.Runs s result n (With v marks) (λ x. ⊥) (op_count no_count ops c) w
+      → upper.NodeRuns s result n (With v marks) (λ x. ⊥) (op_count no_count ops c) w
   stops c v marks w x h begins is =
       weak s n result e sizes (With v marks) (With v marks) (λ x. ⊥) (λ x. ⊥) (op_count no_count ops c) w (λ w v x. x) (λ w x. x)
       (going.op_breaks f st all refl tag code sound narrow text (call_at n) c v marks w refl x h begins is)
@@ -92,9 +92,9 @@ module _ (s : Setup) (n : State) (result : Invoked) (e : Ready s n) (sizes : byt
       (and_then Watched Violation (watch s.mac) (λ _. 1) (Safe f all) Never (Stood f all a.at at_exit) (λ w. Departed f a.at t status count w) 1 15 16 (running f x.regs x.rest) (omega arith) jump (λ u z.
       let same : record at_exit { stack = count ∷ status ∷ rest } ≡ at_exit = ap (λ l. record at_exit { stack = l }) (sym stack) in
       let long : 14 ≤ length t.priv = omega (arith, z.shows.holds.size, st.room) in
-      let run = leave_run f st all Never a.at at_exit status count rest (sp_even s n result e) out long z.regs z.rest exit (subst (λ c. Shows f a.at c z.regs z.rest) (sym same) z.shows) (subst (λ w. Safe f all w) z.state z.safe) in
+      let run = leave_run f st all Never a.at at_exit status count rest (sp_even s n result e) out long z.regs z.rest exit (subst (λ c. ShowsConfiguration f a.at c z.regs z.rest) (sym same) z.shows) (subst (λ w. Safe f all w) z.state z.safe) in
       weaken Watched Violation (watch s.mac) (λ _. 1) (Safe f all) (Safe f all) Never Never (Departed f a.at (record at_exit { stack = count ∷ status ∷ rest }) status count) (λ w. Departed f a.at t status count w) 15 15 u (omega arith) (λ u p. p) (λ u v b. b)
-      (λ y q. record { rest = q.rest; state = q.state; kept = q.kept; sp = q.sp; holds = subst (λ l. Holds f a.at t.back l t.priv t.mem q.sp q.rest.mem) (sym stack) q.holds; devices = q.devices; marks = q.marks })
+      (λ y q. record { rest = q.rest; state = q.state; kept = q.kept; sp = q.sp; holds = subst (λ l. MemoryHolds f a.at t.back l t.priv t.mem q.sp q.rest.mem) (sym stack) q.holds; devices = q.devices; marks = q.marks })
       (subst (λ u. Runs f all Never (Departed f a.at (record at_exit { stack = count ∷ status ∷ rest }) status count) 15 u) (sym z.state) run)))
 
   left_from : (t : Conf) (status count : ℕ) (w : Watched) → saved t 15 ≡ (call_at n).back → Departed f a.at t status count w → LeftFrom s n status count t w
@@ -108,7 +108,7 @@ module _ (s : Setup) (n : State) (result : Invoked) (e : Ready s n) (sizes : byt
     marks = ap (λ (w : Watched). w.marks) q.state ∙ q.marks;
   }
 
-  leaves : (t : Conf) (w : Watched) (status count : ℕ) → Sim t w → HasPrefix all t.marks → Leaving ops status count t → saved t 15 ≡ (call_at n).back → in_public s.section (even (call_at n).back) ≡ false → upper.Runs s result n Never (LeftFrom s n status count t) 16 w
+  leaves : (t : Conf) (w : Watched) (status count : ℕ) → Sim t w → HasPrefix all t.marks → Leaving ops status count t → saved t 15 ≡ (call_at n).back → in_public s.section (even (call_at n).back) ≡ false → upper.NodeRuns s result n Never (LeftFrom s n status count t) 16 w
   leaves t w status count x begins leaving is out =
       weak s n result e sizes Never Never (λ w. Departed f a.at t status count w) (LeftFrom s n status count t) 16 w (λ w v x. x) (λ w q. left_from t status count w is q)
       (departs t status count w x leaving (ap (λ (b : ℕ). in_public s.section (even b)) is ∙ out))

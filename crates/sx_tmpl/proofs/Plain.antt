@@ -16,7 +16,7 @@ use Rattle.sx_ir.specs.Conf.{Conf}
 use Rattle.sx_ir.specs.Meaning.{next}
 use Rattle.sx_tmpl.specs.Running.{Regs, Fixed, Data, running, Safe}
 use Rattle.sx_tmpl.proofs.MidRun.{Stands, Runs, put_cell}
-use Rattle.sx_tmpl.specs.Shows.{base_of, IsData, Holds, Shows, Stood}
+use Rattle.sx_tmpl.specs.Shows.{base_of, IsData, MemoryHolds, ShowsConfiguration, Stood}
 use Rattle.sx_tmpl.proofs.Steps.{Text, InText, two}
 use Rattle.sx_tmpl.proofs.Flags.{flags_after}
 use Rattle.sx_tmpl.proofs.Words as w
@@ -30,9 +30,9 @@ module _ (f : Fixed) (st : Stands f) (all : List Mark) (B : Watched → Violatio
   -- from a node that stands for the one configuration to one that stands for the other
   abbrev pub Leads : ℕ → List ℕ → ℕ → Conf → Conf → Type 0
   Leads n ws count c c2 = (r : Regs) (d : Data) → Text f (at c.place) n ws → at (c.place + 1) ≡ at c.place + 2 * n
-      → Shows f at c r d → Safe f all (running f r d) → Runs f all B (Stood f all at c2) count (running f r d)
+      → ShowsConfiguration f at c r d → Safe f all (running f r d) → Runs f all B (Stood f all at c2) count (running f r d)
 
-  pub stood : (c2 : Conf) (r2 : Regs) (m2 : List ℕ) (d : Data) (j : ℕ) → Safe f all (running f r2 (record d { mem = m2 })) → r2.pc ≡ at c2.place → Holds f at c2.back c2.stack c2.priv c2.mem r2.sp m2 → d.devices ≡ c2.devices → d.marks ≡ c2.marks
+  pub stood : (c2 : Conf) (r2 : Regs) (m2 : List ℕ) (d : Data) (j : ℕ) → Safe f all (running f r2 (record d { mem = m2 })) → r2.pc ≡ at c2.place → MemoryHolds f at c2.back c2.stack c2.priv c2.mem r2.sp m2 → d.devices ≡ c2.devices → d.marks ≡ c2.marks
       → Runs f all B (Stood f all at c2) j (running f r2 (record d { mem = m2 }))
   stood c2 r2 m2 d j safe pc holds devices marks =
       Here (record { regs = r2; rest = record d { mem = m2 }; state = refl; safe = safe; shows = record { pc = pc; holds = holds; devices = devices; marks = marks } })

@@ -14,7 +14,7 @@ use Rattle.sx_machine.specs.State.{State}
 use Rattle.sx_machine.specs.Step.{pc_of, own_of}
 use Rattle.sx_invoke.specs.Setup.{Setup}
 use Rattle.sx_invoke.specs.Devices.{HasDevices}
-use Rattle.sx_invoke.specs.Marks.{Mark, made}
+use Rattle.sx_invoke.specs.Marks.{Mark, made_bytes}
 use Rattle.sx_invoke.specs.Progress.{bytes_in}
 use Rattle.sx_invoke.specs.Windows.{is_bad_window}
 use Rattle.sx_image.specs.Watched.{Watched}
@@ -42,7 +42,7 @@ fixed_from s n out all = record {
   entered = n.mem;
   devices = n.devices;
   from = out;
-  to = pieces_end (is_bad_window s out 384) out (made all);
+  to = pieces_end (is_bad_window s out 384) out (made_bytes all);
   sp = cell n.mem (s.section.layout.priv_from + 148);
   r3 = slice_index n.regs 3;
 }
@@ -71,8 +71,8 @@ module _ (s : Setup) (n : State) (out : ℕ) (all : List Mark) (e : Resumes s n 
   l = s.section.layout
 
   -- the bytes of pieces, no more than the window has
-  to_is : f.to ≡ out + min (made all) 384
-  to_is = ap (λ (b : Bool). pieces_end b out (made all)) e.window
+  to_is : f.to ≡ out + min (made_bytes all) 384
+  to_is = ap (λ (b : Bool). pieces_end b out (made_bytes all)) e.window
 
   pub stands : Stands f
   stands = record {
@@ -86,8 +86,8 @@ module _ (s : Setup) (n : State) (out : ℕ) (all : List Mark) (e : Resumes s n 
     beneath = e.room.private_below;
     public_plain = λ a i. let b = public_bounds s.section a i in free_of_devices l a 0 n.devices (e.node.apart s.section e.lives) b.0 b.1;
     private_plain = λ a i le. private_free s.section n.devices (declared_kind s.tree.decls) e.devices a i le;
-    window = (let w = window_short s out e.window in let m = min-le_right (made all) 384 in let t = to_is in omega (arith, w, m, t));
-    window_apart = λ a lo hi. let m = min-le_right (made all) 384 in let t = to_is in outside_window s out a e.window lo (omega (arith, hi, m, t));
+    window = (let w = window_short s out e.window in let m = min-le_right (made_bytes all) 384 in let t = to_is in omega (arith, w, m, t));
+    window_apart = λ a lo hi. let m = min-le_right (made_bytes all) 384 in let t = to_is in outside_window s out a e.window lo (omega (arith, hi, m, t));
   }
 
   pub sections_same : sections_of f ≡ n.sections
@@ -142,7 +142,7 @@ module _ (s : Setup) (n : State) (out : ℕ) (all : List Mark) (e : Resumes s n 
       }
 
   -- what templates leave outside is as before but where these pieces go
-  pub outside_kept : (pieces : List (List ℕ)) (w : Watched) → bytes_in pieces ≡ made all → Safe f all w → KeepsOutside s out pieces n.mem w.node.mem
+  pub outside_kept : (pieces : List (List ℕ)) (w : Watched) → bytes_in pieces ≡ made_bytes all → Safe f all w → KeepsOutside s out pieces n.mem w.node.mem
   outside_kept pieces w sizes h at off not_ = h.memory.elsewhere at (record { outside = off; beside = beside })
     where
       beside : (at < out) ⊎ (f.to ≤ at) ⊎ (may s.live s.section.id Write at ≡ false)
@@ -153,6 +153,6 @@ module _ (s : Setup) (n : State) (out : ℕ) (all : List Mark) (e : Resumes s n 
             | inl t ↦ absurd (true≢false (sym (and_from _ _ (le-leb out at ge) (and_from _ _ (lt-ltb at (out + bytes_in pieces) lt2) t)) ∙ not_))
             | inr t ↦ inr (inr t)
           ]
-          | inr ge2 ↦ let m = min-le_left (made all) 384 in let t = to_is in inr (inl (omega (arith, ge2, sizes, m, t)))
+          | inr ge2 ↦ let m = min-le_left (made_bytes all) 384 in let t = to_is in inr (inl (omega (arith, ge2, sizes, m, t)))
         ]
       ]

@@ -31,7 +31,7 @@ use Rattle.sx_ir.specs.Conf.{Conf}
 use Rattle.sx_ir.specs.Meaning.{next}
 use Rattle.sx_tmpl.specs.Running.{Regs, Fixed, Data, running, Safe}
 use Rattle.sx_tmpl.proofs.MidRun.{Stands, Runs, put_cell}
-use Rattle.sx_tmpl.specs.Shows.{base_of, Holds, Stood}
+use Rattle.sx_tmpl.specs.Shows.{base_of, MemoryHolds, Stood}
 use Rattle.sx_tmpl.proofs.Owes.{kept_bytes}
 use Rattle.sx_tmpl.proofs.Steps.{Text, one, two}
 use Rattle.std.specs.Prelude.{slice_get, ◌==◌}
@@ -138,7 +138,7 @@ module _ (f : Fixed) (st : Stands f) (all : List Mark) (B : Watched → Violatio
   private_range : (o n : ℕ) (priv : List ℕ) → base_of f + length priv ≡ f.setup.section.layout.priv_to → IsRange o n (length priv) → PrivateRange f (base_of f + o) n
   private_range o n priv sz r = record { low = omega (arith, r.low); high = omega (arith, r.fits) }
 
-  key_here : (c : Conf) (k : ℕ) (stack : List ℕ) (sp : ℕ) (r : Regs) (m : List ℕ) → (k ≡ 0) ⊎ IsRange k 16 (length c.priv) → Holds f at c.back stack c.priv c.mem sp m → r.r9 ≡ key_place f k → KeyAt f r m (key_at f.setup c k)
+  key_here : (c : Conf) (k : ℕ) (stack : List ℕ) (sp : ℕ) (r : Regs) (m : List ℕ) → (k ≡ 0) ⊎ IsRange k 16 (length c.priv) → MemoryHolds f at c.back stack c.priv c.mem sp m → r.r9 ≡ key_place f k → KeyAt f r m (key_at f.setup c k)
   key_here c zero stack sp r m h hold e = OwnKey e refl
   key_here c (suc k) stack sp r m h hold e =
       elim h [
@@ -243,7 +243,7 @@ module _ (f : Fixed) (st : Stands f) (all : List Mark) (B : Watched → Violatio
   after_open c k ad b bn (Some body) = record (next c (1 ∷ c.stack)) { priv = put_bytes c.priv b (take bn body); marks = c.marks ++ mark.Unwrapped ad (take bn body) (k == 0) ∷ [] }
 
   -- the answer in R15 is pushed
-  answer_pushed : (c2 : Conf) (t15 : ℕ) {P n : ℕ} {ws : List ℕ} (t : Text f P n ws) → slice_get ws 15 ≡ Some 0x120f → 16 ≤ n → (e : Event) (r : Regs) (d : Data) (stack priv outside : List ℕ) (back : Option ℕ) (v : ℕ) → r.pc ≡ P + 2 * 15 → Safe f all (running_after e f r d) → Holds f at back stack priv outside r.sp d.mem → length stack < 160 → r.r15 ≡ v → v < 65536
+  answer_pushed : (c2 : Conf) (t15 : ℕ) {P n : ℕ} {ws : List ℕ} (t : Text f P n ws) → slice_get ws 15 ≡ Some 0x120f → 16 ≤ n → (e : Event) (r : Regs) (d : Data) (stack priv outside : List ℕ) (back : Option ℕ) (v : ℕ) → r.pc ≡ P + 2 * 15 → Safe f all (running_after e f r d) → MemoryHolds f at back stack priv outside r.sp d.mem → length stack < 160 → r.r15 ≡ v → v < 65536
       → at c2.place ≡ P + 32 → c2.stack ≡ v ∷ stack → c2.priv ≡ priv → c2.mem ≡ outside → c2.back ≡ back → d.devices ≡ c2.devices → d.marks ≡ c2.marks → Runs f all B (Stood f all at c2) 1 (running_after e f r d)
   answer_pushed c2 t15 {P = P} t has le e r d stack priv outside back v pc safe hold room e15 lv on es ep em eb dv mk =
       let top = hold.top in
@@ -272,7 +272,7 @@ module _ (f : Fixed) (st : Stands f) (all : List Mark) (B : Watched → Violatio
                 safe = s3;
                 shows = record {
                   pc = sym on;
-                  holds = subst (λ b. Holds f at b c2.stack c2.priv c2.mem sp (put_cell d.mem sp v)) (sym eb) (subst (λ l. Holds f at back l c2.priv c2.mem sp (put_cell d.mem sp v)) (sym es) (subst (λ p. Holds f at back (v ∷ stack) p c2.mem sp (put_cell d.mem sp v)) (sym ep) (subst (λ o. Holds f at back (v ∷ stack) priv o sp (put_cell d.mem sp v)) (sym em) h2)));
+                  holds = subst (λ b. MemoryHolds f at b c2.stack c2.priv c2.mem sp (put_cell d.mem sp v)) (sym eb) (subst (λ l. MemoryHolds f at back l c2.priv c2.mem sp (put_cell d.mem sp v)) (sym es) (subst (λ p. MemoryHolds f at back (v ∷ stack) p c2.mem sp (put_cell d.mem sp v)) (sym ep) (subst (λ o. MemoryHolds f at back (v ∷ stack) priv o sp (put_cell d.mem sp v)) (sym em) h2)));
                   devices = dv;
                   marks = mk;
                 };

@@ -26,7 +26,7 @@ use Rattle.sx_machine.specs.Run.{Outcome, Finished, Violated, Module, exec}
 use Rattle.sx_machine.specs.Rows.{program}
 use Rattle.sx_machine.specs.Modules.{module_instruction}
 use Rattle.sx_machine.specs.ModuleRows.{own_key, buffers, tested, with_inputs, exchanged, wrap, unwrap, opened, within, module_row}
-use Rattle.sx_machine.specs.Step.{own_of, start, is_module_word, given, attempt}
+use Rattle.sx_machine.specs.Step.{own_of, start, is_module_word, given_at_pc, attempt}
 use Rattle.sx_machine.specs.State.{State}
 use Rattle.sx_invoke.specs.Marks as mark
 use Rattle.sx_invoke.specs.Marks.{Mark, HasPrefix}
@@ -75,7 +75,7 @@ module _ (f : Fixed) (st : Stands f) (all : List Mark) (B : Watched → Violatio
 
   -- the instruction's gift, with the module as the one whose code it is
   abbrev pub given_own : Event → Regs → Data → Given
-  given_own e r d = record (given f.setup.mac (running_after e f r d).node) { own = f.setup.section.id }
+  given_own e r d = record (given_at_pc f.setup.mac (running_after e f r d).node) { own = f.setup.section.id }
 
   from_told : (n : ℕ) (e : Event) (r : Regs) (d : Data) (o : Outcome) → Safe f all (running_after e f r d) → InText f r.pc → attempt f.setup.mac (running_after e f r d).node ≡ o
       → Met f NoDone (Tells n d) (B (running_after e f r d)) (start (running_after e f r d).node) o → Runs f all B Q (suc n) (running_after e f r d)
@@ -101,7 +101,7 @@ module _ (f : Fixed) (st : Stands f) (all : List Mark) (B : Watched → Violatio
 
   -- the instruction at PC by its first word
   abbrev at_word : ℕ → State → Outcome
-  at_word w a = cond (is_module_word w) (module_instruction f.setup.mac (w - 0x1380) (given f.setup.mac a) a.mem) (exec a.sections (own_of a) (program w a.regs) (start a))
+  at_word w a = cond (is_module_word w) (module_instruction f.setup.mac (w - 0x1380) (given_at_pc f.setup.mac a) a.mem) (exec a.sections (own_of a) (program w a.regs) (start a))
 
 -- the key of a wrap or unwrap: the module's own, or sixteen bytes of the private section
 pub data KeyAt (f : Fixed) (r : Regs) (m key : List ℕ) : Type 0 where
@@ -206,7 +206,7 @@ mark_of regs ad body = (take-append_seam ad _, take-append_seam body _)
 module _ (f : Fixed) (st : Stands f) (all : List Mark) (B : Watched → Violation → Type 0) (Q : Watched → Type 0) where
   -- a module instruction in the text is fetched, and its row is run as code of the module
   module_fetched : {P n : ℕ} {ws : List ℕ} (t : Text f P n ws) (k w code : ℕ) → slice_get ws k ≡ Some w → k + 1 ≤ n → (e : Event) (r : Regs) (d : Data) → r.pc ≡ P + 2 * k → Safe f all (running_after e f r d)
-      → ((a : State) → at_word f st all B Q w a ≡ exec a.sections (own_of a) (module_row f.setup.mac code (given f.setup.mac a)) (start a))
+      → ((a : State) → at_word f st all B Q w a ≡ exec a.sections (own_of a) (module_row f.setup.mac code (given_at_pc f.setup.mac a)) (start a))
       → attempt f.setup.mac (running_after e f r d).node ≡ exec (sections_of f) f.setup.section.id (module_row f.setup.mac code (given_own f st all B Q e r d)) (start (running_after e f r d).node)
   module_fetched {P = P} {n = n} t k w code has fits e r d pc safe row =
       let low = t.from in
@@ -220,7 +220,7 @@ module _ (f : Fixed) (st : Stands f) (all : List Mark) (B : Watched → Violatio
       let e1 : word d.mem r.pc ≡ w = word_is d.mem r.pc ev ∙ is in
       let own : own_of a ≡ f.setup.section.id = run_holder f st r.pc here (omega arith) in
       tests_passed f st all B Q e r d safe here ends ev ∙ ap (λ w. at_word f st all B Q w a) e1 ∙ row a
-      ∙ ap (λ o. exec (sections_of f) o (module_row f.setup.mac code (record (given f.setup.mac a) { own = o })) (start a)) own
+      ∙ ap (λ o. exec (sections_of f) o (module_row f.setup.mac code (record (given_at_pc f.setup.mac a) { own = o })) (start a)) own
 
   next_pc : {P n : ℕ} {ws : List ℕ} (t : Text f P n ws) (k : ℕ) (r : Regs) → k + 1 ≤ n → r.pc ≡ P + 2 * k → (r.pc + 2) % 65536 ≡ P + 2 * (k + 1)
   next_pc t k r le pc = omega (arith, t.to, st.below)

@@ -21,13 +21,13 @@ use Rattle.sx_ir.specs.Conf.{Conf}
 use Rattle.sx_ir.specs.Meaning.{next}
 use Rattle.sx_tmpl.specs.Running.{Regs, Fixed, Data, running, Safe, cell}
 use Rattle.sx_tmpl.proofs.MidRun.{Stands, Runs, put_cell}
-use Rattle.sx_tmpl.specs.Shows.{base_of, Holds, Stood}
+use Rattle.sx_tmpl.specs.Shows.{base_of, MemoryHolds, Stood}
 use Rattle.sx_tmpl.proofs.Steps.{Text, one, two}
 use Rattle.std.specs.Prelude.{slice_get}
 use Rattle.sx_tmpl.proofs.Plain.{inside, Leads}
 use Rattle.sx_tmpl.proofs.Words as w
 use Rattle.sx_tmpl.proofs.Holding.{stack_word, data_word, holds_push, holds_pop, holds_store, holds_word, cell_below}
-use Rattle.sx_ir.specs.Meaning.{keyed}
+use Rattle.sx_ir.specs.Meaning.{slot_keyed}
 use Rattle.sx_tmpl.proofs.Steps.{three}
 use Rattle.sx_tmpl.proofs.MidRun.{put_cell}
 
@@ -87,8 +87,8 @@ key_put K0 p o ev small =
 module _ (f : Fixed) (st : Stands f) (all : List Mark) (B : Watched → Violation → Type 0) (at : ℕ → ℕ) (Q : Watched → Type 0) (P k : ℕ) (t : Text f P 32 (slot_words (base_of f))) (back : Option ℕ) (stack outside : List ℕ) where
   -- MOV &s, y(R12)
   move_step : (i s o y : ℕ) → o ≡ offsets.end_at k + y → slice_get (slot_words (base_of f)) i ≡ Some 0x429c → slice_get (slot_words (base_of f)) (i + 1) ≡ Some (base_of f + s) → slice_get (slot_words (base_of f)) (i + 2) ≡ Some y → i + 3 ≤ 32
-      → 2 ≤ s → s + 2 ≤ 104 → s % 2 ≡ 0 → 512 ≤ o → o % 2 ≡ 0 → (r : Regs) (d : Data) (priv : List ℕ) (v j : ℕ) → r.r12 ≡ base_of f + offsets.end_at k → o + 2 ≤ length priv → word priv s ≡ v → Holds f at back stack priv outside r.sp d.mem → Safe f all (running f (record r { pc = P + 2 * i }) d)
-      → ((m : List ℕ) → Holds f at back stack (put_word priv o v) outside r.sp m → Safe f all (running f (record r { pc = P + 2 * (i + 3) }) (record d { mem = m })) → Runs f all B Q j (running f (record r { pc = P + 2 * (i + 3) }) (record d { mem = m })))
+      → 2 ≤ s → s + 2 ≤ 104 → s % 2 ≡ 0 → 512 ≤ o → o % 2 ≡ 0 → (r : Regs) (d : Data) (priv : List ℕ) (v j : ℕ) → r.r12 ≡ base_of f + offsets.end_at k → o + 2 ≤ length priv → word priv s ≡ v → MemoryHolds f at back stack priv outside r.sp d.mem → Safe f all (running f (record r { pc = P + 2 * i }) d)
+      → ((m : List ℕ) → MemoryHolds f at back stack (put_word priv o v) outside r.sp m → Safe f all (running f (record r { pc = P + 2 * (i + 3) }) (record d { mem = m })) → Runs f all B Q j (running f (record r { pc = P + 2 * (i + 3) }) (record d { mem = m })))
       → Runs f all B Q (suc j) (running f (record r { pc = P + 2 * i }) d)
   move_step i s o y eo g0 g1 g2 le s1 s2 se o1 oe r d priv v j e12 fits ev h safe after =
       let beneath = st.beneath in
@@ -122,7 +122,7 @@ module _ (f : Fixed) (st : Stands f) (all : List Mark) (B : Watched → Violatio
       )
 
 module _ (f : Fixed) (st : Stands f) (all : List Mark) (B : Watched → Violation → Type 0) (at : ℕ → ℕ) where
-  pub set_end_leads : (c : Conf) (k A : ℕ) → Text f A 32 (slot_words (base_of f)) → offsets.end_at k + 24 ≤ length c.priv → length c.stack ≤ 160 → Leads f st all B at 4 (0x403c ∷ (base_of f + offsets.end_at k) ∷ 0x12b0 ∷ A ∷ []) 14 c (record (next c c.stack) { priv = keyed c.priv k (word c.priv 18) (bytes_from c.priv 56 16) })
+  pub set_end_leads : (c : Conf) (k A : ℕ) → Text f A 32 (slot_words (base_of f)) → offsets.end_at k + 24 ≤ length c.priv → length c.stack ≤ 160 → Leads f st all B at 4 (0x403c ∷ (base_of f + offsets.end_at k) ∷ 0x12b0 ∷ A ∷ []) 14 c (record (next c c.stack) { priv = slot_keyed c.priv k (word c.priv 18) (bytes_from c.priv 56 16) })
   set_end_leads c k A rt fits len r d t on sh safe =
       let h = sh.holds in
       let top = h.top in
@@ -153,7 +153,7 @@ module _ (f : Fixed) (st : Stands f) (all : List Mark) (B : Watched → Violatio
       let o2 = offsets.end_open_at k in
       let o = offsets.end_key_at k in
       let field = word p 18 in
-      let Q = Stood f all at (record (next c c.stack) { priv = keyed p k field (bytes_from p 56 16) }) in
+      let Q = Stood f all at (record (next c c.stack) { priv = slot_keyed p k field (bytes_from p 56 16) }) in
       let small : (j : ℕ) → 56 ≤ j → j < 72 → slice_index p j < 256 = λ j x y. subst (λ (n : ℕ). n < 256) (h.bytes j (record { low = omega arith; beside = inl (omega arith) }) (omega arith)) (safe.memory.bytes (b + j)) in
       let q0 = put_word p o0 field in
       let n0 = length_word p o0 field (omega arith) in
@@ -264,7 +264,7 @@ module _ (f : Fixed) (st : Stands f) (all : List Mark) (B : Watched → Violatio
                                         rw (up, stay, keven) refl,
                                         inside t 4 (omega arith),
                                         λ sz_2.
-                                            Here (record { regs = record r_ { pc = ret; sp = sp + 2 }; rest = record d0 { mem = x7 }; state = refl; safe = sz_2; shows = record { pc = omega (arith, on); holds = subst (λ l. Holds f at c.back c.stack l c.mem (sp + 2) x7) done (holds_pop f st at c.back ret c.stack K8 c.mem sp x7 h7); devices = sh.devices; marks = sh.marks } }),
+                                            Here (record { regs = record r_ { pc = ret; sp = sp + 2 }; rest = record d0 { mem = x7 }; state = refl; safe = sz_2; shows = record { pc = omega (arith, on); holds = subst (λ l. MemoryHolds f at c.back c.stack l c.mem (sp + 2) x7) done (holds_pop f st at c.back ret c.stack K8 c.mem sp x7 h7); devices = sh.devices; marks = sh.marks } }),
                                       ),
                                     ))))))))),
                               ),

@@ -17,10 +17,10 @@ use Rattle.sx_machine.specs.Registers.{onward, at_pc}
 use Rattle.sx_machine.specs.Plan.{Plan}
 use Rattle.sx_machine.specs.Run.{Moment, Outcome, Finished, Violated, Module, fetch, after_fetch, exec}
 use Rattle.sx_machine.specs.Rows.{row, row_of, with_words, program}
-use Rattle.sx_machine.specs.Step.{own_of, start, is_module_word, instruction, ordered, word_outside, attempt, settled}
+use Rattle.sx_machine.specs.Step.{own_of, start, is_module_word, instruction, ordered, word_outside, attempt, settled_step}
 use Rattle.sx_invoke.specs.Marks.{Mark}
 use Rattle.sx_image.specs.Watched.{Watched, watch, watched_on, violation_of}
-use Rattle.sx_tmpl.specs.Running.{sections_of, Regs, regs16, Fixed, Data, running_after, running, Kept, Safe, cell}
+use Rattle.sx_tmpl.specs.Running.{sections_of, Regs, regs16, Fixed, Data, running_after, running, OutsideKept, Safe, cell}
 use Rattle.sx_tmpl.proofs.MidRun.{Stands, Runs}
 use Rattle.sx_tmpl.proofs.Owned.{own_above, in_public_yes, run_outside, run_in_order, run_extends, run_holder}
 use Rattle.sx_tmpl.proofs.Mem.{even_is, word_is}
@@ -56,7 +56,7 @@ module _ (f : Fixed) (st : Stands f) (all : List Mark) (B : Watched → Violatio
   NoTell regs event exchange m = ⊥
 
   -- a word of the text is that of the memory
-  pub text_word : (m : List ℕ) (a w : ℕ) → Kept f m → f.setup.section.layout.pub_from ≤ a → a + 1 < f.setup.section.layout.pub_to → cell f.entered a ≡ w → cell m a ≡ w
+  pub text_word : (m : List ℕ) (a w : ℕ) → OutsideKept f m → f.setup.section.layout.pub_from ≤ a → a + 1 < f.setup.section.layout.pub_to → cell f.entered a ≡ w → cell m a ≡ w
   unfolding cell
   text_word m a w k p q h =
       let lo = text_kept f st m a k (in_public_yes f.setup.section a p (omega arith)) in
@@ -86,7 +86,7 @@ module _ (f : Fixed) (st : Stands f) (all : List Mark) (B : Watched → Violatio
 
   -- what a watched node comes to by an instruction's outcome
   abbrev pub by_outcome : Watched → Outcome → Stepped Watched Violation
-  by_outcome c o = watched_on c (settled c.node o) (violation_of (settled c.node o).shown.event)
+  by_outcome c o = watched_on c (settled_step c.node o) (violation_of (settled_step c.node o).shown.event)
 
   -- a step that is what was owed
   pub from_met : (n : ℕ) (e : Event) (r : Regs) (d : Data) (o : Outcome) → Safe f all (running_after e f r d) → InText f r.pc → attempt f.setup.mac (running_after e f r d).node ≡ o

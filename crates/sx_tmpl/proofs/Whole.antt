@@ -9,7 +9,7 @@ use Rattle.sx_ir.specs.Conf.{Conf}
 use Rattle.sx_ir.specs.Meaning.{next}
 use Rattle.sx_tmpl.specs.Running.{Regs, Fixed, Data, running, Safe}
 use Rattle.sx_tmpl.proofs.MidRun.{Stands, Runs}
-use Rattle.sx_tmpl.specs.Shows.{base_of, IsData, Shows, Stood}
+use Rattle.sx_tmpl.specs.Shows.{base_of, IsData, ShowsConfiguration, Stood}
 use Rattle.sx_tmpl.proofs.Steps.{Text, InText}
 use Rattle.std.specs.Prelude.{slice_get, nat_lt, ◌==◌}
 use Rattle.std.proofs.lemmas.Bool.{ltb-true, leb-true, and_parts}
@@ -17,7 +17,7 @@ use Rattle.sx_tmpl.proofs.Plain.{Leads}
 use Rattle.sx_reach.specs.Reach.{Next, Ends}
 use Rattle.sx_reach.specs.Reach.{Goes, Stops}
 use Rattle.sx_tmpl.proofs.Made.{made_prefix}
-use Rattle.sx_invoke.specs.Marks.{made}
+use Rattle.sx_invoke.specs.Marks.{made_bytes}
 use Rattle.sx_mean.specs.Offsets as offsets
 use Rattle.sx_invoke.specs.Marks as mark
 use Rattle.sx_invoke.specs.Marks.{HasPrefix}
@@ -33,7 +33,7 @@ use Rattle.sx_ir.specs.declared.ir.Ir.{Ir}
 use Rattle.sx_ir.specs.declared.ir.Ir.TheVariants as ir
 use Rattle.sx_ir.specs.Conf.{Halt, Violates, Stuck}
 use Rattle.sx_ir.specs.Counts.{count_of}
-use Rattle.sx_ir.specs.Meaning.{After, when, pushed, operated, emit, emitted, saved, stop, is_saved, has_out_window, has_copy_room, do_op, do_at, op_step, op_count, count_at, handler_count, OnViolation, send}
+use Rattle.sx_ir.specs.Meaning.{OperationResult, when, pushed, operated, emit, emitted, saved, stop, is_saved, has_out_window, has_copy_room, do_op, do_at, op_step, op_count, count_at, handler_count, OnViolation, send}
 use Rattle.sx_tmpl.specs.Template.{Addresses, operator_words, template, slot_words, routine_words}
 use Rattle.sx_tmpl.proofs.Plain.{push_leads, load_leads, store_leads, add_leads}
 use Rattle.sx_tmpl.proofs.Branch.{jump_leads, jump_zero_leads, jump_not_leads, lt_leads, eq_leads}
@@ -54,7 +54,7 @@ use Rattle.sx_bus.specs.Devices.{cleared}
 use Rattle.std.proofs.Common.{take, cond}
 use Rattle.sx_tag.specs.Wrap.{unwrapped}
 use Rattle.sx_machine.specs.Memory.{bytes_from, put_bytes}
-use Rattle.sx_ir.specs.Meaning.{key_at, opened, sense, sensed, copy_in, copy_out}
+use Rattle.sx_ir.specs.Meaning.{key_at, opened, sense, sensor_read, copy_in, copy_out}
 use Rattle.sx_tmpl.proofs.Parts.{handler_leads, stop_leads}
 
 -- an address where code goes on
@@ -105,26 +105,26 @@ pub record Good (f : Fixed) (all : List Mark) (a : Addresses) (code : List Ir) (
   pub marks : HasPrefix all c.marks
   pub stack : length c.stack ≤ 160
   pub from : saved c 14 ≡ f.from
-  pub to : has_out_window f.setup c ≡ true → (n : ℕ) → n ≤ 384 → n ≤ made all → f.from + n ≤ f.to
+  pub to : has_out_window f.setup c ≡ true → (n : ℕ) → n ≤ 384 → n ≤ made_bytes all → f.from + n ≤ f.to
   pub sensor : (i : ℕ) (w : Window) → own_window f.setup c.devices ≡ Some (i, w) → w.value < 32768
   pub back : (p : ℕ) → c.back ≡ Some p → IsTarget f (a.at p)
 
 -- a copy ends where pieces go
 copy_ends : (f : Fixed) (all : List Mark) (a : Addresses) (code : List Ir) (c : Conf) (at n : ℕ) → has_out_window f.setup c ≡ true → has_copy_room c at n ≡ true → Good f all a code c → f.from + (at + n) ≤ f.to
 copy_ends f all a code c at n window room g =
-    let b = and_parts (nat_le (at + n) 384) (nat_le (at + n) (made c.marks)) room in
-    let made_ = leb-true (at + n) (made c.marks) b.1 in
+    let b = and_parts (nat_le (at + n) 384) (nat_le (at + n) (made_bytes c.marks)) room in
+    let made_ = leb-true (at + n) (made_bytes c.marks) b.1 in
     let more = made_prefix all c.marks g.marks in
     g.to window (at + n) (leb-true (at + n) 384 b.0) (omega (arith, made_, more))
 
-goes_same : (a b : Conf) → ◌≡◌ {A = After} (Goes a) (Goes b) → a ≡ b
+goes_same : (a b : Conf) → ◌≡◌ {A = OperationResult} (Goes a) (Goes b) → a ≡ b
 goes_same a b e = cc
 
-never : (h : Halt) (b : Conf) → ◌≡◌ {A = After} (Stops h) (Goes b) → ⊥
+never : (h : Halt) (b : Conf) → ◌≡◌ {A = OperationResult} (Stops h) (Goes b) → ⊥
 never h b e = cc
 
 -- where a test is passed
-when_goes : (b : Bool) (x : After) (t : Conf) → when b x ≡ Goes t → (b ≡ true) × (x ≡ Goes t)
+when_goes : (b : Bool) (x : OperationResult) (t : Conf) → when b x ≡ Goes t → (b ≡ true) × (x ≡ Goes t)
 when_goes true x t e = (refl, e)
 when_goes false x t e = absurd (never Stuck t e)
 
@@ -133,7 +133,7 @@ pushed_goes c t v e =
     let w = when_goes (nat_lt (length c.stack) 160) (Goes (next c (v ∷ c.stack))) t e in
     (ltb-true (length c.stack) 160 w.0, goes_same (next c (v ∷ c.stack)) t w.1)
 
-module _ (f : Fixed) (st : Stands f) (all : List Mark) (BV : Violation → List Mark → Type 0) (tag : IsTag f.setup.mac) (a : Addresses) (code : List Ir) (emitted_ : Emitted f a code) (handle : ℕ → Conf → After)
+module _ (f : Fixed) (st : Stands f) (all : List Mark) (BV : Violation → List Mark → Type 0) (tag : IsTag f.setup.mac) (a : Addresses) (code : List Ir) (emitted_ : Emitted f a code) (handle : ℕ → Conf → OperationResult)
     (parts : (h : ℕ) (c t : Conf) → handle h c ≡ Goes t → record c { place = a.part h; back = Some (c.place + 1) } ≡ t) (given : ℕ → ℕ) where
   abbrev pub B : Watched → Violation → Type 0
   B w v = BV v w.marks
@@ -215,7 +215,7 @@ module _ (f : Fixed) (st : Stands f) (all : List Mark) (BV : Violation → List 
       lift _ 1 8 c (record c { place = p; back = None }) t (omega arith) (goes_same _ t e)
       (subst (λ o. Runs_on (template f.setup.section.layout a c.place ir.Stop) 1 (record c { back = o }) (record c { place = p; back = None })) (sym eb) (stop_leads f st all B a.at c p to.0 to.1))
 
-  ending_goes : (after : After) (G : Conf → Type 0) (E : Violation → List Mark → Type 0) (t : Conf) → Ending after G E → after ≡ Goes t → G t
+  ending_goes : (after : OperationResult) (G : Conf → Type 0) (E : Violation → List Mark → Type 0) (t : Conf) → Ending after G E → after ≡ Goes t → G t
   ending_goes after G E t (Goes_to u is g) e = subst G (goes_same u t (sym is ∙ e)) g
   ending_goes after G E t (Breaks_off v m is g) e = absurd (never (Violates v m) t (sym is ∙ e))
   ending_goes after G E t (No_meaning is) e = absurd (never Stuck t (sym is ∙ e))
@@ -240,7 +240,7 @@ module _ (f : Fixed) (st : Stands f) (all : List Mark) (BV : Violation → List 
           let p = pushed_goes c t 0 e in
           lift _ 1 8 _ _ t (omega arith) p.1 (sense_stale f st all B a.at c d.0 d.1 found ek fr p.0)
 
-      kinds : (k : Kind) → d.1.kind ≡ k → sensed c d.0 d.1 k ≡ Goes t → Runs_on (template f.setup.section.layout a c.place ir.Sense) 8 c t
+      kinds : (k : Kind) → d.1.kind ≡ k → sensor_read c d.0 d.1 k ≡ Goes t → Runs_on (template f.setup.section.layout a c.place ir.Sense) 8 c t
       kinds Actuator ek e = absurd (never Stuck t e)
       kinds Sensor ek e = either d.1.fresh refl ek e
 
@@ -314,13 +314,13 @@ module _ (f : Fixed) (st : Stands f) (all : List Mark) (BV : Violation → List 
   op_goes ir.Leave stack c t here ok g gt e = absurd (never Stuck t e)
 
 -- what stops an operation that has no violation is that it has no meaning
-goes_never : (a : Conf) (h : Halt) → ◌≡◌ {A = After} (Goes a) (Stops h) → ⊥
+goes_never : (a : Conf) (h : Halt) → ◌≡◌ {A = OperationResult} (Goes a) (Stops h) → ⊥
 goes_never a h e = cc
 
-stuck_is : (h : Halt) → ◌≡◌ {A = After} (Stops Stuck) (Stops h) → Stuck ≡ h
+stuck_is : (h : Halt) → ◌≡◌ {A = OperationResult} (Stops Stuck) (Stops h) → Stuck ≡ h
 stuck_is h e = cc
 
-when_stops : (b : Bool) (x : After) (h : Halt) → when b x ≡ Stops h → (x ≡ Stops h → Stuck ≡ h) → Stuck ≡ h
+when_stops : (b : Bool) (x : OperationResult) (h : Halt) → when b x ≡ Stops h → (x ≡ Stops h → Stuck ≡ h) → Stuck ≡ h
 when_stops true x h e g = g e
 when_stops false x h e g = stuck_is h e
 
@@ -367,14 +367,14 @@ emit_stops c x rest (Some d) h e = kinds d.1.kind e
     kinds Sensor e = stuck_is h e
     kinds Actuator e = absurd (goes_never _ h e)
 
-same_end : (v w : Violation) (m n : List Mark) → ◌≡◌ {A = After} (Stops (Violates v m)) (Stops (Violates w n)) → (v ≡ w) × (m ≡ n)
+same_end : (v w : Violation) (m n : List Mark) → ◌≡◌ {A = OperationResult} (Stops (Violates v m)) (Stops (Violates w n)) → (v ≡ w) × (m ≡ n)
 same_end v w m n e = (cc, cc)
 
-stuck_not : (v : Violation) (m : List Mark) → ◌≡◌ {A = After} (Stops Stuck) (Stops (Violates v m)) → ⊥
+stuck_not : (v : Violation) (m : List Mark) → ◌≡◌ {A = OperationResult} (Stops Stuck) (Stops (Violates v m)) → ⊥
 stuck_not v m e = cc
 
 -- a test before a violation was passed
-when_violates : (b : Bool) (x : After) (v : Violation) (m : List Mark) → when b x ≡ Stops (Violates v m) → b ≡ true
+when_violates : (b : Bool) (x : OperationResult) (v : Violation) (m : List Mark) → when b x ≡ Stops (Violates v m) → b ≡ true
 when_violates true x v m e = refl
 when_violates false x v m e = absurd (stuck_not v m e)
 
@@ -390,7 +390,7 @@ sense_stops c (Some d) h e = kinds d.1.kind e
     either true e = pushed_stops (record c { devices = cleared c.devices d.0; marks = c.marks ++ mark.Sampled d.0 d.1.value ∷ [] }) (0x8000 + d.1.value) h e
     either false e = pushed_stops c 0 h e
 
-    kinds : (k : Kind) → sensed c d.0 d.1 k ≡ Stops h → Stuck ≡ h
+    kinds : (k : Kind) → sensor_read c d.0 d.1 k ≡ Stops h → Stuck ≡ h
     kinds Actuator e = stuck_is h e
     kinds Sensor e = either d.1.fresh e
 
@@ -398,16 +398,16 @@ stop_stops : (c : Conf) (o : Option ℕ) (h : Halt) → stop c o ≡ Stops h →
 stop_stops c None h e = stuck_is h e
 stop_stops c (Some p) h e = absurd (goes_never _ h e)
 
-module _ (f : Fixed) (st : Stands f) (all : List Mark) (BV : Violation → List Mark → Type 0) (begins : (v : Violation) (m : List Mark) → BV v m → HasPrefix all m) (tag : IsTag f.setup.mac) (a : Addresses) (code : List Ir) (emitted_ : Emitted f a code) (handle : ℕ → Conf → After)
+module _ (f : Fixed) (st : Stands f) (all : List Mark) (BV : Violation → List Mark → Type 0) (begins : (v : Violation) (m : List Mark) → BV v m → HasPrefix all m) (tag : IsTag f.setup.mac) (a : Addresses) (code : List Ir) (emitted_ : Emitted f a code) (handle : ℕ → Conf → OperationResult)
     (parts : (h : ℕ) (c t : Conf) → handle h c ≡ Goes t → record c { place = a.part h; back = Some (c.place + 1) } ≡ t) (no_end : (h : ℕ) (c : Conf) (w : Halt) → handle h c ≡ Stops w → Stuck ≡ w) (given : ℕ → ℕ) where
   abbrev pub Bw : Watched → Violation → Type 0
   Bw w v = BV v w.marks
 
   -- an operation that ends in a violation is ended by its words
   abbrev Op_stops : Ir → List ℕ → Conf → Type 0
-  Op_stops i stack c = (r : Regs) (d : Data) → Text f (a.at c.place) (length (template f.setup.section.layout a c.place i)) (template f.setup.section.layout a c.place i) → a.at (c.place + 1) ≡ a.at c.place + 2 * length (template f.setup.section.layout a c.place i) → Shows f a.at (record c { stack = stack }) r d → Safe f all (running f r d) → Runs f all Bw (λ _. ⊥) (count_of i + handler_count given i) (running f r d)
+  Op_stops i stack c = (r : Regs) (d : Data) → Text f (a.at c.place) (length (template f.setup.section.layout a c.place i)) (template f.setup.section.layout a c.place i) → a.at (c.place + 1) ≡ a.at c.place + 2 * length (template f.setup.section.layout a c.place i) → ShowsConfiguration f a.at (record c { stack = stack }) r d → Safe f all (running f r d) → Runs f all Bw (λ _. ⊥) (count_of i + handler_count given i) (running f r d)
 
-  ending_stops : (after : After) (G : Conf → Type 0) (E : Violation → List Mark → Type 0) (v : Violation) (m : List Mark) → Ending after G E → after ≡ Stops (Violates v m) → E v m
+  ending_stops : (after : OperationResult) (G : Conf → Type 0) (E : Violation → List Mark → Type 0) (v : Violation) (m : List Mark) → Ending after G E → after ≡ Stops (Violates v m) → E v m
   ending_stops after G E v m (Goes_to u is g) e = absurd (goes_never u (Violates v m) (sym is ∙ e))
   ending_stops after G E v m (Breaks_off w n is g) e = let same = same_end w v n m (sym is ∙ e) in subst (λ v. E v m) same.0 (subst (λ m. E w m) same.1 g)
   ending_stops after G E v m (No_meaning is) e = absurd (stuck_not v m (sym is ∙ e))

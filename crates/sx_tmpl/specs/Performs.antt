@@ -1,5 +1,6 @@
 -- What it means that instructions do what stack code does.
-use Rattle.std.specs.Prelude.{◌≡◌, ℕ, ◌+◌, ◌%◌, ◌≤◌, ◌<◌, ◌⊎◌, false, List, [], ◌++◌, length, slice_index, slice_get, Option, Some, None}
+use Rattle.std.specs.Prelude.{◌≡◌, ℕ, ◌+◌, ◌%◌, ◌≤◌, ◌<◌, ◌⊎◌, false, List, [], ◌++◌, length}
+use Rattle.std.specs.Prelude.{slice_index, slice_get, Option, Some, None}
 use Rattle.sx_lang.specs.Tree.{ModuleTree}
 use Rattle.sx_mean.specs.declared.events.End.{End}
 use Rattle.sx_mean.specs.Offsets.{scratch_at, stack_words, stack_to}
@@ -13,7 +14,7 @@ use Rattle.sx_machine.specs.declared.kinds.Event.TheVariants as event
 use Rattle.sx_machine.specs.Memory.{even, put_word}
 use Rattle.sx_machine.specs.State.{State}
 use Rattle.sx_reach.specs.Reach.{Comes, Goes, Stops}
-use Rattle.sx_invoke.specs.Marks.{HasPrefix, Mark, made}
+use Rattle.sx_invoke.specs.Marks.{HasPrefix, Mark, made_bytes}
 use Rattle.sx_invoke.specs.Setup.{Call, Setup}
 use Rattle.sx_invoke.specs.Progress.{Invoked, bytes_in, marks_in, pieces_in}
 use Rattle.sx_image.specs.Watched.{Watched, watch}
@@ -30,8 +31,10 @@ use Rattle.sx_tmpl.specs.Text.{addresses}
 
 -- the node comes from here to Q, or is reset with B, within this many instructions, and each moment
 -- before is one of the invocation
-abbrev pub Runs : Setup → Invoked → State → (Watched → Violation → Type 0) → (Watched → Type 0) → ℕ → Watched → Type 0
-Runs s result before B Q n w = Comes Watched Violation (watch s.mac) (λ w. 1) (Underway s result before) B Q n w
+abbrev pub NodeRuns : Setup → Invoked → State → (Watched → Violation → Type 0) → (Watched → Type 0)
+    → ℕ → Watched → Type 0
+NodeRuns s result before B Q n w =
+    Comes Watched Violation (watch s.mac) (λ w. 1) (Underway s result before) B Q n w
 
 -- an operation that doesn't break has no violation
 abbrev pub Never : Watched → Violation → Type 0
@@ -46,7 +49,8 @@ abbrev pub entry_conf : Layout → State → Conf
 entry_conf l n = record {
   place = 0;
   stack = [];
-  priv = put_word (put_word (put_word (put_word (private_bytes l n.mem) 6 (slice_index n.regs 12)) 8 (slice_index n.regs 13)) 10 (slice_index n.regs 14)) 12 (slice_index n.regs 15);
+  priv = put_word (put_word (put_word (put_word (private_bytes l n.mem) 6 (slice_index n.regs 12)) 8
+      (slice_index n.regs 13)) 10 (slice_index n.regs 14)) 12 (slice_index n.regs 15);
   mem = n.mem;
   devices = n.devices;
   marks = [];
@@ -74,12 +78,15 @@ abbrev pub Counts : ℕ → Type 0
 Counts o = (2 ≤ o) × ((o < scratch_at) ⊎ (stack_to ≤ o))
 
 -- the node left by `Leave`, from a configuration
-pub record LeftFrom (s : Setup) (before : State) (status count : ℕ) (t : Conf) (w : Watched) : Type 0 where
+pub record LeftFrom (s : Setup) (before : State) (status count : ℕ) (t : Conf) (w : Watched) : Type
+    0 where
   pub left : w.event ≡ event.Left s.section.id
   pub idle : w.node.cur ≡ 0
   pub registers : w.node.regs ≡ exit_registers before status count
-  pub bytes : (o : ℕ) → Counts o → o < length t.priv → slice_index w.node.mem (s.section.layout.priv_from + o) ≡ slice_index t.priv o
-  pub outside : (at : ℕ) → in_private s.section at ≡ false → slice_index w.node.mem at ≡ slice_index t.mem at
+  pub bytes : (o : ℕ) → Counts o → o < length t.priv
+      → slice_index w.node.mem (s.section.layout.priv_from + o) ≡ slice_index t.priv o
+  pub outside : (at : ℕ) → in_private s.section at ≡ false
+      → slice_index w.node.mem at ≡ slice_index t.mem at
   pub sections : w.node.sections ≡ before.sections
   pub marks : w.marks ≡ t.marks
 
@@ -87,14 +94,24 @@ pub record LeftFrom (s : Setup) (before : State) (status count : ℕ) (t : Conf)
 -- it comes to the first one; from one whose operation goes on, to the next one, within the
 -- template's count; where the operation breaks, to its violation, after its marks; and from `Leave`
 -- to the return.
-pub record Performs (s : Setup) (code : Code) (before : State) (result : Invoked) (StandsFor : Conf → Watched → Type 0) : Type 0 where
-  pub enters : Runs s result before Never (StandsFor (entry_conf s.section.layout before)) 6 (begins before)
-  pub goes : (c t : Conf) (w : Watched) → StandsFor c w → IsRegular code.ops.items (call_at before) (marks_in result) c → HasPrefix (marks_in result) t.marks
-      → op_step s (part_from code.parts.items) code.ops.items c ≡ Goes t → Runs s result before Never (StandsFor t) (op_count no_count code.ops.items c) w
-  pub stops : (c : Conf) (v : Violation) (marks : List Mark) (w : Watched) → StandsFor c w → IsRegular code.ops.items (call_at before) (marks_in result) c → HasPrefix (marks_in result) marks
-      → op_step s (part_from code.parts.items) code.ops.items c ≡ Stops (Violates v marks) → Runs s result before (With v marks) (λ w. ⊥) (op_count no_count code.ops.items c) w
-  pub leaves : (t : Conf) (w : Watched) (status count : ℕ) → StandsFor t w → HasPrefix (marks_in result) t.marks → Leaving code.ops.items status count t
-      → saved t 15 ≡ (call_at before).back → in_public s.section (even (call_at before).back) ≡ false → Runs s result before Never (LeftFrom s before status count t) 16 w
+pub record Performs (s : Setup) (code : Code) (before : State) (result : Invoked) (StandsFor : Conf
+    → Watched → Type 0) : Type 0 where
+  pub enters : NodeRuns s result before Never (StandsFor (entry_conf s.section.layout before)) 6
+      (begins before)
+  pub goes : (c t : Conf) (w : Watched) → StandsFor c w
+      → IsRegular code.ops.items (call_at before) (marks_in result) c
+      → HasPrefix (marks_in result) t.marks
+      → op_step s (part_from code.parts.items) code.ops.items c ≡ Goes t
+      → NodeRuns s result before Never (StandsFor t) (op_count no_count code.ops.items c) w
+  pub stops : (c : Conf) (v : Violation) (marks : List Mark) (w : Watched) → StandsFor c w
+      → IsRegular code.ops.items (call_at before) (marks_in result) c
+      → HasPrefix (marks_in result) marks
+      → op_step s (part_from code.parts.items) code.ops.items c ≡ Stops (Violates v marks)
+      → NodeRuns s result before (With v marks) (λ w. ⊥) (op_count no_count code.ops.items c) w
+  pub leaves : (t : Conf) (w : Watched) (status count : ℕ) → StandsFor t w
+      → HasPrefix (marks_in result) t.marks → Leaving code.ops.items status count t
+      → saved t 15 ≡ (call_at before).back → in_public s.section (even (call_at before).back)
+      ≡ false → NodeRuns s result before Never (LeftFrom s before status count t) 16 w
 
 -- sections at even addresses, the private one with the places that are named
 pub record HasRoom (l : Layout) : Type 0 where
@@ -120,6 +137,9 @@ AreNarrow ops = (p : ℕ) (i : Ir) → slice_get ops p ≡ Some i → IsNarrow i
 -- node does the code, for every end of the invocation whose pieces are those that its marks make.
 abbrev pub DoesCode : Mac → Code → Layout → List ℕ → Type 0
 DoesCode mac code l text =
-    (tree : ModuleTree) (ends : List End) (image : Image) (section : Section) (n : State) (result : Invoked) (rest : List ℕ) → image.layout ≡ l → image.text ≡ text ++ rest
-    → AreNarrow code.ops.items → Enters tree image section n → bytes_in (pieces_in result) ≡ made (marks_in result)
-    → (let s = setup_at mac tree ends section n in Performs s code n result (Stood (fixed_at s n result) (marks_in result) (addresses l code).at))
+    (tree : ModuleTree) (ends : List End) (image : Image) (section : Section) (n : State)
+    (result : Invoked) (rest : List ℕ) → image.layout ≡ l → image.text ≡ text ++ rest
+    → AreNarrow code.ops.items → Enters tree image section n
+    → bytes_in (pieces_in result) ≡ made_bytes (marks_in result)
+    → (let s = setup_at mac tree ends section n in
+    Performs s code n result (Stood (fixed_at s n result) (marks_in result) (addresses l code).at))

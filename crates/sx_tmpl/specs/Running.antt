@@ -1,5 +1,6 @@
 -- A module in mid-run: what stays, and what holds at every moment.
-use Rattle.std.specs.Prelude.{◌≡◌, ℕ, ◌+◌, ◌*◌, ◌<◌, ◌≤◌, ◌⊎◌, true, false, List, [], ◌∷◌, length, slice_index, Bool, min}
+use Rattle.std.specs.Prelude.{◌≡◌, ℕ, ◌+◌, ◌*◌, ◌<◌, ◌≤◌, ◌⊎◌, true, false, List, [], ◌∷◌, length}
+use Rattle.std.specs.Prelude.{slice_index, Bool, min}
 use Rattle.sx_bus.specs.declared.devices.Window.{Window}
 use Rattle.sx_bus.specs.Devices.{device_at}
 use Rattle.sx_rules.specs.declared.access.Access.TheVariants.{Write}
@@ -13,7 +14,7 @@ use Rattle.sx_invoke.specs.Progress.{Invoked, marks_in}
 use Rattle.sx_image.specs.Image.{call_at}
 use Rattle.sx_machine.specs.declared.kinds.Event.{Event}
 use Rattle.sx_machine.specs.declared.kinds.Event.TheVariants as event
-use Rattle.sx_invoke.specs.Marks.{HasPrefix, Mark, made}
+use Rattle.sx_invoke.specs.Marks.{HasPrefix, Mark, made_bytes}
 use Rattle.sx_image.specs.Watched.{Watched}
 
 -- the registers by name, but R3, which nothing changes
@@ -67,7 +68,8 @@ fixed_at s n result = record {
   entered = n.mem;
   devices = n.devices;
   from = (call_at n).output;
-  to = pieces_end (is_bad_window s (call_at n).output out_window_size) (call_at n).output (made (marks_in result));
+  to = pieces_end (is_bad_window s (call_at n).output out_window_size) (call_at n).output
+      (made_bytes (marks_in result));
   sp = slice_index n.regs 1;
   r3 = slice_index n.regs 3;
 }
@@ -78,7 +80,8 @@ sections_of f = record { live = f.setup.live; next = f.next }
 
 -- the sixteen registers as a list
 abbrev pub regs16 : Fixed → Regs → List ℕ
-regs16 f r = r.pc ∷ r.sp ∷ r.sr ∷ f.r3 ∷ r.r4 ∷ r.r5 ∷ r.r6 ∷ r.r7 ∷ r.r8 ∷ r.r9 ∷ r.r10 ∷ r.r11 ∷ r.r12 ∷ r.r13 ∷ r.r14 ∷ r.r15 ∷ []
+regs16 f r = r.pc ∷ r.sp ∷ r.sr ∷ f.r3 ∷ r.r4 ∷ r.r5 ∷ r.r6 ∷ r.r7 ∷ r.r8 ∷ r.r9 ∷ r.r10 ∷ r.r11
+    ∷ r.r12 ∷ r.r13 ∷ r.r14 ∷ r.r15 ∷ []
 
 -- what changes beside the registers
 pub record Data : Type 0 where
@@ -116,7 +119,7 @@ pub record Elsewhere (f : Fixed) (a : ℕ) : Type 0 where
   pub beside : (a < f.from) ⊎ (f.to ≤ a) ⊎ (may f.setup.live f.setup.section.id Write a ≡ false)
 
 -- memory in mid-run: nothing has changed outside the private section but where pieces go
-pub record Kept (f : Fixed) (m : List ℕ) : Type 0 where
+pub record OutsideKept (f : Fixed) (m : List ℕ) : Type 0 where
   pub size : length m ≡ 65536
   pub bytes : (a : ℕ) → slice_index m a < 256
   pub elsewhere : (a : ℕ) → Elsewhere f a → slice_index m a ≡ slice_index f.entered a
@@ -126,7 +129,7 @@ pub record Kept (f : Fixed) (m : List ℕ) : Type 0 where
 pub record Safe (f : Fixed) (all : List Mark) (c : Watched) : Type 0 where
   pub inside : own_of c.node ≡ f.setup.section.id
   pub sections : c.node.sections ≡ sections_of f
-  pub memory : Kept f c.node.mem
+  pub memory : OutsideKept f c.node.mem
   pub devices : (a : ℕ) → device_at c.node.devices a ≡ device_at f.devices a
   pub marks : HasPrefix all c.marks
 

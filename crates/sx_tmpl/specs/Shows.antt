@@ -1,5 +1,6 @@
 -- How a node in mid-run stands for a configuration of stack code.
-use Rattle.std.specs.Prelude.{◌≡◌, ℕ, ◌+◌, ◌*◌, ◌<◌, ◌≤◌, ◌⊎◌, false, List, [], ◌∷◌, length, slice_index, Option, Some, None}
+use Rattle.std.specs.Prelude.{◌≡◌, ℕ, ◌+◌, ◌*◌, ◌<◌, ◌≤◌, ◌⊎◌, false, List, [], ◌∷◌, length}
+use Rattle.std.specs.Prelude.{slice_index, Option, Some, None}
 use Rattle.sx_rules.specs.Access.{in_private}
 use Rattle.sx_invoke.specs.Marks.{Mark}
 use Rattle.sx_image.specs.Watched.{Watched}
@@ -27,21 +28,25 @@ ReturnsTo at f (Some p) m = cell m (base_of f + 104) ≡ at p
 
 -- memory has the stack's words from SP on, the data of the private section, the bytes outside, the
 -- place to return to, and SP at entry
-pub record Holds (f : Fixed) (at : ℕ → ℕ) (back : Option ℕ) (stack priv outside : List ℕ) (sp : ℕ) (m : List ℕ) : Type 0 where
+pub record MemoryHolds (f : Fixed) (at : ℕ → ℕ) (back : Option ℕ) (stack priv outside : List ℕ)
+    (sp : ℕ) (m : List ℕ) : Type 0 where
   pub top : sp + 2 * length stack ≡ base_of f + 512
   pub room : length stack ≤ 170
   pub whole : length outside ≡ 65536
   pub words : WordsAt m sp stack
   pub size : base_of f + length priv ≡ f.setup.section.layout.priv_to
-  pub bytes : (o : ℕ) → IsData o → o < length priv → slice_index m (base_of f + o) ≡ slice_index priv o
-  pub others : (a : ℕ) → in_private f.setup.section a ≡ false → slice_index m a ≡ slice_index outside a
+  pub bytes : (o : ℕ) → IsData o → o < length priv
+      → slice_index m (base_of f + o) ≡ slice_index priv o
+  pub others : (a : ℕ) → in_private f.setup.section a ≡ false
+      → slice_index m a ≡ slice_index outside a
   pub returns : ReturnsTo at f back m
   pub entry_sp : cell m (base_of f + 148) ≡ f.sp
 
 -- the node stands for the configuration, where `at` gives the address of a place
-pub record Shows (f : Fixed) (at : ℕ → ℕ) (c : Conf) (r : Regs) (d : Data) : Type 0 where
+pub record ShowsConfiguration (f : Fixed) (at : ℕ
+    → ℕ) (c : Conf) (r : Regs) (d : Data) : Type 0 where
   pub pc : r.pc ≡ at c.place
-  pub holds : Holds f at c.back c.stack c.priv c.mem r.sp d.mem
+  pub holds : MemoryHolds f at c.back c.stack c.priv c.mem r.sp d.mem
   pub devices : d.devices ≡ c.devices
   pub marks : d.marks ≡ c.marks
 
@@ -51,4 +56,4 @@ pub record Stood (f : Fixed) (all : List Mark) (at : ℕ → ℕ) (c : Conf) (w 
   pub rest : Data
   pub state : w ≡ running f regs rest
   pub safe : Safe f all w
-  pub shows : Shows f at c regs rest
+  pub shows : ShowsConfiguration f at c regs rest

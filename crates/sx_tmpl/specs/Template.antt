@@ -23,7 +23,8 @@ pub record Addresses : Type 0 where
 --     turn: RLA R14; RLA R12; JNC .+1; ADD R13, R14; DEC R15; JNZ turn
 --     PUSH R14
 abbrev pub multiply_words : List ℕ
-multiply_words = 0x413c ∷ 0x413d ∷ 0x430e ∷ 0x403f ∷ 16 ∷ 0x5e0e ∷ 0x5c0c ∷ 0x2801 ∷ 0x5d0e ∷ 0x831f ∷ 0x23fa ∷ 0x120e ∷ []
+multiply_words = 0x413c ∷ 0x413d ∷ 0x430e ∷ 0x403f ∷ 16 ∷ 0x5e0e ∷ 0x5c0c ∷ 0x2801 ∷ 0x5d0e ∷ 0x831f
+    ∷ 0x23fa ∷ 0x120e ∷ []
 
 -- the words of each operation on words
 abbrev pub operator_words : IrOp → List ℕ
@@ -47,7 +48,8 @@ operator_words op.Not = 0x9381 ∷ 0 ∷ 0x4381 ∷ 0 ∷ 0x2002 ∷ 0x4391 ∷ 
 -- the element at the index on the stack, or 0:
 --     POP R12; CMP #n, R12; JC .+4; ADD R12, R12; PUSH start(R12); JMP .+1; PUSH #0
 abbrev pub load_at_words : ℕ → ℕ → List ℕ
-load_at_words start n = 0x413c ∷ 0x903c ∷ n ∷ 0x2c04 ∷ 0x5c0c ∷ 0x121c ∷ start ∷ 0x3c01 ∷ 0x1203 ∷ []
+load_at_words start n =
+    0x413c ∷ 0x903c ∷ n ∷ 0x2c04 ∷ 0x5c0c ∷ 0x121c ∷ start ∷ 0x3c01 ∷ 0x1203 ∷ []
 
 -- POP R13; POP R12; CMP #n, R12; JC .+3; ADD R12, R12; MOV R13, start(R12)
 abbrev pub store_at_words : ℕ → ℕ → List ℕ
@@ -59,20 +61,23 @@ inside_words back from to = 0x421c ∷ back ∷ 0x903c ∷ from ∷ 0x2804 ∷ 0
 
 -- A window of n bytes at the saved register passes 0xFFFF from 65537 - n on; else it meets the
 -- private section where it begins below the section's end and doesn't end before its start:
---     MOV &saved, R12; CMP #65537-n, R12; JC .+6; CMP #to, R12; JC .+5; CMP #from+1-n, R12; JNC .+2;
---     PUSH #1; JMP .+1; PUSH #0
+--     MOV &saved, R12; CMP #65537-n, R12; JC .+6; CMP #to, R12; JC .+5;
+--     CMP #from+1-n, R12; JNC .+2; PUSH #1; JMP .+1; PUSH #0
 abbrev pub meets_words : ℕ → ℕ → ℕ → ℕ → List ℕ
-meets_words saved from to n = 0x421c ∷ saved ∷ 0x903c ∷ (65537 - n) ∷ 0x2c06 ∷ 0x903c ∷ to ∷ 0x2c05 ∷ 0x903c ∷ (from + 1 - n) ∷ 0x2802 ∷ 0x1213 ∷ 0x3c01 ∷ 0x1203 ∷ []
+meets_words saved from to n = 0x421c ∷ saved ∷ 0x903c ∷ (65537 - n) ∷ 0x2c06 ∷ 0x903c ∷ to ∷ 0x2c05
+    ∷ 0x903c ∷ (from + 1 - n) ∷ 0x2802 ∷ 0x1213 ∷ 0x3c01 ∷ 0x1203 ∷ []
 
 -- MOV &window, R12; MOV #to, R13; MOV #n, R15
 -- turn: MOV.B @R12+, 0(R13); INC R13; DEC R15; JNZ turn
 abbrev pub copy_in_words : ℕ → ℕ → ℕ → List ℕ
-copy_in_words window to n = 0x421c ∷ window ∷ 0x403d ∷ to ∷ 0x403f ∷ n ∷ 0x4cfd ∷ 0 ∷ 0x531d ∷ 0x831f ∷ 0x23fb ∷ []
+copy_in_words window to n =
+    0x421c ∷ window ∷ 0x403d ∷ to ∷ 0x403f ∷ n ∷ 0x4cfd ∷ 0 ∷ 0x531d ∷ 0x831f ∷ 0x23fb ∷ []
 
 -- POP R12; ADD &window, R12; MOV #from, R13; MOV #n, R15
 -- turn: MOV.B @R13+, 0(R12); INC R12; DEC R15; JNZ turn
 abbrev pub copy_out_words : ℕ → ℕ → ℕ → List ℕ
-copy_out_words window from n = 0x413c ∷ 0x521c ∷ window ∷ 0x403d ∷ from ∷ 0x403f ∷ n ∷ 0x4dfc ∷ 0 ∷ 0x531c ∷ 0x831f ∷ 0x23fb ∷ []
+copy_out_words window from n = 0x413c ∷ 0x521c ∷ window ∷ 0x403d ∷ from ∷ 0x403f ∷ n ∷ 0x4dfc ∷ 0
+    ∷ 0x531c ∷ 0x831f ∷ 0x23fb ∷ []
 
 -- the address of a key, or 0 for the module's own
 abbrev pub key_word : ℕ → ℕ → ℕ
@@ -82,25 +87,32 @@ key_word base (suc k) = base + suc k
 -- MOV #key, R9; MOV #header, R10; MOV #hn, R11; MOV #body, R12; MOV #bn, R13; MOV #cipher, R14; MOV
 -- #tag, R15; wrap; CLR R9
 abbrev pub seal_words : (key header hn body bn cipher tag : ℕ) → List ℕ
-seal_words key header hn body bn cipher tag = 0x4039 ∷ key ∷ 0x403a ∷ header ∷ 0x403b ∷ hn ∷ 0x403c ∷ body ∷ 0x403d ∷ bn ∷ 0x403e ∷ cipher ∷ 0x403f ∷ tag ∷ 0x1384 ∷ 0x4309 ∷ []
+seal_words key header hn body bn cipher tag =
+    0x4039 ∷ key ∷ 0x403a ∷ header ∷ 0x403b ∷ hn ∷ 0x403c ∷ body ∷ 0x403d ∷ bn ∷ 0x403e ∷ cipher
+    ∷ 0x403f ∷ tag ∷ 0x1384 ∷ 0x4309 ∷ []
 
 -- the same with cipher and body exchanged, and unwrap; PUSH R15
 abbrev pub open_words : (key header hn cipher bn body tag : ℕ) → List ℕ
-open_words key header hn cipher bn body tag = 0x4039 ∷ key ∷ 0x403a ∷ header ∷ 0x403b ∷ hn ∷ 0x403c ∷ cipher ∷ 0x403d ∷ bn ∷ 0x403e ∷ body ∷ 0x403f ∷ tag ∷ 0x1385 ∷ 0x120f ∷ []
+open_words key header hn cipher bn body tag =
+    0x4039 ∷ key ∷ 0x403a ∷ header ∷ 0x403b ∷ hn ∷ 0x403c ∷ cipher ∷ 0x403d ∷ bn ∷ 0x403e ∷ body
+    ∷ 0x403f ∷ tag ∷ 0x1385 ∷ 0x120f ∷ []
 
 -- A seal by offsets from the base: behind the header stand the cipher and the tag.
 abbrev pub sealing_words : (base k h hn b bn : ℕ) → List ℕ
 sealing_words base k h hn b bn =
-    seal_words (key_word base k) (base + h) hn (base + b) bn (base + (h + hn)) (base + (h + hn + bn))
+    seal_words (key_word base k) (base + h) hn (base + b) bn (base + (h + hn))
+    (base + (h + hn + bn))
 
 -- the same of what opens it
 abbrev pub opening_words : (base k h hn b bn : ℕ) → List ℕ
 opening_words base k h hn b bn =
-    open_words (key_word base k) (base + h) hn (base + (h + hn)) bn (base + b) (base + (h + hn + bn))
+    open_words (key_word base k) (base + h) hn (base + (h + hn)) bn (base + b)
+    (base + (h + hn + bn))
 
 -- CLR &pieces; MOV #next, &back; BR #part
 abbrev pub handler_words : ℕ → ℕ → ℕ → List ℕ
-handler_words base next part = 0x4382 ∷ (base + 4) ∷ 0x40b2 ∷ next ∷ (base + 104) ∷ 0x4030 ∷ part ∷ []
+handler_words base next part =
+    0x4382 ∷ (base + 4) ∷ 0x40b2 ∷ next ∷ (base + 104) ∷ 0x4030 ∷ part ∷ []
 
 -- the words of an operation at a place, in a module of this layout
 abbrev pub template : Layout → Addresses → ℕ → Ir → List ℕ
@@ -126,7 +138,8 @@ template l a p ir.Stop = 0x4210 ∷ (l.priv_from + 104) ∷ []
 -- PUSH &saved
 template l a p (ir.Saved r) = 0x1212 ∷ (l.priv_from + offsets.saved_at r) ∷ []
 template l a p ir.Inside = inside_words (l.priv_from + 12) l.pub_from l.pub_to
-template l a p (ir.Meets r n) = meets_words (l.priv_from + offsets.saved_at r) l.priv_from l.priv_to n
+template l a p (ir.Meets r n) =
+    meets_words (l.priv_from + offsets.saved_at r) l.priv_from l.priv_to n
 template l a p (ir.CopyIn n o) = copy_in_words (l.priv_from + 8) (l.priv_from + o) n
 template l a p (ir.CopyOut n o) = copy_out_words (l.priv_from + 10) (l.priv_from + o) n
 template l a p (ir.Seal k h hn b bn) = sealing_words l.priv_from k h hn b bn
@@ -143,21 +156,25 @@ template l a p ir.Leave = 0x4030 ∷ a.at a.exit ∷ []
 --     MOV SP, &148; MOV R12, &6; MOV R13, &8; MOV R14, &10; MOV R15, &12; MOV #512, SP
 --     (offsets of the private section)
 abbrev pub entry_words : ℕ → List ℕ
-entry_words base = 0x4182 ∷ (base + 148) ∷ 0x4c82 ∷ (base + 6) ∷ 0x4d82 ∷ (base + 8) ∷ 0x4e82 ∷ (base + 10) ∷ 0x4f82 ∷ (base + 12) ∷ 0x4031 ∷ (base + 512) ∷ []
+entry_words base = 0x4182 ∷ (base + 148) ∷ 0x4c82 ∷ (base + 6) ∷ 0x4d82 ∷ (base + 8) ∷ 0x4e82
+    ∷ (base + 10) ∷ 0x4f82 ∷ (base + 12) ∷ 0x4031 ∷ (base + 512) ∷ []
 
 -- The exit takes the number of pieces and the status, sets the other registers to 0, and returns
 -- with the caller's SP:
 --     POP R13; POP R12; CLR R4 .. R11, R14, R15, SR; MOV &148, SP; MOV &12, PC
 abbrev pub leave_words : ℕ → List ℕ
-leave_words base = 0x413d ∷ 0x413c ∷ 0x4304 ∷ 0x4305 ∷ 0x4306 ∷ 0x4307 ∷ 0x4308 ∷ 0x4309 ∷ 0x430a ∷ 0x430b ∷ 0x430e ∷ 0x430f ∷ 0x4302 ∷ 0x4211 ∷ (base + 148) ∷ 0x4210 ∷ (base + 12) ∷ []
+leave_words base = 0x413d ∷ 0x413c ∷ 0x4304 ∷ 0x4305 ∷ 0x4306 ∷ 0x4307 ∷ 0x4308 ∷ 0x4309 ∷ 0x430a
+    ∷ 0x430b ∷ 0x430e ∷ 0x430f ∷ 0x4302 ∷ 0x4211 ∷ (base + 148) ∷ 0x4210 ∷ (base + 12) ∷ []
 
 -- The routine that opens the slot at R12: the connection field of the copied packet, number 0,
 -- open, and the eight words of the plain key; RET.
 abbrev pub slot_words : ℕ → List ℕ
 slot_words base =
     0x429c ∷ (base + 18) ∷ 0 ∷ 0x438c ∷ 2 ∷ 0x439c ∷ 4
-    ∷ 0x429c ∷ (base + 56) ∷ 8 ∷ 0x429c ∷ (base + 58) ∷ 10 ∷ 0x429c ∷ (base + 60) ∷ 12 ∷ 0x429c ∷ (base + 62) ∷ 14
-    ∷ 0x429c ∷ (base + 64) ∷ 16 ∷ 0x429c ∷ (base + 66) ∷ 18 ∷ 0x429c ∷ (base + 68) ∷ 20 ∷ 0x429c ∷ (base + 70) ∷ 22
+    ∷ 0x429c ∷ (base + 56) ∷ 8 ∷ 0x429c ∷ (base + 58) ∷ 10 ∷ 0x429c ∷ (base + 60) ∷ 12 ∷ 0x429c
+    ∷ (base + 62) ∷ 14
+    ∷ 0x429c ∷ (base + 64) ∷ 16 ∷ 0x429c ∷ (base + 66) ∷ 18 ∷ 0x429c ∷ (base + 68) ∷ 20 ∷ 0x429c
+    ∷ (base + 70) ∷ 22
     ∷ 0x4130 ∷ []
 
 -- The packet routine of the k-th end tests that the end is open and its number below 65,535, makes
@@ -173,8 +190,13 @@ slot_words base =
 --     ret: RET
 abbrev pub routine_words : ℕ → ℕ → List ℕ
 routine_words base k =
-    0x9382 ∷ (base + offsets.end_open_at k) ∷ 0x2434 ∷ 0x93b2 ∷ (base + offsets.end_number_at k) ∷ 0x2431
-    ∷ 0x40b2 ∷ 3 ∷ (base + 106) ∷ 0x4292 ∷ (base + offsets.end_at k) ∷ (base + 108) ∷ 0x4292 ∷ (base + offsets.end_number_at k) ∷ (base + 110) ∷ 0x4192 ∷ 2 ∷ (base + 130)
-    ∷ 0x4039 ∷ (base + offsets.end_key_at k) ∷ 0x403a ∷ (base + 106) ∷ 0x403b ∷ 6 ∷ 0x403c ∷ (base + 130) ∷ 0x432d ∷ 0x403e ∷ (base + 112) ∷ 0x403f ∷ (base + 114) ∷ 0x1384
-    ∷ 0x421c ∷ (base + offsets.pieces_at) ∷ 0x5c0c ∷ 0x5c0c ∷ 0x5c0c ∷ 0x4c0e ∷ 0x5c0c ∷ 0x5e0c ∷ 0x521c ∷ (base + 10) ∷ 0x403d ∷ (base + 106) ∷ 0x403f ∷ 24
-    ∷ 0x4dfc ∷ 0 ∷ 0x531c ∷ 0x831f ∷ 0x23fb ∷ 0x5392 ∷ (base + offsets.end_number_at k) ∷ 0x5392 ∷ (base + offsets.pieces_at) ∷ 0x4130 ∷ []
+    0x9382 ∷ (base + offsets.end_open_at k) ∷ 0x2434 ∷ 0x93b2 ∷ (base + offsets.end_number_at k)
+    ∷ 0x2431
+    ∷ 0x40b2 ∷ 3 ∷ (base + 106) ∷ 0x4292 ∷ (base + offsets.end_at k) ∷ (base + 108) ∷ 0x4292
+    ∷ (base + offsets.end_number_at k) ∷ (base + 110) ∷ 0x4192 ∷ 2 ∷ (base + 130)
+    ∷ 0x4039 ∷ (base + offsets.end_key_at k) ∷ 0x403a ∷ (base + 106) ∷ 0x403b ∷ 6 ∷ 0x403c
+    ∷ (base + 130) ∷ 0x432d ∷ 0x403e ∷ (base + 112) ∷ 0x403f ∷ (base + 114) ∷ 0x1384
+    ∷ 0x421c ∷ (base + offsets.pieces_at) ∷ 0x5c0c ∷ 0x5c0c ∷ 0x5c0c ∷ 0x4c0e ∷ 0x5c0c ∷ 0x5e0c
+    ∷ 0x521c ∷ (base + 10) ∷ 0x403d ∷ (base + 106) ∷ 0x403f ∷ 24
+    ∷ 0x4dfc ∷ 0 ∷ 0x531c ∷ 0x831f ∷ 0x23fb ∷ 0x5392 ∷ (base + offsets.end_number_at k) ∷ 0x5392
+    ∷ (base + offsets.pieces_at) ∷ 0x4130 ∷ []

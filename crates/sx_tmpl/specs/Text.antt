@@ -1,11 +1,14 @@
 -- The text of a code. Nobody has to believe this file for what an image realizes. It has where the
 -- instructions of each operation stand, and all words.
-use Rattle.std.specs.Prelude.{◌≡◌, ℕ, zero, suc, ◌+◌, ◌*◌, ◌%◌, ◌/◌, if◌then◌else◌, List, [], ◌∷◌, ◌++◌, length, slice_index}
+use Rattle.std.specs.Prelude.{◌≡◌, ℕ, zero, suc, ◌+◌, ◌*◌, ◌%◌, ◌/◌, if◌then◌else◌, List, [], ◌∷◌}
+use Rattle.std.specs.Prelude.{◌++◌, length, slice_index}
 use Rattle.sx_rules.specs.declared.section.Layout.{Layout}
 use Rattle.sx_ir.specs.declared.ir.Ir.{Ir}
 use Rattle.sx_ir.specs.declared.ir.Code.{Code}
-use Rattle.sx_ir.specs.Sizes.{entry_bytes, exit_bytes, has_routine, op_bytes, packet_bytes, routines, slot_bytes}
-use Rattle.sx_tmpl.specs.Template.{Addresses, template, entry_words, leave_words, slot_words, routine_words}
+use Rattle.sx_ir.specs.Sizes.{entry_bytes, exit_bytes, has_routine, op_bytes, packet_bytes}
+use Rattle.sx_ir.specs.Sizes.{routines, slot_bytes}
+use Rattle.sx_tmpl.specs.Template.{Addresses, template, entry_words, leave_words, slot_words}
+use Rattle.sx_tmpl.specs.Template.{routine_words}
 
 -- the first place of a handler's part
 abbrev pub part_place : List (ℕ × ℕ) → ℕ → ℕ
@@ -57,7 +60,8 @@ packet_words base ops (suc n) = packet_words base ops n ++ packet_words_of base 
 abbrev pub text_words_of : Layout → List Ir → List (ℕ × ℕ) → List ℕ
 text_words_of l ops parts =
     entry_words l.priv_from ++ (words_of l (addresses_of l ops parts) 0 ops
-    ++ (leave_words l.priv_from ++ (slot_words l.priv_from ++ (packet_words l.priv_from ops 256 ++ 0 ∷ []))))
+    ++ (leave_words l.priv_from ++ (slot_words l.priv_from
+    ++ (packet_words l.priv_from ops 256 ++ 0 ∷ []))))
 
 -- all words of a code's text
 unfoldable pub text_words : Layout → Code → List ℕ

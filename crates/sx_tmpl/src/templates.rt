@@ -2,8 +2,11 @@
 
 ghost use Rattle.std.specs.Prelude.{◌≡◌, ℕ, ◌≤◌, ◌<◌, ◌+◌, ◌*◌, OnOk, length, true};
 ghost use Rattle.sx_ir.specs.Sizes.{routines};
-ghost use Rattle.sx_tmpl.specs.Fits.{AreSealed, Fits, IsTable, is_plain};
-ghost use Rattle.sx_tmpl.specs.Template.{Addresses, copy_in_words, copy_out_words, handler_words, inside_words, key_word, load_at_words, meets_words, multiply_words, opening_words, operator_words, sealing_words, store_at_words, template};
+ghost use Rattle.sx_tmpl.specs.Fits.{AreSealed, OperationFits, IsTable, is_plain};
+ghost use Rattle.sx_tmpl.specs.Template.{Addresses, copy_in_words, copy_out_words, handler_words};
+ghost use Rattle.sx_tmpl.specs.Template.{inside_words, key_word, load_at_words, meets_words};
+ghost use Rattle.sx_tmpl.specs.Template.{multiply_words, opening_words, operator_words};
+ghost use Rattle.sx_tmpl.specs.Template.{sealing_words, store_at_words, template};
 ghost use Rattle.sx_tmpl.specs.Text.{addresses, part_place, PutsWords};
 
 use crate::put::put_words;
@@ -82,7 +85,8 @@ fn put_meets(
 ) -> Result<(), OutOfMemory>
     requires length { 2 ≤ length }
     requires below { from < 65535 }
-    ensures { OnOk result (PutsWords (meets_words saved from to length) text.old.items text.new.items) }
+    ensures { OnOk result (PutsWords (meets_words saved from to length) text.old.items
+        text.new.items) }
 {
     let past = u16::MAX - length + 2;
     let before = (from + 1).saturating_sub(length);
@@ -95,7 +99,8 @@ fn put_meets(
 
 /// `window` is where the caller's in-window is kept, and `to` where its bytes go.
 fn put_copy_in(text: &mut Vec<u8>, window: u16, to: u16, count: u16) -> Result<(), OutOfMemory>
-    ensures { OnOk result (PutsWords (copy_in_words window to count) text.old.items text.new.items) }
+    ensures { OnOk result (PutsWords (copy_in_words window to count) text.old.items
+        text.new.items) }
 {
     put_words(
         text,
@@ -107,7 +112,8 @@ fn put_copy_in(text: &mut Vec<u8>, window: u16, to: u16, count: u16) -> Result<(
 
 /// `window` is where the caller's out-window is kept, and `from` where the bytes are.
 fn put_copy_out(text: &mut Vec<u8>, window: u16, from: u16, count: u16) -> Result<(), OutOfMemory>
-    ensures { OnOk result (PutsWords (copy_out_words window from count) text.old.items text.new.items) }
+    ensures { OnOk result (PutsWords (copy_out_words window from count) text.old.items
+        text.new.items) }
 {
     put_words(
         text,
@@ -157,7 +163,8 @@ fn put_seal(
     length: u8,
 ) -> Result<(), OutOfMemory>
     requires fits { AreSealed base key header header_length body length }
-    ensures { OnOk result (PutsWords (sealing_words base key header header_length body length) text.old.items text.new.items) }
+    ensures { OnOk result (PutsWords (sealing_words base key header header_length body length)
+        text.old.items text.new.items) }
 {
     let cipher = header + u16::from(header_length);
     let tag = cipher + u16::from(length);
@@ -182,7 +189,8 @@ fn put_open(
     length: u8,
 ) -> Result<(), OutOfMemory>
     requires fits { AreSealed base key header header_length body length }
-    ensures { OnOk result (PutsWords (opening_words base key header header_length body length) text.old.items text.new.items) }
+    ensures { OnOk result (PutsWords (opening_words base key header header_length body length)
+        text.old.items text.new.items) }
 {
     let cipher = header + u16::from(header_length);
     let tag = cipher + u16::from(length);
@@ -209,7 +217,8 @@ fn place_address(table: &Table, code: &Code, layout: &Layout, place: usize) -> u
 fn routines_before(table: &Table, code: &Code, layout: &Layout, end: u8) -> u16
     requires table { IsTable layout.now code.now table.now }
     ensures count { result ≡ routines code.now.ops.items end }
-    ensures below { (addresses layout.now code.now).at (length code.now.ops.items) + 98 + 112 * result < 65536 }
+    ensures below { (addresses layout.now code.now).at (length code.now.ops.items) + 98
+        + 112 * result < 65536 }
 {
     table.preceding(usize::from(end))
 }
@@ -223,7 +232,8 @@ fn packet_address(table: &Table, code: &Code, layout: &Layout, end: u8) -> u16
     exit + (34 + 64) + 112 * routines_before(table, code, layout, end)
 }
 
-/// Appends the words of an operation that names no place and no routine: they are the same at each place.
+/// Appends the words of an operation that names no place and no routine: they are the same at each
+/// place.
 fn put_plain(
     text: &mut Vec<u8>,
     code: &Code,
@@ -231,7 +241,7 @@ fn put_plain(
     operation: Ir,
 ) -> Result<(), OutOfMemory>
     requires plain { is_plain operation ≡ true }
-    requires fits { Fits layout.now code.now operation }
+    requires fits { OperationFits layout.now code.now operation }
     ensures { (a : Addresses) (place : ℕ) → OnOk result
         (PutsWords (template layout.now a place operation) text.old.items text.new.items) }
 {
@@ -276,8 +286,9 @@ pub fn put_operation(
 ) -> Result<(), OutOfMemory>
     requires table { IsTable layout.now code.now table.now }
     requires place { place < length code.now.ops.items }
-    requires fits { Fits layout.now code.now operation }
-    ensures { OnOk result (PutsWords (template layout.now (addresses layout.now code.now) place operation) text.old.items text.new.items) }
+    requires fits { OperationFits layout.now code.now operation }
+    ensures { OnOk result (PutsWords (template layout.now (addresses layout.now code.now) place
+        operation) text.old.items text.new.items) }
 {
     let base = layout.priv_from;
     let exit = place_address(table, code, layout, code.ops.len());

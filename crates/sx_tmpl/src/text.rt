@@ -1,13 +1,15 @@
 //! From stack code to the text of its instructions.
 
-ghost use Rattle.std.specs.Prelude.{◌≡◌, ◌<◌, ◌+◌, ◌*◌, ℕ, OnOk, IfOk, IsTrue, Some, length, slice_get};
+ghost use Rattle.std.specs.Prelude.{◌≡◌, ◌<◌, ◌+◌, ◌*◌, ℕ, OnOk, IfOk, IsTrue, Some, length};
+ghost use Rattle.std.specs.Prelude.{slice_get};
 ghost use Rattle.sx_mean.specs.Offsets.{end_at};
 ghost use Rattle.sx_ir.specs.Sizes.{bytes, has_routine};
 ghost use Rattle.sx_ir.specs.declared.ir.Ir.{Ir};
 ghost use Rattle.sx_ir.specs.Sound.{is_sound};
-ghost use Rattle.sx_tmpl.specs.Fits.{Fits, IsTable};
+ghost use Rattle.sx_tmpl.specs.Fits.{OperationFits, IsTable};
 ghost use Rattle.sx_tmpl.specs.Performs.{DoesCode, HasRoom};
-ghost use Rattle.sx_tmpl.specs.Text.{addresses, bytes_of, packet_words, packet_words_of, text_words, words_of, PutsWords};
+ghost use Rattle.sx_tmpl.specs.Text.{addresses, bytes_of, packet_words, packet_words_of};
+ghost use Rattle.sx_tmpl.specs.Text.{text_words, words_of, PutsWords};
 
 use crate::put::put_words;
 use crate::routines::{put_entry, put_exit, put_routine, put_slots};
@@ -26,8 +28,10 @@ fn put_operations(
     table: &Table,
 ) -> Result<(), OutOfMemory>
     requires table { IsTable layout.now code.now table.now }
-    requires fits { (p : ℕ) (i : Ir) → slice_get code.now.ops.items p ≡ Some i → Fits layout.now code.now i }
-    ensures { OnOk result (PutsWords (words_of layout.now (addresses layout.now code.now) 0 code.now.ops.items) text.old.items text.new.items) }
+    requires fits { (p : ℕ) (i : Ir) → slice_get code.now.ops.items p ≡ Some i
+        → OperationFits layout.now code.now i }
+    ensures { OnOk result (PutsWords (words_of layout.now (addresses layout.now code.now) 0
+        code.now.ops.items) text.old.items text.new.items) }
 {
     for (place, operation) in code.ops.iter().enumerate() {
         put_operation(text, code, layout, table, place, *operation)?;
@@ -40,7 +44,8 @@ fn put_packet(text: &mut Vec<u8>, code: &Code, base: u16, end: u16) -> Result<()
     requires end { end < 256 }
     requires slot { IsTrue (has_routine code.now.ops.items end) → base + (end_at end + 24) < 65536 }
     requires base { base + 512 < 65536 }
-    ensures { OnOk result (PutsWords (packet_words_of base code.now.ops.items end) text.old.items text.new.items) }
+    ensures { OnOk result (PutsWords (packet_words_of base code.now.ops.items end) text.old.items
+        text.new.items) }
 {
     if has_routine(&code.ops, end) {
         put_routine(text, base, end as u8)
@@ -52,9 +57,11 @@ fn put_packet(text: &mut Vec<u8>, code: &Code, base: u16, end: u16) -> Result<()
 /// Appends the packet routines.
 #[tactic(auto, using(crate::proofs::TextTurns::packets_none, crate::proofs::TextTurns::packets_turn))]
 fn put_packets(text: &mut Vec<u8>, code: &Code, base: u16) -> Result<(), OutOfMemory>
-    requires slots { (k : ℕ) → k < 256 → IsTrue (has_routine code.now.ops.items k) → base + (end_at k + 24) < 65536 }
+    requires slots { (k : ℕ) → k < 256 → IsTrue (has_routine code.now.ops.items k)
+        → base + (end_at k + 24) < 65536 }
     requires base { base + 512 < 65536 }
-    ensures { OnOk result (PutsWords (packet_words base code.now.ops.items 256) text.old.items text.new.items) }
+    ensures { OnOk result (PutsWords (packet_words base code.now.ops.items 256) text.old.items
+        text.new.items) }
 {
     for end in 0..256 {
         put_packet(text, code, base, end)?;
@@ -71,9 +78,12 @@ fn put_text(
 ) -> Result<(), OutOfMemory>
     requires table { IsTable layout.now code.now table.now }
     requires base { layout.now.priv_from + 512 < 65536 }
-    requires fits { (p : ℕ) (i : Ir) → slice_get code.now.ops.items p ≡ Some i → Fits layout.now code.now i }
-    requires slots { (k : ℕ) → k < 256 → IsTrue (has_routine code.now.ops.items k) → layout.now.priv_from + (end_at k + 24) < 65536 }
-    ensures { OnOk result (PutsWords (text_words layout.now code.now) text.old.items text.new.items) }
+    requires fits { (p : ℕ) (i : Ir) → slice_get code.now.ops.items p ≡ Some i
+        → OperationFits layout.now code.now i }
+    requires slots { (k : ℕ) → k < 256 → IsTrue (has_routine code.now.ops.items k)
+        → layout.now.priv_from + (end_at k + 24) < 65536 }
+    ensures { OnOk result (PutsWords (text_words layout.now code.now) text.old.items
+        text.new.items) }
 {
     put_entry(text, layout.priv_from)?;
     put_operations(text, code, layout, table)?;

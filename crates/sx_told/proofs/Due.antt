@@ -3,7 +3,7 @@ use Rattle.std.proofs.Common.{ℕ, ◌≤◌, ◌+◌, ◌≡◌, ◌∙◌, ◌
 use Rattle.std.specs.Prelude.{◌==◌, if◌then◌else◌, IsTrue}
 use Rattle.std.proofs.lemmas.List.{append-nil, append_cancel_right}
 use Rattle.sx_io.specs.Reading.{Ending, Broken, Answer, Line, Long, Fault, always, scan, newline, without_return}
-use Rattle.sx_told.specs.Told.{Output, Moment, Told, behind, unread, read_line, read_failed}
+use Rattle.sx_told.specs.Told.{Output, CommandAt, Told, behind, unread_output, read_line, read_failed}
 use Rattle.sx_told.specs.Further.{HasEnd, Streams}
 use Rattle.sx_told.proofs.Further.{no-further}
 
@@ -57,7 +57,7 @@ EndsUnread o = o.status ≡ read_failed → (w : List ℕ) × (o.text ≡ w ++ r
 -- it is settled, and not by a read; or this text is due, and what follows is g of what is to come
 abbrev pub Due : (List Answer → Output) → Type 0
 Due G = ((o : Output) × (o.status ≡ read_failed → ⊥) × ((more : List Answer) → G more ≡ o))
-    ⊎ ((t : List ℕ) × (g : List Answer → Output) × ((more : List Answer) → G more ≡ behind t (g more)) × (g (Fault ∷ []) ≡ unread)
+    ⊎ ((t : List ℕ) × (g : List Answer → Output) × ((more : List Answer) → G more ≡ behind t (g more)) × (g (Fault ∷ []) ≡ unread_output)
     × ((g (Long ∷ [])).status ≡ read_failed → ⊥) × ((more : List Answer) → EndsUnread (g more)))
 
 pub due-behind : (G H : List Answer → Output) (x : List ℕ) → ((more : List Answer) → G more ≡ behind x (H more)) → Due H → Due G
@@ -70,14 +70,14 @@ behind-ends x o f e = let r = f e in (x ++ r.0, ap (λ (v : List ℕ). x ++ v) r
 
 -- ---- more of the input
 
-status-of : (o : Output) (said : List ℕ) → o ≡ behind said unread → o.status ≡ read_failed
+status-of : (o : Output) (said : List ℕ) → o ≡ behind said unread_output → o.status ≡ read_failed
 status-of o said e = ap (λ (p : Output). p.status) e
 
-text-of : (o : Output) (said : List ℕ) → o ≡ behind said unread → o.text ≡ said ++ read_line
+text-of : (o : Output) (said : List ℕ) → o ≡ behind said unread_output → o.text ≡ said ++ read_line
 text-of o said e = ap (λ (p : Output). p.text) e
 
 -- this is due of the lines, and that of more
-pub due-more : (G : List Answer → Output) (said said' : List ℕ) (more : List Answer) → Due G → G (Fault ∷ []) ≡ behind said unread → G more ≡ behind said' unread → (w : List ℕ) × (said' ≡ said ++ w)
+pub due-more : (G : List Answer → Output) (said said' : List ℕ) (more : List Answer) → Due G → G (Fault ∷ []) ≡ behind said unread_output → G more ≡ behind said' unread_output → (w : List ℕ) × (said' ≡ said ++ w)
 due-more G said said' more (inl (o, n, c)) a b = absurd (n (status-of o said (sym (c (Fault ∷ [])) ∙ a)))
 due-more G said said' more (inr (t, g, c, u, l, f)) a b =
     let one : t ++ read_line ≡ said ++ read_line = ap (λ (o : Output). t ++ o.text) (sym u) ∙ text-of (behind t (g (Fault ∷ []))) said (sym (c (Fault ∷ [])) ∙ a) in
@@ -86,12 +86,12 @@ due-more G said said' more (inr (t, g, c, u, l, f)) a b =
     sym (text-of (behind t (g more)) said' (sym (c more) ∙ b)) ∙ ap (λ (v : List ℕ). t ++ v) r.1 ∙ sym (append_assoc t r.0 read_line) in
     (r.0, append_cancel_right said' (t ++ r.0) read_line two ∙ ap (λ (v : List ℕ). v ++ r.0) (append_cancel_right t said read_line one))
 
-pub due-long : (G : List Answer → Output) (said : List ℕ) → Due G → G (Long ∷ []) ≡ behind said unread → ⊥
+pub due-long : (G : List Answer → Output) (said : List ℕ) → Due G → G (Long ∷ []) ≡ behind said unread_output → ⊥
 due-long G said (inl (o, n, c)) a = n (status-of o said (sym (c (Long ∷ [])) ∙ a))
 due-long G said (inr (t, g, c, u, l, f)) a = l (status-of (behind t (g (Long ∷ []))) said (sym (c (Long ∷ [])) ∙ a))
 
 due-whole : (n : ℕ) (F : List Answer → Output) (bytes y said said' : List ℕ) → ((ls : List (List ℕ)) → Due (λ more. F (lines_then ls more))) → Whole n [] bytes
-    → F (scan (always n) Broken [] bytes) ≡ behind said unread → F (scan (always n) Broken [] (bytes ++ y)) ≡ behind said' unread → (w : List ℕ) × (said' ≡ said ++ w)
+    → F (scan (always n) Broken [] bytes) ≡ behind said unread_output → F (scan (always n) Broken [] (bytes ++ y)) ≡ behind said' unread_output → (w : List ℕ) × (said' ≡ said ++ w)
 due-whole n F bytes y said said' due (inl (ls, c)) a b =
     due-more (λ more. F (lines_then ls more)) said said' (scan (always n) Broken [] y) (due ls)
     (ap F (sym (c Broken [])) ∙ ap (λ (t : List ℕ). F (scan (always n) Broken [] t)) (append-nil bytes) ∙ a)
@@ -101,7 +101,7 @@ due-whole n F bytes y said said' due (inr (ls, c)) a b =
     (ap F (sym (c Broken [])) ∙ ap (λ (t : List ℕ). F (scan (always n) Broken [] t)) (append-nil bytes) ∙ a))
 
 -- a command of which more is due of more lines reads no further than it must
-pub streams-by : {tells to_tell : Bool} {m0 m1 : Moment} {status : ℕ} {also : List Answer → Type 0} (n : ℕ) (F : List Answer → Output) → ((ls : List (List ℕ)) → Due (λ more. F (lines_then ls more)))
+pub streams-by : {tells to_tell : Bool} {m0 m1 : CommandAt} {status : ℕ} {also : List Answer → Type 0} (n : ℕ) (F : List Answer → Output) → ((ls : List (List ℕ)) → Due (λ more. F (lines_then ls more)))
     → Told tells to_tell (always n) m0 m1 status F also → Streams tells to_tell (always n) m0 m1 F
 streams-by {tells} {to_tell} {m0} {m1} {status} {also} n F due told bytes rest said t k e h d none =
     no-further bytes rest told.reads t e h

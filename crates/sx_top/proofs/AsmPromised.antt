@@ -3,17 +3,17 @@ use Rattle.std.proofs.Common.{◌≡◌, ◌⊎◌, inl, inr, ℕ, ◌+◌, Bool
 use Rattle.std.specs.Prelude.{IsTrue, Result, Ok, Err}
 use Rattle.sx_io.specs.Reading.{Answer, Line, End, Long, Fault, Ended, scan}
 use Rattle.sx_told.specs.Reads.{anything}
-use Rattle.sx_told.specs.Told.{Output, Moment, Told, out_of_memory}
+use Rattle.sx_told.specs.Told.{Output, CommandAt, Told, out_of_memory}
 use Rattle.sx_told.proofs.Laws.{told-quiet}
 use Rattle.sx_told.proofs.Endings.{pick, Faultless, faultless}
 use Rattle.sx_asm.specs.declared.error.AsmError.{AsmError}
 use Rattle.sx_asm.specs.declared.error.AsmError.TheVariants as error
-use Rattle.sx_top.specs.Assembling.{Gathered, Input, Whole, Unread, broken_at, with_line, asm_lines, most_bytes, gather, input, code_at, refused, told_code, asm_input, asm_all, AsmTold}
+use Rattle.sx_top.specs.Assembling.{Gathered, Input, Whole, Unread, broken_at, with_line, asm_lines, most_bytes, gather, input, code_at, asm_fault_output, told_code, asm_input, asm_all, AsmTold}
 use Rattle.sx_top.proofs.Said.{came, faults_of}
 
 -- ---- statuses
 
-refused_not_four : (e : AsmError) → (refused e).status ≡ 4 → ⊥
+refused_not_four : (e : AsmError) → (asm_fault_output e).status ≡ 4 → ⊥
 refused_not_four (error.Fault rule number) e = omega (arith, e)
 refused_not_four error.OutOfMemory e = omega (arith, e)
 
@@ -41,16 +41,16 @@ asm_not_four at answers u e = gather_not_four at 1 0 _ answers u e
 -- ---- the promise
 
 -- what was told of an input of which nothing failed
-abbrev Quiet : Bool → Moment → Moment → ℕ → Output → Type 0
+abbrev Quiet : Bool → CommandAt → CommandAt → ℕ → Output → Type 0
 Quiet to_tell m0 m1 status o =
     (status ≡ out_of_memory) ⊎ ((status ≡ o.status) × (IsTrue to_tell → m1.sink.written ≡ m0.sink.written ++ o.text))
 
-exactly : (to_tell : Bool) (m0 m1 : Moment) (status : ℕ) (o : Output) → Quiet to_tell m0 m1 status o
+exactly : (to_tell : Bool) (m0 m1 : CommandAt) (status : ℕ) (o : Output) → Quiet to_tell m0 m1 status o
     → (status ≡ out_of_memory) ⊎ (status ≡ o.status)
 exactly to_tell m0 m1 status o (inl six) = inl six
 exactly to_tell m0 m1 status o (inr all) = inr all.0
 
-pub asm_promise : {tells to_tell : Bool} {m0 m1 : Moment} {status : ℕ} (at : ℕ)
+pub asm_promise : {tells to_tell : Bool} {m0 m1 : CommandAt} {status : ℕ} (at : ℕ)
     → Told tells to_tell asm_lines m0 m1 status (asm_all at) anything → AsmTold at tells to_tell m0 m1 status
 asm_promise {tells} {to_tell} {m0} {m1} {status} at told =
     let o = asm_all at (scan asm_lines Ended [] m0.source.rest) in record {

@@ -13,7 +13,7 @@ use Rattle.sx_mean.specs.View.{part_as}
 use Rattle.sx_mean.specs.declared.apps.Part.{Part}
 use Rattle.sx_mean.proofs.Ends.{ends_counted}
 use Rattle.sx_deploy.specs.Deployment.{Deployed}
-use Rattle.sx_deploy.specs.Law.{IsSound, IsLaid}
+use Rattle.sx_deploy.specs.Law.{IsSoundDeployment, IsLaid}
 use Rattle.sx_deploy.specs.SeenDeployment.{deployed_as}
 use Rattle.sx_deploy.specs.declared.deployment.Deployment.{Deployment}
 use Rattle.sx_image.specs.declared.image.Image.{Image as Made}
@@ -56,14 +56,14 @@ send_few f g e m (x ∷ hs) h =
 
 -- ---- what the compiler asks
 
-pub few_ends : (d : Deployed) (p : ℕ) (q : PartTree) → IsSound d → slice_get d.app.parts p ≡ Some q → length (ends_of d.app p) ≤ 16
+pub few_ends : (d : Deployed) (p : ℕ) (q : PartTree) → IsSoundDeployment d → slice_get d.app.parts p ≡ Some q → length (ends_of d.app p) ≤ 16
 few_ends d p q sound here = subst (λ (n : ℕ). n ≤ 16) (sym (ends_counted d.app p).all) (sound.modules p q here).ends
 
-pub few_packets : (d : Deployed) (p : ℕ) (q : PartTree) → IsSound d → slice_get d.app.parts p ≡ Some q → SendFew (senders (ends_of d.app p)) q.tree q.tree.handlers
+pub few_packets : (d : Deployed) (p : ℕ) (q : PartTree) → IsSoundDeployment d → slice_get d.app.parts p ≡ Some q → SendFew (senders (ends_of d.app p)) q.tree q.tree.handlers
 few_packets d p q sound here =
     send_few (senders (ends_of d.app p)) (links_from d.app.links p) (ends_counted d.app p).sending q.tree q.tree.handlers (sound.modules p q here).packets
 
-pub has_sections : (d : Deployed) (p : ℕ) (q : PartTree) (l : Layout) → IsSound d → slice_get d.app.parts p ≡ Some q → slice_get d.layouts p ≡ Some l
+pub has_sections : (d : Deployed) (p : ℕ) (q : PartTree) (l : Layout) → IsSoundDeployment d → slice_get d.app.parts p ≡ Some q → slice_get d.layouts p ≡ Some l
     → HasSections q.tree (ends_of d.app p) l
 has_sections d p q l sound here there =
     let at : 0 + p ≡ p = omega arith in
@@ -131,13 +131,13 @@ count_parts [] = refl
 count_parts (x ∷ parts) = ap suc (count_parts parts)
 
 -- as many layouts and providers as modules
-pub layout_within : (d : Deployed) (parts : List Part) (p : ℕ) → d.app.parts ≡ map part_as parts → IsSound d → p < length parts → p < length d.layouts
+pub layout_within : (d : Deployed) (parts : List Part) (p : ℕ) → d.app.parts ≡ map part_as parts → IsSoundDeployment d → p < length parts → p < length d.layouts
 layout_within d parts p e sound lt =
     let a = laid_long d 0 d.app.parts d.layouts sound.laid in
     let b : length d.app.parts ≡ length parts = ap (λ (qs : List PartTree). length qs) e ∙ count_parts parts in
     omega (arith, a, b, lt)
 
-pub provider_within : (d : Deployed) (parts : List Part) (p : ℕ) → d.app.parts ≡ map part_as parts → IsSound d → p < length parts → p < length d.providers
+pub provider_within : (d : Deployed) (parts : List Part) (p : ℕ) → d.app.parts ≡ map part_as parts → IsSoundDeployment d → p < length parts → p < length d.providers
 provider_within d parts p e sound lt =
     let b : length d.app.parts ≡ length parts = ap (λ (qs : List PartTree). length qs) e ∙ count_parts parts in
     omega (arith, sound.parts, sound.providers, b, lt)

@@ -14,18 +14,18 @@ use Rattle.sx_told.specs.Reads.{Got, anything}
 use Rattle.sx_told.proofs.Takings.{got-new, got-line, got-same}
 use Rattle.sx_told.proofs.Takings.{reads-end, reads-failed, reads-stop, reads-too-long}
 use Rattle.sx_head.proofs.Turns.{alone}
-use Rattle.sx_top.specs.Disassembling.{Given, Bytes, BadLine, Unread, in_front, on_line, given}
+use Rattle.sx_top.specs.Disassembling.{HexInput, Bytes, BadLine, Unread, in_front, on_line, hex_input}
 use Rattle.sx_top.specs.Disassembling.{decoded, line_bytes, dis_lines}
 use Rattle.sx_top.specs.Kept.{ReadsGiven}
 
 -- ---- bytes before others
 
-nothing_in_front : (g : Given) → in_front [] g ≡ g
+nothing_in_front : (g : HexInput) → in_front [] g ≡ g
 nothing_in_front (Bytes more) = refl
 nothing_in_front (BadLine number) = refl
 nothing_in_front Unread = refl
 
-both_in_front : (bytes more : List ℕ) (g : Given)
+both_in_front : (bytes more : List ℕ) (g : HexInput)
     → in_front bytes (in_front more g) ≡ in_front (bytes ++ more) g
 both_in_front bytes more (Bytes rest) = ap Bytes (sym (append_assoc bytes more rest))
 both_in_front bytes more (BadLine number) = refl
@@ -33,18 +33,18 @@ both_in_front bytes more Unread = refl
 
 taken_line : (number : ℕ) (bytes taken text : List ℕ) (more : List Answer)
     → line_bytes number text ≡ Some taken
-    → in_front bytes (given number (Line text ∷ more))
-    ≡ in_front (bytes ++ taken) (given (number + 1) more)
+    → in_front bytes (hex_input number (Line text ∷ more))
+    ≡ in_front (bytes ++ taken) (hex_input (number + 1) more)
 taken_line number bytes taken text more e =
-    let rest : Given = given (number + 1) more in
+    let rest : HexInput = hex_input (number + 1) more in
     ap (λ (o : Option (List ℕ)). in_front bytes (on_line number o rest)) e
     ∙ both_in_front bytes taken rest
 
 bad_line : (number : ℕ) (bytes text : List ℕ) (more : List Answer)
     → line_bytes number text ≡ None
-    → in_front bytes (given number (Line text ∷ more)) ≡ BadLine number
+    → in_front bytes (hex_input number (Line text ∷ more)) ≡ BadLine number
 bad_line number bytes text more e =
-    let rest : Given = given (number + 1) more in
+    let rest : HexInput = hex_input (number + 1) more in
     ap (λ (o : Option (List ℕ)). in_front bytes (on_line number o rest)) e
 
 -- ---- what a line writes
@@ -76,14 +76,14 @@ decoded_none None bytes h = refl
 -- the bytes before the line with this number have come
 abbrev pub Come : Bool → SourceAt → SourceAt → Ahead → ℕ → List ℕ → Type 0
 Come tells s0 s1 now number bytes =
-    Got tells dis_lines dis_lines s0 s1 now (given 1)
-    (λ more. in_front bytes (given number more)) Unread anything
+    Got tells dis_lines dis_lines s0 s1 now (hex_input 1)
+    (λ more. in_front bytes (hex_input number more)) Unread anything
 
 pub come_new : {tells : Bool} {s : SourceAt} (a : Ahead)
     → a ≡ record { held = []; state = Open } → Come tells s s a 1 []
 come_new {tells} {s} a e =
-    got-same {F = given 1} {f = given 1} {g = λ more. in_front [] (given 1 more)}
-    (λ more. sym (nothing_in_front (given 1 more))) refl (got-new dis_lines a (given 1) e)
+    got-same {F = hex_input 1} {f = hex_input 1} {g = λ more. in_front [] (hex_input 1 more)}
+    (λ more. sym (nothing_in_front (hex_input 1 more))) refl (got-new dis_lines a (hex_input 1) e)
 
 pub come_line : {tells : Bool} {s0 s1 s2 : SourceAt} {old new : Ahead} {into : List ℕ} {n : ℕ}
     (number : ℕ) (bytes taken : List ℕ)
@@ -91,10 +91,10 @@ pub come_line : {tells : Bool} {s0 s1 s2 : SourceAt} {old new : Ahead} {into : L
     → line_bytes number (take n into) ≡ Some taken
     → Come tells s0 s2 new (number + 1) (bytes ++ taken)
 come_line {tells} {s0} {s1} {s2} {old} {new} {into} {n} number bytes taken b x e =
-    got-same {f = λ more. in_front bytes (given number (Line (take n into) ∷ more))}
-    {g = λ more. in_front (bytes ++ taken) (given (number + 1) more)}
+    got-same {f = λ more. in_front bytes (hex_input number (Line (take n into) ∷ more))}
+    {g = λ more. in_front (bytes ++ taken) (hex_input (number + 1) more)}
     (λ more. taken_line number bytes taken (take n into) more e) refl
-    (got-line (λ more. in_front bytes (given number more)) b x)
+    (got-line (λ more. in_front bytes (hex_input number more)) b x)
 
 -- a line breaks the rule of lines, and nothing is read after it
 pub come_bad : {tells : Bool} {s0 s1 s2 : SourceAt} {old new : Ahead} {into : List ℕ} {n : ℕ}
@@ -104,7 +104,7 @@ pub come_bad : {tells : Bool} {s0 s1 s2 : SourceAt} {old new : Ahead} {into : Li
 come_bad {tells} {s0} {s1} {s2} {old} {new} {into} {n} number bytes b x e =
     alone
     (reads-stop (λ g. g ≡ BadLine number)
-    (got-line (λ more. in_front bytes (given number more)) b x)
+    (got-line (λ more. in_front bytes (hex_input number more)) b x)
     (λ more. bad_line number bytes (take n into) more e))
 
 -- ---- the last answer

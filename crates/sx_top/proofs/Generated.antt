@@ -2,7 +2,7 @@
 use Rattle.std.proofs.Common.{◌≡◌, ◌∙◌, ◌≤◌, ◌⊎◌, inl, inr, ℕ, Bool, List, [], refl, sym, ap, subst, arith, Result, Ok, Err}
 use Rattle.sx_io.specs.Streams.{SinkAt}
 use Rattle.sx_io.specs.Counts as count
-use Rattle.sx_told.specs.Told.{Output, Ends, WroteSome, behind, out_of_memory}
+use Rattle.sx_told.specs.Told.{Output, CommandEnds, WroteSome, behind, out_of_memory}
 use Rattle.sx_told.proofs.Laws.{ends-behind, ends-same}
 use Rattle.sx_io.specs.Reading.{Answer}
 use Rattle.sx_tag.specs.Mac.{Mac}
@@ -12,7 +12,7 @@ use Rattle.sx_world.specs.Accepted.{setting_of}
 use Rattle.sx_world.specs.Run.{run}
 use Rattle.sx_world.specs.State.{Acted, switched_on}
 use Rattle.sx_top.specs.Check.{Meaning, IsMeaning}
-use Rattle.sx_top.specs.Run.{broken}
+use Rattle.sx_top.specs.Run.{broken_output}
 use Rattle.sx_top.specs.Schedule.{Stop, AtEnd, Breaks, schedule}
 use Rattle.sx_top.specs.Schedule as sched
 use Rattle.sx_top.specs.WellFormed.{found_status, stop_status}
@@ -24,16 +24,16 @@ use Rattle.sx_top.proofs.Stated.{status_zero}
 
 -- a part was written, and after it the command ends
 pub ends_put : (to_tell : Bool) (k0 k1 k2 : SinkAt) (status : ℕ) (text : List ℕ) (o : Output) → WroteSome to_tell k0 k1 (λ (more : List Answer). behind text o) (λ more. o)
-    → Ends to_tell k1 k2 status o → Ends to_tell k0 k2 status (behind text o)
+    → CommandEnds to_tell k1 k2 status o → CommandEnds to_tell k0 k2 status (behind text o)
 ends_put to_tell k0 k1 k2 status text o w e =
     ends-same to_tell k0 k2 status (behind text o) (behind w.text o) (w.same []) (ends-behind to_tell k0 k1 k2 w.text status o w.wrote w.no_fault e)
 
 -- a line that breaks a rule, by equal numbers
 pub ends_broken : {to_tell : Bool} {k0 k1 : SinkAt} {status rule rule' number number' : ℕ} → rule ≡ rule' → number ≡ number'
-    → Ends to_tell k0 k1 status (broken rule number) → Ends to_tell k0 k1 status (broken rule' number')
+    → CommandEnds to_tell k0 k1 status (broken_output rule number) → CommandEnds to_tell k0 k1 status (broken_output rule' number')
 ends_broken {to_tell} {k0} {k1} {status} {rule} {rule'} {number} {number'} e f ends =
-    let P : ℕ → Type 0 = λ n. Ends to_tell k0 k1 status (broken rule' n) in
-    let Q : ℕ → Type 0 = λ r. Ends to_tell k0 k1 status (broken r number) in subst P f (subst Q e ends)
+    let P : ℕ → Type 0 = λ n. CommandEnds to_tell k0 k1 status (broken_output rule' n) in
+    let Q : ℕ → Type 0 = λ r. CommandEnds to_tell k0 k1 status (broken_output r number) in subst P f (subst Q e ends)
 
 -- ---- the status doesn't hang on the images
 

@@ -4,7 +4,7 @@ use Rattle.sx_io.specs.Streams.{SourceAt, SinkAt}
 use Rattle.sx_io.specs.Reading.{Answer}
 use Rattle.sx_io.specs.Next.{Ahead}
 use Rattle.sx_told.specs.Reads.{Reads, Got, anything}
-use Rattle.sx_told.specs.Told.{Output, Ends, Told, moment, out_of_memory, unread}
+use Rattle.sx_told.specs.Told.{Output, CommandEnds, Told, command_at, out_of_memory, unread_output}
 use Rattle.sx_told.proofs.Laws.{begun-got, ends-same, ends-out-of-memory, prefix-none, told-reads, told-stop}
 use Rattle.sx_told.proofs.Takings.{got-also}
 use Rattle.sx_deploy.proofs.Meanings.{some_meaning}
@@ -13,7 +13,7 @@ use Rattle.sx_stage.specs.Fault.{fault}
 use Rattle.sx_head.specs.Head.{Head, Found, TooLong, NoMark, Unread, head, head_lines, HeadRead}
 use Rattle.sx_head.specs.declared.head.HeadFault.{HeadFault}
 use Rattle.sx_head.specs.declared.head.HeadFault.TheVariants as none
-use Rattle.sx_top.specs.Check.{Meaning, IsMeaning, refused, checked, check_head, check_all}
+use Rattle.sx_top.specs.Check.{Meaning, IsMeaning, fault_output, check_output, check_head, check_all}
 use Rattle.sx_top.specs.Headless.{EndsHeadless}
 use Rattle.sx_top.specs.Promises.{IsFound, RunsOutBehindHead}
 
@@ -22,31 +22,31 @@ found_is status text answers more e = λ six. let P : Head → Type 0 = IsFound 
 
 -- a head was read, and judged
 pub check_found : {tells to_tell : Bool} {s0 s1 : SourceAt} {k0 k1 : SinkAt} {now : Ahead} {status : ℕ} (meaning : Meaning) (text other : List ℕ) → other ≡ text
-    → Got tells head_lines head_lines s0 s1 now head (λ more. Found text more) Unread anything → Ends to_tell k0 k1 status (checked (meaning other))
-    → Told tells to_tell head_lines (moment s0 k0) (moment s1 k1) status (check_all meaning) (RunsOutBehindHead status)
+    → Got tells head_lines head_lines s0 s1 now head (λ more. Found text more) Unread anything → CommandEnds to_tell k0 k1 status (check_output (meaning other))
+    → Told tells to_tell head_lines (command_at s0 k0) (command_at s1 k1) status (check_all meaning) (RunsOutBehindHead status)
 check_found {tells} {to_tell} {s0} {s1} {k0} {k1} {now} {status} meaning text other e b w =
     told-stop (begun-got (check_head meaning) refl (got-also (RunsOutBehindHead status) (found_is status text) b))
-    (λ more. ends-same _ _ _ _ _ _ (ap (λ (t : List ℕ). checked (meaning t)) (sym e)) w)
+    (λ more. ends-same _ _ _ _ _ _ (ap (λ (t : List ℕ). check_output (meaning t)) (sym e)) w)
 
 -- there is none
 check_none : {tells to_tell : Bool} {s0 s1 : SourceAt} {k0 k1 : SinkAt} {status : ℕ} (meaning : Meaning) (h : Head) (o : Output) → check_head meaning h ≡ o
-    → Reads tells head_lines s0 s1 head Unread (λ answers. head answers ≡ h) → Ends to_tell k0 k1 status o → (status ≡ out_of_memory → ⊥)
-    → Told tells to_tell head_lines (moment s0 k0) (moment s1 k1) status (check_all meaning) (RunsOutBehindHead status)
+    → Reads tells head_lines s0 s1 head Unread (λ answers. head answers ≡ h) → CommandEnds to_tell k0 k1 status o → (status ≡ out_of_memory → ⊥)
+    → Told tells to_tell head_lines (command_at s0 k0) (command_at s1 k1) status (check_all meaning) (RunsOutBehindHead status)
 check_none meaning h o e r w never = told-reads (check_head meaning) o refl r (λ answers q. (ap (check_head meaning) q ∙ e, λ six. absurd (never six))) w
 
 -- memory ran out, and nothing was written
 check_starved : {tells to_tell : Bool} {s0 s1 : SourceAt} {k : SinkAt} {now : Ahead} (meaning : Meaning) → HeadRead tells s0 s1 now (Err none.OutOfMemory)
-    → Told tells to_tell head_lines (moment s0 k) (moment s1 k) out_of_memory (check_all meaning) (RunsOutBehindHead out_of_memory)
+    → Told tells to_tell head_lines (command_at s0 k) (command_at s1 k) out_of_memory (check_all meaning) (RunsOutBehindHead out_of_memory)
 check_starved {tells} {to_tell} {s0} {s1} {k} meaning (text, b) =
     told-stop (begun-got (check_head meaning) refl (got-also (RunsOutBehindHead out_of_memory) (found_is out_of_memory text) b))
-    (λ more. ends-out-of-memory to_tell k k (checked (meaning text)) (λ t. prefix-none k.written k.written _ refl) refl)
+    (λ more. ends-out-of-memory to_tell k k (check_output (meaning text)) (λ t. prefix-none k.written k.written _ refl) refl)
 
 -- there is none, or no memory for one
 pub check_headless : {tells to_tell : Bool} {s0 s1 : SourceAt} {k0 k1 : SinkAt} {status : ℕ} (now : Ahead) (meaning : Meaning) (why : HeadFault) → HeadRead tells s0 s1 now (Err why)
-    → EndsHeadless to_tell k0 k1 status why → Told tells to_tell head_lines (moment s0 k0) (moment s1 k1) status (check_all meaning) (RunsOutBehindHead status)
-check_headless {tells} {to_tell} {s0} {s1} {k0} {k1} {status} now meaning none.TooLong r w = check_none meaning TooLong (refused (fault 1 Nowhere)) refl r w.0 w.1
-check_headless {tells} {to_tell} {s0} {s1} {k0} {k1} {status} now meaning none.NoMark r w = check_none meaning NoMark (refused (fault 2 Nowhere)) refl r w.0 w.1
-check_headless {tells} {to_tell} {s0} {s1} {k0} {k1} {status} now meaning none.Failed r w = check_none meaning Unread unread refl r w.0 w.1
+    → EndsHeadless to_tell k0 k1 status why → Told tells to_tell head_lines (command_at s0 k0) (command_at s1 k1) status (check_all meaning) (RunsOutBehindHead status)
+check_headless {tells} {to_tell} {s0} {s1} {k0} {k1} {status} now meaning none.TooLong r w = check_none meaning TooLong (fault_output (fault 1 Nowhere)) refl r w.0 w.1
+check_headless {tells} {to_tell} {s0} {s1} {k0} {k1} {status} now meaning none.NoMark r w = check_none meaning NoMark (fault_output (fault 2 Nowhere)) refl r w.0 w.1
+check_headless {tells} {to_tell} {s0} {s1} {k0} {k1} {status} now meaning none.Failed r w = check_none meaning Unread unread_output refl r w.0 w.1
 check_headless {tells} {to_tell} {s0} {s1} {k0} {k1} {status} now meaning none.OutOfMemory r w = rw (w.0, w.1) (check_starved {k = k0} {now = now} meaning r)
 
 -- what the texts mean

@@ -16,10 +16,10 @@ use Rattle.sx_machine.specs.Guard.{Act, Step, Restart, Put, Set, Sense, Interrup
 use Rattle.sx_machine.proofs.Boots.{runs_guarded}
 use Rattle.sx_world.specs.Setting.{Site, Setting}
 use Rattle.sx_world.specs.Ledger.{Made}
-use Rattle.sx_world.specs.Deployer.{accepts, Grant, accepted, grants_after}
+use Rattle.sx_world.specs.Deployer.{accepts, Grant, after_acceptance, grants_after}
 use Rattle.sx_world.specs.State.{World, Acted, nodes_from, switched_on}
-use Rattle.sx_world.specs.Acts.{only, then_, with_node, at_node, stepped, done_on, with_deployer, took, interrupted, key_given, keys_given, attested, denied, judged, answered, open_ask, attested_at}
-use Rattle.sx_world.specs.Run.{is_reset, steps_of, FINISH_STEPS, finish, put_on, set_on, give, place_at, sense_at, put_pieces, Register, set_all, register, unless_busy, load, call, acted, counted, run}
+use Rattle.sx_world.specs.Acts.{only, then_, with_node, at_node, after_step, done_on, with_deployer, after_take, after_interrupt, key_given, keys_given, attested, after_denial, after_verdict, after_answer, open_ask, attested_at}
+use Rattle.sx_world.specs.Run.{is_reset, steps_of, FINISH_STEPS, finish, put_on, set_on, give, place_at, sense_at, put_pieces, Register, set_all, register, unless_busy, load, call, after_line, line_counted, run}
 use Rattle.sx_world.proofs.Lists.{get_same, get_other, some_inj}
 use Rattle.sx_top.specs.Histories.{stands, IsGuarded}
 
@@ -84,16 +84,16 @@ module _ (set : Setting) where
   goes_if w true x y f g = f
   goes_if w false x y f g = g
 
-  goes_step : (w : World) (n : ℕ) (s : State) → slice_get w.nodes n ≡ Some s → Goes w (stepped set w n s)
-  goes_step w n s here = came_act set.mac w n s Step (stepped set w n s).world.ledger (w.steps + 1) here
+  goes_step : (w : World) (n : ℕ) (s : State) → slice_get w.nodes n ≡ Some s → Goes w (after_step set w n s)
+  goes_step w n s here = came_act set.mac w n s Step (after_step set w n s).world.ledger (w.steps + 1) here
 
   goes_steps : (stops : State → Bool) (items : List Item) (n k : ℕ) (w : World) → Goes w (steps_of set stops items n k w)
   goes_steps stops items n zero w = goes_still w items
   goes_steps stops items n (suc k) w =
-      goes_at w n (λ s. if is_reset (step set.mac s).shown.event || stops (step set.mac s).state then stepped set w n s else then_ (stepped set w n s) (steps_of set stops items n k))
+      goes_at w n (λ s. if is_reset (step set.mac s).shown.event || stops (step set.mac s).state then after_step set w n s else then_ (after_step set w n s) (steps_of set stops items n k))
       (slice_get w.nodes n) refl (λ s here.
-      goes_if w (is_reset (step set.mac s).shown.event || stops (step set.mac s).state) (stepped set w n s) (then_ (stepped set w n s) (steps_of set stops items n k)) (goes_step w n s here)
-      (goes_then w (stepped set w n s) (steps_of set stops items n k) (goes_step w n s here) (λ v. goes_steps stops items n k v)))
+      goes_if w (is_reset (step set.mac s).shown.event || stops (step set.mac s).state) (after_step set w n s) (then_ (after_step set w n s) (steps_of set stops items n k)) (goes_step w n s here)
+      (goes_then w (after_step set w n s) (steps_of set stops items n k) (goes_step w n s here) (λ v. goes_steps stops items n k v)))
 
   goes_put : (n at : ℕ) (bytes : List ℕ) (w : World) → Goes w (put_on n at bytes w)
   goes_put n at bytes w = goes_at w n (λ s. done_on w n [] (put_at s at bytes)) (slice_get w.nodes n) refl (λ s here. came_act set.mac w n s (Put at bytes) w.ledger w.steps here)
@@ -147,12 +147,12 @@ module _ (set : Setting) where
       goes_at w x.node (λ s. done_on w x.node (item.Sense d v ∷ []) (sense_on s (place_at set x.node d) v)) (slice_get w.nodes x.node) refl
       (λ s here. came_act set.mac w x.node s (Sense (place_at set x.node d) v) w.ledger w.steps here)
 
-  goes_took : (w : World) (n : ℕ) (r : Result (List ℕ) Refused) → Goes w (took w n r)
-  goes_took w n (Ok bytes) = came_same set.mac w (took w n (Ok bytes)).world refl
+  goes_took : (w : World) (n : ℕ) (r : Result (List ℕ) Refused) → Goes w (after_take w n r)
+  goes_took w n (Ok bytes) = came_same set.mac w (after_take w n (Ok bytes)).world refl
   goes_took w n (Err why) = came_same set.mac w w refl
 
-  goes_irq : (w : World) (n k : ℕ) (s : State) (r : Result Seen Refused) → slice_get w.nodes n ≡ Some s → Goes w (interrupted set w n (interrupt s k).state r)
-  goes_irq w n k s (Ok seen) here = came_act set.mac w n s (Interrupt k) (interrupted set w n (interrupt s k).state (Ok seen)).world.ledger w.steps here
+  goes_irq : (w : World) (n k : ℕ) (s : State) (r : Result Seen Refused) → slice_get w.nodes n ≡ Some s → Goes w (after_interrupt set w n (interrupt s k).state r)
+  goes_irq w n k s (Ok seen) here = came_act set.mac w n s (Interrupt k) (after_interrupt set w n (interrupt s k).state (Ok seen)).world.ledger w.steps here
   goes_irq w n k s (Err why) here = came_same set.mac w w refl
 
   goes_key : (w : World) (g : Grant) (o : Option Site) → Goes w (key_given set w g o)
@@ -163,33 +163,33 @@ module _ (set : Setting) where
   goes_keys [] w = goes_still w []
   goes_keys (g ∷ gs) w = goes_then w (key_given set w g (slice_get set.sites g.holder)) (keys_given set gs) (goes_key w g (slice_get set.sites g.holder)) (λ v. goes_keys gs v)
 
-  goes_judged : (w : World) (m : ℕ) (site : Site) (boot : ℕ) (answer : List ℕ) (o : Option (List ℕ)) → Goes w (judged set w m site boot answer o)
+  goes_judged : (w : World) (m : ℕ) (site : Site) (boot : ℕ) (answer : List ℕ) (o : Option (List ℕ)) → Goes w (after_verdict set w m site boot answer o)
   goes_judged w m site boot answer None = goes_still w (item.Denied m ∷ [])
   goes_judged w m site boot answer (Some ask) =
       let last = attested_at (slice_get w.deployer.attested m) in
-      let d = accepted set.app.links w.deployer m boot last in
-      goes_if w (accepts set site w.deployer m boot answer (Some ask) last) (attested set w m boot ask last) (denied w m)
+      let d = after_acceptance set.app.links w.deployer m boot last in
+      goes_if w (accepts set site w.deployer m boot answer (Some ask) last) (attested set w m boot ask last) (after_denial w m)
       (came_then set.mac w (with_deployer w d w.ledger) (attested set w m boot ask last).world (came_same set.mac w (with_deployer w d w.ledger) refl)
       (goes_keys (grants_after set.app d m boot last) (with_deployer w d w.ledger))) (goes_still w (item.Denied m ∷ []))
 
-  goes_answered : (w : World) (m boot : ℕ) (o : Option Site) (p : Option (List ℕ)) → Goes w (answered set w m boot o p)
+  goes_answered : (w : World) (m boot : ℕ) (o : Option Site) (p : Option (List ℕ)) → Goes w (after_answer set w m boot o p)
   goes_answered w m boot None p = goes_still w (item.Denied m ∷ [])
   goes_answered w m boot (Some site) None = goes_still w (item.Denied m ∷ [])
   goes_answered w m boot (Some site) (Some answer) = goes_judged w m site boot answer (open_ask (slice_get w.deployer.open_asks m))
 
-  goes_line : (w : World) (l : line.Line) → Goes w (acted set w l)
+  goes_line : (w : World) (l : line.Line) → Goes w (after_line set w l)
   goes_line w line.Blank = goes_still w []
   goes_line w (line.Run n k) = goes_steps (λ s. false) [] n k w
   goes_line w (line.Finish n) = goes_steps (λ s. s.cur == 0) (item.Budget n ∷ []) n FINISH_STEPS w
   goes_line w (line.Put n at bytes) = goes_put n at bytes w
   goes_line w (line.Set n r v) = goes_set n r v w
-  goes_line w (line.Take n at len) = goes_at w n (λ s. took w n (take_from s at len).shown) (slice_get w.nodes n) refl (λ s here. goes_took w n (take_from s at len).shown)
+  goes_line w (line.Take n at len) = goes_at w n (λ s. after_take w n (take_from s at len).shown) (slice_get w.nodes n) refl (λ s here. goes_took w n (take_from s at len).shown)
   goes_line w (line.Give k n at) = goes_give w n at (slice_get w.packets k)
-  goes_line w (line.Forge bytes) = came_same set.mac w (acted set w (line.Forge bytes)).world refl
+  goes_line w (line.Forge bytes) = came_same set.mac w (after_line set w (line.Forge bytes)).world refl
   goes_line w (line.Sense d v) = goes_sense w d v (slice_get set.app.devices d)
-  goes_line w (line.Irq n k) = goes_at w n (λ s. interrupted set w n (interrupt s k).state (interrupt s k).shown) (slice_get w.nodes n) refl (λ s here. goes_irq w n k s (interrupt s k).shown here)
+  goes_line w (line.Irq n k) = goes_at w n (λ s. after_interrupt set w n (interrupt s k).state (interrupt s k).shown) (slice_get w.nodes n) refl (λ s here. goes_irq w n k s (interrupt s k).shown here)
   goes_line w (line.Reset n) = goes_at w n _ (slice_get w.nodes n) refl (λ s here. came_act set.mac w n s Restart w.ledger w.steps here)
-  goes_line w (line.Ask m) = came_same set.mac w (acted set w (line.Ask m)).world refl
+  goes_line w (line.Ask m) = came_same set.mac w (after_line set w (line.Ask m)).world refl
   goes_line w (line.Answer m boot k) = goes_answered w m boot (slice_get set.sites m) (slice_get w.packets k)
   goes_line w (line.Load m) = goes_load w (slice_get set.sites m)
   goes_line w (line.Call m e input output) = goes_call w e input output (slice_get set.sites m)
@@ -197,9 +197,9 @@ module _ (set : Setting) where
   goes_run : (lines : List line.Line) (w : World) → Goes w (run set w lines)
   goes_run [] w = goes_still w []
   goes_run (l ∷ lines) w =
-      let a = acted set (counted w) l in
+      let a = after_line set (line_counted w) l in
       came_then set.mac w a.world (run set a.world lines).world
-      (came_then set.mac w (counted w) a.world (came_same set.mac w (counted w) refl) (goes_line (counted w) l)) (goes_run lines a.world)
+      (came_then set.mac w (line_counted w) a.world (came_same set.mac w (line_counted w) refl) (goes_line (line_counted w) l)) (goes_run lines a.world)
 
   -- a node that is switched on
   record IsFresh (s : State) : Type 0 where

@@ -7,7 +7,7 @@ use Rattle.sx_top.specs.Address.{address}
 use Rattle.std.proofs.lemmas.Bool.Decides.{nat_tests}
 use Rattle.std.proofs.Math.Seq.{take-append_seam}
 use Rattle.sx_io.specs.Streams.{SinkAt}
-use Rattle.sx_told.specs.Told.{Output, Ends, WroteSome, behind}
+use Rattle.sx_told.specs.Told.{Output, CommandEnds, WroteSome, behind}
 use Rattle.sx_told.proofs.Laws.{ends-behind, ends-same}
 use Rattle.sx_io.specs.Reading.{Answer}
 use Rattle.sx_asm.specs.Meaning.{further}
@@ -24,8 +24,8 @@ and_end text = record { text = text ++ end_line; status = 0 }
 pub record LeftLines (to_tell : Bool) (k0 k1 : SinkAt) (whole : Output) (at : ℕ) (bytes : List ℕ) : Type 0 where
   pub most : ℕ
   pub enough : length bytes ≤ most
-  pub ends : (k2 : SinkAt) (status : ℕ) → Ends to_tell k1 k2 status (and_end (listing_lines most at bytes))
-      → Ends to_tell k0 k2 status whole
+  pub ends : (k2 : SinkAt) (status : ℕ) → CommandEnds to_tell k1 k2 status (and_end (listing_lines most at bytes))
+      → CommandEnds to_tell k0 k2 status whole
 
 pub left_new : (to_tell : Bool) (k : SinkAt) (at : ℕ) (code : List ℕ) → LeftLines to_tell k k (and_end (listing at code)) at code
 unfolding listing
@@ -100,7 +100,7 @@ left_line {to_tell} {k0} {k1} {k2} {whole} at to bytes rest text long b same t r
 -- the command ends at a line
 pub left_stop : {to_tell : Bool} {k0 k1 k2 : SinkAt} {whole : Output} {status : ℕ} (at : ℕ) (bytes text : List ℕ) → 2 ≤ length bytes
     → LeftLines to_tell k0 k1 whole at bytes → text ≡ listing_line at bytes
-    → ((left : List Answer → Output) (more : List Answer) → Ends to_tell k1 k2 status (behind text (left more))) → Ends to_tell k0 k2 status whole
+    → ((left : List Answer → Output) (more : List Answer) → CommandEnds to_tell k1 k2 status (behind text (left more))) → CommandEnds to_tell k0 k2 status whole
 left_stop {to_tell} {k0} {k1} {k2} {whole} {status} at bytes text long b same stop =
     let n = next_line b.most at bytes long b.enough in
     let left : Output = and_end (listing_lines n.fewer (further at (listed at bytes).1) (drop (listed at bytes).1 bytes)) in
@@ -112,7 +112,7 @@ no_lines (suc k) at bytes h = let none : nat_lt (length bytes) 2 ≡ true = grin
 
 -- the command ends after the last line
 pub left_end : {to_tell : Bool} {k0 k1 k2 : SinkAt} {whole : Output} {status : ℕ} (at : ℕ) (bytes : List ℕ) → length bytes ≡ 0
-    → LeftLines to_tell k0 k1 whole at bytes → Ends to_tell k1 k2 status (record { text = end_line; status = 0 })
-    → Ends to_tell k0 k2 status whole
+    → LeftLines to_tell k0 k1 whole at bytes → CommandEnds to_tell k1 k2 status (record { text = end_line; status = 0 })
+    → CommandEnds to_tell k0 k2 status whole
 left_end {to_tell} {k0} {k1} {k2} {whole} {status} at bytes none b e =
     b.ends k2 status (ends-same to_tell k1 k2 status _ _ (ap and_end (no_lines b.most at bytes none)) e)

@@ -8,13 +8,13 @@ use Rattle.sx_tag.specs.Mac.{Mac, IsTag}
 use Rattle.sx_trace.specs.Names.{NameLists}
 use Rattle.sx_sched.specs.declared.lines.LineError.{LineError}
 use Rattle.sx_sched.specs.Lines.{Line, IsLine}
-use Rattle.sx_sched.specs.Reading.{said}
+use Rattle.sx_sched.specs.Reading.{said_line}
 use Rattle.sx_sched.proofs.Form.{said_in_form}
 use Rattle.sx_deploy.specs.Deployment.{Deployed, IsRead}
 use Rattle.sx_model.specs.Legal.{Legal, before}
 use Rattle.sx_world.specs.Accepted.{AreImages, AreLines}
-use Rattle.sx_world.proofs.Accepting.{accepted_runs}
-use Rattle.sx_top.specs.Schedule.{Schedule, or_rule, judged, on_line, schedule}
+use Rattle.sx_world.proofs.AcceptedRunsLegal.{accepted_runs_legal}
+use Rattle.sx_top.specs.Schedule.{Schedule, or_rule, judged_line, on_line, schedule}
 use Rattle.sx_top.specs.Run.{items_of}
 
 -- a line that keeps the rules is within the limit, and in form
@@ -22,18 +22,18 @@ record Kept (names : NameLists) (number : ℕ) (line : Line) : Type 0 where
   few : number ≤ 65536
   form : IsLine names line
 
-said_kept : (names : NameLists) (text : List ℕ) (line : Line) (r : Result Line LineError) → said names text ≡ r → or_rule r ≡ Ok line → IsLine names line
+said_kept : (names : NameLists) (text : List ℕ) (line : Line) (r : Result Line LineError) → said_line names text ≡ r → or_rule r ≡ Ok line → IsLine names line
 said_kept names text line (Ok other) e h =
     let same : other ≡ line = cc in said_in_form names text line (e ∙ ap (λ (x : Line). Ok x) same)
 said_kept names text line (Err error) e h = absurd (cc h)
 
 kept_by : (names : NameLists) (number : ℕ) (text : List ℕ) (line : Line) (b : Bool) → nat_lt 65536 number ≡ b
-    → (if b then Err 2 else or_rule (said names text)) ≡ Ok line → Kept names number line
+    → (if b then Err 2 else or_rule (said_line names text)) ≡ Ok line → Kept names number line
 kept_by names number text line true b h = absurd (cc h)
-kept_by names number text line false b h = record { few = ltb-false 65536 number b; form = said_kept names text line (said names text) refl h }
+kept_by names number text line false b h = record { few = ltb-false 65536 number b; form = said_kept names text line (said_line names text) refl h }
 
-kept : (names : NameLists) (number : ℕ) (text : List ℕ) (line : Line) → judged names number text ≡ Ok line → Kept names number line
-unfolding judged
+kept : (names : NameLists) (number : ℕ) (text : List ℕ) (line : Line) → judged_line names number text ≡ Ok line → Kept names number line
+unfolding judged_line
 kept names number text line h = kept_by names number text line (nat_lt 65536 number) refl h
 
 -- the lines of a schedule are in form, and no more than the limit
@@ -47,7 +47,7 @@ none_kept names number x h e = record {
   form = subst (AreLines names) (sym e) tt;
 }
 
-line_kept : (names : NameLists) (number : ℕ) (text : List ℕ) (r : Result Line ℕ) (rest : Schedule) → judged names number text ≡ r → number ≤ 65537
+line_kept : (names : NameLists) (number : ℕ) (text : List ℕ) (r : Result Line ℕ) (rest : Schedule) → judged_line names number text ≡ r → number ≤ 65537
     → (number + 1 ≤ 65537 → AreKept names (number + 1) rest) → AreKept names number (on_line number r rest)
 line_kept names number text (Err rule) rest e h f = none_kept names number _ h refl
 line_kept names number text (Ok line) rest e h f =
@@ -61,10 +61,10 @@ schedule_kept names number (End ∷ more) h = none_kept names number _ h refl
 schedule_kept names number (Long ∷ more) h = none_kept names number _ h refl
 schedule_kept names number (Fault ∷ more) h = none_kept names number _ h refl
 schedule_kept names number (answer.Line text ∷ more) h =
-    line_kept names number text (judged names number text) (schedule names (number + 1) more) refl h (schedule_kept names (number + 1) more)
+    line_kept names number text (judged_line names number text) (schedule names (number + 1) more) refl h (schedule_kept names (number + 1) more)
 
 pub items_legal : (mac : Mac) (text : List ℕ) (d : Deployed) (texts : List (List ℕ)) → IsTag mac → IsRead text (Ok d) → AreImages mac d texts
     → (more : List Answer) → Legal d.app (before (items_of mac d texts more))
 items_legal mac text d texts tag read images more =
     let k = schedule_kept d.names 1 more (omega arith) in
-    accepted_runs text d read mac texts tag images (schedule d.names 1 more).lines (omega (arith, k.few)) k.form
+    accepted_runs_legal text d read mac texts tag images (schedule d.names 1 more).lines (omega (arith, k.few)) k.form

@@ -15,15 +15,15 @@ use Rattle.sx_world.specs.State.{World, switched_on}
 use Rattle.sx_world.specs.Accepted.{setting_of}
 use Rattle.sx_world.specs.Run.{run}
 use Rattle.sx_top.specs.Output.{trace_line}
-use Rattle.sx_top.specs.Check.{Meaning, refused}
-use Rattle.sx_top.specs.Schedule.{Stop, AtEnd, Breaks, judged, schedule}
+use Rattle.sx_top.specs.Check.{Meaning, fault_output}
+use Rattle.sx_top.specs.Schedule.{Stop, AtEnd, Breaks, judged_line, schedule}
 use Rattle.sx_top.specs.Schedule as sched
-use Rattle.sx_top.specs.Run.{items_text, images_text, stopped, broken, run_from, run_schedule, run_found, run_head, run_all, done}
+use Rattle.sx_top.specs.Run.{items_text, images_text, stop_output, broken_output, run_from, run_schedule, run_found, run_head, run_all, after_next}
 use Rattle.sx_top.proofs.Written.{run_line, run_breaks, run_unread}
 
 -- ---- where a read failed, its line is the last
 
-stop_ends : (x : Stop) → EndsUnread (stopped x)
+stop_ends : (x : Stop) → EndsUnread (stop_output x)
 stop_ends AtEnd e = absurd (omega (arith, e))
 stop_ends sched.Unread e = ([], refl)
 stop_ends (Breaks rule number) e = absurd (omega (arith, e))
@@ -32,7 +32,7 @@ run_ends : (names : NameLists) (set : Setting) (w : World) (number : ℕ) (more 
 unfolding run_from
 run_ends names set w number more e =
     let x = schedule names number more in
-    behind-ends (items_text names (run set w x.lines).items) (stopped x.stop) (stop_ends x.stop) e
+    behind-ends (items_text names (run set w x.lines).items) (stop_output x.stop) (stop_ends x.stop) e
 
 found_ends : (mac : Mac) (texts : List (List ℕ)) (r : Result Deployed DeployFault) (more : List Answer) → EndsUnread (run_found mac texts r more)
 found_ends mac texts (Err f) more e = absurd (omega (arith, e))
@@ -52,23 +52,23 @@ run_long : (names : NameLists) (set : Setting) (w : World) (number : ℕ) → (r
 unfolding run_from
 run_long names set w number e = omega (arith, e)
 
-due_line : (names : NameLists) (set : Setting) (w : World) (number : ℕ) (l : List ℕ) (ls : List (List ℕ)) (r : Result lines.Line ℕ) → judged names number l ≡ r
-    → ((line : lines.Line) → Due (λ more. run_from names set (done set w line).world (number + 1) (lines_then ls more)))
+due_line : (names : NameLists) (set : Setting) (w : World) (number : ℕ) (l : List ℕ) (ls : List (List ℕ)) (r : Result lines.Line ℕ) → judged_line names number l ≡ r
+    → ((line : lines.Line) → Due (λ more. run_from names set (after_next set w line).world (number + 1) (lines_then ls more)))
     → Due (λ more. run_from names set w number (Line l ∷ lines_then ls more))
 due_line names set w number l ls (Err rule) e f =
-    inl (broken rule number, λ x. omega (arith, x), λ more. run_breaks names set w number rule l (lines_then ls more) e)
+    inl (broken_output rule number, λ x. omega (arith, x), λ more. run_breaks names set w number rule l (lines_then ls more) e)
 due_line names set w number l ls (Ok line) e f =
-    due-behind (λ more. run_from names set w number (Line l ∷ lines_then ls more)) (λ more. run_from names set (done set w line).world (number + 1) (lines_then ls more))
-    (items_text names (done set w line).items) (λ more. run_line names set w number l line (lines_then ls more) e) (f line)
+    due-behind (λ more. run_from names set w number (Line l ∷ lines_then ls more)) (λ more. run_from names set (after_next set w line).world (number + 1) (lines_then ls more))
+    (items_text names (after_next set w line).items) (λ more. run_line names set w number l line (lines_then ls more) e) (f line)
 
 due_run : (names : NameLists) (set : Setting) (ls : List (List ℕ)) (w : World) (number : ℕ) → Due (λ more. run_from names set w number (lines_then ls more))
 due_run names set [] w number =
     inr ([], run_from names set w number, λ more. refl, run_unread names set w number, run_long names set w number, run_ends names set w number)
 due_run names set (l ∷ ls) w number =
-    due_line names set w number l ls (judged names number l) refl (λ line. due_run names set ls (done set w line).world (number + 1))
+    due_line names set w number l ls (judged_line names number l) refl (λ line. due_run names set ls (after_next set w line).world (number + 1))
 
 due_found : (mac : Mac) (texts : List (List ℕ)) (r : Result Deployed DeployFault) (ls : List (List ℕ)) → Due (λ more. run_found mac texts r (lines_then ls more))
-due_found mac texts (Err f) ls = inl (refused f, λ x. omega (arith, x), λ more. refl)
+due_found mac texts (Err f) ls = inl (fault_output f, λ x. omega (arith, x), λ more. refl)
 due_found mac texts (Ok d) ls =
     due-behind (λ more. run_found mac texts (Ok d) (lines_then ls more)) (λ more. run_schedule mac d texts (lines_then ls more))
     (images_text d.names.modules texts ++ trace_line) (λ more. refl)
@@ -82,7 +82,7 @@ due_head_line : (mac : Mac) (meaning : Meaning) (texts : List (List ℕ)) (text 
 due_head_line mac meaning texts text l ls true q x y d =
     due-behind (λ more. run_head mac meaning texts (head_behind text (Line l ∷ lines_then ls more))) (λ more. run_found mac texts (meaning text) (lines_then ls more)) []
     (λ more. rw x refl) (due_found mac texts (meaning text) ls)
-due_head_line mac meaning texts text l ls false true x y d = inl (refused (fault 1 Nowhere), λ e. omega (arith, e), λ more. rw (x, y) refl)
+due_head_line mac meaning texts text l ls false true x y d = inl (fault_output (fault 1 Nowhere), λ e. omega (arith, e), λ more. rw (x, y) refl)
 due_head_line mac meaning texts text l ls false false x y d =
     due-behind (λ more. run_head mac meaning texts (head_behind text (Line l ∷ lines_then ls more)))
     (λ more. run_head mac meaning texts (head_behind (text ++ l ++ newline ∷ []) (lines_then ls more))) [] (λ more. rw (x, y) refl) d

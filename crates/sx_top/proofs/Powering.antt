@@ -7,7 +7,7 @@ use Rattle.sx_machine.specs.State.{State, power_on}
 use Rattle.sx_bus.specs.declared.devices.Kind.{Kind}
 use Rattle.sx_bus.specs.Devices.{ArePlaces, places_of, powered_on}
 use Rattle.sx_deploy.specs.Deployment.{Deployed}
-use Rattle.sx_deploy.specs.Law.{IsSound}
+use Rattle.sx_deploy.specs.Law.{IsSoundDeployment}
 use Rattle.sx_world.specs.Setting.{Setting, kind_of, windows_at}
 use Rattle.sx_world.specs.State.{nodes_from}
 use Rattle.sx_world.proofs.DeviceWords.{are_places}
@@ -17,7 +17,7 @@ places_powered [] = refl
 places_powered (x ∷ xs) = ap (λ (ps : List ℕ). x.0 ∷ ps) (places_powered xs)
 
 -- the devices of a node stand where devices may
-pub stand_apart : (d : Deployed) (n : ℕ) (xs : List (ℕ × Kind)) → IsSound d → xs ≡ windows_at n d.app.devices d.places → ArePlaces (map (λ (x : ℕ × Kind). x.0) xs)
+pub stand_apart : (d : Deployed) (n : ℕ) (xs : List (ℕ × Kind)) → IsSoundDeployment d → xs ≡ windows_at n d.app.devices d.places → ArePlaces (map (λ (x : ℕ × Kind). x.0) xs)
 stand_apart d n xs sound e =
     let P : List (ℕ × Kind) → Type 0 = λ ws. ArePlaces (places_of (powered_on ws)) in
     subst ArePlaces (places_powered xs) (subst P (sym e) (are_places d.app.devices d.places sound.few_devices sound.words sound.words_apart n))

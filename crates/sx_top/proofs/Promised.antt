@@ -2,7 +2,7 @@
 use Rattle.std.proofs.Common.{◌≡◌, ◌≤◌, ◌+◌, ◌∙◌, inl, inr, ℕ, Bool, List, [], ◌++◌, length, sym, ap, arith}
 use Rattle.std.specs.Prelude.{IsTrue}
 use Rattle.sx_io.specs.Reading.{Answer, Broken, Ended, longest, scan}
-use Rattle.sx_told.specs.Told.{Output, Moment, Told}
+use Rattle.sx_told.specs.Told.{Output, CommandAt, Told}
 use Rattle.sx_told.proofs.Laws.{told-quiet, told-some}
 use Rattle.sx_told.proofs.Endings.{faultless}
 use Rattle.sx_told.proofs.Further.{no-further}
@@ -19,32 +19,32 @@ use Rattle.sx_top.proofs.Stops.{output_status}
 use Rattle.sx_top.proofs.Stops.{not_two as run_not_two}
 
 -- a run that was told doesn't end with the status for other words
-with_not_two : {tells to_tell : Bool} {m0 m1 : Moment} {status : ℕ} {also : List Answer → Type 0} (mac : Mac) (meaning : Meaning) (texts : List (List ℕ))
+with_not_two : {tells to_tell : Bool} {m0 m1 : CommandAt} {status : ℕ} {also : List Answer → Type 0} (mac : Mac) (meaning : Meaning) (texts : List (List ℕ))
     → Told tells to_tell head_lines m0 m1 status (run_all mac meaning texts) also → status ≡ 2 → ⊥
 with_not_two mac meaning texts told two =
     let w = told-some told in
     run_not_two meaning (head w.0)
     (sym (output_status mac meaning texts w.0) ∙ sym (w.1.0.whole (λ five. omega (arith, two, five)) (λ six. omega (arith, two, six))).0 ∙ two)
 
-pub says_not_two : {tells to_tell : Bool} {m0 m1 : Moment} {status : ℕ} (mac : Mac) → RunSays mac tells to_tell m0 m1 status → status ≡ 2 → ⊥
+pub says_not_two : {tells to_tell : Bool} {m0 m1 : CommandAt} {status : ℕ} (mac : Mac) → RunSays mac tells to_tell m0 m1 status → status ≡ 2 → ⊥
 says_not_two mac run two =
     elim run.says [
       | inl starved ↦ omega (arith, starved.six, two)
       | inr r ↦ with_not_two mac known r.texts (r.told known is_known) two
     ]
 
-pub check_not_two : {tells to_tell : Bool} {m0 m1 : Moment} {status : ℕ} → CheckTold tells to_tell m0 m1 status → status ≡ 2 → ⊥
+pub check_not_two : {tells to_tell : Bool} {m0 m1 : CommandAt} {status : ℕ} → CheckTold tells to_tell m0 m1 status → status ≡ 2 → ⊥
 check_not_two check two =
     let w = told-some (check.told known is_known) in
     head_not_two known (head w.0) (sym (w.1.0.whole (λ five. omega (arith, two, five)) (λ six. omega (arith, two, six))).0 ∙ two)
 
-check_no_further : {tells to_tell : Bool} {m0 m1 : Moment} {status : ℕ} (bytes rest text : List ℕ) → Told tells to_tell head_lines m0 m1 status (check_all known) (RunsOutBehindHead status)
+check_no_further : {tells to_tell : Bool} {m0 m1 : CommandAt} {status : ℕ} (bytes rest text : List ℕ) → Told tells to_tell head_lines m0 m1 status (check_all known) (RunsOutBehindHead status)
     → IsTrue tells → m0.source.rest ≡ bytes ++ rest → IsHead bytes text → length rest ≤ longest + length m1.source.rest
 check_no_further bytes rest text told t e h =
     no-further bytes rest told.reads t e h.0
     (λ y d. checked_not 4 (known text) (λ x. omega (arith, x)) (λ x. omega (arith, x)) (ap (λ (x : Head). (check_head known x).status) (sym (h.1 Broken y)) ∙ ap (λ (o : Output). o.status) d))
 
-pub check_promise : {tells to_tell : Bool} {m0 m1 : Moment} {status : ℕ}
+pub check_promise : {tells to_tell : Bool} {m0 m1 : CommandAt} {status : ℕ}
     → ((meaning : Meaning) → IsMeaning meaning → Told tells to_tell head_lines m0 m1 status (check_all meaning) (RunsOutBehindHead status)) → CheckTold tells to_tell m0 m1 status
 check_promise {tells} {to_tell} {m0} {m1} {status} told = record {
   told = told;

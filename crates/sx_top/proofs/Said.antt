@@ -3,7 +3,7 @@ use Rattle.std.proofs.Common.{◌≡◌, ◌∙◌, ◌⊎◌, inl, inr, ℕ, Bo
 use Rattle.std.specs.Prelude.{IsTrue}
 use Rattle.sx_io.specs.Streams.{SinkAt}
 use Rattle.sx_io.specs.Reading.{Answer, Broken, Ended, longest, scan}
-use Rattle.sx_told.specs.Told.{Output, Moment, Told, out_of_memory}
+use Rattle.sx_told.specs.Told.{Output, CommandAt, Told, out_of_memory}
 use Rattle.sx_told.proofs.Laws.{told-all, told-fault, told-quiet, told-write-fault, told-no-write-fault}
 use Rattle.sx_told.proofs.Endings.{unfinished, faultless}
 use Rattle.sx_told.proofs.Due.{streams-by}
@@ -30,13 +30,13 @@ legal_by mac None texts d tag deploys images schedule = absurd deploys
 legal_by mac (Some text) texts d tag deploys images schedule = items_legal mac text d texts tag deploys images schedule
 
 -- an input that is to be run to its end came to it
-pub came : (to_tell : Bool) (m0 m1 : Moment) (status : ℕ) (o : Output)
+pub came : (to_tell : Bool) (m0 m1 : CommandAt) (status : ℕ) (o : Output)
     → (status ≡ out_of_memory) ⊎ ((status ≡ o.status) × (IsTrue to_tell → m1.sink.written ≡ m0.sink.written ++ o.text)) → o.status ≡ 0 → CameToItsEnd to_tell m0 m1 status o
 came to_tell m0 m1 status o (inl six) zero = inl six
 came to_tell m0 m1 status o (inr all) zero = inr (all.0 ∙ zero, all.1)
 
 -- images that realize their modules, and what was told of the run with them
-pub runs_with : {tells to_tell : Bool} {m0 m1 : Moment} {status : ℕ} (mac : Mac) → IsTag mac → (deployment : Option (List ℕ)) (texts : List (List ℕ))
+pub runs_with : {tells to_tell : Bool} {m0 m1 : CommandAt} {status : ℕ} (mac : Mac) → IsTag mac → (deployment : Option (List ℕ)) (texts : List (List ℕ))
     → (deployment ≡ None → status ≡ out_of_memory → ⊥) → ((d : Deployed) → Deploys deployment d → AreImages mac d texts)
     → ((meaning : Meaning) → IsMeaning meaning → Told tells to_tell head_lines m0 m1 status (run_all mac meaning texts) (λ answers. HasHead deployment (head answers)))
     → RunsWith mac tells to_tell m0 m1 status
@@ -58,7 +58,7 @@ runs_with {tells} {to_tell} {m0} {m1} {status} mac tag deployment texts headed r
 }
 
 -- a status tells of faults, where no answers of an input without a read that failed give status 4
-pub faults_of : {tells to_tell : Bool} {m0 m1 : Moment} {status : ℕ} {F : List Answer → Output} {also : List Answer → Type 0} → ((bytes : List ℕ) → (F (scan head_lines Ended [] bytes)).status ≡ 4 → ⊥)
+pub faults_of : {tells to_tell : Bool} {m0 m1 : CommandAt} {status : ℕ} {F : List Answer → Output} {also : List Answer → Type 0} → ((bytes : List ℕ) → (F (scan head_lines Ended [] bytes)).status ≡ 4 → ⊥)
     → Told tells to_tell head_lines m0 m1 status F also → TellsFaults m0 m1 status
 faults_of {tells} {to_tell} {m0} {m1} {status} {F} {also} never told = record {
   read = λ four. told-fault told (λ five. omega (arith, four, five)) (λ six. omega (arith, four, six)) (λ bytes e. never bytes (sym e ∙ four));
@@ -66,14 +66,14 @@ faults_of {tells} {to_tell} {m0} {m1} {status} {F} {also} never told = record {
   no_write = λ other. told-no-write-fault told other;
 }
 
-with_faults : {tells to_tell : Bool} {m0 m1 : Moment} {status : ℕ} {also : List Answer → Type 0} (mac : Mac) (meaning : Meaning) (texts : List (List ℕ))
+with_faults : {tells to_tell : Bool} {m0 m1 : CommandAt} {status : ℕ} {also : List Answer → Type 0} (mac : Mac) (meaning : Meaning) (texts : List (List ℕ))
     → Told tells to_tell head_lines m0 m1 status (run_all mac meaning texts) also → TellsFaults m0 m1 status
 with_faults mac meaning texts told =
     faults_of (λ bytes e.
     let answers = scan head_lines Ended [] bytes in
     not_four meaning answers (faultless head_lines [] bytes) (sym (output_status mac meaning texts answers) ∙ e)) told
 
-with_all : {tells to_tell : Bool} {m0 m1 : Moment} {status : ℕ} {also : List Answer → Type 0} (mac : Mac) (meaning : Meaning) (texts : List (List ℕ))
+with_all : {tells to_tell : Bool} {m0 m1 : CommandAt} {status : ℕ} {also : List Answer → Type 0} (mac : Mac) (meaning : Meaning) (texts : List (List ℕ))
     → Told tells to_tell head_lines m0 m1 status (run_all mac meaning texts) also → status ≡ 0 → IsTrue tells → m1.source.rest ≡ []
 with_all {tells} {to_tell} {m0} {m1} {status} {also} mac meaning texts told zero t =
     told-all told (λ five. omega (arith, zero, five)) (λ six. omega (arith, zero, six))
@@ -86,7 +86,7 @@ exactly : (status : ℕ) (A : Type 0) (mac : Mac) (meaning : Meaning) (texts : L
 exactly status A mac meaning texts answers (inl six) = inl six
 exactly status A mac meaning texts answers (inr all) = inr (all.0 ∙ output_status mac meaning texts answers)
 
-pub says_starved : {tells : Bool} {m0 m1 : Moment} {status : ℕ} (mac : Mac) (to_tell : Bool) → Starved tells m0 m1 status → RunSays mac tells to_tell m0 m1 status
+pub says_starved : {tells : Bool} {m0 m1 : CommandAt} {status : ℕ} (mac : Mac) (to_tell : Bool) → Starved tells m0 m1 status → RunSays mac tells to_tell m0 m1 status
 says_starved {tells} {m0} {m1} {status} mac to_tell s = record {
   says = inl s;
   faults = record {
@@ -98,7 +98,7 @@ says_starved {tells} {m0} {m1} {status} mac to_tell s = record {
   exact = λ meaning is t quiet. inl s.six;
 }
 
-pub says_with : {tells to_tell : Bool} {m0 m1 : Moment} {status : ℕ} (mac : Mac) → RunsWith mac tells to_tell m0 m1 status → RunSays mac tells to_tell m0 m1 status
+pub says_with : {tells to_tell : Bool} {m0 m1 : CommandAt} {status : ℕ} (mac : Mac) → RunsWith mac tells to_tell m0 m1 status → RunSays mac tells to_tell m0 m1 status
 says_with {tells} {to_tell} {m0} {m1} {status} mac r = record {
   says = inr r;
   faults = with_faults mac known r.texts (r.told known is_known);

@@ -8,14 +8,14 @@ use Rattle.sx_deploy.specs.Deployment.{Deployed}
 use Rattle.sx_deploy.proofs.Meanings.{one_meaning}
 use Rattle.sx_sched.specs.declared.lines.LineError.{LineError}
 use Rattle.sx_sched.specs.Lines.{Line}
-use Rattle.sx_sched.specs.Reading.{said}
+use Rattle.sx_sched.specs.Reading.{said_line}
 use Rattle.sx_head.specs.Head.{Found}
 use Rattle.sx_bulk.specs.Bulk as bulk
 use Rattle.sx_bulk.specs.Laws.{names}
 use Rattle.sx_bulk.proofs.Accepts.{accepted}
-use Rattle.sx_bulk.proofs.Good as good
+use Rattle.sx_bulk.proofs.WellFormed as good
 use Rattle.sx_top.specs.Check.{Meaning, IsMeaning}
-use Rattle.sx_top.specs.Schedule.{judged, or_rule}
+use Rattle.sx_top.specs.Schedule.{judged_line, or_rule}
 use Rattle.sx_top.specs.WellFormed.{IsWellFormed, IsGoodRun, found_status}
 use Rattle.sx_top.specs.Workload.{answers_from, workload}
 use Rattle.sx_top.proofs.Stops.{good_zero}
@@ -24,11 +24,11 @@ said_good : (r : Result Line LineError) → IsOk r → IsOk (or_rule r)
 said_good (Ok line) h = h
 said_good (Err e) h = absurd (cc)
 
-line_good : (number : ℕ) (text : List ℕ) → number ≤ 65536 → IsOk (said names text) → IsOk (judged names number text)
-unfolding judged
+line_good : (number : ℕ) (text : List ℕ) → number ≤ 65536 → IsOk (said_line names text) → IsOk (judged_line names number text)
+unfolding judged_line
 line_good number text few h =
     let within : nat_lt 65536 number ≡ false = grind (arith, nat_tests, few) in
-    rw within (said_good (said names text) h)
+    rw within (said_good (said_line names text) h)
 
 lines_good : (more i number : ℕ) → number ≡ i + 1 → i + more ≤ 64026 → IsWellFormed names number (answers_from more i)
 lines_good zero i number e h = tt

@@ -5,10 +5,10 @@ use Rattle.sx_told.proofs.Endings.{pick, Faultless}
 use Rattle.sx_head.specs.Head.{Head, Found, TooLong, NoMark, Unread, head_behind, is_mark, most_bytes}
 use Rattle.sx_deploy.specs.Deployment.{Deployed}
 use Rattle.sx_stage.specs.declared.fault.DeployFault.{DeployFault}
-use Rattle.sx_top.specs.Check.{Meaning, checked, check_head, check_all}
-use Rattle.sx_top.specs.Commands.{IsAccepted, IsGoodHead}
+use Rattle.sx_top.specs.Check.{Meaning, check_output, check_head, check_all}
+use Rattle.sx_top.specs.Commands.{IsAcceptedDeployment, IsGoodHead}
 
-accepted_zero : (r : Result Deployed DeployFault) → IsAccepted r → (checked r).status ≡ 0
+accepted_zero : (r : Result Deployed DeployFault) → IsAcceptedDeployment r → (check_output r).status ≡ 0
 accepted_zero (Ok d) h = refl
 accepted_zero (Err f) h = absurd h
 
@@ -20,7 +20,7 @@ head_zero meaning Unread g = absurd g
 
 -- ---- other statuses
 
-pub checked_not : (n : ℕ) (r : Result Deployed DeployFault) → (0 ≡ n → ⊥) → (1 ≡ n → ⊥) → (checked r).status ≡ n → ⊥
+pub checked_not : (n : ℕ) (r : Result Deployed DeployFault) → (0 ≡ n → ⊥) → (1 ≡ n → ⊥) → (check_output r).status ≡ n → ⊥
 checked_not n (Ok d) zero one e = zero e
 checked_not n (Err f) zero one e = one e
 

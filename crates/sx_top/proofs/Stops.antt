@@ -9,14 +9,14 @@ use Rattle.sx_trace.specs.Names.{NameLists}
 use Rattle.sx_sched.specs.Lines as lines
 use Rattle.sx_deploy.specs.Deployment.{Deployed}
 use Rattle.sx_top.specs.Check.{Meaning}
-use Rattle.sx_top.specs.Schedule.{Stop, AtEnd, Breaks, Schedule, judged, on_line, schedule}
+use Rattle.sx_top.specs.Schedule.{Stop, AtEnd, Breaks, Schedule, judged_line, on_line, schedule}
 use Rattle.sx_top.specs.Schedule as sched
-use Rattle.sx_top.specs.Run.{stopped, run_from, run_found, run_head, run_all}
+use Rattle.sx_top.specs.Run.{stop_output, run_from, run_found, run_head, run_all}
 use Rattle.sx_top.specs.WellFormed.{IsWellFormed, IsGoodRun, IsGoodInput, stop_status, found_status, head_status, run_status}
 
 -- ---- the status doesn't hang on the images
 
-stop_same : (x : Stop) → (stopped x).status ≡ stop_status x
+stop_same : (x : Stop) → (stop_output x).status ≡ stop_status x
 stop_same AtEnd = refl
 stop_same sched.Unread = refl
 stop_same (Breaks rule number) = refl
@@ -47,7 +47,7 @@ schedule_zero names number (End ∷ more) good = refl
 schedule_zero names number (Long ∷ more) good = absurd good
 schedule_zero names number (Fault ∷ more) good = absurd good
 schedule_zero names number (Line text ∷ more) good =
-    line_zero number (judged names number text) (schedule names (number + 1) more) good.0 (schedule_zero names (number + 1) more good.1)
+    line_zero number (judged_line names number text) (schedule names (number + 1) more) good.0 (schedule_zero names (number + 1) more good.1)
 
 found_zero : (r : Result Deployed DeployFault) (more : List Answer) → IsGoodRun r more → found_status r more ≡ 0
 found_zero (Ok d) more good = schedule_zero d.names 1 more good
@@ -77,7 +77,7 @@ schedule_not_zero names number (End ∷ more) u e = u
 schedule_not_zero names number (Long ∷ more) u e = omega (arith, e)
 schedule_not_zero names number (Fault ∷ more) u e = omega (arith, e)
 schedule_not_zero names number (Line text ∷ more) u e =
-    line_not number 0 (judged names number text) (schedule names (number + 1) more) (λ x. omega (arith, x)) (schedule_not_zero names (number + 1) more u) e
+    line_not number 0 (judged_line names number text) (schedule names (number + 1) more) (λ x. omega (arith, x)) (schedule_not_zero names (number + 1) more u) e
 
 behind_not_zero : (meaning : Meaning) (text : List ℕ) (answers : List Answer) → Unfinished answers → head_status meaning (head_behind text answers) ≡ 0 → ⊥
 behind_not_zero meaning text [] u e = u
@@ -99,7 +99,7 @@ schedule_not_four names number (End ∷ more) u e = omega (arith, e)
 schedule_not_four names number (Long ∷ more) u e = omega (arith, e)
 schedule_not_four names number (Fault ∷ more) u e = u
 schedule_not_four names number (Line text ∷ more) u e =
-    line_not number 4 (judged names number text) (schedule names (number + 1) more) (λ x. omega (arith, x)) (schedule_not_four names (number + 1) more u) e
+    line_not number 4 (judged_line names number text) (schedule names (number + 1) more) (λ x. omega (arith, x)) (schedule_not_four names (number + 1) more u) e
 
 behind_not_four : (meaning : Meaning) (text : List ℕ) (answers : List Answer) → Faultless answers → head_status meaning (head_behind text answers) ≡ 4 → ⊥
 behind_not_four meaning text [] u e = omega (arith, e)

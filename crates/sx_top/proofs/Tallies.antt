@@ -20,12 +20,12 @@ use Rattle.sx_world.specs.Run.{run}
 use Rattle.sx_bulk.specs.Bulk as bulk
 use Rattle.sx_top.specs.declared.counts.Counts.{Counts}
 use Rattle.sx_top.specs.Counts.{is_output, is_lit, counts, plus, summary}
-use Rattle.sx_top.specs.Run.{broken, done}
-use Rattle.sx_top.specs.Schedule.{Schedule, AtEnd, judged, on_line, schedule}
+use Rattle.sx_top.specs.Run.{broken_output, after_next}
+use Rattle.sx_top.specs.Schedule.{Schedule, AtEnd, judged_line, on_line, schedule}
 use Rattle.sx_top.specs.Workload.{answers_from, gen_run, told_at, workload}
 use Rattle.sx_top.specs.declared.counting.Stopped.{Stopped}
 use Rattle.sx_top.specs.declared.counting.Stopped.TheVariants.{Broken, OutOfMemory}
-use Rattle.sx_top.specs.Counting.{ActsIn, ActsFrom, EndsAs, StopsAt}
+use Rattle.sx_top.specs.Counting.{ActsIn, ActsFrom, EndsAs, LineStopsAt}
 
 -- ---- counts of more items
 
@@ -51,17 +51,17 @@ left_by n set before w x = told_at n (record { world = (run set w x.lines).world
 abbrev pub left_of : ℕ → NameLists → Setting → List Item → World → ℕ → List Answer → Output
 left_of n names set before w number answers = left_by n set before w (schedule names number answers)
 
-left_line : (n : ℕ) (names : NameLists) (set : Setting) (before : List Item) (w : World) (number : ℕ) (text : List ℕ) (line : Line) (more : List Answer) → judged names number text ≡ Ok line
-    → left_of n names set before w number (answer.Line text ∷ more) ≡ left_of n names set (before ++ (done set w line).items) (done set w line).world (number + 1) more
+left_line : (n : ℕ) (names : NameLists) (set : Setting) (before : List Item) (w : World) (number : ℕ) (text : List ℕ) (line : Line) (more : List Answer) → judged_line names number text ≡ Ok line
+    → left_of n names set before w number (answer.Line text ∷ more) ≡ left_of n names set (before ++ (after_next set w line).items) (after_next set w line).world (number + 1) more
 left_line n names set before w number text line more e =
     let rest = schedule names (number + 1) more in
-    let a = done set w line in
+    let a = after_next set w line in
     let b = run set a.world rest.lines in
     ap (λ (r : Result Line ℕ). left_by n set before w (on_line number r rest)) e
     ∙ ap (λ (items : List Item). told_at n (record { world = b.world; items = items }) rest.stop) (sym (append_assoc before a.items b.items))
 
-left_breaks : (n : ℕ) (names : NameLists) (set : Setting) (before : List Item) (w : World) (number rule : ℕ) (text : List ℕ) (more : List Answer) → judged names number text ≡ Err rule
-    → left_of n names set before w number (answer.Line text ∷ more) ≡ broken rule number
+left_breaks : (n : ℕ) (names : NameLists) (set : Setting) (before : List Item) (w : World) (number rule : ℕ) (text : List ℕ) (more : List Answer) → judged_line names number text ≡ Err rule
+    → left_of n names set before w number (answer.Line text ∷ more) ≡ broken_output rule number
 left_breaks n names set before w number rule text more e =
     ap (λ (r : Result Line ℕ). left_by n set before w (on_line number r (schedule names (number + 1) more))) e
 
@@ -75,7 +75,7 @@ left_begun n names set = refl
 
 -- ---- a line
 
-pub acts_from : (names : NameLists) (set : Setting) (held left : Held) (number : ℕ) (text : List ℕ) (items : List Item) (line : Line) → judged names number text ≡ Ok line
+pub acts_from : (names : NameLists) (set : Setting) (held left : Held) (number : ℕ) (text : List ℕ) (items : List Item) (line : Line) → judged_line names number text ≡ Ok line
     → Acts set line held left [] items → ActsFrom names set held left number text items
 acts_from names set held left number text items line e h = λ w st. record { line = line; keeps = e; stands = (h w st).0; made = (h w st).1 }
 
@@ -83,9 +83,9 @@ pub on_ok : {X E : Type 0} {P Q : Type 0} (r : Result X E) → (P → Q) → OnO
 on_ok (Ok x) h p = h p
 on_ok (Err e) h p = p
 
-pub no_memory : {X : Type 0} (names : NameLists) (number : ℕ) (text : List ℕ) (r : Result X Stopped) → IfErr r (λ e. e ≡ OutOfMemory) → IfErr r (λ e. StopsAt names number text e)
+pub no_memory : {X : Type 0} (names : NameLists) (number : ℕ) (text : List ℕ) (r : Result X Stopped) → IfErr r (λ e. e ≡ OutOfMemory) → IfErr r (λ e. LineStopsAt names number text e)
 no_memory names number text (Ok x) h = h
-no_memory names number text (Err e) h = let P : Stopped → Type 0 = StopsAt names number text in subst P (sym h) tt
+no_memory names number text (Err e) h = let P : Stopped → Type 0 = LineStopsAt names number text in subst P (sym h) tt
 
 -- the start of a buffer is what was written there
 pub front_is : (n : ℕ) (into line rest : List ℕ) → into ≡ line ++ rest → n ≡ length line → take n into ≡ line
@@ -125,7 +125,7 @@ pub tally_goes_on : (n : ℕ) (names : NameLists) (set : Setting) (held left : H
     → ActsIn names set left (i + 1) (bulk.line i) items s.world → length items ≤ 18446744073709551615 → Tallied n names set left (i + 1) (plus c (counts items))
 tally_goes_on n names set held left i c items s h a few =
     let more = answers_from (bulk.lines n - (i + 1)) (i + 1) in
-    let v = (done set s.world a.line).world in record {
+    let v = (after_next set s.world a.line).world in record {
       world = v;
       before = s.before ++ items;
       stands = a.stands;
@@ -136,7 +136,7 @@ tally_goes_on n names set held left i c items s h a few =
     }
 
 pub tally_breaks : (n : ℕ) (names : NameLists) (set : Setting) (held : Held) (i : ℕ) (c : Counts) (rule : ℕ) → Tallied n names set held i c → i < bulk.lines n
-    → judged names (i + 1) (bulk.line i) ≡ Err rule → gen_run n names set ≡ broken rule (i + 1)
+    → judged_line names (i + 1) (bulk.line i) ≡ Err rule → gen_run n names set ≡ broken_output rule (i + 1)
 tally_breaks n names set held i c rule s h e =
     sym s.left ∙ next_is n names set s.before s.world i h ∙ left_breaks n names set s.before s.world (i + 1) rule (bulk.line i) (answers_from (bulk.lines n - (i + 1)) (i + 1)) e
 
@@ -149,6 +149,6 @@ tally_ends n names set held i c s h =
     ∙ ap (λ (k : ℕ). record { text = summary (bulk.lines n) c k; status = 0 }) (sym s.stands.shows.steps)
 
 pub tally_stops : (n : ℕ) (names : NameLists) (set : Setting) (held : Held) (i : ℕ) (c : Counts) (steps : ℕ) (e : Stopped) → Tallied n names set held i c → i < bulk.lines n
-    → StopsAt names (i + 1) (bulk.line i) e → EndsAs n names set steps (Err e)
-tally_stops n names set held i c steps (Broken rule at) s h stops = tally_breaks n names set held i c rule s h stops.0 ∙ ap (λ (k : ℕ). broken rule k) (sym stops.1)
+    → LineStopsAt names (i + 1) (bulk.line i) e → EndsAs n names set steps (Err e)
+tally_stops n names set held i c steps (Broken rule at) s h stops = tally_breaks n names set held i c rule s h stops.0 ∙ ap (λ (k : ℕ). broken_output rule k) (sym stops.1)
 tally_stops n names set held i c steps OutOfMemory s h stops = tt

@@ -3,7 +3,7 @@ use Rattle.std.proofs.Common.{◌≡◌, ◌∙◌, ℕ, ◌+◌, List, [], ◌�
 use Rattle.sx_io.specs.Prefixes.{AppendsPrefix}
 use Rattle.sx_io.specs.Reading.{Answer}
 use Rattle.sx_io.specs.Reading as answer
-use Rattle.sx_told.specs.Told.{behind, unread}
+use Rattle.sx_told.specs.Told.{behind, unread_output}
 use Rattle.sx_told.proofs.Laws.{prefix-more}
 use Rattle.sx_trace.specs.declared.items.Item.{Item}
 use Rattle.sx_trace.specs.Names.{NameLists}
@@ -12,8 +12,8 @@ use Rattle.sx_world.specs.Setting.{Setting}
 use Rattle.sx_world.specs.State.{World}
 use Rattle.sx_world.specs.Run.{run}
 use Rattle.sx_top.specs.Output.{end_line}
-use Rattle.sx_top.specs.Schedule.{Schedule, judged, on_line, schedule}
-use Rattle.sx_top.specs.Run.{item_line, items_text, written, run_from, stopped, broken, done}
+use Rattle.sx_top.specs.Schedule.{Schedule, judged_line, on_line, schedule}
+use Rattle.sx_top.specs.Run.{item_line, items_text, schedule_output, run_from, stop_output, broken_output, after_next}
 
 pub items_text_append : (names : NameLists) (xs ys : List Item) → items_text names (xs ++ ys) ≡ items_text names xs ++ items_text names ys
 items_text_append names [] ys = refl
@@ -30,27 +30,27 @@ prefix_told names old new xs rest ys more e h =
     subst (λ (t : List ℕ). AppendsPrefix old new t) same (prefix-more old new (items_text names xs) (items_text names rest ++ more) h)
 
 written_line : (names : NameLists) (set : Setting) (w : World) (line : Line) (rest : Schedule)
-    → written names set w (record { lines = line ∷ rest.lines; stop = rest.stop }) ≡ behind (items_text names (done set w line).items) (written names set (done set w line).world rest)
+    → schedule_output names set w (record { lines = line ∷ rest.lines; stop = rest.stop }) ≡ behind (items_text names (after_next set w line).items) (schedule_output names set (after_next set w line).world rest)
 written_line names set w line rest =
-    let a = done set w line in
+    let a = after_next set w line in
     let b = run set a.world rest.lines in
-    ap (λ (t : List ℕ). record { text = t; status = (stopped rest.stop).status })
-    (ap (λ (t : List ℕ). t ++ (stopped rest.stop).text) (items_text_append names a.items b.items)
-    ∙ append_assoc (items_text names a.items) (items_text names b.items) (stopped rest.stop).text)
+    ap (λ (t : List ℕ). record { text = t; status = (stop_output rest.stop).status })
+    (ap (λ (t : List ℕ). t ++ (stop_output rest.stop).text) (items_text_append names a.items b.items)
+    ∙ append_assoc (items_text names a.items) (items_text names b.items) (stop_output rest.stop).text)
 
 -- a line's items are written, and then those of the rest
-pub run_line : (names : NameLists) (set : Setting) (w : World) (number : ℕ) (text : List ℕ) (line : Line) (more : List Answer) → judged names number text ≡ Ok line
-    → run_from names set w number (answer.Line text ∷ more) ≡ behind (items_text names (done set w line).items) (run_from names set (done set w line).world (number + 1) more)
+pub run_line : (names : NameLists) (set : Setting) (w : World) (number : ℕ) (text : List ℕ) (line : Line) (more : List Answer) → judged_line names number text ≡ Ok line
+    → run_from names set w number (answer.Line text ∷ more) ≡ behind (items_text names (after_next set w line).items) (run_from names set (after_next set w line).world (number + 1) more)
 unfolding run_from
 run_line names set w number text line more e =
-    ap (λ (r : Result Line ℕ). written names set w (on_line number r (schedule names (number + 1) more))) e
+    ap (λ (r : Result Line ℕ). schedule_output names set w (on_line number r (schedule names (number + 1) more))) e
     ∙ written_line names set w line (schedule names (number + 1) more)
 
-pub run_breaks : (names : NameLists) (set : Setting) (w : World) (number rule : ℕ) (text : List ℕ) (more : List Answer) → judged names number text ≡ Err rule
-    → run_from names set w number (answer.Line text ∷ more) ≡ broken rule number
+pub run_breaks : (names : NameLists) (set : Setting) (w : World) (number rule : ℕ) (text : List ℕ) (more : List Answer) → judged_line names number text ≡ Err rule
+    → run_from names set w number (answer.Line text ∷ more) ≡ broken_output rule number
 unfolding run_from
 run_breaks names set w number rule text more e =
-    ap (λ (r : Result Line ℕ). written names set w (on_line number r (schedule names (number + 1) more))) e
+    ap (λ (r : Result Line ℕ). schedule_output names set w (on_line number r (schedule names (number + 1) more))) e
 
 -- ---- the last answer
 
@@ -58,10 +58,10 @@ pub run_ended : (names : NameLists) (set : Setting) (w : World) (number : ℕ) �
 unfolding run_from
 run_ended names set w number = refl
 
-pub run_too_long : (names : NameLists) (set : Setting) (w : World) (number : ℕ) → run_from names set w number (answer.Long ∷ []) ≡ broken 1 number
+pub run_too_long : (names : NameLists) (set : Setting) (w : World) (number : ℕ) → run_from names set w number (answer.Long ∷ []) ≡ broken_output 1 number
 unfolding run_from
 run_too_long names set w number = refl
 
-pub run_unread : (names : NameLists) (set : Setting) (w : World) (number : ℕ) → run_from names set w number (answer.Fault ∷ []) ≡ unread
+pub run_unread : (names : NameLists) (set : Setting) (w : World) (number : ℕ) → run_from names set w number (answer.Fault ∷ []) ≡ unread_output
 unfolding run_from
 run_unread names set w number = refl

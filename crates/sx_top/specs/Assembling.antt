@@ -1,11 +1,13 @@
 -- What the command `asm` writes, and its exit status: a function of an address and of the answers
 -- that the lines of its input give.
-use Rattle.std.specs.Prelude.{ℕ, ◌+◌, ◌≡◌, ◌⊎◌, ◌==◌, nat_lt, Bool, IsTrue, if◌then◌else◌, List, [], ◌∷◌, ◌++◌, length, codes, Option, Some, None, Result, Ok, Err}
+use Rattle.std.specs.Prelude.{ℕ, ◌+◌, ◌≡◌, ◌⊎◌, ◌==◌, nat_lt, Bool, IsTrue, if◌then◌else◌, List, []}
+use Rattle.std.specs.Prelude.{◌∷◌, ◌++◌, length, codes, Option, Some, None, Result, Ok, Err}
 use Rattle.std.specs.Option.{option_or}
 use Rattle.std.specs.Str.{is_utf8}
-use Rattle.sx_io.specs.Reading.{Answer, Line, End, Long, Fault, Ended, Limit, always, longest, newline, scan}
+use Rattle.sx_io.specs.Reading.{Answer, Line, End, Long, Fault, Ended, Limit, always, longest}
+use Rattle.sx_io.specs.Reading.{newline, scan}
 use Rattle.sx_told.specs.Reads.{anything}
-use Rattle.sx_told.specs.Told.{Output, Moment, Told, out_of_memory, unread}
+use Rattle.sx_told.specs.Told.{Output, CommandAt, Told, out_of_memory, unread_output}
 use Rattle.sx_asm.specs.declared.error.AsmError.{AsmError}
 use Rattle.sx_asm.specs.declared.error.AsmError.TheVariants as error
 use Rattle.sx_asm.specs.Assembled.{assembled}
@@ -87,30 +89,30 @@ abbrev pub code_at : ℕ → Gathered → Result (List ℕ) AsmError
 code_at at g = judged g.bad (assembled at g.text)
 
 -- status 10: a rule is broken; no text gives the error `OutOfMemory`
-abbrev pub refused : AsmError → Output
-refused (error.Fault rule number) = fault_output (codes "fault asm A") rule number 10
-refused error.OutOfMemory = record { text = []; status = out_of_memory }
+abbrev pub asm_fault_output : AsmError → Output
+asm_fault_output (error.Fault rule number) = fault_output (codes "fault asm A") rule number 10
+asm_fault_output error.OutOfMemory = record { text = []; status = out_of_memory }
 
 -- the listing of the code, or the fault
 abbrev pub told_code : ℕ → Result (List ℕ) AsmError → Output
 told_code at (Ok code) = record { text = listing at code ++ end_line; status = 0 }
-told_code at (Err e) = refused e
+told_code at (Err e) = asm_fault_output e
 
 -- what `asm` writes of what was read
 abbrev pub asm_input : ℕ → Input → Output
 asm_input at (Whole g) = told_code at (code_at at g)
-asm_input at Unread = unread
+asm_input at Unread = unread_output
 
 -- the command `asm`
 abbrev pub asm_all : ℕ → List Answer → Output
 asm_all at answers = asm_input at (input answers)
 
 -- what is written for the whole input, as it stood at the start
-abbrev pub asm_of : ℕ → Moment → Output
+abbrev pub asm_of : ℕ → CommandAt → Output
 asm_of at m0 = asm_all at (scan asm_lines Ended [] m0.source.rest)
 
 -- What the command promises, of its streams at its start (m0) and at its end (m1).
-pub record AsmTold (at : ℕ) (tells to_tell : Bool) (m0 m1 : Moment) (status : ℕ) : Type 0 where
+pub record AsmTold (at : ℕ) (tells to_tell : Bool) (m0 m1 : CommandAt) (status : ℕ) : Type 0 where
   pub told : Told tells to_tell asm_lines m0 m1 status (asm_all at) anything
   pub faults : TellsFaults m0 m1 status
   pub complete : IsTrue tells → (asm_of at m0).status ≡ 0 → IsFaultless m0 m1

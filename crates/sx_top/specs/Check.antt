@@ -1,7 +1,7 @@
 -- What the command `check` writes: a function of the head of the input, and of what a deployment's
 -- text means.
 use Rattle.std.specs.Prelude.{ℕ, List, [], ◌∷◌, ◌++◌, codes, Result, Ok, Err}
-use Rattle.sx_told.specs.Told.{Output, unread}
+use Rattle.sx_told.specs.Told.{Output, unread_output}
 use Rattle.sx_rules.specs.declared.section.Layout.{Layout}
 use Rattle.sx_stage.specs.declared.fault.Place.TheVariants.{Nowhere}
 use Rattle.sx_stage.specs.declared.fault.DeployFault.{DeployFault}
@@ -39,20 +39,21 @@ unfoldable pub fault_line : DeployFault → List ℕ
 fault_line f = line (codes "fault deployment " ++ fault_text f)
 
 -- status 1: a rule is broken
-abbrev pub refused : DeployFault → Output
-refused f = record { text = fault_line f; status = 1 }
+abbrev pub fault_output : DeployFault → Output
+fault_output f = record { text = fault_line f; status = 1 }
 
 -- what `check` writes of a deployment, or of its fault
-abbrev pub checked : Result Deployed DeployFault → Output
-checked (Ok d) = record { text = module_lines d.names.modules d.layouts ++ end_line; status = 0 }
-checked (Err f) = refused f
+abbrev pub check_output : Result Deployed DeployFault → Output
+check_output (Ok d) =
+    record { text = module_lines d.names.modules d.layouts ++ end_line; status = 0 }
+check_output (Err f) = fault_output f
 
 -- what `check` writes of an input's head
 abbrev pub check_head : Meaning → Head → Output
-check_head meaning (Found text more) = checked (meaning text)
-check_head meaning TooLong = refused (fault 1 Nowhere)
-check_head meaning NoMark = refused (fault 2 Nowhere)
-check_head meaning Unread = unread
+check_head meaning (Found text more) = check_output (meaning text)
+check_head meaning TooLong = fault_output (fault 1 Nowhere)
+check_head meaning NoMark = fault_output (fault 2 Nowhere)
+check_head meaning Unread = unread_output
 
 -- the command `check`
 abbrev pub check_all : Meaning → List Answer → Output

@@ -1,5 +1,6 @@
 -- The commands that words name, and the inputs that the commands take to their end.
-use Rattle.std.specs.Prelude.{ℕ, ◌≤◌, ◌==◌, if◌then◌else◌, List, [], ◌∷◌, codes, Option, Some, None, option_map, Result, Ok, Err}
+use Rattle.std.specs.Prelude.{ℕ, ◌≤◌, ◌==◌, if◌then◌else◌, List, [], ◌∷◌, codes, Option, Some, None}
+use Rattle.std.specs.Prelude.{option_map, Result, Ok, Err}
 use Rattle.std.specs.Str.{bytes_eq}
 use Rattle.sx_io.specs.Numbers.{number_of}
 use Rattle.sx_stage.specs.declared.fault.DeployFault.{DeployFault}
@@ -54,13 +55,13 @@ CarriesFew (Some (Asm at)) = Unit {0}
 CarriesFew (Some (Dis at)) = Unit {0}
 
 -- the text means a deployment
-abbrev pub IsAccepted : Result Deployed DeployFault → Type 0
-IsAccepted (Ok d) = Unit {0}
-IsAccepted (Err f) = ⊥
+abbrev pub IsAcceptedDeployment : Result Deployed DeployFault → Type 0
+IsAcceptedDeployment (Ok d) = Unit {0}
+IsAcceptedDeployment (Err f) = ⊥
 
 -- a deployment that keeps the rules stands before a line `%%`
 abbrev pub IsGoodHead : Meaning → Head → Type 0
-IsGoodHead meaning (Found text more) = IsAccepted (meaning text)
+IsGoodHead meaning (Found text more) = IsAcceptedDeployment (meaning text)
 IsGoodHead meaning TooLong = ⊥
 IsGoodHead meaning NoMark = ⊥
 IsGoodHead meaning Unread = ⊥

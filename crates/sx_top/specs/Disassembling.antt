@@ -6,7 +6,7 @@ use Rattle.std.specs.Prelude.{Option, Some, None, Result, Ok, Err}
 use Rattle.hex.specs.Hex.{decode_of}
 use Rattle.hex.specs.declared.error.FromHexError.{FromHexError}
 use Rattle.sx_io.specs.Reading.{Answer, Line, End, Long, Fault, Ended, Limit, always, longest, scan}
-use Rattle.sx_told.specs.Told.{Moment, Output, Told, out_of_memory, unread}
+use Rattle.sx_told.specs.Told.{CommandAt, Output, Told, out_of_memory, unread_output}
 use Rattle.sx_top.specs.Faults.{CameToItsEnd, IsFaultless, TellsFaults}
 use Rattle.sx_top.specs.Listing.{listing}
 use Rattle.sx_top.specs.Output.{line, end_line, fault_output}
@@ -25,10 +25,10 @@ most_code = 8192
 
 -- What the lines of an input write: bytes; or none, since the line with this number is the first
 -- that breaks the rule of lines, or since a read failed before.
-pub data Given : Type 0 where
-  Bytes : List ℕ → Given
-  BadLine : (number : ℕ) → Given
-  Unread : Given
+pub data HexInput : Type 0 where
+  Bytes : List ℕ → HexInput
+  BadLine : (number : ℕ) → HexInput
+  Unread : HexInput
 
 -- the bytes, if the text was hexadecimal
 abbrev pub decoded : Result (List ℕ) FromHexError → Option (List ℕ)
@@ -41,23 +41,24 @@ unfoldable pub line_bytes : ℕ → List ℕ → Option (List ℕ)
 line_bytes number text = if nat_lt most_lines number then None else decoded (decode_of text)
 
 -- these bytes stand before those that are given
-abbrev pub in_front : List ℕ → Given → Given
+abbrev pub in_front : List ℕ → HexInput → HexInput
 in_front bytes (Bytes more) = Bytes (bytes ++ more)
 in_front bytes (BadLine number) = BadLine number
 in_front bytes Unread = Unread
 
 -- what a line and those after it write
-abbrev pub on_line : ℕ → Option (List ℕ) → Given → Given
+abbrev pub on_line : ℕ → Option (List ℕ) → HexInput → HexInput
 on_line number None rest = BadLine number
 on_line number (Some bytes) rest = in_front bytes rest
 
 -- what the lines from the one with this number on write
-abbrev pub given : ℕ → List Answer → Given
-given number [] = Bytes []
-given number (End ∷ more) = Bytes []
-given number (Long ∷ more) = BadLine number
-given number (Fault ∷ more) = Unread
-given number (Line text ∷ more) = on_line number (line_bytes number text) (given (number + 1) more)
+abbrev pub hex_input : ℕ → List Answer → HexInput
+hex_input number [] = Bytes []
+hex_input number (End ∷ more) = Bytes []
+hex_input number (Long ∷ more) = BadLine number
+hex_input number (Fault ∷ more) = Unread
+hex_input number (Line text ∷ more) =
+    on_line number (line_bytes number text) (hex_input (number + 1) more)
 
 -- This many bytes can be listed from this address on: both are even, the bytes are few enough, and
 -- none lies above 0xFFFF.
@@ -84,14 +85,14 @@ dis_bytes at bytes =
     else unlisted
 
 -- what `dis` writes of what was read
-abbrev pub dis_given : ℕ → Given → Output
+abbrev pub dis_given : ℕ → HexInput → Output
 dis_given at (Bytes bytes) = dis_bytes at bytes
 dis_given at (BadLine number) = broken_line number
-dis_given at Unread = unread
+dis_given at Unread = unread_output
 
 -- the command `dis`
 abbrev pub dis_all : ℕ → List Answer → Output
-dis_all at answers = dis_given at (given 1 answers)
+dis_all at answers = dis_given at (hex_input 1 answers)
 
 -- memory runs out only where the bytes are listed: a fault is reported without memory
 abbrev pub RunsOutInListing : ℕ → ℕ → List Answer → Type 0
@@ -104,7 +105,7 @@ dis_input at input = dis_all at (scan dis_lines Ended [] input)
 -- What the command `dis` says of its streams at its start (m0) and at its end (m1). Status 0 says
 -- that the input was read to its end. Where no read and no write failed and memory sufficed, an
 -- input that is to be listed is listed, and the status of any input is the defined one.
-pub record DisTold (at : ℕ) (tells to_tell : Bool) (m0 m1 : Moment) (status : ℕ) : Type 0 where
+pub record DisTold (at : ℕ) (tells to_tell : Bool) (m0 m1 : CommandAt) (status : ℕ) : Type 0 where
   pub told : Told tells to_tell dis_lines m0 m1 status (dis_all at) (RunsOutInListing at status)
   pub faults : TellsFaults m0 m1 status
   pub read_all : status ≡ 0 → IsTrue tells → m1.source.rest ≡ []

@@ -1,24 +1,24 @@
 -- What commands say of reads and writes that fail, of their streams at the start (m0) and at the
 -- end (m1).
 use Rattle.std.specs.Prelude.{ℕ, ◌≡◌, ◌⊎◌, Bool, ◌++◌, IsTrue}
-use Rattle.sx_io.specs.Counts.{counted, Rose}
-use Rattle.sx_io.specs.Streams.{OneFault}
-use Rattle.sx_told.specs.Told.{Moment, Output, out_of_memory, read_failed, write_failed}
+use Rattle.sx_io.specs.Counts.{next_count, Rose}
+use Rattle.sx_io.specs.Streams.{OneReadFault}
+use Rattle.sx_told.specs.Told.{CommandAt, Output, out_of_memory, read_failed, write_failed}
 
 -- the status is 0 and all that is defined was written, or memory ran out
-abbrev pub CameToItsEnd : Bool → Moment → Moment → ℕ → Output → Type 0
+abbrev pub CameToItsEnd : Bool → CommandAt → CommandAt → ℕ → Output → Type 0
 CameToItsEnd to_tell m0 m1 status o =
     (status ≡ out_of_memory)
     ⊎ ((status ≡ 0) × (IsTrue to_tell → m1.sink.written ≡ m0.sink.written ++ o.text))
 
 -- no read and no write failed: neither count rose, nor stands at its last value
-abbrev pub IsFaultless : Moment → Moment → Type 0
+abbrev pub IsFaultless : CommandAt → CommandAt → Type 0
 IsFaultless m0 m1 =
     (Rose m0.source.faults m1.source.faults → ⊥) × (Rose m0.sink.faults m1.sink.faults → ⊥)
 
 -- A status tells of faults: 4 only of one read that failed, after which nothing was read; 5 exactly
 -- of one write that failed.
-pub record TellsFaults (m0 m1 : Moment) (status : ℕ) : Type 0 where
-  pub read : status ≡ read_failed → OneFault m0.source m1.source
-  pub write : status ≡ write_failed → m1.sink.faults ≡ counted m0.sink.faults
+pub record TellsFaults (m0 m1 : CommandAt) (status : ℕ) : Type 0 where
+  pub read : status ≡ read_failed → OneReadFault m0.source m1.source
+  pub write : status ≡ write_failed → m1.sink.faults ≡ next_count m0.sink.faults
   pub no_write : (status ≡ write_failed → ⊥) → m1.sink.faults ≡ m0.sink.faults

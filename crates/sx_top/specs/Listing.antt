@@ -1,5 +1,6 @@
 -- The listing of code.
-use Rattle.std.specs.Prelude.{ℕ, zero, suc, nat_lt, if◌then◌else◌, List, [], ◌++◌, length, take, drop, codes}
+use Rattle.std.specs.Prelude.{ℕ, zero, suc, nat_lt, if◌then◌else◌, List, [], ◌++◌, length, take}
+use Rattle.std.specs.Prelude.{drop, codes}
 use Rattle.hex.specs.Hex.{encode_lower}
 use Rattle.sx_asm.specs.Meaning.{further}
 use Rattle.sx_asm.specs.Shown.{listed}

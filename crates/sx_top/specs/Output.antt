@@ -19,8 +19,8 @@ unfoldable pub usage_line : List ℕ
 usage_line = line (codes "fault usage")
 
 -- status 2: the words are no command
-abbrev pub misused : Output
-misused = record { text = usage_line; status = 2 }
+abbrev pub misuse_output : Output
+misuse_output = record { text = usage_line; status = 2 }
 
 -- a fault: its words, the number of the rule that is broken, and the number of the first line that
 -- breaks it

@@ -1,8 +1,9 @@
 -- What the commands promise, each in one record that speaks of its streams at its start (m0) and at
 -- its end (m1).
-use Rattle.std.specs.Prelude.{ℕ, ◌+◌, ◌≤◌, ◌≡◌, Bool, List, [], ◌++◌, Option, Some, None, IsTrue, length}
+use Rattle.std.specs.Prelude.{ℕ, ◌+◌, ◌≤◌, ◌≡◌, Bool, List, [], ◌++◌, Option, Some, None, IsTrue}
+use Rattle.std.specs.Prelude.{length}
 use Rattle.sx_io.specs.Reading.{Answer, Ending, longest, scan}
-use Rattle.sx_told.specs.Told.{Ends, Moment, Told, out_of_memory}
+use Rattle.sx_told.specs.Told.{CommandEnds, CommandAt, Told, out_of_memory}
 use Rattle.sx_told.specs.Further.{HasEnd}
 use Rattle.sx_tag.specs.Mac.{Mac}
 use Rattle.sx_head.specs.Head.{Head, Found, TooLong, NoMark, Unread, head, head_lines}
@@ -13,7 +14,7 @@ use Rattle.sx_top.specs.Assembling.{AsmTold}
 use Rattle.sx_top.specs.Commands.{command_of, IsGoodHead}
 use Rattle.sx_top.specs.Disassembling.{DisTold}
 use Rattle.sx_top.specs.Faults.{CameToItsEnd, IsFaultless, TellsFaults}
-use Rattle.sx_top.specs.Output.{misused}
+use Rattle.sx_top.specs.Output.{misuse_output}
 use Rattle.sx_top.specs.Runs.{RunSays, input_of}
 use Rattle.sx_top.specs.Workload.{GenTold}
 
@@ -37,7 +38,7 @@ RunsOutBehindHead status answers = status ≡ out_of_memory → IsFound (head an
 
 -- The command `check`, whatever a deployment's text is said to mean. At most 4,096 bytes after the
 -- line `%%` are taken.
-pub record CheckTold (tells to_tell : Bool) (m0 m1 : Moment) (status : ℕ) : Type 0 where
+pub record CheckTold (tells to_tell : Bool) (m0 m1 : CommandAt) (status : ℕ) : Type 0 where
   pub told : (meaning : Meaning) → IsMeaning meaning
       → Told tells to_tell head_lines m0 m1 status (check_all meaning) (RunsOutBehindHead status)
   pub no_further : (bytes rest text : List ℕ) → IsTrue tells → m0.source.rest ≡ bytes ++ rest
@@ -49,17 +50,18 @@ pub record CheckTold (tells to_tell : Bool) (m0 m1 : Moment) (status : ℕ) : Ty
       → CameToItsEnd to_tell m0 m1 status (check_all meaning (input_of m0))
 
 -- Words that are no command: one line says so, and nothing is read.
-pub record MisusedTold (to_tell : Bool) (m0 m1 : Moment) (status : ℕ) : Type 0 where
-  pub ends : Ends to_tell m0.sink m1.sink status misused
+pub record MisusedTold (to_tell : Bool) (m0 m1 : CommandAt) (status : ℕ) : Type 0 where
+  pub ends : CommandEnds to_tell m0.sink m1.sink status misuse_output
   pub unread : m1.source ≡ m0.source
 
 -- The command `gen` for n samples. Nothing is read.
-pub record GenSays (mac : Mac) (n : ℕ) (to_tell : Bool) (m0 m1 : Moment) (status : ℕ) : Type 0 where
+pub record GenSays (mac : Mac) (n : ℕ) (to_tell : Bool) (m0 m1 : CommandAt) (status : ℕ) : Type
+    0 where
   pub told : GenTold mac n to_tell m0.sink m1.sink status
   pub unread : m1.source ≡ m0.source
 
 -- what a command promises
-abbrev pub CommandTold : Mac → Option Command → Bool → Bool → Moment → Moment → ℕ → Type 0
+abbrev pub CommandTold : Mac → Option Command → Bool → Bool → CommandAt → CommandAt → ℕ → Type 0
 CommandTold mac None tells to_tell m0 m1 status = MisusedTold to_tell m0 m1 status
 CommandTold mac (Some Run) tells to_tell m0 m1 status = RunSays mac tells to_tell m0 m1 status
 CommandTold mac (Some Check) tells to_tell m0 m1 status = CheckTold tells to_tell m0 m1 status
@@ -68,7 +70,8 @@ CommandTold mac (Some (Asm at)) tells to_tell m0 m1 status = AsmTold at tells to
 CommandTold mac (Some (Dis at)) tells to_tell m0 m1 status = DisTold at tells to_tell m0 m1 status
 
 -- The program: it does the command that the words name. Status 2 comes for other words alone.
-pub record ProgramTold (mac : Mac) (words : List (List ℕ)) (tells to_tell : Bool) (m0 m1 : Moment)
+pub record ProgramTold (mac : Mac) (words : List (List ℕ)) (tells to_tell : Bool)
+    (m0 m1 : CommandAt)
     (status : ℕ) : Type 0 where
   pub told : CommandTold mac (command_of words) tells to_tell m0 m1 status
   pub usage : status ≡ 2 → command_of words ≡ None

@@ -3,7 +3,7 @@
 use Rattle.std.specs.Prelude.{ℕ, List, [], ◌∷◌, ◌++◌, codes, decimal, flat_map, Result, Ok, Err}
 use Rattle.hex.specs.Hex.{encode_lower}
 use Rattle.sx_io.specs.Reading.{Answer}
-use Rattle.sx_told.specs.Told.{Output, behind, unread}
+use Rattle.sx_told.specs.Told.{Output, behind, unread_output}
 use Rattle.sx_tag.specs.Mac.{Mac}
 use Rattle.sx_stage.specs.declared.fault.Place.TheVariants.{Nowhere}
 use Rattle.sx_stage.specs.declared.fault.DeployFault.{DeployFault}
@@ -17,9 +17,9 @@ use Rattle.sx_world.specs.Setting.{Setting}
 use Rattle.sx_sched.specs.Lines.{Line}
 use Rattle.sx_world.specs.State.{World, Acted, switched_on}
 use Rattle.sx_world.specs.Accepted.{setting_of}
-use Rattle.sx_world.specs.Run.{acted, counted, run}
+use Rattle.sx_world.specs.Run.{after_line, line_counted, run}
 use Rattle.sx_top.specs.Output.{line, trace_line, end_line}
-use Rattle.sx_top.specs.Check.{Meaning, refused}
+use Rattle.sx_top.specs.Check.{Meaning, fault_output}
 use Rattle.sx_top.specs.Schedule.{Stop, AtEnd, Breaks, Schedule, schedule}
 use Rattle.sx_top.specs.Schedule as sched
 
@@ -47,22 +47,23 @@ broken_line rule number =
     line (codes "fault schedule S" ++ decimal rule ++ codes " " ++ decimal number)
 
 -- status 3: this line is the first that breaks a rule, and this is the first rule that it breaks
-abbrev pub broken : ℕ → ℕ → Output
-broken rule number = record { text = broken_line rule number; status = 3 }
+abbrev pub broken_output : ℕ → ℕ → Output
+broken_output rule number = record { text = broken_line rule number; status = 3 }
 
 -- the last line, and the status
-abbrev pub stopped : Stop → Output
-stopped AtEnd = record { text = end_line; status = 0 }
-stopped sched.Unread = unread
-stopped (Breaks rule number) = broken rule number
+abbrev pub stop_output : Stop → Output
+stop_output AtEnd = record { text = end_line; status = 0 }
+stop_output sched.Unread = unread_output
+stop_output (Breaks rule number) = broken_output rule number
 
 -- what a schedule writes: the items of the run of its lines, and how it ended
-abbrev pub written : NameLists → Setting → World → Schedule → Output
-written names set w x = behind (items_text names (run set w x.lines).items) (stopped x.stop)
+abbrev pub schedule_output : NameLists → Setting → World → Schedule → Output
+schedule_output names set w x =
+    behind (items_text names (run set w x.lines).items) (stop_output x.stop)
 
 -- what the next line does
-abbrev pub done : Setting → World → Line → Acted
-done set w line = acted set (counted w) line
+abbrev pub after_next : Setting → World → Line → Acted
+after_next set w line = after_line set (line_counted w) line
 
 -- a line's items, and what follows from the world that it leaves
 abbrev pub told_by : NameLists → Acted → (World → Output) → Output
@@ -70,7 +71,7 @@ told_by names a more = behind (items_text names a.items) (more a.world)
 
 -- what the schedule from the line with this number on writes
 unfoldable pub run_from : NameLists → Setting → World → ℕ → List Answer → Output
-run_from names set w number answers = written names set w (schedule names number answers)
+run_from names set w number answers = schedule_output names set w (schedule names number answers)
 
 -- what a schedule writes where all is switched on
 abbrev pub run_at_start : NameLists → Setting → List Answer → Output
@@ -88,14 +89,14 @@ run_deployed mac d texts more =
 -- the run of a deployment, or the rule that it breaks
 abbrev pub run_found : Mac → List (List ℕ) → Result Deployed DeployFault → List Answer → Output
 run_found mac texts (Ok d) more = run_deployed mac d texts more
-run_found mac texts (Err f) more = refused f
+run_found mac texts (Err f) more = fault_output f
 
 -- what `run` writes of an input's head
 abbrev pub run_head : Mac → Meaning → List (List ℕ) → Head → Output
 run_head mac meaning texts (Found text more) = run_found mac texts (meaning text) more
-run_head mac meaning texts TooLong = refused (fault 1 Nowhere)
-run_head mac meaning texts NoMark = refused (fault 2 Nowhere)
-run_head mac meaning texts Unread = unread
+run_head mac meaning texts TooLong = fault_output (fault 1 Nowhere)
+run_head mac meaning texts NoMark = fault_output (fault 2 Nowhere)
+run_head mac meaning texts Unread = unread_output
 
 -- the command `run`
 abbrev pub run_all : Mac → Meaning → List (List ℕ) → List Answer → Output

@@ -3,12 +3,12 @@ use Rattle.std.specs.Prelude.{ℕ, ◌≡◌, ◌⊎◌, Bool, List, [], Option,
 use Rattle.sx_io.specs.Reading.{Answer, Ended, scan}
 use Rattle.sx_io.specs.Next.{Ahead}
 use Rattle.sx_told.specs.Reads.{Reads}
-use Rattle.sx_told.specs.Told.{Moment, Told, Rest, out_of_memory}
+use Rattle.sx_told.specs.Told.{CommandAt, Told, Rest, out_of_memory}
 use Rattle.sx_told.specs.Further.{Streams}
 use Rattle.sx_tag.specs.Mac.{Mac}
 use Rattle.sx_head.specs.Head.{Head, Found, TooLong, NoMark, Unread, head, head_lines}
 use Rattle.sx_model.specs.Legal.{Legal, before}
-use Rattle.sx_model.specs.Consequences.{Tells}
+use Rattle.sx_model.specs.Consequences.{TellsReader}
 use Rattle.sx_deploy.specs.Deployment.{Deployed, IsRead}
 use Rattle.sx_world.specs.Accepted.{AreImages, setting_of}
 use Rattle.sx_top.specs.Check.{Meaning, IsMeaning}
@@ -34,7 +34,7 @@ Deploys None d = ⊥
 Deploys (Some text) d = IsRead text (Ok d)
 
 -- the answers of all lines of the input, as it stood at the start
-abbrev pub input_of : Moment → List Answer
+abbrev pub input_of : CommandAt → List Answer
 input_of m0 = scan head_lines Ended [] m0.source.rest
 
 -- There are images, each of which realizes its module of the deployment that was read, and what was
@@ -43,7 +43,8 @@ input_of m0 = scan head_lines Ended [] m0.source.rest
 -- that is forged, with what a reader may take from that (`tells_reader`), and no step of it but a
 -- module's own reads or changes its private section (`guarded`). An input that keeps the rules is
 -- run to its end (`complete`). That there is no head is reported without memory (`headed`).
-pub record RunsWith (mac : Mac) (tells to_tell : Bool) (m0 m1 : Moment) (status : ℕ) : Type 0 where
+pub record RunsWith (mac : Mac) (tells to_tell : Bool) (m0 m1 : CommandAt) (status : ℕ) : Type
+    0 where
   pub deployment : Option (List ℕ)
   pub texts : List (List ℕ)
   pub headed : deployment ≡ None → status ≡ out_of_memory → ⊥
@@ -56,14 +57,14 @@ pub record RunsWith (mac : Mac) (tells to_tell : Bool) (m0 m1 : Moment) (status 
   pub legal : (d : Deployed) → Deploys deployment d → (schedule : List Answer)
       → Legal d.app (before (items_of mac d texts schedule))
   pub tells_reader : (d : Deployed) → Deploys deployment d → (schedule : List Answer)
-      → Tells d.app (before (items_of mac d texts schedule))
+      → TellsReader d.app (before (items_of mac d texts schedule))
   pub guarded : (d : Deployed) → IsGuarded (setting_of mac d texts)
   pub complete : (meaning : Meaning) → IsMeaning meaning → IsTrue tells
       → IsGoodInput meaning (head (input_of m0)) → IsFaultless m0 m1
       → CameToItsEnd to_tell m0 m1 status (run_all mac meaning texts (input_of m0))
 
 -- memory ran out after a head and before the images were made, and nothing was written
-pub record Starved (tells : Bool) (m0 m1 : Moment) (status : ℕ) : Type 0 where
+pub record Starved (tells : Bool) (m0 m1 : CommandAt) (status : ℕ) : Type 0 where
   pub six : status ≡ out_of_memory
   pub sink : m1.sink ≡ m0.sink
   pub text : List ℕ
@@ -72,7 +73,8 @@ pub record Starved (tells : Bool) (m0 m1 : Moment) (status : ℕ) : Type 0 where
 
 -- The command `run`. Whatever the images are, its status is that of the input where no read and no
 -- write failed and memory sufficed; status 0 says that the input was read to its end.
-pub record RunSays (mac : Mac) (tells to_tell : Bool) (m0 m1 : Moment) (status : ℕ) : Type 0 where
+pub record RunSays (mac : Mac) (tells to_tell : Bool) (m0 m1 : CommandAt) (status : ℕ) : Type
+    0 where
   pub says : Starved tells m0 m1 status ⊎ RunsWith mac tells to_tell m0 m1 status
   pub faults : TellsFaults m0 m1 status
   pub read_all : status ≡ 0 → IsTrue tells → m1.source.rest ≡ []
@@ -81,7 +83,8 @@ pub record RunSays (mac : Mac) (tells to_tell : Bool) (m0 m1 : Moment) (status :
 
 -- What does the rest of the command after a head of this text: with these images, which realize its
 -- modules, it writes what is defined for what is to come.
-pub record RunsBehind (mac : Mac) (tells to_tell : Bool) (now : Ahead) (m1 m2 : Moment) (status : ℕ)
+pub record RunsBehind (mac : Mac) (tells to_tell : Bool) (now : Ahead) (m1 m2 : CommandAt)
+    (status : ℕ)
     (text : List ℕ) : Type 0 where
   pub texts : List (List ℕ)
   pub realize : (d : Deployed) → IsRead text (Ok d) → AreImages mac d texts
@@ -89,11 +92,11 @@ pub record RunsBehind (mac : Mac) (tells to_tell : Bool) (now : Ahead) (m1 m2 : 
       → Rest tells to_tell head_lines now m1 m2 status (run_found mac texts (meaning text))
 
 -- memory ran out before the images were made, and nothing was read or written
-pub record RanOut (m1 m2 : Moment) (status : ℕ) : Type 0 where
+pub record RanOut (m1 m2 : CommandAt) (status : ℕ) : Type 0 where
   pub six : status ≡ out_of_memory
   pub same : m2 ≡ m1
 
 -- the rest of the command, or that memory ran out before the images were made
-abbrev pub RunsOrRanOut : Mac → Bool → Bool → Ahead → Moment → Moment → ℕ → List ℕ → Type 0
+abbrev pub RunsOrRanOut : Mac → Bool → Bool → Ahead → CommandAt → CommandAt → ℕ → List ℕ → Type 0
 RunsOrRanOut mac tells to_tell now m1 m2 status text =
     RanOut m1 m2 status ⊎ RunsBehind mac tells to_tell now m1 m2 status text

@@ -3,7 +3,7 @@ use Rattle.std.specs.Prelude.{ℕ, ◌+◌, ◌≡◌, Bool, List, ◌∷◌, Re
 use Rattle.sx_io.specs.Streams.{SinkAt}
 use Rattle.sx_io.specs.Reading.{Answer}
 use Rattle.sx_io.specs.Reading as answer
-use Rattle.sx_told.specs.Told.{Output, Does}
+use Rattle.sx_told.specs.Told.{Output, DoesPart}
 use Rattle.sx_told.specs.declared.turned.Turned.{Turned}
 use Rattle.sx_told.specs.declared.turned.Turned.TheVariants.{On}
 use Rattle.sx_trace.specs.Names.{NameLists}
@@ -12,7 +12,7 @@ use Rattle.sx_world.specs.Setting.{Setting}
 use Rattle.sx_world.specs.State.{World}
 use Rattle.sx_world.specs.Held.{Held}
 use Rattle.sx_world.specs.Standing.{Stands}
-use Rattle.sx_top.specs.Run.{done, told_by, run_from}
+use Rattle.sx_top.specs.Run.{after_next, told_by, run_from}
 
 -- Memory may run out at a line that breaks no rule, or only rule 8: its text is assembled before
 -- that is judged. Any other broken rule is found without memory.
@@ -23,27 +23,29 @@ MayRunOut (Err rule) = rule ≡ 8
 -- whatever world it stood at, it stands at the next one
 abbrev pub Advances : Setting → Line → Held → Held → Type 0
 Advances set line held left =
-    (w : World) → Stands set held w → Stands set left (done set w line).world
+    (w : World) → Stands set held w → Stands set left (after_next set w line).world
 
 -- the line's items were written, and what is defined for the next world is left; or the command
 -- ended
 abbrev pub TellsLine : Bool → SinkAt → SinkAt → NameLists → Setting → Line → Held → Turned → Type 0
 TellsLine to_tell k0 k1 names set line held turned =
     (w : World) → Stands set held w → (left : World → List Answer → Output)
-    → Does to_tell k0 k1 (λ more. told_by names (done set w line) (λ v. left v more)) turned
-    (left (done set w line).world)
+    → DoesPart to_tell k0 k1 (λ more. told_by names (after_next set w line) (λ v. left v more))
+    turned
+    (left (after_next set w line).world)
 
 -- The line with this number was performed in the world w and its items were written, or the command
 -- ended.
-pub record Turns (to_tell : Bool) (k0 k1 : SinkAt) (names : NameLists) (set : Setting) (left : Held)
+pub record TurnsLine (to_tell : Bool) (k0 k1 : SinkAt) (names : NameLists) (set : Setting)
+    (left : Held)
     (number : ℕ) (text : List ℕ) (turned : Turned) (w : World) : Type 0 where
   pub next : World
   pub stands : turned ≡ On → Stands set left next
-  pub does : Does to_tell k0 k1 (λ more. run_from names set w number (answer.Line text ∷ more))
+  pub does : DoesPart to_tell k0 k1 (λ more. run_from names set w number (answer.Line text ∷ more))
       turned (run_from names set next (number + 1))
 
 -- whatever world it stood at
 abbrev pub TurnsFrom : Bool → SinkAt → SinkAt → NameLists → Setting → Held → Held → ℕ → List ℕ
     → Turned → Type 0
 TurnsFrom to_tell k0 k1 names set held left number text turned =
-    (w : World) → Stands set held w → Turns to_tell k0 k1 names set left number text turned w
+    (w : World) → Stands set held w → TurnsLine to_tell k0 k1 names set left number text turned w

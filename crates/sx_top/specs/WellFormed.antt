@@ -7,7 +7,7 @@ use Rattle.sx_head.specs.Head.{Head, Found, TooLong, NoMark, Unread, head}
 use Rattle.sx_trace.specs.Names.{NameLists}
 use Rattle.sx_deploy.specs.Deployment.{Deployed}
 use Rattle.sx_top.specs.Check.{Meaning}
-use Rattle.sx_top.specs.Schedule.{Stop, AtEnd, Breaks, judged, schedule}
+use Rattle.sx_top.specs.Schedule.{Stop, AtEnd, Breaks, judged_line, schedule}
 use Rattle.sx_top.specs.Schedule as sched
 
 -- each line from this number on, up to the end of the input, keeps the rules
@@ -17,7 +17,7 @@ IsWellFormed names number (End ∷ more) = Unit {0}
 IsWellFormed names number (Long ∷ more) = ⊥
 IsWellFormed names number (Fault ∷ more) = ⊥
 IsWellFormed names number (Line text ∷ more) =
-    IsOk (judged names number text) × IsWellFormed names (number + 1) more
+    IsOk (judged_line names number text) × IsWellFormed names (number + 1) more
 
 -- a deployment that keeps the rules, and a schedule that does
 abbrev pub IsGoodRun : Result Deployed DeployFault → List Answer → Type 0

@@ -3,7 +3,8 @@ use Rattle.std.specs.Prelude.{ℕ, zero, suc, ◌+◌, ◌≡◌, ◌⊎◌, Boo
 use Rattle.sx_io.specs.Counts as count
 use Rattle.sx_io.specs.Reading.{Answer, Line, End}
 use Rattle.sx_io.specs.Streams.{SinkAt}
-use Rattle.sx_told.specs.Told.{Output, Ends, behind, out_of_memory, unread, write_failed}
+use Rattle.sx_told.specs.Told.{Output, CommandEnds, behind, out_of_memory, unread_output}
+use Rattle.sx_told.specs.Told.{write_failed}
 use Rattle.sx_tag.specs.Mac.{Mac}
 use Rattle.sx_stage.specs.declared.fault.DeployFault.{DeployFault}
 use Rattle.sx_trace.specs.Names.{NameLists}
@@ -13,9 +14,9 @@ use Rattle.sx_world.specs.State.{Acted, switched_on}
 use Rattle.sx_world.specs.Accepted.{AreImages, setting_of}
 use Rattle.sx_world.specs.Run.{run}
 use Rattle.sx_bulk.specs.Bulk as bulk
-use Rattle.sx_top.specs.Check.{Meaning, IsMeaning, refused}
+use Rattle.sx_top.specs.Check.{Meaning, IsMeaning, fault_output}
 use Rattle.sx_top.specs.Counts.{counts, summary}
-use Rattle.sx_top.specs.Run.{broken, images_text}
+use Rattle.sx_top.specs.Run.{broken_output, images_text}
 use Rattle.sx_top.specs.Schedule.{Stop, AtEnd, Breaks, schedule}
 use Rattle.sx_top.specs.Schedule as sched
 use Rattle.sx_top.specs.WellFormed.{found_status}
@@ -33,8 +34,8 @@ workload n = answers_from (bulk.lines n) 0
 abbrev pub told_at : ℕ → Acted → Stop → Output
 told_at n a AtEnd =
     record { text = summary (bulk.lines n) (counts a.items) a.world.steps; status = 0 }
-told_at n a sched.Unread = unread
-told_at n a (Breaks rule number) = broken rule number
+told_at n a sched.Unread = unread_output
+told_at n a (Breaks rule number) = broken_output rule number
 
 -- the workload's run where all is switched on
 unfoldable pub gen_run : ℕ → NameLists → Setting → Output
@@ -50,7 +51,7 @@ gen_deployed mac texts n d =
 -- what `gen` writes of its deployment
 abbrev pub gen_found : Mac → List (List ℕ) → ℕ → Result Deployed DeployFault → Output
 gen_found mac texts n (Ok d) = gen_deployed mac texts n d
-gen_found mac texts n (Err f) = refused f
+gen_found mac texts n (Err f) = fault_output f
 
 -- the command `gen`
 abbrev pub gen_all : Mac → Meaning → List (List ℕ) → ℕ → Output
@@ -66,7 +67,7 @@ pub record GenWith (mac : Mac) (n : ℕ) (to_tell : Bool) (k0 k1 : SinkAt) (stat
   pub texts : List (List ℕ)
   pub realize : (d : Deployed) → IsRead bulk.head (Ok d) → AreImages mac d texts
   pub ends : (meaning : Meaning) → IsMeaning meaning
-      → Ends to_tell k0 k1 status (gen_all mac meaning texts n)
+      → CommandEnds to_tell k0 k1 status (gen_all mac meaning texts n)
 
 -- the command `gen` wrote what is defined, or memory ran out before the images were made
 abbrev pub GenWrote : Mac → ℕ → Bool → SinkAt → SinkAt → ℕ → Type 0
@@ -81,5 +82,5 @@ pub record GenTold (mac : Mac) (n : ℕ) (to_tell : Bool) (k0 k1 : SinkAt) (stat
   pub exact : (meaning : Meaning) → IsMeaning meaning → (count.Rose k0.faults k1.faults → ⊥)
       → (status ≡ out_of_memory) ⊎ (status ≡ found_status (meaning bulk.head) (workload n))
   pub good : (count.Rose k0.faults k1.faults → ⊥) → (status ≡ out_of_memory) ⊎ (status ≡ 0)
-  pub write : status ≡ write_failed → k1.faults ≡ count.counted k0.faults
+  pub write : status ≡ write_failed → k1.faults ≡ count.next_count k0.faults
   pub no_write : (status ≡ write_failed → ⊥) → k1.faults ≡ k0.faults

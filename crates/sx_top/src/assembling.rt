@@ -1,11 +1,13 @@
 //! The command `asm`: it reads a text, and lists its code or says which rule it breaks.
 
-ghost use Rattle.std.specs.Prelude.{◌≡◌, ◌+◌, ◌≤◌, ◌==◌, if◌then◌else◌, length, nat_lt, false, OnOk};
-ghost use Rattle.sx_told.specs.Told.{Ends, Told, moment};
+ghost use Rattle.std.specs.Prelude.{◌≡◌, ◌+◌, ◌≤◌, ◌==◌, if◌then◌else◌, length, nat_lt, false};
+ghost use Rattle.std.specs.Prelude.{OnOk};
+ghost use Rattle.sx_told.specs.Told.{CommandEnds, Told, command_at};
 ghost use Rattle.sx_told.specs.Reads.{anything};
-ghost use Rattle.sx_asm.specs.Assembled.{Answers};
-ghost use Rattle.sx_top.specs.Assembling.{AsmTold, asm_all, asm_lines, broken_at, code_at, most_bytes, told_code, with_line};
-ghost use Rattle.sx_top.specs.Gathering.{Gathers, seen};
+ghost use Rattle.sx_asm.specs.Assembled.{AnswersMeant};
+ghost use Rattle.sx_top.specs.Assembling.{AsmTold, asm_all, asm_lines, broken_at, code_at};
+ghost use Rattle.sx_top.specs.Assembling.{most_bytes, told_code, with_line};
+ghost use Rattle.sx_top.specs.Gathering.{Gathers, gathered_bytes};
 
 use crate::fault::finish_fault;
 use crate::listing::list;
@@ -59,7 +61,8 @@ fn passes(count: usize, line: &[u8]) -> bool
 
 /// Appends a line, unless one that breaks rule 1 has come.
 fn add_line(gathered: &mut GatheredText, number: u32, line: &[u8]) -> Result<(), AllocError>
-    ensures { OnOk result (seen gathered.new ≡ with_line number line.now (seen gathered.old)) }
+    ensures { OnOk result (gathered_bytes gathered.new
+        ≡ with_line number line.now (gathered_bytes gathered.old)) }
 {
     if gathered.bad.is_some() {
         return Ok(());
@@ -79,7 +82,7 @@ fn add_line(gathered: &mut GatheredText, number: u32, line: &[u8]) -> Result<(),
 
 /// A line breaks rule 1, unless one before it does.
 fn break_at(gathered: GatheredText, number: u32) -> GatheredText
-    ensures { seen result ≡ broken_at number (seen gathered) }
+    ensures { gathered_bytes result ≡ broken_at number (gathered_bytes gathered) }
 {
     GatheredText {
         text: gathered.text,
@@ -126,7 +129,7 @@ fn first_bad(bad: u32, rule: u8, line: u32) -> u32
 
 /// The code of what was read, or the first rule that it breaks.
 fn code_at(alloc: Global, at: u16, gathered: &GatheredText) -> Result<Vec<u8>, AsmError>
-    ensures { Answers (λ code. code.items) (code_at at (seen gathered.now)) result }
+    ensures { AnswersMeant (λ code. code.items) (code_at at (gathered_bytes gathered.now)) result }
 {
     let code = assemble(alloc, at, gathered.text.as_str());
     let Some(bad) = gathered.bad else {
@@ -144,8 +147,8 @@ fn code_at(alloc: Global, at: u16, gathered: &GatheredText) -> Result<Vec<u8>, A
 
 /// Lists the code of what was read, or writes which rule it breaks.
 fn judge<K: Sink>(alloc: Global, at: u16, gathered: &GatheredText, output: &mut K) -> u8
-    ensures { Ends K.tells (K.at output.old) (K.at output.new) result
-        (told_code at (code_at at (seen gathered.now))) }
+    ensures { CommandEnds K.tells (K.at output.old) (K.at output.new) result
+        (told_code at (code_at at (gathered_bytes gathered.now))) }
 {
     match code_at(alloc, at, gathered) {
         Ok(code) => list(output, at, &code),
@@ -159,7 +162,8 @@ fn judge<K: Sink>(alloc: Global, at: u16, gathered: &GatheredText, output: &mut 
 /// What the command `asm` writes is that of the text that it read.
 fn asm_told<S: Source, K: Sink>(alloc: Global, at: u16, input: &mut S, output: &mut K) -> u8
     ensures { Told S.tells K.tells asm_lines
-        (moment (S.at input.old) (K.at output.old)) (moment (S.at input.new) (K.at output.new))
+        (command_at (S.at input.old) (K.at output.old))
+        (command_at (S.at input.new) (K.at output.new))
         result (asm_all at) anything }
 {
     match gather(alloc, input) {
@@ -180,7 +184,8 @@ pub(crate) fn asm_over<S: Source, K: Sink>(
     output: &mut K,
 ) -> u8
     ensures { AsmTold at S.tells K.tells
-        (moment (S.at input.old) (K.at output.old)) (moment (S.at input.new) (K.at output.new))
+        (command_at (S.at input.old) (K.at output.old))
+        (command_at (S.at input.new) (K.at output.new))
         result }
 {
     asm_told(alloc, at, input, output)

@@ -2,11 +2,12 @@
 //! breaks.
 
 ghost use Rattle.std.specs.Prelude.{◌≡◌, ◌++◌, IfOk, OnOk, Ok};
-ghost use Rattle.sx_told.specs.Told.{Told, Ends, moment};
+ghost use Rattle.sx_told.specs.Told.{Told, CommandEnds, command_at};
 ghost use Rattle.sx_head.specs.Head.{head_lines};
 ghost use Rattle.sx_deploy.specs.SeenDeployment.{deployed_as};
 ghost use Rattle.sx_top.specs.Output.{end_line};
-ghost use Rattle.sx_top.specs.Check.{Meaning, IsMeaning, module_line, module_lines, checked, check_all};
+ghost use Rattle.sx_top.specs.Check.{Meaning, IsMeaning, module_line, module_lines, check_output};
+ghost use Rattle.sx_top.specs.Check.{check_all};
 ghost use Rattle.sx_top.specs.Promises.{CheckTold, RunsOutBehindHead};
 
 use crate::address::address;
@@ -64,8 +65,8 @@ fn accepted(alloc: Global, deployment: &Deployment) -> Result<Vec<u8>, AllocErro
 
 /// Writes where the modules stand.
 fn accept<K: Sink>(alloc: Global, deployment: &Deployment, output: &mut K) -> u8
-    ensures { Ends K.tells (K.at output.old) (K.at output.new) result
-        (checked (Ok (deployed_as deployment.now))) }
+    ensures { CommandEnds K.tells (K.at output.old) (K.at output.new) result
+        (check_output (Ok (deployed_as deployment.now))) }
 {
     match accepted(alloc, deployment) {
         Ok(text) => finish(output, &text, 0),
@@ -76,7 +77,8 @@ fn accept<K: Sink>(alloc: Global, deployment: &Deployment, output: &mut K) -> u8
 /// Writes what is said of a deployment's text.
 fn judge<K: Sink>(alloc: Global, text: &[u8], output: &mut K) -> u8
     ensures { (meaning : Meaning) → IsMeaning meaning
-        → Ends K.tells (K.at output.old) (K.at output.new) result (checked (meaning text.now)) }
+        → CommandEnds K.tells (K.at output.old) (K.at output.new) result
+        (check_output (meaning text.now)) }
 {
     match read_deployment(alloc, text) {
         Ok(deployment) => accept(alloc, &deployment, output),
@@ -89,8 +91,8 @@ fn judge<K: Sink>(alloc: Global, text: &[u8], output: &mut K) -> u8
 /// takes no memory.
 fn check_told<S: Source, K: Sink>(alloc: Global, input: &mut S, output: &mut K) -> u8
     ensures { (meaning : Meaning) → IsMeaning meaning
-        → Told S.tells K.tells head_lines (moment (S.at input.old) (K.at output.old))
-        (moment (S.at input.new) (K.at output.new)) result (check_all meaning)
+        → Told S.tells K.tells head_lines (command_at (S.at input.old) (K.at output.old))
+        (command_at (S.at input.new) (K.at output.new)) result (check_all meaning)
         (RunsOutBehindHead result) }
 {
     let mut lines = Lines::new();
@@ -103,8 +105,8 @@ fn check_told<S: Source, K: Sink>(alloc: Global, input: &mut S, output: &mut K) 
 /// The command `check`: a deployment, and the line `%%`. Gives the exit status, as `top` does for
 /// this command. What follows that line isn't judged, and at most 4,096 bytes of it are read.
 pub fn check_over<S: Source, K: Sink>(alloc: Global, input: &mut S, output: &mut K) -> u8
-    ensures { CheckTold S.tells K.tells (moment (S.at input.old) (K.at output.old))
-        (moment (S.at input.new) (K.at output.new)) result }
+    ensures { CheckTold S.tells K.tells (command_at (S.at input.old) (K.at output.old))
+        (command_at (S.at input.new) (K.at output.new)) result }
 {
     check_told(alloc, input, output)
 }

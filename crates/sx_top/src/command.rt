@@ -1,7 +1,7 @@
 //! The call that does all that the program does.
 
 ghost use Rattle.std.specs.Prelude.{◌≡◌, map, string_bytes};
-ghost use Rattle.sx_told.specs.Told.{moment};
+ghost use Rattle.sx_told.specs.Told.{command_at};
 ghost use Rattle.sx_tag.specs.Mac.{hmac_sha256};
 ghost use Rattle.sx_top.specs.Commands.{command_of};
 ghost use Rattle.sx_top.specs.Promises.{LeavesInput, ProgramTold};
@@ -49,8 +49,8 @@ pub fn top<S: Source, K: Sink>(alloc: Global, words: &[String], input: &mut S, o
     // What is written, and the status, are what is defined for the words and for the bytes that
     // were taken, and no more was taken than must be.
     ensures told { ProgramTold hmac_sha256 (map string_bytes words.now) S.tells K.tells
-        (moment (S.at input.old) (K.at output.old))
-        (moment (S.at input.new) (K.at output.new)) result }
+        (command_at (S.at input.old) (K.at output.old))
+        (command_at (S.at input.new) (K.at output.new)) result }
     // `gen`, and words that are no command, read nothing.
     ensures unread { LeavesInput (command_of (map string_bytes words.now))
         → input.new ≡ input.old }

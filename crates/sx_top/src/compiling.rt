@@ -4,7 +4,7 @@ ghost use Rattle.std.specs.Prelude.{◌≡◌, ◌<◌, ◌≤◌, IfOk, OnOk, l
 ghost use Rattle.sx_lower.specs.Lowering.{SendFew};
 ghost use Rattle.sx_check.specs.Source.{source_tree};
 ghost use Rattle.sx_mean.specs.Ends.{ends_of, senders};
-ghost use Rattle.sx_deploy.specs.Law.{IsSound};
+ghost use Rattle.sx_deploy.specs.Law.{IsSoundDeployment};
 ghost use Rattle.sx_deploy.specs.SeenDeployment.{deployed_as};
 ghost use Rattle.sx_image.specs.Image.{plain};
 ghost use Rattle.sx_compile.specs.Compiled.{HasSections};
@@ -21,7 +21,7 @@ use sx_tag::Tag;
 
 /// What the compiler asks of a module holds of one of an accepted deployment.
 fn can_be_compiled(plan: &Deployment, number: u8, part: &Part, ends: &[End], layout: &Layout)
-    requires sound { IsSound (deployed_as plan.now) }
+    requires sound { IsSoundDeployment (deployed_as plan.now) }
     requires part { slice_get plan.now.app.parts.items number ≡ Some part.now }
     requires layout { slice_get plan.now.layouts.items number ≡ Some layout.now }
     requires ends { ends.now ≡ ends_of (deployed_as plan.now).app number }
@@ -38,7 +38,7 @@ fn compile_part<T: Tag>(
     plan: &Deployment,
     number: u8,
 ) -> Result<Image, AllocError>
-    requires sound { IsSound (deployed_as plan.now) }
+    requires sound { IsSoundDeployment (deployed_as plan.now) }
     requires within { number < length plan.now.app.parts.items }
     ensures { IfOk result (λ image. BuiltAt T.mac (deployed_as plan.now) number (plain image)) }
 {
@@ -56,7 +56,7 @@ pub(crate) fn compile_all<T: Tag>(
     tag: &T,
     plan: &Deployment,
 ) -> Result<Vec<Image>, AllocError>
-    requires { IsSound (deployed_as plan.now) }
+    requires { IsSoundDeployment (deployed_as plan.now) }
     ensures all { IfOk result (λ images. length images.items ≡ length plan.now.app.parts.items) }
     ensures built { IfOk result (λ images.
         AreBuilt T.mac (deployed_as plan.now) (map plain images.items)) }

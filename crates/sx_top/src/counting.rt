@@ -8,10 +8,10 @@ ghost use Rattle.sx_deploy.specs.SeenDeployment.{deployed_as};
 ghost use Rattle.sx_deploy.specs.Law as deployment;
 ghost use Rattle.sx_world.specs.Continued.{Acts};
 ghost use Rattle.sx_world.specs.InMemory.{world_setting};
-ghost use Rattle.sx_world.specs.Law.{IsSound};
+ghost use Rattle.sx_world.specs.Law.{IsSoundSetting};
 ghost use Rattle.sx_world.specs.Standing.{IsGoing, Stands};
 ghost use Rattle.sx_world.specs.State.{switched_on};
-ghost use Rattle.sx_top.specs.Counting.{ActsFrom, EndsAs, StopsAt};
+ghost use Rattle.sx_top.specs.Counting.{ActsFrom, EndsAs, LineStopsAt};
 
 use crate::counts::Counts;
 use crate::judging::judge;
@@ -38,8 +38,8 @@ fn act<B: Bus, T: Tag>(
     line: &Line,
     items: &mut Vec<Item>,
 ) -> Result<(), Stopped>
-    requires sound { deployment.IsSound (deployed_as plan.now) }
-    requires images { IsSound (world_setting T.mac plan.now world.old) }
+    requires sound { deployment.IsSoundDeployment (deployed_as plan.now) }
+    requires images { IsSoundSetting (world_setting T.mac plan.now world.old) }
     requires going { IsGoing (world_setting T.mac plan.now world.old) world.old }
     requires form { IsLine (deployed_as plan.now).names (line_of line.now) }
     requires few { world.old.lines < 65536 }
@@ -65,15 +65,15 @@ fn turn<B: Bus, T: Tag>(
     number: u32,
     items: &mut Vec<Item>,
 ) -> Result<(), Stopped>
-    requires sound { deployment.IsSound (deployed_as plan.now) }
-    requires images { IsSound (world_setting T.mac plan.now world.old) }
+    requires sound { deployment.IsSoundDeployment (deployed_as plan.now) }
+    requires images { IsSoundSetting (world_setting T.mac plan.now world.old) }
     requires going { IsGoing (world_setting T.mac plan.now world.old) world.old }
     requires names { IsTrue (are_valid (deployed_as plan.now).names) }
     requires counted { world.old.lines + 1 ≡ number }
     ensures acts { OnOk result (ActsFrom (deployed_as plan.now).names
         (world_setting T.mac plan.now world.old) world.old world.new number said.now
         items.new.items) }
-    ensures stops { IfErr result (λ e. StopsAt (deployed_as plan.now).names number said.now e) }
+    ensures stops { IfErr result (λ e. LineStopsAt (deployed_as plan.now).names number said.now e) }
     ensures sites { world.new.sites ≡ world.old.sites }
     ensures counts { OnOk result (world.new.lines ≡ number) }
 {
@@ -93,8 +93,8 @@ pub(crate) fn run_workload<B: Bus, T: Tag>(
     world: &mut World<B, T>,
 ) -> Result<Counts, Stopped>
     requires few { samples ≤ MOST_SAMPLES }
-    requires sound { deployment.IsSound (deployed_as plan.now) }
-    requires images { IsSound (world_setting T.mac plan.now world.old) }
+    requires sound { deployment.IsSoundDeployment (deployed_as plan.now) }
+    requires images { IsSoundSetting (world_setting T.mac plan.now world.old) }
     requires names { IsTrue (are_valid (deployed_as plan.now).names) }
     requires new { world.old.lines ≡ 0 }
     requires stands { Stands (world_setting T.mac plan.now world.old) world.old

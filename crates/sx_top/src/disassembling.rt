@@ -3,9 +3,9 @@
 ghost use Rattle.std.specs.Prelude.{◌≡◌, ◌+◌, ◌/◌, ◌%◌, ◌≤◌, ℕ, List, [], length};
 ghost use Rattle.std.specs.Prelude.{true, false, IsTrue, MatchOption};
 ghost use Rattle.hex.specs.Hex.{decode_of};
-ghost use Rattle.sx_told.specs.Told.{Ends, moment, out_of_memory};
+ghost use Rattle.sx_told.specs.Told.{CommandEnds, command_at, out_of_memory};
 ghost use Rattle.sx_top.specs.Disassembling.{decoded, line_bytes, is_listed, dis_bytes, DisTold};
-ghost use Rattle.sx_top.specs.Kept.{Keeps, KeepsMore, CodeRead};
+ghost use Rattle.sx_top.specs.Kept.{KeepsBytes, KeepsMore, CodeRead};
 
 use crate::fault::finish_fault;
 use crate::listing::list;
@@ -44,7 +44,7 @@ struct Code {
 
 impl Code {
     fn new() -> Code
-        ensures { Keeps result [] }
+        ensures { KeepsBytes result [] }
     {
         Code {
             kept: ArrayVec::new(),
@@ -67,7 +67,7 @@ impl Code {
 
     /// Whether all bytes that have come can be listed from this address on.
     fn is_listed(&self, at: u16) -> bool
-        ensures listed { (bytes : List ℕ) → Keeps self.now bytes
+        ensures listed { (bytes : List ℕ) → KeepsBytes self.now bytes
             → result ≡ is_listed at (length bytes) }
         ensures all { IsTrue result → self.now.is_over ≡ false }
         ensures even { IsTrue result → length self.now.kept.items % 2 ≡ 0 }
@@ -112,7 +112,7 @@ fn take_line(code: &mut Code, number: u32, text: &[u8]) -> bool
 
 /// Reads all lines, or those up to the first that breaks the rule of lines, and keeps their bytes.
 fn read_code<S: Source>(input: &mut S, code: &mut Code) -> Reading
-    requires { Keeps code.old [] }
+    requires { KeepsBytes code.old [] }
     ensures { CodeRead S.tells (S.at input.old) (S.at input.new) code.new result }
 {
     let mut lines = Lines::new();
@@ -146,9 +146,9 @@ fn is_listed(at: u16, count: usize) -> bool
 /// Writes the listing of all bytes that have come, or that they can't be listed.
 #[tactic(auto, unfolding(crate::specs::Disassembling::unlisted_line))]
 fn tell<K: Sink>(at: u16, code: &Code, output: &mut K) -> u8
-    ensures told { (bytes : List ℕ) → Keeps code.now bytes
-        → Ends K.tells (K.at output.old) (K.at output.new) result (dis_bytes at bytes) }
-    ensures memory { (bytes : List ℕ) → Keeps code.now bytes
+    ensures told { (bytes : List ℕ) → KeepsBytes code.now bytes
+        → CommandEnds K.tells (K.at output.old) (K.at output.new) result (dis_bytes at bytes) }
+    ensures memory { (bytes : List ℕ) → KeepsBytes code.now bytes
         → result ≡ out_of_memory → is_listed at (length bytes) ≡ true }
 {
     if !code.is_listed(at) {
@@ -162,7 +162,8 @@ fn tell<K: Sink>(at: u16, code: &Code, output: &mut K) -> u8
 /// input breaks. Gives the exit status. It takes no memory for what it reads.
 pub(crate) fn dis_over<S: Source, K: Sink>(at: u16, input: &mut S, output: &mut K) -> u8
     ensures { DisTold at S.tells K.tells
-        (moment (S.at input.old) (K.at output.old)) (moment (S.at input.new) (K.at output.new))
+        (command_at (S.at input.old) (K.at output.old))
+        (command_at (S.at input.new) (K.at output.new))
         result }
 {
     let mut code = Code::new();

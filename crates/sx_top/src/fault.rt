@@ -1,7 +1,7 @@
 //! The last line of a command that names a rule and the line that breaks it.
 
 ghost use Rattle.std.specs.Prelude.{◌≡◌, ◌∷◌, [], ◌++◌, codes, decimal};
-ghost use Rattle.sx_told.specs.Told.{Ends, write_failed};
+ghost use Rattle.sx_told.specs.Told.{CommandEnds, write_failed};
 ghost use Rattle.sx_top.specs.Output.{fault_output};
 
 use crate::text::{Text, put};
@@ -32,7 +32,7 @@ pub(crate) fn finish_fault<K: Sink>(
     status: u8,
 ) -> u8
     requires { status ≡ write_failed → ⊥ }
-    ensures ends { Ends K.tells (K.at output.old) (K.at output.new) result
+    ensures ends { CommandEnds K.tells (K.at output.old) (K.at output.new) result
         (fault_output words.now rule number status) }
     ensures status { (result ≡ write_failed → ⊥) → result ≡ status }
 {

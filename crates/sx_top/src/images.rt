@@ -2,7 +2,7 @@
 
 ghost use Rattle.std.specs.Prelude.{◌≡◌, ◌++◌, IfOk, OnOk, List};
 ghost use Rattle.sx_io.specs.Reading.{Answer};
-ghost use Rattle.sx_told.specs.Told.{Output, Does, behind};
+ghost use Rattle.sx_told.specs.Told.{Output, DoesPart, behind};
 ghost use Rattle.sx_world.specs.InMemory.{texts_of};
 ghost use Rattle.sx_top.specs.Output.{trace_line};
 ghost use Rattle.sx_top.specs.Run.{image_line, images_text};
@@ -69,7 +69,7 @@ pub(crate) fn put_images<K: Sink>(
     images: &[Image],
     output: &mut K,
 ) -> Turned
-    ensures { (left : List Answer → Output) → Does K.tells (K.at output.old) (K.at output.new)
+    ensures { (left : List Answer → Output) → DoesPart K.tells (K.at output.old) (K.at output.new)
         (λ more. behind (images_text names.now.modules (texts_of images.now) ++ trace_line)
         (left more)) result left }
 {

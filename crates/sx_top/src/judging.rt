@@ -3,9 +3,9 @@
 ghost use Rattle.std.specs.Prelude.{◌≡◌, ◌≢◌, ℕ, ◌≤◌, Err, Ok, IfOk, OnOk, IsTrue};
 ghost use Rattle.sx_trace.specs.Names.{are_valid};
 ghost use Rattle.sx_sched.specs.Lines.{line_of, IsLine};
-ghost use Rattle.sx_told.specs.Told.{Ends, out_of_memory};
-ghost use Rattle.sx_top.specs.Run.{broken};
-ghost use Rattle.sx_top.specs.Schedule.{judged};
+ghost use Rattle.sx_told.specs.Told.{CommandEnds, out_of_memory};
+ghost use Rattle.sx_top.specs.Run.{broken_output};
+ghost use Rattle.sx_top.specs.Schedule.{judged_line};
 ghost use Rattle.sx_top.specs.Turns.{MayRunOut};
 
 use crate::fault::finish_fault;
@@ -27,7 +27,7 @@ pub(crate) const TOO_LONG: u8 = 1;
 const TOO_MANY: u8 = 2;
 
 /// The line of this number, counted from 1, or the first rule that it breaks.
-#[tactic(auto, unfolding(crate::specs::Schedule::judged))]
+#[tactic(auto, unfolding(crate::specs::Schedule::judged_line))]
 pub(crate) fn judge(
     alloc: Global,
     names: &Names,
@@ -35,13 +35,13 @@ pub(crate) fn judge(
     number: u32,
 ) -> Result<Line, LineError>
     requires { IsTrue (are_valid names.now) }
-    ensures line { IfOk result (λ line. judged names.now number text.now ≡ Ok (line_of line)) }
+    ensures line { IfOk result (λ line. judged_line names.now number text.now ≡ Ok (line_of line)) }
     ensures form { IfOk result (λ line. IsLine names.now (line_of line)) }
     ensures few { OnOk result (number ≤ 65536) }
     ensures rule { (rule : ℕ) → result ≡ Err (LineError.Fault rule)
-        → judged names.now number text.now ≡ Err rule }
+        → judged_line names.now number text.now ≡ Err rule }
     ensures memory { result ≡ Err LineError.OutOfMemory
-        → MayRunOut (judged names.now number text.now) }
+        → MayRunOut (judged_line names.now number text.now) }
 {
     if number > MOST_LINES {
         return Err(LineError::Fault(TOO_MANY));
@@ -52,7 +52,8 @@ pub(crate) fn judge(
 /// Writes which rule the line of this number breaks. It takes no memory.
 #[tactic(auto, unfolding(crate::specs::Run::broken_line))]
 pub(crate) fn break_off<K: Sink>(output: &mut K, rule: u8, number: u32) -> u8
-    ensures ends { Ends K.tells (K.at output.old) (K.at output.new) result (broken rule number) }
+    ensures ends { CommandEnds K.tells (K.at output.old) (K.at output.new) result
+        (broken_output rule number) }
     ensures memory { result ≢ out_of_memory }
 {
     finish_fault(output, b"fault schedule S", rule, number, BROKEN)

@@ -2,7 +2,7 @@
 
 ghost use Rattle.std.specs.Prelude.{◌≡◌, ◌+◌, ◌%◌, ◌≤◌, ◌<◌, ◌++◌, length};
 ghost use Rattle.hex.specs.Hex.{encode_lower};
-ghost use Rattle.sx_told.specs.Told.{Ends};
+ghost use Rattle.sx_told.specs.Told.{CommandEnds};
 ghost use Rattle.sx_asm.specs.Shown.{listed};
 ghost use Rattle.sx_top.specs.Listing.{listing_line, listing};
 ghost use Rattle.sx_top.specs.Output.{end_line};
@@ -50,7 +50,7 @@ fn first_line(at: u16, code: &[u8]) -> (Text, u8)
 pub(crate) fn list<K: Sink>(output: &mut K, at: u16, code: &[u8]) -> u8
     requires even { length code.now % 2 ≡ 0 }
     requires fits { at + length code.now ≤ 65536 }
-    ensures { Ends K.tells (K.at output.old) (K.at output.new) result
+    ensures { CommandEnds K.tells (K.at output.old) (K.at output.new) result
         (record { text = listing at code.now ++ end_line; status = 0 }) }
 {
     let mut address = at;

@@ -1,7 +1,7 @@
 //! The nodes of a deployment, as they are switched on.
 
 ghost use Rattle.std.specs.Prelude.{◌≡◌, ℕ, ◌<◌, List, IfOk};
-ghost use Rattle.sx_deploy.specs.Law.{IsSound};
+ghost use Rattle.sx_deploy.specs.Law.{IsSoundDeployment};
 ghost use Rattle.sx_deploy.specs.SeenDeployment.{deployed_as};
 ghost use Rattle.sx_bus.specs.Devices.{powered_on};
 ghost use Rattle.sx_machine.specs.State.{power_on};
@@ -55,7 +55,7 @@ fn node_at<T: Tag>(
     number: u8,
     key: [u8; 16],
 ) -> Result<Node<PagedBus, T>, AllocError>
-    requires sound { IsSound (deployed_as plan.now) }
+    requires sound { IsSoundDeployment (deployed_as plan.now) }
     ensures { let d = deployed_as plan.now in IfOk result (λ node.
         node ≡ power_on key (powered_on (windows_at number d.app.devices d.places))) }
 {
@@ -72,7 +72,7 @@ pub(crate) fn nodes_of<T: Tag + Copy>(
     tag: T,
     plan: &Deployment,
 ) -> Result<Vec<Node<PagedBus, T>>, AllocError>
-    requires sound { IsSound (deployed_as plan.now) }
+    requires sound { IsSoundDeployment (deployed_as plan.now) }
     ensures { let d = deployed_as plan.now in IfOk result (λ nodes.
         (texts : List (List ℕ)) → nodes.items ≡ nodes_from (setting_of T.mac d texts) 0 d.keys) }
 {

@@ -2,8 +2,8 @@
 //! it has no head.
 
 ghost use Rattle.std.specs.Prelude.{◌≡◌, IfOk, string_bytes};
-ghost use Rattle.sx_told.specs.Told.{Ends};
-ghost use Rattle.sx_top.specs.Check.{fault_line, refused};
+ghost use Rattle.sx_told.specs.Told.{CommandEnds};
+ghost use Rattle.sx_top.specs.Check.{fault_line, fault_output};
 ghost use Rattle.sx_top.specs.Headless.{EndsHeadless};
 
 use std::alloc::{AllocError, Global};
@@ -25,7 +25,7 @@ fn fault_line(alloc: Global, fault: DeployFault) -> Result<String, AllocError>
 
 /// Writes which rule is broken, and where.
 pub(crate) fn refuse<K: Sink>(alloc: Global, fault: DeployFault, output: &mut K) -> u8
-    ensures { Ends K.tells (K.at output.old) (K.at output.new) result (refused fault) }
+    ensures { CommandEnds K.tells (K.at output.old) (K.at output.new) result (fault_output fault) }
 {
     match fault_line(alloc, fault) {
         Ok(text) => finish(output, text.as_bytes(), REFUSED),

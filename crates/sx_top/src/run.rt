@@ -2,11 +2,11 @@
 //! it reads it.
 
 ghost use Rattle.std.specs.Prelude.{◌≡◌, ℕ, List, IfOk, IsTrue, Ok, length};
-ghost use Rattle.sx_told.specs.Told.{Rest, moment};
+ghost use Rattle.sx_told.specs.Told.{Rest, command_at};
 ghost use Rattle.sx_head.specs.Head.{head_lines};
 ghost use Rattle.sx_trace.specs.Names.{are_valid};
 ghost use Rattle.sx_deploy.specs.Deployment.{IsRead};
-ghost use Rattle.sx_deploy.specs.Law.{IsSound};
+ghost use Rattle.sx_deploy.specs.Law.{IsSoundDeployment};
 ghost use Rattle.sx_deploy.specs.SeenDeployment.{deployed_as};
 ghost use Rattle.sx_world.specs.Accepted.{AreImages};
 ghost use Rattle.sx_world.specs.InMemory.{image_setting, texts_of};
@@ -38,7 +38,7 @@ pub(crate) fn new_world<T: Tag + Copy>(
     plan: &Deployment,
     images: &[Image],
 ) -> Result<World<PagedBus, T>, AllocError>
-    requires sound { IsSound (deployed_as plan.now) }
+    requires sound { IsSoundDeployment (deployed_as plan.now) }
     requires many { length images.now ≡ length plan.now.app.parts.items }
     ensures sites { IfOk result (λ world.
         world.sites ≡ (image_setting T.mac plan.now images.now).sites) }
@@ -60,13 +60,13 @@ fn run_images<S: Source, K: Sink, T: Tag + Copy>(
     plan: &Deployment,
     images: &[Image],
 ) -> u8
-    requires sound { IsSound (deployed_as plan.now) }
+    requires sound { IsSoundDeployment (deployed_as plan.now) }
     requires names { IsTrue (are_valid (deployed_as plan.now).names) }
     requires many { length images.now ≡ length plan.now.app.parts.items }
     requires images { AreImages T.mac (deployed_as plan.now) (texts_of images.now) }
     ensures { Rest S.tells K.tells head_lines lines.old
-        (moment (S.at input.old) (K.at output.old))
-        (moment (S.at input.new) (K.at output.new)) result
+        (command_at (S.at input.old) (K.at output.old))
+        (command_at (S.at input.new) (K.at output.new)) result
         (run_deployed T.mac (deployed_as plan.now) (texts_of images.now)) }
 {
     match new_world(alloc, tag, plan, images) {
@@ -84,11 +84,12 @@ fn run_deployment<S: Source, K: Sink, T: Tag + Copy>(
     output: &mut K,
     plan: &Deployment,
 ) -> u8
-    requires sound { IsSound (deployed_as plan.now) }
+    requires sound { IsSoundDeployment (deployed_as plan.now) }
     requires names { IsTrue (are_valid (deployed_as plan.now).names) }
     ensures { (text : List ℕ) → IsRead text (Ok (deployed_as plan.now))
-        → RunsOrRanOut T.mac S.tells K.tells lines.old (moment (S.at input.old) (K.at output.old))
-        (moment (S.at input.new) (K.at output.new)) result text }
+        → RunsOrRanOut T.mac S.tells K.tells lines.old
+        (command_at (S.at input.old) (K.at output.old))
+        (command_at (S.at input.new) (K.at output.new)) result text }
 {
     match compile_all(alloc, &tag, plan) {
         Ok(images) => run_images(alloc, tag, lines, input, output, plan, &images),
@@ -106,8 +107,8 @@ fn run_text<S: Source, K: Sink, T: Tag + Copy>(
     output: &mut K,
 ) -> u8
     ensures { RunsOrRanOut T.mac S.tells K.tells lines.old
-        (moment (S.at input.old) (K.at output.old))
-        (moment (S.at input.new) (K.at output.new)) result text.now }
+        (command_at (S.at input.old) (K.at output.old))
+        (command_at (S.at input.new) (K.at output.new)) result text.now }
 {
     match read_deployment(alloc, text) {
         Ok(plan) => run_deployment(alloc, tag, lines, input, output, &plan),
@@ -125,8 +126,8 @@ pub fn run_over<S: Source, K: Sink, T: Tag + Copy>(
     input: &mut S,
     output: &mut K,
 ) -> u8
-    ensures { RunSays T.mac S.tells K.tells (moment (S.at input.old) (K.at output.old))
-        (moment (S.at input.new) (K.at output.new)) result }
+    ensures { RunSays T.mac S.tells K.tells (command_at (S.at input.old) (K.at output.old))
+        (command_at (S.at input.new) (K.at output.new)) result }
 {
     let mut lines = Lines::new();
     match read_head(alloc, &mut lines, input) {

@@ -4,16 +4,16 @@
 ghost use Rattle.std.specs.Prelude.{◌≡◌, ◌+◌, ◌<◌, ◌≤◌, IsTrue};
 ghost use Rattle.sx_trace.specs.Names.{are_valid};
 ghost use Rattle.sx_sched.specs.Lines.{line_of, IsLine};
-ghost use Rattle.sx_told.specs.Told.{Rest, moment, out_of_memory};
+ghost use Rattle.sx_told.specs.Told.{Rest, command_at, out_of_memory};
 ghost use Rattle.sx_head.specs.Head.{head_lines};
 ghost use Rattle.sx_deploy.specs.SeenDeployment.{deployed_as};
 ghost use Rattle.sx_deploy.specs.Law as deployment;
 ghost use Rattle.sx_world.specs.InMemory.{image_setting, texts_of, world_setting};
-ghost use Rattle.sx_world.specs.Law.{IsSound};
+ghost use Rattle.sx_world.specs.Law.{IsSoundSetting};
 ghost use Rattle.sx_world.specs.Standing.{IsGoing, Stands};
 ghost use Rattle.sx_world.specs.State.{switched_on};
 ghost use Rattle.sx_top.specs.Run.{run_at_start, run_deployed};
-ghost use Rattle.sx_top.specs.Schedule.{judged};
+ghost use Rattle.sx_top.specs.Schedule.{judged_line};
 ghost use Rattle.sx_top.specs.Turns.{Advances, MayRunOut, TellsLine, TurnsFrom};
 
 use crate::images::put_images;
@@ -39,8 +39,8 @@ fn tell<K: Sink, B: Bus, T: Tag>(
     text: &mut Vec<u8>,
     line: &Line,
 ) -> Turned
-    requires sound { deployment.IsSound (deployed_as plan.now) }
-    requires images { IsSound (world_setting T.mac plan.now world.old) }
+    requires sound { deployment.IsSoundDeployment (deployed_as plan.now) }
+    requires images { IsSoundSetting (world_setting T.mac plan.now world.old) }
     requires going { IsGoing (world_setting T.mac plan.now world.old) world.old }
     requires form { IsLine (deployed_as plan.now).names (line_of line.now) }
     requires few { world.old.lines < 65536 }
@@ -74,8 +74,8 @@ fn turn<K: Sink, B: Bus, T: Tag>(
     said: &[u8],
     number: u32,
 ) -> Turned
-    requires sound { deployment.IsSound (deployed_as plan.now) }
-    requires images { IsSound (world_setting T.mac plan.now world.old) }
+    requires sound { deployment.IsSoundDeployment (deployed_as plan.now) }
+    requires images { IsSoundSetting (world_setting T.mac plan.now world.old) }
     requires going { IsGoing (world_setting T.mac plan.now world.old) world.old }
     requires names { IsTrue (are_valid (deployed_as plan.now).names) }
     requires counted { world.old.lines + 1 ≡ number }
@@ -83,7 +83,7 @@ fn turn<K: Sink, B: Bus, T: Tag>(
         (deployed_as plan.now).names (world_setting T.mac plan.now world.old) world.old world.new
         number said.now result }
     ensures memory { result ≡ Turned.Stop out_of_memory
-        → MayRunOut (judged (deployed_as plan.now).names number said.now) }
+        → MayRunOut (judged_line (deployed_as plan.now).names number said.now) }
     ensures few { result ≡ Turned.On → number ≤ 65536 }
     ensures sites { world.new.sites ≡ world.old.sites }
     ensures counts { result ≡ Turned.On → world.new.lines ≡ number }
@@ -104,15 +104,15 @@ pub(crate) fn run_lines<S: Source, K: Sink, B: Bus, T: Tag>(
     plan: &Deployment,
     world: &mut World<B, T>,
 ) -> u8
-    requires sound { deployment.IsSound (deployed_as plan.now) }
-    requires images { IsSound (world_setting T.mac plan.now world.old) }
+    requires sound { deployment.IsSoundDeployment (deployed_as plan.now) }
+    requires images { IsSoundSetting (world_setting T.mac plan.now world.old) }
     requires names { IsTrue (are_valid (deployed_as plan.now).names) }
     requires new { world.old.lines ≡ 0 }
     requires stands { Stands (world_setting T.mac plan.now world.old) world.old
         (switched_on (world_setting T.mac plan.now world.old)) }
     ensures { Rest S.tells K.tells head_lines lines.old
-        (moment (S.at input.old) (K.at output.old))
-        (moment (S.at input.new) (K.at output.new)) result
+        (command_at (S.at input.old) (K.at output.old))
+        (command_at (S.at input.new) (K.at output.new)) result
         (run_at_start (deployed_as plan.now).names (world_setting T.mac plan.now world.old)) }
 {
     let mut into = [0; 4096];
@@ -151,16 +151,16 @@ pub(crate) fn run_built<S: Source, K: Sink, B: Bus, T: Tag>(
     images: &[Image],
     world: &mut World<B, T>,
 ) -> u8
-    requires sound { deployment.IsSound (deployed_as plan.now) }
-    requires images { IsSound (world_setting T.mac plan.now world.old) }
+    requires sound { deployment.IsSoundDeployment (deployed_as plan.now) }
+    requires images { IsSoundSetting (world_setting T.mac plan.now world.old) }
     requires names { IsTrue (are_valid (deployed_as plan.now).names) }
     requires new { world.old.lines ≡ 0 }
     requires sites { world.old.sites ≡ (image_setting T.mac plan.now images.now).sites }
     requires stands { Stands (world_setting T.mac plan.now world.old) world.old
         (switched_on (world_setting T.mac plan.now world.old)) }
     ensures { Rest S.tells K.tells head_lines lines.old
-        (moment (S.at input.old) (K.at output.old))
-        (moment (S.at input.new) (K.at output.new)) result
+        (command_at (S.at input.old) (K.at output.old))
+        (command_at (S.at input.new) (K.at output.new)) result
         (run_deployed T.mac (deployed_as plan.now) (texts_of images.now)) }
 {
     match put_images(alloc, &plan.names, images, output) {

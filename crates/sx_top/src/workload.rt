@@ -3,14 +3,14 @@
 
 ghost use Rattle.std.specs.Prelude.{◌≡◌, ℕ, ◌≤◌, IfOk, IsTrue, List, Ok, length};
 ghost use Rattle.sx_io.specs.Reading.{Answer};
-ghost use Rattle.sx_told.specs.Told.{Does, Ends, Output, behind};
+ghost use Rattle.sx_told.specs.Told.{DoesPart, CommandEnds, Output, behind};
 ghost use Rattle.sx_trace.specs.Names.{are_valid};
 ghost use Rattle.sx_deploy.specs.Deployment.{IsRead};
 ghost use Rattle.sx_deploy.specs.Law as deployment;
 ghost use Rattle.sx_deploy.specs.SeenDeployment.{deployed_as};
 ghost use Rattle.sx_world.specs.Accepted.{AreImages};
 ghost use Rattle.sx_world.specs.InMemory.{image_setting, texts_of, world_setting};
-ghost use Rattle.sx_world.specs.Law.{IsSound};
+ghost use Rattle.sx_world.specs.Law.{IsSoundSetting};
 ghost use Rattle.sx_world.specs.Standing.{Stands};
 ghost use Rattle.sx_world.specs.State.{switched_on};
 ghost use Rattle.sx_bulk.specs.Bulk as bulk;
@@ -40,7 +40,7 @@ use sx_world::world::World;
 /// Ends the command with what was counted.
 fn tell<K: Sink>(alloc: Global, samples: u32, counts: &Counts, steps: u64, output: &mut K) -> u8
     requires { samples ≤ MOST_SAMPLES }
-    ensures { Ends K.tells (K.at output.old) (K.at output.new) result
+    ensures { CommandEnds K.tells (K.at output.old) (K.at output.new) result
         (record { text = summary (bulk.lines samples) counts.now steps; status = 0 }) }
 {
     match summary(alloc, lines(samples), counts, steps) {
@@ -58,13 +58,13 @@ fn tell_run<K: Sink, B: Bus, T: Tag>(
     output: &mut K,
 ) -> u8
     requires few { samples ≤ MOST_SAMPLES }
-    requires sound { deployment.IsSound (deployed_as plan.now) }
-    requires images { IsSound (world_setting T.mac plan.now world.old) }
+    requires sound { deployment.IsSoundDeployment (deployed_as plan.now) }
+    requires images { IsSoundSetting (world_setting T.mac plan.now world.old) }
     requires names { IsTrue (are_valid (deployed_as plan.now).names) }
     requires new { world.old.lines ≡ 0 }
     requires stands { Stands (world_setting T.mac plan.now world.old) world.old
         (switched_on (world_setting T.mac plan.now world.old)) }
-    ensures { Ends K.tells (K.at output.old) (K.at output.new) result
+    ensures { CommandEnds K.tells (K.at output.old) (K.at output.new) result
         (gen_run samples (deployed_as plan.now).names (world_setting T.mac plan.now world.old)) }
 {
     match run_workload(alloc, samples, plan, world) {
@@ -76,7 +76,7 @@ fn tell_run<K: Sink, B: Bus, T: Tag>(
 
 /// Writes the lines of all images.
 fn put_images<K: Sink>(alloc: Global, names: &Names, images: &[Image], output: &mut K) -> Turned
-    ensures { (left : List Answer → Output) → Does K.tells (K.at output.old) (K.at output.new)
+    ensures { (left : List Answer → Output) → DoesPart K.tells (K.at output.old) (K.at output.new)
         (λ more. behind (images_text names.now.modules (texts_of images.now)) (left more))
         result left }
 {
@@ -96,14 +96,14 @@ fn gen_built<K: Sink, B: Bus, T: Tag>(
     output: &mut K,
 ) -> u8
     requires few { samples ≤ MOST_SAMPLES }
-    requires sound { deployment.IsSound (deployed_as plan.now) }
-    requires images { IsSound (world_setting T.mac plan.now world.old) }
+    requires sound { deployment.IsSoundDeployment (deployed_as plan.now) }
+    requires images { IsSoundSetting (world_setting T.mac plan.now world.old) }
     requires names { IsTrue (are_valid (deployed_as plan.now).names) }
     requires new { world.old.lines ≡ 0 }
     requires sites { world.old.sites ≡ (image_setting T.mac plan.now images.now).sites }
     requires stands { Stands (world_setting T.mac plan.now world.old) world.old
         (switched_on (world_setting T.mac plan.now world.old)) }
-    ensures { Ends K.tells (K.at output.old) (K.at output.new) result
+    ensures { CommandEnds K.tells (K.at output.old) (K.at output.new) result
         (gen_deployed T.mac (texts_of images.now) samples (deployed_as plan.now)) }
 {
     match put_images(alloc, &plan.names, images, output) {
@@ -122,11 +122,11 @@ fn gen_images<K: Sink, T: Tag + Copy>(
     output: &mut K,
 ) -> u8
     requires few { samples ≤ MOST_SAMPLES }
-    requires sound { deployment.IsSound (deployed_as plan.now) }
+    requires sound { deployment.IsSoundDeployment (deployed_as plan.now) }
     requires names { IsTrue (are_valid (deployed_as plan.now).names) }
     requires many { length images.now ≡ length plan.now.app.parts.items }
     requires images { AreImages T.mac (deployed_as plan.now) (texts_of images.now) }
-    ensures { Ends K.tells (K.at output.old) (K.at output.new) result
+    ensures { CommandEnds K.tells (K.at output.old) (K.at output.new) result
         (gen_deployed T.mac (texts_of images.now) samples (deployed_as plan.now)) }
 {
     match new_world(alloc, tag, plan, images) {
@@ -144,7 +144,7 @@ fn gen_deployment<K: Sink, T: Tag + Copy>(
     output: &mut K,
 ) -> u8
     requires few { samples ≤ MOST_SAMPLES }
-    requires sound { deployment.IsSound (deployed_as plan.now) }
+    requires sound { deployment.IsSoundDeployment (deployed_as plan.now) }
     requires names { IsTrue (are_valid (deployed_as plan.now).names) }
     requires read { IsRead bulk.head (Ok (deployed_as plan.now)) }
     ensures { GenWrote T.mac samples K.tells (K.at output.old) (K.at output.new) result }

@@ -10,7 +10,7 @@ use Rattle.std.proofs.lemmas.List.Sums.{prefix_len-le-length}
 use Rattle.std.proofs.lemmas.List.Quantifiers.{position-Some}
 use Rattle.std.proofs.lemmas.Slice.Eq.{bytes_eq-Decides}
 use Rattle.indexmap.specs.IndexMap.{get}
-use Rattle.sx_trace.specs.Index.{IsIndex, Grows}
+use Rattle.sx_trace.specs.Index.{IsNameIndex, GrowsIndex}
 use Rattle.sx_trace.specs.Names.{place_of}
 use Rattle.sx_trace.specs.declared.index.NameIndex.{NameIndex}
 
@@ -38,7 +38,7 @@ module _ (names : List (List ℕ)) (name text : List ℕ) where
   place_of-behind h = rw (position_or_len_push p names name, length-append names (name ∷ [])) (behind (position_or_len p names) (length names) (p name) (prefix_len-le-length (λ n. not (p n)) names) h)
 
 -- a name that is listed already changes nothing
-module _ (index : NameIndex) (names : List (List ℕ)) (name : List ℕ) (at : ℕ) (h : IsIndex index names) (listed : place_of names name ≡ Some at) where
+module _ (index : NameIndex) (names : List (List ℕ)) (name : List ℕ) (at : ℕ) (h : IsNameIndex index names) (listed : place_of names name ≡ Some at) where
   same : (text : List ℕ) → place_of (names ++ name ∷ []) text ≡ place_of names text
   same text = by (place_of names text) refl
     where
@@ -50,21 +50,21 @@ module _ (index : NameIndex) (names : List (List ℕ)) (name : List ℕ) (at : �
       by (Some j) e = place_of-there names name text j e ∙ sym e
       by None e = place_of-behind names name text e ∙ other (bytes_eq name text) refl e
 
-  pub index-again : IsIndex index (names ++ name ∷ [])
+  pub index-again : IsNameIndex index (names ++ name ∷ [])
   index-again = record {
     gives = λ text. h.gives text ∙ sym (same text);
     sized = λ text i e. h.sized text i (sym (same text) ∙ e);
   }
 
 -- the old index takes in a name that it has
-pub grows-again : (old : NameIndex) (name : List ℕ) (place : ℕ) (o : Option ℕ) → ((names : List (List ℕ)) → IsIndex old names → o ≡ place_of names name) → is_some o ≡ true → Grows old old name place
+pub grows-again : (old : NameIndex) (name : List ℕ) (place : ℕ) (o : Option ℕ) → ((names : List (List ℕ)) → IsNameIndex old names → o ≡ place_of names name) → is_some o ≡ true → GrowsIndex old old name place
 grows-again old name place None says h = absurd (cc)
 grows-again old name place (Some at) says h = λ names len is. index-again old names name at is (sym (says names is))
 
 -- and one that is new to it
 module _ (old new : NameIndex) (name : List ℕ) (place : ℕ) (some : 0 < length name) (short : length name ≤ 16)
     (updates : (text : List ℕ) → get bytes_eq new.places text ≡ cond (bytes_eq name text) (Some place) (get bytes_eq old.places text)) where
-  module _ (names : List (List ℕ)) (len : length names ≡ place) (h : IsIndex old names) (fresh : place_of names name ≡ None) where
+  module _ (names : List (List ℕ)) (len : length names ≡ place) (h : IsNameIndex old names) (fresh : place_of names name ≡ None) where
     placed : (text : List ℕ) → place_of (names ++ name ∷ []) text ≡ cond (bytes_eq name text) (Some place) (place_of names text)
     placed text = by (bytes_eq name text) refl (place_of names text) refl
       where
@@ -81,7 +81,7 @@ module _ (old new : NameIndex) (name : List ℕ) (place : ℕ) (some : 0 < lengt
         by true f g = subst (λ (t : List ℕ). (0 < length t) × (length t ≤ 16)) ((bytes_eq-Decides name text).0 f) (some, short)
         by false f g = h.sized text i g
 
-    index-new : IsIndex new (names ++ name ∷ [])
+    index-new : IsNameIndex new (names ++ name ∷ [])
     index-new = record {
       gives = λ text. updates text ∙ ap (cond (bytes_eq name text) (Some place)) (h.gives text) ∙ sym (placed text);
       sized = λ text i e. of_size text i (sym (placed text) ∙ e);
@@ -91,11 +91,11 @@ module _ (old new : NameIndex) (name : List ℕ) (place : ℕ) (some : 0 < lengt
   none_of None h = refl
   none_of (Some i) h = absurd (cc)
 
-  pub grows-new : (o : Option ℕ) → ((names : List (List ℕ)) → IsIndex old names → o ≡ place_of names name) → is_some o ≡ false → Grows old new name place
+  pub grows-new : (o : Option ℕ) → ((names : List (List ℕ)) → IsNameIndex old names → o ≡ place_of names name) → is_some o ≡ false → GrowsIndex old new name place
   grows-new o says h = λ names len is. index-new names len is (sym (says names is) ∙ none_of o h)
 
 -- what an index gives is the place in each list that its own is
-pub place_is : (index : NameIndex) (names list : List (List ℕ)) (text : List ℕ) (o : Option ℕ) → names ≡ list → IsIndex index names → ((n : List (List ℕ)) → IsIndex index n → o ≡ place_of n text) → o ≡ place_of list text
+pub place_is : (index : NameIndex) (names list : List (List ℕ)) (text : List ℕ) (o : Option ℕ) → names ≡ list → IsNameIndex index names → ((n : List (List ℕ)) → IsNameIndex index n → o ≡ place_of n text) → o ≡ place_of list text
 place_is index names list text o e h says = says names h ∙ ap (λ n. place_of n text) e
 
 -- a place of a short list is small

@@ -1,5 +1,5 @@
 pub mod Cut
-pub mod Found
+pub mod ItemsDiffer
 pub mod Indexed
 pub mod Known
 pub mod Valid

@@ -1,6 +1,8 @@
 -- How the item of a line is looked for. Nobody has to believe this file: the contract of
 -- `read_item` is about the lines of `Items` alone.
-use Rattle.std.specs.Prelude.{ℕ, ◌+◌, ◌-◌, ◌*◌, ◌^◌, ◌==◌, ◌&&◌, nat_le, nat_lt, Bool, true, if◌then◌else◌, List, [], ◌∷◌, take, drop, position, codes, Option, Some, None}
+use Rattle.std.specs.Prelude.{ℕ, ◌+◌, ◌-◌, ◌*◌, ◌^◌, ◌==◌, ◌&&◌, nat_le, nat_lt, Bool, true}
+use Rattle.std.specs.Prelude.{if◌then◌else◌, List, [], ◌∷◌, take, drop, position, codes, Option}
+use Rattle.std.specs.Prelude.{Some, None}
 use Rattle.std.specs.Str.{bytes_eq}
 use Rattle.sx_lang.specs.declared.sides.Side.{Side}
 use Rattle.sx_lang.specs.declared.sides.Side.TheVariants.{From, To}
@@ -8,7 +10,10 @@ use Rattle.sx_trace.specs.Names.{NameLists, deployer, place_of}
 use Rattle.sx_trace.specs.declared.items.Cause.{Cause}
 use Rattle.sx_trace.specs.declared.items.Cause.TheVariants as cause
 use Rattle.sx_trace.specs.declared.items.Item.{Item}
-use Rattle.sx_trace.specs.declared.items.Item.TheVariants.{Reset, Protect, Sense, Read, Drain, Ask, Attested, Denied, Vouch, Open, Take, Out, Raw, Done, Packet, Forged, Busy, Skip, Budget}
+use Rattle.sx_trace.specs.declared.items.Item.TheVariants.{Reset, Protect, Sense, Read, Drain, Ask}
+use Rattle.sx_trace.specs.declared.items.Item.TheVariants.{Attested, Denied, Vouch, Open, Take, Out}
+use Rattle.sx_trace.specs.declared.items.Item.TheVariants.{Raw, Done, Packet, Forged, Busy, Skip}
+use Rattle.sx_trace.specs.declared.items.Item.TheVariants.{Budget}
 
 -- the first value, and what is made of it
 infixl 10 ◌>>=◌
@@ -32,7 +37,8 @@ cut text = cut_at text (position is_space text)
 -- the number with one more digit, within 128 bits
 abbrev pub with_digit : ℕ → ℕ → Option ℕ
 with_digit n b =
-    if nat_le 48 b && nat_le b 57 && nat_lt (n * 10 + (b - 48)) (2 ^ 128) then Some (n * 10 + (b - 48)) else None
+    if nat_le 48 b && nat_le b 57 && nat_lt (n * 10 + (b - 48)) (2 ^ 128) then
+    Some (n * 10 + (b - 48)) else None
 
 -- the number with more digits, within 128 bits
 abbrev pub with_digits : ℕ → List ℕ → Option ℕ
@@ -112,9 +118,12 @@ abbrev pub numbered_in : List ℕ → ℕ → List ℕ → Option Item
 numbered_in kind m fields =
     if bytes_eq kind (codes "read") then up_to 65535 fields >>= (λ value. Some (Read m value))
     else if bytes_eq kind (codes "out") then up_to 65535 fields >>= (λ value. Some (Out m value))
-    else if bytes_eq kind (codes "ask") then number_of fields >>= (λ challenge. Some (Ask m challenge))
-    else if bytes_eq kind (codes "vouch") then number_of fields >>= (λ challenge. Some (Vouch m challenge))
-    else if bytes_eq kind (codes "attested") then up_to 4294967295 fields >>= (λ boot. Some (Attested m boot))
+    else if bytes_eq kind (codes "ask") then number_of fields >>=
+    (λ challenge. Some (Ask m challenge))
+    else if bytes_eq kind (codes "vouch") then number_of fields >>=
+    (λ challenge. Some (Vouch m challenge))
+    else if bytes_eq kind (codes "attested") then
+    up_to 4294967295 fields >>= (λ boot. Some (Attested m boot))
     else None
 
 -- an item whose first field is a module
@@ -138,7 +147,8 @@ device_in kind d fields =
 abbrev pub node_in : NameLists → List ℕ → ℕ → List ℕ → Option Item
 node_in n kind node fields =
     if bytes_eq kind (codes "reset") then cause_of fields >>= (λ why. Some (Reset node why))
-    else if bytes_eq kind (codes "protect") then index_or_none (codes "-") n.modules fields >>= (λ m. Some (Protect node m))
+    else if bytes_eq kind (codes "protect") then
+    index_or_none (codes "-") n.modules fields >>= (λ m. Some (Protect node m))
     else if bytes_eq kind (codes "busy") then Some (Busy node)
     else if bytes_eq kind (codes "skip") then Some (Skip node)
     else if bytes_eq kind (codes "budget") then Some (Budget node)
@@ -164,9 +174,12 @@ is_of_device kind =
 abbrev pub kind_in : NameLists → List ℕ → List ℕ → Option Item
 kind_in n kind fields =
     if bytes_eq kind (codes "packet") then packet_in fields
-    else if bytes_eq kind (codes "forged") then index_or_none deployer n.modules fields >>= (λ m. Some (Forged m))
-    else if is_of_node kind then place_of n.nodes (cut fields).0 >>= (λ node. node_in n kind node (cut fields).1)
-    else if is_of_device kind then place_of n.devices (cut fields).0 >>= (λ d. device_in kind d (cut fields).1)
+    else if bytes_eq kind (codes "forged") then index_or_none deployer n.modules fields >>=
+    (λ m. Some (Forged m))
+    else if is_of_node kind then place_of n.nodes (cut fields).0 >>=
+    (λ node. node_in n kind node (cut fields).1)
+    else if is_of_device kind then place_of n.devices (cut fields).0 >>=
+    (λ d. device_in kind d (cut fields).1)
     else place_of n.modules (cut fields).0 >>= (λ m. module_in n kind m (cut fields).1)
 
 -- the only item that can have this line

@@ -6,14 +6,16 @@ use Rattle.sx_trace.specs.Names.{place_of}
 use Rattle.sx_trace.specs.declared.index.NameIndex.{NameIndex}
 
 -- the index gives the index of each name, and no name of the list is empty or too long for one
-pub record IsIndex (index : NameIndex) (names : List (List ℕ)) : Type 0 where
+pub record IsNameIndex (index : NameIndex) (names : List (List ℕ)) : Type 0 where
   pub gives : (text : List ℕ) → get bytes_eq index.places text ≡ place_of names text
-  pub sized : (text : List ℕ) (i : ℕ) → place_of names text ≡ Some i → (0 < length text) × (length text ≤ 16)
+  pub sized : (text : List ℕ) (i : ℕ) → place_of names text ≡ Some i → (0 < length text)
+      × (length text ≤ 16)
 
 -- where the old index is one of a list, the new is one of the list with the name after it
-abbrev pub Grows : NameIndex → NameIndex → List ℕ → ℕ → Type 0
-Grows old new name place = (names : List (List ℕ)) → length names ≡ place → IsIndex old names → IsIndex new (names ++ name ∷ [])
+abbrev pub GrowsIndex : NameIndex → NameIndex → List ℕ → ℕ → Type 0
+GrowsIndex old new name place = (names : List (List ℕ)) → length names ≡ place
+    → IsNameIndex old names → IsNameIndex new (names ++ name ∷ [])
 
 -- where the old index is one of a list, so is the new
-abbrev pub Keeps : NameIndex → NameIndex → Type 0
-Keeps old new = (names : List (List ℕ)) → IsIndex old names → IsIndex new names
+abbrev pub KeepsIndex : NameIndex → NameIndex → Type 0
+KeepsIndex old new = (names : List (List ℕ)) → IsNameIndex old names → IsNameIndex new names

@@ -1,6 +1,8 @@
 -- The names of a deployment: when lists of them are valid, and where a name stands. A word of the
 -- handler language is in form too.
-use Rattle.std.specs.Prelude.{ℕ, Bool, true, false, ◌&&◌, ◌==◌, not, nat_le, codes, if◌then◌else◌, List, [], ◌∷◌, length, position, Option, Some, None, option_and_then, unwrap_or, slice_get}
+use Rattle.std.specs.Prelude.{ℕ, Bool, true, false, ◌&&◌, ◌==◌, not, nat_le, codes, if◌then◌else◌}
+use Rattle.std.specs.Prelude.{List, [], ◌∷◌, length, position, Option, Some, None, option_and_then}
+use Rattle.std.specs.Prelude.{unwrap_or, slice_get}
 use Rattle.std.specs.List.{list_all, list_any}
 use Rattle.std.specs.Str.{bytes_eq}
 use Rattle.sx_lang.specs.Form.{is_name}
@@ -14,8 +16,9 @@ pub record NameLists : Type 0 where
   pub links : List (List ℕ)
 
 -- these names of nodes, devices, modules and connections, and whether each device is a sensor
-abbrev pub named : List (List ℕ) → List (List ℕ) → List Bool → List (List ℕ) → List (List ℕ) → NameLists
-named nodes devices sensors modules links =
+abbrev pub name_lists : List (List ℕ) → List (List ℕ) → List Bool → List (List ℕ) → List (List ℕ)
+    → NameLists
+name_lists nodes devices sensors modules links =
     record { nodes = nodes; devices = devices; sensors = sensors; modules = modules; links = links }
 
 -- the name stands in the list

@@ -1,6 +1,6 @@
 //! The first place of each name of a list, found without going through the list.
 ghost use Rattle.std.specs.Prelude.{◌≡◌, ℕ, List, [], IfOk, OnOk, OnErr};
-ghost use Rattle.sx_trace.specs.Index.{Grows, IsIndex, Keeps};
+ghost use Rattle.sx_trace.specs.Index.{GrowsIndex, IsNameIndex, KeepsIndex};
 ghost use Rattle.sx_trace.specs.Names.{place_of};
 
 use crate::keys::NameKey;
@@ -18,7 +18,7 @@ pub struct NameIndex {
 impl NameIndex {
     /// The index of no names.
     pub fn new(alloc: Global) -> NameIndex
-        ensures { IsIndex result [] }
+        ensures { IsNameIndex result [] }
     {
         NameIndex {
             places: IndexMap::new(alloc),
@@ -27,7 +27,7 @@ impl NameIndex {
 
     /// The index of these names. The error says that memory ran out.
     pub fn of(alloc: Global, names: &[Name]) -> Result<NameIndex, AllocError>
-        ensures { IfOk result (λ index. IsIndex index names.now) }
+        ensures { IfOk result (λ index. IsNameIndex index names.now) }
     {
         let mut index = NameIndex::new(alloc);
         for place in 0..names.len() {
@@ -39,8 +39,8 @@ impl NameIndex {
     /// Takes in the name that comes next, at this place. A name that stands before keeps its first
     /// place. The error says that memory ran out.
     pub fn push(&mut self, name: Name, place: usize) -> Result<(), AllocError>
-        ensures grows { OnOk result (Grows self.old self.new name place) }
-        ensures kept { OnErr result (Keeps self.old self.new) }
+        ensures grows { OnOk result (GrowsIndex self.old self.new name place) }
+        ensures kept { OnErr result (KeepsIndex self.old self.new) }
     {
         if self.place_of(name.bytes()).is_some() {
             return Ok(());
@@ -53,7 +53,8 @@ impl NameIndex {
 
     /// The first place of the name that a text is.
     pub fn place_of(&self, text: &[u8]) -> Option<usize>
-        ensures { (names : List (List ℕ)) → IsIndex self.now names → result ≡ place_of names text.now }
+        ensures { (names : List (List ℕ)) → IsNameIndex self.now names
+            → result ≡ place_of names text.now }
     {
         match Name::new(text) {
             Some(name) => self.places.get(&NameKey::of(name)).copied(),

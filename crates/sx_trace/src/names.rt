@@ -4,7 +4,8 @@ ghost use Rattle.std.specs.Prelude.{◌≡◌, ◌<◌, length, IsTrue, IfOk, If
 ghost use Rattle.std.specs.List.{list_all};
 ghost use Rattle.std.specs.Str.{bytes_eq};
 ghost use Rattle.sx_lang.specs.Form.{is_name};
-ghost use Rattle.sx_trace.specs.Names.{are_names, are_valid, deployer, has_name, if_sensor, named, no_repeat, place_of, sensor_place};
+ghost use Rattle.sx_trace.specs.Names.{are_names, are_valid, deployer, has_name, if_sensor};
+ghost use Rattle.sx_trace.specs.Names.{name_lists, no_repeat, place_of, sensor_place};
 
 use crate::index::NameIndex;
 use std::alloc::{AllocError, Global};
@@ -35,7 +36,7 @@ pub struct Names {
 }
 
 impl Model for Names {
-    ghost use Rattle.sx_trace.specs.Index.{IsIndex};
+    ghost use Rattle.sx_trace.specs.Index.{IsNameIndex};
     ghost use Rattle.sx_trace.specs.Names.{NameLists};
 
     ghost Value = { NameLists };
@@ -49,10 +50,10 @@ impl Model for Names {
     } };
 
     ghost invariant = { λ n.
-        IsIndex n.node_index n.nodes.items
-        × IsIndex n.device_index n.devices.items
-        × IsIndex n.module_index n.modules.items
-        × IsIndex n.link_index n.links.items };
+        IsNameIndex n.node_index n.nodes.items
+        × IsNameIndex n.device_index n.devices.items
+        × IsNameIndex n.module_index n.modules.items
+        × IsNameIndex n.link_index n.links.items };
 }
 
 fn have_form(names: &[Name]) -> bool
@@ -124,7 +125,7 @@ impl Names {
         links: Vec<Name>,
     ) -> Result<Names, AllocError>
         ensures { IfOk result (λ n.
-            n ≡ named nodes.items devices.items sensors.items modules.items links.items) }
+            n ≡ name_lists nodes.items devices.items sensors.items modules.items links.items) }
     {
         let node_index = NameIndex::of(alloc, &nodes)?;
         let device_index = NameIndex::of(alloc, &devices)?;

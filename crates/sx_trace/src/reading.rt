@@ -1,10 +1,14 @@
 //! From a line to its item: the only item that can have the line is found, and is the answer where
 //! it has that line.
 
-ghost use Rattle.std.specs.Prelude.{◌≡◌, ℕ, ◌<◌, ◌≤◌, length, position, IsTrue, IfSome, MatchOption};
+ghost use Rattle.std.specs.Prelude.{◌≡◌, ℕ, ◌<◌, ◌≤◌, length, position, IsTrue, IfSome};
+ghost use Rattle.std.specs.Prelude.{MatchOption};
 ghost use Rattle.sx_trace.specs.Names.{are_valid};
-ghost use Rattle.sx_trace.specs.Items.{item_text, IsItem, IsSized, IsNoItem, IsIndexOrNone};
-ghost use Rattle.sx_trace.specs.Finding.{is_space, cut, with_digit, number_of, up_to, index_or_none, cause_of, side_of, open_in, take_in, done_in, packet_in, numbered_in, module_in, device_in, node_in, is_of_node, is_of_device, kind_in, item_in};
+ghost use Rattle.sx_trace.specs.Items.{item_text, IsItem, IsSizedItem, IsNoItem, IsIndexOrNone};
+ghost use Rattle.sx_trace.specs.Finding.{is_space, cut, with_digit, number_of, up_to};
+ghost use Rattle.sx_trace.specs.Finding.{index_or_none, cause_of, side_of, open_in, take_in};
+ghost use Rattle.sx_trace.specs.Finding.{done_in, packet_in, numbered_in, module_in, device_in};
+ghost use Rattle.sx_trace.specs.Finding.{node_in, is_of_node, is_of_device, kind_in, item_in};
 
 use crate::items::{Cause, Item};
 use crate::names::{DEPLOYER, Names};
@@ -182,7 +186,7 @@ fn done_in(names: &Names, module: u8, fields: &[u8]) -> Option<Item>
 
 fn packet_in(fields: &[u8]) -> Option<Item>
     ensures item { result ≡ packet_in fields.now }
-    ensures fit { IfSome result IsSized }
+    ensures fit { IfSome result IsSizedItem }
 {
     let (number, len) = cut(fields);
     let number = number32(number)?;

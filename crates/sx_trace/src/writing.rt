@@ -1,7 +1,9 @@
 //! From an item to its line.
 
-ghost use Rattle.std.specs.Prelude.{◌≡◌, ℕ, ◌+◌, ◌≤◌, List, [], ◌∷◌, ◌++◌, length, take, drop, codes, decimal};
-ghost use Rattle.sx_trace.specs.Items.{name_at, name_or, cause_word, side_word, epoch_words, spaced, item_text, IsWritten};
+ghost use Rattle.std.specs.Prelude.{◌≡◌, ℕ, ◌+◌, ◌≤◌, List, [], ◌∷◌, ◌++◌, length, take, drop};
+ghost use Rattle.std.specs.Prelude.{codes, decimal};
+ghost use Rattle.sx_trace.specs.Items.{name_at, name_or, cause_word, side_word, epoch_words};
+ghost use Rattle.sx_trace.specs.Items.{spaced_words, item_text, IsWrittenText};
 
 use crate::items::{Cause, Item};
 use crate::names::{DEPLOYER, Names};
@@ -73,8 +75,8 @@ fn write_at(into: &mut [u8; 128], at: usize, part: &[u8])
 /// Writes a space and one more word after what is written, and answers how many bytes that makes.
 fn write_next(into: &mut [u8; 128], written: usize, word: &[u8]) -> usize
     requires { written + 1 + length word.now ≤ 128 }
-    ensures { (text first : List ℕ) → IsWritten text first written into.old
-        → IsWritten (text ++ 32 ∷ word.now) first result into.new }
+    ensures { (text first : List ℕ) → IsWrittenText text first written into.old
+        → IsWrittenText (text ++ 32 ∷ word.now) first result into.new }
 {
     write_at(into, written, b" ");
     write_at(into, written + 1, word);
@@ -84,7 +86,7 @@ fn write_next(into: &mut [u8; 128], written: usize, word: &[u8]) -> usize
 /// Writes two words with a space between them, and answers how many bytes they take.
 fn write_two(into: &mut [u8; 128], a: &[u8], b: &[u8]) -> usize
     requires { length a.now + length b.now ≤ 127 }
-    ensures { IsWritten (spaced (a.now ∷ b.now ∷ [])) into.old result into.new }
+    ensures { IsWrittenText (spaced_words (a.now ∷ b.now ∷ [])) into.old result into.new }
 {
     write_at(into, 0, a);
     write_next(into, a.len(), b)
@@ -93,7 +95,7 @@ fn write_two(into: &mut [u8; 128], a: &[u8], b: &[u8]) -> usize
 /// Writes three words as `write_two` does.
 fn write_three(into: &mut [u8; 128], a: &[u8], b: &[u8], c: &[u8]) -> usize
     requires { length a.now + length b.now + length c.now ≤ 126 }
-    ensures { IsWritten (spaced (a.now ∷ b.now ∷ c.now ∷ [])) into.old result into.new }
+    ensures { IsWrittenText (spaced_words (a.now ∷ b.now ∷ c.now ∷ [])) into.old result into.new }
 {
     let written = write_two(into, a, b);
     write_next(into, written, c)
@@ -102,7 +104,8 @@ fn write_three(into: &mut [u8; 128], a: &[u8], b: &[u8], c: &[u8]) -> usize
 /// Writes four words as `write_two` does.
 fn write_four(into: &mut [u8; 128], a: &[u8], b: &[u8], c: &[u8], d: &[u8]) -> usize
     requires { length a.now + length b.now + length c.now + length d.now ≤ 125 }
-    ensures { IsWritten (spaced (a.now ∷ b.now ∷ c.now ∷ d.now ∷ [])) into.old result into.new }
+    ensures { IsWrittenText (spaced_words (a.now ∷ b.now ∷ c.now ∷ d.now ∷ [])) into.old result
+        into.new }
 {
     let written = write_three(into, a, b, c);
     write_next(into, written, d)
@@ -111,7 +114,8 @@ fn write_four(into: &mut [u8; 128], a: &[u8], b: &[u8], c: &[u8], d: &[u8]) -> u
 /// Writes five words as `write_two` does.
 fn write_five(into: &mut [u8; 128], a: &[u8], b: &[u8], c: &[u8], d: &[u8], e: &[u8]) -> usize
     requires { length a.now + length b.now + length c.now + length d.now + length e.now ≤ 124 }
-    ensures { IsWritten (spaced (a.now ∷ b.now ∷ c.now ∷ d.now ∷ e.now ∷ [])) into.old result into.new }
+    ensures { IsWrittenText (spaced_words (a.now ∷ b.now ∷ c.now ∷ d.now ∷ e.now ∷ [])) into.old
+        result into.new }
 {
     let written = write_four(into, a, b, c, d);
     write_next(into, written, e)
@@ -126,7 +130,8 @@ fn write_pair<N: Integer>(
     number: N,
 ) -> usize
     requires { length kind.now ≤ 16 }
-    ensures { IsWritten (spaced (kind.now ∷ name_at names.now index ∷ N.text number ∷ [])) into.old result into.new }
+    ensures { IsWrittenText (spaced_words (kind.now ∷ name_at names.now index ∷ N.text number ∷ []))
+        into.old result into.new }
 {
     let mut digits = Buffer::new();
     write_three(
@@ -139,7 +144,8 @@ fn write_pair<N: Integer>(
 
 /// Writes `reset N CAUSE`.
 fn write_reset(into: &mut [u8; 128], names: &Names, node: u8, cause: Cause) -> usize
-    ensures { IsWritten (spaced (codes "reset" ∷ name_at names.now.nodes node ∷ cause_word cause ∷ []))
+    ensures { IsWrittenText (spaced_words (codes "reset" ∷ name_at names.now.nodes node
+        ∷ cause_word cause ∷ []))
         into.old result into.new }
 {
     write_three(into, b"reset", name_at(&names.nodes, node), cause.word())
@@ -147,7 +153,7 @@ fn write_reset(into: &mut [u8; 128], names: &Names, node: u8, cause: Cause) -> u
 
 /// Writes `protect N M`, or `-` where it's no module.
 fn write_protect(into: &mut [u8; 128], names: &Names, node: u8, module: Option<u8>) -> usize
-    ensures { IsWritten (spaced (codes "protect" ∷ name_at names.now.nodes node
+    ensures { IsWrittenText (spaced_words (codes "protect" ∷ name_at names.now.nodes node
         ∷ name_or (codes "-") names.now.modules «module» ∷ [])) into.old result into.new }
 {
     let module = name_or(b"-", &names.modules, module);
@@ -163,7 +169,8 @@ fn write_open(
     side: Side,
     epoch: u8,
 ) -> usize
-    ensures { IsWritten (spaced (codes "open" ∷ name_at names.now.modules «module» ∷ name_at names.now.links link
+    ensures { IsWrittenText (spaced_words (codes "open" ∷ name_at names.now.modules «module»
+        ∷ name_at names.now.links link
         ∷ side_word side ∷ epoch_words epoch)) into.old result into.new }
 {
     let module = name_at(&names.modules, module);
@@ -185,7 +192,8 @@ fn write_take(
     number: u32,
     value: u16,
 ) -> usize
-    ensures { IsWritten (spaced (codes "take" ∷ name_at names.now.modules «module» ∷ name_at names.now.links link
+    ensures { IsWrittenText (spaced_words (codes "take" ∷ name_at names.now.modules «module»
+        ∷ name_at names.now.links link
         ∷ decimal number ∷ decimal value ∷ [])) into.old result into.new }
 {
     let module = name_at(&names.modules, module);
@@ -199,7 +207,8 @@ fn write_take(
 
 /// Writes `done M STATUS PIECES`.
 fn write_done(into: &mut [u8; 128], names: &Names, module: u8, status: u16, pieces: u16) -> usize
-    ensures { IsWritten (spaced (codes "done" ∷ name_at names.now.modules «module» ∷ decimal status
+    ensures { IsWrittenText (spaced_words (codes "done" ∷ name_at names.now.modules «module»
+        ∷ decimal status
         ∷ decimal pieces ∷ [])) into.old result into.new }
 {
     let mut first = Buffer::new();
@@ -217,7 +226,8 @@ fn write_done(into: &mut [u8; 128], names: &Names, module: u8, status: u16, piec
 
 /// Writes `packet NUMBER LENGTH`.
 fn write_packet(into: &mut [u8; 128], number: u32, len: u16) -> usize
-    ensures { IsWritten (spaced (codes "packet" ∷ decimal number ∷ decimal len ∷ [])) into.old result into.new }
+    ensures { IsWrittenText (spaced_words (codes "packet" ∷ decimal number ∷ decimal len ∷ []))
+        into.old result into.new }
 {
     let mut first = Buffer::new();
     let mut second = Buffer::new();
@@ -230,7 +240,7 @@ fn write_packet(into: &mut [u8; 128], number: u32, len: u16) -> usize
 /// the line has. The bytes after it stay. An index past the end of its list writes no bytes.
 #[tactic(auto, unfolding(crate::specs::Items::item_text))]
 pub fn write_item(names: &Names, item: &Item, into: &mut [u8; 128]) -> usize
-    ensures { IsWritten (item_text names.now item.now) into.old result into.new }
+    ensures { IsWrittenText (item_text names.now item.now) into.old result into.new }
 {
     let modules = &names.modules;
     match *item {

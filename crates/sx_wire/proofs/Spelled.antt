@@ -37,19 +37,19 @@ same kind a b c d xs ys us vs ha hb hc hd e h =
       mac = last_part xs ys us vs e rest;
     }
 
-pub event_once : EventSpelledOnce
-event_once p q hp hq h =
+pub event_spelled_once : EventSpelledOnce
+event_spelled_once p q hp hq h =
     let s = same 3 p.link p.number q.link q.number p.cipher p.mac q.cipher q.mac hp.link hp.number hq.link hq.number (hp.cipher ∙ sym hq.cipher) h in
     let made : ℕ → ℕ → List ℕ → List ℕ → EventPacket = λ a b c m. record { link = a; number = b; cipher = c; mac = m } in
     ap (λ a. made a p.number p.cipher p.mac) s.link ∙ ap (λ b. made q.link b p.cipher p.mac) s.last
     ∙ ap (λ c. made q.link q.number c p.mac) s.cipher ∙ ap (λ m. made q.link q.number q.cipher m) s.mac
 
-pub set_key_once : SetKeySpelledOnce
-set_key_once p q hp hq h =
+pub set_key_spelled_once : SetKeySpelledOnce
+set_key_spelled_once p q hp hq h =
     let s = same 1 p.link p.«end» q.link q.«end» p.cipher p.mac q.cipher q.mac hp.link hp.«end» hq.link hq.«end» (hp.cipher ∙ sym hq.cipher) h in
     let made : ℕ → ℕ → List ℕ → List ℕ → SetKeyPacket = λ a b c m. record { link = a; «end» = b; cipher = c; mac = m } in
     ap (λ a. made a p.«end» p.cipher p.mac) s.link ∙ ap (λ b. made q.link b p.cipher p.mac) s.last
     ∙ ap (λ c. made q.link q.«end» c p.mac) s.cipher ∙ ap (λ m. made q.link q.«end» q.cipher m) s.mac
 
-pub ask_once : AskSpelledOnce
-ask_once a b h = ap (drop 2) h
+pub ask_spelled_once : AskSpelledOnce
+ask_spelled_once a b h = ap (drop 2) h

@@ -20,11 +20,13 @@ pub record IsSetKey (p : SetKeyPacket) : Type 0 where
 
 -- two event packets with the same bytes are equal
 abbrev pub EventSpelledOnce : Type 0
-EventSpelledOnce = (p q : EventPacket) → IsEvent p → IsEvent q → event_packet p ≡ event_packet q → p ≡ q
+EventSpelledOnce =
+    (p q : EventPacket) → IsEvent p → IsEvent q → event_packet p ≡ event_packet q → p ≡ q
 
 -- two set-key packets with the same bytes are equal
 abbrev pub SetKeySpelledOnce : Type 0
-SetKeySpelledOnce = (p q : SetKeyPacket) → IsSetKey p → IsSetKey q → set_key_packet p ≡ set_key_packet q → p ≡ q
+SetKeySpelledOnce =
+    (p q : SetKeyPacket) → IsSetKey p → IsSetKey q → set_key_packet p ≡ set_key_packet q → p ≡ q
 
 -- two challenges with the same ask packet are equal
 abbrev pub AskSpelledOnce : Type 0

@@ -1,7 +1,8 @@
 //! From bytes to packets.
 
 ghost use Rattle.std.specs.Prelude.{◌≡◌, ◌↔◌, IfSome, IsSome, IsTrue};
-ghost use Rattle.sx_wire.specs.Packets.{ask_packet, event_packet, is_ask, is_event, is_set_key, set_key_packet};
+ghost use Rattle.sx_wire.specs.Packets.{ask_packet, event_packet, is_ask, is_event, is_set_key};
+ghost use Rattle.sx_wire.specs.Packets.{set_key_packet};
 
 use crate::packets::{EventPacket, SetKeyPacket};
 use crate::writing::{ASK, EVENT, SET_KEY};

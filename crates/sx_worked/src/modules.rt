@@ -127,7 +127,8 @@ pub(crate) fn links_of(alloc: Global, ends: &[End]) -> Result<Vec<Link>, AllocEr
 
 pub(crate) fn sends_few(m: &Checked, links: &[Link], ends: &[End]) -> bool
     requires { (o : ℕ) → links_from links.now 0 o ≡ senders ends.now o }
-    ensures { IsTrue result → SendFew (senders ends.now) (source_tree m.now) (source_tree m.now).handlers }
+    ensures { IsTrue result → SendFew (senders ends.now) (source_tree m.now)
+        (source_tree m.now).handlers }
 {
     !sends_too_much(links, 0, m.module())
 }

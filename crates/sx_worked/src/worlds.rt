@@ -1,7 +1,7 @@
 //! A world of one node, driven by the lines of a schedule.
 
 ghost use Rattle.std.specs.Prelude.{◌≡◌, [], false, length, IfOk, IsTrue};
-ghost use Rattle.sx_deploy.specs.Law.{IsSound};
+ghost use Rattle.sx_deploy.specs.Law.{IsSoundDeployment};
 ghost use Rattle.sx_deploy.specs.SeenDeployment.{deployed_as};
 ghost use Rattle.sx_tag.specs.Mac.{weak};
 ghost use Rattle.sx_trace.specs.Names.{are_valid};
@@ -43,7 +43,8 @@ const ITEMS: [Item; 6] = [
 /// The nodes of a deployment without devices.
 fn nodes_of(alloc: Global, plan: &Deployment) -> Result<Vec<Node<FlatBus, Weak>>, AllocError>
     requires { length plan.now.app.devices.items ≡ 0 }
-    ensures { IfOk result (λ nodes. nodes.items ≡ nodes_from (setting_of weak (deployed_as plan.now) []) 0 plan.now.keys.items) }
+    ensures { IfOk result (λ nodes. nodes.items ≡ nodes_from
+        (setting_of weak (deployed_as plan.now) []) 0 plan.now.keys.items) }
 {
     let mut nodes = Vec::new(alloc);
     for key in &plan.keys {
@@ -62,14 +63,15 @@ fn act(
     text: &[u8],
     items: &mut Vec<Item>,
 ) -> Result<(), Fail>
-    requires sound { IsSound (deployed_as plan.now) }
+    requires sound { IsSoundDeployment (deployed_as plan.now) }
     requires names { IsTrue (are_valid plan.now.names) }
     requires parts { length plan.now.app.parts.items ≡ 0 }
     requires sites { world.old.sites ≡ [] }
     requires stands { (w : Reached) × Stands (setting weak (deployed_as plan.now) []) world.old w }
     requires goes_on { world.old.wanted ≡ false }
     ensures sites { world.new.sites ≡ [] }
-    ensures stands { IfOk result (λ x. (w : Reached) × Stands (setting weak (deployed_as plan.now) []) world.new w) }
+    ensures stands { IfOk result (λ x. (w : Reached)
+        × Stands (setting weak (deployed_as plan.now) []) world.new w) }
     ensures goes_on { IfOk result (λ x. world.new.wanted ≡ false) }
 {
     let line = parse_line(alloc, &plan.names, text)?;

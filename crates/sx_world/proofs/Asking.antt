@@ -18,12 +18,12 @@ use Rattle.sx_model.specs.Step.{is_vouched, asked_of, was_attested}
 use Rattle.sx_model.specs.Renewal.{may_attest, boot_of, renewed}
 use Rattle.sx_world.specs.Setting.{Site, Setting}
 use Rattle.sx_world.specs.Wire.{low_first, number_in, ask_packet, challenge_in, is_ask}
-use Rattle.sx_world.specs.Ledger.{Made, NO_TARGET, made, is_made}
-use Rattle.sx_world.specs.Deployer.{DeployerState, Grant, asked, accepts, accepted, grants_of, grant_to, grant_beyond, grants_beyond, grants_after, set_key, set_key_entry}
+use Rattle.sx_world.specs.Ledger.{Made, NO_TARGET, made_entry, is_made}
+use Rattle.sx_world.specs.Deployer.{DeployerState, Grant, after_ask, accepts, after_acceptance, grants_of, grant_to, grant_beyond, grants_beyond, grants_after, set_key, set_key_entry}
 use Rattle.sx_world.specs.State.{World, Acted}
 use Rattle.sx_world.specs.Observation.{unless_made}
-use Rattle.sx_world.specs.Acts.{then_, with_packet, with_deployer, ask, key_given, keys_given, attested, denied, open_ask, attested_at, judged, answered}
-use Rattle.sx_world.specs.Run.{counted}
+use Rattle.sx_world.specs.Acts.{then_, with_packet, with_deployer, ask, key_given, keys_given, attested, after_denial, open_ask, attested_at, after_verdict, after_answer}
+use Rattle.sx_world.specs.Run.{line_counted}
 use Rattle.sx_world.proofs.Lists.{get_same, get_other, get_some, get_within, length_set, some_inj}
 use Rattle.sx_world.proofs.Entries.{made_behind}
 use Rattle.sx_world.proofs.Unique.{eq_refl}
@@ -273,11 +273,11 @@ module _ (set : Setting) (w : World) (mo : Model) (m : ℕ) (x : Standing) (t : 
   pub asked_step : (a : ℕ) → a ≡ mo.asks → asked_of mo m a ≡ Some (model_with (with_asked a) mo.epochs (mo.asks + 1))
   asked_step a e = rw (there, e, eq_refl mo.asks) refl
 
-  asked_fares : (lines : w.lines < 65536) → Fares (judge set.app mo (ask (counted w) m).items) (Tied set (ask (counted w) m).world)
+  asked_fares : (lines : w.lines < 65536) → Fares (judge set.app mo (ask (line_counted w) m).items) (Tied set (ask (line_counted w) m).world)
   asked_fares lines =
       let a = w.deployer.asks in
       let y = with_asked a in
-      let d = asked w.deployer m in
+      let d = after_ask w.deployer m in
       let w1 : World = record { nodes = w.nodes; packets = w.packets; deployer = d; ledger = w.ledger; lines = w.lines + 1; steps = w.steps } in
       let same : model_with y mo.epochs (mo.asks + 1) ≡ model_with y d.epochs d.asks = ap (λ n. model_with y mo.epochs (n + 1)) (sym t.asks) ∙ ap (λ es. model_with y es d.asks) (sym t.epochs) in
       let room : (o : Option (List ℕ)) × (slice_get w.deployer.open_asks m ≡ Some o) = get_some w.deployer.open_asks m (omega (arith, get_within mo.modules m x there, t.size.modules, t.size.asks)) in
@@ -300,7 +300,7 @@ module _ (set : Setting) (w : World) (mo : Model) (m : ℕ) (x : Standing) (t : 
         floors = λ v c e. subst (λ es. slice_index v.floors c ≤ slice_index es c) (sym t.epochs) (old.floors v c e);
       })
       (λ k ne. (get_other w.deployer.open_asks m k (Some (ask_packet a)) ne, refl)) in
-      fares_then set.app mo (item.Ask m a ∷ []) (item.Packet (length w.packets) (length (ask_packet a)) ∷ []) (Tied set w1) (Tied set (ask (counted w) m).world)
+      fares_then set.app mo (item.Ask m a ∷ []) (item.Packet (length w.packets) (length (ask_packet a)) ∷ []) (Tied set w1) (Tied set (ask (line_counted w) m).world)
       (subst (λ (o : Option Model). Fares (Rattle.sx_world.proofs.Verdicts.judge_on o (λ z. Going z)) (Tied set w1)) (sym (asked_step a t.asks ∙ ap Some same)) tied)
       (λ mo1 t1. tied_packet set w1 mo1 (ask_packet a) t1)
 
@@ -441,9 +441,9 @@ module _ (set : Setting) (w : World) (mo : Model) (m : ℕ) (site : Site) (boot 
   accepted_fares : (ask : List ℕ) (x : Standing) (a : ℕ) (last : Option ℕ) → slice_get mo.modules m ≡ Some x → last ≡ boot_of x.attested → may_attest m set.app.links w.deployer.epochs last boot ≡ true → x.asked ≡ Some a → ask ≡ ask_packet a
       → Fares (judge set.app mo (attested set w m boot ask last).items) (Tied set (attested set w m boot ask last).world)
   accepted_fares ask x a last there was_last may asked_a same =
-      let d = accepted set.app.links w.deployer m boot last in
+      let d = after_acceptance set.app.links w.deployer m boot last in
       let w1 = with_deployer w d w.ledger in
-      let entry : Made = made (maker.Module m) NO_TARGET boot ask [] in
+      let entry : Made = made_entry (maker.Module m) NO_TARGET boot ask [] in
       let rest = keys_given set (grants_after set.app d m boot last) w1 in
       let new : Attestation = record { boot = boot; floors = d.epochs } in
       let y : Standing = record { present = x.present; asked = None; vouched = x.vouched; attested = Some new } in
@@ -506,11 +506,11 @@ module _ (set : Setting) (w : World) (mo : Model) (m : ℕ) (site : Site) (boot 
   answered_if true x y f g = f refl
   answered_if false x y f g = g
 
-  judged_fares : (o : Option (List ℕ)) → open_ask (slice_get w.deployer.open_asks m) ≡ o → Fares (judge set.app mo (judged set w m site boot answer o).items) (Tied set (judged set w m site boot answer o).world)
+  judged_fares : (o : Option (List ℕ)) → open_ask (slice_get w.deployer.open_asks m) ≡ o → Fares (judge set.app mo (after_verdict set w m site boot answer o).items) (Tied set (after_verdict set w m site boot answer o).world)
   judged_fares None e = t
   judged_fares (Some ask) e =
       let last = attested_at (slice_get w.deployer.attested m) in
-      answered_if (accepts set site w.deployer m boot answer (Some ask) last) (attested set w m boot ask last) (denied w m) (λ ok.
+      answered_if (accepts set site w.deployer m boot answer (Some ask) last) (attested set w m boot ask last) (after_denial w m) (λ ok.
       let p = open_parts (slice_get w.deployer.open_asks m) ask e in
       let within = get_within w.deployer.open_asks m (Some ask) p in
       let x : (x : Standing) × (slice_get mo.modules m ≡ Some x) = get_some mo.modules m (omega (arith, within, t.size.modules, t.size.asks)) in
@@ -519,11 +519,11 @@ module _ (set : Setting) (w : World) (mo : Model) (m : ℕ) (site : Site) (boot 
       let a = asked_parts x.0.asked ask d.open_ask in
       accepted_fares ask x.0 a.0 last x.1 (ap attested_at at.1 ∙ d.when_attested) (and_parts _ (may_attest m set.app.links w.deployer.epochs last boot) ok).1 a.1 a.2) t
 
-  pub answered_fares : Fares (judge set.app mo (answered set w m boot (Some site) (Some answer)).items) (Tied set (answered set w m boot (Some site) (Some answer)).world)
+  pub answered_fares : Fares (judge set.app mo (after_answer set w m boot (Some site) (Some answer)).items) (Tied set (after_answer set w m boot (Some site) (Some answer)).world)
   answered_fares = judged_fares (open_ask (slice_get w.deployer.open_asks m)) refl
 
 -- an ask of a module of the application
-pub ask_fares : (set : Setting) (w : World) (m : ℕ) → m < length set.app.parts → w.lines < 65536 → (mo : Model) → Tied set w mo → Fares (judge set.app mo (ask (counted w) m).items) (Tied set (ask (counted w) m).world)
+pub ask_fares : (set : Setting) (w : World) (m : ℕ) → m < length set.app.parts → w.lines < 65536 → (mo : Model) → Tied set w mo → Fares (judge set.app mo (ask (line_counted w) m).items) (Tied set (ask (line_counted w) m).world)
 ask_fares set w m lt lines mo t =
     let x : (x : Standing) × (slice_get mo.modules m ≡ Some x) = get_some mo.modules m (omega (arith, lt, t.size.modules)) in
     asked_fares set w mo m x.0 t x.1 lines

@@ -17,7 +17,7 @@ use Rattle.sx_machine.specs.declared.kinds.Refused.{Refused}
 use Rattle.sx_machine.specs.declared.kinds.Seen.{Seen}
 use Rattle.sx_machine.specs.Memory.{put_bytes}
 use Rattle.sx_machine.specs.Registers.{set_reg}
-use Rattle.sx_bus.specs.Devices.{sensed}
+use Rattle.sx_bus.specs.Devices.{with_sample}
 use Rattle.sx_machine.specs.Node.{IsNode, shapes}
 use Rattle.sx_machine.specs.Node as node
 use Rattle.sx_machine.specs.State.{State, reset}
@@ -25,15 +25,15 @@ use Rattle.sx_machine.specs.Step.{step}
 use Rattle.sx_machine.specs.Acts.{put_refusal, busy}
 use Rattle.sx_machine.specs.Acts.{put as put_at, set as set_register, take as take_from, sense as sense_on, irq as interrupt}
 use Rattle.sx_machine.specs.Guard as guard
-use Rattle.sx_machine.proofs.Boots.{acted_counts, step_quiet}
+use Rattle.sx_machine.proofs.Boots.{boots_count, step_quiet}
 use Rattle.sx_machine.proofs.Stays.{acted_is_node, acted_shapes}
 use Rattle.sx_world.specs.Setting.{Site, Setting, windows_at}
 use Rattle.sx_world.specs.Ledger.{Made}
-use Rattle.sx_world.specs.Deployer.{DeployerState, accepts, Grant, accepted, asked, grants_of, grant_to, grant_beyond, grants_beyond, grants_after}
+use Rattle.sx_world.specs.Deployer.{DeployerState, accepts, Grant, after_acceptance, after_ask, grants_of, grant_to, grant_beyond, grants_beyond, grants_after}
 use Rattle.sx_world.specs.State.{World, Acted, switched_on}
-use Rattle.sx_world.specs.Acts.{only, then_, with_node, at_node, stepped, done_on, with_deployer, with_packet, took, interrupted, ask, key_given, keys_given, attested, denied, judged, answered, open_ask, attested_at}
-use Rattle.sx_world.specs.Run.{is_reset, steps_of, FINISH_STEPS, finish, put_on, set_on, give, place_at, sense_at, put_pieces, Register, set_all, register, unless_busy, load, call, acted, counted, run}
-use Rattle.sx_world.specs.Law.{IsSound, IsInForm, AreInForm}
+use Rattle.sx_world.specs.Acts.{only, then_, with_node, at_node, after_step, done_on, with_deployer, with_packet, after_take, after_interrupt, ask, key_given, keys_given, attested, after_denial, after_verdict, after_answer, open_ask, attested_at}
+use Rattle.sx_world.specs.Run.{is_reset, steps_of, FINISH_STEPS, finish, put_on, set_on, give, place_at, sense_at, put_pieces, Register, set_all, register, unless_busy, load, call, after_line, line_counted, run}
+use Rattle.sx_world.specs.Law.{IsSoundSetting, LineInForm, LinesInForm}
 use Rattle.sx_world.proofs.Lists.{get_same, get_other, get_some, get_within, length_set, some_inj}
 use Rattle.sx_world.proofs.Doing.{unless_boot}
 use Rattle.sx_world.proofs.Going.{no_reset}
@@ -129,7 +129,7 @@ module _ (set : Setting) where
 
   -- an act of a node
   acts : (b c t u p a : ℕ) (w : World) (n : ℕ) (s : State) (act : guard.Act) (ledger : List Made) (steps : ℕ) → Within b t p a w → slice_get w.nodes n ≡ Some s
-      → node.IsInForm act → (guard.acted set.mac act s).state.boot ≤ c → b ≤ c → steps ≤ u → Within c u p a (with_node w n (guard.acted set.mac act s).state ledger steps)
+      → node.ActInForm act → (guard.acted set.mac act s).state.boot ≤ c → b ≤ c → steps ≤ u → Within c u p a (with_node w n (guard.acted set.mac act s).state ledger steps)
   acts b c t u p a w n s act ledger steps h here form few le lt = record {
     as_many = length_set w.nodes n (guard.acted set.mac act s).state ∙ h.as_many;
     nodes = λ k x there. elim (cases_eq k n) as (λ z. NodeWithin c k x) [
@@ -152,15 +152,15 @@ module _ (set : Setting) where
 
   -- one that keeps the count of resets
   quiet : (b t u p a : ℕ) (w : World) (n : ℕ) (s : State) (act : guard.Act) (ledger : List Made) (steps : ℕ) → Within b t p a w → slice_get w.nodes n ≡ Some s
-      → node.IsInForm act → (guard.acted set.mac act s).state.boot ≡ s.boot → steps ≤ u → Within b u p a (with_node w n (guard.acted set.mac act s).state ledger steps)
+      → node.ActInForm act → (guard.acted set.mac act s).state.boot ≡ s.boot → steps ≤ u → Within b u p a (with_node w n (guard.acted set.mac act s).state ledger steps)
   quiet b t u p a w n s act ledger steps h here form same lt =
       acts b b t u p a w n s act ledger steps h here form (omega (arith, same, (h.nodes n s here).boot)) (omega arith) lt
 
   -- one that may reset the node
   loud : (b t u p a : ℕ) (w : World) (n : ℕ) (s : State) (act : guard.Act) (ledger : List Made) (steps : ℕ) → Within b t p a w → slice_get w.nodes n ≡ Some s
-      → node.IsInForm act → steps ≤ u → Within (b + 1) u p a (with_node w n (guard.acted set.mac act s).state ledger steps)
+      → node.ActInForm act → steps ≤ u → Within (b + 1) u p a (with_node w n (guard.acted set.mac act s).state ledger steps)
   loud b t u p a w n s act ledger steps h here form lt =
-      acts b (b + 1) t u p a w n s act ledger steps h here form (omega (arith, (acted_counts set.mac act s).1, (h.nodes n s here).boot)) (omega arith) lt
+      acts b (b + 1) t u p a w n s act ledger steps h here form (omega (arith, (boots_count set.mac act s).1, (h.nodes n s here).boot)) (omega arith) lt
 
   at : (P : World → Type 0) (w : World) (act : State → Acted) (o : Option State) → P w → ((s : State) → o ≡ Some s → P (act s).world) → P (at_node w act o).world
   at P w act None h f = h
@@ -178,15 +178,15 @@ module _ (set : Setting) where
   steps_within : (stops : State → Bool) (items : List Item) (n k b t p a : ℕ) (w : World) → Within b t p a w → Within (b + 1) (t + k) p a (steps_of set stops items n k w).world
   steps_within stops items n zero b t p a w h = more b t p a (b + 1) (t + 0) p a w h (omega arith) (omega arith) (omega arith) (omega arith)
   steps_within stops items n (suc k) b t p a w h =
-      at (Within (b + 1) (t + suc k) p a) w (λ s. if is_reset (step set.mac s).shown.event || stops (step set.mac s).state then stepped set w n s else then_ (stepped set w n s) (steps_of set stops items n k))
+      at (Within (b + 1) (t + suc k) p a) w (λ s. if is_reset (step set.mac s).shown.event || stops (step set.mac s).state then after_step set w n s else then_ (after_step set w n s) (steps_of set stops items n k))
       (slice_get w.nodes n) (more b t p a (b + 1) (t + suc k) p a w h (omega arith) (omega arith) (omega arith) (omega arith)) (λ s here.
-      either (Within (b + 1) (t + suc k) p a) (is_reset (step set.mac s).shown.event) (stops (step set.mac s).state) (stepped set w n s) (then_ (stepped set w n s) (steps_of set stops items n k))
-      (loud b t (t + suc k) p a w n s guard.Step (stepped set w n s).world.ledger (w.steps + 1) h here tt (omega (arith, h.steps)))
+      either (Within (b + 1) (t + suc k) p a) (is_reset (step set.mac s).shown.event) (stops (step set.mac s).state) (after_step set w n s) (then_ (after_step set w n s) (steps_of set stops items n k))
+      (loud b t (t + suc k) p a w n s guard.Step (after_step set w n s).world.ledger (w.steps + 1) h here tt (omega (arith, h.steps)))
       (λ calm.
-      let one : Within b (t + 1) p a (stepped set w n s).world =
-      quiet b t (t + 1) p a w n s guard.Step (stepped set w n s).world.ledger (w.steps + 1) h here tt (step_quiet set.mac s (λ v e. no_reset (step set.mac s).shown.event v calm e)) (omega (arith, h.steps)) in
-      more (b + 1) (t + 1 + k) p a (b + 1) (t + suc k) p a (steps_of set stops items n k (stepped set w n s).world).world
-      (steps_within stops items n k b (t + 1) p a (stepped set w n s).world one) (omega arith) (omega arith) (omega arith) (omega arith)))
+      let one : Within b (t + 1) p a (after_step set w n s).world =
+      quiet b t (t + 1) p a w n s guard.Step (after_step set w n s).world.ledger (w.steps + 1) h here tt (step_quiet set.mac s (λ v e. no_reset (step set.mac s).shown.event v calm e)) (omega (arith, h.steps)) in
+      more (b + 1) (t + 1 + k) p a (b + 1) (t + suc k) p a (steps_of set stops items n k (after_step set w n s).world).world
+      (steps_within stops items n k b (t + 1) p a (after_step set w n s).world one) (omega arith) (omega arith) (omega arith) (omega arith)))
 
   finish_within : (n b t p a : ℕ) (w : World) → Within b t p a w → Within (b + 1) (t + 1000000) p a (finish set n w).world
   finish_within n b t p a w h =
@@ -234,10 +234,10 @@ module _ (set : Setting) where
     priv_to : site.layout.priv_to < 65536
 
   -- the part that is deployed at a site
-  pub part_at : (m : ℕ) (site : Site) → IsSound set → slice_get set.sites m ≡ Some site → (q : PartTree) × (slice_get set.app.parts m ≡ Some q)
+  pub part_at : (m : ℕ) (site : Site) → IsSoundSetting set → slice_get set.sites m ≡ Some site → (q : PartTree) × (slice_get set.app.parts m ≡ Some q)
   part_at m site sound e = get_some set.app.parts m (let lt = get_within set.sites m site e in omega (arith, lt, sound.sites))
 
-  has_words : (m : ℕ) (site : Site) → IsSound set → slice_get set.sites m ≡ Some site → HasWords site
+  has_words : (m : ℕ) (site : Site) → IsSoundSetting set → slice_get set.sites m ≡ Some site → HasWords site
   has_words m site sound e =
       let q = part_at m site sound e in
       let d = sound.deployed m q.0 site q.1 e in
@@ -283,7 +283,7 @@ module _ (set : Setting) where
   sense_within b t p a w d v (Some x) lt h =
       at (Within b t p a) w (λ s. done_on w x.node (item.Sense d v ∷ []) (sense_on s (place_at set x.node d) v)) (slice_get w.nodes x.node) h
       (λ s here. quiet b t t p a w x.node s (guard.Sense (place_at set x.node d) v) w.ledger w.steps h here lt
-      (unless_boot {T = Unit {0}} (busy s) s (record { state = record s { devices = sensed s.devices (place_at set x.node d) v }; shown = tt }) refl) h.steps)
+      (unless_boot {T = Unit {0}} (busy s) s (record { state = record s { devices = with_sample s.devices (place_at set x.node d) v }; shown = tt }) refl) h.steps)
 
   packet_within : (b t p a : ℕ) (w : World) (bytes : List ℕ) → Within b t p a w → Within b t (p + 1) a (with_packet w bytes).world
   packet_within b t p a w bytes h = record {
@@ -297,14 +297,14 @@ module _ (set : Setting) where
   deployer_within : (b t p a e : ℕ) (w : World) (d : DeployerState) (ledger : List Made) → d.asks ≤ e → Within b t p a w → Within b t p e (with_deployer w d ledger)
   deployer_within b t p a e w d ledger le h = record { as_many = h.as_many; nodes = h.nodes; steps = h.steps; packets = h.packets; asks = le }
 
-  took_within : (b t p a : ℕ) (w : World) (n : ℕ) (r : Result (List ℕ) Refused) → Within b t p a w → Within b t (p + 1) a (took w n r).world
+  took_within : (b t p a : ℕ) (w : World) (n : ℕ) (r : Result (List ℕ) Refused) → Within b t p a w → Within b t (p + 1) a (after_take w n r).world
   took_within b t p a w n (Ok bytes) h = packet_within b t p a w bytes h
   took_within b t p a w n (Err why) h = more b t p a b t (p + 1) a w h (omega arith) (omega arith) (omega arith) (omega arith)
 
   irq_within : (b t p a : ℕ) (w : World) (n line : ℕ) (s : State) (r : Result Seen Refused) → slice_get w.nodes n ≡ Some s → Within b t p a w
-      → Within (b + 1) t p a (interrupted set w n (interrupt s line).state r).world
+      → Within (b + 1) t p a (after_interrupt set w n (interrupt s line).state r).world
   irq_within b t p a w n line s (Ok seen) here h =
-      loud b t t p a w n s (guard.Interrupt line) (interrupted set w n (interrupt s line).state (Ok seen)).world.ledger w.steps h here tt h.steps
+      loud b t t p a w n s (guard.Interrupt line) (after_interrupt set w n (interrupt s line).state (Ok seen)).world.ledger w.steps h here tt h.steps
   irq_within b t p a w n line s (Err why) here h = more b t p a (b + 1) t p a w h (omega arith) (omega arith) (omega arith) (omega arith)
 
   key_within : (b t p a : ℕ) (w : World) (g : Grant) (o : Option Site) → Within b t p a w → Within b t (p + 1) a (key_given set w g o).world
@@ -319,20 +319,20 @@ module _ (set : Setting) where
       (keys_within b t (p + 1) a gs one.world (key_within b t p a w g (slice_get set.sites g.holder) h)) (omega arith) (omega arith) (omega arith) (omega arith)
 
   judged_within : (b t p a : ℕ) (w : World) (m : ℕ) (site : Site) (boot : ℕ) (answer : List ℕ) (o : Option (List ℕ)) → length set.app.links ≤ 64
-      → Within b t p a w → Within b t (p + 192) a (judged set w m site boot answer o).world
+      → Within b t p a w → Within b t (p + 192) a (after_verdict set w m site boot answer o).world
   judged_within b t p a w m site boot answer None few h = more b t p a b t (p + 192) a w h (omega arith) (omega arith) (omega arith) (omega arith)
   judged_within b t p a w m site boot answer (Some ask) few h =
       let last = attested_at (slice_get w.deployer.attested m) in
-      let d = accepted set.app.links w.deployer m boot last in
+      let d = after_acceptance set.app.links w.deployer m boot last in
       let gs = grants_after set.app d m boot last in
       let some = after_few set d m boot last few in
-      choose (Within b t (p + 192) a) (accepts set site w.deployer m boot answer (Some ask) last) (attested set w m boot ask last) (denied w m)
+      choose (Within b t (p + 192) a) (accepts set site w.deployer m boot answer (Some ask) last) (attested set w m boot ask last) (after_denial w m)
       (more b t (p + length gs) a b t (p + 192) a (attested set w m boot ask last).world
       (keys_within b t p a gs (with_deployer w d w.ledger) (deployer_within b t p a a w d w.ledger h.asks h)) (omega arith) (omega arith) (omega (arith, some)) (omega arith))
       (more b t p a b t (p + 192) a w h (omega arith) (omega arith) (omega arith) (omega arith))
 
   answered_within : (b t p a : ℕ) (w : World) (m boot : ℕ) (o : Option Site) (packet : Option (List ℕ)) → length set.app.links ≤ 64
-      → Within b t p a w → Within b t (p + 192) a (answered set w m boot o packet).world
+      → Within b t p a w → Within b t (p + 192) a (after_answer set w m boot o packet).world
   answered_within b t p a w m boot None packet few h = more b t p a b t (p + 192) a w h (omega arith) (omega arith) (omega arith) (omega arith)
   answered_within b t p a w m boot (Some site) None few h = more b t p a b t (p + 192) a w h (omega arith) (omega arith) (omega arith) (omega arith)
   answered_within b t p a w m boot (Some site) (Some answer) few h = judged_within b t p a w m site boot answer (open_ask (slice_get w.deployer.open_asks m)) few h
@@ -341,7 +341,7 @@ module _ (set : Setting) where
   abbrev pub Leaves : ℕ → ℕ → ℕ → ℕ → Line → World → Type 0
   Leaves b t p a line v = Within (b + 1) (t + steps_in line) (p + 192) (a + 1) v
 
-  pub line_within : (line : Line) (b t p a : ℕ) (w : World) → IsSound set → IsInForm set line → Within b t p a w → Leaves b t p a line (acted set w line).world
+  pub line_within : (line : Line) (b t p a : ℕ) (w : World) → IsSoundSetting set → LineInForm set line → Within b t p a w → Leaves b t p a line (after_line set w line).world
   line_within Blank b t p a w sound form h = more b t p a (b + 1) (t + 1000000) (p + 192) (a + 1) w h (omega arith) (omega arith) (omega arith) (omega arith)
   line_within (Run n k) b t p a w sound form h =
       more (b + 1) (t + k) p a (b + 1) (t + k) (p + 192) (a + 1) _ (steps_within (λ s. false) [] n k b t p a w h) (omega arith) (omega arith) (omega arith) (omega arith)
@@ -353,7 +353,7 @@ module _ (set : Setting) where
       more b t p a (b + 1) (t + 1000000) (p + 192) (a + 1) _ (set_within n r v b t p a w form.1 h) (omega arith) (omega arith) (omega arith) (omega arith)
   line_within (Take n place len) b t p a w sound form h =
       more b t (p + 1) a (b + 1) (t + 1000000) (p + 192) (a + 1) _
-      (at (Within b t (p + 1) a) w (λ s. took w n (take_from s place len).shown) (slice_get w.nodes n) (more b t p a b t (p + 1) a w h (omega arith) (omega arith) (omega arith) (omega arith))
+      (at (Within b t (p + 1) a) w (λ s. after_take w n (take_from s place len).shown) (slice_get w.nodes n) (more b t p a b t (p + 1) a w h (omega arith) (omega arith) (omega arith) (omega arith))
       (λ s here. took_within b t p a w n (take_from s place len).shown h)) (omega arith) (omega arith) (omega arith) (omega arith)
   line_within (Give k n place) b t p a w sound form h =
       more b t p a (b + 1) (t + 1000000) (p + 192) (a + 1) _ (give_within n place b t p a w (slice_get w.packets k) h) (omega arith) (omega arith) (omega arith) (omega arith)
@@ -363,7 +363,7 @@ module _ (set : Setting) where
       more b t p a (b + 1) (t + 1000000) (p + 192) (a + 1) _ (sense_within b t p a w d v (slice_get set.app.devices d) form.1 h) (omega arith) (omega arith) (omega arith) (omega arith)
   line_within (Irq n line) b t p a w sound form h =
       more (b + 1) t p a (b + 1) (t + 1000000) (p + 192) (a + 1) _
-      (at (Within (b + 1) t p a) w (λ s. interrupted set w n (interrupt s line).state (interrupt s line).shown) (slice_get w.nodes n)
+      (at (Within (b + 1) t p a) w (λ s. after_interrupt set w n (interrupt s line).state (interrupt s line).shown) (slice_get w.nodes n)
       (more b t p a (b + 1) t p a w h (omega arith) (omega arith) (omega arith) (omega arith)) (λ s here. irq_within b t p a w n line s (interrupt s line).shown here h))
       (omega arith) (omega arith) (omega arith) (omega arith)
   line_within (Reset n) b t p a w sound form h =
@@ -372,7 +372,7 @@ module _ (set : Setting) where
       (more b t p a (b + 1) t p a w h (omega arith) (omega arith) (omega arith) (omega arith))
       (λ s here. loud b t t p a w n s guard.Restart w.ledger w.steps h here tt h.steps)) (omega arith) (omega arith) (omega arith) (omega arith)
   line_within (Ask m) b t p a w sound form h =
-      let d = asked w.deployer m in
+      let d = after_ask w.deployer m in
       more b t (p + 1) (a + 1) (b + 1) (t + 1000000) (p + 192) (a + 1) _
       (packet_within b t p (a + 1) (with_deployer w d w.ledger) _ (deployer_within b t p a (a + 1) w d w.ledger (omega (arith, h.asks)) h)) (omega arith) (omega arith) (omega arith) (omega arith)
   line_within (Answer m boot k) b t p a w sound form h =
@@ -383,23 +383,23 @@ module _ (set : Setting) where
       more (b + 1) (t + 1000000) p a (b + 1) (t + 1000000) (p + 192) (a + 1) _
       (call_within b t p a w e input output (slice_get set.sites m) (λ site e. has_words m site sound e) form.0 form.1 form.2 h) (omega arith) (omega arith) (omega arith) (omega arith)
 
-  pub counted_within : (b t p a : ℕ) (w : World) → Within b t p a w → Within b t p a (counted w)
+  pub counted_within : (b t p a : ℕ) (w : World) → Within b t p a w → Within b t p a (line_counted w)
   counted_within b t p a w h = record { as_many = h.as_many; nodes = h.nodes; steps = h.steps; packets = h.packets; asks = h.asks }
 
   -- what this many lines leave of a world, at whatever number of steps
   abbrev Left : ℕ → ℕ → ℕ → World → Type 0
   Left b p a w = (t : ℕ) × Within b t p a w
 
-  run_within : (lines : List Line) (b t p a : ℕ) (w : World) → IsSound set → AreInForm set lines → Within b t p a w
+  run_within : (lines : List Line) (b t p a : ℕ) (w : World) → IsSoundSetting set → LinesInForm set lines → Within b t p a w
       → Left (b + length lines) (p + 192 * length lines) (a + length lines) (run set w lines).world
   run_within [] b t p a w sound form h = (t, more b t p a (b + 0) t (p + 192 * 0) (a + 0) w h (omega arith) (omega arith) (omega arith) (omega arith))
   run_within (line ∷ lines) b t p a w sound form h =
-      let next = acted set (counted w) line in
+      let next = after_line set (line_counted w) line in
       let n = length lines in
-      let r = run_within lines (b + 1) (t + steps_in line) (p + 192) (a + 1) next.world sound form.1 (line_within line b t p a (counted w) sound form.0 (counted_within b t p a w h)) in
+      let r = run_within lines (b + 1) (t + steps_in line) (p + 192) (a + 1) next.world sound form.1 (line_within line b t p a (line_counted w) sound form.0 (counted_within b t p a w h)) in
       (r.0, more (b + 1 + n) r.0 (p + 192 + 192 * n) (a + 1 + n) (b + suc n) r.0 (p + 192 * suc n) (a + suc n) (run set next.world lines).world r.1 (omega arith) (omega arith) (omega arith) (omega arith))
 
-  starts_within : IsSound set → Within 0 0 0 0 (switched_on set)
+  starts_within : IsSoundSetting set → Within 0 0 0 0 (switched_on set)
   starts_within sound = record {
     as_many = nodes_long set 0 set.keys;
     nodes = λ n s here.
@@ -412,7 +412,7 @@ module _ (set : Setting) where
   }
 
   -- after this many lines in form
-  pub lines_within : (lines : List Line) → IsSound set → AreInForm set lines
+  pub lines_within : (lines : List Line) → IsSoundSetting set → LinesInForm set lines
       → Left (length lines) (192 * length lines) (length lines) (run set (switched_on set) lines).world
   lines_within lines sound form =
       let n = length lines in

@@ -15,7 +15,7 @@ use Rattle.sx_machine.specs.declared.kinds.Touch.TheVariants as touch
 use Rattle.sx_machine.specs.Memory.{bytes_from}
 use Rattle.sx_machine.specs.State.{State, reset}
 use Rattle.sx_machine.specs.Step.{step, own_of}
-use Rattle.sx_machine.specs.Guard.{Kept}
+use Rattle.sx_machine.specs.Guard.{PrivateKept}
 use Rattle.sx_machine.proofs.StepGuard.{step_guarded}
 use Rattle.sx_image.specs.Watched.{marks_of_touches, violation_of}
 use Rattle.sx_invoke.specs.ModuleState.{state_of}
@@ -39,7 +39,7 @@ same_bytes m n at (suc len) f =
     let two : slice_index n (at + len) ≡ slice_index m (at + len) = f (at + len) (omega arith) (omega arith) in
     ap (λ z. z ++ slice_index n (at + len) ∷ []) one ∙ ap (λ v. bytes_from m at len ++ v ∷ []) two
 
-pub kept_bytes : (sec : Section) (m n : List ℕ) → Kept sec m n → private_bytes sec.layout n ≡ private_bytes sec.layout m
+pub kept_bytes : (sec : Section) (m n : List ℕ) → PrivateKept sec m n → private_bytes sec.layout n ≡ private_bytes sec.layout m
 kept_bytes sec m n h =
     same_bytes m n sec.layout.priv_from (sec.layout.priv_to - sec.layout.priv_from) (λ k a b.
     h k (and_from (nat_le sec.layout.priv_from k) (nat_lt k sec.layout.priv_to) (le-leb sec.layout.priv_from k a) (lt-ltb k sec.layout.priv_to (omega (arith, a, b)))))

@@ -16,9 +16,9 @@ use Rattle.sx_model.specs.Step.{is_sensor, kind_is}
 use Rattle.sx_model.specs.Legal.{Legal, before}
 use Rattle.sx_world.specs.Setting.{Site, Setting}
 use Rattle.sx_world.specs.State.{World, Acted, switched_on}
-use Rattle.sx_world.specs.Acts.{only, then_, with_node, at_node, stepped, refused_item, done_on, with_packet, took, interrupted, ask as asks, answered}
-use Rattle.sx_world.specs.Run.{is_reset, steps_of, FINISH_STEPS, finish, put_on, set_on, give, place_at, sense_at, put_pieces, Register, set_all, register, unless_busy, load, call, acted, counted, run}
-use Rattle.sx_world.specs.Law.{IsInForm, AreInForm}
+use Rattle.sx_world.specs.Acts.{only, then_, with_node, at_node, after_step, refused_item, done_on, with_packet, after_take, after_interrupt, ask as asks, after_answer}
+use Rattle.sx_world.specs.Run.{is_reset, steps_of, FINISH_STEPS, finish, put_on, set_on, give, place_at, sense_at, put_pieces, Register, set_all, register, unless_busy, load, call, after_line, line_counted, run}
+use Rattle.sx_world.specs.Law.{LineInForm, LinesInForm}
 use Rattle.sx_world.proofs.Verdicts.{judge, Fares, fares_then, legal_of}
 use Rattle.sx_world.proofs.Tied.{Tied}
 
@@ -28,17 +28,17 @@ Keeps set w a = (mo : Model) → Tied set w mo → Fares (judge set.app mo a.ite
 
 -- so does each act that a schedule is made of
 pub record ActsKeep (set : Setting) : Type 0 where
-  pub step : (w : World) (n : ℕ) (s : State) → slice_get w.nodes n ≡ Some s → Keeps set w (stepped set w n s)
+  pub step : (w : World) (n : ℕ) (s : State) → slice_get w.nodes n ≡ Some s → Keeps set w (after_step set w n s)
   pub put : (w : World) (n at : ℕ) (bytes : List ℕ) (s : State) → slice_get w.nodes n ≡ Some s → Keeps set w (done_on w n [] (put_at s at bytes))
   pub set_ : (w : World) (n r v : ℕ) (s : State) → r < 16 → v < 65536 → slice_get w.nodes n ≡ Some s → Keeps set w (done_on w n [] (set_register s r v))
-  pub take : (w : World) (n at len : ℕ) (s : State) → slice_get w.nodes n ≡ Some s → Keeps set w (took w n (take_from s at len).shown)
+  pub take : (w : World) (n at len : ℕ) (s : State) → slice_get w.nodes n ≡ Some s → Keeps set w (after_take w n (take_from s at len).shown)
   pub packet : (w : World) (bytes : List ℕ) → Keeps set w (with_packet w bytes)
   pub sense : (w : World) (d v : ℕ) (x : AppDevice) (s : State) → slice_get set.app.devices d ≡ Some x → is_sensor x.kind ≡ true → v < 32768 → slice_get w.nodes x.node ≡ Some s
       → Keeps set w (done_on w x.node (item.Sense d v ∷ []) (sense_on s (place_at set x.node d) v))
-  pub irq : (w : World) (n line : ℕ) (s : State) → line < 15 → slice_get w.nodes n ≡ Some s → Keeps set w (interrupted set w n (interrupt s line).state (interrupt s line).shown)
+  pub irq : (w : World) (n line : ℕ) (s : State) → line < 15 → slice_get w.nodes n ≡ Some s → Keeps set w (after_interrupt set w n (interrupt s line).state (interrupt s line).shown)
   pub reset : (w : World) (n : ℕ) (s : State) → slice_get w.nodes n ≡ Some s → Keeps set w (record { world = with_node w n (restarted s) w.ledger w.steps; items = item.Reset n Asked ∷ [] })
-  pub ask : (w : World) (m : ℕ) → m < length set.app.parts → w.lines < 65536 → (mo : Model) → Tied set w mo → Fares (judge set.app mo (asks (counted w) m).items) (Tied set (asks (counted w) m).world)
-  pub answer : (w : World) (m boot : ℕ) (answer : List ℕ) (site : Site) → slice_get set.sites m ≡ Some site → Keeps set w (answered set w m boot (Some site) (Some answer))
+  pub ask : (w : World) (m : ℕ) → m < length set.app.parts → w.lines < 65536 → (mo : Model) → Tied set w mo → Fares (judge set.app mo (asks (line_counted w) m).items) (Tied set (asks (line_counted w) m).world)
+  pub answer : (w : World) (m boot : ℕ) (answer : List ℕ) (site : Site) → slice_get set.sites m ≡ Some site → Keeps set w (after_answer set w m boot (Some site) (Some answer))
 
 module _ (set : Setting) (keep : ActsKeep set) where
   keeps_nothing : (w : World) → Keeps set w (only w [])
@@ -63,9 +63,9 @@ module _ (set : Setting) (keep : ActsKeep set) where
   keeps_steps : (stops : State → Bool) (items : List Item) (n k : ℕ) (w : World) → ((w : World) → Keeps set w (only w items)) → Keeps set w (steps_of set stops items n k w)
   keeps_steps stops items n zero w f = f w
   keeps_steps stops items n (suc k) w f =
-      keeps_at w (λ s. if is_reset (stepped_node set.mac s).shown.event || stops (stepped_node set.mac s).state then stepped set w n s else then_ (stepped set w n s) (steps_of set stops items n k)) n (slice_get w.nodes n) refl (λ s e.
-      keeps_if w (is_reset (stepped_node set.mac s).shown.event || stops (stepped_node set.mac s).state) (stepped set w n s) (then_ (stepped set w n s) (steps_of set stops items n k)) (keep.step w n s e)
-      (keeps_then w (stepped set w n s) (steps_of set stops items n k) (keep.step w n s e) (keeps_steps stops items n k (stepped set w n s).world f)))
+      keeps_at w (λ s. if is_reset (stepped_node set.mac s).shown.event || stops (stepped_node set.mac s).state then after_step set w n s else then_ (after_step set w n s) (steps_of set stops items n k)) n (slice_get w.nodes n) refl (λ s e.
+      keeps_if w (is_reset (stepped_node set.mac s).shown.event || stops (stepped_node set.mac s).state) (after_step set w n s) (then_ (after_step set w n s) (steps_of set stops items n k)) (keep.step w n s e)
+      (keeps_then w (after_step set w n s) (steps_of set stops items n k) (keep.step w n s e) (keeps_steps stops items n k (after_step set w n s).world f)))
 
   keeps_finish : (n : ℕ) (w : World) → Keeps set w (finish set n w)
   keeps_finish n w = keeps_steps (λ s. s.cur == 0) (item.Budget n ∷ []) n FINISH_STEPS w (λ w mo t. t)
@@ -137,12 +137,12 @@ module _ (set : Setting) (keep : ActsKeep set) where
   keeps_sense w d v (Some x) e k lt =
       keeps_at w (λ s. done_on w x.node (item.Sense d v ∷ []) (sense_on s (place_at set x.node d) v)) x.node (slice_get w.nodes x.node) refl (λ s g. keep.sense w d v x s e k lt g)
 
-  keeps_answer : (w : World) (m boot : ℕ) (o : Option Site) (p : Option (List ℕ)) → slice_get set.sites m ≡ o → Keeps set w (answered set w m boot o p)
+  keeps_answer : (w : World) (m boot : ℕ) (o : Option Site) (p : Option (List ℕ)) → slice_get set.sites m ≡ o → Keeps set w (after_answer set w m boot o p)
   keeps_answer w m boot None p e = λ mo t. t
   keeps_answer w m boot (Some site) None e = λ mo t. t
   keeps_answer w m boot (Some site) (Some answer) e = keep.answer w m boot answer site e
 
-  tied_counted : (w : World) (mo : Model) → w.lines < 65536 → Tied set w mo → Tied set (counted w) mo
+  tied_counted : (w : World) (mo : Model) → w.lines < 65536 → Tied set w mo → Tied set (line_counted w) mo
   tied_counted w mo lt t = record {
     size = record { nodes = t.size.nodes; boots = t.size.boots; devices = t.size.devices; modules = t.size.modules; epochs = t.size.epochs; sent = t.size.sent; asks = t.size.asks; attested = t.size.attested };
     nodes = t.nodes;
@@ -161,38 +161,38 @@ module _ (set : Setting) (keep : ActsKeep set) where
   abbrev pub Wordly : Type 0
   Wordly = (m : ℕ) (site : Site) → slice_get set.sites m ≡ Some site → IsWordly site
 
-  keeps_line : Wordly → (w : World) (line : Line) → w.lines < 65536 → IsInForm set line → Keeps set w (acted set (counted w) line)
+  keeps_line : Wordly → (w : World) (line : Line) → w.lines < 65536 → LineInForm set line → Keeps set w (after_line set (line_counted w) line)
   keeps_line words w Blank lt form mo t = tied_counted w mo lt t
-  keeps_line words w (Run n k) lt form mo t = keeps_steps (λ s. false) [] n k (counted w) keeps_nothing mo (tied_counted w mo lt t)
-  keeps_line words w (Finish n) lt form mo t = keeps_finish n (counted w) mo (tied_counted w mo lt t)
-  keeps_line words w (Put n at bytes) lt form mo t = keeps_put n at bytes (counted w) mo (tied_counted w mo lt t)
-  keeps_line words w (Set n r v) lt form mo t = keeps_set n r v (counted w) form.0 form.1 mo (tied_counted w mo lt t)
+  keeps_line words w (Run n k) lt form mo t = keeps_steps (λ s. false) [] n k (line_counted w) keeps_nothing mo (tied_counted w mo lt t)
+  keeps_line words w (Finish n) lt form mo t = keeps_finish n (line_counted w) mo (tied_counted w mo lt t)
+  keeps_line words w (Put n at bytes) lt form mo t = keeps_put n at bytes (line_counted w) mo (tied_counted w mo lt t)
+  keeps_line words w (Set n r v) lt form mo t = keeps_set n r v (line_counted w) form.0 form.1 mo (tied_counted w mo lt t)
   keeps_line words w (Take n at len) lt form mo t =
-      keeps_at (counted w) (λ s. took (counted w) n (take_from s at len).shown) n (slice_get w.nodes n) refl (λ s e. keep.take (counted w) n at len s e) mo (tied_counted w mo lt t)
-  keeps_line words w (Give k n at) lt form mo t = keeps_give (counted w) n at (slice_get w.packets k) mo (tied_counted w mo lt t)
-  keeps_line words w (Forge bytes) lt form mo t = keep.packet (counted w) bytes mo (tied_counted w mo lt t)
-  keeps_line words w (Sense d v) lt form mo t = keeps_sense (counted w) d v (slice_get set.app.devices d) refl form.0 form.1 mo (tied_counted w mo lt t)
+      keeps_at (line_counted w) (λ s. after_take (line_counted w) n (take_from s at len).shown) n (slice_get w.nodes n) refl (λ s e. keep.take (line_counted w) n at len s e) mo (tied_counted w mo lt t)
+  keeps_line words w (Give k n at) lt form mo t = keeps_give (line_counted w) n at (slice_get w.packets k) mo (tied_counted w mo lt t)
+  keeps_line words w (Forge bytes) lt form mo t = keep.packet (line_counted w) bytes mo (tied_counted w mo lt t)
+  keeps_line words w (Sense d v) lt form mo t = keeps_sense (line_counted w) d v (slice_get set.app.devices d) refl form.0 form.1 mo (tied_counted w mo lt t)
   keeps_line words w (Irq n line) lt form mo t =
-      keeps_at (counted w) (λ s. interrupted set (counted w) n (interrupt s line).state (interrupt s line).shown) n (slice_get w.nodes n) refl (λ s e. keep.irq (counted w) n line s form e) mo (tied_counted w mo lt t)
+      keeps_at (line_counted w) (λ s. after_interrupt set (line_counted w) n (interrupt s line).state (interrupt s line).shown) n (slice_get w.nodes n) refl (λ s e. keep.irq (line_counted w) n line s form e) mo (tied_counted w mo lt t)
   keeps_line words w (Reset n) lt form mo t =
-      keeps_at (counted w) (λ s. record { world = with_node (counted w) n (restarted s) w.ledger w.steps; items = item.Reset n Asked ∷ [] }) n (slice_get w.nodes n) refl (λ s e. keep.reset (counted w) n s e) mo (tied_counted w mo lt t)
+      keeps_at (line_counted w) (λ s. record { world = with_node (line_counted w) n (restarted s) w.ledger w.steps; items = item.Reset n Asked ∷ [] }) n (slice_get w.nodes n) refl (λ s e. keep.reset (line_counted w) n s e) mo (tied_counted w mo lt t)
   keeps_line words w (Ask m) lt form mo t = keep.ask w m form lt mo t
-  keeps_line words w (Answer m boot k) lt form mo t = keeps_answer (counted w) m boot (slice_get set.sites m) (slice_get w.packets k) refl mo (tied_counted w mo lt t)
-  keeps_line words w (Load m) lt form mo t = keeps_load (counted w) (slice_get set.sites m) (words m) mo (tied_counted w mo lt t)
-  keeps_line words w (Call m e input output) lt form mo t = keeps_call (counted w) e input output (slice_get set.sites m) (words m) form.0 form.1 form.2 mo (tied_counted w mo lt t)
+  keeps_line words w (Answer m boot k) lt form mo t = keeps_answer (line_counted w) m boot (slice_get set.sites m) (slice_get w.packets k) refl mo (tied_counted w mo lt t)
+  keeps_line words w (Load m) lt form mo t = keeps_load (line_counted w) (slice_get set.sites m) (words m) mo (tied_counted w mo lt t)
+  keeps_line words w (Call m e input output) lt form mo t = keeps_call (line_counted w) e input output (slice_get set.sites m) (words m) form.0 form.1 form.2 mo (tied_counted w mo lt t)
 
   -- no line's act counts lines
   abbrev pub CountsLines : Type 0
-  CountsLines = (w : World) (line : Line) → (acted set w line).world.lines ≡ w.lines
+  CountsLines = (w : World) (line : Line) → (after_line set w line).world.lines ≡ w.lines
 
-  keeps_run : Wordly → CountsLines → (lines : List Line) (w : World) → w.lines + length lines < 65537 → AreInForm set lines → Keeps set w (run set w lines)
+  keeps_run : Wordly → CountsLines → (lines : List Line) (w : World) → w.lines + length lines < 65537 → LinesInForm set lines → Keeps set w (run set w lines)
   keeps_run words counts [] w few form = keeps_nothing w
   keeps_run words counts (line ∷ lines) w few form =
-      keeps_then w (acted set (counted w) line) (λ v. run set v lines) (keeps_line words w line (omega (arith, few)) form.0)
-      (keeps_run words counts lines (acted set (counted w) line).world (rw (counts (counted w) line) (omega (arith, few))) form.1)
+      keeps_then w (after_line set (line_counted w) line) (λ v. run set v lines) (keeps_line words w line (omega (arith, few)) form.0)
+      (keeps_run words counts lines (after_line set (line_counted w) line).world (rw (counts (line_counted w) line) (omega (arith, few))) form.1)
 
   -- every run is legal
-  pub legal_run : Wordly → CountsLines → Tied set (switched_on set) (power_on set.app) → (lines : List Line) → length lines ≤ 65536 → AreInForm set lines
+  pub legal_run : Wordly → CountsLines → Tied set (switched_on set) (power_on set.app) → (lines : List Line) → length lines ≤ 65536 → LinesInForm set lines
       → Legal set.app (before (run set (switched_on set) lines).items)
   legal_run words counts start lines few form =
       legal_of set.app (power_on set.app) (run set (switched_on set) lines).items (Tied set (run set (switched_on set) lines).world)

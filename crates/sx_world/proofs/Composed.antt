@@ -5,7 +5,7 @@ use Rattle.sx_trace.specs.declared.items.Item.{Item}
 use Rattle.sx_world.specs.Setting.{Setting}
 use Rattle.sx_world.specs.State.{World, Acted}
 use Rattle.sx_world.specs.Acts.{only, then_}
-use Rattle.sx_world.specs.Held.{Running, IsFront, Shows, Did, Wanted, Does}
+use Rattle.sx_world.specs.Held.{Running, IsFront, Shows, Did, Wanted, DoesAct}
 use Rattle.sx_world.proofs.Fronts.{front_more, front_next}
 
 -- an act that was done, and then what follows
@@ -28,25 +28,25 @@ first_wanted set old before after a b first = λ w h. front_more after before (a
 
 -- in either case what follows
 pub then_does : {X E : Type 0} (set : Setting) (r : Result X E) (old mid new : Running) (before among after : List Item) (a b : World → Acted)
-    → Did set old mid before among a → Does set r mid new among after b → Does set r old new before after (λ w. then_ (a w) b)
+    → Did set old mid before among a → DoesAct set r mid new among after b → DoesAct set r old new before after (λ w. then_ (a w) b)
 then_does set (Ok x) old mid new before among after a b first next = then_did set old mid new before among after a b first next
 then_does set (Err e) old mid new before among after a b first next = then_wanted set old mid before among after a b first next
 
 -- an act by its two outcomes
 pub does_both : {X E : Type 0} (set : Setting) (r : Result X E) (old new : Running) (before after : List Item) (act : World → Acted)
-    → OnOk r (Did set old new before after act) → OnErr r (Wanted set old before after act) → Does set r old new before after act
+    → OnOk r (Did set old new before after act) → OnErr r (Wanted set old before after act) → DoesAct set r old new before after act
 does_both set (Ok x) old new before after act done front = done
 does_both set (Err e) old new before after act done front = front
 
 -- and where they hold of every setting
 pub does_any : {X E : Type 0} (set : Setting) (r : Result X E) (old new : Running) (before after : List Item) (act : World → Acted)
-    → OnOk r ((s : Setting) → Did s old new before after act) → OnErr r ((s : Setting) → Wanted s old before after act) → Does set r old new before after act
+    → OnOk r ((s : Setting) → Did s old new before after act) → OnErr r ((s : Setting) → Wanted s old before after act) → DoesAct set r old new before after act
 does_any set (Ok x) old new before after act done front = done set
 does_any set (Err e) old new before after act done front = front set
 
 -- the same act, said otherwise
 pub does_same : {X E : Type 0} (set : Setting) (r : Result X E) (old new : Running) (before after : List Item) (act said : World → Acted)
-    → ((w : World) → Shows set old w → act w ≡ said w) → Does set r old new before after act → Does set r old new before after said
+    → ((w : World) → Shows set old w → act w ≡ said w) → DoesAct set r old new before after act → DoesAct set r old new before after said
 does_same set (Ok x) old new before after act said same does = λ w h. subst (λ (a : Acted). Shows set new a.world × (after ≡ before ++ a.items)) (same w h) (does w h)
 does_same set (Err e) old new before after act said same does = λ w h. subst (λ (a : Acted). IsFront after (before ++ a.items)) (same w h) (does w h)
 

@@ -10,31 +10,31 @@ use Rattle.sx_model.specs.Legal.{before}
 use Rattle.sx_model.proofs.Telling.{tells}
 use Rattle.sx_world.specs.Setting.{Site, Setting}
 use Rattle.sx_world.specs.State.{World, switched_on}
-use Rattle.sx_world.specs.Run.{acted, counted, run}
-use Rattle.sx_world.specs.Law.{IsSound}
+use Rattle.sx_world.specs.Run.{after_line, line_counted, run}
+use Rattle.sx_world.specs.Law.{IsSoundSetting}
 use Rattle.sx_world.specs.Held.{Held, setting}
 use Rattle.sx_world.specs.Standing.{Stands}
 use Rattle.sx_world.specs.Continued.{Acts, LeadTo, StaysLegal}
 use Rattle.sx_world.proofs.Counting.{counts_lines}
 use Rattle.sx_world.proofs.FormedLines.{in_form}
 use Rattle.sx_world.proofs.Readying.{run_then, formed_then}
-use Rattle.sx_world.proofs.Whole.{runs_legal}
+use Rattle.sx_world.proofs.RunsLegal.{runs_legal}
 
 run_items : (set : Setting) (lines : List Line) (line : Line) (w : World)
-    → (run set w (lines ++ line ∷ [])).items ≡ (run set w lines).items ++ (acted set (counted (run set w lines).world) line).items
-run_items set [] line w = append-nil (acted set (counted w) line).items
+    → (run set w (lines ++ line ∷ [])).items ≡ (run set w lines).items ++ (after_line set (line_counted (run set w lines).world) line).items
+run_items set [] line w = append-nil (after_line set (line_counted w) line).items
 run_items set (x ∷ lines) line w =
-    let here = acted set (counted w) x in
+    let here = after_line set (line_counted w) x in
     ap (λ more. here.items ++ more) (run_items set lines line here.world)
-    ∙ sym (append_assoc here.items (run set here.world lines).items (acted set (counted (run set here.world lines).world) line).items)
+    ∙ sym (append_assoc here.items (run set here.world lines).items (after_line set (line_counted (run set here.world lines).world) line).items)
 
 -- a world counts the lines of its run
 run_counts : (set : Setting) (lines : List Line) (w : World) → (run set w lines).world.lines ≡ w.lines + length lines
 run_counts set [] w = omega arith
 run_counts set (x ∷ lines) w =
-    let next = (acted set (counted w) x).world in
+    let next = (after_line set (line_counted w) x).world in
     let rest : (run set next lines).world.lines ≡ next.lines + length lines = run_counts set lines next in
-    let one : next.lines ≡ w.lines + 1 = counts_lines set (counted w) x in
+    let one : next.lines ≡ w.lines + 1 = counts_lines set (line_counted w) x in
     omega (arith, rest, one)
 
 -- so lines that lead to the same world are as many
@@ -47,7 +47,7 @@ as_many set lines held led =
     let c = s.count in
     omega (arith, a, b, same, c)
 
-pub goes_on : (mac : Mac) (d : Deployed) (sites : List Site) → deployment.IsSound d → IsSound (setting mac d sites)
+pub goes_on : (mac : Mac) (d : Deployed) (sites : List Site) → deployment.IsSoundDeployment d → IsSoundSetting (setting mac d sites)
     → (old new : Held) (line : Line) (was came : List Item) → IsLine d.names line → old.lines < 65536
     → Acts (setting mac d sites) line old new was came
     → StaysLegal (setting mac d sites) line old new was came
@@ -61,7 +61,7 @@ goes_on mac d sites acc sound old new line was came form few acts lines led =
     let legal = runs_legal set sound (lines ++ line ∷ []) (omega (arith, long, many, few)) formed in
     record {
       stands = subst (λ (v : World). Stands set new v) (sym (run_then mac d sites acc sound lines line (switched_on set))) did.0;
-      added = (acted set (counted w) line).items;
+      added = (after_line set (line_counted w) line).items;
       appended = did.1;
       items = run_items set lines line (switched_on set);
       legal = legal;

@@ -11,10 +11,10 @@ use Rattle.sx_machine.specs.State.{State}
 use Rattle.sx_machine.specs.Step.{step}
 use Rattle.sx_machine.specs.Acts.{put as put_at, set as set_register, take as take_from, sense as sense_on, irq as interrupt}
 use Rattle.sx_world.specs.Setting.{Site, Setting}
-use Rattle.sx_world.specs.Deployer.{accepts, Grant, accepted, grants_after}
+use Rattle.sx_world.specs.Deployer.{accepts, Grant, after_acceptance, grants_after}
 use Rattle.sx_world.specs.State.{World, Acted}
-use Rattle.sx_world.specs.Acts.{only, then_, at_node, stepped, done_on, with_deployer, took, interrupted, key_given, keys_given, attested, denied, judged, answered, open_ask, attested_at}
-use Rattle.sx_world.specs.Run.{is_reset, steps_of, FINISH_STEPS, finish, put_on, set_on, give, place_at, sense_at, put_pieces, Register, set_all, register, unless_busy, load, call, acted}
+use Rattle.sx_world.specs.Acts.{only, then_, at_node, after_step, done_on, with_deployer, after_take, after_interrupt, key_given, keys_given, attested, after_denial, after_verdict, after_answer, open_ask, attested_at}
+use Rattle.sx_world.specs.Run.{is_reset, steps_of, FINISH_STEPS, finish, put_on, set_on, give, place_at, sense_at, put_pieces, Register, set_all, register, unless_busy, load, call, after_line}
 
 abbrev Same : World → Acted → Type 0
 Same w a = a.world.lines ≡ w.lines
@@ -33,9 +33,9 @@ same_if w false x y f g = g
 same_steps : (set : Setting) (stops : State → Bool) (items : List Item) (n k : ℕ) (w : World) → Same w (steps_of set stops items n k w)
 same_steps set stops items n zero w = refl
 same_steps set stops items n (suc k) w =
-    same_at w (λ s. if is_reset (step set.mac s).shown.event || stops (step set.mac s).state then stepped set w n s else then_ (stepped set w n s) (steps_of set stops items n k)) (slice_get w.nodes n) (λ s.
-    same_if w (is_reset (step set.mac s).shown.event || stops (step set.mac s).state) (stepped set w n s) (then_ (stepped set w n s) (steps_of set stops items n k)) refl
-    (same_steps set stops items n k (stepped set w n s).world))
+    same_at w (λ s. if is_reset (step set.mac s).shown.event || stops (step set.mac s).state then after_step set w n s else then_ (after_step set w n s) (steps_of set stops items n k)) (slice_get w.nodes n) (λ s.
+    same_if w (is_reset (step set.mac s).shown.event || stops (step set.mac s).state) (after_step set w n s) (then_ (after_step set w n s) (steps_of set stops items n k)) refl
+    (same_steps set stops items n k (after_step set w n s).world))
 
 same_put : (n at : ℕ) (bytes : List ℕ) (w : World) → Same w (put_on n at bytes w)
 same_put n at bytes w = same_at w (λ s. done_on w n [] (put_at s at bytes)) (slice_get w.nodes n) (λ s. refl)
@@ -84,11 +84,11 @@ same_sense : (set : Setting) (w : World) (d v : ℕ) (o : Option AppDevice) → 
 same_sense set w d v None = refl
 same_sense set w d v (Some x) = same_at w (λ s. done_on w x.node (item.Sense d v ∷ []) (sense_on s (place_at set x.node d) v)) (slice_get w.nodes x.node) (λ s. refl)
 
-same_took : (w : World) (n : ℕ) (r : Result (List ℕ) Refused) → Same w (took w n r)
+same_took : (w : World) (n : ℕ) (r : Result (List ℕ) Refused) → Same w (after_take w n r)
 same_took w n (Ok bytes) = refl
 same_took w n (Err why) = refl
 
-same_irq : (set : Setting) (w : World) (n : ℕ) (s : State) (r : Result Seen Refused) → Same w (interrupted set w n s r)
+same_irq : (set : Setting) (w : World) (n : ℕ) (s : State) (r : Result Seen Refused) → Same w (after_interrupt set w n s r)
 same_irq set w n s (Ok seen) = refl
 same_irq set w n s (Err why) = refl
 
@@ -102,30 +102,30 @@ same_keys set (g ∷ gs) w =
     let one = key_given set w g (slice_get set.sites g.holder) in
     same_keys set gs one.world ∙ same_key set w g (slice_get set.sites g.holder)
 
-same_judged : (set : Setting) (w : World) (m : ℕ) (site : Site) (boot : ℕ) (answer : List ℕ) (o : Option (List ℕ)) → Same w (judged set w m site boot answer o)
+same_judged : (set : Setting) (w : World) (m : ℕ) (site : Site) (boot : ℕ) (answer : List ℕ) (o : Option (List ℕ)) → Same w (after_verdict set w m site boot answer o)
 same_judged set w m site boot answer None = refl
 same_judged set w m site boot answer (Some ask) =
     let last = attested_at (slice_get w.deployer.attested m) in
-    let d = accepted set.app.links w.deployer m boot last in
-    same_if w (accepts set site w.deployer m boot answer (Some ask) last) (attested set w m boot ask last) (denied w m)
+    let d = after_acceptance set.app.links w.deployer m boot last in
+    same_if w (accepts set site w.deployer m boot answer (Some ask) last) (attested set w m boot ask last) (after_denial w m)
     (same_keys set (grants_after set.app d m boot last) (with_deployer w d w.ledger)) refl
 
-same_answered : (set : Setting) (w : World) (m boot : ℕ) (o : Option Site) (p : Option (List ℕ)) → Same w (answered set w m boot o p)
+same_answered : (set : Setting) (w : World) (m boot : ℕ) (o : Option Site) (p : Option (List ℕ)) → Same w (after_answer set w m boot o p)
 same_answered set w m boot None p = refl
 same_answered set w m boot (Some site) None = refl
 same_answered set w m boot (Some site) (Some answer) = same_judged set w m site boot answer (open_ask (slice_get w.deployer.open_asks m))
 
-pub counts_lines : (set : Setting) (w : World) (line : Line) → (acted set w line).world.lines ≡ w.lines
+pub counts_lines : (set : Setting) (w : World) (line : Line) → (after_line set w line).world.lines ≡ w.lines
 counts_lines set w Blank = refl
 counts_lines set w (Run n k) = same_steps set (λ s. false) [] n k w
 counts_lines set w (Finish n) = same_steps set (λ s. s.cur == 0) (item.Budget n ∷ []) n FINISH_STEPS w
 counts_lines set w (Put n at bytes) = same_put n at bytes w
 counts_lines set w (Set n r v) = same_set n r v w
-counts_lines set w (Take n at len) = same_at w (λ s. took w n (take_from s at len).shown) (slice_get w.nodes n) (λ s. same_took w n (take_from s at len).shown)
+counts_lines set w (Take n at len) = same_at w (λ s. after_take w n (take_from s at len).shown) (slice_get w.nodes n) (λ s. same_took w n (take_from s at len).shown)
 counts_lines set w (Give k n at) = same_give w n at (slice_get w.packets k)
 counts_lines set w (Forge bytes) = refl
 counts_lines set w (Sense d v) = same_sense set w d v (slice_get set.app.devices d)
-counts_lines set w (Irq n line) = same_at w (λ s. interrupted set w n (interrupt s line).state (interrupt s line).shown) (slice_get w.nodes n) (λ s. same_irq set w n (interrupt s line).state (interrupt s line).shown)
+counts_lines set w (Irq n line) = same_at w (λ s. after_interrupt set w n (interrupt s line).state (interrupt s line).shown) (slice_get w.nodes n) (λ s. same_irq set w n (interrupt s line).state (interrupt s line).shown)
 counts_lines set w (Reset n) = same_at w _ (slice_get w.nodes n) (λ s. refl)
 counts_lines set w (Ask m) = refl
 counts_lines set w (Answer m boot k) = same_answered set w m boot (slice_get set.sites m) (slice_get w.packets k)

@@ -47,7 +47,7 @@ node_shown set old w n s t entries ledger steps h here placed records = record {
 
 -- an act that answers nothing was done on a node or refused
 pub done_did : {T E : Type 0} (r : Result T E) (old new : Running) (before after : List Item) (n : ℕ) (items : List Item)
-    (act : State → machine.Shows (Result (Unit {0}) Refused)) (answer : Result (Unit {0}) Refused) → n < length old.nodes
+    (act : State → machine.Shown (Result (Unit {0}) Refused)) (answer : Result (Unit {0}) Refused) → n < length old.nodes
     → ((s : State) → slice_get old.nodes n ≡ Some s → new ≡ with_nodes old (slice_set old.nodes n (act s).state) old.ledger old.steps)
     → ((s : State) → slice_get old.nodes n ≡ Some s → answer ≡ (act s).shown)
     → ((s : State) → (act s).state.sections ≡ s.sections)
@@ -72,7 +72,7 @@ wanted_same (Ok x) old before after act err = tt
 wanted_same (Err e) old before after act err = λ set w h. front_same after before (act w).items err
 
 -- a refused act leaves the node
-pub unless_kept : {T : Type 0} (why : Option Refused) (s : State) (done : machine.Shows T) → done.state.sections ≡ s.sections → (unless why s done).state.sections ≡ s.sections
+pub unless_kept : {T : Type 0} (why : Option Refused) (s : State) (done : machine.Shown T) → done.state.sections ≡ s.sections → (unless why s done).state.sections ≡ s.sections
 unless_kept None s done e = e
 unless_kept (Some why) s done e = refl
 
@@ -105,7 +105,7 @@ boots_kept old new n act lt left kept =
     let found = get_some old n lt in
     ap boots_of (left found.0 found.1) ∙ set_boots old n found.0 (act found.0) found.1 (kept found.0)
 
-pub unless_boot : {T : Type 0} (why : Option Refused) (s : State) (done : machine.Shows T) → done.state.boot ≡ s.boot → (unless why s done).state.boot ≡ s.boot
+pub unless_boot : {T : Type 0} (why : Option Refused) (s : State) (done : machine.Shown T) → done.state.boot ≡ s.boot → (unless why s done).state.boot ≡ s.boot
 unless_boot None s done e = e
 unless_boot (Some why) s done e = refl
 

@@ -12,7 +12,7 @@ use Rattle.sx_invoke.specs.Entries.{has_side, end_is, end_found}
 use Rattle.sx_mean.specs.Application.{AppTree}
 use Rattle.sx_mean.specs.Ends.{receiving, ends_after, ends_of}
 use Rattle.sx_model.specs.State.{EndView}
-use Rattle.sx_model.specs.Step.{◌>>?◌, same_side, changed}
+use Rattle.sx_model.specs.Step.{◌>>?◌, same_side, changed_views}
 use Rattle.sx_model.specs.Renewal.{is_at, takes, is_below, opens}
 use Rattle.sx_world.specs.Observation.{is_end}
 use Rattle.sx_world.proofs.Lists.{some_inj}
@@ -63,11 +63,11 @@ end_is-same link side e b h = ap (λ t. (e.link == link) && t) (sym (same_sides 
 
 -- where the change of the end that is found is made, so is that of the list
 changed_head : (change : EndView → Option EndView) (link : ℕ) (side : Side) (e : End) (es : List End) (v w : EndView) (vs : List EndView) → end_is link side e ≡ true → change v ≡ Some w
-    → changed change link side (e ∷ es) (v ∷ vs) ≡ Some (w ∷ vs)
+    → changed_views change link side (e ∷ es) (v ∷ vs) ≡ Some (w ∷ vs)
 changed_head change link side e es v w vs t c = rw (end_is-same link side e true t, c) refl
 
 changed_later : (change : EndView → Option EndView) (link : ℕ) (side : Side) (e : End) (es : List End) (v : EndView) (vs ws : List EndView) → end_is link side e ≡ false
-    → changed change link side es vs ≡ Some ws → changed change link side (e ∷ es) (v ∷ vs) ≡ Some (v ∷ ws)
+    → changed_views change link side es vs ≡ Some ws → changed_views change link side (e ∷ es) (v ∷ vs) ≡ Some (v ∷ ws)
 changed_later change link side e es v vs ws t c = rw (end_is-same link side e false t, c) refl
 
 -- Receiving.
@@ -98,7 +98,7 @@ counts_from_to side x v words e h = subst (λ s. Counts s x v words) (sym e) h
 
 pub takes_at : (link epoch i : ℕ) (es : List End) (xs : List EndState) (vs : List EndView) (sent : List (List ℕ)) (j : ℕ) (e : End) → SameEnds es xs vs sent → FoundAt link To es j e
     → (end_of xs j).is_open ≡ true → epoch_of (end_of xs j).field ≡ epoch → (end_of xs j).number ≤ i
-    → (ws : List EndView) × (changed (takes epoch i) link To es vs ≡ Some ws) × SameEnds es (with_end xs j (renumbered (end_of xs j) (i + 1))) ws sent
+    → (ws : List EndView) × (changed_views (takes epoch i) link To es vs ≡ Some ws) × SameEnds es (with_end xs j (renumbered (end_of xs j) (i + 1))) ws sent
 takes_at link epoch i [] xs vs sent j e h f o same le = absurd f
 takes_at link epoch i (x ∷ es) [] vs sent j e h f o same le = absurd h
 takes_at link epoch i (x ∷ es) (a ∷ xs) [] sent j e h f o same le = absurd h
@@ -144,7 +144,7 @@ below_end x v epoch e h = subst (λ o. is_below o epoch ≡ true) (sym e) (below
 
 pub opens_at : (link epoch : ℕ) (side : Side) (es : List End) (xs : List EndState) (vs : List EndView) (sent : List (List ℕ)) (j : ℕ) (e : End) (new : EndState) → SameEnds es xs vs sent → FoundAt link side es j e
     → ((end_of xs j).is_open ≡ true → epoch_of (end_of xs j).field < epoch) → new.is_open ≡ true → link_of new.field ≡ link → epoch_of new.field ≡ epoch → new.number ≡ 0 → (side ≡ From → HasLength (slice_get sent new.field) 0)
-    → (ws : List EndView) × (changed (opens epoch) link side es vs ≡ Some ws) × SameEnds es (with_end xs j new) ws sent
+    → (ws : List EndView) × (changed_views (opens epoch) link side es vs ≡ Some ws) × SameEnds es (with_end xs j new) ws sent
 opens_at link epoch side [] xs vs sent j e new h f c o fe ee n l = absurd f
 opens_at link epoch side (x ∷ es) [] vs sent j e new h f c o fe ee n l = absurd h
 opens_at link epoch side (x ∷ es) (a ∷ xs) [] sent j e new h f c o fe ee n l = absurd h
@@ -194,8 +194,8 @@ some_later None v ws h = absurd cc
 some_later (Some us) v ws h = (us, refl, cc)
 
 stays_head : (change : EndView → Option EndView) (k c link : ℕ) (to side : Side) (e : End) (es : List End) (v : EndView) (vs ws : List EndView) (b : Bool) → StaysOpen change
-    → ((us : List EndView) → changed change link side es vs ≡ Some us → AtLeast k (open_at c to es vs) → AtLeast k (open_at c to es us))
-    → (if b then change v >>? (λ w. Some (w ∷ vs)) else changed change link side es vs >>? (λ us. Some (v ∷ us))) ≡ Some ws
+    → ((us : List EndView) → changed_views change link side es vs ≡ Some us → AtLeast k (open_at c to es vs) → AtLeast k (open_at c to es us))
+    → (if b then change v >>? (λ w. Some (w ∷ vs)) else changed_views change link side es vs >>? (λ us. Some (v ∷ us))) ≡ Some ws
     → AtLeast k (open_at c to (e ∷ es) (v ∷ vs)) → AtLeast k (open_at c to (e ∷ es) ws)
 stays_head change k c link to side e es v vs ws true st ih h o =
     let r = some_of (change v) vs ws h in
@@ -207,7 +207,7 @@ stays_head change k c link to side e es v vs ws true st ih h o =
     stays_if true v w x y f g h = f h
     stays_if false v w x y f g h = g h
 stays_head change k c link to side e es v vs ws false st ih h o =
-    let r = some_later (changed change link side es vs) v ws h in
+    let r = some_later (changed_views change link side es vs) v ws h in
     subst (λ us. AtLeast k (open_at c to (e ∷ es) us)) (sym r.2)
     (stays_if ((e.link == c) && same_side e.side to) v v (open_at c to es vs) (open_at c to es r.0) (λ p. p) (ih r.0 r.1) o)
   where
@@ -217,7 +217,7 @@ stays_head change k c link to side e es v vs ws false st ih h o =
     stays_if false v w x y f g h = g h
 
 pub open_stays : (change : EndView → Option EndView) (k c link : ℕ) (to side : Side) (es : List End) (vs ws : List EndView) → StaysOpen change
-    → changed change link side es vs ≡ Some ws → AtLeast k (open_at c to es vs) → AtLeast k (open_at c to es ws)
+    → changed_views change link side es vs ≡ Some ws → AtLeast k (open_at c to es vs) → AtLeast k (open_at c to es ws)
 open_stays change k c link to side [] vs ws st h o = absurd cc
 open_stays change k c link to side (e ∷ es) [] ws st h o = absurd cc
 open_stays change k c link to side (e ∷ es) (v ∷ vs) ws st h o =
@@ -241,8 +241,8 @@ opens_stays epoch v w h k at = later v.epoch (is_below v.epoch epoch) refl h at
 
 -- an end that is open after an opening was open before, or it is the one that was opened
 newly_head : (epoch k c link : ℕ) (to side : Side) (e : End) (es : List End) (v : EndView) (vs ws : List EndView) (b : Bool) → ((e.link == link) && same_side e.side side) ≡ b
-    → ((us : List EndView) → changed (opens epoch) link side es vs ≡ Some us → open_at c to es us ≡ Some k → (open_at c to es vs ≡ Some k) ⊎ ((c ≡ link) × (k ≡ epoch)))
-    → (if b then opens epoch v >>? (λ w. Some (w ∷ vs)) else changed (opens epoch) link side es vs >>? (λ us. Some (v ∷ us))) ≡ Some ws
+    → ((us : List EndView) → changed_views (opens epoch) link side es vs ≡ Some us → open_at c to es us ≡ Some k → (open_at c to es vs ≡ Some k) ⊎ ((c ≡ link) × (k ≡ epoch)))
+    → (if b then opens epoch v >>? (λ w. Some (w ∷ vs)) else changed_views (opens epoch) link side es vs >>? (λ us. Some (v ∷ us))) ≡ Some ws
     → open_at c to (e ∷ es) ws ≡ Some k → (open_at c to (e ∷ es) (v ∷ vs) ≡ Some k) ⊎ ((c ≡ link) × (k ≡ epoch))
 newly_head epoch k c link to side e es v vs ws true t ih h o =
     let r = some_of (opens epoch v) vs ws h in
@@ -256,14 +256,14 @@ newly_head epoch k c link to side e es v vs ws true t ih h o =
         inr (sym a ∙ l, sym (some_inj epoch k g))
     newly_if false u x g = inl g
 newly_head epoch k c link to side e es v vs ws false t ih h o =
-    let r = some_later (changed (opens epoch) link side es vs) v ws h in
+    let r = some_later (changed_views (opens epoch) link side es vs) v ws h in
     newly_if ((e.link == c) && same_side e.side to) (open_at c to es vs) (open_at c to es r.0) (ih r.0 r.1) (subst (λ us. open_at c to (e ∷ es) us ≡ Some k) r.2 o)
   where
     newly_if : (b : Bool) (x y : Option ℕ) → (y ≡ Some k → (x ≡ Some k) ⊎ ((c ≡ link) × (k ≡ epoch))) → (if b then v.epoch else y) ≡ Some k → ((if b then v.epoch else x) ≡ Some k) ⊎ ((c ≡ link) × (k ≡ epoch))
     newly_if true x y f g = inl g
     newly_if false x y f g = f g
 
-pub newly_open : (epoch k c link : ℕ) (to side : Side) (es : List End) (vs ws : List EndView) → changed (opens epoch) link side es vs ≡ Some ws → open_at c to es ws ≡ Some k
+pub newly_open : (epoch k c link : ℕ) (to side : Side) (es : List End) (vs ws : List EndView) → changed_views (opens epoch) link side es vs ≡ Some ws → open_at c to es ws ≡ Some k
     → (open_at c to es vs ≡ Some k) ⊎ ((c ≡ link) × (k ≡ epoch))
 newly_open epoch k c link to side [] vs ws h o = absurd cc
 newly_open epoch k c link to side (e ∷ es) [] ws h o = absurd cc
@@ -361,20 +361,20 @@ same_if true v w x y f g = f
 same_if false v w x y f g = g
 
 same_head : (change : EndView → Option EndView) (c link : ℕ) (to side : Side) (e : End) (es : List End) (v : EndView) (vs ws : List EndView) (b : Bool) → LeavesEpoch change
-    → ((us : List EndView) → changed change link side es vs ≡ Some us → open_at c to es us ≡ open_at c to es vs)
-    → (if b then change v >>? (λ w. Some (w ∷ vs)) else changed change link side es vs >>? (λ us. Some (v ∷ us))) ≡ Some ws
+    → ((us : List EndView) → changed_views change link side es vs ≡ Some us → open_at c to es us ≡ open_at c to es vs)
+    → (if b then change v >>? (λ w. Some (w ∷ vs)) else changed_views change link side es vs >>? (λ us. Some (v ∷ us))) ≡ Some ws
     → open_at c to (e ∷ es) ws ≡ open_at c to (e ∷ es) (v ∷ vs)
 same_head change c link to side e es v vs ws true st ih h =
     let r = some_of (change v) vs ws h in
     subst (λ us. open_at c to (e ∷ es) us ≡ open_at c to (e ∷ es) (v ∷ vs)) (sym r.2)
     (same_if ((e.link == c) && same_side e.side to) v r.0 (open_at c to es vs) (open_at c to es vs) (st v r.0 r.1) refl)
 same_head change c link to side e es v vs ws false st ih h =
-    let r = some_later (changed change link side es vs) v ws h in
+    let r = some_later (changed_views change link side es vs) v ws h in
     subst (λ us. open_at c to (e ∷ es) us ≡ open_at c to (e ∷ es) (v ∷ vs)) (sym r.2)
     (same_if ((e.link == c) && same_side e.side to) v v (open_at c to es vs) (open_at c to es r.0) refl (ih r.0 r.1))
 
 pub open_same : (change : EndView → Option EndView) (c link : ℕ) (to side : Side) (es : List End) (vs ws : List EndView) → LeavesEpoch change
-    → changed change link side es vs ≡ Some ws → open_at c to es ws ≡ open_at c to es vs
+    → changed_views change link side es vs ≡ Some ws → open_at c to es ws ≡ open_at c to es vs
 open_same change c link to side [] vs ws st h = absurd cc
 open_same change c link to side (e ∷ es) [] ws st h = absurd cc
 open_same change c link to side (e ∷ es) (v ∷ vs) ws st h =

@@ -20,7 +20,7 @@ use Rattle.sx_tag.specs.Mac.{Mac}
 use Rattle.sx_machine.specs.declared.kinds.Event.TheVariants as event
 use Rattle.sx_machine.specs.State.{State}
 use Rattle.sx_machine.specs.Run.{Outcome, Violated, device_of}
-use Rattle.sx_machine.specs.Step.{step, own_of, pc_of, word_outside, ordered, instruction, settled}
+use Rattle.sx_machine.specs.Step.{step, own_of, pc_of, word_outside, ordered, instruction, settled_step}
 use Rattle.sx_machine.proofs.PlanGuard.{passes}
 use Rattle.sx_invoke.specs.Setup.{Setup}
 use Rattle.sx_invoke.specs.ModuleState.{state_of}
@@ -33,7 +33,7 @@ use Rattle.sx_image.specs.Realizes.{Exited}
 use Rattle.sx_mean.specs.Ends.{ends_of}
 use Rattle.sx_model.specs.State.{Present}
 use Rattle.sx_world.specs.Setting.{Site, Setting, same_layout, is_at_site, windows_at}
-use Rattle.sx_world.specs.Law.{image_at, devices_of, IsDeployed}
+use Rattle.sx_world.specs.Law.{image_at, devices_of, IsDeployedModule}
 use Rattle.sx_world.proofs.Lists.{some_inj}
 use Rattle.sx_world.proofs.Entries.{bytes_same}
 use Rattle.sx_world.proofs.Tied.{SameState, Begun, Yet, IsUnderWay, shapes, NodeTied, IsModule}
@@ -139,11 +139,11 @@ at_site n mem sec site e =
 some_none : (v : Violation) → ◌≡◌ {A = Option Violation} (Some v) None → ⊥
 some_none v e = cc
 
-ordered_quiet : (mac : Mac) (s : State) (d : Option ℕ) → violation_of (settled s (ordered mac s d)).shown.event ≡ None → in_order s.sections.live s.cur (pc_of s) ≡ true
+ordered_quiet : (mac : Mac) (s : State) (d : Option ℕ) → violation_of (settled_step s (ordered mac s d)).shown.event ≡ None → in_order s.sections.live s.cur (pc_of s) ≡ true
 ordered_quiet mac s (Some d) q = absurd (some_none bad.Device q)
 ordered_quiet mac s None q = order_if (in_order s.sections.live s.cur (pc_of s)) q
   where
-    order_if : (b : Bool) → violation_of (settled s (cond b (instruction mac s) (Violated bad.Order))).shown.event ≡ None → b ≡ true
+    order_if : (b : Bool) → violation_of (settled_step s (cond b (instruction mac s) (Violated bad.Order))).shown.event ≡ None → b ≡ true
     order_if true q = refl
     order_if false q = absurd (some_none bad.Order q)
 
@@ -151,7 +151,7 @@ ordered_quiet mac s None q = order_if (in_order s.sections.live s.cur (pc_of s))
 pub quiet_order : (mac : Mac) (s : State) → violation_of (step mac s).shown.event ≡ None → in_order s.sections.live s.cur (pc_of s) ≡ true
 quiet_order mac s q = outside_if (word_outside s.sections.live (pc_of s)) q
   where
-    outside_if : (b : Bool) → violation_of (settled s (cond b (ordered mac s (device_at s.devices (pc_of s))) (Violated bad.Fetch))).shown.event ≡ None → in_order s.sections.live s.cur (pc_of s) ≡ true
+    outside_if : (b : Bool) → violation_of (settled_step s (cond b (ordered mac s (device_at s.devices (pc_of s))) (Violated bad.Fetch))).shown.event ≡ None → in_order s.sections.live s.cur (pc_of s) ≡ true
     outside_if true q = ordered_quiet mac s (device_at s.devices (pc_of s)) q
     outside_if false q = absurd (some_none bad.Fetch q)
 
@@ -184,7 +184,7 @@ held_by t sec at pl lives nz e =
 quiet_left : (id : ℕ) → ◌≡◌ {A = Rattle.sx_machine.specs.declared.kinds.Event.Event} event.Quiet (event.Left id) → ⊥
 quiet_left id e = cc
 
-module _ (set : Setting) (m : ℕ) (q : PartTree) (site : Site) (s : State) (sec : Section) (boot : ℕ) (deployed : IsDeployed set m q site)
+module _ (set : Setting) (m : ℕ) (q : PartTree) (site : Site) (s : State) (sec : Section) (boot : ℕ) (deployed : IsDeployedModule set m q site)
     (node : NodeTied set q.node s boot) (is : IsModule q.node site s sec) (rests : s.cur ≢ sec.id) (own : own_of s ≡ sec.id) (nonzero : sec.id ≢ 0)
     (quiet : violation_of (step set.mac s).shown.event ≡ None) where
   abbrev here : AtSite q.node s.mem sec site

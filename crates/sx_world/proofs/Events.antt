@@ -12,7 +12,7 @@ use Rattle.sx_machine.specs.declared.kinds.Event.{Event}
 use Rattle.sx_machine.specs.declared.kinds.Event.TheVariants as event
 use Rattle.sx_machine.specs.State.{State}
 use Rattle.sx_machine.specs.Run.{Outcome, Finished, Violated, Module}
-use Rattle.sx_machine.specs.Step.{own_of, attempt, settled, step, given}
+use Rattle.sx_machine.specs.Step.{own_of, attempt, settled_step, step, given_at_pc}
 use Rattle.sx_machine.specs.Given.{Given}
 use Rattle.sx_machine.proofs.Events.{IsTold, Told, Same, Admits, Removes, ToldBy, attempt_told}
 use Rattle.sx_image.specs.Watched.{violation_of}
@@ -44,13 +44,13 @@ told_plain mac g m0 m t e pl same (Removes s f r w) =
     some_none : ◌≡◌ {A = Option Section} (Some s) None → ⊥
     some_none e = cc
 
-settled_plain : (mac : Mac) (s : State) (o : Outcome) → Placed s.sections → ToldBy mac (given mac s) s.mem o → (settled s o).state.sections ≡ s.sections → violation_of (settled s o).shown.event ≡ None → IsPlain (settled s o).shown.event
+settled_plain : (mac : Mac) (s : State) (o : Outcome) → Placed s.sections → ToldBy mac (given_at_pc mac s) s.mem o → (settled_step s o).state.sections ≡ s.sections → violation_of (settled_step s o).shown.event ≡ None → IsPlain (settled_step s o).shown.event
 settled_plain mac s (Finished regs x) pl h same q = left_plain ((own_of s == 0) || (holder s.sections.live (slice_index regs 0) == own_of s)) (own_of s)
 settled_plain mac s (Violated v) pl h same q = absurd (some_none q)
   where
     some_none : ◌≡◌ {A = Option Violation} (Some v) None → ⊥
     some_none e = cc
-settled_plain mac s (Module regs x t e c) pl h same q = told_plain mac (given mac s) s.mem x.mem t e pl same h
+settled_plain mac s (Module regs x t e c) pl h same q = told_plain mac (given_at_pc mac s) s.mem x.mem t e pl same h
 
 pub plain_events : (mac : Mac) (s : State) → Placed s.sections → (step mac s).state.sections ≡ s.sections → violation_of (step mac s).shown.event ≡ None → IsPlain (step mac s).shown.event
 plain_events mac s pl same q = settled_plain mac s (attempt mac s) pl (attempt_told mac s) same q
@@ -84,12 +84,12 @@ told_left mac g m0 m t e (Same h s) l = told_not_left g e h l
 told_left mac g m0 m t e (Admits r a w) l = l
 told_left mac g m0 m t e (Removes s f r w) l = l
 
-settled_left : (mac : Mac) (s : State) (o : Outcome) → ToldBy mac (given mac s) s.mem o → IsLeft (settled s o).shown.event → own_of (settled s o).state ≢ own_of s
+settled_left : (mac : Mac) (s : State) (o : Outcome) → ToldBy mac (given_at_pc mac s) s.mem o → IsLeft (settled_step s o).shown.event → own_of (settled_step s o).state ≢ own_of s
 settled_left mac s (Finished regs x) h l same =
     let f = or_parts (own_of s == 0) (holder s.sections.live (slice_index regs 0) == own_of s) (left_if ((own_of s == 0) || (holder s.sections.live (slice_index regs 0) == own_of s)) (own_of s) l) in
     absurd (eqb-false (holder s.sections.live (slice_index regs 0)) (own_of s) f.1 same)
 settled_left mac s (Violated v) h l same = absurd l
-settled_left mac s (Module regs x t e c) h l same = absurd (told_left mac (given mac s) s.mem x.mem t e h l)
+settled_left mac s (Module regs x t e c) h l same = absurd (told_left mac (given_at_pc mac s) s.mem x.mem t e h l)
 
 pub left_outside : (mac : Mac) (s : State) → IsLeft (step mac s).shown.event → own_of (step mac s).state ≢ own_of s
 left_outside mac s = settled_left mac s (attempt mac s) (attempt_told mac s)

@@ -19,7 +19,7 @@ use Rattle.sx_mean.specs.declared.events.SourceEvent.{SourceEvent}
 use Rattle.sx_mean.specs.declared.events.SourceEvent.TheVariants as source
 use Rattle.sx_mean.specs.declared.apps.AppDevice.{AppDevice}
 use Rattle.sx_mean.specs.Application.{declared_kind, PartTree}
-use Rattle.sx_mean.specs.Meaning.{State as Run, value, local_place, forget, times, after_statement, after_block}
+use Rattle.sx_mean.specs.Meaning.{HandlerState as Run, value, local_place, forget, times, after_statement, after_block}
 use Rattle.sx_mean.specs.Places.{output_number, array_length}
 use Rattle.sx_mean.specs.React.{nth, input_names, handler_of_name, handler_at, value_of, start, run, react}
 use Rattle.sx_check.proofs.Keeps.{keeps}
@@ -39,7 +39,7 @@ use Rattle.sx_mean.specs.Ends.{ends_of}
 use Rattle.sx_model.specs.Step.{is_sensor, kind_is}
 use Rattle.sx_world.specs.Setting.{Site, Setting, device_number, devices_at, windows_at}
 use Rattle.sx_world.specs.Run.{place_at}
-use Rattle.sx_world.specs.Law.{IsSound, IsDeployed, devices_of}
+use Rattle.sx_world.specs.Law.{IsSoundSetting, IsDeployedModule, devices_of}
 use Rattle.sx_world.proofs.Lists.{get_some, get_within, some_inj}
 use Rattle.sx_world.proofs.Tied.{NodeTied, IsModule, OwnSensor, shapes}
 use Rattle.sx_world.proofs.Entry.{at_site, shapes_on}
@@ -189,7 +189,7 @@ device_of_from a at k w d g = rw (d, g) refl
 none_some : {X : Type 0} → (v : X) → ◌≡◌ {A = Option X} (Some v) None → ⊥
 none_some v e = cc
 
-module _ (set : Setting) (sound : IsSound set) (m : ℕ) (q : PartTree) (site : Site) (s : State) (sec : Section) (boot : ℕ) (dep : IsDeployed set m q site) (node : NodeTied set q.node s boot) (is : IsModule q.node site s sec) where
+module _ (set : Setting) (sound : IsSoundSetting set) (m : ℕ) (q : PartTree) (site : Site) (s : State) (sec : Section) (boot : ℕ) (dep : IsDeployedModule set m q site) (node : NodeTied set q.node s boot) (is : IsModule q.node site s sec) where
   abbrev setup : Setup
   setup = setup_at set.mac q.tree (ends_of set.app m) sec s
 
@@ -264,5 +264,5 @@ module _ (set : Setting) (sound : IsSound set) (m : ℕ) (q : PartTree) (site : 
           let kind : declared.Sensor ≡ o.device.kind = some_inj declared.Sensor o.device.kind (sym e ∙ o.kind) in
           (o.index, o.window, o.found, record { device = o.part; there = o.there; sensor = ap (λ z. kind_is is_sensor z) o.at ∙ ap is_sensor (sym kind) })
 
-pub drivers_fit : (set : Setting) → IsSound set → DriversFit set
+pub drivers_fit : (set : Setting) → IsSoundSetting set → DriversFit set
 drivers_fit set sound m q site s sec boot dep node is = (emits_fit set sound m q site s sec boot dep node is, sensor_fits set sound m q site s sec boot dep node is)

@@ -27,13 +27,13 @@ use Rattle.sx_machine.proofs.PlanGuard.{barred}
 use Rattle.sx_image.specs.Watched.{marks_of_touches, violation_of}
 use Rattle.sx_mean.specs.Application.{PartTree}
 use Rattle.sx_model.specs.State.{Reading, Standing, Model}
-use Rattle.sx_model.specs.Step.{is_sensor, drives, undriven, drained, wrote_raw}
+use Rattle.sx_model.specs.Step.{is_sensor, drives, is_undriven, after_drain, wrote_raw}
 use Rattle.sx_world.specs.Setting.{Site, Setting, module_of, deployed, is_at_site, device_number, devices_at, windows_at, kind_of}
 use Rattle.sx_world.specs.Ledger.{Made, is_made}
 use Rattle.sx_world.specs.State.{World}
 use Rattle.sx_world.specs.Acts.{with_node}
 use Rattle.sx_world.specs.Observation.{touch_items}
-use Rattle.sx_world.specs.Law.{IsSound}
+use Rattle.sx_world.specs.Law.{IsSoundSetting}
 use Rattle.sx_world.proofs.Lists.{get_some, get_within, length_set, some_inj}
 use Rattle.sx_world.proofs.Verdicts.{Verdict, judge, Fares, fares_then, fares_map}
 use Rattle.sx_world.proofs.Tied.{Known, IsSane, NodeTied, IsModule, ModuleTied, Absent, Rests, Runs, Tied, shapes}
@@ -82,7 +82,7 @@ pub record Device (set : Setting) (n k : ℕ) (w : Window) : Type 0 where
   pub kind : kind_of device.kind ≡ w.kind
   pub node : device.node ≡ n
 
-pub device_of_window : (set : Setting) (n k : ℕ) (ws : List Window) (w : Window) → IsSound set → shapes ws ≡ windows_at n set.app.devices set.places → slice_get ws k ≡ Some w → Device set n k w
+pub device_of_window : (set : Setting) (n k : ℕ) (ws : List Window) (w : Window) → IsSoundSetting set → shapes ws ≡ windows_at n set.app.devices set.places → slice_get ws k ≡ Some w → Device set n k w
 device_of_window set n k ws w sound s h =
     let r = window_there n 0 set.app.devices set.places ws k w sound.places s h in
     let at : device_number set.app n k ≡ r.0 = index_get (devices_at n 0 set.app.devices) k (0 + r.0) r.2 ∙ omega arith in
@@ -97,10 +97,10 @@ device_of_window set n k ws w sound s h =
     }
 
 -- no driver of a device is present, where none that is present drives it
-undriven_where : (d : ℕ) (qs : List PartTree) (xs : List Standing) → ((m : ℕ) (q : PartTree) (x : Standing) → slice_get qs m ≡ Some q → slice_get xs m ≡ Some x → q.device ≡ Some d → x.present ≡ None) → undriven qs xs d ≡ true
+undriven_where : (d : ℕ) (qs : List PartTree) (xs : List Standing) → ((m : ℕ) (q : PartTree) (x : Standing) → slice_get qs m ≡ Some q → slice_get xs m ≡ Some x → q.device ≡ Some d → x.present ≡ None) → is_undriven qs xs d ≡ true
 undriven_where d [] xs f = refl
 undriven_where d (q ∷ qs) [] f = refl
-undriven_where d (q ∷ qs) (x ∷ xs) f = and_from _ (undriven qs xs d) (one q.device refl) (undriven_where d qs xs (λ m q2 x2 a b. f (suc m) q2 x2 a b))
+undriven_where d (q ∷ qs) (x ∷ xs) f = and_from _ (is_undriven qs xs d) (one q.device refl) (undriven_where d qs xs (λ m q2 x2 a b. f (suc m) q2 x2 a b))
   where
     one : (o : Option ℕ) → q.device ≡ o → not (drives o d && is_some x.present) ≡ true
     one None e = refl
@@ -133,13 +133,13 @@ position_some test i (y ∷ xs) (suc k) x e t n = elim (cases_Bool (test y)) [
     some_none : ◌≡◌ {A = Option ℕ} (Some i) None → ⊥
     some_none e = cc
 
-module _ (set : Setting) (w : World) (mo : Model) (n : ℕ) (s : State) (boot : ℕ) (sound : IsSound set) (t : Tied set w mo) (here : slice_get w.nodes n ≡ Some s) (boots : slice_get mo.boots n ≡ Some boot)
+module _ (set : Setting) (w : World) (mo : Model) (n : ℕ) (s : State) (boot : ℕ) (sound : IsSoundSetting set) (t : Tied set w mo) (here : slice_get w.nodes n ≡ Some s) (boots : slice_get mo.boots n ≡ Some boot)
     (own : ℕ) (stranger : (k : ℕ) (site : Site) (sec : Section) → slice_get set.sites k ≡ Some site → Lives s.sections.live sec → is_at_site n s.mem sec site ≡ true → (own ≢ sec.id) × (s.cur ≢ sec.id)) where
   node : NodeTied set n s boot
   node = t.nodes n s boot here boots
 
   -- a driver whose device such code reached isn't present
-  driver_absent : (k : ℕ) (x : Window) (access : Access) → slice_get s.devices k ≡ Some x → may s.sections.live own access x.at ≡ true → undriven set.app.parts mo.modules (device_number set.app n k) ≡ true
+  driver_absent : (k : ℕ) (x : Window) (access : Access) → slice_get s.devices k ≡ Some x → may s.sections.live own access x.at ≡ true → is_undriven set.app.parts mo.modules (device_number set.app n k) ≡ true
   driver_absent k x access e open_ = undriven_where (device_number set.app n k) set.app.parts mo.modules (λ m q z pm zm dv.
       let d = device_of_window set n k s.devices x sound node.windows e in
       let site : (site : Site) × (slice_get set.sites m ≡ Some site) = get_some set.sites m (omega (arith, get_within set.app.parts m q pm, sound.sites)) in
@@ -191,11 +191,11 @@ module _ (set : Setting) (w : World) (mo : Model) (n : ℕ) (s : State) (boot : 
           differ : ◌≡◌ {A = Kind} Sensor Actuator → ⊥
           differ e = cc
 
-  drain_step : (rs : List Reading) (d : ℕ) (dev : AppDevice) (r : Reading) → slice_get set.app.devices d ≡ Some dev → is_sensor dev.kind ≡ true → slice_get rs d ≡ Some r → r.fresh ≡ true → undriven set.app.parts mo.modules d ≡ true
-      → drained set.app (with_devices rs) d ≡ Some (with_devices (slice_set rs d (record { value = r.value; fresh = false })))
+  drain_step : (rs : List Reading) (d : ℕ) (dev : AppDevice) (r : Reading) → slice_get set.app.devices d ≡ Some dev → is_sensor dev.kind ≡ true → slice_get rs d ≡ Some r → r.fresh ≡ true → is_undriven set.app.parts mo.modules d ≡ true
+      → after_drain set.app (with_devices rs) d ≡ Some (with_devices (slice_set rs d (record { value = r.value; fresh = false })))
   drain_step rs d dev r a b c e u = rw (c, e, a, b, u) refl
 
-  raw_step : (rs : List Reading) (d : ℕ) (dev : AppDevice) → slice_get set.app.devices d ≡ Some dev → is_sensor dev.kind ≡ false → undriven set.app.parts mo.modules d ≡ true
+  raw_step : (rs : List Reading) (d : ℕ) (dev : AppDevice) → slice_get set.app.devices d ≡ Some dev → is_sensor dev.kind ≡ false → is_undriven set.app.parts mo.modules d ≡ true
       → wrote_raw set.app (with_devices rs) d ≡ Some (with_devices rs)
   raw_step rs d dev a b u = rw (a, b, u) refl
 
@@ -215,10 +215,10 @@ module _ (set : Setting) (w : World) (mo : Model) (n : ℕ) (s : State) (boot : 
       let r : (r : Reading) × (slice_get rs num ≡ Some r) = get_some rs num (omega (arith, get_within set.app.devices num d.device d.there, long)) in
       let was = tied k h.0 r.0 h.1 r.1 in
       let undr = driver_absent k x.0 Read x.1 (subst (λ j. may s.sections.live own Read j ≡ true) (sym x.2) h.5) in
-      let next : Option Model = drained set.app (with_devices rs) num in
+      let next : Option Model = after_drain set.app (with_devices rs) num in
       let rs2 = slice_set rs num (record { value = v; fresh = false }) in
       let value : (record { value = r.0.value; fresh = false }) ≡ (record { value = v; fresh = false }) = ap (λ z. record { value = z; fresh = false }) (was.value ∙ h.4) in
-      let go : drained set.app (with_devices rs) num ≡ Some (with_devices rs2) = drain_step rs num d.device r.0 d.there (kind_sensor k h.0 d h.2) r.1 (was.fresh ∙ h.3) undr ∙ ap (λ z. Some (with_devices (slice_set rs num z))) value in
+      let go : after_drain set.app (with_devices rs) num ≡ Some (with_devices rs2) = drain_step rs num d.device r.0 d.there (kind_sensor k h.0 d h.2) r.1 (was.fresh ∙ h.3) undr ∙ ap (λ z. Some (with_devices (slice_set rs num z))) value in
       subst (λ o. Fares (Rattle.sx_world.proofs.Verdicts.judge_on o (λ z. judge set.app z (touch_items set.app n None ts))) (λ mo2. mo2 ≡ with_devices (readings_all set.app n (marks_of_touches ts) rs2))) (sym go)
       (touches_fare ts (cleared a k) b rs2 (Rattle.sx_world.proofs.Bystanders.cleared_shapes a k ∙ sh) (length_set rs num (record { value = v; fresh = false }) ∙ long) h.6
       (Rattle.sx_world.proofs.Bystanders.set_apart set.app n k a h.0 h.1 apart) (Rattle.sx_world.proofs.Bystanders.tied_read set.app n k v a rs h.0 h.1 h.4 apart tied))
@@ -260,9 +260,9 @@ strangers set n s boot node none k site sec sk l at =
       ],
     )
 
-module _ (set : Setting) (w : World) (mo : Model) (n : ℕ) (s : State) (sound : IsSound set) (laws : MachineLaws set.mac) (t : Tied set w mo) (here : slice_get w.nodes n ≡ Some s)
+module _ (set : Setting) (w : World) (mo : Model) (n : ℕ) (s : State) (sound : IsSoundSetting set) (laws : MachineLaws set.mac) (t : Tied set w mo) (here : slice_get w.nodes n ≡ Some s)
     (none : module_of set.sites n s (own_of s) ≡ None) (quiet : violation_of (step set.mac s).shown.event ≡ None) where
-  abbrev r : Rattle.sx_machine.specs.Step.Shows Rattle.sx_machine.specs.declared.kinds.Seen.Seen
+  abbrev r : Rattle.sx_machine.specs.Step.Shown Rattle.sx_machine.specs.declared.kinds.Seen.Seen
   r = step set.mac s
 
   pub boot_n : (boot : ℕ) × (slice_get mo.boots n ≡ Some boot)

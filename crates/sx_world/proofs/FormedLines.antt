@@ -9,7 +9,7 @@ use Rattle.sx_sched.specs.Lines.{Line, IsLine, Blank, Run, Finish, Put, Set, Tak
 use Rattle.sx_deploy.specs.Deployment as deploy
 use Rattle.sx_deploy.specs.Deployment.{Deployed}
 use Rattle.sx_model.specs.Step.{is_sensor, kind_is}
-use Rattle.sx_world.specs.Law.{IsInForm, AreInForm}
+use Rattle.sx_world.specs.Law.{LineInForm, LinesInForm}
 use Rattle.sx_world.proofs.Lists.{some_inj}
 use Rattle.sx_deploy.specs.Law as deployment
 use Rattle.sx_world.specs.Setting.{Site}
@@ -25,8 +25,8 @@ sensor_at (x ∷ ds) zero e = by_kind x.kind (some_inj _ true e)
     by_kind Actuator h = absurd cc
 sensor_at (x ∷ ds) (suc d) e = sensor_at ds d e
 
-module _ (mac : Mac) (d : Deployed) (sites : List Site) (acc : deployment.IsSound d) where
-  pub in_form : (line : Line) → IsLine d.names line → IsInForm (setting mac d sites) line
+module _ (mac : Mac) (d : Deployed) (sites : List Site) (acc : deployment.IsSoundDeployment d) where
+  pub in_form : (line : Line) → IsLine d.names line → LineInForm (setting mac d sites) line
   in_form Blank h = tt
   in_form (Run n k) h = tt
   in_form (Finish n) h = tt
@@ -43,6 +43,6 @@ module _ (mac : Mac) (d : Deployed) (sites : List Site) (acc : deployment.IsSoun
   in_form (Load m) h = tt
   in_form (Call m e input output) h = (h.1, h.2, h.3)
 
-  pub lines_in_form : (lines : List Line) → AreLines d.names lines → AreInForm (setting mac d sites) lines
+  pub lines_in_form : (lines : List Line) → AreLines d.names lines → LinesInForm (setting mac d sites) lines
   lines_in_form [] h = tt
   lines_in_form (line ∷ lines) h = (in_form line h.0, lines_in_form lines h.1)

@@ -20,7 +20,7 @@ use Rattle.sx_world.specs.Setting.{Site, Setting}
 use Rattle.sx_world.specs.Deployer.{DeployerState, Grant, key_of, side_number, connection_key, grant_header, set_key, set_key_entry}
 use Rattle.sx_world.specs.State.{World, Acted}
 use Rattle.sx_world.specs.Acts.{then_, with_deployer, key_given, keys_given}
-use Rattle.sx_world.specs.Held.{Running, IsKept, Records, IsFront, Shows, Did, Wanted, Does}
+use Rattle.sx_world.specs.Held.{Running, IsKept, Records, IsFront, Shows, Did, Wanted, DoesAct}
 use Rattle.sx_world.proofs.Fronts.{front_more, front_same}
 use Rattle.sx_world.proofs.SameKeys.{low_bytes, known_as, known_site, unknown_site}
 use Rattle.sx_world.proofs.Sent.{sent, deployer_shown, packet_shown, packet_item}
@@ -74,7 +74,7 @@ pub given_some : {X E : Type 0} (set : Setting) (r : Result X E) (old : Running)
     → ((list : List Made) → Records old.ledger list → Records entries (list ++ made maker.Deployer g.holder g.boot (take 6 packet) key ∷ []))
     → count ≡ length old.packets
     → OnOk r (packets ≡ old.packets ++ packet ∷ []) → OnOk r (after ≡ before ++ Packet count (length packet) ∷ []) → OnErr r (after ≡ before)
-    → Does set r old (sent old packets old.deployer entries) before after (λ w. key_given set w g (slice_get set.sites g.holder))
+    → DoesAct set r old (sent old packets old.deployer entries) before after (λ w. key_given set w g (slice_get set.sites g.holder))
 given_some set (Err e) old entries packets before after g count packet key hl he made_by key_is records n more added none = λ w h. front_same after before _ none
 given_some set (Ok x) old entries packets before after g count packet key hl he made_by key_is records n more added none = λ w h. did w h (slice_get set.sites g.holder) refl
   where
@@ -168,6 +168,6 @@ next_grant gs i g h e =
 
 -- a lack of memory
 pub does_err : {X E : Type 0} (set : Setting) (r : Result X E) (old new : Running) (before after : List Item) (act : World → Acted) → IsErr r
-    → Wanted set old before after act → Does set r old new before after act
+    → Wanted set old before after act → DoesAct set r old new before after act
 does_err set (Ok x) old new before after act e wanted = absurd cc
 does_err set (Err x) old new before after act e wanted = wanted

@@ -13,7 +13,7 @@ use Rattle.sx_rules.specs.declared.access.Violation.{Violation}
 use Rattle.sx_tag.specs.Mac.{Mac}
 use Rattle.sx_world.specs.Setting.{Setting}
 use Rattle.sx_world.specs.State.{World, Acted}
-use Rattle.sx_world.specs.Acts.{at_node, stepped, then_, only}
+use Rattle.sx_world.specs.Acts.{at_node, after_step, then_, only}
 use Rattle.sx_world.specs.Run.{is_reset, steps_of}
 use Rattle.sx_world.specs.Held.{Running, IsFront, Shows, Did, Wanted}
 use Rattle.sx_world.proofs.Lists.{get_some, get_same, some_inj, length_set}
@@ -34,13 +34,13 @@ is_last set stops s = is_reset (step set.mac s).shown.event || stops (step set.m
 
 -- what a world's next step leaves and shows
 abbrev pub next : Setting → ℕ → World → Acted
-next set n w = at_node w (stepped set w n) (slice_get w.nodes n)
+next set n w = at_node w (after_step set w n) (slice_get w.nodes n)
 
 first_of : (set : Setting) (stops : State → Bool) (ends : List Item) (n left k : ℕ) (v : World) (s : State) → left ≡ suc k → slice_get v.nodes n ≡ Some s
-    → steps_of set stops ends n left v ≡ (if is_last set stops s then stepped set v n s else then_ (stepped set v n s) (steps_of set stops ends n k))
+    → steps_of set stops ends n left v ≡ (if is_last set stops s then after_step set v n s else then_ (after_step set v n s) (steps_of set stops ends n k))
 first_of set stops ends n left k v s e here =
     ap (λ i. steps_of set stops ends n i v) e
-    ∙ ap (at_node v (λ s. if is_last set stops s then stepped set v n s else then_ (stepped set v n s) (steps_of set stops ends n k))) here
+    ∙ ap (at_node v (λ s. if is_last set stops s then after_step set v n s else then_ (after_step set v n s) (steps_of set stops ends n k))) here
 
 choose : (b c : Bool) (x y : Acted) → b ≡ c → (if b then x else y) ≡ (if c then x else y)
 choose b c x y e = ap (λ (d : Bool). if d then x else y) e
@@ -50,9 +50,9 @@ abbrev pub Steps : Setting → ℕ → Running → Running → List Item → Lis
 Steps set n now new came after = (v : World) → Shows set now v → Shows set new (next set n v).world × (after ≡ came ++ (next set n v).items)
 
 did : (set : Setting) (n : ℕ) (now new : Running) (came after : List Item) (v : World) (s : State) → slice_get v.nodes n ≡ Some s → Shows set now v → Steps set n now new came after
-    → Shows set new (stepped set v n s).world × (after ≡ came ++ (stepped set v n s).items)
+    → Shows set new (after_step set v n s).world × (after ≡ came ++ (after_step set v n s).items)
 did set n now new came after v s here h steps =
-    subst (λ o. Shows set new (at_node v (stepped set v n) o).world × (after ≡ came ++ (at_node v (stepped set v n) o).items)) here (steps v h)
+    subst (λ o. Shows set new (at_node v (after_step set v n) o).world × (after ≡ came ++ (at_node v (after_step set v n) o).items)) here (steps v h)
 
 -- a step that isn't the last
 pub going_on : (set : Setting) (stops : State → Bool) (ends : List Item) (n all left k : ℕ) (old now new : Running) (before came after : List Item) (s : State)
@@ -64,14 +64,14 @@ going_on set stops ends n all left k old now new before came after s going e the
       let v = g.0 in
       let here : slice_get v.nodes n ≡ Some s = ap (λ ns. slice_get ns n) (sym g.1.nodes) ∙ there in
       let d = did set n now new came after v s here g.1 steps in
-      let whole : steps_of set stops ends n left v ≡ then_ (stepped set v n s) (steps_of set stops ends n k) =
-      first_of set stops ends n left k v s e here ∙ choose _ false (stepped set v n s) (then_ (stepped set v n s) (steps_of set stops ends n k)) more in
-      let u = (stepped set v n s).world in
+      let whole : steps_of set stops ends n left v ≡ then_ (after_step set v n s) (steps_of set stops ends n k) =
+      first_of set stops ends n left k v s e here ∙ choose _ false (after_step set v n s) (then_ (after_step set v n s) (steps_of set stops ends n k)) more in
+      let u = (after_step set v n s).world in
       let rest = (steps_of set stops ends n k u).items in (
         u,
         d.0,
         sym (ap (λ (a : Acted). a.world) whole) ∙ g.2,
-        ap (λ x. x ++ rest) d.1 ∙ append_assoc came (stepped set v n s).items rest ∙ sym (ap (λ (a : Acted). came ++ a.items) whole) ∙ g.3,
+        ap (λ x. x ++ rest) d.1 ∙ append_assoc came (after_step set v n s).items rest ∙ sym (ap (λ (a : Acted). came ++ a.items) whole) ∙ g.3,
       );
 }
 
@@ -85,17 +85,17 @@ going_over set stops ends n all left k old now new before came after s going e t
     let v = g.0 in
     let here : slice_get v.nodes n ≡ Some s = ap (λ ns. slice_get ns n) (sym g.1.nodes) ∙ there in
     let d = did set n now new came after v s here g.1 steps in
-    let whole : steps_of set stops ends n left v ≡ stepped set v n s =
-    first_of set stops ends n left k v s e here ∙ choose _ true (stepped set v n s) (then_ (stepped set v n s) (steps_of set stops ends n k)) last in (
+    let whole : steps_of set stops ends n left v ≡ after_step set v n s =
+    first_of set stops ends n left k v s e here ∙ choose _ true (after_step set v n s) (then_ (after_step set v n s) (steps_of set stops ends n k)) last in (
       subst (λ x. Shows set new x) (sym (ap (λ (a : Acted). a.world) whole) ∙ g.2) d.0,
       d.1 ∙ sym (ap (λ (a : Acted). came ++ a.items) whole) ∙ g.3,
     )
 
 starts : (set : Setting) (stops : State → Bool) (ends : List Item) (n k : ℕ) (v : World) (s : State) (b : Bool) (after came : List Item)
-    → IsFront after (came ++ (stepped set v n s).items)
-    → IsFront after (came ++ (if b then stepped set v n s else then_ (stepped set v n s) (steps_of set stops ends n k)).items)
+    → IsFront after (came ++ (after_step set v n s).items)
+    → IsFront after (came ++ (if b then after_step set v n s else then_ (after_step set v n s) (steps_of set stops ends n k)).items)
 starts set stops ends n k v s true after came f = f
-starts set stops ends n k v s false after came f = front_more after came (stepped set v n s).items _ f
+starts set stops ends n k v s false after came f = front_more after came (after_step set v n s).items _ f
 
 -- a step in which memory ran out
 pub going_front : (set : Setting) (stops : State → Bool) (ends : List Item) (n all left k : ℕ) (old now : Running) (before came after : List Item) (s : State)
@@ -106,7 +106,7 @@ going_front set stops ends n all left k old now before came after s going e ther
     let g = going.goes w h in
     let v = g.0 in
     let here : slice_get v.nodes n ≡ Some s = ap (λ ns. slice_get ns n) (sym g.1.nodes) ∙ there in
-    let f : IsFront after (came ++ (stepped set v n s).items) = subst (λ o. IsFront after (came ++ (at_node v (stepped set v n) o).items)) here (front v g.1) in
+    let f : IsFront after (came ++ (after_step set v n s).items) = subst (λ o. IsFront after (came ++ (at_node v (after_step set v n) o).items)) here (front v g.1) in
     let all_of = starts set stops ends n k v s (is_last set stops s) after came f in
     subst (λ x. IsFront after x) (sym (ap (λ (a : Acted). came ++ a.items) (first_of set stops ends n left k v s e here)) ∙ g.3) all_of
 

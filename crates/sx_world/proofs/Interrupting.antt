@@ -12,7 +12,7 @@ use Rattle.sx_machine.specs.State.{State}
 use Rattle.sx_machine.specs.Run.{Moment, Outcome, Finished, Violated, Module, exec}
 use Rattle.sx_machine.specs.Step.{start}
 use Rattle.sx_machine.specs.Acts.{unless, irq_refusal, interrupt, interrupted as machine_interrupted, irq}
-use Rattle.sx_machine.specs.Guard.{Kept}
+use Rattle.sx_machine.specs.Guard.{PrivateKept}
 use Rattle.sx_machine.proofs.PlanGuard.{KeptBy, exec_kept}
 use Rattle.sx_machine.specs.Node.{IsNode}
 use Rattle.sx_machine.specs.Touches.{Replays}
@@ -20,7 +20,7 @@ use Rattle.sx_machine.specs.Frame.{KeptPublic}
 use Rattle.sx_machine.proofs.Touches.{TracedBy}
 use Rattle.sx_machine.proofs.Sparse.{interrupt_traced}
 use Rattle.sx_machine.proofs.Frame.{FramedBy, exec_framed}
-use Rattle.sx_machine.proofs.Public.{framed_public}
+use Rattle.sx_machine.proofs.PublicKept.{framed_public}
 use Rattle.sx_machine.proofs.Stays.{irq_idle, interrupt_ranged, interrupted_is_node}
 use Rattle.sx_invoke.specs.ModuleState.{state_of}
 use Rattle.sx_image.specs.Watched.{marks_of_touches}
@@ -30,9 +30,9 @@ use Rattle.sx_model.specs.State.{Reading, Standing, Model}
 use Rattle.sx_world.specs.Setting.{Site, Setting, is_at_site, device_number, devices_at}
 use Rattle.sx_world.specs.Ledger.{Made}
 use Rattle.sx_world.specs.State.{World}
-use Rattle.sx_world.specs.Acts.{with_node, interrupted}
+use Rattle.sx_world.specs.Acts.{with_node, after_interrupt}
 use Rattle.sx_world.specs.Observation.{touch_items, cause_of}
-use Rattle.sx_world.specs.Law.{IsSound}
+use Rattle.sx_world.specs.Law.{IsSoundSetting}
 use Rattle.sx_world.proofs.Lists.{get_some, get_within, some_inj}
 use Rattle.sx_world.proofs.Verdicts.{judge, Fares, fares_map}
 use Rattle.sx_world.proofs.Tied.{SameState, Known, NodeTied, ModuleTied, Absent, Rests, Runs, Tied}
@@ -59,7 +59,7 @@ framed_by live s m0 (Module regs x t e c) l f = framed_public live 0 s m0 x.mem 
 
 -- a deployed module that rests or is absent, where nothing changed its bytes or the sections
 still_module : (set : Setting) (n m : ℕ) (q : PartTree) (site : Site) (s s2 : State) (x : Standing) (sent : List (List ℕ)) → IsNode s → s.cur ≡ 0 → s2.cur ≡ 0 → s2.sections ≡ s.sections
-    → ((sec : Section) → Lives s.sections.live sec → KeptPublic sec s.mem s2.mem) → ((sec : Section) → Lives s.sections.live sec → Kept sec s.mem s2.mem)
+    → ((sec : Section) → Lives s.sections.live sec → KeptPublic sec s.mem s2.mem) → ((sec : Section) → Lives s.sections.live sec → PrivateKept sec s.mem s2.mem)
     → ModuleTied set n m q site s x sent → ModuleTied set n m q site s2 x sent
 still_module set n m q site s s2 x sent node idle still same public private (Absent none f) =
     Absent none (λ sec l. let l2 : Lives s.sections.live sec = subst (λ (z : Sections). Lives z.live sec) same l in at_site_same n s.mem s2.mem sec site (public_same sec s.mem s2.mem (public sec l2)) ∙ f sec l2)
@@ -69,7 +69,7 @@ still_module set n m q site s s2 x sent node idle still same public private (Res
     (subst (λ bs. SameState (ends_of set.app m) (state_of q.tree (ends_of set.app m) bs) pr.cells pr.ends sent) (sym (kept_bytes sec s.mem s2.mem (private sec i.lives))) h)
 still_module set n m q site s s2 x sent node idle still same public private (Runs sec pr p i cur u) = absurd (nonzero s sec node i.lives (sym cur ∙ idle))
 
-module _ (set : Setting) (w : World) (mo : Model) (n : ℕ) (s : State) (sound : IsSound set) (t : Tied set w mo) (here : slice_get w.nodes n ≡ Some s) (idle : s.cur ≡ 0) where
+module _ (set : Setting) (w : World) (mo : Model) (n : ℕ) (s : State) (sound : IsSoundSetting set) (t : Tied set w mo) (here : slice_get w.nodes n ≡ Some s) (idle : s.cur ≡ 0) where
   boot_i : (boot : ℕ) × (slice_get mo.boots n ≡ Some boot)
   boot_i = get_some mo.boots n (omega (arith, get_within w.nodes n s here, t.size.nodes, t.size.boots))
 
@@ -94,7 +94,7 @@ module _ (set : Setting) (w : World) (mo : Model) (n : ℕ) (s : State) (sound :
 
   -- where it ends: touches of code of no module, and bytes outside the sections
   module _ (regs : List ℕ) (x : Moment) (traced : Replays s.sections.live 0 x.touches s.devices x.devices) (public : (sec : Section) → Lives s.sections.live sec → KeptPublic sec s.mem x.mem)
-      (private : (sec : Section) → Lives s.sections.live sec → Kept sec s.mem x.mem) (node : IsNode (machine_interrupted s (Finished regs x)).state) where
+      (private : (sec : Section) → Lives s.sections.live sec → PrivateKept sec s.mem x.mem) (node : IsNode (machine_interrupted s (Finished regs x)).state) where
     abbrev s2 : State
     s2 = (machine_interrupted s (Finished regs x)).state
 
@@ -148,15 +148,15 @@ module _ (set : Setting) (w : World) (mo : Model) (n : ℕ) (s : State) (sound :
 
   by_outcome : (o : Outcome) → TracedBy s.sections.live 0 s.devices o → ((sec : Section) → Lives s.sections.live sec → PublicBy sec s.mem o) → ((sec : Section) → Lives s.sections.live sec → KeptBy sec s.mem o)
       → IsNode (machine_interrupted s o).state
-      → (let a = interrupted set w n (machine_interrupted s o).state (Ok (machine_interrupted s o).shown) in Fares (judge set.app mo a.items) (Tied set a.world))
+      → (let a = after_interrupt set w n (machine_interrupted s o).state (Ok (machine_interrupted s o).shown) in Fares (judge set.app mo a.items) (Tied set a.world))
   by_outcome (Finished regs x) traced public private node = ended_fares regs x traced public private node
   by_outcome (Violated v) traced public private node = reset_fares set w mo n s sound reset_is_node t here (cause_of v) w.steps
   by_outcome (Module regs x u e c) traced public private node = same_tied set w mo n s t here
 
-pub irq_keeps : (set : Setting) → IsSound set → (w : World) (n line : ℕ) (s : State) → slice_get w.nodes n ≡ Some s → Keeps set w (interrupted set w n (irq s line).state (irq s line).shown)
+pub irq_keeps : (set : Setting) → IsSoundSetting set → (w : World) (n line : ℕ) (s : State) → slice_get w.nodes n ≡ Some s → Keeps set w (after_interrupt set w n (irq s line).state (irq s line).shown)
 irq_keeps set sound w n line s here mo t = by (irq_refusal s) refl
   where
-    by : (r : Option Refused) → irq_refusal s ≡ r → (let i = unless r s (machine_interrupted s (exec s.sections 0 (interrupt line s.regs) (start s))) in let a = interrupted set w n i.state i.shown in Fares (judge set.app mo a.items) (Tied set a.world))
+    by : (r : Option Refused) → irq_refusal s ≡ r → (let i = unless r s (machine_interrupted s (exec s.sections 0 (interrupt line s.regs) (start s))) in let a = after_interrupt set w n i.state i.shown in Fares (judge set.app mo a.items) (Tied set a.world))
     by None e =
         let idle = irq_idle s e in
         let o = exec s.sections 0 (interrupt line s.regs) (start s) in

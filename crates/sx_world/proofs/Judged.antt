@@ -21,11 +21,11 @@ use Rattle.sx_mean.specs.Application.{PartTree, AppTree}
 use Rattle.sx_mean.specs.Ends.{ends_of}
 use Rattle.sx_model.specs.State.{Reading, EndView, Pending, Present, Vouched as Vow, Attestation, Standing, Model, FIELDS}
 use Rattle.sx_model.specs.Reaction.{flow_of, after_event}
-use Rattle.sx_model.specs.Step.{idle, changed, is_word, has_taken, has_opened, has_vouched, has_written, has_read, kind_is, is_sensor, waits, is_done, is_vouched, step}
+use Rattle.sx_model.specs.Step.{idle, changed_views, is_word, has_taken, has_opened, has_vouched, has_written, has_read, kind_is, is_sensor, waits, is_done, is_vouched, step}
 use Rattle.sx_model.specs.Renewal.{takes, opens, is_below, may_open}
 use Rattle.sx_world.specs.Setting.{device_number}
 use Rattle.sx_world.specs.Wire.{begins, is_ask, is_set_key_header, is_event_header, challenge_in, link_in, epoch_in, last_in, value_in}
-use Rattle.sx_world.specs.Ledger.{Made, NO_TARGET, made, is_made}
+use Rattle.sx_world.specs.Ledger.{Made, NO_TARGET, made_entry, is_made}
 use Rattle.sx_world.specs.Observation.{Observed, is_driver, read_item, write_item, side_in, has_end, sender_of, unless_made, has_wrapped, has_unwrapped}
 use Rattle.sx_world.proofs.Lists.{get_some, some_inj}
 use Rattle.sx_world.proofs.Ends.{found_at, renumbered, takes_at, opens_at, below_at, open_stays, opens_stays, open_same, takes_leaves, newly_open, open_small, EndOf, has_link, linked, has_end-found}
@@ -183,7 +183,7 @@ module _ (app : AppTree) (m : ℕ) (q : PartTree) (x : Standing) (pr : Present) 
   is_word_same v o e = rw e (eq_refl v)
 
   taken_step : (link epoch last value place i : ℕ) (l : Link) (words : List ℕ) (views : List EndView) → i / 65536 ≡ epoch → i % 65536 ≡ last → place ≡ link + 256 * epoch → pr.pending ≡ None
-      → slice_get app.links link ≡ Some l → slice_get mo.sent place ≡ Some words → slice_get words last ≡ Some value → changed (takes epoch last) link To (ends_of app m) pr.ends ≡ Some views
+      → slice_get app.links link ≡ Some l → slice_get mo.sent place ≡ Some words → slice_get words last ≡ Some value → changed_views (takes epoch last) link To (ends_of app m) pr.ends ≡ Some views
       → has_taken app mo m link i value ≡ Some (behind views (event.Input l.input value) mo.devices)
   taken_step link epoch last value place i l words views ie il pe pend lk wk word ch =
       let there2 : slice_get mo.sent (link + 256 * epoch) ≡ Some words = subst (λ f. slice_get mo.sent f ≡ Some words) pe wk in
@@ -203,7 +203,7 @@ module _ (app : AppTree) (m : ℕ) (q : PartTree) (x : Standing) (pr : Present) 
       let has : has_end app m link To ≡ true = has_end-found link To (ends_of app m) k e fa in
       let sender = sender_of app link in
       let i = item.Take m link (65536 * epoch + last) (value_in body) in
-      let entry : Made = made (maker.Module sender) NO_TARGET 0 header body in
+      let entry : Made = made_entry (maker.Module sender) NO_TARGET 0 header body in
       let bit = is_made ledger entry in
       let good = Next app m q x mo (Unwrapped header body false) ledger ms result in
       let seen : has_unwrapped app m boot header body ledger ≡ unless_made (Some m) bit i =
@@ -302,7 +302,7 @@ module _ (app : AppTree) (m : ℕ) (q : PartTree) (x : Standing) (pr : Present) 
   abbrev opened_with : List EndView → Present
   opened_with views = record { cells = pr.cells; ends = views; pending = Some (record { emits = []; pieces = 0 }) }
 
-  opened_step : (link epoch : ℕ) (side : Side) (views : List EndView) → pr.pending ≡ None → changed (opens epoch) link side (ends_of app m) pr.ends ≡ Some views
+  opened_step : (link epoch : ℕ) (side : Side) (views : List EndView) → pr.pending ≡ None → changed_views (opens epoch) link side (ends_of app m) pr.ends ≡ Some views
       → may_open x.attested boot link epoch (slice_index mo.epochs link) ≡ true
       → has_opened app mo m link side epoch ≡ Some (with_end_of (opened_with views))
   opened_step link epoch side views pend ch may = rw (part, there, idle_of x pr present pend, boots, ch, may) refl
@@ -315,9 +315,9 @@ module _ (app : AppTree) (m : ℕ) (q : PartTree) (x : Standing) (pr : Present) 
     pub floor : slice_index a.floors link ≤ epoch
     pub reached : epoch ≤ slice_index mo.epochs link
 
-  given : (header key : List ℕ) → is_made ledger (made maker.Deployer m boot header key) ≡ true → Given (link_in header) (epoch_in header)
+  given : (header key : List ℕ) → is_made ledger (made_entry maker.Deployer m boot header key) ≡ true → Given (link_in header) (epoch_in header)
   given header key was =
-      let ke : KnownKey app mo (made maker.Deployer m boot header key) = known (made maker.Deployer m boot header key) was in
+      let ke : KnownKey app mo (made_entry maker.Deployer m boot header key) = known (made_entry maker.Deployer m boot header key) was in
       let xs : ke.x ≡ x = some_inj ke.x x (sym ke.there ∙ there) in
       let at : x.attested ≡ Some ke.a = sym (ap (λ (z : Standing). z.attested) xs) ∙ ke.attested in
       let now : ke.a.boot ≡ boot = same_boot ke.a ke.older ((sane.timely m q x boot part there boots).attested ke.a at) in
@@ -353,7 +353,7 @@ module _ (app : AppTree) (m : ℕ) (q : PartTree) (x : Standing) (pr : Present) 
       let fa = found_at link side (ends_of app m) k e found in
       let has : has_end app m link side ≡ true = has_end-found link side (ends_of app m) k e fa in
       let i = item.Open m link side epoch in
-      let entry : Made = made maker.Deployer m boot header key in
+      let entry : Made = made_entry maker.Deployer m boot header key in
       let bit = is_made ledger entry in
       let good = Next app m q x mo (Unwrapped header key true) ledger [] (Returns 1 p) in
       let seen : has_unwrapped app m boot header key ledger ≡ unless_made (Some m) bit i = if_true _ _ _ (and_from (is_set_key_header header) _ isk has) in
@@ -443,7 +443,7 @@ module _ (app : AppTree) (m : ℕ) (q : PartTree) (x : Standing) (pr : Present) 
       → (let o = has_wrapped m boot header [] true ledger in Fares (judge app mo o.items) (Next app m q x mo (Wrapped header [] true) o.ledger [] result))
   vouch_fares st header result pend same ask h =
       let mark = Wrapped header [] true in
-      let entry : Made = made (maker.Module m) NO_TARGET boot header [] in
+      let entry : Made = made_entry (maker.Module m) NO_TARGET boot header [] in
       let a = challenge_in header in
       let mo2 = vouched_model a in
       let y = vouched_as a in
@@ -500,7 +500,7 @@ module _ (app : AppTree) (m : ℕ) (q : PartTree) (x : Standing) (pr : Present) 
       → (let o = has_wrapped m boot header body own ledger in Fares (judge app mo o.items) (Next app m q x mo (Wrapped header body own) o.ledger ms result))
   wrap_fares header body own emits pieces ms result pend h =
       let mark = Wrapped header body own in
-      let entry : Made = made (maker.Module m) NO_TARGET 0 header body in
+      let entry : Made = made_entry (maker.Module m) NO_TARGET 0 header body in
       let no_ask : is_ask header ≡ false = false_from_ne_true (is_ask header) (λ a. ask_not_event header a h.0) in
       let two : (length body == 2) ≡ true = subst (λ n. (n == 2) ≡ true) (sym h.1) refl in
       let seen : has_wrapped m boot header body own ledger ≡ record { items = []; ledger = ledger ++ entry ∷ [] } = rw (no_ask, h.0, two) refl in

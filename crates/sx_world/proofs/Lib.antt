@@ -29,13 +29,13 @@ pub mod Counting
 pub mod Sensing
 pub mod Interrupting
 pub mod Fits
-pub mod Whole
+pub mod RunsLegal
 pub mod Windows
 pub mod DeviceWords
 pub mod LaidSites
 pub mod Settled
 pub mod FormedLines
-pub mod Accepting
+pub mod AcceptedRunsLegal
 pub mod Recorded
 pub mod Untouched
 pub mod Runners

@@ -13,8 +13,8 @@ use Rattle.sx_world.specs.Setting.{Site, Setting}
 use Rattle.sx_world.specs.State.{World, Acted}
 use Rattle.sx_world.specs.Acts.{at_node, only, then_}
 use Rattle.sx_world.specs.Run.{Register, put_on, put_pieces, set_on, set_all, steps_of, unless_busy}
-use Rattle.sx_world.specs.Held.{Running, Shows, Did, Wanted, Does, boots_of}
-use Rattle.sx_world.specs.Loading.{AreSettable, protect_registers, loaded}
+use Rattle.sx_world.specs.Held.{Running, Shows, Did, Wanted, DoesAct, boots_of}
+use Rattle.sx_world.specs.Loading.{AreSettable, protect_registers, after_loading}
 use Rattle.sx_world.proofs.Composed.{does_same, then_does, then_wanted, first_wanted}
 use Rattle.sx_world.proofs.Fronts.{front_same}
 use Rattle.sx_world.proofs.Lists.{get_some, some_inj}
@@ -94,7 +94,7 @@ settable rs i r d lt e h = subst AreSettable (next_of rs i r d lt e) h
 -- where no module runs
 pub idle_does : {X E : Type 0} (set : Setting) (r : Result X E) (old new : Running) (before after : List Item) (n : ℕ) (act : World → Acted) (idle : Bool)
     → n < length old.nodes → ((s : State) → slice_get old.nodes n ≡ Some s → idle ≡ (s.cur == 0)) → idle ≡ true
-    → Does set r old new before after act → Does set r old new before after (λ w. unless_busy n w act)
+    → DoesAct set r old new before after act → DoesAct set r old new before after (λ w. unless_busy n w act)
 idle_does set r old new before after n act idle lt says rests does =
     does_same set r old new before after act (λ w. unless_busy n w act) (λ w h. sym (same w h)) does
   where
@@ -107,7 +107,7 @@ idle_does set r old new before after n act idle lt says rests does =
 -- where one runs
 pub busy_does : {X E : Type 0} (set : Setting) (r : Result X E) (old : Running) (before after : List Item) (n : ℕ) (act : World → Acted) (idle : Bool)
     → n < length old.nodes → ((s : State) → slice_get old.nodes n ≡ Some s → idle ≡ (s.cur == 0)) → idle ≡ false
-    → OnOk r (after ≡ before ++ Busy n ∷ []) → OnErr r (after ≡ before) → Does set r old old before after (λ w. unless_busy n w act)
+    → OnOk r (after ≡ before ++ Busy n ∷ []) → OnErr r (after ≡ before) → DoesAct set r old old before after (λ w. unless_busy n w act)
 busy_does set r old before after n act idle lt says runs ok err =
     does_same set r old old before after (λ w. only w (Busy n ∷ [])) (λ w. unless_busy n w act) (λ w h. sym (same w h)) (refused r ok err)
   where
@@ -117,7 +117,7 @@ busy_does set r old before after n act idle lt says runs ok err =
         ap (at_node w (λ s. if s.cur == 0 then act w else only w (Busy n ∷ []))) (ap (λ ns. slice_get ns n) (sym h.nodes) ∙ found.1)
         ∙ ap (λ (b : Bool). if b then act w else only w (Busy n ∷ [])) (sym (says found.0 found.1) ∙ runs)
 
-    refused : {X E : Type 0} (r : Result X E) → OnOk r (after ≡ before ++ Busy n ∷ []) → OnErr r (after ≡ before) → Does set r old old before after (λ w. only w (Busy n ∷ []))
+    refused : {X E : Type 0} (r : Result X E) → OnOk r (after ≡ before ++ Busy n ∷ []) → OnErr r (after ≡ before) → DoesAct set r old old before after (λ w. only w (Busy n ∷ []))
     refused (Ok x) ok err = λ w h. (h, ok)
     refused (Err e) ok err = λ w h. front_same after before (Busy n ∷ []) err
 
@@ -139,24 +139,24 @@ module _ (set : Setting) (site : Site) where
   abbrev protects : World → Acted
   protects = steps_of set (λ s. false) [] site.node 1
 
-  pub image_wanted : (old : Running) (before after : List Item) → Wanted set old before after image → Wanted set old before after (loaded set site)
+  pub image_wanted : (old : Running) (before after : List Item) → Wanted set old before after image → Wanted set old before after (after_loading set site)
   image_wanted old before after a = first_wanted set old before after image (λ w. then_ (code w) (λ v. then_ (given v) protects)) a
 
   pub code_wanted : (old mid : Running) (before among after : List Item) → Did set old mid before among image → Wanted set mid among after code
-      → Wanted set old before after (loaded set site)
+      → Wanted set old before after (after_loading set site)
   code_wanted old mid before among after a b =
       then_wanted set old mid before among after image (λ w. then_ (code w) (λ v. then_ (given v) protects)) a
       (first_wanted set mid among after code (λ v. then_ (given v) protects) b)
 
   pub given_wanted : (old mid late : Running) (before among behind after : List Item) → Did set old mid before among image → Did set mid late among behind code
-      → Wanted set late behind after given → Wanted set old before after (loaded set site)
+      → Wanted set late behind after given → Wanted set old before after (after_loading set site)
   given_wanted old mid late before among behind after a b c =
       then_wanted set old mid before among after image (λ w. then_ (code w) (λ v. then_ (given v) protects)) a
       (then_wanted set mid late among behind after code (λ v. then_ (given v) protects) b (first_wanted set late behind after given protects c))
 
   pub loaded_does : {X E : Type 0} (r : Result X E) (old mid late last new : Running) (before among behind near after : List Item)
-      → Did set old mid before among image → Did set mid late among behind code → Did set late last behind near given → Does set r last new near after protects
-      → Does set r old new before after (loaded set site)
+      → Did set old mid before among image → Did set mid late among behind code → Did set late last behind near given → DoesAct set r last new near after protects
+      → DoesAct set r old new before after (after_loading set site)
   loaded_does r old mid late last new before among behind near after a b c d =
       then_does set r old mid new before among after image (λ w. then_ (code w) (λ v. then_ (given v) protects)) a
       (then_does set r mid late new among behind after code (λ v. then_ (given v) protects) b (then_does set r late last new behind near after given protects c d))

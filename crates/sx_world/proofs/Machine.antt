@@ -9,7 +9,7 @@ use Rattle.sx_tag.specs.Mac.{Mac}
 use Rattle.sx_machine.specs.declared.kinds.Event.TheVariants as event
 use Rattle.sx_machine.specs.State.{State, reset}
 use Rattle.sx_machine.specs.Run.{Outcome, Finished, Violated, Module, untouched}
-use Rattle.sx_machine.specs.Step.{step, own_of, attempt, settled, given}
+use Rattle.sx_machine.specs.Step.{step, own_of, attempt, settled_step, given_at_pc}
 use Rattle.sx_image.specs.Watched.{violation_of}
 use Rattle.sx_machine.specs.Node.{IsNode}
 use Rattle.sx_image.specs.Image.{public_bytes, private_bytes}
@@ -19,7 +19,7 @@ use Rattle.sx_machine.specs.Given.{Given}
 use Rattle.sx_machine.proofs.Events.{IsTold, Told, Same, Admits, Removes, ToldBy, attempt_told}
 use Rattle.sx_machine.proofs.Stays.{step_is_node}
 use Rattle.sx_machine.specs.Guard.{Step}
-use Rattle.sx_machine.proofs.Public.{public_kept}
+use Rattle.sx_machine.proofs.PublicKept.{public_kept}
 use Rattle.sx_machine.proofs.Sparse.{shows_touches}
 use Rattle.sx_machine.proofs.Meanings as meanings
 
@@ -73,14 +73,14 @@ left_none : (b : Bool) (own : ℕ) (v : Violation) → violation_of (if b then e
 left_none true own v q = absurd cc
 left_none false own v q = absurd cc
 
-settled_violates : (mac : Mac) (s : State) (o : Outcome) (v : Violation) → ToldBy mac (given mac s) s.mem o → violation_of (settled s o).shown.event ≡ Some v
-    → ((settled s o).state ≡ reset s) × ((settled s o).shown.touch ≡ untouched) × ((settled s o).shown.event ≡ event.Reset v)
+settled_violates : (mac : Mac) (s : State) (o : Outcome) (v : Violation) → ToldBy mac (given_at_pc mac s) s.mem o → violation_of (settled_step s o).shown.event ≡ Some v
+    → ((settled_step s o).state ≡ reset s) × ((settled_step s o).shown.touch ≡ untouched) × ((settled_step s o).shown.event ≡ event.Reset v)
 settled_violates mac s (Finished regs x) v h q = absurd (left_none (Rattle.std.specs.Prelude.◌||◌ (own_of s == 0) (holder s.sections.live (slice_index regs 0) == own_of s)) (own_of s) v q)
 settled_violates mac s (Violated w) v h q = (refl, refl, ap event.Reset (some_inj w v q))
   where
     some_inj : (a b : Violation) → ◌≡◌ {A = Option Violation} (Some a) (Some b) → a ≡ b
     some_inj a b e = cc
-settled_violates mac s (Module regs x t e c) v h q = absurd (told_none mac (given mac s) s.mem x.mem t e v h q)
+settled_violates mac s (Module regs x t e c) v h q = absurd (told_none mac (given_at_pc mac s) s.mem x.mem t e v h q)
 
 pub violates : (mac : Mac) (s : State) (v : Violation) → violation_of (step mac s).shown.event ≡ Some v → Violates mac s v
 violates mac s v q = let h = settled_violates mac s (attempt mac s) v (attempt_told mac s) q in record { state = h.0; touch = h.1; event = h.2 }
@@ -90,7 +90,7 @@ pub record Onward (s t : State) : Type 0 where
   pub cur : t.cur ≡ (if own_of t == own_of s then own_of s else 0)
   pub boot : t.boot ≡ s.boot
 
-settled_onward : (s : State) (o : Outcome) → violation_of (settled s o).shown.event ≡ None → Onward s (settled s o).state
+settled_onward : (s : State) (o : Outcome) → violation_of (settled_step s o).shown.event ≡ None → Onward s (settled_step s o).state
 settled_onward s (Finished regs x) q = record { cur = refl; boot = refl }
 settled_onward s (Violated v) q = absurd cc
 settled_onward s (Module regs x t e c) q = record { cur = refl; boot = refl }
@@ -118,18 +118,18 @@ left_no : (b : Bool) (own id : ℕ) → (if b then event.Quiet else event.Left o
 left_no true own id e = cc
 left_no false own id e = cc
 
-told_sections : (mac : Mac) (s t : State) (m : List ℕ) (u : Sections) (e : Rattle.sx_machine.specs.declared.kinds.Event.Event) → t.sections ≡ u → Told mac (given mac s) s.mem m u e → Sectioned s t e
-told_sections mac s t m u e tu (Same h a) = Stay (tu ∙ a) (told_no (given mac s) e h)
+told_sections : (mac : Mac) (s t : State) (m : List ℕ) (u : Sections) (e : Rattle.sx_machine.specs.declared.kinds.Event.Event) → t.sections ≡ u → Told mac (given_at_pc mac s) s.mem m u e → Sectioned s t e
+told_sections mac s t m u e tu (Same h a) = Stay (tu ∙ a) (told_no (given_at_pc mac s) e h)
 told_sections mac s t m u e tu (Admits r a w) = More _ _ _ _ r (tu ∙ a) refl
 told_sections mac s t m u e tu (Removes sec f a w) = Fewer (tu ∙ a) (λ id g. removed_no (own_of s) id g)
   where
     removed_no : (k id : ℕ) → event.Removed k ≡ event.Protected id → ⊥
     removed_no k id g = cc
 
-settled_sections : (mac : Mac) (s : State) (o : Outcome) → ToldBy mac (given mac s) s.mem o → violation_of (settled s o).shown.event ≡ None → Sectioned s (settled s o).state (settled s o).shown.event
+settled_sections : (mac : Mac) (s : State) (o : Outcome) → ToldBy mac (given_at_pc mac s) s.mem o → violation_of (settled_step s o).shown.event ≡ None → Sectioned s (settled_step s o).state (settled_step s o).shown.event
 settled_sections mac s (Finished regs x) h q = Stay refl (left_no (Rattle.std.specs.Prelude.◌||◌ (own_of s == 0) (holder s.sections.live (slice_index regs 0) == own_of s)) (own_of s))
 settled_sections mac s (Violated v) h q = absurd cc
-settled_sections mac s (Module regs x t e c) h q = told_sections mac s (settled s (Module regs x t e c)).state x.mem t e refl h
+settled_sections mac s (Module regs x t e c) h q = told_sections mac s (settled_step s (Module regs x t e c)).state x.mem t e refl h
 
 pub sections_after : (mac : Mac) (s : State) → violation_of (step mac s).shown.event ≡ None → Sectioned s (step mac s).state (step mac s).shown.event
 sections_after mac s q = settled_sections mac s (attempt mac s) (attempt_told mac s) q

@@ -20,7 +20,7 @@ use Rattle.sx_world.specs.Wire.{challenge_in}
 use Rattle.sx_world.specs.Ledger.{Made, is_made}
 use Rattle.sx_world.specs.State.{World}
 use Rattle.sx_world.specs.Acts.{with_node}
-use Rattle.sx_world.specs.Law.{IsSound}
+use Rattle.sx_world.specs.Law.{IsSoundSetting}
 use Rattle.sx_world.proofs.Lists.{get_same, get_other, get_some, get_within, length_set, some_inj}
 use Rattle.sx_world.proofs.Verdicts.{Verdict, Broken, Over, Going, judge, Fares, fares_then, fares_map}
 use Rattle.sx_world.proofs.Tied.{KnownKey, KnownVouch, Known, DeployerTied, IsTimely, HasSent, IsSane, HasSize, NodeTied, DeviceTied, ModuleTied, Absent, Rests, Runs, Tied, shapes}
@@ -189,7 +189,7 @@ shapes_long [] = refl
 shapes_long (w ∷ ws) = ap suc (shapes_long ws)
 
 -- a node's window is a device of the application, at that node
-pub device_here : (set : Setting) (n k : ℕ) (ws : List Window) (x : Window) → IsSound set → shapes ws ≡ windows_at n set.app.devices set.places → slice_get ws k ≡ Some x
+pub device_here : (set : Setting) (n k : ℕ) (ws : List Window) (x : Window) → IsSoundSetting set → shapes ws ≡ windows_at n set.app.devices set.places → slice_get ws k ≡ Some x
     → (d : AppDevice) × (slice_get set.app.devices (device_number set.app n k) ≡ Some d) × (d.node ≡ n)
 device_here set n k ws x sound e h =
     let lt : k < length (devices_at n 0 set.app.devices) = omega (arith, get_within ws k x h, shapes_long ws, ap length e, windows_long n 0 set.app.devices set.places sound.places) in
@@ -220,7 +220,7 @@ zeros_long n = length-replicate n 0
 pub reset_is_node : ResetIsNode
 reset_is_node s h = Rattle.sx_machine.proofs.Stays.reset_is_node s h
 
-module _ (set : Setting) (w : World) (mo : Model) (n : ℕ) (s : State) (sound : IsSound set) (is_node : ResetIsNode) (t : Tied set w mo) (here : slice_get w.nodes n ≡ Some s) where
+module _ (set : Setting) (w : World) (mo : Model) (n : ℕ) (s : State) (sound : IsSoundSetting set) (is_node : ResetIsNode) (t : Tied set w mo) (here : slice_get w.nodes n ≡ Some s) where
   boot_here : (boot : ℕ) × (slice_get mo.boots n ≡ Some boot)
   boot_here = get_some mo.boots n (omega (arith, get_within w.nodes n s here, t.size.nodes, t.size.boots))
 

@@ -12,7 +12,7 @@ use Rattle.sx_machine.specs.Memory.{put_bytes}
 use Rattle.sx_machine.specs.Ranges.{meets, meets_private, meets_public, meets_device, passes_end}
 use Rattle.sx_machine.specs.Registers.{set_reg}
 use Rattle.sx_machine.specs.State.{State}
-use Rattle.sx_machine.specs.Step.{Shows}
+use Rattle.sx_machine.specs.Step.{Shown}
 use Rattle.sx_machine.specs.Acts.{put_refusal, busy, unless, put as put_at, set as set_register}
 use Rattle.sx_invoke.specs.ModuleState.{state_of}
 use Rattle.sx_machine.specs.Node.{IsNode}
@@ -86,7 +86,7 @@ refused_fares set n Busy mo good h = h
 refused_fares set n Guarded mo good h = h
 refused_fares set n Masked mo good h = h
 
-calm_unless : (set : Setting) (w : World) (n : ℕ) (s : State) (o : Option Refused) (done : Shows (Unit {0})) → slice_get w.nodes n ≡ Some s → (o ≡ None → IsNode s → Calm s done.state) → Keeps set w (done_on w n [] (unless o s done))
+calm_unless : (set : Setting) (w : World) (n : ℕ) (s : State) (o : Option Refused) (done : Shown (Unit {0})) → slice_get w.nodes n ≡ Some s → (o ≡ None → IsNode s → Calm s done.state) → Keeps set w (done_on w n [] (unless o s done))
 calm_unless set w n s None done here f mo t =
     let b : (boot : ℕ) × (slice_get mo.boots n ≡ Some boot) = get_some mo.boots n (omega (arith, get_within w.nodes n s here, t.size.nodes, t.size.boots)) in
     calm_tied set w mo n s done.state t here (f refl (t.nodes n s b.0 here b.1).node)

@@ -22,7 +22,7 @@ use Rattle.sx_machine.specs.declared.kinds.Event.{Event}
 use Rattle.sx_machine.specs.declared.kinds.Event.TheVariants as event
 use Rattle.sx_machine.specs.declared.kinds.Seen.{Seen}
 use Rattle.sx_machine.specs.State.{State}
-use Rattle.sx_machine.specs.Step.{Shows, step, own_of}
+use Rattle.sx_machine.specs.Step.{Shown, step, own_of}
 use Rattle.sx_model.specs.Step.{step as model_step, first_present, protected_as, is_vouched}
 use Rattle.sx_invoke.specs.ModuleState.{initial_ends, state_of, link_of, epoch_of}
 use Rattle.sx_image.specs.Watched.{violation_of}
@@ -36,7 +36,7 @@ use Rattle.sx_world.specs.Ledger.{Made}
 use Rattle.sx_world.specs.State.{World}
 use Rattle.sx_world.specs.Observation.{Observed, observed, event_seen, touch_items}
 use Rattle.sx_world.specs.Acts.{with_node}
-use Rattle.sx_world.specs.Law.{IsSound, IsDeployed}
+use Rattle.sx_world.specs.Law.{IsSoundSetting, IsDeployedModule}
 use Rattle.sx_world.proofs.Lists.{get_same, get_other, get_some, get_within, length_set, some_inj}
 use Rattle.sx_world.proofs.Verdicts.{Going, judge_on, judge, Fares, fares_then, fares_map}
 use Rattle.sx_world.proofs.Tied.{SameEnds, SameState, Known, open_at, IsTimely, HasSent, IsSane, NodeTied, IsModule, ModuleTied, Absent, Rests, Runs, Tied}
@@ -92,9 +92,9 @@ pub append_none : {X : Type 0} → (xs : List X) → xs ++ [] ≡ xs
 append_none [] = refl
 append_none (x ∷ xs) = ap (λ r. x ∷ r) (append_none xs)
 
-module _ (set : Setting) (w : World) (mo : Model) (n : ℕ) (s : State) (sound : IsSound set) (laws : MachineLaws set.mac) (fresh : FreshSections set.mac) (t : Tied set w mo) (here : slice_get w.nodes n ≡ Some s)
+module _ (set : Setting) (w : World) (mo : Model) (n : ℕ) (s : State) (sound : IsSoundSetting set) (laws : MachineLaws set.mac) (fresh : FreshSections set.mac) (t : Tied set w mo) (here : slice_get w.nodes n ≡ Some s)
     (none : module_of set.sites n s (own_of s) ≡ None) (quiet : violation_of (step set.mac s).shown.event ≡ None) where
-  abbrev r : Shows Seen
+  abbrev r : Shown Seen
   r = step set.mac s
 
   abbrev reads : List Reading
@@ -129,7 +129,7 @@ module _ (set : Setting) (w : World) (mo : Model) (n : ℕ) (s : State) (sound :
   module _ (m : ℕ) (q : PartTree) (site : Site) (x : Standing) (new : Section) (part : slice_get set.app.parts m ≡ Some q) (sited : slice_get set.sites m ≡ Some site) (there : slice_get mo.modules m ≡ Some x) (qn : q.node ≡ n)
       (absent : x.present ≡ None) (grown : r.state.sections.live ≡ s.sections.live ++ new ∷ []) (at : is_at_site n r.state.mem new site ≡ true) (zeros : private_bytes new.layout r.state.mem ≡ replicate (new.layout.priv_to - new.layout.priv_from) 0)
       (other_id : own_of s ≢ new.id) (some_id : new.id ≢ 0) where
-    dep : IsDeployed set m q site
+    dep : IsDeployedModule set m q site
     dep = sound.deployed m q site part sited
 
     abbrev es : List End
@@ -339,7 +339,7 @@ module _ (set : Setting) (w : World) (mo : Model) (n : ℕ) (s : State) (sound :
           (λ same. let h = Rattle.sx_world.proofs.Entry.holding s.sections.live (Rattle.sx_machine.specs.Step.pc_of s) (λ z. nz (sym same ∙ z)) in
           absurd (omega (arith, lives_below s.sections.next s.sections.live h.section node.node.placed.each h.lives, h.id, same, ni))) nz
 
-pub foreign_steps : (set : Setting) → IsSound set → MachineLaws set.mac → FreshSections set.mac → ForeignSteps set
+pub foreign_steps : (set : Setting) → IsSoundSetting set → MachineLaws set.mac → FreshSections set.mac → ForeignSteps set
 foreign_steps set sound laws fresh w mo n s t here none quiet =
     let h = by_sections set w mo n s sound laws fresh t here none quiet (step set.mac s).shown.event refl (sections_after set.mac s quiet) in
     subst (λ z. (let o = observed set n z (step set.mac s).state (step set.mac s).shown w.ledger in Fares (judge set.app mo o.items) (Tied set (with_node w n (step set.mac s).state o.ledger (w.steps + 1))))) (sym none) h

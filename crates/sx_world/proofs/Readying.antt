@@ -9,8 +9,8 @@ use Rattle.sx_deploy.specs.Deployment.{Deployed}
 use Rattle.sx_deploy.specs.Law as deployment
 use Rattle.sx_world.specs.Setting.{Site, Setting}
 use Rattle.sx_world.specs.State.{World, switched_on}
-use Rattle.sx_world.specs.Run.{acted, counted, run}
-use Rattle.sx_world.specs.Law.{IsSound, IsInForm, AreInForm}
+use Rattle.sx_world.specs.Run.{after_line, line_counted, run}
+use Rattle.sx_world.specs.Law.{IsSoundSetting, LineInForm, LinesInForm}
 use Rattle.sx_world.specs.Held.{Held, Running, IsFront, Shows, Did, Wanted, setting, targets_from}
 use Rattle.sx_world.specs.Standing.{Stands}
 use Rattle.sx_world.specs.Ready.{IsReady}
@@ -21,7 +21,7 @@ pub targets_long : (set : Setting) (m : ℕ) (sites : List Site) → length (tar
 targets_long set m [] = refl
 targets_long set m (site ∷ sites) = ap suc (targets_long set (m + 1) sites)
 
-module _ (mac : Mac) (d : Deployed) (sites : List Site) (acc : deployment.IsSound d) (sound : IsSound (setting mac d sites)) where
+module _ (mac : Mac) (d : Deployed) (sites : List Site) (acc : deployment.IsSoundDeployment d) (sound : IsSoundSetting (setting mac d sites)) where
   abbrev set : Setting
   set = setting mac d sites
 
@@ -85,48 +85,48 @@ module _ (mac : Mac) (d : Deployed) (sites : List Site) (acc : deployment.IsSoun
   few_steps (Load m) h = omega arith
   few_steps (Call m e input output) h = omega arith
 
-  pub run_then : (lines : List Line) (line : Line) (w : World) → (run set w (lines ++ line ∷ [])).world ≡ (acted set (counted (run set w lines).world) line).world
+  pub run_then : (lines : List Line) (line : Line) (w : World) → (run set w (lines ++ line ∷ [])).world ≡ (after_line set (line_counted (run set w lines).world) line).world
   run_then [] line w = refl
-  run_then (x ∷ lines) line w = run_then lines line (acted set (counted w) x).world
+  run_then (x ∷ lines) line w = run_then lines line (after_line set (line_counted w) x).world
 
-  pub formed_then : (lines : List Line) (line : Line) → AreInForm set lines → IsInForm set line → AreInForm set (lines ++ line ∷ [])
+  pub formed_then : (lines : List Line) (line : Line) → LinesInForm set lines → LineInForm set line → LinesInForm set (lines ++ line ∷ [])
   formed_then [] line are is = (is, tt)
   formed_then (x ∷ lines) line are is = (are.0, formed_then lines line are.1 is)
 
-  shows_counted : (kept : Running) (w : World) → Shows set kept w → Shows set kept (counted w)
+  shows_counted : (kept : Running) (w : World) → Shows set kept w → Shows set kept (line_counted w)
   shows_counted kept w h = record { nodes = h.nodes; packets = h.packets; deployer = h.deployer; ledger = h.ledger; steps = h.steps; placed = h.placed }
 
   -- after a line that was acted it stands at the world after it
   pub acted_stands : (old new : Held) (w : World) (line : Line) → IsLine d.names line → new.lines ≡ old.lines + 1
-      → Shows set new.running (acted set (counted w) line).world → Stands set old w → Stands set new (acted set (counted w) line).world
+      → Shows set new.running (after_line set (line_counted w) line).world → Stands set old w → Stands set new (after_line set (line_counted w) line).world
   acted_stands old new w line form more shows s =
       let is = in_form mac d sites acc line form in
-      let next = (acted set (counted w) line).world in
-      let b = line_within set line old.lines w.steps (192 * old.lines) old.lines (counted w) sound is (counted_within set _ _ _ _ w (bounded old w s)) in
+      let next = (after_line set (line_counted w) line).world in
+      let b = line_within set line old.lines w.steps (192 * old.lines) old.lines (line_counted w) sound is (counted_within set _ _ _ _ w (bounded old w s)) in
       record {
         lines = s.lines ++ line ∷ [];
         formed = formed_then s.lines line s.formed is;
         count = let e = length-append s.lines (line ∷ []) in let c = s.count in omega (arith, e, c, more);
         steps = let few = few_steps line form in let most = b.steps in let was = s.steps in omega (arith, few, most, was, more);
-        is = sym (run_then s.lines line (switched_on set) ∙ ap (λ (v : World). (acted set (counted v) line).world) (sym s.is));
+        is = sym (run_then s.lines line (switched_on set) ∙ ap (λ (v : World). (after_line set (line_counted v) line).world) (sym s.is));
         shows = shows;
       }
 
   -- so a call that acts a line leaves it
   pub act_did : (old new : Held) (kept : Running) (lent : List Site) (before after : List Item) (line : Line) → IsLine d.names line → new.lines ≡ old.lines + 1
-      → lent ≡ sites → kept ≡ old.running → Did (setting mac d lent) kept new.running before after (λ w. acted (setting mac d lent) w line)
-      → (w : World) → Stands set old w → Stands set new (acted set (counted w) line).world × (after ≡ before ++ (acted set (counted w) line).items)
+      → lent ≡ sites → kept ≡ old.running → Did (setting mac d lent) kept new.running before after (λ w. after_line (setting mac d lent) w line)
+      → (w : World) → Stands set old w → Stands set new (after_line set (line_counted w) line).world × (after ≡ before ++ (after_line set (line_counted w) line).items)
   act_did old new kept lent before after line form more el ek did w s =
-      let here = subst (λ (xs : List Site). Did (setting mac d xs) kept new.running before after (λ w. acted (setting mac d xs) w line)) el did in
+      let here = subst (λ (xs : List Site). Did (setting mac d xs) kept new.running before after (λ w. after_line (setting mac d xs) w line)) el did in
       let shown = subst (λ (k : Running). Shows set k w) (sym ek) s.shows in
-      let r = here (counted w) (shows_counted kept w shown) in
+      let r = here (line_counted w) (shows_counted kept w shown) in
       (acted_stands old new w line form more r.0 s, r.1)
 
   -- and one in which memory ran out has added a prefix of its items
   pub act_wanted : (old : Held) (kept : Running) (lent : List Site) (before after : List Item) (line : Line) → lent ≡ sites → kept ≡ old.running
-      → Wanted (setting mac d lent) kept before after (λ w. acted (setting mac d lent) w line)
-      → (w : World) → Stands set old w → IsFront after (before ++ (acted set (counted w) line).items)
+      → Wanted (setting mac d lent) kept before after (λ w. after_line (setting mac d lent) w line)
+      → (w : World) → Stands set old w → IsFront after (before ++ (after_line set (line_counted w) line).items)
   act_wanted old kept lent before after line el ek front w s =
-      let here = subst (λ (xs : List Site). Wanted (setting mac d xs) kept before after (λ w. acted (setting mac d xs) w line)) el front in
+      let here = subst (λ (xs : List Site). Wanted (setting mac d xs) kept before after (λ w. after_line (setting mac d xs) w line)) el front in
       let shown = subst (λ (k : Running). Shows set k w) (sym ek) s.shows in
-      here (counted w) (shows_counted kept w shown)
+      here (line_counted w) (shows_counted kept w shown)

@@ -8,7 +8,7 @@ use Rattle.std.proofs.lemmas.List.Folds.{list_any-append}
 use Rattle.sx_ledger.specs.declared.entry.Maker.{Maker}
 use Rattle.sx_ledger.specs.declared.entry.Maker.TheVariants.{Deployer, Module}
 use Rattle.sx_ledger.specs.declared.entry.Entry.{Entry}
-use Rattle.sx_ledger.specs.Made.{Made, entry_of, made_of, Adds}
+use Rattle.sx_ledger.specs.Made.{Made, entry_of, made_of, AddsEntry}
 use Rattle.sx_world.specs.Ledger.{same_maker, same_entry, is_made}
 use Rattle.sx_world.specs.Held.{IsShort, Records}
 use Rattle.sx_world.proofs.Entries.{made_behind}
@@ -47,7 +47,7 @@ made_last : (list : List Made) (m : Made) → is_made (list ++ m ∷ []) m ≡ t
 made_last list m = list_any-append (same_entry m) list (m ∷ []) ∙ or_right (is_made list m) (is_made (m ∷ []) m) (or_left (same_entry m m) false (itself m))
 
 -- the set after the making of an entry
-pub recorded : (old new : List Entry) (list : List Made) (m : Made) → Adds old new (entry_of m) → Records old list → Records new (list ++ m ∷ [])
+pub recorded : (old new : List Entry) (list : List Made) (m : Made) → AddsEntry old new (entry_of m) → Records old list → Records new (list ++ m ∷ [])
 recorded old new list m adds h = λ e short. (there e short, back e short)
   where
     there : (e : Made) → IsShort e → Contains new (entry_of e) → is_made (list ++ m ∷ []) e ≡ true
@@ -73,7 +73,7 @@ said entries list m b short says h = elim (cases_Bool b) [
 ]
 
 -- so it is where the entry found memory
-pub recorded_ok : {X E : Type 0} (r : Result X E) (old new : List Entry) (m : Made) (e : Entry) → e ≡ entry_of m → OnOk r (Adds old new e)
+pub recorded_ok : {X E : Type 0} (r : Result X E) (old new : List Entry) (m : Made) (e : Entry) → e ≡ entry_of m → OnOk r (AddsEntry old new e)
     → OnOk r ((list : List Made) → Records old list → Records new (list ++ m ∷ []))
-recorded_ok (Ok x) old new m e same adds = λ list h. recorded old new list m (subst (λ z. Adds old new z) same adds) h
+recorded_ok (Ok x) old new m e same adds = λ list h. recorded old new list m (subst (λ z. AddsEntry old new z) same adds) h
 recorded_ok (Err x) old new m e same adds = tt

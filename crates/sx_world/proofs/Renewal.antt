@@ -9,7 +9,7 @@ use Rattle.sx_mean.specs.declared.events.End.{End}
 use Rattle.sx_mean.specs.Application.{AppTree}
 use Rattle.sx_mean.specs.Ends.{receiving, ends_after, ends_of}
 use Rattle.sx_model.specs.State.{Attestation}
-use Rattle.sx_model.specs.Renewal.{is_of, raised, is_spent, may_attest, boot_of, renewed}
+use Rattle.sx_model.specs.Renewal.{is_of, raised_epochs, is_spent, may_attest, boot_of, renewed}
 use Rattle.sx_world.proofs.Lists.{some_inj}
 use Rattle.sx_world.proofs.Unique.{eq_refl}
 use Rattle.sx_world.proofs.Tied.{HasEnd}
@@ -21,7 +21,7 @@ head_grows false e = omega arith
 same_le : (n : ℕ) → n ≤ n
 same_le n = omega arith
 
-raised_grows : (m : ℕ) (ls : List Link) (es : List ℕ) (c : ℕ) → slice_index es c ≤ slice_index (raised m ls es) c
+raised_grows : (m : ℕ) (ls : List Link) (es : List ℕ) (c : ℕ) → slice_index es c ≤ slice_index (raised_epochs m ls es) c
 raised_grows m [] es c = same_le (slice_index es c)
 raised_grows m (l ∷ ls) [] c = same_le 0
 raised_grows m (l ∷ ls) (e ∷ es) zero = head_grows (is_of m l) e
@@ -31,7 +31,7 @@ pub renewed_grows : (m : ℕ) (ls : List Link) (o : Option ℕ) (es : List ℕ) 
 renewed_grows m ls None es c = same_le (slice_index es c)
 renewed_grows m ls (Some b) es c = raised_grows m ls es c
 
-raised_long : (m : ℕ) (ls : List Link) (es : List ℕ) → length (raised m ls es) ≡ length es
+raised_long : (m : ℕ) (ls : List Link) (es : List ℕ) → length (raised_epochs m ls es) ≡ length es
 raised_long m [] es = refl
 raised_long m (l ∷ ls) [] = refl
 raised_long m (l ∷ ls) (e ∷ es) = ap suc (raised_long m ls es)
@@ -41,7 +41,7 @@ renewed_long m ls None es = refl
 renewed_long m ls (Some b) es = raised_long m ls es
 
 -- a connection of the module
-raised_own : (m : ℕ) (ls : List Link) (es : List ℕ) (c : ℕ) (l : Link) → slice_get ls c ≡ Some l → is_of m l ≡ true → length es ≡ length ls → slice_index es c < slice_index (raised m ls es) c
+raised_own : (m : ℕ) (ls : List Link) (es : List ℕ) (c : ℕ) (l : Link) → slice_get ls c ≡ Some l → is_of m l ≡ true → length es ≡ length ls → slice_index es c < slice_index (raised_epochs m ls es) c
 raised_own m [] es c l e h n = absurd cc
 raised_own m (k ∷ ls) [] c l e h n = absurd (omega (arith, n))
 raised_own m (k ∷ ls) (x ∷ es) zero l e h n = subst (λ b. x < (if b then x + 1 else x)) (sym (subst (λ z. is_of m z ≡ true) (sym (some_inj k l e)) h)) (omega arith)
@@ -57,7 +57,7 @@ head_small true e h s = let lt = below_top e s in omega (arith, lt)
     below_top e s = grind (arith, s)
 head_small false e h s = h
 
-raised_small : (m : ℕ) (ls : List Link) (es : List ℕ) → is_spent m ls es ≡ false → ((c : ℕ) → slice_index es c ≤ 255) → (c : ℕ) → slice_index (raised m ls es) c ≤ 255
+raised_small : (m : ℕ) (ls : List Link) (es : List ℕ) → is_spent m ls es ≡ false → ((c : ℕ) → slice_index es c ≤ 255) → (c : ℕ) → slice_index (raised_epochs m ls es) c ≤ 255
 raised_small m [] es s h c = h c
 raised_small m (l ∷ ls) [] s h c = omega arith
 raised_small m (l ∷ ls) (e ∷ es) s h zero = head_small (is_of m l) e (h 0) (or_parts (is_of m l && nat_le 255 e) (is_spent m ls es) s).0

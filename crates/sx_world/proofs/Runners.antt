@@ -15,9 +15,9 @@ use Rattle.sx_machine.specs.State.{State}
 use Rattle.sx_machine.specs.Given.{Given}
 use Rattle.sx_machine.specs.Guard.{Step}
 use Rattle.sx_machine.specs.Run.{Outcome, Finished, Violated, Module, untouched}
-use Rattle.sx_machine.specs.Step.{own_of, given, attempt, settled, step}
+use Rattle.sx_machine.specs.Step.{own_of, given_at_pc, attempt, settled_step, step}
 use Rattle.sx_machine.proofs.Events.{IsTold, Told, Same, Admits, Removes, ToldBy, attempt_told}
-use Rattle.sx_machine.proofs.Public.{public_kept}
+use Rattle.sx_machine.proofs.PublicKept.{public_kept}
 use Rattle.sx_machine.proofs.Stays.{found_lives}
 use Rattle.sx_image.specs.Image.{public_bytes}
 use Rattle.sx_tag.specs.Mac.{Mac}
@@ -78,15 +78,15 @@ no_touches = refl
 by_event : (ts : List Touch) (e : Event) → ts ≡ untouched → (list_any is_touch ts || is_own e) ≡ true → is_own e ≡ true
 by_event ts e u h = sym (ap (λ x. list_any is_touch x || is_own e) u) ∙ h
 
-settled_author : (mac : Mac) (s : State) (o : Outcome) → ToldBy mac (given mac s) s.mem o → Untouched o → tells (settled s o).shown ≡ true → Authored s (settled s o).state (settled s o).shown
+settled_author : (mac : Mac) (s : State) (o : Outcome) → ToldBy mac (given_at_pc mac s) s.mem o → Untouched o → tells (settled_step s o).shown ≡ true → Authored s (settled_step s o).state (settled_step s o).shown
 settled_author mac s (Finished regs x) told quiet h = record {
-  author = left_author s (own_of s) _ (holder s.sections.live (slice_index regs 0) == own_of s) _ refl refl (settled s (Finished regs x)).state refl;
+  author = left_author s (own_of s) _ (holder s.sections.live (slice_index regs 0) == own_of s) _ refl refl (settled_step s (Finished regs x)).state refl;
   sections = refl;
   boot = refl;
 }
 settled_author mac s (Violated v) told quiet h = absurd (true≢false (sym h))
 settled_author mac s (Module regs x t e c) told quiet h =
-    let p = told_same mac (given mac s) s.mem x.mem t e (settled s (Module regs x t e c)).state (by_event x.touches e quiet h) told in
+    let p = told_same mac (given_at_pc mac s) s.mem x.mem t e (settled_step s (Module regs x t e c)).state (by_event x.touches e quiet h) told in
     record { author = p.0; sections = p.1; boot = refl }
 
 step_author : (mac : Mac) (s : State) → tells (step mac s).shown ≡ true → Authored s (step mac s).state (step mac s).shown

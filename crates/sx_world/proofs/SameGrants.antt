@@ -13,7 +13,7 @@ use Rattle.sx_deployer.specs.Keeping.{Keeping}
 use Rattle.sx_world.specs.Setting.{Setting}
 use Rattle.sx_world.specs.Deployer.{DeployerState, Grant, grant, grants_of, grant_to, grant_beyond, grants_beyond, grants_after}
 use Rattle.sx_world.specs.Acts.{attested_at}
-use Rattle.sx_world.specs.Granted.{boot_in, given, own_at, own_from, across_at, across_from, granted}
+use Rattle.sx_world.specs.Granted.{boot_in, grant_if_any, own_at, own_from, across_at, across_from, granted}
 use Rattle.sx_world.specs.Held.{IsKept}
 use Rattle.sx_world.proofs.SameKeys.{boots_taken}
 
@@ -63,15 +63,15 @@ boot_same P xs j true e = sym (boots_taken P xs j (ltb-true j P e))
 boot_same P xs j false e =
     sym (ap attested_at (none_past P xs j (ltb-false j P e)))
 
-to_same : (L : ℕ) (es : List ℕ) (j : ℕ) (e : End) (o : Option (Option ℕ)) → e.link < L → option_to_list (given es j e (attested_at o)) ≡ grant_to (take L es) j o e
+to_same : (L : ℕ) (es : List ℕ) (j : ℕ) (e : End) (o : Option (Option ℕ)) → e.link < L → option_to_list (grant_if_any es j e (attested_at o)) ≡ grant_to (take L es) j o e
 to_same L es j e None h = refl
 to_same L es j e (Some None) h = refl
 to_same L es j e (Some (Some boot)) h = ap (λ (g : Grant). g ∷ []) (same_grant L es j boot e h)
 
 beyond_to : (k : Keeping) (P L : ℕ) (j : ℕ) (e : End) → e.link < L
-    → option_to_list (given k.epochs j e (boot_in k P j)) ≡ grant_to (take L k.epochs) j (slice_get (take P k.attested) j) e
+    → option_to_list (grant_if_any k.epochs j e (boot_in k P j)) ≡ grant_to (take L k.epochs) j (slice_get (take P k.attested) j) e
 beyond_to k P L j e h =
-    ap (λ o. option_to_list (given k.epochs j e o)) (boot_same P k.attested j (nat_lt j P) refl)
+    ap (λ o. option_to_list (grant_if_any k.epochs j e o)) (boot_same P k.attested j (nat_lt j P) refl)
     ∙ to_same L k.epochs j e (slice_get (take P k.attested) j) h
 
 across_one : (k : Keeping) (d : DeployerState) (P L m n : ℕ) (l : Link) → d.epochs ≡ take L k.epochs → d.attested ≡ take P k.attested → n < L
@@ -84,13 +84,13 @@ across_one k d P L m n l ee ea h = by_ends (l.from == l.to) (l.from == m) (l.to 
     from_end : End
     from_end = record { link = n; side = From; port = l.output }
 
-    held : (j : ℕ) (e : End) → e.link < L → option_to_list (given k.epochs j e (boot_in k P j)) ≡ grant_to d.epochs j (slice_get d.attested j) e
+    held : (j : ℕ) (e : End) → e.link < L → option_to_list (grant_if_any k.epochs j e (boot_in k P j)) ≡ grant_to d.epochs j (slice_get d.attested j) e
     held j e lt =
         beyond_to k P L j e lt ∙ ap (λ (es : List ℕ). grant_to es j (slice_get (take P k.attested) j) e) (sym ee)
         ∙ ap (λ (xs : List (Option ℕ)). grant_to d.epochs j (slice_get xs j) e) (sym ea)
 
     by_ends : (a b c : Bool)
-        → option_to_list (if a then None else if b then given k.epochs l.to to_end (boot_in k P l.to) else if c then given k.epochs l.from from_end (boot_in k P l.from) else None)
+        → option_to_list (if a then None else if b then grant_if_any k.epochs l.to to_end (boot_in k P l.to) else if c then grant_if_any k.epochs l.from from_end (boot_in k P l.from) else None)
         ≡ (if a then [] else if b then grant_to d.epochs l.to (slice_get d.attested l.to) to_end else if c then grant_to d.epochs l.from (slice_get d.attested l.from) from_end else [])
     by_ends true b c = refl
     by_ends false true c = held l.to to_end h

@@ -9,11 +9,11 @@ use Rattle.sx_mean.specs.Ends.{ends_of}
 use Rattle.sx_model.specs.Renewal as model
 use Rattle.sx_deployer.specs.Keeping.{Known, Keeping, nobody}
 use Rattle.sx_deployer.specs.Keeping as keeping
-use Rattle.sx_deployer.proofs.Shared.{renews_as_the_model}
+use Rattle.sx_deployer.proofs.RenewsAsTheModel.{renews_as_the_model}
 use Rattle.sx_tag.specs.Keys.{identity}
 use Rattle.sx_world.specs.Setting.{Site, Setting}
 use Rattle.sx_world.specs.Wire.{low_first, ask_packet, challenge_in}
-use Rattle.sx_world.specs.Deployer.{DeployerState, list_at, asked, accepted, accepts}
+use Rattle.sx_world.specs.Deployer.{DeployerState, list_at, after_ask, after_acceptance, accepts}
 use Rattle.sx_world.specs.Acts.{open_ask, attested_at}
 use Rattle.sx_world.specs.Held.{IsKept, targets_from}
 use Rattle.sx_world.proofs.Asking.{low_number}
@@ -111,7 +111,7 @@ pub challenge_same : (a : ℕ) → a < 4294967295 → challenge_in (ask_packet a
 challenge_same a h = low_number 16 a (omega (arith, h))
 
 -- the module is asked
-pub asked_kept : (set : Setting) (k : Keeping) (d : DeployerState) (m : ℕ) → IsKept set k d → IsKept set (keeping.asked k m) (asked d m)
+pub asked_kept : (set : Setting) (k : Keeping) (d : DeployerState) (m : ℕ) → IsKept set k d → IsKept set (keeping.asked k m) (after_ask d m)
 asked_kept set k d m h = record {
   secret = h.secret;
   targets = h.targets;
@@ -123,7 +123,7 @@ asked_kept set k d m h = record {
   epochs = h.epochs;
 }
 
-raised_taken : (m : ℕ) (ls : List Link) (es : List ℕ) → take (length ls) (model.raised m ls es) ≡ model.raised m ls (take (length ls) es)
+raised_taken : (m : ℕ) (ls : List Link) (es : List ℕ) → take (length ls) (model.raised_epochs m ls es) ≡ model.raised_epochs m ls (take (length ls) es)
 raised_taken m [] es = refl
 raised_taken m (l ∷ ls) [] = refl
 raised_taken m (l ∷ ls) (e ∷ es) = ap (λ (r : List ℕ). (if model.is_of m l then e + 1 else e) ∷ r) (raised_taken m ls es)
@@ -144,7 +144,7 @@ may_taken m ls es (Some b) boot = ap (λ t. nat_lt b boot && not t) (spent_taken
 -- an answer was accepted
 pub accepted_kept : (set : Setting) (k : Keeping) (d : DeployerState) (m boot : ℕ) (site : Site) (last : Option ℕ) → IsKept set k d
     → slice_get set.sites m ≡ Some site → last ≡ keeping.attested_at k m
-    → IsKept set (keeping.accepted k m boot) (accepted set.app.links d m boot last)
+    → IsKept set (keeping.accepted k m boot) (after_acceptance set.app.links d m boot last)
 accepted_kept set k d m boot site last h e same = record {
   secret = h.secret;
   targets = h.targets;

@@ -16,11 +16,11 @@ use Rattle.sx_machine.specs.Acts.{sense}
 use Rattle.sx_machine.specs.State.{State}
 use Rattle.sx_machine.specs.Node.{shapes}
 use Rattle.sx_deploy.specs.Deployment.{Deployed, is_sensor}
-use Rattle.sx_deploy.specs.Law.{IsSound}
+use Rattle.sx_deploy.specs.Law.{IsSoundDeployment}
 use Rattle.sx_world.specs.Setting.{Site, Setting, kind_of, windows_at}
 use Rattle.sx_world.specs.State.{Acted}
 use Rattle.sx_world.specs.Acts.{at_node, done_on}
-use Rattle.sx_world.specs.Held.{Running, Shows, Did, Does, setting}
+use Rattle.sx_world.specs.Held.{Running, Shows, Did, DoesAct, setting}
 use Rattle.sx_world.specs.Run.{place_at, sense_at}
 use Rattle.sx_world.proofs.Lists.{get_some, get_within, some_inj}
 use Rattle.sx_world.proofs.Sensing.{place_is}
@@ -38,7 +38,7 @@ sensor_kind (y ∷ ds) zero x e here = subst (λ (z : AppDevice). kind_of z.kind
 sensor_kind (y ∷ ds) (suc d) x e here = sensor_kind ds d x e here
 
 -- it is its node's window at its place
-sensor_window : (mac : Mac) (d : Deployed) (sites : List Site) (number : ℕ) (x : AppDevice) (windows : List Window) → IsSound d
+sensor_window : (mac : Mac) (d : Deployed) (sites : List Site) (number : ℕ) (x : AppDevice) (windows : List Window) → IsSoundDeployment d
     → slice_get d.names.sensors number ≡ Some true → slice_get d.app.devices number ≡ Some x → shapes windows ≡ windows_at x.node d.app.devices d.places
     → (w : Window) × (slice_get windows (place_at (setting mac d sites) x.node number) ≡ Some w) × (w.kind ≡ Sensor)
 sensor_window mac d sites number x windows sound named here same =
@@ -54,7 +54,7 @@ sensor_window mac d sites number x windows sound named here same =
     (w.0, w.1, w.3 ∙ sensor_kind d.app.devices number x (ap (λ (s : List Bool). slice_get s number) (sym sound.sensors) ∙ named) here)
 
 -- so the node has it, and it is a sensor
-pub sensor_there : (mac : Mac) (d : Deployed) (sites : List Site) (number k : ℕ) (x : AppDevice) (windows : List Window) → IsSound d
+pub sensor_there : (mac : Mac) (d : Deployed) (sites : List Site) (number k : ℕ) (x : AppDevice) (windows : List Window) → IsSoundDeployment d
     → slice_get d.names.sensors number ≡ Some true → slice_get d.app.devices number ≡ Some x → shapes windows ≡ windows_at x.node d.app.devices d.places
     → k ≡ place_at (setting mac d sites) x.node number → (k < length windows) × IfSome (slice_get windows k) (λ w. w.kind ≡ Sensor)
 sensor_there mac d sites number k x windows sound named here same place =
@@ -65,11 +65,11 @@ sensor_there mac d sites number k x windows sound named here same place =
 -- a sample that a node takes
 pub sense_does : {X E : Type 0} (set : Setting) (r : Result X E) (old new : Running) (before after : List Item) (d v k : ℕ) (x : AppDevice)
     → slice_get set.app.devices d ≡ Some x → k ≡ place_at set x.node d
-    → Does set r old new before after (λ w. at_node w (λ s. done_on w x.node (Sense d v ∷ []) (sense s k v)) (slice_get w.nodes x.node))
-    → Does set r old new before after (λ w. sense_at set w d v (slice_get set.app.devices d))
+    → DoesAct set r old new before after (λ w. at_node w (λ s. done_on w x.node (Sense d v ∷ []) (sense s k v)) (slice_get w.nodes x.node))
+    → DoesAct set r old new before after (λ w. sense_at set w d v (slice_get set.app.devices d))
 sense_does set r old new before after d v k x found same does =
-    subst (λ (o : Option AppDevice). Does set r old new before after (λ w. sense_at set w d v o)) (sym found)
-    (subst (λ j. Does set r old new before after (λ w. at_node w (λ s. done_on w x.node (Sense d v ∷ []) (sense s j v)) (slice_get w.nodes x.node))) same does)
+    subst (λ (o : Option AppDevice). DoesAct set r old new before after (λ w. sense_at set w d v o)) (sym found)
+    (subst (λ j. DoesAct set r old new before after (λ w. at_node w (λ s. done_on w x.node (Sense d v ∷ []) (sense s j v)) (slice_get w.nodes x.node))) same does)
 
 -- the device is at none of the nodes
 pub sense_past : (set : Setting) (old : Running) (before : List Item) (d v : ℕ) (x : AppDevice) → slice_get set.app.devices d ≡ Some x

@@ -14,7 +14,7 @@ use Rattle.sx_invoke.specs.ModuleState.{EndState, ModuleState, end_of, with_end,
 use Rattle.sx_invoke.specs.Marks.{Mark, Wrapped, Actuated}
 use Rattle.sx_invoke.specs.Windows.{two, write_bytes}
 use Rattle.sx_invoke.specs.Progress.{Progress, Course, Going, Broken, and_on, finished, marks_in}
-use Rattle.sx_invoke.specs.Acts.{copied_to, with_piece, event_header, counted, event_packet, with_packet, with_packets, own_window, actuated, with_acts}
+use Rattle.sx_invoke.specs.Acts.{copied_to, with_piece, event_header, wrap_counted, event_packet, with_packet, with_packets, own_window, actuated, with_acts}
 use Rattle.sx_mean.specs.Ends.{is_sending}
 use Rattle.sx_mean.specs.Application.{PartTree, AppTree}
 use Rattle.sx_mean.specs.Ends.{ends_of}
@@ -175,10 +175,10 @@ module _ (app : AppTree) (m n : ℕ) (q : PartTree) (s : Setup) (c : Call) (cell
   -- a copy, and then the rest
   copy_owed : (r : Result (List ℕ) Violation) (k v : ℕ) (piece : List ℕ) (p : Progress) (f : Flow) (emits : List ℕ) (rest : Progress → Course) (x : EndState)
       → WasSent app m final (event_header x) (two v)
-      → ((p1 : Progress) → p1.state ≡ (counted k x v p).state → p1.pieces ≡ p.pieces ++ piece ∷ [] → p1.devices ≡ p.devices → DoesOwed (rest p1) emits p1.marks)
-      → DoesOwed (and_on (copied_to r (record (counted k x v p) { pieces = p.pieces ++ piece ∷ [] })) rest) emits p.marks
+      → ((p1 : Progress) → p1.state ≡ (wrap_counted k x v p).state → p1.pieces ≡ p.pieces ++ piece ∷ [] → p1.devices ≡ p.devices → DoesOwed (rest p1) emits p1.marks)
+      → DoesOwed (and_on (copied_to r (record (wrap_counted k x v p) { pieces = p.pieces ++ piece ∷ [] })) rest) emits p.marks
   copy_owed (Ok mem) k v piece p f emits rest x was on =
-      let h = on (record (record (counted k x v p) { pieces = p.pieces ++ piece ∷ [] }) { mem = mem }) refl refl refl in
+      let h = on (record (record (wrap_counted k x v p) { pieces = p.pieces ++ piece ∷ [] }) { mem = mem }) refl refl refl in
       (sealed x v ∷ h.0, h.1 ∙ append_assoc p.marks (sealed x v ∷ []) h.0, (refl, refl, was, h.2))
   copy_owed (Err w) k v piece p f emits rest x was on = (sealed x v ∷ [], refl, (refl, refl, was, tt))
 
@@ -199,7 +199,7 @@ module _ (app : AppTree) (m n : ℕ) (q : PartTree) (s : Setup) (c : Call) (cell
       → (end_of p.state.ends k).is_open ≡ true → slice_get f.sent (end_of p.state.ends k).field ≡ o → HasLength o (end_of p.state.ends k).number → nat_lt (end_of p.state.ends k).number 65535 ≡ b
       → Flows Any (sent_over (end_of p.state.ends k).field v o f).sent final
       → ((p1 : Progress) → Stand p1 (sent_over (end_of p.state.ends k).field v o f) → DoesOwed (rest p1) emits p1.marks)
-      → DoesOwed (and_on (if b then with_piece s c (event_packet s (end_of p.state.ends k) v) (counted k (end_of p.state.ends k) v p) else Going p) rest) emits p.marks
+      → DoesOwed (and_on (if b then with_piece s c (event_packet s (end_of p.state.ends k) v) (wrap_counted k (end_of p.state.ends k) v p) else Going p) rest) emits p.marks
   open_packet k v e view p f emits rest None b at side st op there len lt flows on = absurd len
   open_packet k v e view p f emits rest (Some words) true at side st op there len lt flows on =
       let x = end_of p.state.ends k in
@@ -235,7 +235,7 @@ module _ (app : AppTree) (m n : ℕ) (q : PartTree) (s : Setup) (c : Call) (cell
       let len : HasLength (slice_get f.sent x.field) x.number = subst (λ t. Counts t x view (slice_get f.sent x.field)) side (se.counts op) in
       let place : field_of e view ≡ x.field = ap (λ o. field_at e.link o) (se.epoch ∙ epoch_open x op) ∙ whole_field x.field e.link (se.field op) in
       let after : after_packet e view v f ≡ sent_over x.field v (slice_get f.sent x.field) f = after_some e view v f x.field some place in
-      subst (λ t. DoesOwed (and_on (if t then with_piece s c (event_packet s x v) (counted k x v p) else Going p) rest) emits p.marks) (sym (ap (λ t. t && nat_lt x.number 65535) op))
+      subst (λ t. DoesOwed (and_on (if t then with_piece s c (event_packet s x v) (wrap_counted k x v p) else Going p) rest) emits p.marks) (sym (ap (λ t. t && nat_lt x.number 65535) op))
       (open_packet k v e view p f emits rest (slice_get f.sent x.field) (nat_lt (end_of p.state.ends k).number 65535) at side st op refl len refl
       (subst (λ (z : Flow). Flows Any z.sent final) after flows) (λ p1 h. on p1 (subst (λ (z : Flow). Stand p1 z) (sym after) h)))
   packet_owed k v e view p f emits rest false at side st op flows on =
@@ -243,7 +243,7 @@ module _ (app : AppTree) (m n : ℕ) (q : PartTree) (s : Setup) (c : Call) (cell
       let none : is_some view.epoch ≡ false = ap is_some (se.epoch ∙ epoch_closed (end_of p.state.ends k) op) in
       let after : after_packet e view v f ≡ f = rw none refl in
       let x = end_of p.state.ends k in
-      subst (λ t. DoesOwed (and_on (if t then with_piece s c (event_packet s x v) (counted k x v p) else Going p) rest) emits p.marks) (sym (ap (λ t. t && nat_lt x.number 65535) op))
+      subst (λ t. DoesOwed (and_on (if t then with_piece s c (event_packet s x v) (wrap_counted k x v p) else Going p) rest) emits p.marks) (sym (ap (λ t. t && nat_lt x.number 65535) op))
       (on p (subst (λ (z : Flow). Stand p z) (sym after) st))
 
   -- the ends from the k-th on

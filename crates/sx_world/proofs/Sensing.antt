@@ -4,7 +4,7 @@ use Rattle.std.specs.Prelude.{slice_get, slice_set}
 use Rattle.std.specs.List.{position_from}
 use Rattle.std.proofs.lemmas.Bool.{eqb-true, cases_eq, eq-eqb}
 use Rattle.sx_bus.specs.declared.devices.Window.{Window}
-use Rattle.sx_bus.specs.Devices.{sensed}
+use Rattle.sx_bus.specs.Devices.{with_sample}
 use Rattle.sx_mean.specs.declared.apps.AppDevice.{AppDevice}
 use Rattle.sx_ledger.specs.declared.entry.Maker.{Maker}
 use Rattle.sx_ledger.specs.declared.entry.Maker.TheVariants as maker
@@ -15,13 +15,13 @@ use Rattle.sx_machine.specs.Acts.{busy, unless, sense as sense_on}
 use Rattle.sx_machine.proofs.Stays.{sense_is_node}
 use Rattle.sx_mean.specs.Application.{PartTree}
 use Rattle.sx_model.specs.State.{Reading, Standing, Model}
-use Rattle.sx_model.specs.Step.{is_sensor, with_device, sensed as model_sensed}
+use Rattle.sx_model.specs.Step.{is_sensor, with_device, after_sample as model_sensed}
 use Rattle.sx_world.specs.Setting.{Site, Setting, devices_at, device_number}
 use Rattle.sx_world.specs.Ledger.{Made}
 use Rattle.sx_world.specs.State.{World}
 use Rattle.sx_world.specs.Acts.{with_node, done_on}
 use Rattle.sx_world.specs.Run.{or_else, place_at}
-use Rattle.sx_world.specs.Law.{IsSound}
+use Rattle.sx_world.specs.Law.{IsSoundSetting}
 use Rattle.sx_world.proofs.Lists.{get_same, get_other, get_some, get_within, length_set, some_inj}
 use Rattle.sx_world.proofs.Verdicts.{Going, judge_on, judge, Fares}
 use Rattle.sx_world.proofs.Nodes.{tied_node, device_here, index_get, shapes_long, windows_long}
@@ -58,30 +58,30 @@ place_is set n d x e same =
         let p = position_is (λ k. k == d) 0 (devices_at n 0 set.app.devices) k e in
         subst (λ j. slice_get (devices_at n 0 set.app.devices) j ≡ Some d) (sym (p.2 ∙ omega arith)) (p.3 ∙ ap Some (eqb-true p.1 d p.4))
 
-sensed_same : (ws : List Window) (k v : ℕ) (w : Window) → slice_get ws k ≡ Some w → slice_get (sensed ws k v) k ≡ Some (record w { value = v; fresh = true })
+sensed_same : (ws : List Window) (k v : ℕ) (w : Window) → slice_get ws k ≡ Some w → slice_get (with_sample ws k v) k ≡ Some (record w { value = v; fresh = true })
 sensed_same [] k v w e = absurd cc
 sensed_same (x ∷ ws) zero v w e = ap (λ (z : Window). Some (record z { value = v; fresh = true })) (some_inj x w e)
 sensed_same (x ∷ ws) (suc k) v w e = sensed_same ws k v w e
 
-sensed_other : (ws : List Window) (k v j : ℕ) → j ≢ k → slice_get (sensed ws k v) j ≡ slice_get ws j
+sensed_other : (ws : List Window) (k v j : ℕ) → j ≢ k → slice_get (with_sample ws k v) j ≡ slice_get ws j
 sensed_other [] k v j ne = refl
 sensed_other (x ∷ ws) zero v zero ne = absurd (ne refl)
 sensed_other (x ∷ ws) zero v (suc j) ne = refl
 sensed_other (x ∷ ws) (suc k) v zero ne = refl
 sensed_other (x ∷ ws) (suc k) v (suc j) ne = sensed_other ws k v j (λ e. ne (ap suc e))
 
-sensed_shapes : (ws : List Window) (k v : ℕ) → shapes (sensed ws k v) ≡ shapes ws
+sensed_shapes : (ws : List Window) (k v : ℕ) → shapes (with_sample ws k v) ≡ shapes ws
 sensed_shapes [] k v = refl
 sensed_shapes (w ∷ ws) zero v = refl
 sensed_shapes (w ∷ ws) (suc k) v = ap (λ r. (w.at, w.kind) ∷ r) (sensed_shapes ws k v)
 
-module _ (set : Setting) (sound : IsSound set) (w : World) (mo : Model) (d v : ℕ) (x : AppDevice) (s : State) (dev : slice_get set.app.devices d ≡ Some x) (sensor : is_sensor x.kind ≡ true) (lt : v < 32768)
+module _ (set : Setting) (sound : IsSoundSetting set) (w : World) (mo : Model) (d v : ℕ) (x : AppDevice) (s : State) (dev : slice_get set.app.devices d ≡ Some x) (sensor : is_sensor x.kind ≡ true) (lt : v < 32768)
     (t : Tied set w mo) (here : slice_get w.nodes x.node ≡ Some s) (idle : s.cur ≡ 0) where
   abbrev k : ℕ
   k = place_at set x.node d
 
   abbrev s2 : State
-  s2 = record s { devices = sensed s.devices k v }
+  s2 = record s { devices = with_sample s.devices k v }
 
   abbrev mo2 : Model
   mo2 = with_device mo d (record { value = v; fresh = true })
@@ -127,7 +127,7 @@ module _ (set : Setting) (sound : IsSound set) (w : World) (mo : Model) (d v : �
     };
     devices_here = λ j y r yj rj. elim (cases_eq j k) [
       | inl same ↦
-          let ys : y ≡ record window_d.0 { value = v; fresh = true } = some_inj y _ (sym yj ∙ subst (λ i. slice_get (sensed s.devices k v) i ≡ Some (record window_d.0 { value = v; fresh = true })) (sym same) (sensed_same s.devices k v window_d.0 window_d.1)) in
+          let ys : y ≡ record window_d.0 { value = v; fresh = true } = some_inj y _ (sym yj ∙ subst (λ i. slice_get (with_sample s.devices k v) i ≡ Some (record window_d.0 { value = v; fresh = true })) (sym same) (sensed_same s.devices k v window_d.0 window_d.1)) in
           let old : (old : Reading) × (slice_get mo.devices d ≡ Some old) = get_some mo.devices d (omega (arith, get_within set.app.devices d x dev, t.size.devices)) in
           let rs : r ≡ record { value = v; fresh = true } = some_inj r (record { value = v; fresh = true }) (sym rj ∙ subst (λ i. slice_get (slice_set mo.devices d (record { value = v; fresh = true })) i ≡ Some (record { value = v; fresh = true })) (sym (ap (λ i. device_number set.app x.node i) same ∙ number_d))
           (get_same mo.devices d (record { value = v; fresh = true }) old.0 old.1)) in
@@ -161,11 +161,11 @@ module _ (set : Setting) (sound : IsSound set) (w : World) (mo : Model) (d v : �
   sense_fares : Fares (judge set.app mo (item.Sense d v ∷ [])) (Tied set (with_node w x.node s2 w.ledger w.steps))
   sense_fares = subst (λ (o : Option Model). Fares (judge_on o (λ z. Going z)) (Tied set (with_node w x.node s2 w.ledger w.steps))) (sym sense_step) sense_tied
 
-pub sense_keeps : (set : Setting) → IsSound set → (w : World) (d v : ℕ) (x : AppDevice) (s : State) → slice_get set.app.devices d ≡ Some x → is_sensor x.kind ≡ true → v < 32768 → slice_get w.nodes x.node ≡ Some s
+pub sense_keeps : (set : Setting) → IsSoundSetting set → (w : World) (d v : ℕ) (x : AppDevice) (s : State) → slice_get set.app.devices d ≡ Some x → is_sensor x.kind ≡ true → v < 32768 → slice_get w.nodes x.node ≡ Some s
     → Keeps set w (done_on w x.node (item.Sense d v ∷ []) (sense_on s (place_at set x.node d) v))
 sense_keeps set sound w d v x s dev sensor lt here mo t = by (busy s) refl
   where
-    by : (o : Option Refused) → busy s ≡ o → (let a = done_on w x.node (item.Sense d v ∷ []) (unless o s (record { state = record s { devices = sensed s.devices (place_at set x.node d) v }; shown = tt })) in
+    by : (o : Option Refused) → busy s ≡ o → (let a = done_on w x.node (item.Sense d v ∷ []) (unless o s (record { state = record s { devices = with_sample s.devices (place_at set x.node d) v }; shown = tt })) in
         Fares (judge set.app mo a.items) (Tied set a.world))
     by None e = sense_fares set sound w mo d v x s dev sensor lt t here (busy_idle s e)
     by (Some why) e = refused_fares set x.node why mo (Tied set (with_node w x.node s w.ledger w.steps)) (same_tied set w mo x.node s t here)

@@ -9,10 +9,10 @@ use Rattle.sx_deployer.specs.Keeping.{Keeping}
 use Rattle.sx_deployer.specs.Keeping as keeping
 use Rattle.sx_world.specs.Setting.{Setting}
 use Rattle.sx_world.specs.Wire.{ask_packet, challenge_in}
-use Rattle.sx_world.specs.Deployer.{DeployerState, asked}
+use Rattle.sx_world.specs.Deployer.{DeployerState, after_ask}
 use Rattle.sx_world.specs.State.{World}
 use Rattle.sx_world.specs.Acts.{ask, with_deployer, with_packet}
-use Rattle.sx_world.specs.Held.{Running, IsKept, Records, Shows, Does}
+use Rattle.sx_world.specs.Held.{Running, IsKept, Records, Shows, DoesAct}
 use Rattle.sx_world.proofs.SameKeys.{same_packet, asked_kept, challenge_same}
 
 -- what is kept, with other packets, another deployer and another ledger
@@ -55,7 +55,7 @@ pub ask_does : {X E : Type 0} (set : Setting) (r : Result X E) (old : Running) (
     → old.deployer.asks < 4294967295 → k ≡ keeping.asked old.deployer m → bytes ≡ keeping.next_ask old.deployer
     → challenge ≡ challenge_in bytes → mid ≡ before ++ Ask m challenge ∷ [] → count ≡ length old.packets
     → OnOk r (packets ≡ old.packets ++ bytes ∷ []) → OnOk r (after ≡ mid ++ Packet count (length bytes) ∷ []) → OnErr r (after ≡ mid)
-    → Does set r old (sent old packets k old.ledger) before after (λ w. ask w m)
+    → DoesAct set r old (sent old packets k old.ledger) before after (λ w. ask w m)
 ask_does set r old k before mid after m count challenge bytes packets small kept b said began n = go r
   where
     same : (w : World) → Shows set old w → bytes ≡ ask_packet w.deployer.asks
@@ -67,11 +67,11 @@ ask_does set r old k before mid after m count challenge bytes packets small kept
         ∙ challenge_same w.deployer.asks (subst (λ a. a < 4294967295) h.deployer.asks small))
 
     go : {X E : Type 0} (r : Result X E) → OnOk r (packets ≡ old.packets ++ bytes ∷ []) → OnOk r (after ≡ mid ++ Packet count (length bytes) ∷ []) → OnErr r (after ≡ mid)
-        → Does set r old (sent old packets k old.ledger) before after (λ w. ask w m)
+        → DoesAct set r old (sent old packets k old.ledger) before after (λ w. ask w m)
     go (Ok x) more added none = λ w h.
-        let shown = deployer_shown set old w k (asked w.deployer m) old.ledger w.ledger h
-        (subst (λ (x : Keeping). IsKept set x (asked w.deployer m)) (sym kept) (asked_kept set old.deployer w.deployer m h.deployer)) h.ledger in (
-          packet_shown set (sent old old.packets k old.ledger) (with_deployer w (asked w.deployer m) w.ledger) packets bytes (ask_packet w.deployer.asks) shown more (same w h),
+        let shown = deployer_shown set old w k (after_ask w.deployer m) old.ledger w.ledger h
+        (subst (λ (x : Keeping). IsKept set x (after_ask w.deployer m)) (sym kept) (asked_kept set old.deployer w.deployer m h.deployer)) h.ledger in (
+          packet_shown set (sent old old.packets k old.ledger) (with_deployer w (after_ask w.deployer m) w.ledger) packets bytes (ask_packet w.deployer.asks) shown more (same w h),
           added ∙ ap (λ (i : List Item). i ++ Packet count (length bytes) ∷ []) (front w h)
               ∙ append_assoc before (Ask m w.deployer.asks ∷ []) (Packet count (length bytes) ∷ [])
               ∙ ap (λ i. before ++ Ask m w.deployer.asks ∷ i ∷ []) (packet_item old.packets w.packets count bytes (ask_packet w.deployer.asks) h.packets n (same w h)),

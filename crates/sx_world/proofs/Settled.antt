@@ -16,13 +16,13 @@ use Rattle.sx_tag.specs.Mac.{IsTag}
 use Rattle.sx_image.specs.Realizes.{Realizes}
 use Rattle.sx_invoke.specs.Devices.{HasDevices, Drives}
 use Rattle.sx_deploy.specs.Deployment.{Deployed}
-use Rattle.sx_deploy.specs.Law.{Word, words_of, IsLaid, IsPart, AreBeside, standing}
+use Rattle.sx_deploy.specs.Law.{Word, words_of, IsLaid, IsDeployedPart, AreBeside, standing}
 use Rattle.sx_deploy.specs.Law as deployment
 use Rattle.sx_mean.specs.Application.{PartTree}
 use Rattle.sx_mean.specs.Ends.{ends_of}
 use Rattle.sx_mean.proofs.Ends.{ends_counted}
 use Rattle.sx_world.specs.Setting.{Site, kind_of, windows_at}
-use Rattle.sx_world.specs.Law.{IsSound, IsDeployed, IsDriven, AreApart, image_at}
+use Rattle.sx_world.specs.Law.{IsSoundSetting, IsDeployedModule, IsDriven, AreApartLayouts, image_at}
 use Rattle.sx_world.proofs.Lists.{some_inj}
 use Rattle.sx_world.specs.Accepted.{setting_of, AreImages}
 use Rattle.sx_world.proofs.Windows.{found_at, own_device}
@@ -71,9 +71,9 @@ found_driven (e ∷ es) (suc d) node k h =
     let there : is_at es d node k ≡ true = subst (λ j. is_at es j node k ≡ true) less (subst (λ b. (if b then (e.node == node) && same_kind e.kind k else is_at es (suc d - 1) node k) ≡ true) later h) in
     found_driven es d node k there
 
-module _ (mac : Mac) (d : Deployed) (texts : List (List ℕ)) (acc : deployment.IsSound d) (images : AreImages mac d texts) where
+module _ (mac : Mac) (d : Deployed) (texts : List (List ℕ)) (acc : deployment.IsSoundDeployment d) (images : AreImages mac d texts) where
   module _ (m : ℕ) (site : Site) (r : IsSite d.app.parts d.layouts d.providers texts m site) where
-    part : IsPart d m r.part
+    part : IsDeployedPart d m r.part
     part = acc.modules m r.part r.found
 
     laid : IsLaid d m r.part site.layout
@@ -185,7 +185,7 @@ module _ (mac : Mac) (d : Deployed) (texts : List (List ℕ)) (acc : deployment.
         let b = laid.data_part.even in
         bounds_good site.layout.pub_from site.layout.pub_to site.layout.priv_from site.layout.priv_to (omega (arith, w)) (omega (arith, s)) a (omega (arith, w, a)) b (omega (arith, s, b))
 
-    pub deployed_at : IsDeployed (setting_of mac d texts) m r.part site
+    pub deployed_at : IsDeployedModule (setting_of mac d texts) m r.part site
     deployed_at = record {
       node = r.node;
       bounds = bounds;
@@ -214,7 +214,7 @@ module _ (mac : Mac) (d : Deployed) (texts : List (List ℕ)) (acc : deployment.
       let p = pair_at AreBeside (standing d.app.parts d.layouts) m k _ _ acc.beside lt (standing_at d.app.parts d.layouts m x.part a.layout x.found x.layout) (standing_at d.app.parts d.layouts k y.part b.layout y.found y.layout) in
       p.beside (sym x.node ∙ node ∙ y.node)
 
-  apart_sites : (m k : ℕ) (a b : Site) → slice_get (setting_of mac d texts).sites m ≡ Some a → slice_get (setting_of mac d texts).sites k ≡ Some b → a.node ≡ b.node → (m ≡ k) ⊎ AreApart a.layout b.layout
+  apart_sites : (m k : ℕ) (a b : Site) → slice_get (setting_of mac d texts).sites m ≡ Some a → slice_get (setting_of mac d texts).sites k ≡ Some b → a.node ≡ b.node → (m ≡ k) ⊎ AreApartLayouts a.layout b.layout
   apart_sites m k a b ea eb node = elim (cases_lt m k) [
     | inl lt ↦ inr (
         let h = earlier m k a b ea eb node lt in
@@ -227,12 +227,12 @@ module _ (mac : Mac) (d : Deployed) (texts : List (List ℕ)) (acc : deployment.
     ]
   ]
 
-  deployed_part : (m : ℕ) (q : PartTree) (site : Site) → slice_get (setting_of mac d texts).app.parts m ≡ Some q → slice_get (setting_of mac d texts).sites m ≡ Some site → IsDeployed (setting_of mac d texts) m q site
+  deployed_part : (m : ℕ) (q : PartTree) (site : Site) → slice_get (setting_of mac d texts).app.parts m ≡ Some q → slice_get (setting_of mac d texts).sites m ≡ Some site → IsDeployedModule (setting_of mac d texts) m q site
   deployed_part m q site eq es =
       let r = site_at d.app.parts d.layouts d.providers texts m site es in
-      subst (λ (q : PartTree). IsDeployed (setting_of mac d texts) m q site) (some_inj r.part q (sym r.found ∙ eq)) (deployed_at m site r)
+      subst (λ (q : PartTree). IsDeployedModule (setting_of mac d texts) m q site) (some_inj r.part q (sym r.found ∙ eq)) (deployed_at m site r)
 
-  pub settled : IsTag mac → IsSound (setting_of mac d texts)
+  pub settled : IsTag mac → IsSoundSetting (setting_of mac d texts)
   settled tag =
       let s = acc in
       record {

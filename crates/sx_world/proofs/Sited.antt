@@ -5,9 +5,9 @@ use Rattle.sx_deploy.specs.Deployment.{Deployed}
 use Rattle.sx_deploy.specs.Law as deployment
 use Rattle.sx_world.specs.Accepted.{AreImages, sites_of}
 use Rattle.sx_world.specs.Held.{setting}
-use Rattle.sx_world.specs.Law.{IsSound}
+use Rattle.sx_world.specs.Law.{IsSoundSetting}
 use Rattle.sx_world.proofs.Settled.{settled}
 
-pub sited : (mac : Mac) (d : Deployed) (texts : List (List ℕ)) → deployment.IsSound d → IsTag mac → AreImages mac d texts
-    → IsSound (setting mac d (sites_of d.app.parts d.layouts d.providers texts))
+pub sited : (mac : Mac) (d : Deployed) (texts : List (List ℕ)) → deployment.IsSoundDeployment d → IsTag mac → AreImages mac d texts
+    → IsSoundSetting (setting mac d (sites_of d.app.parts d.layouts d.providers texts))
 sited mac d texts acc tag images = settled mac d texts acc images tag

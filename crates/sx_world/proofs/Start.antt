@@ -13,7 +13,7 @@ use Rattle.sx_mean.specs.declared.apps.Link.{Link}
 use Rattle.sx_world.specs.Setting.{Setting, windows_at, device_number}
 use Rattle.sx_world.specs.State.{nodes_from, switched_on}
 use Rattle.sx_machine.specs.Node.{IsNode}
-use Rattle.sx_world.specs.Law.{IsSound, devices_of}
+use Rattle.sx_world.specs.Law.{IsSoundSetting, devices_of}
 use Rattle.sx_world.proofs.Lists.{some_inj}
 use Rattle.sx_world.proofs.Entry.{shapes_on}
 use Rattle.sx_world.proofs.Nodes.{zeros_long}
@@ -52,7 +52,7 @@ get_zero zero k v e = absurd cc
 get_zero (suc n) zero v e = sym (some_inj 0 v e)
 get_zero (suc n) (suc k) v e = get_zero n k v e
 
-pub on_is_node : (set : Setting) (n : ℕ) (key : List ℕ) → IsSound set → IsNode (node_on key (devices_of set n))
+pub on_is_node : (set : Setting) (n : ℕ) (key : List ℕ) → IsSoundSetting set → IsNode (node_on key (devices_of set n))
 on_is_node set n key sound = Rattle.sx_machine.proofs.Stays.power_on_is_node key (devices_of set n) (sound.windows n) (first_samples (windows_at n set.app.devices set.places))
 
 abbrev new_standing : Standing
@@ -78,7 +78,7 @@ zero_epochs [] c = refl
 zero_epochs (l ∷ ls) zero = refl
 zero_epochs (l ∷ ls) (suc c) = zero_epochs ls c
 
-pub starts_tied : (set : Setting) → IsSound set → Tied set (switched_on set) (power_on set.app)
+pub starts_tied : (set : Setting) → IsSoundSetting set → Tied set (switched_on set) (power_on set.app)
 starts_tied set sound = record {
   size = record {
     nodes = nodes_long set 0 set.keys ∙ sound.keys;

@@ -12,13 +12,13 @@ use Rattle.sx_ledger.specs.declared.entry.Entry.{Entry}
 use Rattle.sx_ledger.specs.Made.{Made}
 use Rattle.sx_machine.specs.State.{State}
 use Rattle.sx_machine.specs.Step.{own_of, step}
-use Rattle.sx_machine.specs.Step.{Shows as Shown}
+use Rattle.sx_machine.specs.Step.{Shown as Shown}
 use Rattle.sx_machine.specs.Guard.{Step, Interrupt}
 use Rattle.sx_machine.proofs.Sections.{acted_placed}
 use Rattle.sx_deploy.specs.Deployment.{Deployed}
 use Rattle.sx_world.specs.Setting.{Site, Setting, module_of}
 use Rattle.sx_world.specs.State.{World, Acted}
-use Rattle.sx_world.specs.Acts.{at_node, stepped, with_node, interrupted, refused_item}
+use Rattle.sx_world.specs.Acts.{at_node, after_step, with_node, after_interrupt, refused_item}
 use Rattle.sx_world.specs.Observation.{Observed, observed}
 use Rattle.sx_world.specs.Computed.{runner_of}
 use Rattle.sx_world.specs.Held.{Running, Records, IsFront, Observes, ObservesFront, Shows, Did, Wanted, setting}
@@ -47,8 +47,8 @@ step_does mac d sites old new before after n s entries there left saw = λ w h.
     let counted : Shows set (with_nodes old (slice_set old.nodes n (step mac s).state) entries (old.steps + 1)) (with_node w n (step mac s).state (seen_of set n s w.ledger).ledger (w.steps + 1)) =
     subst (λ k. Shows set (with_nodes old (slice_set old.nodes n (step mac s).state) entries (k + 1)) (with_node w n (step mac s).state (seen_of set n s w.ledger).ledger (w.steps + 1))) (sym h.steps)
     (node_shown set old w n s (step mac s).state entries (seen_of set n s w.ledger).ledger (w.steps + 1) h here (acted_placed mac Step s (h.placed n s here)) records) in
-    subst (λ o. Shows set new (at_node w (stepped set w n) o).world × (after ≡ before ++ (at_node w (stepped set w n) o).items)) (sym here)
-    (subst (λ x. Shows set x (stepped set w n s).world) (sym left) counted, o.0 ∙ ap (λ (x : Observed). before ++ x.items) same)
+    subst (λ o. Shows set new (at_node w (after_step set w n) o).world × (after ≡ before ++ (at_node w (after_step set w n) o).items)) (sym here)
+    (subst (λ x. Shows set x (after_step set w n s).world) (sym left) counted, o.0 ∙ ap (λ (x : Observed). before ++ x.items) same)
 
 pub step_front : (mac : Mac) (d : Deployed) (sites : List Site) (old : Running) (before after : List Item) (n : ℕ) (s : State)
     → slice_get old.nodes n ≡ Some s → ObservesFront old.ledger before after (seen_behind (setting mac d sites) n s)
@@ -58,7 +58,7 @@ step_front mac d sites old before after n s there saw = λ w h.
     let here : slice_get w.nodes n ≡ Some s = ap (λ ns. slice_get ns n) (sym h.nodes) ∙ there in
     let o = saw w.ledger h.ledger in
     let same : seen_behind set n s w.ledger ≡ seen_of set n s w.ledger = observed_behind set n s w.ledger (h.placed n s here) in
-    subst (λ o. IsFront after (before ++ (at_node w (stepped set w n) o).items)) (sym here)
+    subst (λ o. IsFront after (before ++ (at_node w (after_step set w n) o).items)) (sym here)
     (subst (λ (x : Observed). IsFront after (before ++ x.items)) same o)
 
 -- the node after a step, read at its place
@@ -103,7 +103,7 @@ refused_still None s done why e = absurd cc
 refused_still (Some x) s done why e = refl
 
 abbrev pub next_irq : Setting → ℕ → ℕ → World → Acted
-next_irq set n line w = at_node w (λ s. interrupted set w n (irq s line).state (irq s line).shown) (slice_get w.nodes n)
+next_irq set n line w = at_node w (λ s. after_interrupt set w n (irq s line).state (irq s line).shown) (slice_get w.nodes n)
 
 pub irq_did : {T E : Type 0} (r : Result T E) (mac : Mac) (d : Deployed) (sites : List Site) (old new : Running) (before after : List Item) (n line : ℕ) (s node : State) (seen : Seen) (entries entries2 : List Entry)
     → slice_get old.nodes n ≡ Some s → node ≡ (irq s line).state → (irq s line).shown ≡ Ok seen → entries ≡ old.ledger
@@ -118,8 +118,8 @@ irq_did (Ok x) mac d sites old new before after n line s node seen entries entri
     let shows : Shows set (with_nodes old (slice_set old.nodes n t) entries2 old.steps) (with_node w n t ledger w.steps) =
     subst (λ k. Shows set (with_nodes old (slice_set old.nodes n t) entries2 k) (with_node w n t ledger w.steps)) (sym h.steps)
     (node_shown set old w n s t entries2 ledger w.steps h here (acted_placed mac (Interrupt line) s (h.placed n s here)) o.1) in
-    subst (λ q. Shows set new (at_node w (λ s. interrupted set w n (irq s line).state (irq s line).shown) q).world × (after ≡ before ++ (at_node w (λ s. interrupted set w n (irq s line).state (irq s line).shown) q).items)) (sym here)
-    (subst (λ q. Shows set new (interrupted set w n t q).world × (after ≡ before ++ (interrupted set w n t q).items)) (sym shown)
+    subst (λ q. Shows set new (at_node w (λ s. after_interrupt set w n (irq s line).state (irq s line).shown) q).world × (after ≡ before ++ (at_node w (λ s. after_interrupt set w n (irq s line).state (irq s line).shown) q).items)) (sym here)
+    (subst (λ q. Shows set new (after_interrupt set w n t q).world × (after ≡ before ++ (after_interrupt set w n t q).items)) (sym shown)
     (subst (λ x. Shows set x (with_node w n t ledger w.steps)) (sym is_new) shows, o.0))
 irq_did (Err x) mac d sites old new before after n line s node seen entries entries2 there left shown kept is_new saw = tt
 
@@ -132,8 +132,8 @@ irq_wanted (Err x) mac d sites old before after n line s node seen entries there
     let here : slice_get w.nodes n ≡ Some s = ap (λ ns. slice_get ns n) (sym h.nodes) ∙ there in
     let t = (irq s line).state in
     let o = subst (λ (x : State). IsFront after (before ++ (observed set n None x seen w.ledger).items)) left (saw w.ledger (subst (λ l. Records l w.ledger) (sym kept) h.ledger)) in
-    subst (λ q. IsFront after (before ++ (at_node w (λ s. interrupted set w n (irq s line).state (irq s line).shown) q).items)) (sym here)
-    (subst (λ q. IsFront after (before ++ (interrupted set w n t q).items)) (sym shown) o)
+    subst (λ q. IsFront after (before ++ (at_node w (λ s. after_interrupt set w n (irq s line).state (irq s line).shown) q).items)) (sym here)
+    (subst (λ q. IsFront after (before ++ (after_interrupt set w n t q).items)) (sym shown) o)
 
 pub irq_refused : {T E : Type 0} (r : Result T E) (set : Setting) (old new : Running) (before after : List Item) (n line : ℕ) (s : State) (why : Refused)
     → slice_get old.nodes n ≡ Some s → (irq s line).shown ≡ Err why → new ≡ with_nodes old (slice_set old.nodes n (irq s line).state) old.ledger old.steps
@@ -142,8 +142,8 @@ irq_refused (Ok x) set old new before after n line s why there shown is_new e = 
     let here : slice_get w.nodes n ≡ Some s = ap (λ ns. slice_get ns n) (sym h.nodes) ∙ there in
     let still : (irq s line).state ≡ s = refused_still (irq_refusal s) s _ why shown in
     let same : new ≡ old = is_new ∙ ap (λ ns. with_nodes old ns old.ledger old.steps) (ap (λ t. slice_set old.nodes n t) still ∙ set_same old.nodes n s there) in
-    subst (λ q. Shows set new (at_node w (λ s. interrupted set w n (irq s line).state (irq s line).shown) q).world × (after ≡ before ++ (at_node w (λ s. interrupted set w n (irq s line).state (irq s line).shown) q).items)) (sym here)
-    (subst (λ q. Shows set new (interrupted set w n (irq s line).state q).world × (after ≡ before ++ (interrupted set w n (irq s line).state q).items)) (sym shown)
+    subst (λ q. Shows set new (at_node w (λ s. after_interrupt set w n (irq s line).state (irq s line).shown) q).world × (after ≡ before ++ (at_node w (λ s. after_interrupt set w n (irq s line).state (irq s line).shown) q).items)) (sym here)
+    (subst (λ q. Shows set new (after_interrupt set w n (irq s line).state q).world × (after ≡ before ++ (after_interrupt set w n (irq s line).state q).items)) (sym shown)
     (subst (λ x. Shows set x w) (sym same) h, e))
 irq_refused (Err x) set old new before after n line s why there shown is_new e = tt
 

@@ -22,7 +22,7 @@ use Rattle.sx_machine.specs.declared.kinds.Event.TheVariants as event
 use Rattle.sx_machine.specs.declared.kinds.Exchange.{Exchange}
 use Rattle.sx_machine.specs.declared.kinds.Seen.{Seen}
 use Rattle.sx_machine.specs.State.{State}
-use Rattle.sx_machine.specs.Step.{Shows, step, own_of}
+use Rattle.sx_machine.specs.Step.{Shown, step, own_of}
 use Rattle.sx_invoke.specs.ModuleState.{state_of}
 use Rattle.sx_invoke.specs.Marks.{Mark, Wrapped, Unwrapped, Sampled, Actuated}
 use Rattle.sx_image.specs.Watched.{violation_of, marks_of_touches, marks_of_event, marks_of}
@@ -37,8 +37,8 @@ use Rattle.sx_world.specs.Setting.{Site, Setting, module_of, is_at_site, device_
 use Rattle.sx_world.specs.Ledger.{Made, is_made}
 use Rattle.sx_world.specs.State.{World}
 use Rattle.sx_world.specs.Observation.{Observed, observed}
-use Rattle.sx_world.specs.Acts.{with_node, stepped}
-use Rattle.sx_world.specs.Law.{IsSound, IsDeployed}
+use Rattle.sx_world.specs.Acts.{with_node, after_step}
+use Rattle.sx_world.specs.Law.{IsSoundSetting, IsDeployedModule}
 use Rattle.sx_world.proofs.Lists.{get_same, get_other, get_some, get_within, length_set, some_inj}
 use Rattle.sx_world.proofs.Verdicts.{judge, Fares, fares_map}
 use Rattle.sx_world.proofs.Tied.{SameState, OwnSensor, Known, IsSane, NodeTied, IsModule, IsUnderWay, ModuleTied, Absent, Rests, Runs, Tied, shapes}
@@ -58,7 +58,7 @@ use Rattle.sx_world.proofs.Bystanders.{bystander, at_site_same, one_section, Dev
 
 -- what a module drives is its own, as its source says
 abbrev pub DriversFit : Setting → Type 0
-DriversFit set = (m : ℕ) (q : PartTree) (site : Site) (s : State) (sec : Section) (boot : ℕ) → IsDeployed set m q site → NodeTied set q.node s boot → IsModule q.node site s sec
+DriversFit set = (m : ℕ) (q : PartTree) (site : Site) (s : State) (sec : Section) (boot : ℕ) → IsDeployedModule set m q site → NodeTied set q.node s boot → IsModule q.node site s sec
     → (let setup = setup_at set.mac q.tree (ends_of set.app m) sec s in
     ((d : List Window) → shapes d ≡ shapes s.devices → (e : SourceEvent) (cells : List ℕ) → Emits set.app q.node q setup d (react q.tree e cells).acts)
     × (is_sensor_driver (declared_kind q.tree.decls) ≡ true → (k : ℕ) × (w : Window) × (own_window setup s.devices ≡ Some (k, w)) × OwnSensor set.app q.node q s.devices k w))
@@ -128,8 +128,8 @@ readings_long app n (Actuated k v ∷ ms) rs = readings_long app n ms rs
 readings_long app n (Sampled k v ∷ ms) rs = readings_long app n ms (slice_set rs (device_number app n k) (record { value = v; fresh = false })) ∙ length_set rs (device_number app n k) (record { value = v; fresh = false })
 
 -- a step that violates is a reset
-pub violation_fares : (set : Setting) (w : World) (mo : Model) (n : ℕ) (s : State) (v : Violation) → IsSound set → Tied set w mo → slice_get w.nodes n ≡ Some s → violation_of (step set.mac s).shown.event ≡ Some v
-    → Fares (judge set.app mo (stepped set w n s).items) (Tied set (stepped set w n s).world)
+pub violation_fares : (set : Setting) (w : World) (mo : Model) (n : ℕ) (s : State) (v : Violation) → IsSoundSetting set → Tied set w mo → slice_get w.nodes n ≡ Some s → violation_of (step set.mac s).shown.event ≡ Some v
+    → Fares (judge set.app mo (after_step set w n s).items) (Tied set (after_step set w n s).world)
 violation_fares set w mo n s v sound t here q =
     let h = violates set.mac s v q in
     let runner = module_of set.sites n s (own_of s) in
@@ -144,10 +144,10 @@ violation_fares set w mo n s v sound t here q =
 pub bounds_of : (l : Layout) → good_bounds l ≡ true → Rattle.std.specs.Prelude.nat_lt l.pub_from l.pub_to ≡ true
 bounds_of l h = (and_parts (Rattle.std.specs.Prelude.nat_lt l.pub_from l.pub_to) _ h).0
 
-module _ (set : Setting) (w : World) (mo : Model) (m : ℕ) (q : PartTree) (site : Site) (s : State) (sec : Section) (sound : IsSound set) (laws : MachineLaws set.mac) (fit : DriversFit set) (t : Tied set w mo)
+module _ (set : Setting) (w : World) (mo : Model) (m : ℕ) (q : PartTree) (site : Site) (s : State) (sec : Section) (sound : IsSoundSetting set) (laws : MachineLaws set.mac) (fit : DriversFit set) (t : Tied set w mo)
     (part : slice_get set.app.parts m ≡ Some q) (sited : slice_get set.sites m ≡ Some site) (here : slice_get w.nodes q.node ≡ Some s) (is : IsModule q.node site s sec) (own : own_of s ≡ sec.id)
     (quiet : violation_of (step set.mac s).shown.event ≡ None) where
-  abbrev r : Shows Seen
+  abbrev r : Shown Seen
   r = step set.mac s
 
   boot_here : (boot : ℕ) × (slice_get mo.boots q.node ≡ Some boot)
@@ -156,7 +156,7 @@ module _ (set : Setting) (w : World) (mo : Model) (m : ℕ) (q : PartTree) (site
   node : NodeTied set q.node s boot_here.0
   node = t.nodes q.node s boot_here.0 here boot_here.1
 
-  deployed : IsDeployed set m q site
+  deployed : IsDeployedModule set m q site
   deployed = sound.deployed m q site part sited
 
   shown : Replays s.sections.live (own_of s) r.shown.touch s.devices r.state.devices
@@ -359,7 +359,7 @@ pub record Runner (set : Setting) (n m : ℕ) (s : State) : Type 0 where
   pub node : part.node ≡ n
   pub own : own_of s ≡ section.id
 
-pub runner_of : (set : Setting) (n m : ℕ) (s : State) → IsSound set → module_of set.sites n s (own_of s) ≡ Some m → Runner set n m s
+pub runner_of : (set : Setting) (n m : ℕ) (s : State) → IsSoundSetting set → module_of set.sites n s (own_of s) ≡ Some m → Runner set n m s
 runner_of set n m s sound e = with_section (section_of s.sections.live (own_of s)) refl e
   where
     with_section : (o : Option Section) → section_of s.sections.live (own_of s) ≡ o → Rattle.std.specs.Option.option_and_then (Rattle.sx_world.specs.Setting.deployed set.sites n s.mem) o ≡ Some m → Runner set n m s
@@ -384,14 +384,14 @@ runner_of set n m s sound e = with_section (section_of s.sections.live (own_of s
 -- what remains: a step of other code
 abbrev pub ForeignSteps : Setting → Type 0
 ForeignSteps set = (w : World) (mo : Model) (n : ℕ) (s : State) → Tied set w mo → slice_get w.nodes n ≡ Some s → module_of set.sites n s (own_of s) ≡ None → violation_of (step set.mac s).shown.event ≡ None
-    → Fares (judge set.app mo (stepped set w n s).items) (Tied set (stepped set w n s).world)
+    → Fares (judge set.app mo (after_step set w n s).items) (Tied set (after_step set w n s).world)
 
 -- each step of a node forges, or goes on to a tied state
-pub step_fares : (set : Setting) (sound : IsSound set) (laws : MachineLaws set.mac) (fit : DriversFit set) (foreign : ForeignSteps set) (w : World) (mo : Model) (n : ℕ) (s : State) → Tied set w mo → slice_get w.nodes n ≡ Some s
-    → Fares (judge set.app mo (stepped set w n s).items) (Tied set (stepped set w n s).world)
+pub step_fares : (set : Setting) (sound : IsSoundSetting set) (laws : MachineLaws set.mac) (fit : DriversFit set) (foreign : ForeignSteps set) (w : World) (mo : Model) (n : ℕ) (s : State) → Tied set w mo → slice_get w.nodes n ≡ Some s
+    → Fares (judge set.app mo (after_step set w n s).items) (Tied set (after_step set w n s).world)
 step_fares set sound laws fit foreign w mo n s t here = by_event (violation_of (step set.mac s).shown.event) refl
   where
-    by_runner : (o : Option ℕ) → module_of set.sites n s (own_of s) ≡ o → violation_of (step set.mac s).shown.event ≡ None → Fares (judge set.app mo (stepped set w n s).items) (Tied set (stepped set w n s).world)
+    by_runner : (o : Option ℕ) → module_of set.sites n s (own_of s) ≡ o → violation_of (step set.mac s).shown.event ≡ None → Fares (judge set.app mo (after_step set w n s).items) (Tied set (after_step set w n s).world)
     by_runner None e quiet = foreign w mo n s t here e quiet
     by_runner (Some m) e quiet =
         let g = runner_of set n m s sound e in
@@ -401,6 +401,6 @@ step_fares set sound laws fit foreign w mo n s t here = by_event (violation_of (
         let h2 = subst (λ j. (let o = observed set j (Some m) (step set.mac s).state (step set.mac s).shown w.ledger in Fares (judge set.app mo o.items) (Tied set (with_node w j (step set.mac s).state o.ledger (w.steps + 1))))) g.node h in
         subst (λ z. (let o = observed set n z (step set.mac s).state (step set.mac s).shown w.ledger in Fares (judge set.app mo o.items) (Tied set (with_node w n (step set.mac s).state o.ledger (w.steps + 1))))) (sym e) h2
 
-    by_event : (o : Option Violation) → violation_of (step set.mac s).shown.event ≡ o → Fares (judge set.app mo (stepped set w n s).items) (Tied set (stepped set w n s).world)
+    by_event : (o : Option Violation) → violation_of (step set.mac s).shown.event ≡ o → Fares (judge set.app mo (after_step set w n s).items) (Tied set (after_step set w n s).world)
     by_event (Some v) e = violation_fares set w mo n s v sound t here e
     by_event None e = by_runner (module_of set.sites n s (own_of s)) refl e

@@ -17,7 +17,7 @@ use Rattle.sx_bus.specs.declared.devices.Window.{Window}
 use Rattle.sx_bus.specs.Devices.{device_at, cleared}
 use Rattle.sx_tag.specs.Wrap.{wrapped}
 use Rattle.sx_invoke.specs.Setup.{Setup, Call}
-use Rattle.sx_invoke.specs.Entries.{input, end_found, side_of, end_on, is_kind, received, is_keyed, key_opened, set_key_at, set_key, attest, event_opened, event_numbered, input_at, sampled, sample_of, sample}
+use Rattle.sx_invoke.specs.Entries.{input, end_found, side_of, end_on, is_kind, received, is_keyed, key_opened, set_key_at, set_key, attest, event_opened, event_numbered, input_at, sample_read, sample_of, sample}
 use Rattle.sx_invoke.specs.ModuleState.{ModuleState, end_of, with_end, epoch_of, link_of}
 use Rattle.sx_invoke.specs.Marks.{Mark, Wrapped, Unwrapped, Sampled}
 use Rattle.sx_invoke.specs.Windows.{read_byte, read_bytes, unless_device, write_bytes, then_}
@@ -286,7 +286,7 @@ module _ (app : AppTree) (m n : ℕ) (q : PartTree) (s : Setup) (c : Call) (st :
 
   -- Entry 3.
 
-  sample_cases : (k : ℕ) (w : Window) (b : Bool) → OwnSensor app n q devices k w → w.fresh ≡ b → Tells (if b then finished (handled s c (event.Sample w.value) (sampled (k, w) p0)) else Returns 8 p0)
+  sample_cases : (k : ℕ) (w : Window) (b : Bool) → OwnSensor app n q devices k w → w.fresh ≡ b → Tells (if b then finished (handled s c (event.Sample w.value) (sample_read (k, w) p0)) else Returns 8 p0)
   sample_cases k w true own fresh =
       let mark = Sampled k w.value in
       let ev = event.Sample w.value in

@@ -73,7 +73,7 @@ site_is (x ∷ qs) (y ∷ ls) (z ∷ ps) (u ∷ ts) zero q l p t a b c d =
     ∙ ap (λ (v : List ℕ). Some (record { node = q.node; layout = l; provider = p; text = v })) et
 site_is (x ∷ qs) (y ∷ ls) (z ∷ ps) (u ∷ ts) (suc m) q l p t a b c d = site_is qs ls ps ts m q l p t a b c d
 
-module _ (d : Deployed) (acc : deployment.IsSound d) where
+module _ (d : Deployed) (acc : deployment.IsSoundDeployment d) where
   pub layouts_long : length d.layouts ≡ length d.app.parts
   layouts_long = laid_long d 0 d.app.parts d.layouts acc.laid
 

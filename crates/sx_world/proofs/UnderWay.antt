@@ -12,7 +12,7 @@ use Rattle.sx_tag.specs.Mac.{Mac}
 use Rattle.sx_machine.specs.declared.kinds.Event.{Event}
 use Rattle.sx_machine.specs.declared.kinds.Seen.{Seen}
 use Rattle.sx_machine.specs.State.{State}
-use Rattle.sx_machine.specs.Step.{Shows, step, own_of}
+use Rattle.sx_machine.specs.Step.{Shown, step, own_of}
 use Rattle.sx_reach.specs.Reach.{Goes, Comes, Here, Next, Ends}
 use Rattle.sx_reach.proofs.Reaching.{one_step}
 use Rattle.sx_invoke.specs.Setup.{Setup}
@@ -143,7 +143,7 @@ module _ (set : Setting) (m : ℕ) (q : PartTree) (s : State) (sec : Section) (x
     (sane : IsSane set.app mo) (known : (e : Made) → is_made ledger e ≡ true → Known set.app mo e.maker e) (sizes : length mo.sent ≡ FIELDS)
     (readings : Readings set.app m q x pr boot mo ledger part there boots present sane known s.devices)
     (u : IsUnderWay set q.node m q s sec pr mo.sent) (quiet : violation_of (step set.mac s).shown.event ≡ None) where
-  abbrev r : Shows Seen
+  abbrev r : Shown Seen
   r = step set.mac s
 
   abbrev made_marks : List Mark

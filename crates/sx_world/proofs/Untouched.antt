@@ -33,7 +33,7 @@ use Rattle.sx_machine.specs.Given.{Given, own_section, untouched_with, concluded
 use Rattle.sx_machine.specs.Protect.{layout_in, protected_if, protect, removed_if, unprotect}
 use Rattle.sx_machine.specs.ModuleRows.{answer, within, exchanged, attested, attest, own_key, with_key, with_inputs, wrap, opened, unwrap, module_row}
 use Rattle.sx_machine.specs.Modules.{module_instruction}
-use Rattle.sx_machine.specs.Step.{pc_of, own_of, start, is_module_word, given, instruction, ordered, word_outside, attempt}
+use Rattle.sx_machine.specs.Step.{pc_of, own_of, start, is_module_word, given_at_pc, instruction, ordered, word_outside, attempt}
 
 -- a plan without accesses that a device may answer
 abbrev Silent : Plan → Type 0
@@ -248,7 +248,7 @@ exec_mute t own (Put at bs k) x h =
 
 instruction_untouched : (mac : Mac) (s : State) → Untouched (instruction mac s)
 instruction_untouched mac s =
-    let g = given mac s in
+    let g = given_at_pc mac s in
     let w = word s.mem (pc_of s) in
     let code = w - 0x1380 in
     either (is_module_word w) (module_instruction mac code g s.mem) (exec s.sections (own_of s) (program w s.regs) (start s))

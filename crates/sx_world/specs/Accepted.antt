@@ -15,7 +15,8 @@ use Rattle.sx_world.specs.Run.{run}
 
 -- where each module stands, with the text of its image
 abbrev pub sites_of : List PartTree → List Layout → List ℕ → List (List ℕ) → List Site
-sites_of (q ∷ qs) (l ∷ ls) (p ∷ ps) (t ∷ ts) = record { node = q.node; layout = l; provider = p; text = t } ∷ sites_of qs ls ps ts
+sites_of (q ∷ qs) (l ∷ ls) (p ∷ ps) (t ∷ ts) =
+    record { node = q.node; layout = l; provider = p; text = t } ∷ sites_of qs ls ps ts
 sites_of _ _ _ _ = []
 
 -- the setting of a run: a deployment, and the texts of its modules' images
@@ -32,9 +33,16 @@ setting_of mac d texts = record {
 -- each text, where its module stands, realizes the module with its ends
 pub record AreImages (mac : Mac) (d : Deployed) (texts : List (List ℕ)) : Type 0 where
   pub as_many : length texts ≡ length d.app.parts
-  pub realize : (p : ℕ) (q : PartTree) (layout : Layout) (provider : ℕ) (text : List ℕ) → slice_get d.app.parts p ≡ Some q
-      → slice_get d.layouts p ≡ Some layout → slice_get d.providers p ≡ Some provider → slice_get texts p ≡ Some text
-      → Realizes mac q.tree (ends_of d.app p) (record { text = text; layout = layout; provider = provider })
+  pub realize : (p : ℕ) (q : PartTree) (layout : Layout) (provider : ℕ) (text : List ℕ)
+      → slice_get d.app.parts p ≡ Some q
+      → slice_get d.layouts p ≡ Some layout → slice_get d.providers p ≡ Some provider
+      → slice_get texts p ≡ Some text
+      → Realizes mac q.tree (ends_of d.app p) (record {
+        text = text;
+        layout = layout;
+        provider =
+            provider;
+      })
 
 -- lines that are in form for the deployment's names
 abbrev pub AreLines : NameLists → List Line → Type 0
@@ -44,7 +52,9 @@ AreLines names (line ∷ lines) = IsLine names line × AreLines names lines
 -- From text to trace: for every text that is accepted, every lawful tag, all images that realize
 -- its modules and every schedule of at most 65,536 lines, the items before the first forged one are
 -- a legal run of the source.
-abbrev pub AcceptedRuns : Type 0
-AcceptedRuns = (text : List ℕ) (d : Deployed) → IsRead text (Ok d) → (mac : Mac) (texts : List (List ℕ)) → IsTag mac → AreImages mac d texts
+abbrev pub AcceptedRunsLegal : Type 0
+AcceptedRunsLegal = (text : List ℕ) (d : Deployed) → IsRead text (Ok d)
+    → (mac : Mac) (texts : List (List ℕ)) → IsTag mac → AreImages mac d texts
     → (lines : List Line) → length lines ≤ 65536 → AreLines d.names lines
-    → Legal d.app (before (run (setting_of mac d texts) (switched_on (setting_of mac d texts)) lines).items)
+    → Legal d.app (before (run (setting_of mac d texts) (switched_on (setting_of mac d texts))
+    lines).items)

@@ -3,17 +3,17 @@ use Rattle.std.specs.Prelude.{◌≡◌, List, [], ◌∷◌, ◌++◌}
 use Rattle.sx_trace.specs.declared.items.Item.{Item}
 use Rattle.sx_sched.specs.Lines.{Line}
 use Rattle.sx_model.specs.Legal.{Legal, before}
-use Rattle.sx_model.specs.Consequences.{Tells}
+use Rattle.sx_model.specs.Consequences.{TellsReader}
 use Rattle.sx_world.specs.Setting.{Setting}
 use Rattle.sx_world.specs.State.{World, Acted, switched_on}
-use Rattle.sx_world.specs.Run.{acted, counted, run}
-use Rattle.sx_world.specs.Law.{AreInForm}
+use Rattle.sx_world.specs.Run.{after_line, line_counted, run}
+use Rattle.sx_world.specs.Law.{LinesInForm}
 use Rattle.sx_world.specs.Held.{Held, IsFront}
 use Rattle.sx_world.specs.Standing.{Stands}
 
 -- the next line, counted, in a world
 abbrev pub next : Setting → World → Line → Acted
-next set w line = acted set (counted w) line
+next set w line = after_line set (line_counted w) line
 
 -- Whatever world of a run it stands at, it stands at the next one, and the line's items were
 -- appended.
@@ -33,22 +33,22 @@ whole_run set lines = run set (switched_on set) lines
 
 -- These lines lead from power-on to where the program's world stands.
 pub record LeadTo (set : Setting) (lines : List Line) (held : Held) : Type 0 where
-  pub formed : AreInForm set lines
+  pub formed : LinesInForm set lines
   pub stands : Stands set held (whole_run set lines).world
 
 -- The run of these lines goes on with one more. The world stands where the longer run leads, and
 -- what the line adds to the run's items was appended. All items of the longer run are legal up to
 -- the first that is forged, with what a reader may take from that.
-pub record GoesOn (set : Setting) (lines : List Line) (line : Line) (left : Held)
+pub record RunGoesOn (set : Setting) (lines : List Line) (line : Line) (left : Held)
     (old new : List Item) : Type 0 where
   pub stands : Stands set left (whole_run set (lines ++ line ∷ [])).world
   pub added : List Item
   pub appended : new ≡ old ++ added
   pub items : (whole_run set (lines ++ line ∷ [])).items ≡ (whole_run set lines).items ++ added
   pub legal : Legal set.app (before (whole_run set (lines ++ line ∷ [])).items)
-  pub tells : Tells set.app (before (whole_run set (lines ++ line ∷ [])).items)
+  pub tells : TellsReader set.app (before (whole_run set (lines ++ line ∷ [])).items)
 
 -- Whatever lines led here, their run goes on, and stays legal.
 abbrev pub StaysLegal : Setting → Line → Held → Held → List Item → List Item → Type 0
 StaysLegal set line held left old new =
-    (lines : List Line) → LeadTo set lines held → GoesOn set lines line left old new
+    (lines : List Line) → LeadTo set lines held → RunGoesOn set lines line left old new

@@ -1,6 +1,8 @@
 -- The deployer: it asks a module, accepts an answer, and then gives keys for the module's ends and,
 -- where it renews them, for the other ends of its connections.
-use Rattle.std.specs.Prelude.{ℕ, ◌+◌, ◌*◌, ◌-◌, ◌==◌, ◌&&◌, Bool, false, if◌then◌else◌, List, [], ◌∷◌, ◌++◌, slice_get, slice_set, slice_index, Option, Some, None, bytes_eq}
+use Rattle.std.specs.Prelude.{ℕ, ◌+◌, ◌*◌, ◌-◌, ◌==◌, ◌&&◌, Bool, false, if◌then◌else◌, List, []}
+use Rattle.std.specs.Prelude.{◌∷◌, ◌++◌, slice_get, slice_set, slice_index, Option, Some, None}
+use Rattle.std.specs.Prelude.{bytes_eq}
 use Rattle.sx_lang.specs.declared.sides.Side.{Side}
 use Rattle.sx_lang.specs.declared.sides.Side.TheVariants.{From, To}
 use Rattle.sx_mean.specs.declared.apps.Link.{Link}
@@ -13,7 +15,7 @@ use Rattle.sx_mean.specs.Ends.{ends_of}
 use Rattle.sx_model.specs.Renewal.{may_attest, renewed}
 use Rattle.sx_world.specs.Setting.{Site, Setting}
 use Rattle.sx_world.specs.Wire.{low_first, ask_packet, set_key_header}
-use Rattle.sx_world.specs.Ledger.{Made, made}
+use Rattle.sx_world.specs.Ledger.{Made, made_entry}
 
 -- the number of asks; of each module its open ask and the boot at which it was last attested; and
 -- the connections' epochs
@@ -32,24 +34,33 @@ list_at (x ∷ xs) i = if i == 0 then x else list_at xs (i - 1)
 abbrev pub key_of : Setting → Site → ℕ → List ℕ
 key_of set site boot =
     module_key set.mac (list_at set.keys site.node) boot site.provider
-    (identity site.text site.layout.pub_from site.layout.pub_to site.layout.priv_from site.layout.priv_to)
+    (identity site.text site.layout.pub_from site.layout.pub_to site.layout.priv_from
+    site.layout.priv_to)
 
 -- the module is asked
-abbrev pub asked : DeployerState → ℕ → DeployerState
-asked d m = record { asks = d.asks + 1; open_asks = slice_set d.open_asks m (Some (ask_packet d.asks)); attested = d.attested; epochs = d.epochs }
+abbrev pub after_ask : DeployerState → ℕ → DeployerState
+after_ask d m = record {
+  asks = d.asks + 1;
+  open_asks =
+      slice_set d.open_asks m (Some (ask_packet d.asks));
+  attested = d.attested;
+  epochs = d.epochs;
+}
 
 -- the tag that answers an ask at a boot
 abbrev pub expected : Setting → Site → ℕ → List ℕ → List ℕ
 expected set site boot ask = (wrapped set.mac (key_of set site boot) ask []).tag
 
 -- the module has an open ask, this is its answer, and it may be attested at the boot
-abbrev pub accepts : Setting → Site → DeployerState → ℕ → ℕ → List ℕ → Option (List ℕ) → Option ℕ → Bool
+abbrev pub accepts : Setting → Site → DeployerState → ℕ → ℕ → List ℕ → Option (List ℕ) → Option ℕ
+    → Bool
 accepts set site d m boot answer None last = false
-accepts set site d m boot answer (Some ask) last = bytes_eq answer (expected set site boot ask) && may_attest m set.app.links d.epochs last boot
+accepts set site d m boot answer (Some ask) last =
+    bytes_eq answer (expected set site boot ask) && may_attest m set.app.links d.epochs last boot
 
 -- acceptance closes the ask, and renews the connections of a module that was attested before
-abbrev pub accepted : List Link → DeployerState → ℕ → ℕ → Option ℕ → DeployerState
-accepted links d m boot last = record {
+abbrev pub after_acceptance : List Link → DeployerState → ℕ → ℕ → Option ℕ → DeployerState
+after_acceptance links d m boot last = record {
   asks = d.asks;
   open_asks = slice_set d.open_asks m None;
   attested = slice_set d.attested m (Some boot);
@@ -79,16 +90,19 @@ grant_header g = set_key_header g.«end».link g.epoch (side_number g.«end».si
 -- the set-key packet of a grant
 abbrev pub set_key : Setting → Site → Grant → List ℕ
 set_key set site g =
-    let w = wrapped set.mac (key_of set site g.boot) (grant_header g) (connection_key set g.«end».link g.epoch) in
+    let w = wrapped set.mac (key_of set site g.boot) (grant_header g)
+    (connection_key set g.«end».link g.epoch) in
     grant_header g ++ w.cipher ++ w.tag
 
 -- the ledger's entry of a grant's set-key packet
 abbrev pub set_key_entry : Setting → Grant → Made
-set_key_entry set g = made maker.Deployer g.holder g.boot (grant_header g) (connection_key set g.«end».link g.epoch)
+set_key_entry set g = made_entry maker.Deployer g.holder g.boot (grant_header g)
+    (connection_key set g.«end».link g.epoch)
 
 -- the grant for an end of a module, in the present epoch of its connection
 abbrev pub grant : List ℕ → ℕ → ℕ → End → Grant
-grant epochs m boot e = record { holder = m; boot = boot; «end» = e; epoch = slice_index epochs e.link }
+grant epochs m boot e =
+    record { holder = m; boot = boot; «end» = e; epoch = slice_index epochs e.link }
 
 -- the grants for the ends that a module holds
 abbrev pub grants_of : List ℕ → ℕ → ℕ → List End → List Grant
@@ -105,8 +119,10 @@ grant_to epochs k (Some (Some boot)) e = grant epochs k boot e ∷ []
 abbrev pub grant_beyond : DeployerState → ℕ → ℕ → Link → List Grant
 grant_beyond d m n l =
     if l.from == l.to then []
-    else if l.from == m then grant_to d.epochs l.to (slice_get d.attested l.to) (record { link = n; side = To; port = l.input })
-    else if l.to == m then grant_to d.epochs l.from (slice_get d.attested l.from) (record { link = n; side = From; port = l.output })
+    else if l.from == m then grant_to d.epochs l.to (slice_get d.attested l.to)
+    (record { link = n; side = To; port = l.input })
+    else if l.to == m then grant_to d.epochs l.from (slice_get d.attested l.from)
+    (record { link = n; side = From; port = l.output })
     else []
 
 -- the grants for the other ends of the module's connections, from the n-th connection on
@@ -118,4 +134,5 @@ grants_beyond d m n (l ∷ ls) = grant_beyond d m n l ++ grants_beyond d m (n + 
 -- before those of the ends beyond
 abbrev pub grants_after : AppTree → DeployerState → ℕ → ℕ → Option ℕ → List Grant
 grants_after app d m boot None = grants_of d.epochs m boot (ends_of app m)
-grants_after app d m boot (Some last) = grants_of d.epochs m boot (ends_of app m) ++ grants_beyond d m 0 app.links
+grants_after app d m boot (Some last) =
+    grants_of d.epochs m boot (ends_of app m) ++ grants_beyond d m 0 app.links

@@ -1,6 +1,7 @@
 -- Judging an answer, and the grants after it, as the code computes them from what the deployer
 -- keeps. Nobody has to believe these forms: lemmas show that they say what the definitions say.
-use Rattle.std.specs.Prelude.{ℕ, ◌+◌, ◌==◌, nat_lt, if◌then◌else◌, List, [], ◌∷◌, ◌++◌, Option, Some, None}
+use Rattle.std.specs.Prelude.{ℕ, ◌+◌, ◌==◌, nat_lt, if◌then◌else◌, List, [], ◌∷◌, ◌++◌, Option}
+use Rattle.std.specs.Prelude.{Some, None}
 use Rattle.std.specs.Option.{option_to_list}
 use Rattle.sx_lang.specs.declared.sides.Side.TheVariants.{From, To}
 use Rattle.sx_mean.specs.declared.apps.Link.{Link}
@@ -11,7 +12,7 @@ use Rattle.sx_trace.specs.declared.items.Item.TheVariants.{Attested}
 use Rattle.sx_ledger.specs.declared.entry.Maker.TheVariants as maker
 use Rattle.sx_deployer.specs.Keeping.{Keeping, open_ask, attested_at, accepts, judged}
 use Rattle.sx_world.specs.Setting.{Setting}
-use Rattle.sx_world.specs.Ledger.{NO_TARGET, made, is_made}
+use Rattle.sx_world.specs.Ledger.{NO_TARGET, made_entry, is_made}
 use Rattle.sx_world.specs.Deployer.{Grant, grant, grants_of, grants_after}
 use Rattle.sx_world.specs.State.{World, Acted}
 use Rattle.sx_world.specs.Observation.{unless_made}
@@ -22,13 +23,14 @@ abbrev pub boot_in : Keeping → ℕ → ℕ → Option ℕ
 boot_in d parts k = if nat_lt k parts then attested_at d k else None
 
 -- for an end of a module that was last attested at a boot, if it was
-abbrev pub given : List ℕ → ℕ → End → Option ℕ → Option Grant
-given epochs k e None = None
-given epochs k e (Some boot) = Some (grant epochs k boot e)
+abbrev pub grant_if_any : List ℕ → ℕ → End → Option ℕ → Option Grant
+grant_if_any epochs k e None = None
+grant_if_any epochs k e (Some boot) = Some (grant epochs k boot e)
 
 -- for a module's ends of the n-th connection
 abbrev pub own_at : List ℕ → ℕ → ℕ → ℕ → Link → List Grant
-own_at epochs m boot n l = grants_of epochs m boot (option_to_list (sending n m l)) ++ grants_of epochs m boot (option_to_list (receiving n m l))
+own_at epochs m boot n l = grants_of epochs m boot (option_to_list (sending n m l))
+    ++ grants_of epochs m boot (option_to_list (receiving n m l))
 
 -- for its ends of the connections from the n-th on
 abbrev pub own_from : List ℕ → ℕ → ℕ → ℕ → List Link → List Grant
@@ -39,19 +41,23 @@ own_from epochs m boot n (l ∷ ls) = own_at epochs m boot n l ++ own_from epoch
 abbrev pub across_at : Keeping → ℕ → ℕ → ℕ → Link → Option Grant
 across_at d parts m n l =
     if l.from == l.to then None
-    else if l.from == m then given d.epochs l.to (record { link = n; side = To; port = l.input }) (boot_in d parts l.to)
-    else if l.to == m then given d.epochs l.from (record { link = n; side = From; port = l.output }) (boot_in d parts l.from)
+    else if l.from == m then grant_if_any d.epochs l.to
+    (record { link = n; side = To; port = l.input }) (boot_in d parts l.to)
+    else if l.to == m then grant_if_any d.epochs l.from
+    (record { link = n; side = From; port = l.output }) (boot_in d parts l.from)
     else None
 
 -- for such ends of the connections from the n-th on
 abbrev pub across_from : Keeping → ℕ → ℕ → ℕ → List Link → List Grant
 across_from d parts m n [] = []
-across_from d parts m n (l ∷ ls) = option_to_list (across_at d parts m n l) ++ across_from d parts m (n + 1) ls
+across_from d parts m n (l ∷ ls) =
+    option_to_list (across_at d parts m n l) ++ across_from d parts m (n + 1) ls
 
 -- after the answer of a module that was last attested at a boot, if any
 abbrev pub granted : Keeping → ℕ → List Link → ℕ → ℕ → Option ℕ → List Grant
 granted d parts links m boot None = own_from d.epochs m boot 0 links
-granted d parts links m boot (Some last) = own_from d.epochs m boot 0 links ++ across_from d parts m 0 links
+granted d parts links m boot (Some last) =
+    own_from d.epochs m boot 0 links ++ across_from d parts m 0 links
 
 -- the open ask that a packet, if there is one, answers
 abbrev pub accepted_ask : Mac → Keeping → ℕ → ℕ → Option (List ℕ) → Option (List ℕ)
@@ -68,5 +74,6 @@ abbrev pub confirmed : Setting → ℕ → ℕ → List ℕ → Option ℕ → W
 confirmed set m boot ask last w =
     then_ (record {
       world = w;
-      items = unless_made None (is_made w.ledger (made (maker.Module m) NO_TARGET boot ask [])) (Attested m boot);
+      items = unless_made None (is_made w.ledger (made_entry (maker.Module m) NO_TARGET boot ask
+          [])) (Attested m boot);
     }) (keys_given set (grants_after set.app w.deployer m boot last))

@@ -1,5 +1,6 @@
 -- The program's world, which world of a run it shows, and what a call makes of both.
-use Rattle.std.specs.Prelude.{◌≡◌, ◌↔◌, ℕ, ◌+◌, ◌≤◌, Bool, true, List, [], ◌∷◌, ◌++◌, length, map, take, slice_get, Some, Result, Ok, Err}
+use Rattle.std.specs.Prelude.{◌≡◌, ◌↔◌, ℕ, ◌+◌, ◌≤◌, Bool, true, List, [], ◌∷◌, ◌++◌, length, map}
+use Rattle.std.specs.Prelude.{take, slice_get, Some, Result, Ok, Err}
 use Rattle.std.specs.List.{Contains}
 use Rattle.sx_rules.specs.Placed.{Placed}
 use Rattle.sx_tag.specs.Mac.{Mac}
@@ -39,7 +40,8 @@ IsShort m = (length m.header ≤ 32) × (length m.body ≤ 32)
 
 -- the set holds what was made, and no more
 abbrev pub Records : List Entry → List Made → Type 0
-Records entries ledger = (m : Made) → IsShort m → Contains entries (entry_of m) ↔ (is_made ledger m ≡ true)
+Records entries ledger =
+    (m : Made) → IsShort m → Contains entries (entry_of m) ↔ (is_made ledger m ≡ true)
 
 -- the items are a prefix of those that are due
 abbrev pub IsFront : List Item → List Item → Type 0
@@ -47,15 +49,26 @@ IsFront items due = (rest : List Item) × (items ++ rest ≡ due)
 
 -- the setting of a run: a deployment's, with its modules at these sites
 abbrev pub setting : Mac → Deployed → List Site → Setting
-setting mac d sites = record { mac = mac; app = d.app; sites = sites; secret = d.secret; keys = d.keys; places = d.places }
+setting mac d sites = record {
+  mac = mac;
+  app = d.app;
+  sites = sites;
+  secret = d.secret;
+  keys =
+      d.keys;
+  places = d.places;
+}
 
 -- the items and the ledger are those that are due, whatever was made before
-abbrev pub Observes : List Entry → List Entry → List Item → List Item → (List Made → Observed) → Type 0
-Observes old new before after due = (ledger : List Made) → Records old ledger → (after ≡ before ++ (due ledger).items) × Records new (due ledger).ledger
+abbrev pub Observes : List Entry → List Entry → List Item → List Item → (List Made → Observed)
+    → Type 0
+Observes old new before after due = (ledger : List Made) → Records old ledger
+    → (after ≡ before ++ (due ledger).items) × Records new (due ledger).ledger
 
 -- memory ran out before all items that are due were added
 abbrev pub ObservesFront : List Entry → List Item → List Item → (List Made → Observed) → Type 0
-ObservesFront old before after due = (ledger : List Made) → Records old ledger → IsFront after (before ++ (due ledger).items)
+ObservesFront old before after due =
+    (ledger : List Made) → Records old ledger → IsFront after (before ++ (due ledger).items)
 
 -- the modules from the m-th on, as the deployer knows them
 abbrev pub targets_from : Setting → ℕ → List Site → List Known
@@ -64,7 +77,8 @@ targets_from set m (site ∷ sites) =
     record {
       node_key = list_at set.keys site.node;
       provider = site.provider;
-      identity = identity site.text site.layout.pub_from site.layout.pub_to site.layout.priv_from site.layout.priv_to;
+      identity = identity site.text site.layout.pub_from site.layout.pub_to site.layout.priv_from
+          site.layout.priv_to;
       ends = ends_of set.app m;
     } ∷ targets_from set (m + 1) sites
 
@@ -97,13 +111,16 @@ pub record Shows (set : Setting) (kept : Running) (w : World) : Type 0 where
 
 -- An act was done: what is kept after it shows what the act leaves, and its items were added.
 abbrev pub Did : Setting → Running → Running → List Item → List Item → (World → Acted) → Type 0
-Did set old new before after act = (w : World) → Shows set old w → Shows set new (act w).world × (after ≡ before ++ (act w).items)
+Did set old new before after act =
+    (w : World) → Shows set old w → Shows set new (act w).world × (after ≡ before ++ (act w).items)
 
 -- Memory ran out: a prefix of the act's items was added.
 abbrev pub Wanted : Setting → Running → List Item → List Item → (World → Acted) → Type 0
-Wanted set old before after act = (w : World) → Shows set old w → IsFront after (before ++ (act w).items)
+Wanted set old before after act =
+    (w : World) → Shows set old w → IsFront after (before ++ (act w).items)
 
 -- a call did this act, or ran out of memory
-abbrev pub Does : {X E : Type 0} → Setting → Result X E → Running → Running → List Item → List Item → (World → Acted) → Type 0
-Does set (Ok x) old new before after act = Did set old new before after act
-Does set (Err e) old new before after act = Wanted set old before after act
+abbrev pub DoesAct : {X E : Type 0} → Setting → Result X E → Running → Running → List Item
+    → List Item → (World → Acted) → Type 0
+DoesAct set (Ok x) old new before after act = Did set old new before after act
+DoesAct set (Err e) old new before after act = Wanted set old before after act

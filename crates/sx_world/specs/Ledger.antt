@@ -7,8 +7,9 @@ use Rattle.sx_machine.specs.declared.kinds.Exchange.{Exchange}
 pub use Rattle.sx_ledger.specs.Made.{Made, NO_TARGET}
 
 -- an entry with these parts
-abbrev pub made : Maker → ℕ → ℕ → List ℕ → List ℕ → Made
-made maker target boot header body = record { maker = maker; target = target; boot = boot; header = header; body = body }
+abbrev pub made_entry : Maker → ℕ → ℕ → List ℕ → List ℕ → Made
+made_entry maker target boot header body =
+    record { maker = maker; target = target; boot = boot; header = header; body = body }
 
 -- the makers are the same
 abbrev pub same_maker : Maker → Maker → Bool
@@ -20,7 +21,8 @@ same_maker (Module m) (Module k) = m == k
 -- the entries are the same
 abbrev pub same_entry : Made → Made → Bool
 same_entry a b =
-    same_maker a.maker b.maker && ((a.target == b.target) && ((a.boot == b.boot) && (bytes_eq a.header b.header && bytes_eq a.body b.body)))
+    same_maker a.maker b.maker && ((a.target == b.target)
+    && ((a.boot == b.boot) && (bytes_eq a.header b.header && bytes_eq a.body b.body)))
 
 -- whether the entry was made
 abbrev pub is_made : List Made → Made → Bool

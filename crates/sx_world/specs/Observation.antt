@@ -1,5 +1,6 @@
 -- What a step of a node shows: its touches in their order, and then its event.
-use Rattle.std.specs.Prelude.{ℕ, ◌+◌, ◌*◌, ◌==◌, ◌&&◌, Bool, false, if◌then◌else◌, List, [], ◌∷◌, ◌++◌, length, slice_get, slice_index, Option, Some, None}
+use Rattle.std.specs.Prelude.{ℕ, ◌+◌, ◌*◌, ◌==◌, ◌&&◌, Bool, false, if◌then◌else◌, List, [], ◌∷◌}
+use Rattle.std.specs.Prelude.{◌++◌, length, slice_get, slice_index, Option, Some, None}
 use Rattle.std.specs.List.{list_any}
 use Rattle.sx_lang.specs.declared.sides.Side.{Side}
 use Rattle.sx_lang.specs.declared.sides.Side.TheVariants.{From, To}
@@ -22,8 +23,9 @@ use Rattle.sx_mean.specs.Application.{AppTree}
 use Rattle.sx_mean.specs.Ends.{ends_of}
 use Rattle.sx_model.specs.Step.{drives, same_side}
 use Rattle.sx_world.specs.Setting.{Setting, module_of, device_number, device_of}
-use Rattle.sx_world.specs.Wire.{is_ask, is_set_key_header, is_event_header, challenge_in, link_in, epoch_in, last_in, value_in}
-use Rattle.sx_world.specs.Ledger.{Made, NO_TARGET, made, is_made, header_of, body_of}
+use Rattle.sx_world.specs.Wire.{is_ask, is_set_key_header, is_event_header, challenge_in, link_in}
+use Rattle.sx_world.specs.Wire.{epoch_in, last_in, value_in}
+use Rattle.sx_world.specs.Ledger.{Made, NO_TARGET, made_entry, is_made, header_of, body_of}
 
 -- items, and the ledger after them
 pub record Observed : Type 0 where
@@ -52,26 +54,38 @@ number_of (Some m) = m
 
 -- the item of a read of a fresh sensor: the driver's `read`, or other code's `drain`
 abbrev pub read_item : AppTree → Option ℕ → ℕ → ℕ → Item
-read_item app runner d v = if is_driver app runner d then item.Read (number_of runner) v else item.Drain d
+read_item app runner d v =
+    if is_driver app runner d then item.Read (number_of runner) v else item.Drain d
 
 -- the item of a write to an actuator: the driver's `out`, or other code's `raw`
 abbrev pub write_item : AppTree → Option ℕ → ℕ → ℕ → Item
-write_item app runner d v = if is_driver app runner d then item.Out (number_of runner) v else item.Raw d v
+write_item app runner d v =
+    if is_driver app runner d then item.Out (number_of runner) v else item.Raw d v
 
 -- the items of touches, in order
 abbrev pub touch_items : AppTree → ℕ → Option ℕ → List Touch → List Item
 touch_items app n runner [] = []
 touch_items app n runner (touch.Quiet ∷ ts) = touch_items app n runner ts
-touch_items app n runner (touch.DeviceRead k v ∷ ts) = read_item app runner (device_number app n k) v ∷ touch_items app n runner ts
-touch_items app n runner (touch.DeviceWrite k v ∷ ts) = write_item app runner (device_number app n k) v ∷ touch_items app n runner ts
+touch_items app n runner (touch.DeviceRead k v ∷ ts) =
+    read_item app runner (device_number app n k) v ∷ touch_items app n runner ts
+touch_items app n runner (touch.DeviceWrite k v ∷ ts) =
+    write_item app runner (device_number app n k) v ∷ touch_items app n runner ts
 
 -- a deployed module wrapped a header and a body: it vouches for itself, or it makes an event
 abbrev pub has_wrapped : ℕ → ℕ → List ℕ → List ℕ → Bool → List Made → Observed
 has_wrapped m boot header body own ledger =
     if is_ask header && ((length body == 0) && own)
-    then record { items = item.Vouch m (challenge_in header) ∷ []; ledger = ledger ++ made (maker.Module m) NO_TARGET boot header body ∷ [] }
+    then record {
+      items = item.Vouch m (challenge_in header) ∷ [];
+      ledger =
+          ledger ++ made_entry (maker.Module m) NO_TARGET boot header body ∷ [];
+    }
     else if is_event_header header && (length body == 2)
-    then record { items = []; ledger = ledger ++ made (maker.Module m) NO_TARGET 0 header body ∷ [] }
+    then record {
+      items = [];
+      ledger = ledger ++ made_entry (maker.Module m) NO_TARGET 0 header body
+          ∷ [];
+    }
     else record { items = []; ledger = ledger }
 
 -- the item, after one that says that no holder of the key had made it
@@ -103,9 +117,11 @@ sender_of app link = from_of (slice_get app.links link)
 abbrev pub has_unwrapped : AppTree → ℕ → ℕ → List ℕ → List ℕ → List Made → List Item
 has_unwrapped app m boot header body ledger =
     if is_set_key_header header && has_end app m (link_in header) (side_in header)
-    then unless_made (Some m) (is_made ledger (made maker.Deployer m boot header body)) (item.Open m (link_in header) (side_in header) (epoch_in header))
+    then unless_made (Some m) (is_made ledger (made_entry maker.Deployer m boot header body))
+    (item.Open m (link_in header) (side_in header) (epoch_in header))
     else if is_event_header header && has_end app m (link_in header) To
-    then unless_made (Some m) (is_made ledger (made (maker.Module (sender_of app (link_in header))) NO_TARGET 0 header body))
+    then unless_made (Some m) (is_made ledger (made_entry
+    (maker.Module (sender_of app (link_in header))) NO_TARGET 0 header body))
     (item.Take m (link_in header) (65536 * epoch_in header + last_in header) (value_in body))
     else []
 
@@ -116,15 +132,28 @@ protect_item set n s id = item.Protect n (module_of set.sites n s id)
 -- the event of a step of the module's code that leaves the node in this state
 abbrev pub event_seen : Setting → ℕ → Option ℕ → State → List Made → Event → Observed
 event_seen set n runner s ledger event.Quiet = record { items = []; ledger = ledger }
-event_seen set n runner s ledger (event.Reset v) = record { items = item.Reset n (cause_of v) ∷ []; ledger = ledger }
-event_seen set n runner s ledger (event.Protected id) = record { items = protect_item set n s id ∷ []; ledger = ledger }
+event_seen set n runner s ledger (event.Reset v) =
+    record { items = item.Reset n (cause_of v) ∷ []; ledger = ledger }
+event_seen set n runner s ledger (event.Protected id) =
+    record { items = protect_item set n s id ∷ []; ledger = ledger }
 event_seen set n runner s ledger (event.Removed id) = record { items = []; ledger = ledger }
 event_seen set n None s ledger (event.Wrapped id) = record { items = []; ledger = ledger }
-event_seen set n (Some m) s ledger (event.Wrapped id) = has_wrapped m s.boot (header_of s.exchange) (body_of s.exchange) s.exchange.own_key ledger
+event_seen set n (Some m) s ledger (event.Wrapped id) =
+    has_wrapped m s.boot (header_of s.exchange) (body_of s.exchange) s.exchange.own_key ledger
 event_seen set n None s ledger (event.Unwrapped id) = record { items = []; ledger = ledger }
-event_seen set n (Some m) s ledger (event.Unwrapped id) = record { items = has_unwrapped set.app m s.boot (header_of s.exchange) (body_of s.exchange) ledger; ledger = ledger }
+event_seen set n (Some m) s ledger (event.Unwrapped id) =
+    record {
+      items = has_unwrapped set.app m s.boot (header_of s.exchange) (body_of s.exchange)
+          ledger;
+      ledger = ledger;
+    }
 event_seen set n None s ledger (event.Left id) = record { items = []; ledger = ledger }
-event_seen set n (Some m) s ledger (event.Left id) = record { items = item.Done m (slice_index s.regs 12) (slice_index s.regs 13) ∷ []; ledger = ledger }
+event_seen set n (Some m) s ledger (event.Left id) =
+    record {
+      items = item.Done m (slice_index s.regs 12) (slice_index s.regs 13) ∷ [];
+      ledger =
+          ledger;
+    }
 
 -- what is seen of code of this module, which leaves the node in this state
 abbrev pub observed : Setting → ℕ → Option ℕ → State → Seen → List Made → Observed

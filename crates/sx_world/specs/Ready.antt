@@ -11,11 +11,13 @@ use Rattle.sx_world.specs.Held.{Running}
 pub record IsReady (d : Deployed) (sites : List Site) (k : Running) : Type 0 where
   pub nodes : length k.nodes ≡ length d.names.nodes
   pub boots : (n : ℕ) (s : State) → slice_get k.nodes n ≡ Some s → s.boot < 4294967295
-  pub devices : (n : ℕ) (s : State) → slice_get k.nodes n ≡ Some s → shapes s.devices ≡ windows_at n d.app.devices d.places
+  pub devices : (n : ℕ) (s : State) → slice_get k.nodes n ≡ Some s
+      → shapes s.devices ≡ windows_at n d.app.devices d.places
   pub steps : k.steps + 1000000 ≤ 18446744073709551615
   pub packets : length k.packets ≤ 4294967000
   pub asks : k.deployer.asks < 4294967295
   pub targets : length k.deployer.targets ≡ length d.app.parts
   pub as_many : length sites ≡ length d.app.parts
   pub at_nodes : (m : ℕ) (site : Site) → slice_get sites m ≡ Some site → site.node < length k.nodes
-  pub texts : (m : ℕ) (site : Site) → slice_get sites m ≡ Some site → site.layout.pub_from + length site.text ≤ 65536
+  pub texts : (m : ℕ) (site : Site) → slice_get sites m ≡ Some site
+      → site.layout.pub_from + length site.text ≤ 65536

@@ -1,5 +1,6 @@
 -- What a run is given: the application, and where its modules, keys and devices are.
-use Rattle.std.specs.Prelude.{ℕ, ◌+◌, ◌-◌, ◌==◌, ◌&&◌, Bool, if◌then◌else◌, List, [], ◌∷◌, slice_get, slice_index, Option, option_and_then, bytes_eq}
+use Rattle.std.specs.Prelude.{ℕ, ◌+◌, ◌-◌, ◌==◌, ◌&&◌, Bool, if◌then◌else◌, List, [], ◌∷◌}
+use Rattle.std.specs.Prelude.{slice_get, slice_index, Option, option_and_then, bytes_eq}
 use Rattle.std.specs.List.{position_from}
 use Rattle.sx_lang.specs.declared.tree.DeviceKind.{DeviceKind}
 use Rattle.sx_lang.specs.declared.tree.DeviceKind.TheVariants as declared_kind
@@ -33,7 +34,8 @@ pub record Setting : Type 0 where
 
 -- the layouts are the same
 abbrev pub same_layout : Layout → Layout → Bool
-same_layout a b = (a.pub_from == b.pub_from) && ((a.pub_to == b.pub_to) && ((a.priv_from == b.priv_from) && (a.priv_to == b.priv_to)))
+same_layout a b = (a.pub_from == b.pub_from) &&
+    ((a.pub_to == b.pub_to) && ((a.priv_from == b.priv_from) && (a.priv_to == b.priv_to)))
 
 -- a section of a node is of a site's identity: its layout, provider and public bytes
 abbrev pub is_at_site : ℕ → List ℕ → Section → Site → Bool
@@ -52,7 +54,8 @@ module_of sites n s id = option_and_then (deployed sites n s.mem) (section_of s.
 -- the numbers of a node's devices, from the i-th device on
 abbrev pub devices_at : ℕ → ℕ → List AppDevice → List ℕ
 devices_at n i [] = []
-devices_at n i (d ∷ ds) = if d.node == n then i ∷ devices_at n (i + 1) ds else devices_at n (i + 1) ds
+devices_at n i (d ∷ ds) =
+    if d.node == n then i ∷ devices_at n (i + 1) ds else devices_at n (i + 1) ds
 
 -- the number of a node's k-th device
 abbrev pub device_number : AppTree → ℕ → ℕ → ℕ
@@ -71,4 +74,5 @@ kind_of declared_kind.Actuator = Actuator
 abbrev pub windows_at : ℕ → List AppDevice → List ℕ → List (ℕ × Kind)
 windows_at n [] ats = []
 windows_at n (d ∷ ds) [] = []
-windows_at n (d ∷ ds) (at ∷ ats) = if d.node == n then (at, kind_of d.kind) ∷ windows_at n ds ats else windows_at n ds ats
+windows_at n (d ∷ ds) (at ∷ ats) =
+    if d.node == n then (at, kind_of d.kind) ∷ windows_at n ds ats else windows_at n ds ats

@@ -4,14 +4,14 @@ use Rattle.sx_sched.specs.Lines.{Line}
 use Rattle.sx_world.specs.Setting.{Setting}
 use Rattle.sx_world.specs.State.{World, switched_on}
 use Rattle.sx_world.specs.Run.{run}
-use Rattle.sx_world.specs.Law.{AreInForm}
+use Rattle.sx_world.specs.Law.{LinesInForm}
 use Rattle.sx_world.specs.Held.{Held, Shows}
 
 -- It shows this world of a run: that of as many lines in form as it has performed, each of at most
 -- a million steps.
 pub record Stands (set : Setting) (held : Held) (w : World) : Type 0 where
   pub lines : List Line
-  pub formed : AreInForm set lines
+  pub formed : LinesInForm set lines
   pub count : length lines ≡ held.lines
   pub steps : w.steps ≤ 1000000 * held.lines
   pub is : w ≡ (run set (switched_on set) lines).world

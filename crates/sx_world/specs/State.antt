@@ -26,14 +26,21 @@ pub record Acted : Type 0 where
 -- the nodes with these keys, from the n-th on
 abbrev pub nodes_from : Setting → ℕ → List (List ℕ) → List State
 nodes_from set n [] = []
-nodes_from set n (key ∷ keys) = power_on key (powered_on (windows_at n set.app.devices set.places)) ∷ nodes_from set (n + 1) keys
+nodes_from set n (key ∷ keys) = power_on key (powered_on (windows_at n set.app.devices set.places))
+    ∷ nodes_from set (n + 1) keys
 
 -- the world in which each node is switched on, and nothing has happened
 abbrev pub switched_on : Setting → World
 switched_on set = record {
   nodes = nodes_from set 0 set.keys;
   packets = [];
-  deployer = record { asks = 0; open_asks = map (λ p. None) set.app.parts; attested = map (λ p. None) set.app.parts; epochs = map (λ l. 0) set.app.links };
+  deployer = record {
+    asks = 0;
+    open_asks = map (λ p. None) set.app.parts;
+    attested =
+        map (λ p. None) set.app.parts;
+    epochs = map (λ l. 0) set.app.links;
+  };
   ledger = [];
   lines = 0;
   steps = 0;

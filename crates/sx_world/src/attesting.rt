@@ -2,9 +2,9 @@
 
 ghost use Rattle.std.specs.Prelude.{◌≡◌, ◌+◌, ◌*◌, ◌<◌, ◌≤◌, List, length, map, slice_get, OnOk};
 ghost use Rattle.sx_deploy.specs.SeenDeployment.{deployed_as};
-ghost use Rattle.sx_world.specs.Acts.{answered, ask};
+ghost use Rattle.sx_world.specs.Acts.{after_answer, ask};
 ghost use Rattle.sx_world.specs.Granted.{accepted_ask, confirmed, judged_by};
-ghost use Rattle.sx_world.specs.Held.{Does, setting};
+ghost use Rattle.sx_world.specs.Held.{DoesAct, setting};
 ghost use Rattle.sx_world.specs.Setting.{Setting, Site};
 
 use crate::grants::granted;
@@ -31,8 +31,10 @@ fn judge<T: Tag>(
     k: u32,
 ) -> Option<[u8; 18]>
     requires { m < length deployer.old.targets }
-    ensures ask { result ≡ accepted_ask T.mac deployer.old m boot (slice_get (map (λ p. p.items) packets.now) k) }
-    ensures state { deployer.new ≡ judged_by T.mac deployer.old m boot (slice_get (map (λ p. p.items) packets.now) k) }
+    ensures ask { result ≡ accepted_ask T.mac deployer.old m boot
+        (slice_get (map (λ p. p.items) packets.now) k) }
+    ensures state { deployer.new ≡ judged_by T.mac deployer.old m boot
+        (slice_get (map (λ p. p.items) packets.now) k) }
 {
     let ask = deployer.open_ask(m);
     match packets.get(k as usize) {
@@ -50,7 +52,8 @@ impl<B: Bus, T: Tag> Running<B, T> {
         requires known { m < length self.old.deployer.targets }
         requires asks { self.old.deployer.asks < 4294967295 }
         requires packets { length self.old.packets < 4294967295 }
-        ensures does { (set : Setting) → Does set result self.old self.new items.old.items items.new.items (λ w. ask w m) }
+        ensures does { (set : Setting) → DoesAct set result self.old self.new items.old.items
+            items.new.items (λ w. ask w m) }
         ensures count { OnOk result (length self.new.packets ≤ length self.old.packets + 1) }
     {
         let packet = self.deployer.ask(&self.tag, m);
@@ -78,7 +81,8 @@ impl<B: Bus, T: Tag> Running<B, T> {
         requires parts { length plan.now.app.parts.items ≤ length self.old.deployer.targets }
         requires links { length plan.now.app.links.items ≤ 64 }
         requires packets { length self.old.packets ≤ 4294967000 }
-        ensures does { (sites : List Site) → Does (setting T.mac (deployed_as plan.now) sites) result self.old self.new items.old.items items.new.items
+        ensures does { (sites : List Site) → DoesAct (setting T.mac (deployed_as plan.now) sites)
+            result self.old self.new items.old.items items.new.items
             (confirmed (setting T.mac (deployed_as plan.now) sites) m boot ask.now last) }
         ensures count { OnOk result (length self.new.packets ≤ length self.old.packets + 192) }
     {
@@ -101,8 +105,10 @@ impl<B: Bus, T: Tag> Running<B, T> {
         requires parts { length plan.now.app.parts.items ≤ length self.old.deployer.targets }
         requires links { length plan.now.app.links.items ≤ 64 }
         requires packets { length self.old.packets ≤ 4294967000 }
-        ensures does { (sites : List Site) → Does (setting T.mac (deployed_as plan.now) sites) result self.old self.new items.old.items items.new.items
-            (λ w. answered (setting T.mac (deployed_as plan.now) sites) w m boot (slice_get sites m) (slice_get w.packets k)) }
+        ensures does { (sites : List Site) → DoesAct (setting T.mac (deployed_as plan.now) sites)
+            result self.old self.new items.old.items items.new.items
+            (λ w. after_answer (setting T.mac (deployed_as plan.now) sites) w m boot
+            (slice_get sites m) (slice_get w.packets k)) }
         ensures count { OnOk result (length self.new.packets ≤ length self.old.packets + 192) }
     {
         let last = self.deployer.attested(m);

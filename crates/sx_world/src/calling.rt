@@ -4,7 +4,7 @@ ghost use Rattle.std.specs.Prelude.{◌≡◌, ℕ, ◌+◌, ◌<◌, ◌≤◌,
 ghost use Rattle.sx_deploy.specs.SeenDeployment.{deployed_as};
 ghost use Rattle.sx_machine.specs.State.{State};
 ghost use Rattle.sx_world.specs.Acts.{then_};
-ghost use Rattle.sx_world.specs.Held.{Does, setting};
+ghost use Rattle.sx_world.specs.Held.{DoesAct, setting};
 ghost use Rattle.sx_world.specs.Loading.{AreSettable, call_registers};
 ghost use Rattle.sx_world.specs.Run as run;
 ghost use Rattle.sx_world.specs.Setting.{Site as Placed};
@@ -50,7 +50,7 @@ impl<B: Bus, T: Tag> Running<B, T> {
         requires settable { AreSettable registers.now }
         requires sites { length sites.now ≤ 256 }
         requires devices { length plan.now.app.devices.items ≤ 256 }
-        ensures { Does (setting T.mac (deployed_as plan.now) sites.now) result
+        ensures { DoesAct (setting T.mac (deployed_as plan.now) sites.now) result
             self.old self.new items.old.items items.new.items
             (λ w. then_ (run.set_all site.now.node registers.now w)
             (run.finish (setting T.mac (deployed_as plan.now) sites.now) site.now.node)) }
@@ -78,9 +78,10 @@ impl<B: Bus, T: Tag> Running<B, T> {
         requires steps { self.old.steps + run.FINISH_STEPS ≤ 18446744073709551615 }
         requires sites { length sites.now ≤ 256 }
         requires devices { length plan.now.app.devices.items ≤ 256 }
-        ensures { Does (setting T.mac (deployed_as plan.now) sites.now) result
+        ensures { DoesAct (setting T.mac (deployed_as plan.now) sites.now) result
             self.old self.new items.old.items items.new.items
-            (λ w. run.call (setting T.mac (deployed_as plan.now) sites.now) w entry input output (slice_get sites.now m)) }
+            (λ w. run.call (setting T.mac (deployed_as plan.now) sites.now) w entry input output
+            (slice_get sites.now m)) }
     {
         let site = &sites[usize::from(m)];
         if self.is_idle(site.node) {

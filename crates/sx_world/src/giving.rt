@@ -5,7 +5,7 @@ ghost use Rattle.sx_deploy.specs.SeenDeployment.{deployed_as};
 ghost use Rattle.sx_deployer.specs.Granting as granting;
 ghost use Rattle.sx_wire.specs.Packets.{field};
 ghost use Rattle.sx_world.specs.Acts.{key_given, keys_given};
-ghost use Rattle.sx_world.specs.Held.{Does, setting};
+ghost use Rattle.sx_world.specs.Held.{DoesAct, setting};
 ghost use Rattle.sx_world.specs.Setting.{Site};
 
 use crate::grants::Grant;
@@ -36,8 +36,10 @@ impl<B: Bus, T: Tag> Running<B, T> {
         items: &mut Vec<Item>,
     ) -> Result<(), AllocError>
         requires { length self.old.packets < 4294967295 }
-        ensures does { (sites : List Site) → Does (setting T.mac (deployed_as plan.now) sites) result self.old self.new items.old.items items.new.items
-            (λ w. key_given (setting T.mac (deployed_as plan.now) sites) w g.now (slice_get sites g.now.holder)) }
+        ensures does { (sites : List Site) → DoesAct (setting T.mac (deployed_as plan.now) sites)
+            result self.old self.new items.old.items items.new.items
+            (λ w. key_given (setting T.mac (deployed_as plan.now) sites) w g.now
+            (slice_get sites g.now.holder)) }
         ensures count { OnOk result (length self.new.packets ≤ length self.old.packets + 1) }
     {
         match self
@@ -68,9 +70,11 @@ impl<B: Bus, T: Tag> Running<B, T> {
         items: &mut Vec<Item>,
     ) -> Result<(), AllocError>
         requires { length self.old.packets + length grants.now ≤ 4294967295 }
-        ensures does { (sites : List Site) → Does (setting T.mac (deployed_as plan.now) sites) result self.old self.new items.old.items items.new.items
+        ensures does { (sites : List Site) → DoesAct (setting T.mac (deployed_as plan.now) sites)
+            result self.old self.new items.old.items items.new.items
             (keys_given (setting T.mac (deployed_as plan.now) sites) grants.now) }
-        ensures count { OnOk result (length self.new.packets ≤ length self.old.packets + length grants.now) }
+        ensures count { OnOk result (length self.new.packets ≤ length self.old.packets
+            + length grants.now) }
     {
         for g in grants {
             self.give_key(plan, g, items)?;

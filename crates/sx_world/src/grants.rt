@@ -4,7 +4,8 @@ ghost use Rattle.std.specs.Prelude.{◌≡◌, ◌+◌, ◌*◌, ◌<◌, ◌≤
 ghost use Rattle.std.specs.Option.{option_to_list};
 ghost use Rattle.sx_mean.specs.Ends as ends;
 ghost use Rattle.sx_world.specs.Deployer.{grant, grants_of};
-ghost use Rattle.sx_world.specs.Granted.{across_at, across_from, boot_in, given, granted, own_at, own_from};
+ghost use Rattle.sx_world.specs.Granted.{across_at, across_from, boot_in, grant_if_any, granted};
+ghost use Rattle.sx_world.specs.Granted.{own_at, own_from};
 
 use std::alloc::{AllocError, Global};
 use std::marker::Model;
@@ -81,7 +82,8 @@ fn add_end(
     end: Option<End>,
     grants: &mut Vec<Grant>,
 ) -> Result<(), AllocError>
-    ensures { OnOk result (grants.new.items ≡ grants.old.items ++ grants_of deployer.now.epochs m boot (option_to_list «end»)) }
+    ensures { OnOk result (grants.new.items ≡ grants.old.items
+        ++ grants_of deployer.now.epochs m boot (option_to_list «end»)) }
 {
     match end {
         Some(end) => {
@@ -101,7 +103,8 @@ fn add_ends(
     link: &Link,
     grants: &mut Vec<Grant>,
 ) -> Result<(), AllocError>
-    ensures { OnOk result (grants.new.items ≡ grants.old.items ++ own_at deployer.now.epochs m boot n link.now) }
+    ensures { OnOk result (grants.new.items ≡ grants.old.items
+        ++ own_at deployer.now.epochs m boot n link.now) }
 {
     add_end(deployer, m, boot, sending(n, m, link), grants)?;
     add_end(deployer, m, boot, receiving(n, m, link), grants)
@@ -116,7 +119,8 @@ fn add_own(
     grants: &mut Vec<Grant>,
 ) -> Result<(), AllocError>
     requires { length links.now ≤ 256 }
-    ensures { OnOk result (grants.new.items ≡ grants.old.items ++ own_from deployer.now.epochs m boot 0 links.now) }
+    ensures { OnOk result (grants.new.items ≡ grants.old.items
+        ++ own_from deployer.now.epochs m boot 0 links.now) }
 {
     for n in 0..links.len() {
         add_ends(deployer, m, boot, n as u8, &links[n], grants)?;
@@ -139,7 +143,7 @@ fn attested(deployer: &Deployer, parts: usize, k: u8) -> Option<u32>
 /// The grant for an end of a module, where that was attested.
 fn grant_to(deployer: &Deployer, parts: usize, k: u8, end: End) -> Option<Grant>
     requires { parts ≤ length deployer.now.targets }
-    ensures { result ≡ given deployer.now.epochs k «end» (boot_in deployer.now parts k) }
+    ensures { result ≡ grant_if_any deployer.now.epochs k «end» (boot_in deployer.now parts k) }
 {
     match attested(deployer, parts, k) {
         Some(boot) => Some(grant_for(deployer, k, boot, end)),
@@ -197,7 +201,8 @@ fn add_across(
 ) -> Result<(), AllocError>
     requires parts { parts ≤ length deployer.now.targets }
     requires links { length links.now ≤ 256 }
-    ensures { OnOk result (grants.new.items ≡ grants.old.items ++ across_from deployer.now parts m 0 links.now) }
+    ensures { OnOk result (grants.new.items ≡ grants.old.items
+        ++ across_from deployer.now parts m 0 links.now) }
 {
     for n in 0..links.len() {
         add_grant(across(deployer, parts, m, n as u8, &links[n]), grants)?;
@@ -217,7 +222,8 @@ pub(crate) fn granted(
 ) -> Result<Vec<Grant>, AllocError>
     requires parts { length app.now.parts.items ≤ length deployer.now.targets }
     requires links { length app.now.links.items ≤ 256 }
-    ensures { IfOk result (λ v. v.items ≡ granted deployer.now (length app.now.parts.items) app.now.links.items m boot last) }
+    ensures { IfOk result (λ v. v.items ≡ granted deployer.now (length app.now.parts.items)
+        app.now.links.items m boot last) }
 {
     let mut grants = Vec::new(alloc);
     add_own(deployer, m, boot, &app.links, &mut grants)?;

@@ -1,11 +1,11 @@
 //! The lines of a schedule as acts.
 
-ghost use Rattle.sx_deploy.specs.Law.{IsSound};
+ghost use Rattle.sx_deploy.specs.Law.{IsSoundDeployment};
 ghost use Rattle.sx_deploy.specs.SeenDeployment.{deployed_as};
 ghost use Rattle.sx_sched.specs.Lines.{IsLine, line_of};
-ghost use Rattle.sx_world.specs.Held.{Does, setting};
+ghost use Rattle.sx_world.specs.Held.{DoesAct, setting};
 ghost use Rattle.sx_world.specs.Ready.{IsReady};
-ghost use Rattle.sx_world.specs.Run.{acted};
+ghost use Rattle.sx_world.specs.Run.{after_line};
 
 use crate::running::Running;
 use crate::sites::Site;
@@ -25,11 +25,13 @@ impl<B: Bus, T: Tag> Running<B, T> {
         line: &Line,
         items: &mut Vec<Item>,
     ) -> Result<(), AllocError>
-        requires sound { IsSound (deployed_as plan.now) }
+        requires sound { IsSoundDeployment (deployed_as plan.now) }
         requires ready { IsReady (deployed_as plan.now) sites.now self.old }
         requires form { IsLine (deployed_as plan.now).names (line_of line.now) }
-        ensures { Does (setting T.mac (deployed_as plan.now) sites.now) result self.old self.new items.old.items items.new.items
-            (λ w. acted (setting T.mac (deployed_as plan.now) sites.now) w (line_of line.now)) }
+        ensures { DoesAct (setting T.mac (deployed_as plan.now) sites.now) result self.old self.new
+            items.old.items items.new.items
+            (λ w. after_line (setting T.mac (deployed_as plan.now) sites.now) w
+            (line_of line.now)) }
     {
         match line {
             Line::Blank => Ok(()),

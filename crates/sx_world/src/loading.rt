@@ -3,8 +3,8 @@
 ghost use Rattle.std.specs.Prelude.{◌≡◌, ℕ, ◌+◌, ◌/◌, ◌<◌, ◌≤◌, length, slice_get, Some};
 ghost use Rattle.sx_deploy.specs.SeenDeployment.{deployed_as};
 ghost use Rattle.sx_machine.specs.State.{State};
-ghost use Rattle.sx_world.specs.Held.{Does, boots_of, setting};
-ghost use Rattle.sx_world.specs.Loading.{loaded, protect_registers};
+ghost use Rattle.sx_world.specs.Held.{DoesAct, boots_of, setting};
+ghost use Rattle.sx_world.specs.Loading.{after_loading, protect_registers};
 ghost use Rattle.sx_world.specs.Run as run;
 ghost use Rattle.sx_world.specs.Setting.{Setting, Site as Placed};
 
@@ -50,7 +50,8 @@ impl<B: Bus, T: Tag> Running<B, T> {
     ) -> Result<(), AllocError>
         requires node { n < length self.old.nodes }
         requires within { at + length bytes.now ≤ 65536 }
-        ensures does { (set : Setting) → Does set result self.old self.new items.old.items items.new.items
+        ensures does { (set : Setting) → DoesAct set result self.old self.new items.old.items
+            items.new.items
             (run.put_pieces n ((length bytes.now + 1023) / 1024) at bytes.now) }
         ensures boots { boots_of self.new.nodes ≡ boots_of self.old.nodes }
         ensures steps { self.new.steps ≡ self.old.steps }
@@ -79,9 +80,9 @@ impl<B: Bus, T: Tag> Running<B, T> {
         requires text { site.now.layout.pub_from + length site.now.text ≤ 65536 }
         requires sites { length sites.now ≤ 256 }
         requires devices { length plan.now.app.devices.items ≤ 256 }
-        ensures { Does (setting T.mac (deployed_as plan.now) sites.now) result
+        ensures { DoesAct (setting T.mac (deployed_as plan.now) sites.now) result
             self.old self.new items.old.items items.new.items
-            (loaded (setting T.mac (deployed_as plan.now) sites.now) site.now) }
+            (after_loading (setting T.mac (deployed_as plan.now) sites.now) site.now) }
     {
         let n = site.node;
         self.put_pieces(n, site.layout.pub_from, &site.text, items)?;
@@ -108,9 +109,10 @@ impl<B: Bus, T: Tag> Running<B, T> {
             → site.layout.pub_from + length site.text ≤ 65536 }
         requires sites { length sites.now ≤ 256 }
         requires devices { length plan.now.app.devices.items ≤ 256 }
-        ensures { Does (setting T.mac (deployed_as plan.now) sites.now) result
+        ensures { DoesAct (setting T.mac (deployed_as plan.now) sites.now) result
             self.old self.new items.old.items items.new.items
-            (λ w. run.load (setting T.mac (deployed_as plan.now) sites.now) w (slice_get sites.now m)) }
+            (λ w. run.load (setting T.mac (deployed_as plan.now) sites.now) w
+            (slice_get sites.now m)) }
     {
         let site = &sites[usize::from(m)];
         if self.is_idle(site.node) {

@@ -1,13 +1,15 @@
 //! What a step of a node shows: its touches in their order, and then its event.
 
-ghost use Rattle.std.specs.Prelude.{◌≡◌, ◌≤◌, ◌++◌, ◌∷◌, [], List, length, slice_index, true, Some, OnOk, OnErr};
+ghost use Rattle.std.specs.Prelude.{◌≡◌, ◌≤◌, ◌++◌, ◌∷◌, [], List, length, slice_index, true, Some};
+ghost use Rattle.std.specs.Prelude.{OnOk, OnErr};
 ghost use Rattle.std.specs.List.{list_any};
 ghost use Rattle.sx_trace.specs.declared.items.Item.TheVariants.{Done};
 ghost use Rattle.sx_mean.specs.View.{app_as};
 ghost use Rattle.sx_ledger.specs.Made.{Made};
 ghost use Rattle.sx_deploy.specs.SeenDeployment.{deployed_as};
 ghost use Rattle.sx_world.specs.Held.{IsFront, Observes, ObservesFront, setting};
-ghost use Rattle.sx_world.specs.Observation.{cause_of, event_seen, observed, protect_item, read_item, touch_items, write_item};
+ghost use Rattle.sx_world.specs.Observation.{cause_of, event_seen, observed, protect_item};
+ghost use Rattle.sx_world.specs.Observation.{read_item, touch_items, write_item};
 ghost use Rattle.sx_world.specs.Computed.{author, is_own, is_touch, runner_of, tells};
 
 use crate::devices::{device_number, is_driver};
@@ -131,7 +133,8 @@ fn add_touch(
     items: &mut Vec<Item>,
 ) -> Result<(), AllocError>
     requires { length app.now.devices.items ≤ 256 }
-    ensures ok { OnOk result (items.new.items ≡ items.old.items ++ touch_items (app_as app.now) n runner (touch ∷ [])) }
+    ensures ok { OnOk result (items.new.items ≡ items.old.items
+        ++ touch_items (app_as app.now) n runner (touch ∷ [])) }
     ensures err { OnErr result (items.new.items ≡ items.old.items) }
 {
     match touch {
@@ -155,8 +158,10 @@ fn add_touches(
     items: &mut Vec<Item>,
 ) -> Result<(), AllocError>
     requires { length app.now.devices.items ≤ 256 }
-    ensures ok { OnOk result (items.new.items ≡ items.old.items ++ touch_items (app_as app.now) n runner touches.now) }
-    ensures front { OnErr result (IsFront items.new.items (items.old.items ++ touch_items (app_as app.now) n runner touches.now)) }
+    ensures ok { OnOk result (items.new.items ≡ items.old.items
+        ++ touch_items (app_as app.now) n runner touches.now) }
+    ensures front { OnErr result (IsFront items.new.items
+        (items.old.items ++ touch_items (app_as app.now) n runner touches.now)) }
 {
     for touch in touches {
         add_touch(app, n, runner, *touch, items)?;
@@ -203,9 +208,11 @@ fn add_own_event<B: Bus, T: Tag>(
 ) -> Result<(), AllocError>
     requires { is_own event ≡ true }
     ensures done { OnOk result (Observes ledger.old ledger.new items.old.items items.new.items
-        (λ list. event_seen (setting T.mac (deployed_as plan.now) sites.now) n (Some m) node.now list event)) }
+        (λ list. event_seen (setting T.mac (deployed_as plan.now) sites.now) n (Some m) node.now
+        list event)) }
     ensures front { OnErr result (ObservesFront ledger.old items.old.items items.new.items
-        (λ list. event_seen (setting T.mac (deployed_as plan.now) sites.now) n (Some m) node.now list event)) }
+        (λ list. event_seen (setting T.mac (deployed_as plan.now) sites.now) n (Some m) node.now
+        list event)) }
 {
     match event {
         Event::Wrapped(_) => add_wrapped(m, node.boot(), node.exchange(), items, ledger),
@@ -235,9 +242,11 @@ fn add_event<B: Bus, T: Tag>(
 ) -> Result<(), AllocError>
     requires { length sites.now ≤ 256 }
     ensures done { OnOk result (Observes ledger.old ledger.new items.old.items items.new.items
-        (λ list. event_seen (setting T.mac (deployed_as plan.now) sites.now) n runner node.now list event)) }
+        (λ list. event_seen (setting T.mac (deployed_as plan.now) sites.now) n runner node.now list
+        event)) }
     ensures front { OnErr result (ObservesFront ledger.old items.old.items items.new.items
-        (λ list. event_seen (setting T.mac (deployed_as plan.now) sites.now) n runner node.now list event)) }
+        (λ list. event_seen (setting T.mac (deployed_as plan.now) sites.now) n runner node.now list
+        event)) }
 {
     match event {
         Event::Quiet | Event::Removed(_) => Ok(()),

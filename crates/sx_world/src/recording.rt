@@ -1,13 +1,15 @@
 //! What a deployed module's wraps and unwraps show, and the ledger's entries of them.
 
-ghost use Rattle.std.specs.Prelude.{◌≡◌, ◌+◌, ◌*◌, ◌≤◌, ◌++◌, ◌∷◌, [], List, length, slice_get, OnOk, OnErr};
+ghost use Rattle.std.specs.Prelude.{◌≡◌, ◌+◌, ◌*◌, ◌≤◌, ◌++◌, ◌∷◌, [], List, length, slice_get};
+ghost use Rattle.std.specs.Prelude.{OnOk, OnErr};
 ghost use Rattle.sx_world.specs.Computed.{at_side, is_held};
 ghost use Rattle.sx_trace.specs.declared.items.Item.TheVariants.{Open, Take};
 ghost use Rattle.sx_ledger.specs.Made.{Made, made};
 ghost use Rattle.sx_mean.specs.View.{app_as};
 ghost use Rattle.sx_world.specs.Held.{Records, IsFront, Observes, ObservesFront};
 ghost use Rattle.sx_world.specs.Ledger.{body_of, header_of, is_made};
-ghost use Rattle.sx_world.specs.Observation.{has_end, has_unwrapped, has_wrapped, sender_of, side_in, unless_made};
+ghost use Rattle.sx_world.specs.Observation.{has_end, has_unwrapped, has_wrapped, sender_of};
+ghost use Rattle.sx_world.specs.Observation.{side_in, unless_made};
 ghost use Rattle.sx_world.specs.Wire.{epoch_in, last_in, link_in, value_in};
 
 use crate::headers::{
@@ -60,7 +62,8 @@ pub(crate) fn is_made(
 ) -> bool
     requires header { length header.now ≤ 32 }
     requires body { length body.now ≤ 32 }
-    ensures { (list : List Made) → Records ledger.now list → result ≡ is_made list (made maker target boot header.now body.now) }
+    ensures { (list : List Made) → Records ledger.now list
+        → result ≡ is_made list (made maker target boot header.now body.now) }
 {
     ledger.is_made(&Entry::new(maker, target, boot, header, body))
 }
@@ -76,7 +79,8 @@ pub(crate) fn record(
 ) -> Result<(), AllocError>
     requires header { length header.now ≤ 32 }
     requires body { length body.now ≤ 32 }
-    ensures { OnOk result ((list : List Made) → Records ledger.old list → Records ledger.new (list ++ made maker target boot header.now body.now ∷ [])) }
+    ensures { OnOk result ((list : List Made) → Records ledger.old list
+        → Records ledger.new (list ++ made maker target boot header.now body.now ∷ [])) }
 {
     ledger.made(Entry::new(maker, target, boot, header, body))
 }
@@ -89,8 +93,10 @@ pub(crate) fn add_wrapped(
     items: &mut Vec<Item>,
     ledger: &mut Ledger,
 ) -> Result<(), AllocError>
-    ensures done { OnOk result (Observes ledger.old ledger.new items.old.items items.new.items (has_wrapped m boot (header_of x.now) (body_of x.now) x.now.own_key)) }
-    ensures front { OnErr result (ObservesFront ledger.old items.old.items items.new.items (has_wrapped m boot (header_of x.now) (body_of x.now) x.now.own_key)) }
+    ensures done { OnOk result (Observes ledger.old ledger.new items.old.items items.new.items
+        (has_wrapped m boot (header_of x.now) (body_of x.now) x.now.own_key)) }
+    ensures front { OnErr result (ObservesFront ledger.old items.old.items items.new.items
+        (has_wrapped m boot (header_of x.now) (body_of x.now) x.now.own_key)) }
 {
     let header = header_of(x);
     let body = body_of(x);
@@ -118,7 +124,8 @@ pub(crate) fn add_unless_made(
     item: Item,
 ) -> Result<(), AllocError>
     ensures ok { OnOk result (items.new.items ≡ items.old.items ++ unless_made who made item) }
-    ensures front { OnErr result (IsFront items.new.items (items.old.items ++ unless_made who made item)) }
+    ensures front { OnErr result (IsFront items.new.items
+        (items.old.items ++ unless_made who made item)) }
 {
     if made {
         return add(items, item);
@@ -175,9 +182,11 @@ pub(crate) fn add_unwrapped(
     ledger: &Ledger,
 ) -> Result<(), AllocError>
     ensures done { OnOk result ((list : List Made) → Records ledger.now list
-        → items.new.items ≡ items.old.items ++ has_unwrapped (app_as app.now) m boot (header_of x.now) (body_of x.now) list) }
+        → items.new.items ≡ items.old.items ++ has_unwrapped (app_as app.now) m boot
+        (header_of x.now) (body_of x.now) list) }
     ensures front { OnErr result ((list : List Made) → Records ledger.now list
-        → IsFront items.new.items (items.old.items ++ has_unwrapped (app_as app.now) m boot (header_of x.now) (body_of x.now) list)) }
+        → IsFront items.new.items (items.old.items
+        ++ has_unwrapped (app_as app.now) m boot (header_of x.now) (body_of x.now) list)) }
 {
     let header = header_of(x);
     let body = body_of(x);
@@ -207,7 +216,8 @@ fn opened(m: u8, header: &[u8]) -> Item
 
 fn taken(m: u8, header: &[u8], body: &[u8]) -> Item
     requires { length header.now ≡ 6 }
-    ensures { result ≡ Take m (link_in header.now) (65536 * epoch_in header.now + last_in header.now) (value_in body.now) }
+    ensures { result ≡ Take m (link_in header.now)
+        (65536 * epoch_in header.now + last_in header.now) (value_in body.now) }
 {
     Item::Take {
         module: m,

@@ -1,7 +1,7 @@
 //! Registers that are set together.
 
 ghost use Rattle.std.specs.Prelude.{◌≡◌, ◌<◌, length};
-ghost use Rattle.sx_world.specs.Held.{Does, boots_of};
+ghost use Rattle.sx_world.specs.Held.{DoesAct, boots_of};
 ghost use Rattle.sx_world.specs.Loading.{AreSettable};
 ghost use Rattle.sx_world.specs.Run as run;
 ghost use Rattle.sx_world.specs.Setting.{Setting};
@@ -47,7 +47,8 @@ impl<B: Bus, T: Tag> Running<B, T> {
     ) -> Result<(), AllocError>
         requires node { n < length self.old.nodes }
         requires settable { AreSettable registers.now }
-        ensures does { (set : Setting) → Does set result self.old self.new items.old.items items.new.items
+        ensures does { (set : Setting) → DoesAct set result self.old self.new items.old.items
+            items.new.items
             (run.set_all n registers.now) }
         ensures boots { boots_of self.new.nodes ≡ boots_of self.old.nodes }
         ensures steps { self.new.steps ≡ self.old.steps }

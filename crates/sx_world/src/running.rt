@@ -46,7 +46,14 @@ impl<B: Bus, T: Tag> Running<B, T> {
         nodes: Vec<Node<B, T>>,
         deployer: Deployer,
     ) -> Running<B, T>
-        ensures { result ≡ record { nodes = nodes.items; packets = []; deployer = deployer; ledger = []; steps = 0 } }
+        ensures { result ≡ record {
+          nodes = nodes.items;
+          packets = [];
+          deployer = deployer;
+          ledger =
+              [];
+          steps = 0;
+        } }
     {
         Running {
             alloc,

@@ -16,8 +16,10 @@ pub(crate) fn add_packet(
 ) -> Result<(), AllocError>
     requires few { length packets.old.items < 4294967295 }
     requires short { length bytes.now < 65536 }
-    ensures packet { OnOk result (map (λ p. p.items) packets.new.items ≡ map (λ p. p.items) packets.old.items ++ bytes.now ∷ []) }
-    ensures ok { OnOk result (items.new.items ≡ items.old.items ++ Packet (length packets.old.items) (length bytes.now) ∷ []) }
+    ensures packet { OnOk result (map (λ p. p.items) packets.new.items
+        ≡ map (λ p. p.items) packets.old.items ++ bytes.now ∷ []) }
+    ensures ok { OnOk result (items.new.items ≡ items.old.items
+        ++ Packet (length packets.old.items) (length bytes.now) ∷ []) }
     ensures err { OnErr result (items.new.items ≡ items.old.items) }
 {
     let number = packets.len() as u32;

@@ -1,11 +1,11 @@
 //! The line `sense`: a sensor takes a sample.
 
 ghost use Rattle.std.specs.Prelude.{◌≡◌, ℕ, ◌<◌, List, length, slice_get, Some, true};
-ghost use Rattle.sx_deploy.specs.Law.{IsSound};
+ghost use Rattle.sx_deploy.specs.Law.{IsSoundDeployment};
 ghost use Rattle.sx_deploy.specs.SeenDeployment.{deployed_as};
 ghost use Rattle.sx_machine.specs.Node.{shapes};
 ghost use Rattle.sx_machine.specs.State.{State};
-ghost use Rattle.sx_world.specs.Held.{Does, setting};
+ghost use Rattle.sx_world.specs.Held.{DoesAct, setting};
 ghost use Rattle.sx_world.specs.Run.{sense_at};
 ghost use Rattle.sx_world.specs.Setting.{Site, windows_at};
 
@@ -27,15 +27,16 @@ impl<B: Bus, T: Tag> Running<B, T> {
         value: u16,
         items: &mut Vec<Item>,
     ) -> Result<(), AllocError>
-        requires sound { IsSound (deployed_as plan.now) }
+        requires sound { IsSoundDeployment (deployed_as plan.now) }
         requires windows { (n : ℕ) (s : State) → slice_get self.old.nodes n ≡ Some s
             → shapes s.devices ≡ windows_at n plan.now.app.devices.items plan.now.places.items }
         requires device { d < length plan.now.app.devices.items }
         requires sensor { slice_get (deployed_as plan.now).names.sensors d ≡ Some true }
         requires value { value < 32768 }
-        ensures { (sites : List Site) → Does (setting T.mac (deployed_as plan.now) sites) result
+        ensures { (sites : List Site) → DoesAct (setting T.mac (deployed_as plan.now) sites) result
             self.old self.new items.old.items items.new.items
-            (λ w. sense_at (setting T.mac (deployed_as plan.now) sites) w d value (slice_get plan.now.app.devices.items d)) }
+            (λ w. sense_at (setting T.mac (deployed_as plan.now) sites) w d value
+            (slice_get plan.now.app.devices.items d)) }
     {
         let n = plan.app.devices[usize::from(d)].node;
         if usize::from(n) >= self.nodes.len() {

@@ -1,7 +1,8 @@
 //! Where the deployed modules stand, and which of them a section of a node is.
 
-ghost use Rattle.std.specs.Prelude.{◌≡◌, ◌+◌, ◌-◌, ◌<◌, ◌≤◌, length, map, slice_get, bytes_eq, Some, IfOk};
-ghost use Rattle.sx_deploy.specs.Law.{IsSound};
+ghost use Rattle.std.specs.Prelude.{◌≡◌, ◌+◌, ◌-◌, ◌<◌, ◌≤◌, length, map, slice_get, bytes_eq};
+ghost use Rattle.std.specs.Prelude.{Some, IfOk};
+ghost use Rattle.sx_deploy.specs.Law.{IsSoundDeployment};
 ghost use Rattle.sx_deploy.specs.SeenDeployment.{deployed_as};
 ghost use Rattle.sx_machine.specs.Memory.{bytes_from};
 ghost use Rattle.sx_world.specs.Accepted.{sites_of};
@@ -34,7 +35,13 @@ impl Model for Site {
 
     ghost Value = { Placed };
 
-    ghost view = { λ s. record { node = s.node; layout = s.layout; provider = s.provider; text = s.text.items } };
+    ghost view = { λ s. record {
+      node = s.node;
+      layout = s.layout;
+      provider = s.provider;
+      text =
+          s.text.items;
+    } };
 }
 
 fn same_layout(a: &Layout, b: &Layout) -> bool
@@ -62,7 +69,8 @@ fn has_bytes<B: Bus, T: Tag>(node: &Node<B, T>, at: u16, bytes: &[u8]) -> bool
 
 /// Whether the public section of this layout holds the text.
 fn has_text<B: Bus, T: Tag>(node: &Node<B, T>, layout: &Layout, text: &[u8]) -> bool
-    ensures { result ≡ bytes_eq (bytes_from node.now.mem layout.now.pub_from (layout.now.pub_to - layout.now.pub_from)) text.now }
+    ensures { result ≡ bytes_eq (bytes_from node.now.mem layout.now.pub_from
+        (layout.now.pub_to - layout.now.pub_from)) text.now }
 {
     let count = layout.pub_to.saturating_sub(layout.pub_from);
     usize::from(count) == text.len() && has_bytes(node, layout.pub_from, text)
@@ -109,10 +117,11 @@ pub(crate) fn module_of<B: Bus, T: Tag>(
 
 /// The site of the m-th module, with the text of its image.
 fn site_at(alloc: Global, plan: &Deployment, images: &[Image], m: usize) -> Result<Site, AllocError>
-    requires sound { IsSound (deployed_as plan.now) }
+    requires sound { IsSoundDeployment (deployed_as plan.now) }
     requires images { length images.now ≡ length plan.now.app.parts.items }
     requires part { m < length images.now }
-    ensures { IfOk result (λ site. slice_get (sites_of (deployed_as plan.now).app.parts (deployed_as plan.now).layouts
+    ensures { IfOk result (λ site. slice_get (sites_of (deployed_as plan.now).app.parts
+        (deployed_as plan.now).layouts
         (deployed_as plan.now).providers (map (λ i. i.text.items) images.now)) m ≡ Some site) }
 {
     Ok(Site {
@@ -129,9 +138,10 @@ pub(crate) fn sites_of(
     plan: &Deployment,
     images: &[Image],
 ) -> Result<Vec<Site>, AllocError>
-    requires sound { IsSound (deployed_as plan.now) }
+    requires sound { IsSoundDeployment (deployed_as plan.now) }
     requires images { length images.now ≡ length plan.now.app.parts.items }
-    ensures { IfOk result (λ sites. sites.items ≡ sites_of (deployed_as plan.now).app.parts (deployed_as plan.now).layouts
+    ensures { IfOk result (λ sites. sites.items ≡ sites_of (deployed_as plan.now).app.parts
+        (deployed_as plan.now).layouts
         (deployed_as plan.now).providers (map (λ i. i.text.items) images.now)) }
 {
     let mut sites = Vec::new(alloc);

@@ -1,13 +1,14 @@
 //! Instructions of a node, one after the other.
 
-ghost use Rattle.std.specs.Prelude.{◌≡◌, ◌==◌, ◌&&◌, ◌||◌, ℕ, ◌+◌, ◌<◌, ◌≤◌, length, slice_get, slice_set, Some, IfOk, OnOk, OnErr};
+ghost use Rattle.std.specs.Prelude.{◌≡◌, ◌==◌, ◌&&◌, ◌||◌, ℕ, ◌+◌, ◌<◌, ◌≤◌, length, slice_get};
+ghost use Rattle.std.specs.Prelude.{slice_set, Some, IfOk, OnOk, OnErr};
 ghost use Rattle.std.specs.Option.{option_to_list};
 ghost use Rattle.sx_deploy.specs.SeenDeployment.{deployed_as};
 ghost use Rattle.sx_machine.specs.State.{State};
 ghost use Rattle.sx_machine.specs.Step.{step};
 ghost use Rattle.sx_machine.specs.Acts.{irq};
-ghost use Rattle.sx_world.specs.Acts.{at_node, interrupted, stepped};
-ghost use Rattle.sx_world.specs.Held.{Did, Does, Wanted, setting};
+ghost use Rattle.sx_world.specs.Acts.{at_node, after_interrupt, after_step};
+ghost use Rattle.sx_world.specs.Held.{Did, DoesAct, Wanted, setting};
 ghost use Rattle.sx_world.specs.Run as run;
 ghost use Rattle.sx_world.specs.Run.{FINISH_STEPS, is_reset, steps_of};
 
@@ -40,7 +41,8 @@ fn finish_steps() -> u32
 fn step_node<B: Bus, T: Tag>(nodes: &mut [Node<B, T>], n: u8) -> Seen
     requires node { n < length nodes.old }
     requires boot { (s : State) → slice_get nodes.old n ≡ Some s → s.boot < 4294967295 }
-    ensures nodes { (s : State) → slice_get nodes.old n ≡ Some s → nodes.new ≡ slice_set nodes.old n (step T.mac s).state }
+    ensures nodes { (s : State) → slice_get nodes.old n ≡ Some s
+        → nodes.new ≡ slice_set nodes.old n (step T.mac s).state }
     ensures seen { (s : State) → slice_get nodes.old n ≡ Some s → result ≡ (step T.mac s).shown }
 {
     nodes[usize::from(n)].step()
@@ -50,7 +52,8 @@ fn irq_node<B: Bus, T: Tag>(nodes: &mut [Node<B, T>], n: u8, line: u8) -> Result
     requires node { n < length nodes.old }
     requires line { line ≤ 14 }
     requires boot { (s : State) → slice_get nodes.old n ≡ Some s → s.boot < 4294967295 }
-    ensures nodes { (s : State) → slice_get nodes.old n ≡ Some s → nodes.new ≡ slice_set nodes.old n (irq s line).state }
+    ensures nodes { (s : State) → slice_get nodes.old n ≡ Some s
+        → nodes.new ≡ slice_set nodes.old n (irq s line).state }
     ensures answer { (s : State) → slice_get nodes.old n ≡ Some s → (irq s line).shown ≡ result }
 {
     nodes[usize::from(n)].irq(line)
@@ -71,10 +74,14 @@ impl<B: Bus, T: Tag> Running<B, T> {
         requires boot { (s : State) → slice_get self.old.nodes n ≡ Some s → s.boot < 4294967295 }
         requires sites { length sites.now ≤ 256 }
         requires devices { length plan.now.app.devices.items ≤ 256 }
-        ensures done { OnOk result (Did (setting T.mac (deployed_as plan.now) sites.now) self.old self.new items.old.items items.new.items
-            (λ w. at_node w (λ s. interrupted (setting T.mac (deployed_as plan.now) sites.now) w n (irq s line).state (irq s line).shown) (slice_get w.nodes n))) }
-        ensures front { OnErr result (Wanted (setting T.mac (deployed_as plan.now) sites.now) self.old items.old.items items.new.items
-            (λ w. at_node w (λ s. interrupted (setting T.mac (deployed_as plan.now) sites.now) w n (irq s line).state (irq s line).shown) (slice_get w.nodes n))) }
+        ensures done { OnOk result (Did (setting T.mac (deployed_as plan.now) sites.now) self.old
+            self.new items.old.items items.new.items
+            (λ w. at_node w (λ s. after_interrupt (setting T.mac (deployed_as plan.now) sites.now) w
+            n (irq s line).state (irq s line).shown) (slice_get w.nodes n))) }
+        ensures front { OnErr result (Wanted (setting T.mac (deployed_as plan.now) sites.now)
+            self.old items.old.items items.new.items
+            (λ w. at_node w (λ s. after_interrupt (setting T.mac (deployed_as plan.now) sites.now) w
+            n (irq s line).state (irq s line).shown) (slice_get w.nodes n))) }
     {
         match irq_node(&mut self.nodes, n, line) {
             Ok(seen) => {
@@ -98,12 +105,18 @@ impl<B: Bus, T: Tag> Running<B, T> {
         requires steps { self.old.steps < 18446744073709551615 }
         requires sites { length sites.now ≤ 256 }
         requires devices { length plan.now.app.devices.items ≤ 256 }
-        ensures done { OnOk result (Did (setting T.mac (deployed_as plan.now) sites.now) self.old self.new items.old.items items.new.items
-            (λ w. at_node w (stepped (setting T.mac (deployed_as plan.now) sites.now) w n) (slice_get w.nodes n))) }
-        ensures front { OnErr result (Wanted (setting T.mac (deployed_as plan.now) sites.now) self.old items.old.items items.new.items
-            (λ w. at_node w (stepped (setting T.mac (deployed_as plan.now) sites.now) w n) (slice_get w.nodes n))) }
-        ensures nodes { (s : State) → slice_get self.old.nodes n ≡ Some s → self.new.nodes ≡ slice_set self.old.nodes n (step T.mac s).state }
-        ensures event { IfOk result (λ event. (s : State) → slice_get self.old.nodes n ≡ Some s → event ≡ (step T.mac s).shown.event) }
+        ensures done { OnOk result (Did (setting T.mac (deployed_as plan.now) sites.now) self.old
+            self.new items.old.items items.new.items
+            (λ w. at_node w (after_step (setting T.mac (deployed_as plan.now) sites.now) w n)
+            (slice_get w.nodes n))) }
+        ensures front { OnErr result (Wanted (setting T.mac (deployed_as plan.now) sites.now)
+            self.old items.old.items items.new.items
+            (λ w. at_node w (after_step (setting T.mac (deployed_as plan.now) sites.now) w n)
+            (slice_get w.nodes n))) }
+        ensures nodes { (s : State) → slice_get self.old.nodes n ≡ Some s
+            → self.new.nodes ≡ slice_set self.old.nodes n (step T.mac s).state }
+        ensures event { IfOk result (λ event. (s : State) → slice_get self.old.nodes n ≡ Some s
+            → event ≡ (step T.mac s).shown.event) }
         ensures steps { self.new.steps ≡ self.old.steps + 1 }
     {
         let seen = step_node(&mut self.nodes, n);
@@ -117,7 +130,8 @@ impl<B: Bus, T: Tag> Running<B, T> {
     /// Whether no further step follows one that showed this event.
     fn ends(&self, n: u8, idle: bool, event: Event) -> bool
         requires { n < length self.now.nodes }
-        ensures { (s : State) → slice_get self.now.nodes n ≡ Some s → result ≡ (is_reset event || (idle && (s.cur == 0))) }
+        ensures { (s : State) → slice_get self.now.nodes n ≡ Some s
+            → result ≡ (is_reset event || (idle && (s.cur == 0))) }
     {
         is_reset(event) || (idle && self.nodes[usize::from(n)].running() == 0)
     }
@@ -147,10 +161,14 @@ impl<B: Bus, T: Tag> Running<B, T> {
         requires steps { self.old.steps + count ≤ 18446744073709551615 }
         requires sites { length sites.now ≤ 256 }
         requires devices { length plan.now.app.devices.items ≤ 256 }
-        ensures done { OnOk result (Did (setting T.mac (deployed_as plan.now) sites.now) self.old self.new items.old.items items.new.items
-            (steps_of (setting T.mac (deployed_as plan.now) sites.now) (λ s. idle && (s.cur == 0)) (option_to_list end) n count)) }
-        ensures front { OnErr result (Wanted (setting T.mac (deployed_as plan.now) sites.now) self.old items.old.items items.new.items
-            (steps_of (setting T.mac (deployed_as plan.now) sites.now) (λ s. idle && (s.cur == 0)) (option_to_list end) n count)) }
+        ensures done { OnOk result (Did (setting T.mac (deployed_as plan.now) sites.now) self.old
+            self.new items.old.items items.new.items
+            (steps_of (setting T.mac (deployed_as plan.now) sites.now)
+            (λ s. idle && (s.cur == 0)) (option_to_list end) n count)) }
+        ensures front { OnErr result (Wanted (setting T.mac (deployed_as plan.now) sites.now)
+            self.old items.old.items items.new.items
+            (steps_of (setting T.mac (deployed_as plan.now) sites.now)
+            (λ s. idle && (s.cur == 0)) (option_to_list end) n count)) }
     {
         for done in 0..count {
             let event = self.step(plan, sites, n, items)?;
@@ -177,7 +195,8 @@ impl<B: Bus, T: Tag> Running<B, T> {
         requires steps { self.old.steps + FINISH_STEPS ≤ 18446744073709551615 }
         requires sites { length sites.now ≤ 256 }
         requires devices { length plan.now.app.devices.items ≤ 256 }
-        ensures { Does (setting T.mac (deployed_as plan.now) sites.now) result self.old self.new items.old.items items.new.items
+        ensures { DoesAct (setting T.mac (deployed_as plan.now) sites.now) result self.old self.new
+            items.old.items items.new.items
             (run.finish (setting T.mac (deployed_as plan.now) sites.now) n) }
     {
         let budget = Item::Budget { node: n };

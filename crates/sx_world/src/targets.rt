@@ -17,7 +17,8 @@ use sx_tag::layout_bytes;
 /// The identity of the module at a site: its text, and then its layout.
 #[tactic(auto, unfolding(sx_tag::specs::Keys::identity))]
 fn identity(alloc: Global, site: &Site) -> Result<Vec<u8>, AllocError>
-    ensures { IfOk result (λ bytes. bytes.items ≡ identity site.now.text site.now.layout.pub_from site.now.layout.pub_to
+    ensures { IfOk result (λ bytes. bytes.items ≡ identity site.now.text site.now.layout.pub_from
+        site.now.layout.pub_to
         site.now.layout.priv_from site.now.layout.priv_to) }
 {
     let l = &site.layout;
@@ -35,9 +36,12 @@ fn target_at(
 ) -> Result<Target, AllocError>
     requires links { length plan.now.app.links.items ≤ 256 }
     requires few { length sites.now ≤ 256 }
-    requires nodes { (k : ℕ) (site : Placed) → slice_get sites.now k ≡ Some site → site.node < length plan.now.keys.items }
+    requires nodes { (k : ℕ) (site : Placed) → slice_get sites.now k ≡ Some site
+        → site.node < length plan.now.keys.items }
     requires site { m < length sites.now }
-    ensures { IfOk result (λ t. (mac : Mac) → slice_get (targets_from (setting mac (deployed_as plan.now) sites.now) 0 sites.now) m ≡ Some (known t)) }
+    ensures { IfOk result (λ t. (mac : Mac) → slice_get
+        (targets_from (setting mac (deployed_as plan.now) sites.now) 0 sites.now) m
+        ≡ Some (known t)) }
 {
     let site = &sites[m];
     Ok(Target {
@@ -56,8 +60,11 @@ pub(crate) fn targets_of(
 ) -> Result<Vec<Target>, AllocError>
     requires links { length plan.now.app.links.items ≤ 256 }
     requires few { length sites.now ≤ 256 }
-    requires nodes { (k : ℕ) (site : Placed) → slice_get sites.now k ≡ Some site → site.node < length plan.now.keys.items }
-    ensures { IfOk result (λ targets. (mac : Mac) → map known targets.items ≡ targets_from (setting mac (deployed_as plan.now) sites.now) 0 sites.now) }
+    requires nodes { (k : ℕ) (site : Placed) → slice_get sites.now k ≡ Some site
+        → site.node < length plan.now.keys.items }
+    ensures { IfOk result (λ targets. (mac : Mac)
+        → map known targets.items ≡ targets_from (setting mac (deployed_as plan.now) sites.now) 0
+        sites.now) }
 {
     let mut targets = Vec::new(alloc);
     for m in 0..sites.len() {

@@ -1,6 +1,7 @@
 //! What is done to a node from outside, and the item of a refusal.
 
-ghost use Rattle.std.specs.Prelude.{◌≡◌, ◌≢◌, ℕ, ◌<◌, ◌++◌, ◌∷◌, [], List, length, slice_get, slice_set, Some, Ok, Err, OnOk, OnErr, IfSome, IfErr};
+ghost use Rattle.std.specs.Prelude.{◌≡◌, ◌≢◌, ℕ, ◌<◌, ◌++◌, ◌∷◌, [], List, length, slice_get};
+ghost use Rattle.std.specs.Prelude.{slice_set, Some, Ok, Err, OnOk, OnErr, IfSome, IfErr};
 ghost use Rattle.std.specs.Option.{option_to_list};
 ghost use Rattle.sx_bus.specs.declared.devices.Kind.TheVariants.{Sensor};
 ghost use Rattle.sx_machine.specs.State.{State};
@@ -38,7 +39,8 @@ pub(crate) fn add_answer(
     answer: Result<(), Refused>,
     items: &mut Vec<Item>,
 ) -> Result<(), AllocError>
-    ensures ok { OnOk result (items.new.items ≡ items.old.items ++ or_refused n (option_to_list item) answer) }
+    ensures ok { OnOk result (items.new.items ≡ items.old.items
+        ++ or_refused n (option_to_list item) answer) }
     ensures err { OnErr result (items.new.items ≡ items.old.items) }
 {
     match answer {
@@ -58,8 +60,10 @@ pub(crate) fn put_node<B: Bus, T: Tag>(
     bytes: &[u8],
 ) -> Result<(), Refused>
     requires { n < length nodes.old }
-    ensures nodes { (s : State) → slice_get nodes.old n ≡ Some s → nodes.new ≡ slice_set nodes.old n (acts.put s at bytes.now).state }
-    ensures answer { (s : State) → slice_get nodes.old n ≡ Some s → result ≡ (acts.put s at bytes.now).shown }
+    ensures nodes { (s : State) → slice_get nodes.old n ≡ Some s
+        → nodes.new ≡ slice_set nodes.old n (acts.put s at bytes.now).state }
+    ensures answer { (s : State) → slice_get nodes.old n ≡ Some s
+        → result ≡ (acts.put s at bytes.now).shown }
 {
     nodes[usize::from(n)].put(at, bytes)
 }
@@ -73,8 +77,10 @@ fn set_node<B: Bus, T: Tag>(
     requires node { n < length nodes.old }
     requires below { reg < 16 }
     requires settable { reg ≢ 3 }
-    ensures nodes { (s : State) → slice_get nodes.old n ≡ Some s → nodes.new ≡ slice_set nodes.old n (acts.set s reg value).state }
-    ensures answer { (s : State) → slice_get nodes.old n ≡ Some s → result ≡ (acts.set s reg value).shown }
+    ensures nodes { (s : State) → slice_get nodes.old n ≡ Some s
+        → nodes.new ≡ slice_set nodes.old n (acts.set s reg value).state }
+    ensures answer { (s : State) → slice_get nodes.old n ≡ Some s
+        → result ≡ (acts.set s reg value).shown }
 {
     nodes[usize::from(n)].set(reg, value)
 }
@@ -87,10 +93,13 @@ fn sense_node<B: Bus, T: Tag>(
 ) -> Result<(), Refused>
     requires node { n < length nodes.old }
     requires device { (s : State) → slice_get nodes.old n ≡ Some s → k < length s.devices }
-    requires sensor { (s : State) → slice_get nodes.old n ≡ Some s → IfSome (slice_get s.devices k) (λ window. window.kind ≡ Sensor) }
+    requires sensor { (s : State) → slice_get nodes.old n ≡ Some s
+        → IfSome (slice_get s.devices k) (λ window. window.kind ≡ Sensor) }
     requires value { value < 32768 }
-    ensures nodes { (s : State) → slice_get nodes.old n ≡ Some s → nodes.new ≡ slice_set nodes.old n (acts.sense s k value).state }
-    ensures answer { (s : State) → slice_get nodes.old n ≡ Some s → result ≡ (acts.sense s k value).shown }
+    ensures nodes { (s : State) → slice_get nodes.old n ≡ Some s
+        → nodes.new ≡ slice_set nodes.old n (acts.sense s k value).state }
+    ensures answer { (s : State) → slice_get nodes.old n ≡ Some s
+        → result ≡ (acts.sense s k value).shown }
 {
     nodes[usize::from(n)].sense(k, value)
 }
@@ -98,7 +107,8 @@ fn sense_node<B: Bus, T: Tag>(
 fn reset_node<B: Bus, T: Tag>(nodes: &mut [Node<B, T>], n: u8)
     requires node { n < length nodes.old }
     requires boot { (s : State) → slice_get nodes.old n ≡ Some s → s.boot < 4294967295 }
-    ensures { (s : State) → slice_get nodes.old n ≡ Some s → nodes.new ≡ slice_set nodes.old n (state.reset s) }
+    ensures { (s : State) → slice_get nodes.old n ≡ Some s
+        → nodes.new ≡ slice_set nodes.old n (state.reset s) }
 {
     nodes[usize::from(n)].reset();
 }
@@ -113,9 +123,11 @@ impl<B: Bus, T: Tag> Running<B, T> {
         items: &mut Vec<Item>,
     ) -> Result<(), AllocError>
         requires { n < length self.old.nodes }
-        ensures done { OnOk result ((set : Setting) → Did set self.old self.new items.old.items items.new.items
+        ensures done { OnOk result ((set : Setting)
+            → Did set self.old self.new items.old.items items.new.items
             (run.put_on n at bytes.now)) }
-        ensures front { OnErr result ((set : Setting) → Wanted set self.old items.old.items items.new.items
+        ensures front { OnErr result ((set : Setting)
+            → Wanted set self.old items.old.items items.new.items
             (run.put_on n at bytes.now)) }
         ensures boots { boots_of self.new.nodes ≡ boots_of self.old.nodes }
         ensures steps { self.new.steps ≡ self.old.steps }
@@ -135,9 +147,11 @@ impl<B: Bus, T: Tag> Running<B, T> {
         requires node { n < length self.old.nodes }
         requires below { reg < 16 }
         requires settable { reg ≢ 3 }
-        ensures done { OnOk result ((set : Setting) → Did set self.old self.new items.old.items items.new.items
+        ensures done { OnOk result ((set : Setting)
+            → Did set self.old self.new items.old.items items.new.items
             (run.set_on n reg value)) }
-        ensures front { OnErr result ((set : Setting) → Wanted set self.old items.old.items items.new.items
+        ensures front { OnErr result ((set : Setting)
+            → Wanted set self.old items.old.items items.new.items
             (run.set_on n reg value)) }
         ensures boots { boots_of self.new.nodes ≡ boots_of self.old.nodes }
         ensures steps { self.new.steps ≡ self.old.steps }
@@ -150,10 +164,18 @@ impl<B: Bus, T: Tag> Running<B, T> {
     pub(crate) fn reset(&mut self, n: u8, items: &mut Vec<Item>) -> Result<(), AllocError>
         requires node { n < length self.old.nodes }
         requires boot { (s : State) → slice_get self.old.nodes n ≡ Some s → s.boot < 4294967295 }
-        ensures done { OnOk result ((set : Setting) → Did set self.old self.new items.old.items items.new.items
-            (λ w. at_node w (λ s. record { world = with_node w n (state.reset s) w.ledger w.steps; items = Reset n Asked ∷ [] }) (slice_get w.nodes n))) }
-        ensures front { OnErr result ((set : Setting) → Wanted set self.old items.old.items items.new.items
-            (λ w. at_node w (λ s. record { world = with_node w n (state.reset s) w.ledger w.steps; items = Reset n Asked ∷ [] }) (slice_get w.nodes n))) }
+        ensures done { OnOk result ((set : Setting)
+            → Did set self.old self.new items.old.items items.new.items
+            (λ w. at_node w (λ s. record {
+              world = with_node w n (state.reset s) w.ledger w.steps;
+              items = Reset n Asked ∷ [];
+            }) (slice_get w.nodes n))) }
+        ensures front { OnErr result ((set : Setting)
+            → Wanted set self.old items.old.items items.new.items
+            (λ w. at_node w (λ s. record {
+              world = with_node w n (state.reset s) w.ledger w.steps;
+              items = Reset n Asked ∷ [];
+            }) (slice_get w.nodes n))) }
     {
         reset_node(&mut self.nodes, n);
         add(
@@ -177,12 +199,17 @@ impl<B: Bus, T: Tag> Running<B, T> {
     ) -> Result<(), AllocError>
         requires node { n < length self.old.nodes }
         requires device { (s : State) → slice_get self.old.nodes n ≡ Some s → k < length s.devices }
-        requires sensor { (s : State) → slice_get self.old.nodes n ≡ Some s → IfSome (slice_get s.devices k) (λ window. window.kind ≡ Sensor) }
+        requires sensor { (s : State) → slice_get self.old.nodes n ≡ Some s
+            → IfSome (slice_get s.devices k) (λ window. window.kind ≡ Sensor) }
         requires value { value < 32768 }
-        ensures done { OnOk result ((set : Setting) → Did set self.old self.new items.old.items items.new.items
-            (λ w. at_node w (λ s. done_on w n (Sense d value ∷ []) (acts.sense s k value)) (slice_get w.nodes n))) }
-        ensures front { OnErr result ((set : Setting) → Wanted set self.old items.old.items items.new.items
-            (λ w. at_node w (λ s. done_on w n (Sense d value ∷ []) (acts.sense s k value)) (slice_get w.nodes n))) }
+        ensures done { OnOk result ((set : Setting)
+            → Did set self.old self.new items.old.items items.new.items
+            (λ w. at_node w (λ s. done_on w n (Sense d value ∷ []) (acts.sense s k value))
+            (slice_get w.nodes n))) }
+        ensures front { OnErr result ((set : Setting)
+            → Wanted set self.old items.old.items items.new.items
+            (λ w. at_node w (λ s. done_on w n (Sense d value ∷ []) (acts.sense s k value))
+            (slice_get w.nodes n))) }
     {
         let answer = sense_node(&mut self.nodes, n, k, value);
         add_answer(n, Some(Item::Sense { device: d, value }), answer, items)

@@ -1,12 +1,13 @@
 //! The world of a deployment: its modules' sites, and how its run stands.
 
-ghost use Rattle.std.specs.Prelude.{◌≡◌, ◌≢◌, ℕ, ◌+◌, ◌<◌, false, true, length, slice_get, IfOk, IsErr, OnOk, OnErr, IfSome, Option, option_map};
+ghost use Rattle.std.specs.Prelude.{◌≡◌, ◌≢◌, ℕ, ◌+◌, ◌<◌, false, true, length, slice_get, IfOk};
+ghost use Rattle.std.specs.Prelude.{IsErr, OnOk, OnErr, IfSome, Option, option_map};
 ghost use Rattle.sx_deploy.specs.Law as deployment;
 ghost use Rattle.sx_deploy.specs.SeenDeployment.{deployed_as};
 ghost use Rattle.sx_sched.specs.Lines.{IsLine, line_of};
 ghost use Rattle.sx_world.specs.Continued.{Acts, ActsInPart, StaysLegal};
 ghost use Rattle.sx_world.specs.InMemory.{image_setting, world_setting};
-ghost use Rattle.sx_world.specs.Law.{IsSound};
+ghost use Rattle.sx_world.specs.Law.{IsSoundSetting};
 ghost use Rattle.sx_world.specs.Standing.{IsGoing, Stands};
 ghost use Rattle.sx_world.specs.State.{nodes_from, switched_on};
 
@@ -57,7 +58,7 @@ impl<B: Bus, T: Tag> World<B, T> {
         images: &[Image],
         nodes: Vec<Node<B, T>>,
     ) -> Result<World<B, T>, AllocError>
-        requires sound { deployment.IsSound (deployed_as plan.now) }
+        requires sound { deployment.IsSoundDeployment (deployed_as plan.now) }
         requires images { length images.now ≡ length plan.now.app.parts.items }
         requires nodes { nodes.items
             ≡ nodes_from (image_setting T.mac plan.now images.now) 0 (deployed_as plan.now).keys }
@@ -89,8 +90,8 @@ impl<B: Bus, T: Tag> World<B, T> {
         line: &Line,
         items: &mut Vec<Item>,
     ) -> Result<(), AllocError>
-        requires sound { deployment.IsSound (deployed_as plan.now) }
-        requires images { IsSound (world_setting T.mac plan.now self.old) }
+        requires sound { deployment.IsSoundDeployment (deployed_as plan.now) }
+        requires images { IsSoundSetting (world_setting T.mac plan.now self.old) }
         requires going { IsGoing (world_setting T.mac plan.now self.old) self.old }
         requires few { self.old.lines < 65536 }
         requires form { IsLine (deployed_as plan.now).names (line_of line.now) }

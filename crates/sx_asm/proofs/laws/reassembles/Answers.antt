@@ -1,5 +1,5 @@
-use Rattle.sx_asm.proofs.ShownAgain.{again}
+use Rattle.sx_asm.proofs.Reassembles.{reassembles}
 use Rattle.sx_asm.proofs.laws.reassembles.Goals as goal
 
 pub returns : goal.returns
-returns c = again
+returns c = reassembles

@@ -1,4 +1,4 @@
-use Rattle.sx_compile.proofs.Realizes.{compiled_realizes}
+use Rattle.sx_compile.proofs.CompiledRealizes.{compiled_realizes}
 use Rattle.sx_compile.proofs.laws.compiled_realizes.Goals as goal
 
 pub returns : goal.returns

@@ -1,7 +1,7 @@
 use Rattle.std.proofs.Common.{ℕ, subst}
 use Rattle.sx_machine.specs.Registers.{at_pc, reg, incremented}
 use Rattle.sx_machine.specs.Rows.{in_memory}
-use Rattle.sx_executor.specs.Machine.{Machine, Runs}
+use Rattle.sx_executor.specs.Machine.{Machine, RunsPlan}
 use Rattle.sx_core.proofs.one_operand.in_place.Goals as goal
 
 pub returns-in-Indexed : goal.returns-in-Indexed
@@ -18,7 +18,7 @@ returns-in-Increment g c =
     let m = c.args.executor.now in
     let n : Machine = record m { regs = incremented c.args.wide m.regs c.in-Increment.r } in
     let From : ℕ → Machine → Type 0 =
-    λ at x. Runs (in_memory c.args.kind c.args.wide at (at_pc x.regs c.args.next)) x c.in_memory-in-Increment.result c.in_memory-in-Increment.new.executor in
+    λ at x. RunsPlan (in_memory c.args.kind c.args.wide at (at_pc x.regs c.args.next)) x c.in_memory-in-Increment.result c.in_memory-in-Increment.new.executor in
     let moved : From c.register-at-in-Increment.result n =
     subst (From c.register-at-in-Increment.result) c.increment.ensures c.in_memory-in-Increment.ensures in
     let runs : From (reg m.regs c.in-Increment.r) n = subst (λ (at : ℕ). From at n) c.register-at-in-Increment.ensures moved in

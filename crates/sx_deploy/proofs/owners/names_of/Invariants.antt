@@ -1,7 +1,7 @@
 use Rattle.std.proofs.Common.{map, take}
-use Rattle.sx_trace.specs.Index.{IsIndex}
+use Rattle.sx_trace.specs.Index.{IsNameIndex}
 use Rattle.sx_deploy.specs.declared.checks.CheckedModule.{CheckedModule}
 use Rattle.sx_deploy.proofs.owners.names_of.Given as goal
 
 abbrev pub invariant-loop-place : goal.invariant-loop-place
-invariant-loop-place l = IsIndex l.names (map (λ (m : CheckedModule). m.name) (take l.place l.modules))
+invariant-loop-place l = IsNameIndex l.names (map (λ (m : CheckedModule). m.name) (take l.place l.modules))

@@ -1,4 +1,4 @@
-use Rattle.sx_deployer.proofs.Shared.{renews_as_the_model}
+use Rattle.sx_deployer.proofs.RenewsAsTheModel.{renews_as_the_model}
 use Rattle.sx_deployer.proofs.laws.renews_as_the_model.Goals as goal
 
 pub returns : goal.returns

@@ -1,4 +1,4 @@
-use Rattle.sx_entries.proofs.Made.{entries_keep}
+use Rattle.sx_entries.proofs.EntriesKeep.{entries_keep}
 use Rattle.sx_entries.proofs.laws.entries_keep.Goals as goal
 
 pub returns : goal.returns

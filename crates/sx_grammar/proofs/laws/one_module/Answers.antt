@@ -1,4 +1,4 @@
-use Rattle.sx_grammar.proofs.CompleteModules as modules
+use Rattle.sx_grammar.proofs.OneModule as modules
 use Rattle.sx_grammar.proofs.laws.one_module.Goals as goal
 
 pub returns : goal.returns

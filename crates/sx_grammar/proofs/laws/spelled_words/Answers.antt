@@ -1,4 +1,4 @@
-use Rattle.sx_grammar.proofs.Words as words
+use Rattle.sx_grammar.proofs.SpelledWords as words
 use Rattle.sx_grammar.proofs.laws.spelled_words.Goals as goal
 
 pub returns : goal.returns

@@ -1,4 +1,4 @@
-use Rattle.sx_invoke.proofs.Tally.{pieces_marked}
+use Rattle.sx_invoke.proofs.PiecesMarked.{pieces_marked}
 use Rattle.sx_invoke.proofs.laws.pieces_marked.Goals as goal
 
 pub returns : goal.returns

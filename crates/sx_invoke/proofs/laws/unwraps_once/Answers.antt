@@ -1,4 +1,4 @@
-use Rattle.sx_invoke.proofs.Once.{unwraps_once}
+use Rattle.sx_invoke.proofs.UnwrapsOnce.{unwraps_once}
 use Rattle.sx_invoke.proofs.laws.unwraps_once.Goals as goal
 
 pub returns : goal.returns

@@ -1,7 +1,7 @@
 use Rattle.std.proofs.Common.{◌<◌, length, map, sym, ap, ◌∙◌, subst}
 use Rattle.sx_lang.specs.View.{handler_of}
 use Rattle.sx_check.specs.Source.{source_tree}
-use Rattle.sx_mean.specs.Places.{IsSized}
+use Rattle.sx_mean.specs.Places.{AreSizedDecls}
 use Rattle.sx_mean.proofs.Kept.{sized}
 use Rattle.sx_lower.specs.Lowered.{handlers_code, AreFew}
 use Rattle.sx_lower.proofs.Accepted.{few, short}
@@ -10,7 +10,7 @@ use Rattle.sx_lower.proofs.handlers.code_of.Goals as goal
 pub put_handlers-requires-clause-sized : goal.put_handlers-requires-clause-sized
 put_handlers-requires-clause-sized c =
     let decls = c.deref.ensures.value ∙ ap (λ t. t.decls.items) c.module-tree.ensures.tree in
-    subst IsSized (sym decls) (sized (source_tree c.args.m.now) c.module-tree.ensures.keeps)
+    subst AreSizedDecls (sym decls) (sized (source_tree c.args.m.now) c.module-tree.ensures.keeps)
 
 pub put_handlers-requires-clause-locals : goal.put_handlers-requires-clause-locals
 put_handlers-requires-clause-locals c =

@@ -1,5 +1,5 @@
-use Rattle.sx_machine.proofs.RunGuard.{act_guarded}
+use Rattle.sx_machine.proofs.RunGuard.{acts_guarded}
 use Rattle.sx_machine.proofs.laws.acts_guarded.Goals as goal
 
 pub returns : goal.returns
-returns c = act_guarded
+returns c = acts_guarded

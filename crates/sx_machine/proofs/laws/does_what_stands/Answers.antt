@@ -1,4 +1,4 @@
-use Rattle.sx_machine.proofs.Doing.{does_what_stands}
+use Rattle.sx_machine.proofs.DoesWhatStands.{does_what_stands}
 use Rattle.sx_machine.proofs.laws.does_what_stands.Goals as goal
 
 pub returns : goal.returns

@@ -1,4 +1,4 @@
-use Rattle.sx_machine.proofs.Public.{public_kept}
+use Rattle.sx_machine.proofs.PublicKept.{public_kept}
 use Rattle.sx_machine.proofs.laws.public_kept.Goals as goal
 
 pub returns : goal.returns

@@ -1,4 +1,4 @@
-use Rattle.sx_machine.proofs.Runs.{runs_by_table}
+use Rattle.sx_machine.proofs.RunsByTable.{runs_by_table}
 use Rattle.sx_machine.proofs.laws.runs_by_table.Goals as goal
 
 pub returns : goal.returns

@@ -1,4 +1,4 @@
-use Rattle.sx_mean.proofs.Valid as proved
+use Rattle.sx_mean.proofs.ValidApplications as proved
 use Rattle.sx_mean.proofs.laws.valid_applications.Goals as goal
 
 pub returns : goal.returns

@@ -1,4 +1,4 @@
-use Rattle.sx_model.proofs.Caused.{outs_are_caused}
+use Rattle.sx_model.proofs.OutsAreCaused.{outs_are_caused}
 use Rattle.sx_model.proofs.laws.outs_are_caused.Goals as goal
 
 pub returns : goal.returns

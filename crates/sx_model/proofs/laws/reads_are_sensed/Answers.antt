@@ -1,4 +1,4 @@
-use Rattle.sx_model.proofs.Sensed.{reads_are_sensed}
+use Rattle.sx_model.proofs.ReadsAreSensed.{reads_are_sensed}
 use Rattle.sx_model.proofs.laws.reads_are_sensed.Goals as goal
 
 pub returns : goal.returns

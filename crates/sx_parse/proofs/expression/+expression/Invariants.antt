@@ -2,7 +2,7 @@ use Rattle.std.proofs.Common.{◌+◌, ◌<◌, ◌∷◌, length, ◌*◌}
 use Rattle.sx_lang.specs.View.{expression_of}
 use Rattle.sx_grammar.specs.Machine.{Operand, Factors, Addends, Of_expression}
 use Rattle.sx_parse.specs.Wanted.{sum_wanted}
-use Rattle.sx_parse.specs.Reading.{Reads}
+use Rattle.sx_parse.specs.Reading.{ReadsValue}
 use Rattle.sx_parse.proofs.expression.+expression.Given as goal
 
 abbrev pub decreases-expression : goal.decreases-expression
@@ -22,7 +22,7 @@ decreases-variable l = 8 * length l.tokens.now + 5
 
 abbrev pub invariant-sum-loop-first : goal.invariant-sum-loop-first
 invariant-sum-loop-first l = record {
-  chain : Reads sum_wanted l.depth l.fn.tokens (Of_expression (expression_of l.left)) (λ st. Addends l.count ∷ st) l.rest;
+  chain : ReadsValue sum_wanted l.depth l.fn.tokens (Of_expression (expression_of l.left)) (λ st. Addends l.count ∷ st) l.rest;
   shorter : length l.rest < length l.fn.tokens;
 }
 
@@ -31,7 +31,7 @@ decreases-sum-loop-first l = length l.rest
 
 abbrev pub invariant-term-loop-first : goal.invariant-term-loop-first
 invariant-term-loop-first l = record {
-  chain : Reads (λ st. Operand ∷ Factors 0 ∷ st) l.depth l.fn.tokens (Of_expression (expression_of l.left)) (λ st. Factors l.count ∷ st) l.rest;
+  chain : ReadsValue (λ st. Operand ∷ Factors 0 ∷ st) l.depth l.fn.tokens (Of_expression (expression_of l.left)) (λ st. Factors l.count ∷ st) l.rest;
   shorter : length l.rest < length l.fn.tokens;
 }
 

@@ -1,7 +1,7 @@
 use Rattle.std.proofs.Common.{◌<◌, ◌∷◌, length}
 use Rattle.sx_lang.specs.View.{block_of}
 use Rattle.sx_grammar.specs.Machine.{A_block, Statements, Of_block}
-use Rattle.sx_parse.specs.Reading.{Reads}
+use Rattle.sx_parse.specs.Reading.{ReadsValue}
 use Rattle.sx_parse.proofs.statement.+statement.Given as goal
 
 abbrev pub decreases-block : goal.decreases-block
@@ -21,7 +21,7 @@ decreases-repetition l = length l.tokens.now
 
 abbrev pub invariant-block-loop-body : goal.invariant-block-loop-body
 invariant-block-loop-body l = record {
-  chain : Reads (λ st. A_block ∷ st) l.depth l.fn.tokens (Of_block (block_of l.body.items)) (λ st. Statements ∷ st) l.rest;
+  chain : ReadsValue (λ st. A_block ∷ st) l.depth l.fn.tokens (Of_block (block_of l.body.items)) (λ st. Statements ∷ st) l.rest;
   shorter : length l.rest < length l.fn.tokens;
 }
 

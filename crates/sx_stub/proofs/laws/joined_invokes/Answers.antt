@@ -1,4 +1,4 @@
-use Rattle.sx_stub.proofs.Joined.{joined_invokes}
+use Rattle.sx_stub.proofs.JoinedInvokes.{joined_invokes}
 use Rattle.sx_stub.proofs.laws.joined_invokes.Goals as goal
 
 pub returns : goal.returns

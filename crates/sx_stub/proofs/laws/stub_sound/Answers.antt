@@ -1,4 +1,4 @@
-use Rattle.sx_stub.proofs.Sound.{stub_sound}
+use Rattle.sx_stub.proofs.StubSound.{stub_sound}
 use Rattle.sx_stub.proofs.laws.stub_sound.Goals as goal
 
 pub returns : goal.returns

@@ -1,7 +1,7 @@
 use Rattle.std.proofs.Common.{◌≡◌, ℕ, List, true, Some, None, bytes_eq, sym, ◌∙◌, ap}
 use Rattle.std.proofs.lemmas.Bool.{cond-true}
 use Rattle.sx_tag.specs.Wrap.{wrap_tag, unwrapped}
-use Rattle.sx_tag.proofs.Xor.{padded-crypt}
+use Rattle.sx_tag.proofs.UnwrapsWrapped.{padded-crypt}
 use Rattle.sx_tag.proofs.wrapping.unwrap.Goals as goal
 
 pub returns-clause-body : goal.returns-clause-body

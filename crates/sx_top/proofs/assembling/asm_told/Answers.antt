@@ -1,22 +1,22 @@
 use Rattle.std.proofs.Common.{ap, refl, subst, Err}
 use Rattle.sx_told.specs.Reads.{anything}
-use Rattle.sx_told.specs.Told.{read_line, unread}
+use Rattle.sx_told.specs.Told.{read_line, unread_output}
 use Rattle.sx_told.proofs.Laws.{told-reads, told-nothing}
 use Rattle.sx_top.specs.declared.assembling.GatherFault.{GatherFault}
 use Rattle.sx_top.specs.Assembling.{asm_input, Whole, Unread}
-use Rattle.sx_top.specs.Gathering.{Gathers, seen}
+use Rattle.sx_top.specs.Gathering.{Gathers, gathered_bytes}
 use Rattle.sx_top.proofs.assembling.asm_told.Goals as goal
 
 pub returns-in-Ok : goal.returns-in-Ok
 returns-in-Ok g c =
-    told-reads (asm_input c.args.at) (asm_input c.args.at (Whole (seen c.in-Ok.gathered))) refl c.in-Ok.ensures
+    told-reads (asm_input c.args.at) (asm_input c.args.at (Whole (gathered_bytes c.in-Ok.gathered))) refl c.in-Ok.ensures
     (λ answers e. (ap (asm_input c.args.at) e, tt)) c.judge.ensures
 
 pub returns-in-Err-Failed : goal.returns-in-Err-Failed
 unfolding read_line
 returns-in-Err-Failed g c =
     let P : GatherFault → Type 0 = λ f. Gathers g.S.Source.tells (g.S.Source.at c.args.input.now) (g.S.Source.at c.gather.new.source) (Err f) in
-    told-reads (asm_input c.args.at) unread refl (subst P c.in-Err-Failed.field-0-is c.in-Err-Failed.ensures)
+    told-reads (asm_input c.args.at) unread_output refl (subst P c.in-Err-Failed.field-0-is c.in-Err-Failed.ensures)
     (λ answers e. (ap (asm_input c.args.at) e, tt)) c.finish.ensures.ends
 
 pub returns-in-Err-OutOfMemory : goal.returns-in-Err-OutOfMemory

@@ -1,5 +1,5 @@
 use Rattle.std.specs.Prelude.{◌≤◌, ◌-◌, ◌+◌}
-use Rattle.sx_top.specs.Gathering.{seen}
+use Rattle.sx_top.specs.Gathering.{gathered_bytes}
 use Rattle.sx_top.proofs.Gathering.{Come}
 use Rattle.sx_top.proofs.assembling.gather.Given as goal
 
@@ -8,7 +8,7 @@ abbrev pub invariant-lines : goal.invariant-lines
 invariant-lines g l = record {
   few : l.count ≤ 262144;
   numbered : l.number ≤ l.count + 1;
-  come : Come g.S.Source.tells (g.S.Source.at l.fn.source) (g.S.Source.at l.source) l.lines l.number l.count (seen l.gathered);
+  come : Come g.S.Source.tells (g.S.Source.at l.fn.source) (g.S.Source.at l.source) l.lines l.number l.count (gathered_bytes l.gathered);
 }
 
 abbrev pub decreases-lines : goal.decreases-lines

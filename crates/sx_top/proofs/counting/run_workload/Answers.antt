@@ -1,7 +1,7 @@
 use Rattle.std.proofs.Common.{rules, ◌≡◌, ◌∙◌, ◌+◌, ◌<◌, ℕ, List, drop, take, arith, ap, refl, subst, sym, Result, Err}
 use Rattle.sx_deploy.specs.SeenDeployment.{deployed_as}
 use Rattle.sx_world.specs.Held.{setting}
-use Rattle.sx_world.specs.Law.{IsSound}
+use Rattle.sx_world.specs.Law.{IsSoundSetting}
 use Rattle.sx_world.specs.Setting.{Site}
 use Rattle.sx_world.specs.Standing.{Stands}
 use Rattle.sx_world.specs.State.{World}
@@ -10,7 +10,7 @@ use Rattle.sx_top.specs.declared.counts.Counts.{Counts}
 use Rattle.sx_trace.specs.declared.items.Item.{Item}
 use Rattle.sx_top.specs.Counts.{counts, plus}
 use Rattle.sx_top.specs.declared.counting.Stopped.{Stopped}
-use Rattle.sx_top.specs.Counting.{ActsFrom, EndsAs, StopsAt}
+use Rattle.sx_top.specs.Counting.{ActsFrom, EndsAs, LineStopsAt}
 use Rattle.sx_top.proofs.Tallies.{Tallied, front_is, tally_begins, tally_goes_on, tally_ends, tally_stops}
 use Rattle.sx_top.proofs.counting.run_workload.Goals as goal
 
@@ -26,7 +26,7 @@ loop-i-init g c =
 
 pub turn-requires-clause-images : goal.turn-requires-clause-images
 turn-requires-clause-images g c =
-    let P : List Site → Type 0 = λ sites. IsSound (setting g.T.Tag.mac (deployed_as c.args.plan.now) sites) in
+    let P : List Site → Type 0 = λ sites. IsSoundSetting (setting g.T.Tag.mac (deployed_as c.args.plan.now) sites) in
     subst P (sym c.loop-i.invariant.sites) c.requires.images
 
 pub turn-requires-clause-going : goal.turn-requires-clause-going
@@ -71,7 +71,7 @@ returns-in_err-turn g c =
     let h : i < bulk.lines c.args.samples = omega (arith, c.lines-count.ensures) in
     let said : text ≡ bulk.line i = front_is c.line-written.result c.line-written.new.into (bulk.line i) (drop c.line-written.result c.loop-i.into) c.line-written.ensures.bytes c.line-written.ensures.count in
     let stopped = c.in_err-turn.field-0.0 in
-    let Q : List ℕ → Type 0 = λ t. StopsAt d.names (i + 1) t stopped in
+    let Q : List ℕ → Type 0 = λ t. LineStopsAt d.names (i + 1) t stopped in
     let R : Result Counts Stopped → Type 0 = λ r. EndsAs c.args.samples d.names set c.turn.new.world.running.steps r in
     let same : Err stopped ≡ c.from_residual.result = search rules in
     subst R same

@@ -1,5 +1,5 @@
 use Rattle.std.specs.Prelude.{ℕ, List, ◌≤◌, ◌-◌}
-use Rattle.sx_top.specs.Kept.{Keeps}
+use Rattle.sx_top.specs.Kept.{KeepsBytes}
 use Rattle.sx_top.proofs.Coming.{Come}
 use Rattle.sx_top.proofs.disassembling.read_code.Given as goal
 
@@ -7,7 +7,7 @@ use Rattle.sx_top.proofs.disassembling.read_code.Given as goal
 abbrev pub invariant-lines : goal.invariant-lines
 invariant-lines g l = record {
   few : l.number ≤ 65537;
-  come : (bytes : List ℕ) × Keeps l.code bytes
+  come : (bytes : List ℕ) × KeepsBytes l.code bytes
       × Come g.S.Source.tells (g.S.Source.at l.fn.input) (g.S.Source.at l.input) l.lines l.number
       bytes;
 }

@@ -5,7 +5,7 @@ use Rattle.sx_told.proofs.Laws.{ends-same}
 use Rattle.sx_stage.specs.Fault.{fault}
 use Rattle.sx_stage.specs.declared.fault.Place.TheVariants.{Nowhere}
 use Rattle.sx_head.specs.declared.head.HeadFault.{HeadFault}
-use Rattle.sx_top.specs.Check.{fault_line, refused}
+use Rattle.sx_top.specs.Check.{fault_line, fault_output}
 use Rattle.sx_top.specs.Headless.{EndsHeadless}
 use Rattle.sx_top.specs.Output.{line}
 use Rattle.sx_top.proofs.refusing.refuse_head.Goals as goal
@@ -18,7 +18,7 @@ not_six status ended e n six = n (sym (e (λ five. omega (arith, five, six))) �
 abbrev whole_text : ℕ → List ℕ
 whole_text n = line (codes "fault deployment " ++ (codes "D" ++ ((48 + n) ∷ []) ++ codes " " ++ codes "-"))
 
-refused_whole : (n : ℕ) → n < 10 → refused (fault n Nowhere) ≡ record { text = whole_text n; status = 1 }
+refused_whole : (n : ℕ) → n < 10 → fault_output (fault n Nowhere) ≡ record { text = whole_text n; status = 1 }
 unfolding fault_line
 refused_whole n h =
     let said : List ℕ → Output = λ d. record { text = line (codes "fault deployment " ++ (codes "D" ++ d ++ codes " " ++ codes "-")); status = 1 } in

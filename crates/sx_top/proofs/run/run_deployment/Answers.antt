@@ -1,5 +1,5 @@
 use Rattle.std.proofs.Common.{◌≡◌, ℕ, inl, inr, List, map, refl, subst, sym, Result, Ok}
-use Rattle.sx_told.specs.Told.{Rest, moment}
+use Rattle.sx_told.specs.Told.{Rest, command_at}
 use Rattle.sx_head.specs.Head.{head_lines}
 use Rattle.sx_deploy.specs.Deployment.{Deployed, IsRead}
 use Rattle.sx_deploy.specs.SeenDeployment.{deployed_as}
@@ -33,7 +33,7 @@ returns-in-Ok g c = λ text read.
       realize = λ other again. subst P (deployed_same text d other read again) are;
       rest = λ meaning is.
           let R : Result Deployed DeployFault → Type 0 = λ r. Rest g.S.Source.tells g.K.Sink.tells head_lines c.args.lines.now
-          (moment (g.S.Source.at c.args.input.now) (g.K.Sink.at c.args.output.now)) (moment (g.S.Source.at c.run_images.new.input) (g.K.Sink.at c.run_images.new.output))
+          (command_at (g.S.Source.at c.args.input.now) (g.K.Sink.at c.args.output.now)) (command_at (g.S.Source.at c.run_images.new.input) (g.K.Sink.at c.run_images.new.output))
           c.run_images.result (run_found mac texts r) in
           subst R (one_meaning text (Ok d) (meaning text) read (is text)) c.run_images.ensures;
     })

@@ -2,7 +2,7 @@ use Rattle.std.proofs.Common.{List, map, refl, subst, sym, Ok}
 use Rattle.sx_told.proofs.Laws.{told-stop, ends-out-of-memory, prefix-none}
 use Rattle.sx_deploy.specs.SeenDeployment.{deployed_as}
 use Rattle.sx_world.specs.Held.{setting}
-use Rattle.sx_world.specs.Law.{IsSound}
+use Rattle.sx_world.specs.Law.{IsSoundSetting}
 use Rattle.sx_world.specs.Setting.{Site}
 use Rattle.sx_world.specs.Standing.{Stands}
 use Rattle.sx_world.specs.State.{switched_on}
@@ -14,7 +14,7 @@ pub run_built-requires-clause-images : goal.run_built-requires-clause-images
 run_built-requires-clause-images g c =
     let d = deployed_as c.args.plan.now in
     let texts = map (λ i. i.text.items) c.args.images.now in
-    let P : List Site → Type 0 = λ sites. IsSound (setting g.T.Tag.mac d sites) in
+    let P : List Site → Type 0 = λ sites. IsSoundSetting (setting g.T.Tag.mac d sites) in
     subst P (sym c.in-Ok.ensures.sites) (settled g.T.Tag.mac d texts c.requires.sound c.requires.images g.met.T.Tag.is_tag)
 
 pub run_built-requires-clause-stands : goal.run_built-requires-clause-stands

@@ -1,5 +1,5 @@
 use Rattle.std.proofs.Common.{inl, inr, [], refl, ap, subst, Result, Ok, Err}
-use Rattle.sx_told.specs.Told.{Ends}
+use Rattle.sx_told.specs.Told.{CommandEnds}
 use Rattle.sx_told.proofs.Laws.{ends-same, told-stop}
 use Rattle.sx_stage.specs.Fault.{GivesOne}
 use Rattle.sx_stage.specs.declared.fault.DeployError.{DeployError}
@@ -7,7 +7,7 @@ use Rattle.sx_stage.specs.declared.fault.DeployFault.{DeployFault}
 use Rattle.sx_deploy.specs.Deployment.{Deployed, IsRead}
 use Rattle.sx_deploy.specs.SeenDeployment.{deployed_as}
 use Rattle.sx_deploy.proofs.Meanings.{one_meaning}
-use Rattle.sx_top.specs.Check.{refused}
+use Rattle.sx_top.specs.Check.{fault_output}
 use Rattle.sx_top.specs.Run.{run_found}
 use Rattle.sx_top.proofs.run.run_text.Goals as goal
 
@@ -19,7 +19,7 @@ returns-in-Err-Fault g c =
     let text = c.args.text.now in
     let P : DeployError → Type 0 = λ e. GivesOne deployed_as (Err e) (IsRead text) in
     let read = subst P c.in-Err-Fault.field-0-is c.in-Err-Fault.ensures.read in
-    let E : DeployFault → Type 0 = λ f. Ends g.K.Sink.tells (g.K.Sink.at c.args.output.now) (g.K.Sink.at c.refuse.new.output) c.refuse.result (refused f) in
+    let E : DeployFault → Type 0 = λ f. CommandEnds g.K.Sink.tells (g.K.Sink.at c.args.output.now) (g.K.Sink.at c.refuse.new.output) c.refuse.result (fault_output f) in
     inr (record {
       texts = [];
       realize = λ d other. absurd (cc (one_meaning text (Ok d) (Err c.in-Err-Fault.fault) other read));

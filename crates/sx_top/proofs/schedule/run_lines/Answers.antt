@@ -5,13 +5,13 @@ use Rattle.sx_told.specs.declared.turned.Turned.TheVariants.{On, Stop}
 use Rattle.sx_told.proofs.Laws.{begun-line, begun-put, ends-same, told-stop, told-end, told-too-long, told-failed}
 use Rattle.sx_deploy.specs.SeenDeployment.{deployed_as}
 use Rattle.sx_world.specs.Held.{setting}
-use Rattle.sx_world.specs.Law.{IsSound}
+use Rattle.sx_world.specs.Law.{IsSoundSetting}
 use Rattle.sx_world.specs.Setting.{Site}
 use Rattle.sx_world.specs.Standing.{Stands}
 use Rattle.sx_world.specs.State.{World, switched_on}
 use Rattle.sx_top.specs.Output.{end_line}
 use Rattle.sx_top.specs.Run.{run_from}
-use Rattle.sx_top.specs.Turns.{Turns}
+use Rattle.sx_top.specs.Turns.{TurnsLine}
 use Rattle.sx_top.proofs.Written.{run_ended, run_too_long, run_unread}
 use Rattle.sx_top.proofs.schedule.run_lines.Goals as goal
 
@@ -52,7 +52,7 @@ returns-in-Failed g c = λ limit m0 defined aside noted b.
 
 pub turn-requires-clause-images : goal.turn-requires-clause-images
 turn-requires-clause-images g c =
-    let P : List Site → Type 0 = λ sites. IsSound (setting g.T.Tag.mac (deployed_as c.args.plan.now) sites) in
+    let P : List Site → Type 0 = λ sites. IsSoundSetting (setting g.T.Tag.mac (deployed_as c.args.plan.now) sites) in
     subst P (sym c.lines.invariant.sites) c.requires.images
 
 pub turn-requires-clause-going : goal.turn-requires-clause-going
@@ -68,7 +68,7 @@ returns-in-Stop g c = λ limit m0 defined aside noted b.
     let st = c.lines.invariant.between in
     let text = take c.in-Text.n c.next.new.into in
     let P : List Site → Type 0 = λ sites. (w : World) → Stands (setting g.T.Tag.mac d sites) c.lines.world w
-    → Turns g.K.Sink.tells (g.K.Sink.at c.lines.output) (g.K.Sink.at c.turn.new.output) d.names (setting g.T.Tag.mac d sites)
+    → TurnsLine g.K.Sink.tells (g.K.Sink.at c.lines.output) (g.K.Sink.at c.turn.new.output) d.names (setting g.T.Tag.mac d sites)
     c.turn.new.world c.lines.number text (Stop c.in-Stop.status) w in
     told-stop (begun-line (run_from d.names set st.world c.lines.number) (run_unread d.names set st.world c.lines.number) (st.begun limit m0 defined aside noted b) c.in-Text.ensures.next)
     (subst P c.lines.invariant.sites c.in-Stop.ensures.turns st.world st.stands).does
@@ -80,7 +80,7 @@ lines-preserved g c =
     let st = c.lines.invariant.between in
     let text = take c.in-Text.n c.next.new.into in
     let P : List Site → Type 0 = λ sites. (w : World) → Stands (setting g.T.Tag.mac d sites) c.lines.world w
-    → Turns g.K.Sink.tells (g.K.Sink.at c.lines.output) (g.K.Sink.at c.turn.new.output) d.names (setting g.T.Tag.mac d sites)
+    → TurnsLine g.K.Sink.tells (g.K.Sink.at c.lines.output) (g.K.Sink.at c.turn.new.output) d.names (setting g.T.Tag.mac d sites)
     c.turn.new.world c.lines.number text On w in
     let t = subst P c.lines.invariant.sites c.in-On.ensures.turns st.world st.stands in record {
       few = omega (arith, c.in-On.ensures.few refl);

@@ -1,5 +1,5 @@
 use Rattle.std.specs.Prelude.{◌≡◌, ◌≤◌, ◌-◌, ◌+◌}
-use Rattle.sx_told.specs.Told.{moment}
+use Rattle.sx_told.specs.Told.{command_at}
 use Rattle.sx_deploy.specs.SeenDeployment.{deployed_as}
 use Rattle.sx_world.specs.Held.{setting}
 use Rattle.sx_top.proofs.Between.{Between}
@@ -13,7 +13,7 @@ invariant-lines g l =
       few : l.number ≤ 65537;
       counted : l.world.lines + 1 ≡ l.number;
       sites : l.world.sites ≡ l.fn.world.sites;
-      between : Between g.S.Source.tells g.K.Sink.tells (moment (g.S.Source.at l.fn.input) (g.K.Sink.at l.fn.output)) (moment (g.S.Source.at l.input) (g.K.Sink.at l.output))
+      between : Between g.S.Source.tells g.K.Sink.tells (command_at (g.S.Source.at l.fn.input) (g.K.Sink.at l.fn.output)) (command_at (g.S.Source.at l.input) (g.K.Sink.at l.output))
           l.fn.lines l.lines d.names set l.world l.number;
     }
 

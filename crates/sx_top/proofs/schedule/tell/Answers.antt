@@ -4,13 +4,13 @@ use Rattle.sx_told.proofs.Laws.{does-same}
 use Rattle.sx_trace.specs.declared.items.Item.{Item}
 use Rattle.sx_sched.specs.Lines.{line_of}
 use Rattle.sx_world.specs.InMemory.{world_setting}
-use Rattle.sx_top.specs.Run.{done, items_text}
+use Rattle.sx_top.specs.Run.{after_next, items_text}
 use Rattle.sx_top.proofs.schedule.tell.Goals as goal
 
 pub returns-in-Ok-push_items-clause-does : goal.returns-in-Ok-push_items-clause-does
 returns-in-Ok-push_items-clause-does g c = λ w shows left.
     let names = c.args.plan.now.names in
-    let next = done (world_setting g.T.Tag.mac c.args.plan.now c.args.world.now) w (line_of c.args.line.now) in
+    let next = after_next (world_setting g.T.Tag.mac c.args.plan.now c.args.world.now) w (line_of c.args.line.now) in
     let items : c.act.new.items.items ≡ next.items =
     (c.in-Ok.ensures.acted w shows).1 ∙ ap (λ (front : List Item). front ++ next.items) c.clear.ensures.items in
     let text : c.deref-in-Ok-push_items.result.now ≡ items_text names next.items =

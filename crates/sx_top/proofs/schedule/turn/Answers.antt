@@ -4,7 +4,7 @@ use Rattle.sx_told.proofs.Laws.{does-same, ends-same, ends-out-of-memory, prefix
 use Rattle.sx_sched.specs.Lines.{line_of}
 use Rattle.sx_deploy.specs.SeenDeployment.{deployed_as}
 use Rattle.sx_world.specs.Held.{setting}
-use Rattle.sx_top.specs.Run.{done, run_from}
+use Rattle.sx_top.specs.Run.{after_next, run_from}
 use Rattle.sx_top.proofs.Written.{run_line, run_breaks}
 use Rattle.sx_top.proofs.schedule.turn.Goals as goal
 
@@ -13,7 +13,7 @@ returns-in-Ok-clause-turns g c = λ w shows.
     let d = deployed_as c.args.plan.now in
     let set = setting g.T.Tag.mac d c.args.world.now.sites in
     let line = line_of c.in-Ok.line in record {
-      next = (done set w line).world;
+      next = (after_next set w line).world;
       stands = λ on. c.tell.ensures.stands on w shows;
       does = does-same _ _ _ _ _ _ _ (λ more. run_line d.names set w c.args.number c.args.said.now line more c.in-Ok.ensures.line)
           (c.tell.ensures.does w shows (λ v more. run_from d.names set v (c.args.number + 1) more));

@@ -1,4 +1,4 @@
-use Rattle.sx_trace.proofs.Found.{items_differ}
+use Rattle.sx_trace.proofs.ItemsDiffer.{items_differ}
 use Rattle.sx_trace.proofs.laws.items_differ.Goals as goal
 
 pub returns : goal.returns

@@ -6,7 +6,7 @@ use Rattle.sx_trace.specs.declared.items.Item.{Item}
 use Rattle.sx_trace.specs.Names.{NameLists, are_valid}
 use Rattle.sx_trace.specs.Items.{item_text, IsItem, IsNoItem}
 use Rattle.sx_trace.specs.Finding.{item_in}
-use Rattle.sx_trace.proofs.Found.{found_only}
+use Rattle.sx_trace.proofs.ItemsDiffer.{found_only}
 use Rattle.sx_trace.proofs.Written.{written_text}
 use Rattle.sx_trace.proofs.reading.read_item.Goals as goal
 

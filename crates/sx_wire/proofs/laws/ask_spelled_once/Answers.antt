@@ -1,5 +1,5 @@
-use Rattle.sx_wire.proofs.Spelled.{ask_once}
+use Rattle.sx_wire.proofs.Spelled.{ask_spelled_once}
 use Rattle.sx_wire.proofs.laws.ask_spelled_once.Goals as goal
 
 pub returns : goal.returns
-returns c = ask_once
+returns c = ask_spelled_once

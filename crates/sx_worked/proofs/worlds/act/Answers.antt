@@ -11,8 +11,8 @@ use Rattle.sx_tag.specs.Mac.{weak}
 use Rattle.sx_tag.specs.Tags.{weak-is_tag}
 use Rattle.sx_world.specs.Accepted.{sites_of}
 use Rattle.sx_world.specs.Held.{setting}
-use Rattle.sx_world.specs.Law.{IsSound}
-use Rattle.sx_world.specs.Run.{acted, counted}
+use Rattle.sx_world.specs.Law.{IsSoundSetting}
+use Rattle.sx_world.specs.Run.{after_line, line_counted}
 use Rattle.sx_world.specs.Setting.{Site}
 use Rattle.sx_world.specs.Standing.{Stands}
 use Rattle.sx_world.proofs.Lists.{get_within}
@@ -24,9 +24,9 @@ no_sites [] ls ps e = refl
 no_sites (q ∷ qs) ls ps e = absurd (omega (arith, e))
 
 -- a deployment without modules
-sound : (d : Deployed) → deployment.IsSound d → length d.app.parts ≡ 0 → IsSound (setting weak d [])
+sound : (d : Deployed) → deployment.IsSoundDeployment d → length d.app.parts ≡ 0 → IsSoundSetting (setting weak d [])
 sound d acc none =
-    subst (λ (s : List Site). IsSound (setting weak d s)) (no_sites d.app.parts d.layouts d.providers none)
+    subst (λ (s : List Site). IsSoundSetting (setting weak d s)) (no_sites d.app.parts d.layouts d.providers none)
     (sited weak d [] acc weak-is_tag (record {
       as_many = sym none;
       realize = λ p q layout provider text e el ep et. absurd (let lt = get_within d.app.parts p q e in omega (arith, lt, none));
@@ -35,7 +35,7 @@ sound d acc none =
 pub act-requires-clause-images : goal.act-requires-clause-images
 act-requires-clause-images g c =
     let d = deployed_as c.args.plan.now in
-    subst (λ (s : List Site). IsSound (setting weak d s)) (sym c.requires.sites)
+    subst (λ (s : List Site). IsSoundSetting (setting weak d s)) (sym c.requires.sites)
     (sound d c.requires.sound (length-map c.args.plan.now.app.parts.items part_as ∙ c.requires.parts))
 
 pub returns-clause-stands : goal.returns-clause-stands
@@ -45,5 +45,5 @@ returns-clause-stands g c =
     let s = c.requires.stands in
     let r = c.in_ok-act.ensures.acted s.0 (subst (λ (xs : List Site). Stands (setting weak d xs) world s.0) (sym c.requires.sites) s.1) in
     let l = line_of c.in_ok-line.line in
-    let next = (acted (setting weak d world.sites) (counted s.0) l).world in
+    let next = (after_line (setting weak d world.sites) (line_counted s.0) l).world in
     (next, subst (λ (xs : List Site). Stands (setting weak d xs) c.act.new.self next) c.requires.sites r.0)

@@ -1,10 +1,10 @@
 use Rattle.std.proofs.Common.{sym, subst}
 use Rattle.sx_lang.specs.declared.tree.Module.{Module}
 use Rattle.sx_check.specs.Source.{source_tree}
-use Rattle.sx_mean.specs.Places.{IsSized}
+use Rattle.sx_mean.specs.Places.{AreSizedDecls}
 use Rattle.sx_mean.proofs.Kept.{sized}
 use Rattle.sx_mean.proofs.apps.App.is_overloaded.Goals as goal
 
 pub sends_too_much-requires : goal.sends_too_much-requires
 sends_too_much-requires c =
-    subst (λ (m : Module). IsSized m.decls.items) (sym c.module.ensures.tree) (sized (source_tree c.args.part.now.code) c.module.ensures.keeps)
+    subst (λ (m : Module). AreSizedDecls m.decls.items) (sym c.module.ensures.tree) (sized (source_tree c.args.part.now.code) c.module.ensures.keeps)

@@ -1,8 +1,8 @@
 use Rattle.std.proofs.Common.{◌+◌, ◌≤◌, length, arith, subst, sym}
 use Rattle.sx_mean.specs.View.{app_as}
-use Rattle.sx_mean.proofs.Valid.{valid_applications}
+use Rattle.sx_mean.proofs.ValidApplications.{valid_applications}
 use Rattle.sx_model.specs.State.{Model as Stands}
-use Rattle.sx_model.specs.Counted.{AreCounted}
+use Rattle.sx_model.specs.Counted.{CountsWithin}
 use Rattle.sx_model.proofs.Counts.{counted_more}
 use Rattle.sx_model.proofs.model.Model.step.Goals as goal
 
@@ -14,6 +14,6 @@ take_item-requires-clause-links c =
 pub invariant_of-self-then-is_allowed : goal.invariant_of-self-then-is_allowed
 invariant_of-self-then-is_allowed c = record {
   counted =
-      subst (λ (s : Stands). AreCounted s (c.args.self.now.taken + 1)) (sym c.in_ok-is_allowed.ensures.state)
+      subst (λ (s : Stands). CountsWithin s (c.args.self.now.taken + 1)) (sym c.in_ok-is_allowed.ensures.state)
       (counted_more (app_as c.args.app.now) c.args.self.now.state c.args.item.now c.args.self.now.taken c.args.self.now.counted);
 }

@@ -1,6 +1,6 @@
 use Rattle.std.proofs.Common.{[], get_or, refl, ◌∙◌, arith, None}
 use Rattle.std.proofs.lemmas.List.Elements.{All-get_or}
-use Rattle.sx_pages.specs.Arena.{IsWritten}
+use Rattle.sx_pages.specs.Arena.{HasByte}
 use Rattle.sx_pages.proofs.Slots.{length-page}
 use Rattle.sx_pages.proofs.Loops.{blend-begins, blend-goes, blend-ends}
 use Rattle.sx_pages.proofs.block.Block.copy_page.Goals as goal
@@ -11,7 +11,7 @@ loop-at-init c = (refl, blend-begins c.args.self.now.pages c.args.page (get_or c
 pub byte-requires : goal.byte-requires
 byte-requires c =
     let page = get_or c.args.from.now.pages c.args.page [] in
-    All-get_or IsWritten page c.loop-at.at None (omega (arith, length-page c.args.from.now.pages c.args.page (omega (arith, c.ranges.page.fits)) c.args.from.now.shaped, c.loop-at-test.true)) c.requires
+    All-get_or HasByte page c.loop-at.at None (omega (arith, length-page c.args.from.now.pages c.args.page (omega (arith, c.ranges.page.fits)) c.args.from.now.shaped, c.loop-at-test.true)) c.requires
 
 pub loop-at-preserved : goal.loop-at-preserved
 loop-at-preserved c = (

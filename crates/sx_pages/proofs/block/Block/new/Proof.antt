@@ -30,7 +30,7 @@ use Rattle.std.proofs.alloc.Shapes.{after, head, arm_body}
 use Rattle.std.proofs.option.Made.{Some-of, none_of}
 use Rattle.std.proofs.raw_atomic.Walks.{proved_at, leaves}
 use Rattle.sx_pages.proofs.Memory.{of_room}
-use Rattle.sx_pages.proofs.Slots.{IsBlock-unwritten}
+use Rattle.sx_pages.proofs.Slots.{IsArenaBlock-unwritten}
 use Rattle.sx_pages.proofs.Walks.{slot_at, then_runs, big_lit, block_val, block_own, block_made, lease_val, lease_own, lease_made, pair_val, pair_of}
 use Rattle.sx_pages.specs.Ownership.{block_type, pages_own, unwritten}
 use Rattle.sx_pages.specs.contracts.block.Block as block
@@ -84,7 +84,7 @@ new_spec 𝓤 𝓛 𝓜 𝓡 wired A L g d dd met md =
     exec ! C Λ En (after 2 fn.body) (at_ret En Post) $
     sets ! (of_opd ! (get ! refl)) refl (tt, (record { fits = lit< tt }, (((tt, tt), ((tt, tt), tt)), tt))) $
     returns ! (look_at ! 0 refl) $ free_all ! refl $
-    let p : Ptr = block_ptr b o in let x : (block.the_row).Denot = record { start = p; pages = unwritten 256; shaped = IsBlock-unwritten } in let k : (lease.the_row Z g).Denot = record { mark = record {}; alloc = h; start = p } in
+    let p : Ptr = block_ptr b o in let x : (block.the_row).Denot = record { start = p; pages = unwritten 256; shaped = IsArenaBlock-unwritten } in let k : (lease.the_row Z g).Denot = record { mark = record {}; alloc = h; start = p } in
     let v : Val = pair_val (block_val p) lease_val in
     use1 𝓛 (‵ (pages_own (unwritten 256) b o)) (of_room 𝓛 b 256 o) $
     use0 𝓛 (‵ (block_own p (block_val p ∷ []))) (block_made 𝓛 p) $ fjoin ! $ move ! (1 ∷ []) $ use0 𝓛 (‵ (lease_own (lease_val ∷ []))) (lease_made 𝓛) $ fjoin ! $ move ! (1 ∷ 0 ∷ []) $

@@ -25,7 +25,7 @@ use Rattle.std.proofs.raw_atomic.Walks.{proved}
 use Rattle.std.proofs.VecSteps.Shapes.{after}
 use Rattle.sx_pages.specs.Ownership.{slot_own, pages_own, block_owns}
 use Rattle.sx_pages.proofs.Memory.{Besides, slot_out, slot_room, slot_in}
-use Rattle.sx_pages.proofs.Slots.{length-page, IsBlock-set}
+use Rattle.sx_pages.proofs.Slots.{length-page, IsArenaBlock-set}
 use Rattle.sx_pages.specs.contracts.block.Block.put as f
 use Rattle.sx_pages.proofs.block.Block.put.Statement.{statement}
 use Rattle.sx_pages.proofs.block.Block.put.Code as code
@@ -45,7 +45,7 @@ put_spec 𝓤 𝓛 𝓜 𝓡 wired =
     let b = a.0.ref_ptr.0 in let o = a.0.ref_ptr.1 in let h = a.0.now in let vs = mut_vals a.0 in
     let p = a.1.0 in let at = a.1.1.0 in let byte = a.1.1.1.0 in
     let y : W.Ghost = ((κs, qs, bounds, a, (vs, (uint_vals w8 p, (uint_vals w8 at, (uint_vals w8 byte, tt))))), tt) in
-    let new : R.Denot = record h { pages = set h.pages p (set (get_or h.pages p []) at (Some byte)); shaped = IsBlock-set h.pages p at byte are.1.0.1 h.shaped } in
+    let new : R.Denot = record h { pages = set h.pages p (set (get_or h.pages p []) at (Some byte)); shaped = IsArenaBlock-set h.pages p at byte are.1.0.1 h.shaped } in
     let hp : p < length h.pages = omega (arith, h.shaped.0, are.1.0.1) in
     let hat : at < length (get_or h.pages p []) = omega (arith, length-page h.pages p are.1.0.1 h.shaped, are.1.1.0.1) in
     let wp : p < 2 ^ 64 = omega (arith, are.1.0.1) in let wat : at < 2 ^ 64 = omega (arith, are.1.1.0.1) in

@@ -3,9 +3,9 @@ use Rattle.std.specs.Prelude.{slice_get}
 use Rattle.std.proofs.lemmas.List.{length-map}
 use Rattle.sx_deploy.specs.SeenDeployment.{deployed_as}
 use Rattle.sx_mean.specs.View.{part_as}
-use Rattle.sx_world.specs.Acts.{answered}
+use Rattle.sx_world.specs.Acts.{after_answer}
 use Rattle.sx_world.specs.Granted.{accepted_ask, judged_by}
-use Rattle.sx_world.specs.Held.{Running, Does, setting}
+use Rattle.sx_world.specs.Held.{Running, DoesAct, setting}
 use Rattle.sx_world.specs.Setting.{Site}
 use Rattle.sx_world.proofs.Confirming.{answer_does, denied_does}
 use Rattle.sx_world.proofs.running.Running.answer.Goals as goal
@@ -17,8 +17,8 @@ returns-in-Some-clause-does g c =
     let mac = g.T.Tag.mac in
     let targets : length parts ≤ length c.self.inside.deployer.targets = subst (λ (o : Running). length parts ≤ length o.deployer.targets) (sym c.self.view_is) c.requires.parts in
     let packets = ap (λ ps. map (λ p. p.items) ps) c.deref.ensures.value in
-    subst (λ (o : Running). (sites : List Site) → Does (setting mac (deployed_as c.args.plan.now) sites) c.confirm.result o c.confirm.new.self c.args.items.now.items c.confirm.new.items.items
-    (λ w. answered (setting mac (deployed_as c.args.plan.now) sites) w c.args.m c.args.boot (slice_get sites c.args.m) (slice_get w.packets c.args.k))) c.self.view_is
+    subst (λ (o : Running). (sites : List Site) → DoesAct (setting mac (deployed_as c.args.plan.now) sites) c.confirm.result o c.confirm.new.self c.args.items.now.items c.confirm.new.items.items
+    (λ w. after_answer (setting mac (deployed_as c.args.plan.now) sites) w c.args.m c.args.boot (slice_get sites c.args.m) (slice_get w.packets c.args.k))) c.self.view_is
     (λ sites. answer_does (setting mac (deployed_as c.args.plan.now) sites) c.confirm.result _ c.confirm.new.self c.judge.new.deployer c.args.items.now.items c.confirm.new.items.items
     c.args.m c.args.boot c.args.k c.in-Some.ask c.attested-last.result
     (subst (λ n. c.args.m < n) (sym (length-map parts part_as)) c.requires.known) (omega (arith, c.requires.known, targets)) c.attested-last.ensures
@@ -33,8 +33,8 @@ returns-in-None-clause-does g c =
     let mac = g.T.Tag.mac in
     let packets = ap (λ ps. map (λ p. p.items) ps) c.deref.ensures.value in
     let new : Running = record { nodes = c.self.inside.nodes.items; packets = map (λ p. p.items) c.self.inside.packets.items; deployer = c.judge.new.deployer; ledger = c.self.inside.ledger; steps = c.self.inside.steps } in
-    subst (λ (o : Running). (sites : List Site) → Does (setting mac (deployed_as c.args.plan.now) sites) c.add.result o new c.args.items.now.items c.add.new.items.items
-    (λ w. answered (setting mac (deployed_as c.args.plan.now) sites) w c.args.m c.args.boot (slice_get sites c.args.m) (slice_get w.packets c.args.k))) c.self.view_is
+    subst (λ (o : Running). (sites : List Site) → DoesAct (setting mac (deployed_as c.args.plan.now) sites) c.add.result o new c.args.items.now.items c.add.new.items.items
+    (λ w. after_answer (setting mac (deployed_as c.args.plan.now) sites) w c.args.m c.args.boot (slice_get sites c.args.m) (slice_get w.packets c.args.k))) c.self.view_is
     (λ sites. denied_does (setting mac (deployed_as c.args.plan.now) sites) c.add.result _ c.judge.new.deployer c.args.items.now.items c.add.new.items.items c.args.m c.args.boot c.args.k
     (subst (λ n. c.args.m < n) (sym (length-map parts part_as)) c.requires.known)
     (c.judge.ensures.state ∙ ap (λ ps. judged_by mac c.self.inside.deployer c.args.m c.args.boot (slice_get ps c.args.k)) packets)

@@ -3,7 +3,7 @@ use Rattle.std.specs.Prelude.{slice_get}
 use Rattle.sx_deploy.specs.SeenDeployment.{deployed_as}
 use Rattle.sx_world.specs.Setting.{Site}
 use Rattle.sx_world.specs.Acts.{then_}
-use Rattle.sx_world.specs.Held.{Does, setting}
+use Rattle.sx_world.specs.Held.{DoesAct, setting}
 use Rattle.sx_world.specs.Run.{finish, set_all}
 use Rattle.sx_world.proofs.Composed.{first_wanted, then_does}
 use Rattle.sx_world.proofs.Given.{does_err}
@@ -14,7 +14,7 @@ pub returns-in_err-set_all : goal.returns-in_err-set_all
 returns-in_err-set_all g c =
     let set = setting g.T.Tag.mac (deployed_as c.args.plan.now) c.args.sites.now in
     let n = c.site.inside.node in
-    subst (λ (s : Site). Does set c.from_residual.result c.args.self.now c.set_all.new.self c.args.items.now.items c.set_all.new.items.items
+    subst (λ (s : Site). DoesAct set c.from_residual.result c.args.self.now c.set_all.new.self c.args.items.now.items c.set_all.new.items.items
     (λ w. then_ (set_all s.node c.args.registers.now w) (finish set s.node))) c.site.view_is
     (does_err set c.from_residual.result c.args.self.now c.set_all.new.self c.args.items.now.items c.set_all.new.items.items
     (λ w. then_ (set_all n c.args.registers.now w) (finish set n)) c.from_residual.ensures.0
@@ -29,7 +29,7 @@ pub returns : goal.returns
 returns g c =
     let set = setting g.T.Tag.mac (deployed_as c.args.plan.now) c.args.sites.now in
     let n = c.site.inside.node in
-    subst (λ (s : Site). Does set c.finish.result c.args.self.now c.finish.new.self c.args.items.now.items c.finish.new.items.items
+    subst (λ (s : Site). DoesAct set c.finish.result c.args.self.now c.finish.new.self c.args.items.now.items c.finish.new.items.items
     (λ w. then_ (set_all s.node c.args.registers.now w) (finish set s.node))) c.site.view_is
     (then_does set c.finish.result c.args.self.now c.set_all.new.self c.finish.new.self c.args.items.now.items c.set_all.new.items.items c.finish.new.items.items
     (set_all n c.args.registers.now) (finish set n) (c.in_ok-set_all.ensures.does set) c.finish.ensures)

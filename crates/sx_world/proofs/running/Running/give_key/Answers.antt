@@ -4,7 +4,7 @@ use Rattle.std.proofs.lemmas.List.{length-map}
 use Rattle.sx_deploy.specs.SeenDeployment.{deployed_as}
 use Rattle.sx_world.specs.Acts.{key_given}
 use Rattle.sx_world.specs.Deployer.{Grant}
-use Rattle.sx_world.specs.Held.{Running, Does, Did, setting}
+use Rattle.sx_world.specs.Held.{Running, DoesAct, Did, setting}
 use Rattle.sx_world.specs.Setting.{Site}
 use Rattle.sx_world.proofs.Given.{given_some, given_none}
 use Rattle.sx_world.proofs.running.Running.give_key.Goals as goal
@@ -15,9 +15,9 @@ returns-in_ok-record-in-Some-clause-does g c =
     let packets = map (λ p. p.items) c.add_packet.new.packets.items in
     let new : Running = record { nodes = c.self.inside.nodes.items; packets = packets; deployer = c.self.inside.deployer; ledger = c.record.new.ledger; steps = c.self.inside.steps } in
     let given : Grant = record { holder = c.g.inside.holder; boot = c.g.inside.boot; «end» = c.g.inside.«end»; epoch = c.g.inside.epoch } in
-    subst (λ (x : Grant). (sites : List Site) → Does (setting g.T.Tag.mac (deployed_as c.args.plan.now) sites) c.add_packet.result c.args.self.now new
+    subst (λ (x : Grant). (sites : List Site) → DoesAct (setting g.T.Tag.mac (deployed_as c.args.plan.now) sites) c.add_packet.result c.args.self.now new
     c.args.items.now.items c.add_packet.new.items.items (λ w. key_given (setting g.T.Tag.mac (deployed_as c.args.plan.now) sites) w x (slice_get sites x.holder))) c.g.view_is
-    (subst (λ (o : Running). (sites : List Site) → Does (setting g.T.Tag.mac (deployed_as c.args.plan.now) sites) c.add_packet.result o new
+    (subst (λ (o : Running). (sites : List Site) → DoesAct (setting g.T.Tag.mac (deployed_as c.args.plan.now) sites) c.add_packet.result o new
     c.args.items.now.items c.add_packet.new.items.items (λ w. key_given (setting g.T.Tag.mac (deployed_as c.args.plan.now) sites) w given (slice_get sites given.holder))) c.self.view_is
     (λ sites. given_some (setting g.T.Tag.mac (deployed_as c.args.plan.now) sites) c.add_packet.result _ c.record.new.ledger packets c.args.items.now.items c.add_packet.new.items.items given
     _ c.in-Some.packet c.connection_key-key.result (search rules) (search rules) (sym c.in-Some.is ∙ c.packet.ensures) c.connection_key-key.ensures c.in_ok-record-in-Some.ensures

@@ -3,8 +3,8 @@ use Rattle.std.specs.Prelude.{slice_get}
 use Rattle.sx_trace.specs.declared.items.Item.TheVariants.{Busy}
 use Rattle.sx_deploy.specs.SeenDeployment.{deployed_as}
 use Rattle.sx_world.specs.Setting.{Site}
-use Rattle.sx_world.specs.Held.{Does, setting}
-use Rattle.sx_world.specs.Loading.{loaded}
+use Rattle.sx_world.specs.Held.{DoesAct, setting}
+use Rattle.sx_world.specs.Loading.{after_loading}
 use Rattle.sx_world.specs.Run.{load, unless_busy}
 use Rattle.sx_world.proofs.Loaded.{idle_does, busy_does, element_at}
 use Rattle.sx_world.proofs.running.Running.load.Goals as goal
@@ -14,8 +14,8 @@ returns-then-is_idle g c =
     let set = setting g.T.Tag.mac (deployed_as c.args.plan.now) c.args.sites.now in
     let site = c.index-sites-from.result in
     let found = element_at c.args.sites.now c.args.m c.from.result site c.requires.known c.from.ensures c.index-sites-from.is in
-    subst (λ (o : Option Site). Does set c.put_and_protect.result c.args.self.now c.put_and_protect.new.self c.args.items.now.items c.put_and_protect.new.items.items (λ w. load set w o)) (sym found)
-    (idle_does set c.put_and_protect.result c.args.self.now c.put_and_protect.new.self c.args.items.now.items c.put_and_protect.new.items.items site.node (loaded set site) c.is_idle.result
+    subst (λ (o : Option Site). DoesAct set c.put_and_protect.result c.args.self.now c.put_and_protect.new.self c.args.items.now.items c.put_and_protect.new.items.items (λ w. load set w o)) (sym found)
+    (idle_does set c.put_and_protect.result c.args.self.now c.put_and_protect.new.self c.args.items.now.items c.put_and_protect.new.items.items site.node (after_loading set site) c.is_idle.result
     (c.requires.node site found) (λ s here. c.is_idle.ensures s (subst (λ (x : Site). slice_get c.args.self.now.nodes x.node ≡ Some s) (sym c.site.view_is) here)) c.if-is_idle.true
     c.put_and_protect.ensures)
 
@@ -24,9 +24,9 @@ returns-else-is_idle g c =
     let set = setting g.T.Tag.mac (deployed_as c.args.plan.now) c.args.sites.now in
     let site = c.index-sites-from.result in
     let found = element_at c.args.sites.now c.args.m c.from.result site c.requires.known c.from.ensures c.index-sites-from.is in
-    subst (λ (o : Option Site). Does set c.add.result c.args.self.now c.args.self.now c.args.items.now.items c.add.new.items.items (λ w. load set w o)) (sym found)
+    subst (λ (o : Option Site). DoesAct set c.add.result c.args.self.now c.args.self.now c.args.items.now.items c.add.new.items.items (λ w. load set w o)) (sym found)
     (subst (λ (x : Site). OnOk c.add.result (c.add.new.items.items ≡ c.args.items.now.items ++ Busy x.node ∷ [])
-    → Does set c.add.result c.args.self.now c.args.self.now c.args.items.now.items c.add.new.items.items (λ w. unless_busy site.node w (loaded set site)))
+    → DoesAct set c.add.result c.args.self.now c.args.self.now c.args.items.now.items c.add.new.items.items (λ w. unless_busy site.node w (after_loading set site)))
     (sym c.site.view_is)
-    (λ ok. busy_does set c.add.result c.args.self.now c.args.items.now.items c.add.new.items.items site.node (loaded set site) c.is_idle.result
+    (λ ok. busy_does set c.add.result c.args.self.now c.args.items.now.items c.add.new.items.items site.node (after_loading set site) c.is_idle.result
     (c.requires.node site found) (λ s here. c.is_idle.ensures s (subst (λ (x : Site). slice_get c.args.self.now.nodes x.node ≡ Some s) (sym c.site.view_is) here)) c.if-is_idle.false ok c.add.ensures.err) c.add.ensures.ok)

@@ -2,8 +2,8 @@ use Rattle.std.proofs.Common.{◌≡◌, ◌+◌, ◌/◌, false, [], length, So
 use Rattle.std.specs.Prelude.{slice_get}
 use Rattle.sx_deploy.specs.SeenDeployment.{deployed_as}
 use Rattle.sx_world.specs.Setting.{Site}
-use Rattle.sx_world.specs.Held.{Did, Does, Wanted, setting}
-use Rattle.sx_world.specs.Loading.{loaded, protect_registers}
+use Rattle.sx_world.specs.Held.{Did, DoesAct, Wanted, setting}
+use Rattle.sx_world.specs.Loading.{after_loading, protect_registers}
 use Rattle.sx_world.specs.Run.{put_pieces, set_all, steps_of}
 use Rattle.sx_world.proofs.Composed.{does_both}
 use Rattle.sx_world.proofs.Given.{does_err}
@@ -14,8 +14,8 @@ pub returns-in_err-put_pieces : goal.returns-in_err-put_pieces
 returns-in_err-put_pieces g c =
     let set = setting g.T.Tag.mac (deployed_as c.args.plan.now) c.args.sites.now in
     let site : Site = record { node = c.site.inside.node; layout = c.site.inside.layout; provider = c.site.inside.provider; text = c.site.inside.text.items } in
-    subst (λ (s : Site). Does set c.from_residual.result c.args.self.now c.put_pieces.new.self c.args.items.now.items c.put_pieces.new.items.items (loaded set s)) c.site.view_is
-    (does_err set c.from_residual.result c.args.self.now c.put_pieces.new.self c.args.items.now.items c.put_pieces.new.items.items (loaded set site) c.from_residual.ensures.0
+    subst (λ (s : Site). DoesAct set c.from_residual.result c.args.self.now c.put_pieces.new.self c.args.items.now.items c.put_pieces.new.items.items (after_loading set s)) c.site.view_is
+    (does_err set c.from_residual.result c.args.self.now c.put_pieces.new.self c.args.items.now.items c.put_pieces.new.items.items (after_loading set site) c.from_residual.ensures.0
     (image_wanted set site c.args.self.now c.args.items.now.items c.put_pieces.new.items.items
     (subst (λ xs. Wanted set c.args.self.now c.args.items.now.items c.put_pieces.new.items.items (put_pieces site.node ((length xs + 1023) / 1024) site.layout.pub_from xs))
     c.deref.ensures.value (c.in_err-put_pieces.ensures.does set))))
@@ -24,8 +24,8 @@ pub returns-in_err-put_on : goal.returns-in_err-put_on
 returns-in_err-put_on g c =
     let set = setting g.T.Tag.mac (deployed_as c.args.plan.now) c.args.sites.now in
     let site : Site = record { node = c.site.inside.node; layout = c.site.inside.layout; provider = c.site.inside.provider; text = c.site.inside.text.items } in
-    subst (λ (s : Site). Does set c.from_residual-in_err-put_on.result c.args.self.now c.put_on.new.self c.args.items.now.items c.put_on.new.items.items (loaded set s)) c.site.view_is
-    (does_err set c.from_residual-in_err-put_on.result c.args.self.now c.put_on.new.self c.args.items.now.items c.put_on.new.items.items (loaded set site) c.from_residual-in_err-put_on.ensures.0
+    subst (λ (s : Site). DoesAct set c.from_residual-in_err-put_on.result c.args.self.now c.put_on.new.self c.args.items.now.items c.put_on.new.items.items (after_loading set s)) c.site.view_is
+    (does_err set c.from_residual-in_err-put_on.result c.args.self.now c.put_on.new.self c.args.items.now.items c.put_on.new.items.items (after_loading set site) c.from_residual-in_err-put_on.ensures.0
     (code_wanted set site c.args.self.now c.put_pieces.new.self c.args.items.now.items c.put_pieces.new.items.items c.put_on.new.items.items
     (subst (λ xs. Did set c.args.self.now c.put_pieces.new.self c.args.items.now.items c.put_pieces.new.items.items (put_pieces site.node ((length xs + 1023) / 1024) site.layout.pub_from xs))
     c.deref.ensures.value (c.in_ok-put_pieces.ensures.does set))
@@ -35,8 +35,8 @@ pub returns-in_err-set_all : goal.returns-in_err-set_all
 returns-in_err-set_all g c =
     let set = setting g.T.Tag.mac (deployed_as c.args.plan.now) c.args.sites.now in
     let site : Site = record { node = c.site.inside.node; layout = c.site.inside.layout; provider = c.site.inside.provider; text = c.site.inside.text.items } in
-    subst (λ (s : Site). Does set c.from_residual-in_err-set_all.result c.args.self.now c.set_all.new.self c.args.items.now.items c.set_all.new.items.items (loaded set s)) c.site.view_is
-    (does_err set c.from_residual-in_err-set_all.result c.args.self.now c.set_all.new.self c.args.items.now.items c.set_all.new.items.items (loaded set site) c.from_residual-in_err-set_all.ensures.0
+    subst (λ (s : Site). DoesAct set c.from_residual-in_err-set_all.result c.args.self.now c.set_all.new.self c.args.items.now.items c.set_all.new.items.items (after_loading set s)) c.site.view_is
+    (does_err set c.from_residual-in_err-set_all.result c.args.self.now c.set_all.new.self c.args.items.now.items c.set_all.new.items.items (after_loading set site) c.from_residual-in_err-set_all.ensures.0
     (given_wanted set site c.args.self.now c.put_pieces.new.self c.put_on.new.self c.args.items.now.items c.put_pieces.new.items.items c.put_on.new.items.items c.set_all.new.items.items
     (subst (λ xs. Did set c.args.self.now c.put_pieces.new.self c.args.items.now.items c.put_pieces.new.items.items (put_pieces site.node ((length xs + 1023) / 1024) site.layout.pub_from xs))
     c.deref.ensures.value (c.in_ok-put_pieces.ensures.does set))
@@ -53,7 +53,7 @@ pub returns : goal.returns
 returns g c =
     let set = setting g.T.Tag.mac (deployed_as c.args.plan.now) c.args.sites.now in
     let site : Site = record { node = c.site.inside.node; layout = c.site.inside.layout; provider = c.site.inside.provider; text = c.site.inside.text.items } in
-    subst (λ (s : Site). Does set c.steps_of.result c.args.self.now c.steps_of.new.self c.args.items.now.items c.steps_of.new.items.items (loaded set s)) c.site.view_is
+    subst (λ (s : Site). DoesAct set c.steps_of.result c.args.self.now c.steps_of.new.self c.args.items.now.items c.steps_of.new.items.items (after_loading set s)) c.site.view_is
     (loaded_does set site c.steps_of.result c.args.self.now c.put_pieces.new.self c.put_on.new.self c.set_all.new.self c.steps_of.new.self
     c.args.items.now.items c.put_pieces.new.items.items c.put_on.new.items.items c.set_all.new.items.items c.steps_of.new.items.items
     (subst (λ xs. Did set c.args.self.now c.put_pieces.new.self c.args.items.now.items c.put_pieces.new.items.items (put_pieces site.node ((length xs + 1023) / 1024) site.layout.pub_from xs))

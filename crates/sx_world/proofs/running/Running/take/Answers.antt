@@ -7,10 +7,9 @@ use Rattle.sx_world.specs.Acts.{refused_item}
 use Rattle.sx_world.specs.Held.{Running}
 use Rattle.sx_world.proofs.Lists.{get_some}
 use Rattle.sx_world.proofs.Stepped.{refused_ok}
-use Rattle.sx_world.proofs.KeptPackets.{took_wanted, took_refused}
+use Rattle.sx_world.proofs.KeptPackets.{took_did, took_wanted, took_refused}
 use Rattle.sx_world.proofs.running.Running.take.Goals as goal
 
--- src/packets.rt:68:5
 pub returns-in-Ok-clause-front : goal.returns-in-Ok-clause-front
 returns-in-Ok-clause-front g c =
     let found = get_some c.args.self.now.nodes c.args.n c.requires.node in
@@ -20,7 +19,15 @@ returns-in-Ok-clause-front g c =
     let shown : (take found.0 c.args.at c.args.len).shown ≡ Ok c.deref-in-Ok.result.now = taken found.0 (ap (λ ns. slice_get ns c.args.n) nodes ∙ found.1) ∙ ap (λ b. Ok b) (sym c.deref-in-Ok.ensures.value) in
     took_wanted c.new_packet.result c.args.self.now c.args.items.now.items c.new_packet.new.items.items c.args.n c.args.at c.args.len c.deref-in-Ok.result.now found.0 found.1 shown c.new_packet.ensures.front
 
--- src/packets.rt:68:5
+pub returns-in-Ok-clause-done : goal.returns-in-Ok-clause-done
+returns-in-Ok-clause-done g c =
+    let found = get_some c.args.self.now.nodes c.args.n c.requires.node in
+    let nodes : c.deref.result.now ≡ c.args.self.now.nodes = c.deref.ensures.value ∙ ap (λ (k : Running). k.nodes) c.self.view_is in
+    let taken =
+    subst (λ (r : Result (Vec ℕ Global) Refused). IfOk r (λ b. (s : State) → slice_get c.deref.result.now c.args.n ≡ Some s → (take s c.args.at c.args.len).shown ≡ Ok b.items)) c.in-Ok.is c.in_ok-bytes.ensures.bytes in
+    let shown : (take found.0 c.args.at c.args.len).shown ≡ Ok c.deref-in-Ok.result.now = taken found.0 (ap (λ ns. slice_get ns c.args.n) nodes ∙ found.1) ∙ ap (λ b. Ok b) (sym c.deref-in-Ok.ensures.value) in
+    took_did c.new_packet.result c.args.self.now c.new_packet.new.self c.args.items.now.items c.new_packet.new.items.items c.args.n c.args.at c.args.len c.deref-in-Ok.result.now found.0 found.1 shown c.new_packet.ensures.done
+
 pub returns-in-Err-clause-done : goal.returns-in-Err-clause-done
 returns-in-Err-clause-done g c =
     let found = get_some c.args.self.now.nodes c.args.n c.requires.node in

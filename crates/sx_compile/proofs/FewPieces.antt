@@ -14,7 +14,7 @@ use Rattle.sx_mean.specs.declared.events.SourceEvent.{SourceEvent}
 use Rattle.sx_mean.specs.declared.events.SourceEvent.TheVariants as event
 use Rattle.sx_mean.specs.Application.{block_packets, statement_packets}
 use Rattle.sx_mean.specs.Places.{place, array_length, output_number}
-use Rattle.sx_mean.specs.Meaning.{State, assign, assign_element, after_statement, after_block, times, forget, value, local_place, define, act}
+use Rattle.sx_mean.specs.Meaning.{HandlerState, assign, assign_element, after_statement, after_block, times, forget, value, local_place, define, act}
 use Rattle.sx_mean.specs.React.{react, run, handler_at, value_of, handler_of_name, handler_of_input, input_names, nth}
 use Rattle.sx_rules.specs.declared.access.Violation.{Violation}
 use Rattle.sx_rules.specs.declared.access.Violation.TheVariants as bad
@@ -26,10 +26,10 @@ use Rattle.sx_invoke.specs.Marks as mark
 use Rattle.sx_invoke.specs.ModuleState.{EndState, end_of, link_of, epoch_of}
 use Rattle.sx_invoke.specs.Windows.{write_bytes, read_bytes}
 use Rattle.sx_invoke.specs.Progress.{Progress, Invoked, Returns, Violates, Course, Going, Broken, and_on, finished, pieces_in}
-use Rattle.sx_invoke.specs.Acts.{with_piece, copied_to, with_packet, event_packet, counted, with_packets, with_act, with_acts, actuated, own_window, handled}
+use Rattle.sx_invoke.specs.Acts.{with_piece, copied_to, with_packet, event_packet, wrap_counted, with_packets, with_act, with_acts, actuated, own_window, handled}
 use Rattle.sx_mean.specs.Ends.{is_sending}
 use Rattle.sx_invoke.specs.Invocation.{invoke, entered, returns_inside, is_no_entry, has_bad_windows}
-use Rattle.sx_invoke.specs.Entries.{received, is_kind, set_key, set_key_at, key_opened, is_keyed, attest, input, input_at, event_numbered, event_opened, sample, sample_of, sampled, taken, field_in, second_in, header_in, keyed, end_on, end_found, side_of, with_received}
+use Rattle.sx_invoke.specs.Entries.{received, is_kind, set_key, set_key_at, key_opened, is_keyed, attest, input, input_at, event_numbered, event_opened, sample, sample_of, sample_read, number_taken, field_in, second_in, header_in, end_keyed, end_on, end_found, side_of, with_received}
 use Rattle.sx_mean.specs.Ends.{senders}
 use Rattle.sx_lower.proofs.Packets.{senders-cons}
 use Rattle.sx_compile.specs.Laws.{FewPieces}
@@ -50,24 +50,24 @@ packets-append ends [] ys = omega arith
 packets-append ends (x ∷ xs) ys = let e = packets-append ends xs ys in omega (arith, e)
 
 module _ (ds : List Decl) (ends : List End) where
-  abbrev Sent : State → ℕ
+  abbrev Sent : HandlerState → ℕ
   Sent st = acts_packets ends st.acts
 
-  assign_sent : (x : List ℕ) (v : ℕ) (st : State) → Sent (assign ds x v st) ≡ Sent st
+  assign_sent : (x : List ℕ) (v : ℕ) (st : HandlerState) → Sent (assign ds x v st) ≡ Sent st
   assign_sent x v st = go (nat_lt (local_place st.locals x) (length st.locals))
     where
       go : (b : Bool) → Sent (if b then record st { locals = Rattle.std.specs.Prelude.slice_set st.locals (local_place st.locals x) (Rattle.sx_mean.specs.Meaning.new_local x v) } else record st { cells = Rattle.std.specs.Prelude.slice_set st.cells (place ds x) v }) ≡ Sent st
       go true = refl
       go false = refl
 
-  element_sent : (x : List ℕ) (i v : ℕ) (st : State) → Sent (assign_element ds x i v st) ≡ Sent st
+  element_sent : (x : List ℕ) (i v : ℕ) (st : HandlerState) → Sent (assign_element ds x i v st) ≡ Sent st
   element_sent x i v st = go (nat_lt i (array_length ds x))
     where
       go : (b : Bool) → Sent (if b then record st { cells = Rattle.std.specs.Prelude.slice_set st.cells (place ds x + i) v } else st) ≡ Sent st
       go true = refl
       go false = refl
 
-  times_sent : (n k : ℕ) (f : State → State) (st : State) → ((a : State) → Sent (f a) ≤ Sent a + k) → Sent (times n f st) ≤ Sent st + n * k
+  times_sent : (n k : ℕ) (f : HandlerState → HandlerState) (st : HandlerState) → ((a : HandlerState) → Sent (f a) ≤ Sent a + k) → Sent (times n f st) ≤ Sent st + n * k
   times_sent zero k f st h = omega arith
   times_sent (suc n) k f st h =
       let a = h st in
@@ -76,7 +76,7 @@ module _ (ds : List Decl) (ends : List End) where
       omega (arith, a, b, e)
 
   mutual
-    statement_sent : (t : Statement) (st : State) → Sent (after_statement ds t st) ≤ Sent st + statement_packets (senders ends) ds t
+    statement_sent : (t : Statement) (st : HandlerState) → Sent (after_statement ds t st) ≤ Sent st + statement_packets (senders ends) ds t
     statement_sent (Defines x e) st = omega arith
     statement_sent (Assigns x e) st = let a = assign_sent x (value ds st e) st in omega (arith, a)
     statement_sent (Stores x i e) st = let a = element_sent x (value ds st i) (value ds st e) st in omega (arith, a)
@@ -89,7 +89,7 @@ module _ (ds : List Decl) (ends : List End) where
     statement_sent (Sends x e) st = let a = packets-append ends st.acts (Send (output_number ds x) (value ds st e) ∷ []) in omega (arith, a)
     statement_sent (Emits e) st = let a = packets-append ends st.acts (Emit (value ds st e) ∷ []) in omega (arith, a)
 
-    block_sent : (b : Block) (st : State) → Sent (after_block ds b st) ≤ Sent st + block_packets (senders ends) ds b
+    block_sent : (b : Block) (st : HandlerState) → Sent (after_block ds b st) ≤ Sent st + block_packets (senders ends) ds b
     block_sent Done st = omega arith
     block_sent (Then t b) st = let x = statement_sent t st in let y = block_sent b (after_statement ds t st) in omega (arith, x, y)
 
@@ -157,8 +157,8 @@ packet_adds : (s : Setup) (call : Call) (v k : ℕ) (p : Progress) → Adds 1 (w
 unfolding with_packet
 packet_adds s call v k p = go (end_of p.state.ends k) ((end_of p.state.ends k).is_open && nat_lt (end_of p.state.ends k).number 65535)
   where
-    go : (e : EndState) (b : Bool) → length (pieces_on (if b then with_piece s call (event_packet s e v) (counted k e v p) else Going p)) ≤ length p.pieces + 1
-    go e true = piece_adds s call (event_packet s e v) (counted k e v p)
+    go : (e : EndState) (b : Bool) → length (pieces_on (if b then with_piece s call (event_packet s e v) (wrap_counted k e v p) else Going p)) ≤ length p.pieces + 1
+    go e true = piece_adds s call (event_packet s e v) (wrap_counted k e v p)
     go e false = omega arith
 
 packets_add : (s : Setup) (call : Call) (output v k : ℕ) (es : List End) (p : Progress) → Adds (senders es output) (with_packets s call output v k es) p
@@ -219,7 +219,7 @@ module _ (s : Setup) (call : Call) (p : Progress) (few : SendFew (senders s.ends
     where
       by_tag : (k : ℕ) (u : Option (List ℕ)) → Fine (key_opened k packet u p)
       by_tag k None = refused 7 p refl
-      by_tag k (Some body) = refused 1 (keyed k packet (take 16 body) p) refl
+      by_tag k (Some body) = refused 1 (end_keyed k packet (take 16 body) p) refl
 
       by_end : (e : Option (ℕ × End)) → Fine (set_key_at s packet e p)
       by_end None = refused 5 p refl
@@ -239,7 +239,7 @@ module _ (s : Setup) (call : Call) (p : Progress) (few : SendFew (senders s.ends
       by_tag : (e : ℕ × End) (u : Option (List ℕ)) → Fine (event_opened s call e packet u p)
       by_tag e None = refused 7 p refl
       by_tag e (Some body) =
-          let r = taken e.0 packet (take 2 body) (end_of p.state.ends e.0) p in
+          let r = number_taken e.0 packet (take 2 body) (end_of p.state.ends e.0) p in
           finishes (handled s call (event.Input e.1.port (word body 0)) r) (handled_few s call (event.Input e.1.port (word body 0)) r few none)
 
       by_end : (e : Option (ℕ × End)) → Fine (input_at s call packet e p)
@@ -256,7 +256,7 @@ module _ (s : Setup) (call : Call) (p : Progress) (few : SendFew (senders s.ends
       by_device : (d : Option (ℕ × Window)) → Fine (sample_of s call d p)
       by_device None = refused 8 p refl
       by_device (Some d) =
-          let r = sampled d p in
+          let r = sample_read d p in
           if_fine d.1.fresh (finished (handled s call (event.Sample d.1.value) r)) (Returns 8 p) (finishes (handled s call (event.Sample d.1.value) r) (handled_few s call (event.Sample d.1.value) r few none)) (refused 8 p refl)
 
   entered_fine : Fine (entered s call p)

@@ -10,8 +10,8 @@ use Rattle.sx_invoke.specs.Progress.{Progress, Course, Going, Broken}
 use Rattle.sx_invoke.specs.Acts.{handled}
 use Rattle.sx_invoke.specs.Invocation.{invoke}
 use Rattle.sx_ir.specs.Conf.{Conf, Halt}
-use Rattle.sx_ir.specs.Meaning.{After, op_step, op_count, part_from, no_count, OnViolation, Reaches, do_op, stop}
-use Rattle.sx_ir.specs.Invoking.{Represents, Begins, Breaks, GoesOn, PartDoes}
+use Rattle.sx_ir.specs.Meaning.{OperationResult, op_step, op_count, part_from, no_count, OnViolation, CodeReaches, do_op, stop}
+use Rattle.sx_ir.specs.Invoking.{Represents, HandlerBegins, CourseBreaks, CourseGoesOn, PartDoes}
 use Rattle.sx_ir.specs.declared.ir.Ir.{Ir}
 use Rattle.sx_ir.specs.declared.ir.Ir.TheVariants as ir
 use Rattle.sx_stub.specs.Invokes.{Ready, HandlerDoes, stub_count}
@@ -21,7 +21,7 @@ use Rattle.sx_stub.proofs.Straight.{goes}
 use Rattle.sx_stub.proofs.Slots.{IsKept, shows_priv}
 use Rattle.sx_stub.proofs.Refuse.{within}
 use Rattle.sx_stub.proofs.Handling.{IsDone}
-use Rattle.sx_stub.proofs.Whole.{stub_invokes}
+use Rattle.sx_stub.proofs.StubInvokes.{stub_invokes}
 
 parts_begin : (parts : List (ℕ × ℕ)) (h place end : ℕ) (c : Conf) → slice_get parts h ≡ Some (place, end)
     → part_from parts h c ≡ Goes (record c { place = place; back = Some (c.place + 1) })
@@ -36,7 +36,7 @@ parts_begin (part ∷ parts) zero place end c e = ap (λ (x : ℕ × ℕ). Goes 
 parts_begin (part ∷ parts) (suc h) place end c e = parts_begin parts h place end c e
 
 module _ (s : Setup) (code : List Ir) (parts : List (ℕ × ℕ)) where
-  abbrev handle : ℕ → Conf → After
+  abbrev handle : ℕ → Conf → OperationResult
   handle = part_from parts
 
   low : (i : ℕ) → IsKept i → (b : ℕ) → b ≡ 4 ⊎ b ≡ 5 → (i ≡ b → ⊥)
@@ -47,7 +47,7 @@ module _ (s : Setup) (code : List Ir) (parts : List (ℕ × ℕ)) where
 
   -- the operation begins the part
   begins_part : (place : ℕ) (e : SourceEvent) (call : Call) (p : Progress) (c : Conf) → Ready s call e p c
-      → Begins s call e p (record c { place = place; priv = put_word c.priv 4 0; back = Some (c.place + 1) })
+      → HandlerBegins s call e p (record c { place = place; priv = put_word c.priv 4 0; back = Some (c.place + 1) })
   begins_part place e call p c ready =
       let size = ready.shows.size in
       let priv = put_word c.priv 4 0 in
@@ -76,16 +76,16 @@ module _ (s : Setup) (code : List Ir) (parts : List (ℕ × ℕ)) where
   -- where the part has come to `Stop`, with this place to return to
   abbrev IsStopped : Call → Course → ℕ → Conf → Type 0
   IsStopped call course back t =
-      GoesOn course (λ p. Represents s call p t × ((slice_get code t.place ≡ Some ir.Stop) × (t.stack ≡ []) × (t.back ≡ Some back)))
+      CourseGoesOn course (λ p. Represents s call p t × ((slice_get code t.place ≡ Some ir.Stop) × (t.stack ≡ []) × (t.back ≡ Some back)))
 
   -- its `Stop` goes on after the operation
   stops : (call : Call) (course : Course) (c t : Conf) → IsStopped call course (c.place + 1) t
-      → Reaches s handle no_count code (Breaks course) (IsDone s call course c) 8 t
+      → CodeReaches s handle no_count code (CourseBreaks course) (IsDone s call course c) 8 t
   stops call (Going p) c t x =
       let t2 = record t { place = c.place + 1; back = None } in
       let r = x.0 in
       let represents : Represents s call p t2 = record { size = r.size; bytes = r.bytes; state = r.state; mem = r.mem; devices = r.devices; marks = r.marks; count = r.count; entry = r.entry; input = r.input; output = r.output; back = r.back } in
-      goes s handle no_count code (Breaks (Going p)) (IsDone s call (Going p) c) ir.Stop t t2 8 0 x.1.0 (ap (stop t) x.1.2) refl (omega arith)
+      goes s handle no_count code (CourseBreaks (Going p)) (IsDone s call (Going p) c) ir.Stop t t2 8 0 x.1.0 (ap (stop t) x.1.2) refl (omega arith)
       (Here (represents, (refl, x.1.1, refl)))
   stops call (Broken v p) c t x = absurd x
 
@@ -97,8 +97,8 @@ module _ (s : Setup) (code : List Ir) (parts : List (ℕ × ℕ)) where
       let course = handled s call e p in
       let done = IsDone s call course c in
       let begins : do_op s handle (ir.Handler h) c ≡ Goes begun = parts_begin parts h place end (record c { priv = priv }) there in
-      goes s handle no_count code (Breaks course) done (ir.Handler h) c begun (16 + n) (8 + n) at_handler begins refl (omega arith)
-      (and_then Conf Halt (op_step s handle code) (op_count no_count code) (λ c. Unit {0}) (OnViolation (Breaks course)) (IsStopped call course (c.place + 1)) done n 8 (8 + n) begun (omega arith)
+      goes s handle no_count code (CourseBreaks course) done (ir.Handler h) c begun (16 + n) (8 + n) at_handler begins refl (omega arith)
+      (and_then Conf Halt (op_step s handle code) (op_count no_count code) (λ c. Unit {0}) (OnViolation (CourseBreaks course)) (IsStopped call course (c.place + 1)) done n 8 (8 + n) begun (omega arith)
       (does call p begun refl (begins_part place e call p c ready)) (λ t x. stops call course c t x))
 
 pub joined_invokes : JoinedInvokes

@@ -8,18 +8,18 @@ use Rattle.sx_lex.proofs.Found.{and_left, and_right}
 use Rattle.sx_sched.specs.declared.lines.LineError.{LineError}
 use Rattle.sx_sched.specs.Lines.{Sense, Give}
 use Rattle.sx_sched.specs.Words.{text_behind, words_of}
-use Rattle.sx_sched.specs.Reading.{◌>>=◌, said, said_in}
+use Rattle.sx_sched.specs.Reading.{◌>>=◌, said_line, said_in}
 use Rattle.sx_bulk.specs.Bulk.{setup, event, line, line_at}
 use Rattle.sx_bulk.specs.Laws.{names, WellFormed}
 use Rattle.sx_bulk.proofs.Words.{is_word, spaced, words_read}
 use Rattle.sx_bulk.proofs.Decimals.{decimal_word, number_said}
 
 abbrev IsGood : List ℕ → Type 0
-IsGood text = IsOk (said names text)
+IsGood text = IsOk (said_line names text)
 
 -- a line of words, where they say one whatever text follows them
 good : (w : List ℕ) (ws : List (List ℕ)) → list_all is_word (w ∷ ws) ≡ true → ((t : List ℕ) → IsOk (said_in names t (w ∷ ws))) → IsGood (w ++ spaced ws)
-unfolding said
+unfolding said_line
 good w ws words says =
     let text = w ++ spaced ws in
     subst (λ (v : List (List ℕ)). IsOk (said_in names (text_behind 3 text) v)) (sym (words_read w ws words)) (says (text_behind 3 text))
@@ -56,7 +56,7 @@ data AreGood : List (List ℕ) → Type 0 where
   ◌also◌ : {text : List ℕ} {more : List (List ℕ)} → IsGood text → AreGood more → AreGood (text ∷ more)
 
 blank : IsGood []
-unfolding said words_of
+unfolding said_line words_of
 blank = refl
 
 -- a line after their end is blank
@@ -65,18 +65,18 @@ good_at those k no_more = blank
 good_at those zero (h also hs) = h
 good_at those (suc k) (◌also◌ {more = more} h hs) = good_at more k hs
 
-are_good : (those : List (List ℕ)) → list_all (λ text. is_ok (said names text)) those ≡ true → AreGood those
+are_good : (those : List (List ℕ)) → list_all (λ text. is_ok (said_line names text)) those ≡ true → AreGood those
 are_good [] h = no_more
 are_good (text ∷ more) h =
-    let rest : Bool = list_all (λ text. is_ok (said names text)) more in
-    and_left (is_ok (said names text)) rest h also are_good more (and_right (is_ok (said names text)) rest h)
+    let rest : Bool = list_all (λ text. is_ok (said_line names text)) more in
+    and_left (is_ok (said_line names text)) rest h also are_good more (and_right (is_ok (said_line names text)) rest h)
 
 setup_good : AreGood setup
-unfolding said words_of names number_of setup
+unfolding said_line words_of names number_of setup
 setup_good = are_good setup refl
 
 event_good : (i : ℕ) → i < 8000 → AreGood (event i)
-unfolding said words_of names number_of event
+unfolding said_line words_of names number_of event
 event_good i h =
     sense ((37 * i) % 200) (omega arith)
     also refl also refl also give_a (10 + 2 * i) (omega (arith, h))

@@ -8,7 +8,7 @@ use Rattle.sx_mean.specs.Places.{initial_cells, first_cells}
 use Rattle.sx_machine.specs.Memory.{word}
 use Rattle.sx_machine.specs.Memory.{bytes_from}
 use Rattle.sx_mean.specs.Offsets.{end_at, cell_at}
-use Rattle.sx_invoke.specs.ModuleState.{EndState, end_state, end_states, initial_ends, closed, cells_from, state_of}
+use Rattle.sx_invoke.specs.ModuleState.{EndState, end_state, end_states, initial_ends, closed_end, cells_from, state_of}
 use Rattle.sx_lang.specs.Words.{DeclHasWords, DeclsHaveWords}
 use Rattle.sx_stub.proofs.Mem.{bytes_from_same}
 use Rattle.sx_stub.proofs.Slots.{end_state_is}
@@ -25,12 +25,12 @@ zero_key : (n a : ℕ) → bytes_from (replicate n 0) a 16 ≡ replicate 16 0
 unfolding bytes_from
 zero_key n a = bytes_from_same (replicate 16 0) (replicate n 0) 0 a 16 (λ i lt. zero_at n (a + i) ∙ sym (zero_at 16 (0 + i)))
 
-zero_end : (n k : ℕ) → end_state (replicate n 0) k ≡ closed
+zero_end : (n k : ℕ) → end_state (replicate n 0) k ≡ closed_end
 zero_end n k = end_state_is (replicate n 0) k 0 0 0 (replicate 16 0) (zero_word n (end_at k + 4)) (zero_word n (end_at k)) (zero_word n (end_at k + 2)) (zero_key n (end_at k + 8))
 
 zero_ends : (n k : ℕ) (es : List End) → end_states (replicate n 0) k es ≡ initial_ends es
 zero_ends n k [] = refl
-zero_ends n k (e ∷ es) = ap (λ (x : EndState). x ∷ end_states (replicate n 0) (k + 1) es) (zero_end n k) ∙ ap (λ (xs : List EndState). closed ∷ xs) (zero_ends n (k + 1) es)
+zero_ends n k (e ∷ es) = ap (λ (x : EndState). x ∷ end_states (replicate n 0) (k + 1) es) (zero_end n k) ∙ ap (λ (xs : List EndState). closed_end ∷ xs) (zero_ends n (k + 1) es)
 
 abbrev AreSmall : List ℕ → Type 0
 AreSmall [] = Unit {0}

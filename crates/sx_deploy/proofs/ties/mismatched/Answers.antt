@@ -2,8 +2,8 @@ use Rattle.std.proofs.Common.{◌∙◌}
 use Rattle.sx_stage.proofs.Mapped.{entries-map}
 use Rattle.sx_stage.specs.declared.fault.Sort.TheVariants.{Module}
 use Rattle.sx_deploy.specs.Seen.{checked_as}
-use Rattle.sx_deploy.specs.Ties.{is_mistied}
-use Rattle.sx_deploy.proofs.ties.mistied.Goals as goal
+use Rattle.sx_deploy.specs.Ties.{is_mismatched}
+use Rattle.sx_deploy.proofs.ties.mismatched.Goals as goal
 
 pub returns : goal.returns
-returns c = c.entries.ensures ∙ entries-map checked_as 9 Module (is_mistied c.args.devices.now) c.args.modules.now
+returns c = c.entries.ensures ∙ entries-map checked_as 9 Module (is_mismatched c.args.devices.now) c.args.modules.now

@@ -19,12 +19,12 @@ use Rattle.sx_invoke.specs.Entries.{with_received, set_key, attest, input, sampl
 use Rattle.sx_invoke.specs.Devices.{HasDevices, Drives}
 use Rattle.sx_ir.specs.Conf.{Conf}
 use Rattle.sx_ir.specs.Conf as conf
-use Rattle.sx_ir.specs.Meaning.{After, do_op}
+use Rattle.sx_ir.specs.Meaning.{OperationResult, do_op}
 use Rattle.sx_ir.specs.declared.ir.Ir.{Ir}
 use Rattle.sx_ir.specs.declared.ir.Ir.TheVariants as ir
 use Rattle.sx_ir.specs.declared.ir.IrOp.TheVariants as op
 use Rattle.sx_stub.specs.Stub.{stub_code, tests, entries, refuse_if, jump_on, is_above_three, is_no_sample, sample_code, set_key_code, attest_code, input_code, search_code}
-use Rattle.sx_stub.specs.Invokes.{Begun, StubInvokes, Invokes, HandlersDo}
+use Rattle.sx_stub.specs.Invokes.{CallBegun, StubInvokes, Invokes, HandlersDo}
 use Rattle.sx_stub.proofs.Straight.{At, at, at_front, at_back, pure}
 use Rattle.sx_stub.proofs.Refuse.{refuse_does, or_if, sub_zero, goes_on, breaks, runs_on}
 use Rattle.sx_stub.proofs.Mem.{word_lt}
@@ -54,7 +54,7 @@ and_not false b h e = absurd (false≢true e)
 below_four : (n : ℕ) → nat_lt 3 n ≡ false → n ≤ 3
 below_four n h = ⊎_elim (λ (p : 3 < n). absurd (true≢false (sym (lt-ltb 3 n p) ∙ h))) (λ (p : n ≤ 3). p) (cases_lt 3 n)
 
-module _ (s : Setup) (call : Call) (p : Progress) (handle : ℕ → Conf → After) (given : ℕ → ℕ) (code : List Ir) (c : Conf) (cost : ℕ) (b : Begun s call p c) (does : HandlersDo s handle given code cost) where
+module _ (s : Setup) (call : Call) (p : Progress) (handle : ℕ → Conf → OperationResult) (given : ℕ → ℕ) (code : List Ir) (c : Conf) (cost : ℕ) (b : CallBegun s call p c) (does : HandlersDo s handle given code cost) where
   abbrev Goal : Invoked → ℕ → ℕ → Type 0
   Goal result n place = Invokes s call handle given code result n (at c place [])
 

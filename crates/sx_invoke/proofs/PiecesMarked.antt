@@ -17,15 +17,15 @@ use Rattle.sx_machine.specs.Memory.{word}
 use Rattle.sx_invoke.specs.Setup.{Setup, Call}
 use Rattle.sx_tag.specs.Mac.{Mac, IsTag}
 use Rattle.sx_invoke.specs.Marks as mark
-use Rattle.sx_invoke.specs.Marks.{Mark, piece_size, made}
+use Rattle.sx_invoke.specs.Marks.{Mark, piece_size, made_bytes}
 use Rattle.sx_invoke.specs.Laws.{PiecesMarked}
 use Rattle.sx_invoke.specs.ModuleState.{EndState, end_of, link_of, epoch_of}
 use Rattle.sx_invoke.specs.Windows.{write_bytes, read_bytes, two}
 use Rattle.sx_invoke.specs.Progress.{bytes_in, Progress, Invoked, Returns, Violates, Course, Going, Broken, and_on, finished, marks_in, pieces_in}
-use Rattle.sx_invoke.specs.Acts.{with_piece, copied_to, with_packet, event_packet, event_header, counted, with_packets, with_act, with_acts, actuated, own_window, handled}
+use Rattle.sx_invoke.specs.Acts.{with_piece, copied_to, with_packet, event_packet, event_header, wrap_counted, with_packets, with_act, with_acts, actuated, own_window, handled}
 use Rattle.sx_mean.specs.Ends.{is_sending}
 use Rattle.sx_invoke.specs.Invocation.{invoke, entered, returns_inside, is_no_entry, has_bad_windows}
-use Rattle.sx_invoke.specs.Entries.{received, is_kind, set_key, set_key_at, key_opened, is_keyed, attest, input, input_at, event_numbered, event_opened, sample, sample_of, sampled, taken, field_in, second_in, header_in, end_on, end_found, side_of, with_received}
+use Rattle.sx_invoke.specs.Entries.{received, is_kind, set_key, set_key_at, key_opened, is_keyed, attest, input, input_at, event_numbered, event_opened, sample, sample_of, sample_read, number_taken, field_in, second_in, header_in, end_on, end_found, side_of, with_received}
 
 -- a tag has 16 bytes
 pub tag_length : (mac : Mac) (key ad cipher : List ℕ) → IsTag mac → length (wrap_tag mac key ad cipher) ≡ 16
@@ -49,7 +49,7 @@ packet_length s e v t =
     let z = length-append cipher (wrap_tag s.mac e.key ad cipher) in
     omega (arith, x, y, z)
 
-made_more : (ms : List Mark) (m : Mark) → made (ms ++ m ∷ []) ≡ made ms + piece_size m
+made_more : (ms : List Mark) (m : Mark) → made_bytes (ms ++ m ∷ []) ≡ made_bytes ms + piece_size m
 made_more [] m = omega arith
 made_more (x ∷ ms) m = let e = made_more ms m in omega (arith, e)
 
@@ -58,7 +58,7 @@ bytes_more [] p = omega arith
 bytes_more (x ∷ ps) p = let e = bytes_more ps p in omega (arith, e)
 
 abbrev pub Tallied : Progress → Type 0
-Tallied p = bytes_in p.pieces ≡ made p.marks
+Tallied p = bytes_in p.pieces ≡ made_bytes p.marks
 
 abbrev pub OnCourse : Course → Type 0
 OnCourse (Going p) = Tallied p
@@ -76,7 +76,7 @@ module _ (s : Setup) (call : Call) (tag : IsTag s.mac) where
   piece_made : (piece : List ℕ) (p : Progress) (m : Mark) (before : Progress) → p.marks ≡ before.marks ++ m ∷ [] → p.pieces ≡ before.pieces → length piece ≡ piece_size m → Tallied before → OnCourse (with_piece s call piece p)
   piece_made piece p m before em ep size h =
       let x = bytes_more p.pieces piece in
-      let y = ap made em in
+      let y = ap made_bytes em in
       let z = made_more before.marks m in
       let w = ap bytes_in ep in
       copied (write_bytes s p.devices p.mem (call.output + 24 * length p.pieces) piece) (record p { pieces = p.pieces ++ piece ∷ [] }) (omega (arith, x, y, z, w, size, h))
@@ -85,8 +85,8 @@ module _ (s : Setup) (call : Call) (tag : IsTag s.mac) where
   unfolding with_packet
   packet_made v k p h = go ((end_of p.state.ends k).is_open && nat_lt (end_of p.state.ends k).number 65535)
     where
-      go : (b : Bool) → OnCourse (if b then with_piece s call (event_packet s (end_of p.state.ends k) v) (counted k (end_of p.state.ends k) v p) else Going p)
-      go true = piece_made (event_packet s (end_of p.state.ends k) v) (counted k (end_of p.state.ends k) v p) (mark.Wrapped (event_header (end_of p.state.ends k)) (two v) false) p refl refl (packet_length s (end_of p.state.ends k) v tag) h
+      go : (b : Bool) → OnCourse (if b then with_piece s call (event_packet s (end_of p.state.ends k) v) (wrap_counted k (end_of p.state.ends k) v p) else Going p)
+      go true = piece_made (event_packet s (end_of p.state.ends k) v) (wrap_counted k (end_of p.state.ends k) v p) (mark.Wrapped (event_header (end_of p.state.ends k)) (two v) false) p refl refl (packet_length s (end_of p.state.ends k) v tag) h
       go false = h
 
   then_on : (x : Course) (rest : Progress → Course) → OnCourse x → ((p : Progress) → Tallied p → OnCourse (rest p)) → OnCourse (and_on x rest)
@@ -101,7 +101,7 @@ module _ (s : Setup) (call : Call) (tag : IsTag s.mac) where
       go true f = then_on (with_packet s call v k p) (with_packets s call output v (k + 1) es) (packet_made v k p h) f
       go false f = f p h
 
-  no_piece : (p : Progress) (m : Mark) → piece_size m ≡ 0 → Tallied p → bytes_in p.pieces ≡ made (p.marks ++ m ∷ [])
+  no_piece : (p : Progress) (m : Mark) → piece_size m ≡ 0 → Tallied p → bytes_in p.pieces ≡ made_bytes (p.marks ++ m ∷ [])
   no_piece p m e h = let x = made_more p.marks m in omega (arith, x, e, h)
 
   act_made : (a : Act) (p : Progress) → Tallied p → OnCourse (with_act s call a p)
@@ -158,7 +158,7 @@ module _ (s : Setup) (call : Call) (tag : IsTag s.mac) where
         by_tag : (e : ℕ × End) (u : Option (List ℕ)) → OnResult (event_opened s call e packet u p)
         by_tag e None = h
         by_tag e (Some body) =
-            let r = taken e.0 packet (take 2 body) (end_of p.state.ends e.0) p in
+            let r = number_taken e.0 packet (take 2 body) (end_of p.state.ends e.0) p in
             finishes (handled s call (event.Input e.1.port (word body 0)) r) (handled_made (event.Input e.1.port (word body 0)) r (no_piece p (mark.Unwrapped (header_in packet) (take 2 body) false) refl h))
 
         by_end : (e : Option (ℕ × End)) → OnResult (input_at s call packet e p)
@@ -175,7 +175,7 @@ module _ (s : Setup) (call : Call) (tag : IsTag s.mac) where
         by_device : (d : Option (ℕ × Window)) → OnResult (sample_of s call d p)
         by_device None = h
         by_device (Some d) =
-            let r = sampled d p in
+            let r = sample_read d p in
             either d.1.fresh (finished (handled s call (event.Sample d.1.value) r)) (Returns 8 p) (finishes (handled s call (event.Sample d.1.value) r) (handled_made (event.Sample d.1.value) r (no_piece p (mark.Sampled d.0 d.1.value) refl h))) h
 
     entered_made : OnResult (entered s call p)
@@ -197,8 +197,8 @@ module _ (s : Setup) (call : Call) (tag : IsTag s.mac) where
         (either (has_bad_windows s call) (Returns 3 p) (entered s call p) h entered_made))
 
 pub pieces_marked : PiecesMarked
-pieces_marked s call p tag none quiet = go (invoke s call p) (invoke_made s call tag p (ap bytes_in none ∙ sym (ap made quiet)))
+pieces_marked s call p tag none quiet = go (invoke s call p) (invoke_made s call tag p (ap bytes_in none ∙ sym (ap made_bytes quiet)))
   where
-    go : (r : Invoked) → OnResult r → bytes_in (pieces_in r) ≡ made (marks_in r)
+    go : (r : Invoked) → OnResult r → bytes_in (pieces_in r) ≡ made_bytes (marks_in r)
     go (Returns status q) h = h
     go (Violates v q) h = h

@@ -8,7 +8,7 @@ use Rattle.sx_trace.specs.declared.items.Cause.{Cause}
 use Rattle.sx_trace.specs.declared.items.Cause.TheVariants as cause
 use Rattle.sx_trace.specs.declared.items.Item.{Item}
 use Rattle.sx_trace.specs.declared.items.Item.TheVariants.{Reset, Protect, Sense, Read, Drain, Ask, Attested, Denied, Vouch, Open, Take, Out, Raw, Done, Packet, Forged, Busy, Skip, Budget}
-use Rattle.sx_trace.specs.Items.{name_at, name_or, cause_word, side_word, epoch_words, spaced, item_text, IsItem, IsIndexOrNone, ItemsDiffer}
+use Rattle.sx_trace.specs.Items.{name_at, name_or, cause_word, side_word, epoch_words, spaced_words, item_text, IsItem, IsIndexOrNone, ItemsDiffer}
 use Rattle.sx_trace.specs.Finding.{cut, number_of, up_to, index_or_none, cause_of, side_of, open_in, kind_in, item_in, ◌>>=◌}
 use Rattle.sx_trace.proofs.Cut.{is_word, cut_word, cut_all, number_read, up_to_read, decimal_word}
 use Rattle.sx_trace.proofs.Known.{Known, known_node, known_device, known_module, known_link, no_deployer}
@@ -44,14 +44,14 @@ deployer_found n (Some m) v h = let k = known_module n m v h in rw (no_deployer 
 
 -- the epoch's word, where there is one, after the side
 epoch_found : (side : Side) (epoch : ℕ) → epoch < 2 ^ 8
-    → (cut (spaced (side_word side ∷ epoch_words epoch))).0 ≡ side_word side
-    × up_to 255 (cut (spaced (side_word side ∷ epoch_words epoch))).1 ≡ Some epoch
+    → (cut (spaced_words (side_word side ∷ epoch_words epoch))).0 ≡ side_word side
+    × up_to 255 (cut (spaced_words (side_word side ∷ epoch_words epoch))).1 ≡ Some epoch
 unfolding number_of
 epoch_found side epoch small = by_test (epoch == 0) refl
   where
     by_test : (t : Bool) → (epoch == 0) ≡ t
-        → (cut (spaced (side_word side ∷ epoch_words epoch))).0 ≡ side_word side
-        × up_to 255 (cut (spaced (side_word side ∷ epoch_words epoch))).1 ≡ Some epoch
+        → (cut (spaced_words (side_word side ∷ epoch_words epoch))).0 ≡ side_word side
+        × up_to 255 (cut (spaced_words (side_word side ∷ epoch_words epoch))).1 ≡ Some epoch
     by_test true e =
         let zero_epoch : epoch ≡ 0 = grind (arith, nat_tests, e) in
         rw (zero_epoch, cut_all (side_word side) (side_found side).1) (refl, refl)
@@ -97,7 +97,7 @@ found n (Open m link side epoch) v h =
     let k = known_module n m v h.0.0 in
     let l = known_link n link v h.0.1 in
     let e = epoch_found side epoch h.1 in
-    let rest : List ℕ = spaced (side_word side ∷ epoch_words epoch) in
+    let rest : List ℕ = spaced_words (side_word side ∷ epoch_words epoch) in
     of_kind n (codes "open") (name_at n.modules m ++ 32 ∷ (name_at n.links link ++ 32 ∷ rest)) refl
     ∙ rw (cut_word (name_at n.modules m) (name_at n.links link ++ 32 ∷ rest) k.word, k.found) (opened m link side epoch rest k.word l e)
   where

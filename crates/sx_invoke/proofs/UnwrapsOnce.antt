@@ -19,10 +19,10 @@ use Rattle.sx_invoke.specs.Marks.{Mark}
 use Rattle.sx_invoke.specs.ModuleState.{EndState, end_of, link_of, epoch_of}
 use Rattle.sx_invoke.specs.Windows.{two, write_bytes, read_bytes}
 use Rattle.sx_invoke.specs.Progress.{Progress, Invoked, Returns, Violates, Course, Going, Broken, and_on, finished, marks_in}
-use Rattle.sx_invoke.specs.Acts.{with_piece, copied_to, with_packet, event_packet, event_header, counted, with_packets, with_act, with_acts, actuated, own_window, handled}
+use Rattle.sx_invoke.specs.Acts.{with_piece, copied_to, with_packet, event_packet, event_header, wrap_counted, with_packets, with_act, with_acts, actuated, own_window, handled}
 use Rattle.sx_mean.specs.Ends.{is_sending}
 use Rattle.sx_invoke.specs.Invocation.{invoke, entered, returns_inside, is_no_entry, has_bad_windows}
-use Rattle.sx_invoke.specs.Entries.{received, is_kind, set_key, set_key_at, key_opened, is_keyed, attest, input, input_at, event_numbered, event_opened, sample, sample_of, sampled, taken, field_in, second_in, header_in, end_on, end_found, side_of, with_received}
+use Rattle.sx_invoke.specs.Entries.{received, is_kind, set_key, set_key_at, key_opened, is_keyed, attest, input, input_at, event_numbered, event_opened, sample, sample_of, sample_read, number_taken, field_in, second_in, header_in, end_on, end_found, side_of, with_received}
 use Rattle.sx_invoke.specs.Laws.{is_unwrap, NoUnwrap, FirstAlone, UnwrapsOnce}
 
 abbrev marks_on : Course → List Mark
@@ -59,8 +59,8 @@ packet_keeps : (s : Setup) (call : Call) (v k : ℕ) → Keeps (with_packet s ca
 unfolding with_packet
 packet_keeps s call v k p h = go (end_of p.state.ends k) ((end_of p.state.ends k).is_open && nat_lt (end_of p.state.ends k).number 65535)
   where
-    go : (e : EndState) (b : Bool) → FirstAlone (marks_on (if b then with_piece s call (event_packet s e v) (counted k e v p) else Going p))
-    go e true = piece_keeps s call (event_packet s e v) (counted k e v p) (first_more p.marks (mark.Wrapped (event_header e) (two v) false) refl h)
+    go : (e : EndState) (b : Bool) → FirstAlone (marks_on (if b then with_piece s call (event_packet s e v) (wrap_counted k e v p) else Going p))
+    go e true = piece_keeps s call (event_packet s e v) (wrap_counted k e v p) (first_more p.marks (mark.Wrapped (event_header e) (two v) false) refl h)
     go e false = h
 
 packets_keep : (s : Setup) (call : Call) (output v k : ℕ) (es : List End) → Keeps (with_packets s call output v k es)
@@ -133,7 +133,7 @@ module _ (s : Setup) (call : Call) (p : Progress) (none : p.marks ≡ []) where
       by_tag : (e : ℕ × End) (u : Option (List ℕ)) → Fine (event_opened s call e packet u p)
       by_tag e None = nothing
       by_tag e (Some body) =
-          let q = taken e.0 packet (take 2 body) (end_of p.state.ends e.0) p in
+          let q = number_taken e.0 packet (take 2 body) (end_of p.state.ends e.0) p in
           finished_keeps (handled s call (event.Input e.1.port (word body 0)) q) (handler_keeps s call (event.Input e.1.port (word body 0)) q (one (mark.Unwrapped (header_in packet) (take 2 body) false)))
 
       by_end : (e : Option (ℕ × End)) → Fine (input_at s call packet e p)
@@ -150,7 +150,7 @@ module _ (s : Setup) (call : Call) (p : Progress) (none : p.marks ≡ []) where
       by_device : (d : Option (ℕ × Window)) → Fine (sample_of s call d p)
       by_device None = nothing
       by_device (Some d) =
-          let q = sampled d p in
+          let q = sample_read d p in
           if_fine d.1.fresh (finished (handled s call (event.Sample d.1.value) q)) (Returns 8 p) (finished_keeps (handled s call (event.Sample d.1.value) q) (handler_keeps s call (event.Sample d.1.value) q (one (mark.Sampled d.0 d.1.value)))) nothing
 
   entered_fine : Fine (entered s call p)

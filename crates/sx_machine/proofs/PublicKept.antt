@@ -7,7 +7,7 @@ use Rattle.std.proofs.lemmas.List.{get_or-set_other}
 use Rattle.sx_rules.specs.declared.access.Access.TheVariants.{Write}
 use Rattle.sx_rules.specs.declared.section.Section.{Section}
 use Rattle.sx_rules.specs.Access.{may, allows, in_public, Lives}
-use Rattle.sx_bus.specs.Devices.{places_of, sensed}
+use Rattle.sx_bus.specs.Devices.{places_of, with_sample}
 use Rattle.sx_machine.specs.declared.kinds.Refused.{Refused}
 use Rattle.sx_machine.specs.declared.kinds.Refused.TheVariants as refused
 use Rattle.sx_machine.specs.Memory.{bytes_from, put_bytes}
@@ -15,7 +15,7 @@ use Rattle.sx_machine.specs.Registers.{set_reg}
 use Rattle.sx_machine.specs.Ranges.{meets, passes_end, meets_public, meets_private, meets_device}
 use Rattle.sx_machine.specs.State.{State, reset}
 use Rattle.sx_machine.specs.Run.{exec}
-use Rattle.sx_machine.specs.Step.{Shows, own_of, start, step}
+use Rattle.sx_machine.specs.Step.{Shown, own_of, start, step}
 use Rattle.sx_machine.specs.Acts.{unless, put_refusal, take_refusal, busy, irq_refusal, interrupt, interrupted}
 use Rattle.sx_machine.specs.Guard.{Step, Restart, Put as PutAct, Set, Take, Sense, Interrupt}
 use Rattle.sx_machine.specs.Frame.{Framed, KeptPublic, PublicKept}
@@ -89,7 +89,7 @@ put_public a at bytes s l e k p =
     put_other bytes a.mem at k (clear_of_range at (length bytes) s.layout.pub_from s.layout.pub_to k
     (none_any (λ z. meets at (length bytes) z.layout.pub_from z.layout.pub_to) a.sections.live s (put_apart a at (length bytes) e) l) (leb-true s.layout.pub_from k q.0) (ltb-true k s.layout.pub_to q.1))
 
-unless_public : {T : Type 0} (o : Option Refused) (a : State) (done : Shows T) (s : Section) → (o ≡ None → KeepsIt s a done.state) → KeepsIt s a (unless o a done).state
+unless_public : {T : Type 0} (o : Option Refused) (a : State) (done : Shown T) (s : Section) → (o ≡ None → KeepsIt s a done.state) → KeepsIt s a (unless o a done).state
 unless_public None a done s f = f refl
 unless_public (Some r) a done s f = inl (λ k p. refl)
 
@@ -99,5 +99,5 @@ public_kept mac Restart a s pl l = inr refl
 public_kept mac (PutAct at bytes) a s pl l = unless_public {T = Unit {0}} (put_refusal a at (length bytes)) a (record { state = record a { mem = put_bytes a.mem at bytes }; shown = tt }) s (λ e. inl (put_public a at bytes s l e))
 public_kept mac (Set r v) a s pl l = unless_public {T = Unit {0}} (busy a) a (record { state = record a { regs = set_reg a.regs r v; last = if r == 0 then 0 else a.last }; shown = tt }) s (λ e. inl (λ k p. refl))
 public_kept mac (Take at n) a s pl l = unless_public (take_refusal a at n) a (record { state = a; shown = bytes_from a.mem at n }) s (λ e. inl (λ k p. refl))
-public_kept mac (Sense device v) a s pl l = unless_public {T = Unit {0}} (busy a) a (record { state = record a { devices = sensed a.devices device v }; shown = tt }) s (λ e. inl (λ k p. refl))
+public_kept mac (Sense device v) a s pl l = unless_public {T = Unit {0}} (busy a) a (record { state = record a { devices = with_sample a.devices device v }; shown = tt }) s (λ e. inl (λ k p. refl))
 public_kept mac (Interrupt line) a s pl l = unless_public (irq_refusal a) a (interrupted a (exec a.sections 0 (interrupt line a.regs) (start a))) s (λ e. framed_keeps 0 s a (interrupted a (exec a.sections 0 (interrupt line a.regs) (start a))).state l (interrupt_framed line a))

@@ -13,9 +13,9 @@ use Rattle.sx_lex.specs.declared.tokens.Placed.{Placed}
 use Rattle.sx_lex.specs.Words.{keywords, signs, found_in, value, is_digit, is_number, is_hexadecimal, is_name, or_else, kind_of}
 use Rattle.sx_lex.specs.Lexed as lex
 use Rattle.sx_lex.specs.Lexed.{Lexed, start, at_end, space, newline, comment, bad}
-use Rattle.sx_grammar.specs.Tokens.{Token, token, given}
+use Rattle.sx_grammar.specs.Tokens.{Token, token, given_tokens}
 use Rattle.sx_grammar.specs.Text.{Spells}
-use Rattle.sx_grammar.specs.Grammar.{Form, Factors, Addends, Stands, number, name, element, brackets, plain, unary, term, no_factor, factor, sum, no_addend, addend, whole, comparison, IsStatement, definition, assignment, element_assignment, if_then, if_else, repetition, sending, emission, IsBlock, block, AreStatements, no_statement, statement, IsDeclaration, sensor, actuator, input, output, variable, variable_with, array, AreDeclarations, no_declaration, declaration, IsHandler, on_input, on_sample, AreHandlers, no_handler, handler}
+use Rattle.sx_grammar.specs.Grammar.{Form, Factors, Addends, IsExpression, number, name, element, brackets, plain, unary, term, no_factor, factor, sum, no_addend, addend, whole, comparison, IsStatement, definition, assignment, element_assignment, if_then, if_else, repetition, sending, emission, IsBlock, block, AreStatements, no_statement, statement, IsDeclaration, sensor, actuator, input, output, variable, variable_with, array, AreDeclarations, no_declaration, declaration, IsHandler, on_input, on_sample, AreHandlers, no_handler, handler}
 use Rattle.sx_lang.specs.Words.{AreWords, IsWord, HasWords, BlockHasWords, HandlersHaveWords, DeclHasWords, DeclsHaveWords, TreeHasWords}
 
 -- a token's number is a word
@@ -74,7 +74,7 @@ small_kind w k h = by_name (is_name w) h
     by_name true e = some (or_else (found_in keywords w) (Name w)) e (or_small (found_in keywords w) (λ j f. small_found keywords w j (tt, (tt, (tt, (tt, (tt, (tt, (tt, (tt, (tt, (tt, (tt, (tt, (tt, (tt, tt)))))))))))))) f))
     by_name false e = by_number (is_number 10 w) refl e
 
-small_tokens : {at end : Place} {bs : List ℕ} {ts : List Placed} → Lexed at bs ts end → AreSmall (given ts)
+small_tokens : {at end : Place} {bs : List ℕ} {ts : List Placed} → Lexed at bs ts end → AreSmall (given_tokens ts)
 small_tokens at_end = tt
 small_tokens (space s l) = small_tokens l
 small_tokens (newline l) = small_tokens l
@@ -88,7 +88,7 @@ Before (Factors n l) = AreWords l
 Before (Addends n l) = AreWords l
 Before _ = Unit {0}
 
-words_stand : {f : Form} {d : ℕ} {ts r : List Token} {e : Expression} → Stands f d ts e r → Before f → AreSmall ts → AreWords e × AreSmall r
+words_stand : {f : Form} {d : ℕ} {ts r : List Token} {e : Expression} → IsExpression f d ts e r → Before f → AreSmall ts → AreWords e × AreSmall r
 words_stand number b h = (h.0, h.1)
 words_stand name b h = (tt, h.1)
 words_stand (element g s) b h = let w = words_stand s tt h.1.1 in (w.0, w.1.1)

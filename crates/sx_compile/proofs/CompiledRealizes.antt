@@ -16,7 +16,7 @@ use Rattle.sx_reach.proofs.Reaching.{weaken}
 use Rattle.sx_invoke.specs.Invocation.{invoke}
 use Rattle.sx_invoke.specs.Progress.{Invoked, marks_in}
 use Rattle.sx_invoke.specs.Setup.{Setup}
-use Rattle.sx_invoke.proofs.Tally.{pieces_marked}
+use Rattle.sx_invoke.proofs.PiecesMarked.{pieces_marked}
 use Rattle.sx_image.specs.Watched.{Watched, watch}
 use Rattle.sx_image.specs.Image.{Enters, Image, call_at, progress_at, public_bytes, setup_at}
 use Rattle.sx_image.specs.Realizes.{Aborted, DoesInvocation, Exited, Underway, begins}
@@ -25,7 +25,7 @@ use Rattle.sx_ir.specs.declared.ir.Ir.{Ir}
 use Rattle.sx_ir.specs.Sizes.{bytes}
 use Rattle.sx_ir.specs.Sound.{is_sound, is_sound_op}
 use Rattle.sx_stub.specs.Joined.{PartsDo}
-use Rattle.sx_stub.proofs.Joined.{joined_invokes}
+use Rattle.sx_stub.proofs.JoinedInvokes.{joined_invokes}
 use Rattle.sx_tmpl.specs.Performs.{HasRoom, IsNarrow, Performs, entry_conf}
 use Rattle.sx_tmpl.specs.Running.{fixed_at}
 use Rattle.sx_tmpl.specs.Shows.{Stood}
@@ -33,16 +33,16 @@ use Rattle.sx_tmpl.specs.Text.{addresses, addresses_of, bytes_of, text_words, te
 use Rattle.sx_tmpl.proofs.Performing.{text_does}
 use Rattle.sx_tmpl.proofs.TextBytes.{text_size}
 use Rattle.sx_lower.specs.Lowering.{IsLowerable}
-use Rattle.sx_compile.specs.Compiled.{HasSections, IsCompiled, compiled_image, compiled_ops, compiled_parts, compiled_text, padded}
+use Rattle.sx_compile.specs.Compiled.{HasSections, IsCompiled, compiled_image, compiled_ops, compiled_parts, compiled_text, padded_to}
 use Rattle.sx_compile.specs.Laws.{CompiledRealizes}
 use Rattle.sx_compile.proofs.Begun.{begun_at}
 use Rattle.sx_compile.proofs.Does.{does_invocation}
-use Rattle.sx_compile.proofs.Few.{few_pieces}
+use Rattle.sx_compile.proofs.FewPieces.{few_pieces}
 use Rattle.sx_compile.proofs.Narrow.{AreBelow, all_narrow, bytes_below, ops_below}
 use Rattle.sx_compile.proofs.Parts.{parts_do, starts}
 use Rattle.sx_compile.proofs.Sizes.{within_weight}
 use Rattle.sx_compile.proofs.Sound.{compiled_sound, ops_sound, plain}
-use Rattle.sx_compile.proofs.Zeros.{zeros_initial}
+use Rattle.sx_compile.proofs.ZerosInitial.{zeros_initial}
 
 -- the zeros after the words
 abbrev zeros : Layout → ModuleTree → List End → List ℕ
@@ -143,11 +143,11 @@ compiled_realizes mac tree ends l provider code tag able links room is = record 
 }
 
 -- A text of the code, with zeros up to the end of its section, is the module's.
-pub image_is : (tree : ModuleTree) (ends : List End) (l : Layout) (provider : ℕ) (code : Code) (words text : List ℕ) → HasSections tree ends l → IsCompiled tree ends code → words ≡ bytes_of (text_words l code) → text ≡ padded (l.pub_to - l.pub_from) words
+pub image_is : (tree : ModuleTree) (ends : List End) (l : Layout) (provider : ℕ) (code : Code) (words text : List ℕ) → HasSections tree ends l → IsCompiled tree ends code → words ≡ bytes_of (text_words l code) → text ≡ padded_to (l.pub_to - l.pub_from) words
     → ◌≡◌ {A = Image} (record { text = text; layout = l; provider = provider }) (compiled_image l provider tree ends)
 unfolding compiled_text
 image_is tree ends l provider code words text room is made filled =
     let public = room.public in
     let size : l.pub_to - l.pub_from ≡ module_weight tree (length ends) = omega (arith, public) in
     ap (λ (t : List ℕ). record { text = t; layout = l; provider = provider })
-    (filled ∙ ap (λ (n : ℕ). padded n words) size ∙ ap (λ (w : List ℕ). padded (module_weight tree (length ends)) w) (made ∙ code_text l tree ends code is))
+    (filled ∙ ap (λ (n : ℕ). padded_to n words) size ∙ ap (λ (w : List ℕ). padded_to (module_weight tree (length ends)) w) (made ∙ code_text l tree ends code is))

@@ -361,9 +361,9 @@ lined instr.Reti at h even = reti_lined at
 lined (instr.Jump cond o) at h even = jump_lined cond at o h.0 h.1 even
 lined (instr.Sancus code) at h even = sancus_lined code at h.0 h.1
 
-pub again : (i : Instr) (at : ℕ) → IsInstruction i → at % 2 ≡ 0 → at + 2 * length (spelling i) ≤ 65536
+pub reassembles : (i : Instr) (at : ℕ) → IsInstruction i → at % 2 ≡ 0 → at + 2 * length (spelling i) ≤ 65536
     → assembled at (shown i at) ≡ Ok (bytes_of (spelling i))
-again i at h even room = lined_again at (shown i at) (spelling i) (lined i at h even) even room
+reassembles i at h even room = lined_again at (shown i at) (spelling i) (lined i at h even) even room
 
 -- A word of data.
 

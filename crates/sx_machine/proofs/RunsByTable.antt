@@ -17,7 +17,7 @@ use Rattle.sx_tag.specs.Mac.{Mac}
 use Rattle.sx_machine.specs.declared.kinds.Event.TheVariants.{Reset}
 use Rattle.sx_machine.specs.State.{State}
 use Rattle.sx_machine.specs.Run.{may_at, Outcome, Violated}
-use Rattle.sx_machine.specs.Step.{pc_of, instruction, ordered, word_outside, settled}
+use Rattle.sx_machine.specs.Step.{pc_of, instruction, ordered, word_outside, settled_step}
 use Rattle.sx_machine.specs.Node.{IsNode}
 use Rattle.sx_machine.specs.Frame.{RunsByTable}
 use Rattle.sx_machine.proofs.PlanGuard.{passes}
@@ -107,7 +107,7 @@ on_device a k s h e l =
 
 -- an outcome that the law speaks of
 abbrev Goes : State → Outcome → Type 0
-Goes a o = ((settled a o).shown.event ≡ Reset bad.Fetch → ⊥) × ((settled a o).shown.event ≡ Reset bad.Order → ⊥)
+Goes a o = ((settled_step a o).shown.event ≡ Reset bad.Fetch → ⊥) × ((settled_step a o).shown.event ≡ Reset bad.Order → ⊥)
 
 order_of : (mac : Mac) (a : State) (d : Option ℕ) → IsNode a → device_at a.devices (pc_of a) ≡ d → Goes a (ordered mac a d) → (s : Section) → Lives a.sections.live s → InOrder a.cur (pc_of a) s
 order_of mac a (Some k) h e goes s l = rw (on_device a k s h e l) refl

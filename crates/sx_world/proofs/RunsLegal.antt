@@ -7,8 +7,8 @@ use Rattle.sx_machine.specs.declared.kinds.Refused.TheVariants.{Busy, Guarded, M
 use Rattle.sx_machine.specs.Acts.{take as take_from}
 use Rattle.sx_world.specs.Setting.{Setting}
 use Rattle.sx_world.specs.State.{World}
-use Rattle.sx_world.specs.Acts.{took}
-use Rattle.sx_world.specs.Law.{IsSound, RunsLegal}
+use Rattle.sx_world.specs.Acts.{after_take}
+use Rattle.sx_world.specs.Law.{IsSoundSetting, RunsLegal}
 use Rattle.std.proofs.lemmas.Bool.{and_parts, ltb-true}
 use Rattle.sx_mean.specs.Application.{PartTree}
 use Rattle.sx_world.proofs.Lists.{get_some, get_within}
@@ -25,13 +25,13 @@ use Rattle.sx_world.proofs.Outside.{put_keeps, set_keeps}
 use Rattle.sx_world.proofs.Sensing.{sense_keeps}
 use Rattle.sx_world.proofs.Counting.{counts_lines}
 
-took_fares : (set : Setting) (w : World) (n : ℕ) (r : Result (List ℕ) Refused) → Keeps set w (took w n r)
+took_fares : (set : Setting) (w : World) (n : ℕ) (r : Result (List ℕ) Refused) → Keeps set w (after_take w n r)
 took_fares set w n (Ok bytes) mo t = tied_packet set w mo bytes t
 took_fares set w n (Err Busy) mo t = t
 took_fares set w n (Err Guarded) mo t = t
 took_fares set w n (Err Masked) mo t = t
 
-pub acts_keep : (set : Setting) → IsSound set → ActsKeep set
+pub acts_keep : (set : Setting) → IsSoundSetting set → ActsKeep set
 acts_keep set sound =
     let laws = machine_laws set.mac in
     record {
@@ -48,7 +48,7 @@ acts_keep set sound =
     }
 
 -- a site's numbers are words
-are_wordly : (set : Setting) (sound : IsSound set) → Wordly set (acts_keep set sound)
+are_wordly : (set : Setting) (sound : IsSoundSetting set) → Wordly set (acts_keep set sound)
 are_wordly set sound m site sited =
     let q : (q : PartTree) × (slice_get set.app.parts m ≡ Some q) = get_some set.app.parts m (omega (arith, get_within set.sites m site sited, sound.sites)) in
     let d = sound.deployed m q.0 site q.1 sited in

@@ -1,11 +1,11 @@
 -- The runs of an accepted deployment with its images are legal.
 use Rattle.sx_deploy.proofs.Sound.{sound}
-use Rattle.sx_world.specs.Accepted.{setting_of, sites_of, AcceptedRuns}
-use Rattle.sx_world.proofs.Whole.{runs_legal}
+use Rattle.sx_world.specs.Accepted.{setting_of, sites_of, AcceptedRunsLegal}
+use Rattle.sx_world.proofs.RunsLegal.{runs_legal}
 use Rattle.sx_world.proofs.Settled.{settled}
 use Rattle.sx_world.proofs.FormedLines.{lines_in_form}
 
-pub accepted_runs : AcceptedRuns
-accepted_runs text d h mac texts tag images lines few are =
+pub accepted_runs_legal : AcceptedRunsLegal
+accepted_runs_legal text d h mac texts tag images lines few are =
     runs_legal (setting_of mac d texts) (settled mac d texts (sound text d h) images tag) lines few
     (lines_in_form mac d (sites_of d.app.parts d.layouts d.providers texts) (sound text d h) lines are)

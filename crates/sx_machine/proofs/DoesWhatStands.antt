@@ -6,7 +6,7 @@ use Rattle.sx_isa.specs.declared.instruction.Instr.{Instr}
 use Rattle.sx_isa.specs.declared.instruction.Instr.TheVariants.{Two, One, Reti, Jump, Sancus}
 use Rattle.sx_isa.specs.Legal.{IsInstruction}
 use Rattle.sx_isa.specs.Spelling.{spelling, head_or_zero}
-use Rattle.sx_isa.specs.Standing.{word_at, WordsStand, Stands}
+use Rattle.sx_isa.specs.Standing.{word_at, WordsStand, InstructionStands}
 use Rattle.sx_isa.specs.Reading.{length_of, instruction_at}
 use Rattle.sx_isa.proofs.Spelled.{reads, spelling_short}
 use Rattle.sx_isa.proofs.Lengths.{length_of_spelling}
@@ -25,9 +25,9 @@ use Rattle.sx_machine.specs.Plan.{Plan, Fetch}
 use Rattle.sx_machine.specs.Run.{Moment, Outcome, Violated, device_of, fetch_place, fetch, after_fetch, exec}
 use Rattle.sx_machine.specs.Rows.{row, row_of, with_words, program}
 use Rattle.sx_machine.specs.Modules.{is_code, module_instruction}
-use Rattle.sx_machine.specs.Step.{pc_of, own_of, start, given, is_module_word, instruction, ordered, word_outside, is_let_run, attempt}
+use Rattle.sx_machine.specs.Step.{pc_of, own_of, start, given_at_pc, is_module_word, instruction, ordered, word_outside, is_let_run, attempt}
 use Rattle.sx_machine.specs.Node.{AreRegisters}
-use Rattle.sx_machine.specs.Doing.{done_plainly, done, DoesWhatStands}
+use Rattle.sx_machine.specs.Doing.{done_plainly, instruction_done, DoesWhatStands}
 
 -- an outcome is the other, or a word may not be taken
 abbrev Does : Outcome → Outcome → Type 0
@@ -101,7 +101,7 @@ words_do t own x regs pc i lt h (a ∷ b ∷ c ∷ []) e short s =
     (inl (ap (λ (r : Option (Instr × ℕ)). exec t own (row_of r regs pc) x) read))))
 words_do t own x regs pc i lt h (a ∷ b ∷ c ∷ d ∷ ws) e short s = absurd (omega (arith, short))
 
-plain_does : (a : State) (i : Instr) → AreRegisters a.regs → Stands a.mem (pc_of a) i
+plain_does : (a : State) (i : Instr) → AreRegisters a.regs → InstructionStands a.mem (pc_of a) i
     → Does (exec a.sections (own_of a) (program (word a.mem (pc_of a)) a.regs) (start a)) (done_plainly a i)
 unfolding program
 plain_does a i r s =
@@ -123,7 +123,7 @@ one_read i j m n r e f =
     let same : a ≡ b = cc in
     ap (λ (p : Instr × ℕ). p.0) same
 
-only_module : (mem : List ℕ) (pc : ℕ) (i : Instr) → Stands mem pc i → is_module_word (word_at mem pc) ≡ true → i ≡ Sancus (word_at mem pc - 0x1380)
+only_module : (mem : List ℕ) (pc : ℕ) (i : Instr) → InstructionStands mem pc i → is_module_word (word_at mem pc) ≡ true → i ≡ Sancus (word_at mem pc - 0x1380)
 only_module mem pc i s e =
     let w = word_at mem pc in
     let m = module_word w e in
@@ -142,8 +142,8 @@ is_module code h =
 
 -- The step.
 
-not_module : (a : State) (i : Instr) → AreRegisters a.regs → Stands a.mem (pc_of a) i → is_module_word (word a.mem (pc_of a)) ≡ false → (mac : Mac)
-    → Does (exec a.sections (own_of a) (program (word a.mem (pc_of a)) a.regs) (start a)) (done mac a i)
+not_module : (a : State) (i : Instr) → AreRegisters a.regs → InstructionStands a.mem (pc_of a) i → is_module_word (word a.mem (pc_of a)) ≡ false → (mac : Mac)
+    → Does (exec a.sections (own_of a) (program (word a.mem (pc_of a)) a.regs) (start a)) (instruction_done mac a i)
 not_module a (Two op byte src dst) r s e mac = plain_does a (Two op byte src dst) r s
 not_module a (One op byte arg) r s e mac = plain_does a (One op byte arg) r s
 not_module a Reti r s e mac = plain_does a Reti r s
@@ -151,17 +151,17 @@ not_module a (Jump c offset) r s e mac = plain_does a (Jump c offset) r s
 not_module a (Sancus code) r s e mac =
     absurd (true≢false (sym (is_module code s.0) ∙ ap is_module_word (sym (first_is a.mem (pc_of a) (0x1380 + code) (r.words 0) s.1.0)) ∙ e))
 
-instruction_does : (mac : Mac) (a : State) (i : Instr) → AreRegisters a.regs → Stands a.mem (pc_of a) i → Does (instruction mac a) (done mac a i)
+instruction_does : (mac : Mac) (a : State) (i : Instr) → AreRegisters a.regs → InstructionStands a.mem (pc_of a) i → Does (instruction mac a) (instruction_done mac a i)
 instruction_does mac a i r s = by (is_module_word (word a.mem (pc_of a))) refl
   where
     by : (b : Bool) → is_module_word (word a.mem (pc_of a)) ≡ b
-        → Does (cond b (module_instruction mac (word a.mem (pc_of a) - 0x1380) (given mac a) a.mem) (exec a.sections (own_of a) (program (word a.mem (pc_of a)) a.regs) (start a))) (done mac a i)
+        → Does (cond b (module_instruction mac (word a.mem (pc_of a) - 0x1380) (given_at_pc mac a) a.mem) (exec a.sections (own_of a) (program (word a.mem (pc_of a)) a.regs) (start a))) (instruction_done mac a i)
     by false e = not_module a i r s e mac
     by true e =
         let w = word a.mem (pc_of a) in
         let same : w ≡ word_at a.mem (pc_of a) = first_is a.mem (pc_of a) (word_at a.mem (pc_of a)) (r.words 0) refl in
         let is : i ≡ Sancus (w - 0x1380) = only_module a.mem (pc_of a) i s (ap is_module_word (sym same) ∙ e) ∙ ap (λ (v : ℕ). Sancus (v - 0x1380)) (sym same) in
-        subst (λ (j : Instr). Does (module_instruction mac (w - 0x1380) (given mac a) a.mem) (done mac a j)) (sym is) (inl refl)
+        subst (λ (j : Instr). Does (module_instruction mac (w - 0x1380) (given_at_pc mac a) a.mem) (instruction_done mac a j)) (sym is) (inl refl)
 
 let_run : (mac : Mac) (a : State) → is_let_run a ≡ true → attempt mac a ≡ instruction mac a
 let_run mac a h = outer (word_outside a.sections.live (pc_of a)) (device_at a.devices (pc_of a)) h
@@ -176,4 +176,4 @@ let_run mac a h = outer (word_outside a.sections.live (pc_of a)) (device_at a.de
     outer false d e = absurd cc
 
 pub does_what_stands : DoesWhatStands
-does_what_stands mac a i r s h = subst (λ (o : Outcome). Does o (done mac a i)) (sym (let_run mac a h)) (instruction_does mac a i r s)
+does_what_stands mac a i r s h = subst (λ (o : Outcome). Does o (instruction_done mac a i)) (sym (let_run mac a h)) (instruction_does mac a i r s)

@@ -48,7 +48,7 @@ raised_none k [] = refl
 raised_none k (e ∷ es) = ap (λ (r : List ℕ). e ∷ r) (raised_none (k + 1) es)
 
 -- the epochs from the n-th connection on
-same_raised : (ls : List Link) (n m : ℕ) (es : List ℕ) → raised_from n (ends_after n m ls) es ≡ model.raised m ls es
+same_raised : (ls : List Link) (n m : ℕ) (es : List ℕ) → raised_from n (ends_after n m ls) es ≡ model.raised_epochs m ls es
 same_raised [] n m es = raised_none n es
 same_raised (l ∷ ls) n m [] = refl
 same_raised (l ∷ ls) n m (e ∷ es) =
