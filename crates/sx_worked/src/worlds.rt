@@ -54,6 +54,25 @@ fn nodes_of(alloc: Global, plan: &Deployment) -> Result<Vec<Node<FlatBus, Weak>>
     Ok(nodes)
 }
 
+/// The world of a deployment without modules, before the first line.
+fn world_of(
+    alloc: Global,
+    plan: &Deployment,
+    nodes: Vec<Node<FlatBus, Weak>>,
+) -> Result<World<FlatBus, Weak>, AllocError>
+    requires sound { IsSoundDeployment (deployed_as plan.now) }
+    requires parts { length plan.now.app.parts.items ≡ 0 }
+    requires nodes { nodes.items
+        ≡ nodes_from (setting_of weak (deployed_as plan.now) []) 0 plan.now.keys.items }
+    ensures sites { IfOk result (λ world. world.sites ≡ []) }
+    ensures stands { IfOk result (λ world. (w : Reached)
+        × Stands (setting weak (deployed_as plan.now) []) world w) }
+    ensures goes_on { IfOk result (λ world. world.wanted ≡ false) }
+{
+    let world = World::new(alloc, Weak, plan, &[], nodes)?;
+    Ok(world)
+}
+
 /// Performs a line of a schedule in a world without modules.
 fn act(
     rt: &impl Abort,
@@ -88,7 +107,7 @@ fn a_node_is_driven(rt: HostRuntime) -> Result<(), Fail> {
     assert!(rt; plan.app.devices.len() == 0);
     assert!(rt; plan.app.parts.len() == 0);
     let nodes = nodes_of(alloc, &plan)?;
-    let mut world = World::new(alloc, Weak, &plan, &[], nodes)?;
+    let mut world = world_of(alloc, &plan, nodes)?;
     let mut items = Vec::new(alloc);
     act(&rt, alloc, &plan, &mut world, b"forge 35403412", &mut items)?;
     act(&rt, alloc, &plan, &mut world, b"give 0 a 4096", &mut items)?;

@@ -1,15 +1,12 @@
-use Rattle.std.proofs.Common.{◌≡◌, ℕ, List, [], ◌∷◌, length, refl, sym, subst, ◌∙◌, arith}
+use Rattle.std.proofs.Common.{◌≡◌, List, [], length, sym, subst, ◌∙◌, arith}
 use Rattle.std.proofs.lemmas.List.{length-map}
-use Rattle.sx_mean.specs.Application.{PartTree}
 use Rattle.sx_mean.specs.View.{part_as}
-use Rattle.sx_rules.specs.declared.section.Layout.{Layout}
 use Rattle.sx_deploy.specs.Deployment.{Deployed}
 use Rattle.sx_deploy.specs.Law as deployment
 use Rattle.sx_deploy.specs.SeenDeployment.{deployed_as}
 use Rattle.sx_sched.specs.Lines.{line_of}
 use Rattle.sx_tag.specs.Mac.{weak}
 use Rattle.sx_tag.specs.Tags.{weak-is_tag}
-use Rattle.sx_world.specs.Accepted.{sites_of}
 use Rattle.sx_world.specs.Held.{setting}
 use Rattle.sx_world.specs.Law.{IsSoundSetting}
 use Rattle.sx_world.specs.Run.{after_line, line_counted}
@@ -17,11 +14,8 @@ use Rattle.sx_world.specs.Setting.{Site}
 use Rattle.sx_world.specs.Standing.{Stands}
 use Rattle.sx_world.proofs.Lists.{get_within}
 use Rattle.sx_world.proofs.Sited.{sited}
+use Rattle.sx_worked.proofs.WithoutModules.{no_sites}
 use Rattle.sx_worked.proofs.worlds.act.Goals as goal
-
-no_sites : (qs : List PartTree) (ls : List Layout) (ps : List ℕ) → length qs ≡ 0 → sites_of qs ls ps [] ≡ []
-no_sites [] ls ps e = refl
-no_sites (q ∷ qs) ls ps e = absurd (omega (arith, e))
 
 -- a deployment without modules
 sound : (d : Deployed) → deployment.IsSoundDeployment d → length d.app.parts ≡ 0 → IsSoundSetting (setting weak d [])
