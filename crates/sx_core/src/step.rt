@@ -43,7 +43,7 @@ fn fetch_instruction<B: Bus>(
 }
 
 /// Executes a decoded instruction; PC is after its first word, and `next` is the address after the
-/// whole.
+/// whole. Words and bytes are two arms, so that the compiler makes code for each.
 fn execute<B: Bus>(
     executor: &mut Executor<B>,
     instruction: Instr,
@@ -52,7 +52,18 @@ fn execute<B: Bus>(
     ensures { RunsPlan (row instruction executor.old.regs next) executor.old result executor.new }
 {
     match instruction {
-        Instr::Two { op, byte, src, dst } => two(executor, op, !byte, src, dst, next),
+        Instr::Two {
+            op,
+            byte: false,
+            src,
+            dst,
+        } => two(executor, op, true, src, dst, next),
+        Instr::Two {
+            op,
+            byte: true,
+            src,
+            dst,
+        } => two(executor, op, false, src, dst, next),
         Instr::One { op, byte, arg } => one(executor, op, !byte, arg, next),
         Instr::Reti => reti(executor),
         Instr::Jump { cond, offset } => jump(executor, cond, offset, next),
@@ -64,6 +75,7 @@ fn execute<B: Bus>(
 /// illegal here. After a violation nothing is said of registers and memory, and the devices may
 /// have lost a fresh mark: the caller resets the node. The instructions are those of TI's
 /// MSP430x2xx Family User's Guide, "CPU".
+#[inline(never)]
 #[tactic(auto, unfolding(sx_machine::specs::Rows::program))]
 pub fn step_plain<B: Bus>(executor: &mut Executor<B>, first: u16) -> Result<(), Violation>
     ensures { RunsPlan (program first executor.old.regs) executor.old result executor.new }

@@ -15,6 +15,7 @@ use sx_isa::{Op2, Operand};
 use sx_rules::Violation;
 
 /// A calculation on operands that are in range.
+#[inline(always)]
 pub fn calculated(kind: Calc, wide: bool, src: u16, dst: u16, flags: Flags) -> (u16, Flags)
     requires width { IsTrue (has_width kind wide) }
     requires src { src < limit wide }
@@ -24,6 +25,7 @@ pub fn calculated(kind: Calc, wide: bool, src: u16, dst: u16, flags: Flags) -> (
     calc(kind, wide, src, dst, flags)
 }
 
+#[inline(always)]
 fn computed(op: Op2, wide: bool, src: u16, dst: u16, flags: Flags) -> (u16, Flags)
     requires src { src < limit wide }
     requires dst { dst < limit wide }
@@ -116,6 +118,7 @@ fn on_memory<B: Bus>(
     }
 }
 
+#[inline(always)]
 fn onto<B: Bus>(
     executor: &mut Executor<B>,
     op: Op2,
@@ -148,6 +151,7 @@ fn onto<B: Bus>(
 
 /// An instruction with two operands; `next` is the address after it. The error is the instruction's
 /// first violation.
+#[inline(always)]
 pub fn two<B: Bus>(
     executor: &mut Executor<B>,
     op: Op2,

@@ -59,6 +59,7 @@ impl<B: Bus> Executor<B> {
     }
 
     /// Whether the running code may access the word, or in byte form the byte.
+    #[inline(always)]
     #[tactic(auto, using(crate::proofs::Open::open_word))]
     pub(crate) fn may(&self, wide: bool, access: Access, at: u16) -> bool
         ensures { result ≡ may_at wide self.now.sections.live self.now.own access at }
@@ -73,6 +74,7 @@ impl<B: Bus> Executor<B> {
     }
 
     /// The device whose word holds the byte, with its index.
+    #[inline(always)]
     fn device_of(&self, at: u16) -> Option<(u8, Window)>
         ensures device { result ≡ device_of self.now.devices at }
         ensures within { IfSome result (λ d. d.0 < length self.now.devices) }
