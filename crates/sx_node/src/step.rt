@@ -86,13 +86,24 @@ impl<B: Bus, T: Tag> Node<B, T> {
     }
 
     /// The instruction at PC, up to its first violation.
+    #[inline(always)]
     fn attempt(&mut self) -> Result<Seen, Violation>
         ensures { Attempts self.old (attempt T.mac self.old) result self.new }
     {
-        let pc = self.executor.register(PC);
-        if self.is_open(pc) {
-            return self.attempt_outside();
+        if self.is_open(self.executor.register(PC)) {
+            self.attempt_outside()
+        } else {
+            self.attempt_near()
         }
+    }
+
+    /// The same where a section may meet the page of PC. Its code stays out of the way of what most
+    /// steps do.
+    #[inline(never)]
+    fn attempt_near(&mut self) -> Result<Seen, Violation>
+        ensures { Attempts self.old (attempt T.mac self.old) result self.new }
+    {
+        let pc = self.executor.register(PC);
         if !self.word_outside(pc) {
             return Err(Violation::Fetch);
         }
@@ -118,6 +129,7 @@ impl<B: Bus, T: Tag> Node<B, T> {
     }
 
     /// The instruction at PC, where no section is in its way and it is of no module's code.
+    #[inline(always)]
     fn attempt_outside(&mut self) -> Result<Seen, Violation>
         requires outside { word_outside self.old.sections.live (pc_of self.old) ≡ true }
         requires order { in_order self.old.sections.live self.old.cur (pc_of self.old) ≡ true }
@@ -140,6 +152,7 @@ impl<B: Bus, T: Tag> Node<B, T> {
 
     /// The instruction at PC, where it may be run: its word lies in no private section and is no
     /// device's.
+    #[inline(always)]
     #[tactic(auto, using(sx_executor::proofs::Rights::outside_word, sx_executor::proofs::Clear::none_found))]
     fn instruction(&mut self, own: u16) -> Result<Seen, Violation>
         requires own { own ≡ own_of self.old }
@@ -182,6 +195,7 @@ impl<B: Bus, T: Tag> Node<B, T> {
         })
     }
 
+    #[inline(always)]
     fn plain_instruction(&mut self, own: u16, word: u16) -> Result<Seen, Violation>
         requires { own ≡ own_of self.old }
         ensures { Attempts self.old
@@ -223,8 +237,8 @@ impl<B: Bus, T: Tag> Node<B, T> {
           caller = caller;
         } }
     {
-        let holder = self.executor.holder(self.executor.register(PC));
-        self.cur = if holder == own { own } else { 0 };
+        let inside = own != 0 && self.executor.holder(self.executor.register(PC)) == own;
+        self.cur = if inside { own } else { 0 };
         self.last = own;
         self.caller = caller;
     }
