@@ -1,14 +1,18 @@
 //! Instructions of a node, one after the other.
 
 ghost use Rattle.std.specs.Prelude.{◌≡◌, ◌==◌, ◌&&◌, ◌||◌, ℕ, ◌+◌, ◌<◌, ◌≤◌, length, slice_get};
-ghost use Rattle.std.specs.Prelude.{slice_set, Some, IfOk, OnOk, OnErr};
+ghost use Rattle.std.specs.Prelude.{slice_set, Some, IfOk, IsTrue, OnOk, OnErr};
 ghost use Rattle.std.specs.Option.{option_to_list};
 ghost use Rattle.sx_deploy.specs.SeenDeployment.{deployed_as};
+ghost use Rattle.sx_machine.specs.Run.{untouched};
 ghost use Rattle.sx_machine.specs.State.{State};
+ghost use Rattle.sx_machine.specs.declared.kinds.Event.TheVariants.{Quiet};
 ghost use Rattle.sx_machine.specs.Step.{step};
 ghost use Rattle.sx_machine.specs.Acts.{irq};
 ghost use Rattle.sx_world.specs.Acts.{at_node, after_interrupt, after_step};
-ghost use Rattle.sx_world.specs.Held.{Did, DoesAct, Wanted, setting};
+ghost use Rattle.sx_world.specs.Held.{Did, DoesAct, Observes, ObservesFront, Wanted, setting};
+ghost use Rattle.sx_world.specs.Computed.{runner_of};
+ghost use Rattle.sx_world.specs.Observation.{observed};
 ghost use Rattle.sx_world.specs.Run as run;
 ghost use Rattle.sx_world.specs.Run.{FINISH_STEPS, is_reset, steps_of};
 
@@ -20,7 +24,8 @@ use crate::touching::refused_item;
 use std::alloc::AllocError;
 use sx_bus::Bus;
 use sx_deploy::deployment::Deployment;
-use sx_node::{Event, Node, Refused, Seen};
+use sx_ledger::Ledger;
+use sx_node::{Event, Node, Refused, Seen, Touch};
 use sx_tag::Tag;
 use sx_trace::items::Item;
 
@@ -57,6 +62,40 @@ fn irq_node<B: Bus, T: Tag>(nodes: &mut [Node<B, T>], n: u8, line: u8) -> Result
     ensures answer { (s : State) → slice_get nodes.old n ≡ Some s → (irq s line).shown ≡ result }
 {
     nodes[usize::from(n)].irq(line)
+}
+
+/// Whether an instruction showed nothing, as most do.
+fn is_quiet(seen: &Seen) -> bool
+    ensures { IsTrue result → seen.now ≡ record { touch = untouched; event = Quiet } }
+{
+    matches!(seen.touch, [Touch::Quiet, Touch::Quiet]) && matches!(seen.event, Event::Quiet)
+}
+
+/// What is seen of an instruction that left the node so: its items, and the ledger after it.
+#[inline(always)]
+fn add_step<B: Bus, T: Tag>(
+    plan: &Deployment,
+    sites: &[Site],
+    n: u8,
+    node: &Node<B, T>,
+    seen: &Seen,
+    items: &mut Vec<Item>,
+    ledger: &mut Ledger,
+) -> Result<(), AllocError>
+    requires sites { length sites.now ≤ 256 }
+    requires devices { length plan.now.app.devices.items ≤ 256 }
+    ensures done { OnOk result (Observes ledger.old ledger.new items.old.items items.new.items
+        (observed (setting T.mac (deployed_as plan.now) sites.now) n
+        (runner_of sites.now n node.now seen.now) node.now seen.now)) }
+    ensures front { OnErr result (ObservesFront ledger.old items.old.items items.new.items
+        (observed (setting T.mac (deployed_as plan.now) sites.now) n
+        (runner_of sites.now n node.now seen.now) node.now seen.now)) }
+{
+    if is_quiet(seen) {
+        return Ok(());
+    }
+    let runner = runner_of(sites, n, node, seen);
+    add_seen(plan, sites, n, runner, node, seen, items, ledger)
 }
 
 impl<B: Bus, T: Tag> Running<B, T> {
@@ -122,8 +161,7 @@ impl<B: Bus, T: Tag> Running<B, T> {
         let seen = step_node(&mut self.nodes, n);
         self.steps += 1;
         let node = &self.nodes[usize::from(n)];
-        let runner = runner_of(sites, n, node, &seen);
-        add_seen(plan, sites, n, runner, node, &seen, items, &mut self.ledger)?;
+        add_step(plan, sites, n, node, &seen, items, &mut self.ledger)?;
         Ok(seen.event)
     }
 
