@@ -3,18 +3,20 @@
 //!
 //! `calc` gives the result and the flags of a calculation: its row in specs/Table.antt, which is
 //! what must be believed. `laws` says in terms of arithmetic what the flags tell after a
-//! subtraction and an addition. The flags' bits in the status register stand in specs/Status.antt.
-//! No call takes memory.
+//! subtraction and an addition. `calc_status` is `calc` on `StatusBits`, the flags as bits of the
+//! status register, which stand in specs/Status.antt. No call takes memory.
 #![tactic(auto)]
 
 pub mod calculation;
 pub mod flags;
 pub mod laws;
+pub mod status;
 pub mod table;
 
 pub use calculation::Calc;
 pub use flags::Flags;
-pub use table::calc;
+pub use status::StatusBits;
+pub use table::{calc, calc_status};
 
 #[cfg(test)]
 mod tests;

@@ -8,6 +8,7 @@ ghost use Rattle.sx_alu.specs.Table.{with_flags};
 
 use crate::calculation::Calc;
 use crate::flags::Flags;
+use crate::status::StatusBits;
 
 fn limit(wide: bool) -> u32
     ensures { result ≡ limit wide }
@@ -33,21 +34,17 @@ fn is_negative(wide: bool, x: u16) -> bool
     half(wide) <= x
 }
 
-fn with_flags(wide: bool, r: u16, c: bool, v: bool) -> (u16, Flags)
+#[inline(always)]
+fn with_flags(wide: bool, r: u16, c: bool, v: bool) -> (u16, StatusBits)
     ensures { result ≡ with_flags wide r c v }
 {
-    let flags = Flags {
-        c,
-        z: r == 0,
-        n: is_negative(wide, r),
-        v,
-    };
-    (r, flags)
+    (r, StatusBits::new(c, r == 0, is_negative(wide, r), v))
 }
 
 /// A sum cut to its width, with the carry out of it. V is set where the result's sign isn't the
 /// destination's, if the operands' signs let it overflow.
-fn carried(wide: bool, sum: u32, d: u16, can_overflow: bool) -> (u16, Flags)
+#[inline(always)]
+fn carried(wide: bool, sum: u32, d: u16, can_overflow: bool) -> (u16, StatusBits)
     ensures { result
         ≡ carried wide sum
         (can_overflow && differ (is_negative wide (sum % limit wide)) (is_negative wide d)) }
@@ -57,7 +54,8 @@ fn carried(wide: bool, sum: u32, d: u16, can_overflow: bool) -> (u16, Flags)
     with_flags(wide, r, limit(wide) <= sum, v)
 }
 
-fn sum(wide: bool, s: u16, d: u16, carry: bool) -> (u16, Flags)
+#[inline(always)]
+fn sum(wide: bool, s: u16, d: u16, carry: bool) -> (u16, StatusBits)
     requires s { s < limit wide }
     requires d { d < limit wide }
     ensures { result ≡ sum_row wide s d (bit carry) }
@@ -66,7 +64,8 @@ fn sum(wide: bool, s: u16, d: u16, carry: bool) -> (u16, Flags)
     carried(wide, sum, d, is_negative(wide, d) == is_negative(wide, s))
 }
 
-fn difference(wide: bool, s: u16, d: u16, carry: bool) -> (u16, Flags)
+#[inline(always)]
+fn difference(wide: bool, s: u16, d: u16, carry: bool) -> (u16, StatusBits)
     requires s { s < limit wide }
     requires d { d < limit wide }
     ensures { result ≡ difference_row wide s d (bit carry) }
@@ -75,13 +74,13 @@ fn difference(wide: bool, s: u16, d: u16, carry: bool) -> (u16, Flags)
     carried(wide, sum, d, is_negative(wide, d) != is_negative(wide, s))
 }
 
-fn tested(wide: bool, r: u16, v: bool) -> (u16, Flags)
+fn tested(wide: bool, r: u16, v: bool) -> (u16, StatusBits)
     ensures { result ≡ tested wide r v }
 {
     with_flags(wide, r, r != 0, v)
 }
 
-fn shifted(wide: bool, s: u16, top: bool) -> (u16, Flags)
+fn shifted(wide: bool, s: u16, top: bool) -> (u16, StatusBits)
     requires { s < limit wide }
     ensures { result ≡ shifted wide s top }
 {
@@ -109,18 +108,35 @@ pub fn calc(kind: Calc, wide: bool, src: u16, dst: u16, flags: Flags) -> (u16, F
     ensures row { result ≡ row kind wide (src % limit wide) (dst % limit wide) flags }
     ensures below { result.0 < limit wide }
 {
+    let (value, flags) = calc_status(kind, wide, src, dst, StatusBits::of_flags(flags));
+    (value, flags.flags())
+}
+
+/// The same on the flags as bits of the status register.
+#[inline(always)]
+pub fn calc_status(
+    kind: Calc,
+    wide: bool,
+    src: u16,
+    dst: u16,
+    flags: StatusBits,
+) -> (u16, StatusBits)
+    requires { IsTrue (has_width kind wide) }
+    ensures row { result ≡ row kind wide (src % limit wide) (dst % limit wide) flags }
+    ensures below { result.0 < limit wide }
+{
     let s = cut(wide, src);
     let d = cut(wide, dst);
     match kind {
         Calc::Add => sum(wide, s, d, false),
-        Calc::AddCarry => sum(wide, s, d, flags.c),
+        Calc::AddCarry => sum(wide, s, d, flags.c()),
         Calc::Sub => difference(wide, s, d, true),
-        Calc::SubCarry => difference(wide, s, d, flags.c),
+        Calc::SubCarry => difference(wide, s, d, flags.c()),
         Calc::And => tested(wide, d & s, false),
         Calc::AndNot => (d & cut(wide, !s), flags),
         Calc::Or => (d | s, flags),
         Calc::Xor => tested(wide, d ^ s, is_negative(wide, d) && is_negative(wide, s)),
-        Calc::Rrc => shifted(wide, s, flags.c),
+        Calc::Rrc => shifted(wide, s, flags.c()),
         Calc::Rra => shifted(wide, s, is_negative(wide, s)),
         Calc::Swap => (s.swap_bytes(), flags),
         Calc::Extend => tested(wide, extended(s), false),

@@ -1,6 +1,6 @@
 //! Rows of the calculation table worked by hand, and flags in status registers.
 
-use crate::{Calc, Flags, calc};
+use crate::{Calc, Flags, StatusBits, calc};
 
 const CLEAR: Flags = Flags {
     c: false,
@@ -80,8 +80,8 @@ fn worked_rows(rt: HostRuntime) {
 // C is bit 0, Z bit 1, N bit 2 and V bit 8 of the status register.
 #[test]
 fn status_bits(rt: HostRuntime) {
-    let flags = Flags::of_status(0x0109);
-    assert_eq!(rt; shown((0, flags)), (0, [true, false, false, true]));
+    let flags = StatusBits::of_status(0x0109);
+    assert_eq!(rt; shown((0, flags.flags())), (0, [true, false, false, true]));
     assert_eq!(rt; flags.in_status(0x02f6), 0x03f1);
-    assert_eq!(rt; CLEAR.in_status(0xffff), 0xfef8);
+    assert_eq!(rt; StatusBits::of_flags(CLEAR).in_status(0xffff), 0xfef8);
 }

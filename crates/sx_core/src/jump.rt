@@ -5,22 +5,22 @@ ghost use Rattle.sx_machine.specs.Registers.{onward};
 ghost use Rattle.sx_machine.specs.Rows.{jump_taken, distance, jump};
 ghost use Rattle.sx_executor.specs.Machine.{RunsPlan};
 
-use sx_alu::Flags;
+use sx_alu::StatusBits;
 use sx_bus::Bus;
 use sx_executor::Executor;
 use sx_rules::Violation;
 
-fn taken(condition: u8, flags: Flags) -> bool
+fn taken(condition: u8, flags: StatusBits) -> bool
     ensures { result ≡ jump_taken condition flags }
 {
     match condition {
-        0 => !flags.z,
-        1 => flags.z,
-        2 => !flags.c,
-        3 => flags.c,
-        4 => flags.n,
-        5 => flags.n == flags.v,
-        6 => flags.n != flags.v,
+        0 => !flags.z(),
+        1 => flags.z(),
+        2 => !flags.c(),
+        3 => flags.c(),
+        4 => flags.n(),
+        5 => flags.n() == flags.v(),
+        6 => flags.n() != flags.v(),
         _ => true,
     }
 }

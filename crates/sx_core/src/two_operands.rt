@@ -7,7 +7,7 @@ ghost use Rattle.sx_machine.specs.Rows.{into_register, into_memory, on_memory, o
 ghost use Rattle.sx_executor.specs.Machine.{RunsPlan};
 
 use crate::operand::read_source;
-use sx_alu::{Calc, Flags, calc};
+use sx_alu::{Calc, StatusBits, calc_status};
 use sx_bus::Bus;
 use sx_executor::Executor;
 use sx_executor::registers::PC;
@@ -16,17 +16,23 @@ use sx_rules::Violation;
 
 /// A calculation on operands that are in range.
 #[inline(always)]
-pub fn calculated(kind: Calc, wide: bool, src: u16, dst: u16, flags: Flags) -> (u16, Flags)
+pub fn calculated(
+    kind: Calc,
+    wide: bool,
+    src: u16,
+    dst: u16,
+    flags: StatusBits,
+) -> (u16, StatusBits)
     requires width { IsTrue (has_width kind wide) }
     requires src { src < limit wide }
     requires dst { dst < limit wide }
     ensures { result ≡ row kind wide src dst flags }
 {
-    calc(kind, wide, src, dst, flags)
+    calc_status(kind, wide, src, dst, flags)
 }
 
 #[inline(always)]
-fn computed(op: Op2, wide: bool, src: u16, dst: u16, flags: Flags) -> (u16, Flags)
+fn computed(op: Op2, wide: bool, src: u16, dst: u16, flags: StatusBits) -> (u16, StatusBits)
     requires src { src < limit wide }
     requires dst { dst < limit wide }
     ensures { result ≡ computed op wide src dst flags }
@@ -58,11 +64,12 @@ fn writes(op: Op2) -> bool
 
 /// The end of an operation on a register: where the register is SR, the result stands. The error is
 /// the instruction's first violation.
+#[inline(always)]
 pub fn into_register<B: Bus>(
     executor: &mut Executor<B>,
     written: bool,
     r: u8,
-    value: (u16, Flags),
+    value: (u16, StatusBits),
 ) -> Result<(), Violation>
     ensures { RunsPlan (into_register written r value executor.old.regs)
         executor.old result executor.new }
@@ -75,12 +82,13 @@ pub fn into_register<B: Bus>(
 }
 
 /// The end of an operation on a place in memory.
+#[inline(always)]
 pub fn into_memory<B: Bus>(
     executor: &mut Executor<B>,
     wide: bool,
     written: bool,
     at: u16,
-    value: (u16, Flags),
+    value: (u16, StatusBits),
 ) -> Result<(), Violation>
     ensures { RunsPlan (into_memory wide written at value executor.old.regs)
         executor.old result executor.new }

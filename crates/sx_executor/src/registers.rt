@@ -7,7 +7,7 @@ ghost use Rattle.sx_machine.specs.Registers.{at_pc, cut_value, reg, kept_in, set
 ghost use Rattle.sx_machine.specs.Registers.{flags, set_flags};
 
 use crate::executor::Executor;
-use sx_alu::Flags;
+use sx_alu::StatusBits;
 use sx_bus::Bus;
 
 /// The program counter.
@@ -48,7 +48,7 @@ fn put_register(regs: &mut [u16; 16], r: u8, value: u16)
     regs[r as usize] = kept_in(r, value);
 }
 
-fn put_flags(regs: &mut [u16; 16], flags: Flags)
+fn put_flags(regs: &mut [u16; 16], flags: StatusBits)
     ensures { regs.new ≡ set_flags regs.old flags }
 {
     regs[SR as usize] = flags.in_status(regs[SR as usize]);
@@ -100,10 +100,10 @@ impl<B: Bus> Executor<B> {
     }
 
     /// The flags in SR.
-    pub fn flags(&self) -> Flags
+    pub fn flags(&self) -> StatusBits
         ensures { result ≡ flags self.now.regs }
     {
-        Flags::of_status(self.regs[SR as usize])
+        StatusBits::of_status(self.regs[SR as usize])
     }
 
     /// Writes a register, which keeps what it can of the value.
@@ -114,7 +114,7 @@ impl<B: Bus> Executor<B> {
     }
 
     /// Writes the flags into SR.
-    pub fn set_flags(&mut self, flags: Flags)
+    pub fn set_flags(&mut self, flags: StatusBits)
         ensures { self.new ≡ record self.old { regs = set_flags self.old.regs flags } }
     {
         put_flags(&mut self.regs, flags);
