@@ -2,6 +2,7 @@
 
 ghost use Rattle.std.specs.Prelude.{◌≡◌, ℕ, ◌*◌, ◌≤◌, List};
 ghost use Rattle.sx_isa.specs.Reading.{length_of};
+ghost use Rattle.sx_isa.specs.Extending.{extended};
 ghost use Rattle.sx_machine.specs.Registers.{onward};
 ghost use Rattle.sx_machine.specs.Rows.{row, with_words, program};
 ghost use Rattle.sx_machine.specs.Acts.{interrupt};
@@ -14,61 +15,137 @@ use crate::two_operands::two;
 use sx_bus::Bus;
 use sx_executor::registers::{PC, SP, SR};
 use sx_executor::{Decoded, Executor};
-use sx_isa::Instr;
+use sx_isa::{Instr, Operand, with_word, with_words};
 use sx_rules::Violation;
 
-/// The instruction whose first word stands at `pc`: its extension words are fetched and put in.
+/// Fetches the extension words of the instruction whose first word stands at `pc`; 0 stands for one
+/// that it doesn't have.
+#[inline(always)]
 #[tactic(auto, unfolding(sx_isa::specs::Reading::length_of))]
-fn fetch_instruction<B: Bus>(
+fn fetch_words<B: Bus>(
     executor: &Executor<B>,
     decoded: &Decoded,
     pc: u16,
-) -> Result<Instr, Violation>
+) -> Result<(u16, u16), Violation>
     ensures { (regs : List ℕ)
         → ran (with_words (length_of decoded.now.first) decoded.now.first regs pc) executor.now
-        ≡ followed result (λ i. ran (row i regs (onward pc (2 * decoded.now.words))) executor.now) }
+        ≡ followed result (λ words. ran (row
+        (extended decoded.now.instruction words.0 words.1) regs
+        (onward pc (2 * decoded.now.words))) executor.now) }
 {
+    decoded.reads_on();
     match decoded.words {
-        1 => Ok(decoded.instruction),
+        1 => Ok((0, 0)),
         2 => {
             let second = executor.fetch(pc.wrapping_add(2))?;
-            Ok(decoded.with_words(second, 0))
+            Ok((second, 0))
         }
         _ => {
             let second = executor.fetch(pc.wrapping_add(2))?;
             let third = executor.fetch(pc.wrapping_add(4))?;
-            Ok(decoded.with_words(second, third))
+            Ok((second, third))
         }
     }
 }
 
-/// Executes a decoded instruction; PC is after its first word, and `next` is the address after the
-/// whole. Words and bytes are two arms, so that the compiler makes code for each.
+/// Executes a decoded instruction with these extension words; PC is after its first word, and
+/// `next` is the address after the whole. Words and bytes are two arms, so that the compiler makes
+/// code for each, and extension words are put in by an arm, so that it needn't build an instruction.
 fn execute<B: Bus>(
     executor: &mut Executor<B>,
     instruction: Instr,
+    words: (u16, u16),
     next: u16,
 ) -> Result<(), Violation>
-    ensures { RunsPlan (row instruction executor.old.regs next) executor.old result executor.new }
+    ensures { RunsPlan (row (extended instruction words.0 words.1) executor.old.regs next)
+        executor.old result executor.new }
 {
+    let (second, third) = words;
     match instruction {
         Instr::Two {
             op,
             byte: false,
             src,
             dst,
-        } => two(executor, op, true, src, dst, next),
+        } => {
+            let (src, dst) = with_words(src, dst, second, third);
+            two(executor, op, true, src, dst, next)
+        }
         Instr::Two {
             op,
             byte: true,
             src,
             dst,
-        } => two(executor, op, false, src, dst, next),
-        Instr::One { op, byte, arg } => one(executor, op, !byte, arg, next),
+        } => {
+            let (src, dst) = with_words(src, dst, second, third);
+            two(executor, op, false, src, dst, next)
+        }
+        Instr::One { op, byte, arg } => one(executor, op, !byte, with_word(arg, second), next),
         Instr::Reti => reti(executor),
         Instr::Jump { cond, offset } => jump(executor, cond, offset, next),
         Instr::Sancus(_) => Err(Violation::Illegal),
     }
+}
+
+/// Executes the instruction at PC, whose first word this is.
+#[inline(never)]
+#[tactic(auto, unfolding(sx_machine::specs::Rows::program))]
+fn step_decoded<B: Bus>(executor: &mut Executor<B>, decoded: Decoded) -> Result<(), Violation>
+    ensures { RunsPlan (program decoded.first executor.old.regs) executor.old result
+        executor.new }
+{
+    let pc = executor.register(PC);
+    let words = fetch_words(executor, &decoded, pc)?;
+    executor.set_pc(pc.wrapping_add(2));
+    let next = pc.wrapping_add(2 * u16::from(decoded.words));
+    execute(executor, decoded.instruction, words, next)
+}
+
+/// The same of an instruction that has one word. A jump, and an operation from a register or a
+/// constant onto a register, reach no memory: they get code of their own, which is short.
+#[inline(always)]
+#[tactic(auto, unfolding(sx_machine::specs::Rows::program, sx_isa::specs::Reading::length_of))]
+fn step_short<B: Bus>(executor: &mut Executor<B>, decoded: &Decoded) -> Result<(), Violation>
+    requires { decoded.now.words ≡ 1 }
+    ensures { RunsPlan (program decoded.now.first executor.old.regs) executor.old result
+        executor.new }
+{
+    let next = executor.register(PC).wrapping_add(2);
+    match decoded.instruction {
+        Instr::Jump { cond, offset } => {
+            executor.set_pc(next);
+            jump(executor, cond, offset, next)
+        }
+        Instr::Two {
+            op,
+            byte: false,
+            src: Operand::Reg(s),
+            dst: Operand::Reg(d),
+        } => {
+            executor.set_pc(next);
+            two(executor, op, true, Operand::Reg(s), Operand::Reg(d), next)
+        }
+        Instr::Two {
+            op,
+            byte: false,
+            src: Operand::Const(c),
+            dst: Operand::Reg(d),
+        } => {
+            executor.set_pc(next);
+            two(executor, op, true, Operand::Const(c), Operand::Reg(d), next)
+        }
+        _ => step_decoded(executor, *decoded),
+    }
+}
+
+/// Executes the instruction at PC with this first word, which wasn't decoded before.
+#[inline(never)]
+#[tactic(auto, unfolding(sx_machine::specs::Rows::program))]
+fn step_anew<B: Bus>(executor: &mut Executor<B>, first: u16) -> Result<(), Violation>
+    ensures { RunsPlan (program first executor.old.regs) executor.old result executor.new }
+{
+    let decoded = executor.decode(first).ok_or(Violation::Illegal)?;
+    step_decoded(executor, decoded)
 }
 
 /// Executes the plain instruction at PC, whose first word the caller read. A module instruction is
@@ -76,16 +153,17 @@ fn execute<B: Bus>(
 /// have lost a fresh mark: the caller resets the node. The instructions are those of TI's
 /// MSP430x2xx Family User's Guide, "CPU".
 #[inline(never)]
-#[tactic(auto, unfolding(sx_machine::specs::Rows::program))]
 pub fn step_plain<B: Bus>(executor: &mut Executor<B>, first: u16) -> Result<(), Violation>
     ensures { RunsPlan (program first executor.old.regs) executor.old result executor.new }
 {
-    let pc = executor.register(PC);
-    let decoded = executor.decode(first).ok_or(Violation::Illegal)?;
-    let instruction = fetch_instruction(executor, &decoded, pc)?;
-    executor.set_pc(pc.wrapping_add(2));
-    let next = pc.wrapping_add(2 * u16::from(decoded.words));
-    execute(executor, instruction, next)
+    let Some(decoded) = executor.kept(first) else {
+        return step_anew(executor, first);
+    };
+    if decoded.words == 1 {
+        step_short(executor, &decoded)
+    } else {
+        step_decoded(executor, decoded)
+    }
 }
 
 /// Pushes PC and then SR, clears SR, and loads PC from the vector of the line. After a violation

@@ -1,11 +1,12 @@
 -- What may be done to a word on a page that no section meets.
-use Rattle.std.proofs.Common.{◌≡◌, ℕ, ◌+◌, ◌-◌, ◌/◌, ◌%◌, true, ◌&&◌, List, refl, arith}
+use Rattle.std.proofs.Common.{◌≡◌, ℕ, ◌+◌, ◌-◌, ◌/◌, ◌%◌, Bool, true, false, ◌&&◌, List, refl, arith}
 use Rattle.sx_rules.specs.declared.access.Access.{Access}
 use Rattle.sx_rules.specs.declared.section.Section.{Section}
 use Rattle.sx_rules.specs.Access.{may, extends, outside_private, in_order, holder}
 use Rattle.sx_rules.specs.Pages.{is_open}
 use Rattle.sx_rules.proofs.Away.{free}
 use Rattle.sx_machine.specs.Memory.{even}
+use Rattle.sx_machine.specs.Run.{may_at}
 use Rattle.sx_machine.specs.Step.{word_outside}
 use Rattle.sx_executor.proofs.Reach.{both_true}
 
@@ -22,6 +23,12 @@ pub open_word : (live : List Section) (own : ℕ) (access : Access) (at : ℕ) �
 open_word live own access at h =
     both_true (may live own access (even at)) (may live own access (even at + 1))
     ((free live at h (even at) (low_byte at)).reached own access) ((free live at h (even at + 1) (high_byte at)).reached own access)
+
+-- the same of a word or of its byte at the address
+pub open_any : (live : List Section) (own at : ℕ) → is_open live (at / 256) ≡ true → (wide : Bool) (access : Access)
+    → may_at wide live own access at ≡ true
+open_any live own at h true access = open_word live own access at h
+open_any live own at h false access = (free live at h at refl).reached own access
 
 -- it may be an extension word of any code
 pub open_extends : (live : List Section) (own at : ℕ) → is_open live (at / 256) ≡ true

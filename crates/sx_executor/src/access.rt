@@ -1,7 +1,8 @@
 //! Reads and writes of an instruction: the access table first, and then the device at the place.
 
-ghost use Rattle.std.specs.Prelude.{◌≡◌, ◌<◌, true, None, length, IsTrue, IfOk, IfSome};
+ghost use Rattle.std.specs.Prelude.{◌≡◌, ◌<◌, Bool, true, None, length, IsTrue, IfOk, IfSome};
 ghost use Rattle.sx_alu.specs.Table.{limit};
+ghost use Rattle.sx_rules.specs.declared.access.Access.{Access};
 ghost use Rattle.sx_rules.specs.declared.access.Access.TheVariants.{Read, Write};
 ghost use Rattle.sx_machine.specs.Memory.{read_at, write_at};
 ghost use Rattle.sx_machine.specs.Run.{may_at, with_touch, device_of, fetch, sampled};
@@ -73,6 +74,18 @@ impl<B: Bus> Executor<B> {
         self.table.may_word(self.own, access, at)
     }
 
+    /// Whether no section meets the page of an address and no device is there. Then an access asks no
+    /// more.
+    #[inline(always)]
+    #[tactic(auto, using(crate::proofs::Open::open_any))]
+    fn is_clear(&self, at: u16) -> bool
+        ensures right { IsTrue result → (wide : Bool) (access : Access)
+            → may_at wide self.now.sections.live self.now.own access at ≡ true }
+        ensures memory { IsTrue result → device_of self.now.devices at ≡ None }
+    {
+        self.table.is_open(at) && self.windows.at(at).is_none()
+    }
+
     /// The device whose word holds the byte, with its index.
     #[inline(always)]
     fn device_of(&self, at: u16) -> Option<(u8, Window)>
@@ -116,6 +129,19 @@ impl<B: Bus> Executor<B> {
         ensures run { Loads wide at self.old result self.new }
         ensures below { IfOk result (λ v. v < limit wide) }
     {
+        if self.is_clear(at) {
+            return Ok(self.read(wide, at));
+        }
+        self.load_near(wide, at)
+    }
+
+    /// The same where a section may meet the page, or a device be there. Its code stays out of the
+    /// way of what most accesses do.
+    #[inline(never)]
+    fn load_near(&mut self, wide: bool, at: u16) -> Result<u16, Violation>
+        ensures run { Loads wide at self.old result self.new }
+        ensures below { IfOk result (λ v. v < limit wide) }
+    {
         if !self.may(wide, Access::Read, at) {
             return Err(Violation::Read);
         }
@@ -131,6 +157,18 @@ impl<B: Bus> Executor<B> {
     /// Writes a word, or in byte form a byte. `Write` where the access table refuses it, and else
     /// `Device` where the device there does.
     pub fn store(&mut self, wide: bool, at: u16, value: u16) -> Result<(), Violation>
+        ensures { Stores wide at value self.old result self.new }
+    {
+        if self.is_clear(at) {
+            self.write(wide, at, value);
+            return Ok(());
+        }
+        self.store_near(wide, at, value)
+    }
+
+    /// The same where a section may meet the page, or a device be there.
+    #[inline(never)]
+    fn store_near(&mut self, wide: bool, at: u16, value: u16) -> Result<(), Violation>
         ensures { Stores wide at value self.old result self.new }
     {
         if !self.may(wide, Access::Write, at) {

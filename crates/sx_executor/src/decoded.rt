@@ -1,11 +1,12 @@
 //! First words that were decoded.
 
-ghost use Rattle.std.specs.Prelude.{◌≡◌, None, Some, MatchOption};
+ghost use Rattle.std.specs.Prelude.{◌≡◌, ℕ, None, Some, MatchOption};
 ghost use Rattle.std.proofs.Props.{props};
 ghost use Rattle.sx_isa.specs.Reading.{instruction_at, length_of};
+ghost use Rattle.sx_isa.specs.Extending.{extended};
 ghost use Rattle.sx_executor.specs.Reads.{IsRead};
 
-use sx_isa::{Instr, decode, extended};
+use sx_isa::{Instr, decode};
 
 /// A first word that was decoded: its instruction with extension words of 0, and how many words
 /// that has.
@@ -31,11 +32,12 @@ impl Decoded {
         })
     }
 
-    /// The instruction with these extension words. Those past its own don't matter.
-    pub fn with_words(&self, second: u16, third: u16) -> Instr
-        ensures { instruction_at self.now.first second third
-            ≡ Some (record { 0 = result; 1 = self.now.words }) }
-    {
-        extended(self.instruction, second, third)
-    }
+    /// The first word is that of this instruction with any extension words. Those past its own don't
+    /// matter.
+    pub fn reads_on(&self)
+        ensures { (second third : ℕ) → instruction_at self.now.first second third ≡ Some (record {
+          0 = extended self.now.instruction second third;
+          1 = self.now.words;
+        }) }
+    {}
 }

@@ -3,7 +3,7 @@
 //! What a first word says depends on nothing else, so what was decoded once is kept for the next
 //! time, whatever was written to memory in between.
 
-ghost use Rattle.std.specs.Prelude.{◌≡◌, ◌<◌, None, MatchOption, length};
+ghost use Rattle.std.specs.Prelude.{◌≡◌, ◌<◌, None, MatchOption, IfSome, length};
 ghost use Rattle.sx_isa.specs.Reading.{length_of};
 
 use crate::decoded::Decoded;
@@ -28,25 +28,31 @@ fn keep(kept: &mut [Option<Decoded>], decoded: Decoded)
     kept[place] = Some(decoded);
 }
 
-impl<B: Bus> Executor<B> {
-    /// The first word, decoded; None exactly where no instruction has it.
-    pub fn decode(&mut self, first: u16) -> Option<Decoded>
-        ensures decoded { MatchOption result
-            (length_of first ≡ None) (λ decoded. decoded.first ≡ first) }
-        ensures same { self.new ≡ self.old }
-    {
-        let place = place_of(first);
-        if let Some(decoded) = self.decoded[place] {
-            if decoded.first == first {
-                return Some(decoded);
-            }
+/// What stands in the place of a first word, if it is that word.
+#[inline(always)]
+fn found(kept: &[Option<Decoded>; PLACES], first: u16) -> Option<Decoded>
+    ensures { IfSome result (λ decoded. decoded.first ≡ first) }
+{
+    let place = place_of(first);
+    if let Some(decoded) = kept[place] {
+        if decoded.first == first {
+            return Some(decoded);
         }
-        self.decode_anew(first)
+    }
+    None
+}
+
+impl<B: Bus> Executor<B> {
+    /// The first word as it was decoded before, if it is kept.
+    #[inline(always)]
+    pub fn kept(&self, first: u16) -> Option<Decoded>
+        ensures { IfSome result (λ decoded. decoded.first ≡ first) }
+    {
+        found(&self.decoded, first)
     }
 
-    /// The same for a word that isn't kept; then it is.
-    #[inline(never)]
-    fn decode_anew(&mut self, first: u16) -> Option<Decoded>
+    /// Decodes a first word, and keeps it. None exactly where no instruction has it.
+    pub fn decode(&mut self, first: u16) -> Option<Decoded>
         ensures decoded { MatchOption result
             (length_of first ≡ None) (λ decoded. decoded.first ≡ first) }
         ensures same { self.new ≡ self.old }

@@ -1,10 +1,12 @@
 //! The extension words of a decoded instruction.
+//!
+//! An instruction that was decoded before its extension words were available isn't decoded again:
+//! by the law `extending`, the words are put into its operands.
 
-ghost use Rattle.std.specs.Prelude.{◌≡◌, ℕ, Some, if◌then◌else◌};
-ghost use Rattle.sx_isa.specs.Reading.{instruction_at};
-ghost use Rattle.sx_isa.specs.Extending.{has_word, with_word, extended};
+ghost use Rattle.std.specs.Prelude.{◌≡◌, if◌then◌else◌};
+ghost use Rattle.sx_isa.specs.Extending.{has_word, with_word};
 
-use crate::instruction::{Instr, Operand};
+use crate::instruction::Operand;
 
 fn has_word(operand: Operand) -> bool
     ensures { result ≡ has_word operand }
@@ -15,7 +17,9 @@ fn has_word(operand: Operand) -> bool
     )
 }
 
-fn with_word(operand: Operand, word: u16) -> Operand
+/// The operand with this word in place of its extension word; an operand that has none stays.
+#[inline(always)]
+pub fn with_word(operand: Operand, word: u16) -> Operand
     ensures { result ≡ with_word operand word }
 {
     match operand {
@@ -29,39 +33,18 @@ fn with_word(operand: Operand, word: u16) -> Operand
 }
 
 /// Which of two words is the destination's: the source's comes first.
+#[inline(always)]
 fn word_behind(src: Operand, w1: u16, w2: u16) -> u16
     ensures { result ≡ if has_word src then w2 else w1 }
 {
     if has_word(src) { w2 } else { w1 }
 }
 
-fn with_words(instruction: Instr, w1: u16, w2: u16) -> Instr
-    ensures { result ≡ extended instruction w1 w2 }
+/// The operands of an instruction that has two, with these words in place of their extension words,
+/// the source's first.
+#[inline(always)]
+pub fn with_words(src: Operand, dst: Operand, w1: u16, w2: u16) -> (Operand, Operand)
+    ensures { result ≡ (with_word src w1, with_word dst (if has_word src then w2 else w1)) }
 {
-    match instruction {
-        Instr::Two { op, byte, src, dst } => Instr::Two {
-            op,
-            byte,
-            src: with_word(src, w1),
-            dst: with_word(dst, word_behind(src, w1, w2)),
-        },
-        Instr::One { op, byte, arg } => Instr::One {
-            op,
-            byte,
-            arg: with_word(arg, w1),
-        },
-        Instr::Reti | Instr::Jump { .. } | Instr::Sancus(_) => instruction,
-    }
-}
-
-/// The instruction with these words in place of its extension words, the first of them first. So an
-/// instruction that was decoded before its extension words were available isn't decoded again: it
-/// is what `decode` finds where these words follow its first one.
-pub fn extended(instruction: Instr, w1: u16, w2: u16) -> Instr
-    ensures words { result ≡ extended instruction w1 w2 }
-    ensures read { (w0 v1 v2 n : ℕ) →
-        instruction_at w0 v1 v2 ≡ Some (record { 0 = instruction; 1 = n }) →
-        instruction_at w0 w1 w2 ≡ Some (record { 0 = result; 1 = n }) }
-{
-    with_words(instruction, w1, w2)
+    (with_word(src, w1), with_word(dst, word_behind(src, w1, w2)))
 }

@@ -4,6 +4,7 @@
 ghost use Rattle.std.specs.Prelude.{◌≡◌, ℕ, ◌+◌, ◌*◌, ◌%◌, ◌<◌, List, ◌∷◌, [], ◌++◌, ◌↔◌, length};
 ghost use Rattle.sx_isa.specs.Legal.{IsWord, IsInstruction, IsIllegal, BeginsWith};
 ghost use Rattle.sx_isa.specs.Reading.{instruction_at, length_of};
+ghost use Rattle.sx_isa.specs.Extending.{extended};
 ghost use Rattle.sx_isa.specs.Spelling.{spelling, first_word};
 ghost use Rattle.sx_isa.specs.Standing.{word_at, WordsStand, InstructionStands, AllStand};
 ghost use Rattle.sx_isa.specs.Standing.{AreInstructions, words_of};
@@ -35,6 +36,13 @@ pub fn lengths()
     ensures read { (w0 w1 w2 n : ℕ) →
         (length_of w0 ≡ Some n)
         ↔ ((i : Instr) × (instruction_at w0 w1 w2 ≡ Some (record { 0 = i; 1 = n }))) }
+{}
+
+/// Other extension words behind a first word change the operands of its instruction alone.
+pub fn extending()
+    ensures { (w0 v1 v2 w1 w2 n : ℕ) (i : Instr) →
+        instruction_at w0 v1 v2 ≡ Some (record { 0 = i; 1 = n }) →
+        instruction_at w0 w1 w2 ≡ Some (record { 0 = extended i w1 w2; 1 = n }) }
 {}
 
 /// Instructions in memory: an instruction that stands there is read there; instructions stand where

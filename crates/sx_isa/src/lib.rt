@@ -3,8 +3,8 @@
 //! read.
 //!
 //! `encode` gives the words of an instruction and `decode` reads them back; `valid` and `length`
-//! are the tests to make before them. `extended` puts extension words into an instruction that was
-//! decoded before they were available. None of them takes memory. What must be believed stands in
+//! are the tests to make before them. `with_word` and `with_words` put extension words into operands
+//! that were decoded before they were available. None of them takes memory. What must be believed stands in
 //! specs/: Spelling.antt (the words of an instruction) and Legal.antt (which instructions there
 //! are, and which first words none has). Reading.antt computes the instruction from the fields of
 //! its first word, for proofs on given words; `laws` shows that it agrees.
@@ -17,7 +17,7 @@ pub mod laws;
 pub mod reading;
 pub mod writing;
 
-pub use extension::extended;
+pub use extension::{with_word, with_words};
 pub use instruction::{Instr, Op1, Op2, Operand, Words};
 pub use reading::{decode, length};
 pub use writing::{encode, valid};

@@ -1,6 +1,6 @@
 //! Words worked by hand from the format tables, and how many first words are legal.
 
-use crate::{Instr, Op1, Op2, Operand, decode, encode, extended, length, valid};
+use crate::{Instr, Op1, Op2, Operand, decode, encode, length, valid, with_words};
 
 // Words that were assembled by hand from the format's tables.
 #[test]
@@ -25,23 +25,19 @@ fn worked_words(rt: HostRuntime) {
         arg: Operand::Immediate(0x4400),
     };
     assert_eq!(rt; decode(0x12b0, 0x4400, 0), Some((call, 2)));
+    let (src, dst) = (Operand::Indexed(4, 2), Operand::Symbolic(6));
     let both = Instr::Two {
         op: Op2::Add,
         byte: false,
-        src: Operand::Indexed(4, 2),
-        dst: Operand::Symbolic(6),
+        src,
+        dst,
     };
     assert!(rt; valid(&both));
     let words = encode(&both);
     assert_eq!(rt; words.w, [0x5490, 2, 6]);
     assert_eq!(rt; words.len, 3);
-    let moved = Instr::Two {
-        op: Op2::Add,
-        byte: false,
-        src: Operand::Indexed(4, 8),
-        dst: Operand::Symbolic(10),
-    };
-    assert_eq!(rt; extended(both, 8, 10), moved);
+    let moved = (Operand::Indexed(4, 8), Operand::Symbolic(10));
+    assert_eq!(rt; with_words(src, dst, 8, 10), moved);
     assert!(rt;
         !valid(&Instr::Jump {
             cond: 7,

@@ -47,6 +47,10 @@ fn code_of(word: u16) -> Option<u8>
     ensures { MatchOption result (is_module_word word ≡ false) (λ code.
         (is_module_word word ≡ true) × (code ≡ word - 0x1380) × (is_code code ≡ true)) }
 {
+    // The high byte alone tells most words apart.
+    if word / 256 != FIRST_MODULE_WORD / 256 {
+        return None;
+    }
     if word < FIRST_MODULE_WORD || word >= FIRST_MODULE_WORD + 8 || word == NO_MODULE_WORD {
         return None;
     }
