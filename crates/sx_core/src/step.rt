@@ -101,15 +101,35 @@ fn step_decoded<B: Bus>(executor: &mut Executor<B>, decoded: Decoded) -> Result<
     execute(executor, decoded.instruction, words, next)
 }
 
-/// The same of an instruction that has one word. A jump, and an operation from a register or a
-/// constant onto a register, reach no memory: they get code of their own, which is short.
-#[inline(always)]
-#[tactic(auto, unfolding(sx_machine::specs::Rows::program, sx_isa::specs::Reading::length_of))]
-fn step_short<B: Bus>(executor: &mut Executor<B>, decoded: &Decoded) -> Result<(), Violation>
-    requires { decoded.now.words ≡ 1 }
-    ensures { RunsPlan (program decoded.now.first executor.old.regs) executor.old result
-        executor.new }
+/// Executes the instruction at PC with this first word, which wasn't decoded before.
+#[inline(never)]
+#[tactic(auto, unfolding(sx_machine::specs::Rows::program))]
+fn step_anew<B: Bus>(executor: &mut Executor<B>, first: u16) -> Result<(), Violation>
+    ensures { RunsPlan (program first executor.old.regs) executor.old result executor.new }
 {
+    let decoded = executor.decode(first).ok_or(Violation::Illegal)?;
+    step_decoded(executor, decoded)
+}
+
+/// Executes the plain instruction at PC, whose first word the caller read. A module instruction is
+/// illegal here. After a violation nothing is said of registers and memory, and the devices may
+/// have lost a fresh mark: the caller resets the node. The instructions are those of TI's
+/// MSP430x2xx Family User's Guide, "CPU".
+///
+/// A jump, and an operation on words from a register or a constant onto a register, have one word
+/// and reach no memory: they get code of their own, which is short.
+#[inline(never)]
+#[tactic(auto, unfolding(sx_machine::specs::Rows::program, sx_isa::specs::Reading::length_of))]
+pub fn step_plain<B: Bus>(executor: &mut Executor<B>, first: u16) -> Result<(), Violation>
+    ensures { RunsPlan (program first executor.old.regs) executor.old result executor.new }
+{
+    let Some(decoded) = executor.kept(first) else {
+        return step_anew(executor, first);
+    };
+    if decoded.words != 1 {
+        let decoded = *decoded;
+        return step_decoded(executor, decoded);
+    }
     let next = executor.register(PC).wrapping_add(2);
     match decoded.instruction {
         Instr::Jump { cond, offset } => {
@@ -134,35 +154,10 @@ fn step_short<B: Bus>(executor: &mut Executor<B>, decoded: &Decoded) -> Result<(
             executor.set_pc(next);
             two(executor, op, true, Operand::Const(c), Operand::Reg(d), next)
         }
-        _ => step_decoded(executor, *decoded),
-    }
-}
-
-/// Executes the instruction at PC with this first word, which wasn't decoded before.
-#[inline(never)]
-#[tactic(auto, unfolding(sx_machine::specs::Rows::program))]
-fn step_anew<B: Bus>(executor: &mut Executor<B>, first: u16) -> Result<(), Violation>
-    ensures { RunsPlan (program first executor.old.regs) executor.old result executor.new }
-{
-    let decoded = executor.decode(first).ok_or(Violation::Illegal)?;
-    step_decoded(executor, decoded)
-}
-
-/// Executes the plain instruction at PC, whose first word the caller read. A module instruction is
-/// illegal here. After a violation nothing is said of registers and memory, and the devices may
-/// have lost a fresh mark: the caller resets the node. The instructions are those of TI's
-/// MSP430x2xx Family User's Guide, "CPU".
-#[inline(never)]
-pub fn step_plain<B: Bus>(executor: &mut Executor<B>, first: u16) -> Result<(), Violation>
-    ensures { RunsPlan (program first executor.old.regs) executor.old result executor.new }
-{
-    let Some(decoded) = executor.kept(first) else {
-        return step_anew(executor, first);
-    };
-    if decoded.words == 1 {
-        step_short(executor, &decoded)
-    } else {
-        step_decoded(executor, decoded)
+        _ => {
+            let decoded = *decoded;
+            step_decoded(executor, decoded)
+        }
     }
 }
 

@@ -31,22 +31,40 @@ pub fn calculated(
     calc_status(kind, wide, src, dst, flags)
 }
 
+/// The compiler makes code of its own for words and for bytes.
+fn computed_as<const WIDE: bool>(
+    op: Op2,
+    src: u16,
+    dst: u16,
+    flags: StatusBits,
+) -> (u16, StatusBits)
+    requires src { src < limit WIDE }
+    requires dst { dst < limit WIDE }
+    ensures { result ≡ computed op WIDE src dst flags }
+{
+    match op {
+        Op2::Mov => (src, flags),
+        Op2::Add => calculated(Calc::Add, WIDE, src, dst, flags),
+        Op2::Addc => calculated(Calc::AddCarry, WIDE, src, dst, flags),
+        Op2::Subc => calculated(Calc::SubCarry, WIDE, src, dst, flags),
+        Op2::Sub | Op2::Cmp => calculated(Calc::Sub, WIDE, src, dst, flags),
+        Op2::Bit | Op2::And => calculated(Calc::And, WIDE, src, dst, flags),
+        Op2::Bic => calculated(Calc::AndNot, WIDE, src, dst, flags),
+        Op2::Bis => calculated(Calc::Or, WIDE, src, dst, flags),
+        Op2::Xor => calculated(Calc::Xor, WIDE, src, dst, flags),
+    }
+}
+
 #[inline(always)]
 fn computed(op: Op2, wide: bool, src: u16, dst: u16, flags: StatusBits) -> (u16, StatusBits)
     requires src { src < limit wide }
     requires dst { dst < limit wide }
     ensures { result ≡ computed op wide src dst flags }
 {
-    match op {
-        Op2::Mov => (src, flags),
-        Op2::Add => calculated(Calc::Add, wide, src, dst, flags),
-        Op2::Addc => calculated(Calc::AddCarry, wide, src, dst, flags),
-        Op2::Subc => calculated(Calc::SubCarry, wide, src, dst, flags),
-        Op2::Sub | Op2::Cmp => calculated(Calc::Sub, wide, src, dst, flags),
-        Op2::Bit | Op2::And => calculated(Calc::And, wide, src, dst, flags),
-        Op2::Bic => calculated(Calc::AndNot, wide, src, dst, flags),
-        Op2::Bis => calculated(Calc::Or, wide, src, dst, flags),
-        Op2::Xor => calculated(Calc::Xor, wide, src, dst, flags),
+    if wide {
+        computed_as::<true>(op, src, dst, flags)
+    } else {
+        computed_as::<false>(op, src, dst, flags)
     }
 }
 

@@ -1,12 +1,12 @@
 -- What a test of PC, of an extension word, of a range or of a layout says of the access table.
-use Rattle.std.proofs.Common.{◌≡◌, ℕ, ◌+◌, ◌-◌, ◌<◌, ◌≤◌, Bool, true, false, not, ◌&&◌, ◌||◌, ◌==◌, leb, ltb, List, [], ◌∷◌, Option, None, refl, sym, ◌∙◌, inl, inr, arith}
+use Rattle.std.proofs.Common.{◌≡◌, ℕ, ◌+◌, ◌-◌, ◌<◌, Bool, true, false, not, ◌&&◌, ◌||◌, ◌==◌, leb, ltb, List, [], ◌∷◌, None, refl, sym, ◌∙◌, inl, inr, arith}
 use Rattle.std.proofs.lemmas.Bool.{and_parts, or_cases, not-true, leb-true, ltb-true, lt-ltb, true≢false, false_from_ne_true}
 use Rattle.std.specs.List.{list_all, list_any}
 use Rattle.sx_rules.specs.declared.access.Access.TheVariants.{Read, Write}
 use Rattle.sx_rules.specs.declared.section.Section.{Section}
 use Rattle.sx_rules.specs.declared.section.Layout.{Layout}
 use Rattle.sx_rules.specs.Access.{Sections, may, allows, extends, outside_private, in_private, in_public}
-use Rattle.sx_rules.specs.Admission.{refusal, apart, clear_of, no_overlap, parts_apart}
+use Rattle.sx_rules.specs.Admission.{refusal, apart, clear_of, parts_apart}
 use Rattle.sx_rules.proofs.Admits.{admits}
 use Rattle.sx_machine.specs.Memory.{even}
 use Rattle.sx_machine.specs.Ranges.{meets, meets_private, meets_public}

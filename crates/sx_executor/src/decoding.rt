@@ -30,11 +30,11 @@ fn keep(kept: &mut [Option<Decoded>], decoded: Decoded)
 
 /// What stands in the place of a first word, if it is that word.
 #[inline(always)]
-fn found(kept: &[Option<Decoded>; PLACES], first: u16) -> Option<Decoded>
-    ensures { IfSome result (λ decoded. decoded.first ≡ first) }
+fn found(kept: &[Option<Decoded>; PLACES], first: u16) -> Option<&Decoded>
+    ensures { IfSome result (λ decoded. decoded.now.first ≡ first) }
 {
     let place = place_of(first);
-    if let Some(decoded) = kept[place] {
+    if let Some(decoded) = &kept[place] {
         if decoded.first == first {
             return Some(decoded);
         }
@@ -45,8 +45,8 @@ fn found(kept: &[Option<Decoded>; PLACES], first: u16) -> Option<Decoded>
 impl<B: Bus> Executor<B> {
     /// The first word as it was decoded before, if it is kept.
     #[inline(always)]
-    pub fn kept(&self, first: u16) -> Option<Decoded>
-        ensures { IfSome result (λ decoded. decoded.first ≡ first) }
+    pub fn kept(&self, first: u16) -> Option<&Decoded>
+        ensures { IfSome result (λ decoded. decoded.now.first ≡ first) }
     {
         found(&self.decoded, first)
     }
