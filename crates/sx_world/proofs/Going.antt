@@ -1,22 +1,19 @@
 -- Steps that the program does one by one.
-use Rattle.std.proofs.Common.{◌≡◌, ℕ, suc, Bool, true, false, if◌then◌else◌, ◌||◌, List, ◌++◌, Some, refl, sym, subst, ap, ◌∙◌, ◌<◌, ◌==◌, ◌&&◌, ◌∷◌, [], length, Option, None, Result, Ok, Err, OnOk, OnErr}
-use Rattle.std.specs.Prelude.{slice_get, slice_set}
+use Rattle.std.proofs.Common.{◌≡◌, ℕ, suc, Bool, true, false, if◌then◌else◌, ◌||◌, List, ◌++◌, Some, refl, sym, subst, ap, ◌∙◌, ◌∷◌, [], Option, None, Result, Ok, Err, OnOk, OnErr}
+use Rattle.std.specs.Prelude.{slice_get}
 use Rattle.std.specs.Option.{option_to_list}
 use Rattle.std.proofs.lemmas.List.{append_assoc, append-nil}
 use Rattle.sx_trace.specs.declared.items.Item.{Item}
 use Rattle.sx_machine.specs.State.{State}
 use Rattle.sx_machine.specs.Step.{step}
-use Rattle.sx_machine.proofs.Boots.{step_quiet}
 use Rattle.sx_machine.specs.declared.kinds.Event.{Event}
 use Rattle.sx_machine.specs.declared.kinds.Event.TheVariants.{Reset}
 use Rattle.sx_rules.specs.declared.access.Violation.{Violation}
-use Rattle.sx_tag.specs.Mac.{Mac}
 use Rattle.sx_world.specs.Setting.{Setting}
 use Rattle.sx_world.specs.State.{World, Acted}
 use Rattle.sx_world.specs.Acts.{at_node, after_step, then_, only}
 use Rattle.sx_world.specs.Run.{is_reset, steps_of}
 use Rattle.sx_world.specs.Held.{Running, IsFront, Shows, Did, Wanted}
-use Rattle.sx_world.proofs.Lists.{get_some, get_same, some_inj, length_set}
 use Rattle.sx_world.proofs.Fronts.{front_more, front_same}
 
 -- of all the steps that are due, this many are left, and these items have come
@@ -143,35 +140,10 @@ pub went_on : {T E : Type 0} (r : Result T E) (came after : List Item) (end : Op
 went_on (Ok x) came after end item e h = h ∙ sym (ap (λ o. came ++ option_to_list o) e)
 went_on (Err x) came after end item e h = tt
 
--- the program's test whether a step is the last
-pub ended : (mac : Mac) (idle : Bool) (nodes new : List State) (n : ℕ) (s : State) (event : Event) (b : Bool) → slice_get nodes n ≡ Some s
-    → ((s : State) → slice_get nodes n ≡ Some s → new ≡ slice_set nodes n (step mac s).state)
-    → ((s : State) → slice_get nodes n ≡ Some s → event ≡ (step mac s).shown.event)
-    → ((t : State) → slice_get new n ≡ Some t → b ≡ (is_reset event || (idle && (t.cur == 0))))
-    → (is_reset (step mac s).shown.event || (idle && ((step mac s).state.cur == 0))) ≡ b
-ended mac idle nodes new n s event b here left shown test =
-    let there : slice_get new n ≡ Some (step mac s).state = ap (λ ns. slice_get ns n) (left s here) ∙ get_same nodes n (step mac s).state s here in
-    ap (λ (e : Event). is_reset e || (idle && ((step mac s).state.cur == 0))) (sym (shown s here)) ∙ sym (test (step mac s).state there)
-
-pub still_within : (nodes new : List State) (n : ℕ) (act : State → State) → n < length nodes → ((s : State) → slice_get nodes n ≡ Some s → new ≡ slice_set nodes n (act s)) → n < length new
-still_within nodes new n act lt left =
-    let s = get_some nodes n lt in
-    subst (λ k. n < k) (sym (ap length (left s.0 s.1) ∙ length_set nodes n (act s.0))) lt
-
-or_first : (a b : Bool) → (a || b) ≡ false → a ≡ false
+pub or_first : (a b : Bool) → (a || b) ≡ false → a ≡ false
 or_first true b h = h
 or_first false b h = refl
 
+-- an event that is no reset
 pub no_reset : (e : Event) (v : Violation) → is_reset e ≡ false → e ≡ Reset v → ⊥
 no_reset e v quiet h = let t : true ≡ false = ap is_reset (sym h) ∙ quiet in cc
-
--- a step that isn't the last keeps the count of resets
-pub still_small : (mac : Mac) (idle : Bool) (nodes new : List State) (n : ℕ) (s : State) → slice_get nodes n ≡ Some s
-    → ((s : State) → slice_get nodes n ≡ Some s → new ≡ slice_set nodes n (step mac s).state)
-    → (is_reset (step mac s).shown.event || (idle && ((step mac s).state.cur == 0))) ≡ false
-    → s.boot < 4294967295 → (t : State) → slice_get new n ≡ Some t → t.boot < 4294967295
-still_small mac idle nodes new n s here left more small t there =
-    let found : slice_get new n ≡ Some (step mac s).state = ap (λ ns. slice_get ns n) (left s here) ∙ get_same nodes n (step mac s).state s here in
-    let same : t ≡ (step mac s).state = some_inj t (step mac s).state (sym there ∙ found) in
-    let quiet = or_first (is_reset (step mac s).shown.event) (idle && ((step mac s).state.cur == 0)) more in
-    subst (λ k. k < 4294967295) (sym (ap (λ (u : State). u.boot) same ∙ step_quiet mac s (λ v e. no_reset (step mac s).shown.event v quiet e))) small

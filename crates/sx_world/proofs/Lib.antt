@@ -44,6 +44,7 @@ pub mod Fronts
 pub mod SameBytes
 pub mod Doing
 pub mod Going
+pub mod Passed
 pub mod Stepped
 pub mod Composed
 pub mod Numbers

@@ -92,11 +92,6 @@ program_wanted mac d sites old before after n s node runner seen entries here le
     subst (λ (o : Observed). IsFront after (before ++ o.items)) (saw_behind set n s node runner seen list left shown found)
     (saw list (subst (λ l. Records l list) (sym kept) h)))
 
--- what is kept of a struct whose view it is, after a step
-pub as_stepped : (old view : Running) (nodes : List State) (entries : List Entry) (n : ℕ) (t : State) → view ≡ old → nodes ≡ slice_set old.nodes n t
-    → with_nodes view nodes entries (view.steps + 1) ≡ with_nodes old (slice_set old.nodes n t) entries (old.steps + 1)
-as_stepped old view nodes entries n t v e = ap (λ ns. with_nodes view ns entries (view.steps + 1)) e ∙ ap (λ (k : Running). with_nodes k (slice_set old.nodes n t) entries (k.steps + 1)) v
-
 -- An interrupt. One that is refused leaves the node.
 refused_still : {T : Type 0} (o : Option Refused) (s : State) (done : Shown T) (why : Refused) → (unless o s done).shown ≡ Err why → (unless o s done).state ≡ s
 refused_still None s done why e = absurd cc

@@ -26,6 +26,7 @@ mod lines;
 mod loading;
 mod observation;
 mod packets;
+mod quiet;
 mod recording;
 mod registers;
 mod running;

@@ -1,22 +1,22 @@
 //! Instructions of a node, one after the other.
 
-ghost use Rattle.std.specs.Prelude.{◌≡◌, ◌==◌, ◌&&◌, ◌||◌, ℕ, ◌+◌, ◌<◌, ◌≤◌, length, slice_get};
-ghost use Rattle.std.specs.Prelude.{slice_set, Some, IfOk, IsTrue, OnOk, OnErr};
+ghost use Rattle.std.specs.Prelude.{◌≡◌, ◌==◌, ◌&&◌, ◌||◌, ◌+◌, ◌<◌, ◌≤◌, length, slice_get};
+ghost use Rattle.std.specs.Prelude.{slice_set, Some, OnOk, OnErr};
 ghost use Rattle.std.specs.Option.{option_to_list};
 ghost use Rattle.sx_deploy.specs.SeenDeployment.{deployed_as};
-ghost use Rattle.sx_machine.specs.Run.{untouched};
 ghost use Rattle.sx_machine.specs.State.{State};
-ghost use Rattle.sx_machine.specs.declared.kinds.Event.TheVariants.{Quiet};
 ghost use Rattle.sx_machine.specs.Step.{step};
 ghost use Rattle.sx_machine.specs.Acts.{irq};
-ghost use Rattle.sx_world.specs.Acts.{at_node, after_interrupt, after_step};
+ghost use Rattle.sx_world.specs.Acts.{at_node, after_interrupt};
 ghost use Rattle.sx_world.specs.Held.{Did, DoesAct, Observes, ObservesFront, Wanted, setting};
 ghost use Rattle.sx_world.specs.Computed.{runner_of};
 ghost use Rattle.sx_world.specs.Observation.{observed};
+ghost use Rattle.sx_world.specs.Passing.{after_steps, stepped, taken, AreQuiet, EndsWith};
 ghost use Rattle.sx_world.specs.Run as run;
 ghost use Rattle.sx_world.specs.Run.{FINISH_STEPS, is_reset, steps_of};
 
 use crate::observation::{add_seen, runner_of};
+use crate::quiet::{QuietSteps, quiet_steps};
 use crate::recording::add;
 use crate::running::Running;
 use crate::sites::Site;
@@ -24,8 +24,7 @@ use crate::touching::refused_item;
 use std::alloc::AllocError;
 use sx_bus::Bus;
 use sx_deploy::deployment::Deployment;
-use sx_ledger::Ledger;
-use sx_node::{Event, Node, Refused, Seen, Touch};
+use sx_node::{Event, Node, Refused, Seen};
 use sx_tag::Tag;
 use sx_trace::items::Item;
 
@@ -43,14 +42,17 @@ fn finish_steps() -> u32
     1_000_000
 }
 
-fn step_node<B: Bus, T: Tag>(nodes: &mut [Node<B, T>], n: u8) -> Seen
+fn pass_node<B: Bus, T: Tag>(nodes: &mut [Node<B, T>], n: u8, count: u32, idle: bool) -> QuietSteps
     requires node { n < length nodes.old }
     requires boot { (s : State) → slice_get nodes.old n ≡ Some s → s.boot < 4294967295 }
-    ensures nodes { (s : State) → slice_get nodes.old n ≡ Some s
-        → nodes.new ≡ slice_set nodes.old n (step T.mac s).state }
-    ensures seen { (s : State) → slice_get nodes.old n ≡ Some s → result ≡ (step T.mac s).shown }
+    ensures quiet { (s : State) → slice_get nodes.old n ≡ Some s
+        → AreQuiet T.mac idle result.count s }
+    ensures last { (s : State) → slice_get nodes.old n ≡ Some s
+        → EndsWith T.mac count result.count result.last s }
+    ensures nodes { (s : State) → slice_get nodes.old n ≡ Some s → nodes.new
+        ≡ slice_set nodes.old n (after_steps T.mac (taken result.count result.last) s) }
 {
-    nodes[usize::from(n)].step()
+    quiet_steps(&mut nodes[usize::from(n)], count, idle)
 }
 
 fn irq_node<B: Bus, T: Tag>(nodes: &mut [Node<B, T>], n: u8, line: u8) -> Result<Seen, Refused>
@@ -62,40 +64,6 @@ fn irq_node<B: Bus, T: Tag>(nodes: &mut [Node<B, T>], n: u8, line: u8) -> Result
     ensures answer { (s : State) → slice_get nodes.old n ≡ Some s → (irq s line).shown ≡ result }
 {
     nodes[usize::from(n)].irq(line)
-}
-
-/// Whether an instruction showed nothing, as most do.
-fn is_quiet(seen: &Seen) -> bool
-    ensures { IsTrue result → seen.now ≡ record { touch = untouched; event = Quiet } }
-{
-    matches!(seen.touch, [Touch::Quiet, Touch::Quiet]) && matches!(seen.event, Event::Quiet)
-}
-
-/// What is seen of an instruction that left the node so: its items, and the ledger after it.
-#[inline(always)]
-fn add_step<B: Bus, T: Tag>(
-    plan: &Deployment,
-    sites: &[Site],
-    n: u8,
-    node: &Node<B, T>,
-    seen: &Seen,
-    items: &mut Vec<Item>,
-    ledger: &mut Ledger,
-) -> Result<(), AllocError>
-    requires sites { length sites.now ≤ 256 }
-    requires devices { length plan.now.app.devices.items ≤ 256 }
-    ensures done { OnOk result (Observes ledger.old ledger.new items.old.items items.new.items
-        (observed (setting T.mac (deployed_as plan.now) sites.now) n
-        (runner_of sites.now n node.now seen.now) node.now seen.now)) }
-    ensures front { OnErr result (ObservesFront ledger.old items.old.items items.new.items
-        (observed (setting T.mac (deployed_as plan.now) sites.now) n
-        (runner_of sites.now n node.now seen.now) node.now seen.now)) }
-{
-    if is_quiet(seen) {
-        return Ok(());
-    }
-    let runner = runner_of(sites, n, node, seen);
-    add_seen(plan, sites, n, runner, node, seen, items, ledger)
 }
 
 impl<B: Bus, T: Tag> Running<B, T> {
@@ -131,38 +99,49 @@ impl<B: Bus, T: Tag> Running<B, T> {
         }
     }
 
-    /// One instruction of a node, and its event.
-    fn step(
+    /// Steps of a node, at most `count`, up to the first that shows something or, where `idle` says
+    /// so, leaves no module running.
+    fn pass(&mut self, n: u8, count: u32, idle: bool) -> QuietSteps
+        requires node { n < length self.old.nodes }
+        requires boot { (s : State) → slice_get self.old.nodes n ≡ Some s → s.boot < 4294967295 }
+        requires steps { self.old.steps + count ≤ 18446744073709551615 }
+        ensures quiet { (s : State) → slice_get self.old.nodes n ≡ Some s
+            → AreQuiet T.mac idle result.count s }
+        ensures last { (s : State) → slice_get self.old.nodes n ≡ Some s
+            → EndsWith T.mac count result.count result.last s }
+        ensures left { (s : State) → slice_get self.old.nodes n ≡ Some s
+            → self.new ≡ stepped T.mac n (taken result.count result.last) s self.old }
+    {
+        let quiet = pass_node(&mut self.nodes, n, count, idle);
+        self.steps += quiet.taken();
+        quiet
+    }
+
+    /// What is seen of an instruction that left the node so: its items, and the ledger after it.
+    fn show(
         &mut self,
         plan: &Deployment,
         sites: &[Site],
         n: u8,
+        seen: &Seen,
         items: &mut Vec<Item>,
-    ) -> Result<Event, AllocError>
+    ) -> Result<(), AllocError>
         requires node { n < length self.old.nodes }
-        requires boot { (s : State) → slice_get self.old.nodes n ≡ Some s → s.boot < 4294967295 }
-        requires steps { self.old.steps < 18446744073709551615 }
         requires sites { length sites.now ≤ 256 }
         requires devices { length plan.now.app.devices.items ≤ 256 }
-        ensures done { OnOk result (Did (setting T.mac (deployed_as plan.now) sites.now) self.old
-            self.new items.old.items items.new.items
-            (λ w. at_node w (after_step (setting T.mac (deployed_as plan.now) sites.now) w n)
-            (slice_get w.nodes n))) }
-        ensures front { OnErr result (Wanted (setting T.mac (deployed_as plan.now) sites.now)
-            self.old items.old.items items.new.items
-            (λ w. at_node w (after_step (setting T.mac (deployed_as plan.now) sites.now) w n)
-            (slice_get w.nodes n))) }
-        ensures nodes { (s : State) → slice_get self.old.nodes n ≡ Some s
-            → self.new.nodes ≡ slice_set self.old.nodes n (step T.mac s).state }
-        ensures event { IfOk result (λ event. (s : State) → slice_get self.old.nodes n ≡ Some s
-            → event ≡ (step T.mac s).shown.event) }
-        ensures steps { self.new.steps ≡ self.old.steps + 1 }
+        ensures done { OnOk result ((s : State) → slice_get self.old.nodes n ≡ Some s
+            → Observes self.old.ledger self.new.ledger items.old.items items.new.items
+            (observed (setting T.mac (deployed_as plan.now) sites.now) n
+            (runner_of sites.now n s seen.now) s seen.now)) }
+        ensures front { OnErr result ((s : State) → slice_get self.old.nodes n ≡ Some s
+            → ObservesFront self.old.ledger items.old.items items.new.items
+            (observed (setting T.mac (deployed_as plan.now) sites.now) n
+            (runner_of sites.now n s seen.now) s seen.now)) }
+        ensures kept { self.new ≡ record self.old { ledger = self.new.ledger } }
     {
-        let seen = step_node(&mut self.nodes, n);
-        self.steps += 1;
         let node = &self.nodes[usize::from(n)];
-        add_step(plan, sites, n, node, &seen, items, &mut self.ledger)?;
-        Ok(seen.event)
+        let runner = runner_of(sites, n, node, seen);
+        add_seen(plan, sites, n, runner, node, seen, items, &mut self.ledger)
     }
 
     /// Whether no further step follows one that showed this event.
@@ -208,11 +187,15 @@ impl<B: Bus, T: Tag> Running<B, T> {
             (steps_of (setting T.mac (deployed_as plan.now) sites.now)
             (λ s. idle && (s.cur == 0)) (option_to_list end) n count)) }
     {
-        for done in 0..count {
-            let event = self.step(plan, sites, n, items)?;
-            if self.ends(n, idle, event) {
+        let mut left = count;
+        'stretches: loop {
+            let quiet = self.pass(n, left, idle);
+            let Some(seen) = quiet.last else { break };
+            self.show(plan, sites, n, &seen, items)?;
+            if self.ends(n, idle, seen.event) {
                 return Ok(());
             }
+            left -= quiet.count + 1;
         }
         match end {
             Some(item) => add(items, item),

@@ -1,68 +1,116 @@
-use Rattle.std.proofs.Common.{◌≡◌, ℕ, suc, ◌+◌, ◌-◌, ◌<◌, ◌==◌, ◌&&◌, ap, ◌∙◌, arith}
+use Rattle.std.proofs.Common.{◌+◌, ◌-◌, ◌==◌, ◌&&◌, refl, ◌∙◌, arith}
 use Rattle.std.specs.Option.{option_to_list}
-use Rattle.sx_machine.specs.Step.{step}
 use Rattle.sx_deploy.specs.SeenDeployment.{deployed_as}
 use Rattle.sx_world.specs.Held.{setting}
-use Rattle.sx_world.proofs.Lists.{get_some}
+use Rattle.sx_world.specs.Passing.{after_steps, stepped}
 use Rattle.sx_world.proofs.Fronts.{err_any}
-use Rattle.sx_world.proofs.Going.{going_on, going_over, going_front, going_end, going_none, going_done, ended, went_on, still_within, still_small}
+use Rattle.sx_world.proofs.Going.{going_on, going_over, going_front, going_end, going_none, going_done, went_on}
+use Rattle.sx_world.proofs.Passed.{passage, passed_going, passed_did, passed_front, passed_ends, passed_small, passed_within, passed_steps, shown_within, all_passed, stepped_there, one_less}
 use Rattle.sx_world.proofs.running.Running.steps_of.Goals as goal
 
-one_less : (count done : ℕ) → done < count → count - done ≡ suc (count - (done + 1))
-one_less count done h = omega arith
+pub show-requires-clause-node : goal.show-requires-clause-node
+show-requires-clause-node g c =
+    let p = passage g.T.Tag.mac c.args.idle c.args.n c.pass-quiet.result.count c.stretches.left c.stretches.self c.pass-quiet.new.self c.pass-quiet.result.last c.in-Some.seen
+    c.stretches.invariant.within c.pass-quiet.ensures.quiet c.pass-quiet.ensures.last c.pass-quiet.ensures.left c.in-Some.is in
+    passed_within g.T.Tag.mac c.args.idle c.args.n c.pass-quiet.result.count c.stretches.left c.stretches.self c.pass-quiet.new.self c.in-Some.seen p c.stretches.invariant.within
 
-none_left : (count done : ℕ) → done ≡ count → count - done ≡ 0
-none_left count done h = omega arith
-
-pub returns-in_err-event-clause-front : goal.returns-in_err-event-clause-front
-returns-in_err-event-clause-front g c =
+pub returns-in_err-show-clause-front : goal.returns-in_err-show-clause-front
+returns-in_err-show-clause-front g c =
     let set = setting g.T.Tag.mac (deployed_as c.args.plan.now) c.args.sites.now in
-    let s = get_some c.loop-done.self.nodes c.args.n c.loop-done.invariant.within in
+    let p = passage g.T.Tag.mac c.args.idle c.args.n c.pass-quiet.result.count c.stretches.left c.stretches.self c.pass-quiet.new.self c.pass-quiet.result.last c.in-Some.seen
+    c.stretches.invariant.within c.pass-quiet.ensures.quiet c.pass-quiet.ensures.last c.pass-quiet.ensures.left c.in-Some.is in
+    let going = passed_going g.T.Tag.mac (deployed_as c.args.plan.now) c.args.sites.now c.args.idle (option_to_list c.args.end) c.args.n c.args.count c.stretches.left c.pass-quiet.result.count c.args.self.now c.stretches.self c.pass-quiet.new.self
+    c.args.items.now.items c.stretches.items.items c.in-Some.seen p c.stretches.invariant.going in
     err_any c.from_residual.result
-    (going_front set (λ s. c.args.idle && (s.cur == 0)) (option_to_list c.args.end) c.args.n c.args.count (c.args.count - c.loop-done.done) (c.args.count - (c.loop-done.done + 1)) c.args.self.now c.loop-done.self
-    c.args.items.now.items c.loop-done.items.items c.step.new.items.items s.0 c.loop-done.invariant.going (one_less c.args.count c.loop-done.done c.loop-done-test.true) s.1 c.in_err-event.ensures.front)
+    (going_front set (λ s. c.args.idle && (s.cur == 0)) (option_to_list c.args.end) c.args.n c.args.count (c.stretches.left - c.pass-quiet.result.count) (c.stretches.left - (c.pass-quiet.result.count + 1)) c.args.self.now (stepped g.T.Tag.mac c.args.n c.pass-quiet.result.count p.node c.stretches.self)
+    c.args.items.now.items c.stretches.items.items c.show.new.items.items (after_steps g.T.Tag.mac c.pass-quiet.result.count p.node) going (one_less c.stretches.left c.pass-quiet.result.count p.few) (stepped_there g.T.Tag.mac c.args.n c.pass-quiet.result.count p.node c.stretches.self p.here)
+    (passed_front g.T.Tag.mac (deployed_as c.args.plan.now) c.args.sites.now c.stretches.self c.pass-quiet.new.self c.stretches.items.items c.show.new.items.items c.args.idle c.args.n c.pass-quiet.result.count c.stretches.left c.in-Some.seen p
+    c.in_err-show.ensures.front))
 
 pub ends-requires : goal.ends-requires
-ends-requires g c = still_within c.loop-done.self.nodes c.step.new.self.nodes c.args.n (λ s. (step g.T.Tag.mac s).state) c.loop-done.invariant.within c.in_ok-event.ensures.nodes
+ends-requires g c =
+    let p = passage g.T.Tag.mac c.args.idle c.args.n c.pass-quiet.result.count c.stretches.left c.stretches.self c.pass-quiet.new.self c.pass-quiet.result.last c.in-Some.seen
+    c.stretches.invariant.within c.pass-quiet.ensures.quiet c.pass-quiet.ensures.last c.pass-quiet.ensures.left c.in-Some.is in
+    let within = shown_within c.args.n c.pass-quiet.new.self c.show.new.self c.in_ok-show.ensures.kept
+    (passed_within g.T.Tag.mac c.args.idle c.args.n c.pass-quiet.result.count c.stretches.left c.stretches.self c.pass-quiet.new.self c.in-Some.seen p c.stretches.invariant.within) in
+    within
 
 pub returns-then-ends-clause-done : goal.returns-then-ends-clause-done
 returns-then-ends-clause-done g c =
     let set = setting g.T.Tag.mac (deployed_as c.args.plan.now) c.args.sites.now in
-    let s = get_some c.loop-done.self.nodes c.args.n c.loop-done.invariant.within in
-    going_over set (λ s. c.args.idle && (s.cur == 0)) (option_to_list c.args.end) c.args.n c.args.count (c.args.count - c.loop-done.done) (c.args.count - (c.loop-done.done + 1)) c.args.self.now c.loop-done.self c.step.new.self
-    c.args.items.now.items c.loop-done.items.items c.step.new.items.items s.0 c.loop-done.invariant.going (one_less c.args.count c.loop-done.done c.loop-done-test.true) s.1
-    (ended g.T.Tag.mac c.args.idle c.loop-done.self.nodes c.step.new.self.nodes c.args.n s.0 c.in_ok-event.event c.ends.result s.1 c.in_ok-event.ensures.nodes c.in_ok-event.ensures.event c.ends.ensures ∙ c.if-ends.true)
-    c.in_ok-event.ensures.done
+    let p = passage g.T.Tag.mac c.args.idle c.args.n c.pass-quiet.result.count c.stretches.left c.stretches.self c.pass-quiet.new.self c.pass-quiet.result.last c.in-Some.seen
+    c.stretches.invariant.within c.pass-quiet.ensures.quiet c.pass-quiet.ensures.last c.pass-quiet.ensures.left c.in-Some.is in
+    let going = passed_going g.T.Tag.mac (deployed_as c.args.plan.now) c.args.sites.now c.args.idle (option_to_list c.args.end) c.args.n c.args.count c.stretches.left c.pass-quiet.result.count c.args.self.now c.stretches.self c.pass-quiet.new.self
+    c.args.items.now.items c.stretches.items.items c.in-Some.seen p c.stretches.invariant.going in
+    let ended = passed_ends g.T.Tag.mac c.args.idle c.args.n c.pass-quiet.result.count c.stretches.left c.stretches.self c.pass-quiet.new.self c.show.new.self c.in-Some.seen c.ends.result p c.in_ok-show.ensures.kept c.ends.ensures in
+    let steps = passed_did g.T.Tag.mac (deployed_as c.args.plan.now) c.args.sites.now c.stretches.self c.pass-quiet.new.self c.show.new.self c.stretches.items.items c.show.new.items.items c.args.idle c.args.n c.pass-quiet.result.count c.stretches.left c.in-Some.seen p
+    c.in_ok-show.ensures.kept c.in_ok-show.ensures.done in
+    going_over set (λ s. c.args.idle && (s.cur == 0)) (option_to_list c.args.end) c.args.n c.args.count (c.stretches.left - c.pass-quiet.result.count) (c.stretches.left - (c.pass-quiet.result.count + 1)) c.args.self.now (stepped g.T.Tag.mac c.args.n c.pass-quiet.result.count p.node c.stretches.self) c.show.new.self
+    c.args.items.now.items c.stretches.items.items c.show.new.items.items (after_steps g.T.Tag.mac c.pass-quiet.result.count p.node) going (one_less c.stretches.left c.pass-quiet.result.count p.few) (stepped_there g.T.Tag.mac c.args.n c.pass-quiet.result.count p.node c.stretches.self p.here) (ended ∙ c.if-ends.true) steps
 
-pub loop-done-preserved : goal.loop-done-preserved
-loop-done-preserved g c =
+pub overflow_add-left : goal.overflow_add-left
+overflow_add-left g c =
+    let p = passage g.T.Tag.mac c.args.idle c.args.n c.pass-quiet.result.count c.stretches.left c.stretches.self c.pass-quiet.new.self c.pass-quiet.result.last c.in-Some.seen
+    c.stretches.invariant.within c.pass-quiet.ensures.quiet c.pass-quiet.ensures.last c.pass-quiet.ensures.left c.in-Some.is in
+    let few = p.few in
+    let fits = c.stretches.auto.left-fits in
+    omega arith
+
+pub overflow_sub-left : goal.overflow_sub-left
+overflow_sub-left g c =
+    let p = passage g.T.Tag.mac c.args.idle c.args.n c.pass-quiet.result.count c.stretches.left c.stretches.self c.pass-quiet.new.self c.pass-quiet.result.last c.in-Some.seen
+    c.stretches.invariant.within c.pass-quiet.ensures.quiet c.pass-quiet.ensures.last c.pass-quiet.ensures.left c.in-Some.is in
+    let few = p.few in
+    omega arith
+
+pub stretches-smaller : goal.stretches-smaller
+stretches-smaller g c =
+    let p = passage g.T.Tag.mac c.args.idle c.args.n c.pass-quiet.result.count c.stretches.left c.stretches.self c.pass-quiet.new.self c.pass-quiet.result.last c.in-Some.seen
+    c.stretches.invariant.within c.pass-quiet.ensures.quiet c.pass-quiet.ensures.last c.pass-quiet.ensures.left c.in-Some.is in
+    let few = p.few in
+    omega arith
+
+pub stretches-preserved : goal.stretches-preserved
+stretches-preserved g c =
     let set = setting g.T.Tag.mac (deployed_as c.args.plan.now) c.args.sites.now in
-    let s = get_some c.loop-done.self.nodes c.args.n c.loop-done.invariant.within in
-    let more =
-    ended g.T.Tag.mac c.args.idle c.loop-done.self.nodes c.step.new.self.nodes c.args.n s.0 c.in_ok-event.event c.ends.result s.1 c.in_ok-event.ensures.nodes c.in_ok-event.ensures.event c.ends.ensures ∙ c.if-ends.false in
+    let p = passage g.T.Tag.mac c.args.idle c.args.n c.pass-quiet.result.count c.stretches.left c.stretches.self c.pass-quiet.new.self c.pass-quiet.result.last c.in-Some.seen
+    c.stretches.invariant.within c.pass-quiet.ensures.quiet c.pass-quiet.ensures.last c.pass-quiet.ensures.left c.in-Some.is in
+    let going = passed_going g.T.Tag.mac (deployed_as c.args.plan.now) c.args.sites.now c.args.idle (option_to_list c.args.end) c.args.n c.args.count c.stretches.left c.pass-quiet.result.count c.args.self.now c.stretches.self c.pass-quiet.new.self
+    c.args.items.now.items c.stretches.items.items c.in-Some.seen p c.stretches.invariant.going in
+    let ended = passed_ends g.T.Tag.mac c.args.idle c.args.n c.pass-quiet.result.count c.stretches.left c.stretches.self c.pass-quiet.new.self c.show.new.self c.in-Some.seen c.ends.result p c.in_ok-show.ensures.kept c.ends.ensures in
+    let steps = passed_did g.T.Tag.mac (deployed_as c.args.plan.now) c.args.sites.now c.stretches.self c.pass-quiet.new.self c.show.new.self c.stretches.items.items c.show.new.items.items c.args.idle c.args.n c.pass-quiet.result.count c.stretches.left c.in-Some.seen p
+    c.in_ok-show.ensures.kept c.in_ok-show.ensures.done in
+    let within = shown_within c.args.n c.pass-quiet.new.self c.show.new.self c.in_ok-show.ensures.kept
+    (passed_within g.T.Tag.mac c.args.idle c.args.n c.pass-quiet.result.count c.stretches.left c.stretches.self c.pass-quiet.new.self c.in-Some.seen p c.stretches.invariant.within) in
     record {
       going =
-          going_on set (λ s. c.args.idle && (s.cur == 0)) (option_to_list c.args.end) c.args.n c.args.count (c.args.count - c.loop-done.done) (c.args.count - (c.loop-done.done + 1)) c.args.self.now c.loop-done.self c.step.new.self
-          c.args.items.now.items c.loop-done.items.items c.step.new.items.items s.0 c.loop-done.invariant.going (one_less c.args.count c.loop-done.done c.loop-done-test.true) s.1 more c.in_ok-event.ensures.done;
-      within = still_within c.loop-done.self.nodes c.step.new.self.nodes c.args.n (λ s. (step g.T.Tag.mac s).state) c.loop-done.invariant.within c.in_ok-event.ensures.nodes;
-      boot = still_small g.T.Tag.mac c.args.idle c.loop-done.self.nodes c.step.new.self.nodes c.args.n s.0 s.1 c.in_ok-event.ensures.nodes more (c.loop-done.invariant.boot s.0 s.1);
-      steps = c.in_ok-event.ensures.steps ∙ ap (λ k. k + 1) c.loop-done.invariant.steps ∙ omega arith;
+          going_on set (λ s. c.args.idle && (s.cur == 0)) (option_to_list c.args.end) c.args.n c.args.count (c.stretches.left - c.pass-quiet.result.count) (c.stretches.left - (c.pass-quiet.result.count + 1)) c.args.self.now (stepped g.T.Tag.mac c.args.n c.pass-quiet.result.count p.node c.stretches.self) c.show.new.self
+          c.args.items.now.items c.stretches.items.items c.show.new.items.items (after_steps g.T.Tag.mac c.pass-quiet.result.count p.node) going (one_less c.stretches.left c.pass-quiet.result.count p.few) (stepped_there g.T.Tag.mac c.args.n c.pass-quiet.result.count p.node c.stretches.self p.here) (ended ∙ c.if-ends.false) steps;
+      within = within;
+      boot = passed_small g.T.Tag.mac c.args.idle c.args.n c.pass-quiet.result.count c.stretches.left c.stretches.self c.pass-quiet.new.self c.show.new.self c.in-Some.seen p c.in_ok-show.ensures.kept (ended ∙ c.if-ends.false) (c.stretches.invariant.boot p.node p.here);
+      steps = passed_steps 18446744073709551615 g.T.Tag.mac c.args.idle c.args.n c.pass-quiet.result.count c.stretches.left c.stretches.self c.pass-quiet.new.self c.show.new.self c.in-Some.seen p c.in_ok-show.ensures.kept c.stretches.invariant.steps;
     }
 
-pub returns-in-Some-clause-done : goal.returns-in-Some-clause-done
-returns-in-Some-clause-done g c =
+pub returns-in-Some-end-clause-done : goal.returns-in-Some-end-clause-done
+returns-in-Some-end-clause-done g c =
     let set = setting g.T.Tag.mac (deployed_as c.args.plan.now) c.args.sites.now in
-    going_end set (λ s. c.args.idle && (s.cur == 0)) (option_to_list c.args.end) c.args.n c.args.count (c.args.count - c.loop-done.done) c.args.self.now c.loop-done.self c.args.items.now.items c.loop-done.items.items c.add.new.items.items
-    c.add.result c.loop-done.invariant.going (none_left c.args.count c.loop-done.done (omega (arith, c.loop-done-test.false, c.loop-done.auto.done-end))) (went_on c.add.result c.loop-done.items.items c.add.new.items.items c.args.end c.in-Some.item c.in-Some.is c.add.ensures.ok)
+    let going = all_passed g.T.Tag.mac (deployed_as c.args.plan.now) c.args.sites.now c.args.idle (option_to_list c.args.end) c.args.n c.args.count c.stretches.left c.pass-quiet.result.count c.args.self.now c.stretches.self c.pass-quiet.new.self
+    c.args.items.now.items c.stretches.items.items c.pass-quiet.result.last c.stretches.invariant.going c.stretches.invariant.within c.pass-quiet.ensures.quiet c.pass-quiet.ensures.last c.pass-quiet.ensures.left c.in_default.not-Some in
+    going_end set (λ s. c.args.idle && (s.cur == 0)) (option_to_list c.args.end) c.args.n c.args.count 0 c.args.self.now c.pass-quiet.new.self c.args.items.now.items c.stretches.items.items c.add.new.items.items
+    c.add.result going refl (went_on c.add.result c.stretches.items.items c.add.new.items.items c.args.end c.in-Some-end.item c.in-Some-end.is c.add.ensures.ok)
 
-pub returns-in-Some-clause-front : goal.returns-in-Some-clause-front
-returns-in-Some-clause-front g c =
+pub returns-in-Some-end-clause-front : goal.returns-in-Some-end-clause-front
+returns-in-Some-end-clause-front g c =
     let set = setting g.T.Tag.mac (deployed_as c.args.plan.now) c.args.sites.now in
-    going_none set (λ s. c.args.idle && (s.cur == 0)) (option_to_list c.args.end) c.args.n c.args.count (c.args.count - c.loop-done.done) c.args.self.now c.loop-done.self c.args.items.now.items c.loop-done.items.items c.add.new.items.items
-    c.add.result c.loop-done.invariant.going c.add.ensures.err
+    let going = all_passed g.T.Tag.mac (deployed_as c.args.plan.now) c.args.sites.now c.args.idle (option_to_list c.args.end) c.args.n c.args.count c.stretches.left c.pass-quiet.result.count c.args.self.now c.stretches.self c.pass-quiet.new.self
+    c.args.items.now.items c.stretches.items.items c.pass-quiet.result.last c.stretches.invariant.going c.stretches.invariant.within c.pass-quiet.ensures.quiet c.pass-quiet.ensures.last c.pass-quiet.ensures.left c.in_default.not-Some in
+    going_none set (λ s. c.args.idle && (s.cur == 0)) (option_to_list c.args.end) c.args.n c.args.count 0 c.args.self.now c.pass-quiet.new.self c.args.items.now.items c.stretches.items.items c.add.new.items.items
+    c.add.result going c.add.ensures.err
 
 pub returns-in-None-clause-done : goal.returns-in-None-clause-done
 returns-in-None-clause-done g c =
     let set = setting g.T.Tag.mac (deployed_as c.args.plan.now) c.args.sites.now in
-    going_done set (λ s. c.args.idle && (s.cur == 0)) c.args.end c.args.n c.args.count (c.args.count - c.loop-done.done) c.args.self.now c.loop-done.self c.args.items.now.items c.loop-done.items.items
-    c.loop-done.invariant.going (none_left c.args.count c.loop-done.done (omega (arith, c.loop-done-test.false, c.loop-done.auto.done-end))) c.in-None.is
+    let going = all_passed g.T.Tag.mac (deployed_as c.args.plan.now) c.args.sites.now c.args.idle (option_to_list c.args.end) c.args.n c.args.count c.stretches.left c.pass-quiet.result.count c.args.self.now c.stretches.self c.pass-quiet.new.self
+    c.args.items.now.items c.stretches.items.items c.pass-quiet.result.last c.stretches.invariant.going c.stretches.invariant.within c.pass-quiet.ensures.quiet c.pass-quiet.ensures.last c.pass-quiet.ensures.left c.in_default.not-Some in
+    going_done set (λ s. c.args.idle && (s.cur == 0)) c.args.end c.args.n c.args.count 0 c.args.self.now c.pass-quiet.new.self c.args.items.now.items c.stretches.items.items
+    going refl c.in-None.is

@@ -1,4 +1,4 @@
-use Rattle.std.proofs.Common.{◌≡◌, ◌+◌, ◌-◌, ◌==◌, ◌&&◌, ◌<◌, length, Some}
+use Rattle.std.proofs.Common.{◌≡◌, ◌+◌, ◌==◌, ◌&&◌, ◌<◌, ◌≤◌, length, Some}
 use Rattle.std.specs.Prelude.{slice_get}
 use Rattle.std.specs.Option.{option_to_list}
 use Rattle.sx_machine.specs.State.{State}
@@ -7,10 +7,13 @@ use Rattle.sx_world.specs.Held.{setting}
 use Rattle.sx_world.proofs.Going.{Going}
 use Rattle.sx_world.proofs.running.Running.steps_of.Given as goal
 
-abbrev pub invariant-loop-done : goal.invariant-loop-done
-invariant-loop-done g l = record {
-  going : Going (setting g.T.Tag.mac (deployed_as l.plan) l.sites) (λ s. l.idle && (s.cur == 0)) (option_to_list l.end) l.n l.count (l.count - l.done) l.fn.self l.self l.fn.items.items l.items.items;
+abbrev pub invariant-stretches : goal.invariant-stretches
+invariant-stretches g l = record {
+  going : Going (setting g.T.Tag.mac (deployed_as l.plan) l.sites) (λ s. l.idle && (s.cur == 0)) (option_to_list l.end) l.n l.count l.left l.fn.self l.self l.fn.items.items l.items.items;
   within : l.n < length l.self.nodes;
   boot : (s : State) → slice_get l.self.nodes l.n ≡ Some s → s.boot < 4294967295;
-  steps : l.self.steps ≡ l.fn.self.steps + l.done;
+  steps : l.self.steps + l.left ≤ 18446744073709551615;
 }
+
+abbrev pub decreases-stretches : goal.decreases-stretches
+decreases-stretches g l = l.left

@@ -1,0 +1,62 @@
+//! Steps of a node that show nothing, taken one after the other.
+
+ghost use Rattle.std.specs.Prelude.{◌≡◌, ◌<◌, IsTrue};
+ghost use Rattle.sx_machine.specs.Run.{untouched};
+ghost use Rattle.sx_machine.specs.declared.kinds.Event.TheVariants.{Quiet};
+ghost use Rattle.sx_world.specs.Passing.{after_steps, AreQuiet, EndsWith, taken};
+
+use sx_bus::Bus;
+use sx_node::{Event, Node, Seen, Touch};
+use sx_tag::Tag;
+
+/// Steps that showed nothing, and the one that ended them.
+#[derive(Clone, Copy, Debug)]
+pub(crate) struct QuietSteps {
+    /// How many showed nothing.
+    pub(crate) count: u32,
+    /// What the step after them showed, or None where as many as were asked for showed nothing.
+    pub(crate) last: Option<Seen>,
+}
+
+impl QuietSteps {
+    /// How many steps they are, with the last one.
+    pub(crate) fn taken(&self) -> u64
+        ensures { result ≡ taken self.now.count self.now.last }
+    {
+        match self.last {
+            Some(_seen) => u64::from(self.count) + 1,
+            None => u64::from(self.count),
+        }
+    }
+}
+
+/// Whether an instruction showed nothing, as most do.
+fn is_quiet(seen: &Seen) -> bool
+    ensures { IsTrue result → seen.now ≡ record { touch = untouched; event = Quiet } }
+{
+    matches!(seen.touch, [Touch::Quiet, Touch::Quiet]) && matches!(seen.event, Event::Quiet)
+}
+
+/// Steps of a node, at most `count`, up to the first that shows something or, where `idle` says so,
+/// leaves no module running.
+pub(crate) fn quiet_steps<B: Bus, T: Tag>(
+    node: &mut Node<B, T>,
+    count: u32,
+    idle: bool,
+) -> QuietSteps
+    requires { node.old.boot < 4294967295 }
+    ensures quiet { AreQuiet T.mac idle result.count node.old }
+    ensures last { EndsWith T.mac count result.count result.last node.old }
+    ensures left { node.new ≡ after_steps T.mac (taken result.count result.last) node.old }
+{
+    for done in 0..count {
+        let seen = node.step();
+        if !is_quiet(&seen) || (idle && node.running() == 0) {
+            return QuietSteps {
+                count: done,
+                last: Some(seen),
+            };
+        }
+    }
+    QuietSteps { count, last: None }
+}
