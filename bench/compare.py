@@ -2,8 +2,8 @@
 """Instructions a second of `sancus run`, as a ratio to Debian's mspdebug simulator (apt-get install mspdebug).
 
 Both run the same code: an inner loop of 65,536 turns inside an outer loop. The one loop counts a register, the
-other a word in memory. `sancus` runs each also with a protected section standing, which every access is
-checked against. Each of five rounds times both programs one after the other, so that what else the machine does
+other a word in memory. `sancus` runs each also with one and with eight protected sections standing, which every
+access is checked against. Each of five rounds times both programs one after the other, so that what else the machine does
 meets both alike. The table has the median of the rates, in million instructions a second of processor time, and
 of their ratios, with the least and the greatest ratio. The program must be built (`./sancus build`). Not a part of
 the gate.
@@ -19,8 +19,14 @@ LOOPS = {
     "register": (["8315", "23fe", "8316", "23fc", "3fff"], 2),
     "memory": (["8392", "0300", "23fd", "8316", "23fb", "3fff"], 2),
 }
-PROTECT = ["put n 0x600 2645ff3f", "put n 0x400 8113", "set n r9 1", "set n r10 0x600", "set n r11 0x608",
-           "set n r12 0x700", "set n r13 0x710", "set n pc 0x400", "run n 1"]
+
+
+def protect(number):
+    """The lines that protect a section of this number: 8 bytes of code on page 6, 16 bytes of data on page 7."""
+    text, data = 0x600 + 16 * number, 0x700 + 16 * number
+    bounds = zip(("r9", "r10", "r11", "r12", "r13"), (1, text, text + 8, data, data + 16))
+    lines = [f"put n {text:#x} 2645ff3f", "put n 0x400 8113"]
+    return lines + [f"set n {register} {value:#x}" for register, value in bounds] + ["set n pc 0x400", "run n 1"]
 
 
 def little(words):
@@ -38,8 +44,8 @@ def seconds(command, text):
     return processor_seconds() - begin
 
 
-def ours(words, steps, protected):
-    lines = ["%%"] + (PROTECT if protected else [])
+def ours(words, steps, sections):
+    lines = ["%%"] + [line for number in range(sections) for line in protect(number)]
     lines += [f"put n 0x4000 {little(words)}", f"set n r6 {TURNS}", "set n pc 0x4000"]
     lines += ["run n 65535"] * (steps // 65535) + [f"run n {steps % 65535}"] * (steps % 65535 > 0)
     return seconds([PROGRAM, "run"], ("\n".join(lines) + "\n").encode())
@@ -54,15 +60,14 @@ def theirs(words):
 
 
 def main():
-    print(f"{'loop':<10}{'section':<10}{'sancus':>8}{'mspdebug':>10}{'ratio':>7}{'least':>7}{'most':>7}")
+    print(f"{'loop':<10}{'sections':<10}{'sancus':>8}{'mspdebug':>10}{'ratio':>7}{'least':>7}{'most':>7}")
     for name, (words, each) in LOOPS.items():
         steps = TURNS * (65536 * each + 2)
-        for protected in (False, True):
-            rounds = [(steps / ours(words, steps, protected), steps / theirs(words)) for _ in range(ROUNDS)]
+        for sections in (0, 1, 8):
+            rounds = [(steps / ours(words, steps, sections), steps / theirs(words)) for _ in range(ROUNDS)]
             ratios = sorted(ours_rate / their_rate for ours_rate, their_rate in rounds)
             ours_rate, their_rate = (statistics.median(rates) / 1e6 for rates in zip(*rounds))
-            section = "standing" if protected else "none"
-            print(f"{name:<10}{section:<10}{ours_rate:>8.1f}{their_rate:>10.1f}"
+            print(f"{name:<10}{sections:<10}{ours_rate:>8.1f}{their_rate:>10.1f}"
                   f"{statistics.median(ratios):>7.2f}{ratios[0]:>7.2f}{ratios[-1]:>7.2f}")
     return 0
 

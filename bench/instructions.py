@@ -1,12 +1,12 @@
 #!/usr/bin/env python3
-"""The processor's instructions of `sancus check` on the largest deployment and of two runs, and their allocations.
+"""The processor's instructions of `sancus check` and `run` on the largest deployment and of two runs, and their allocations.
 
 Clocks differ from machine to machine and from run to run; these counts don't, so work that nobody needs shows as a
 few lines of difference. valgrind counts: callgrind the instructions, and memcheck's summary the allocations.
 
     bench/instructions.py            counts, and compares with the figures in bench/instructions.json
     bench/instructions.py --store    counts, and writes these figures
-    bench/instructions.py --print check|steps|events    writes the input alone
+    bench/instructions.py --print check|images|steps|events    writes the input alone
 
 Ends with status 1 where a count differs by more than one part in a hundred from its figure, or has none. The program
 must be built (`./sancus build`). Not a part of the gate.
@@ -87,8 +87,9 @@ def events():
 
 
 def inputs():
-    """The command of each case, and its input."""
-    return {"check": ("check", deployment() + ["%%"]), "steps": ("run", steps()), "events": ("run", events())}
+    """The command of each case, and its input. `images` compiles the largest deployment and runs nothing."""
+    largest = deployment() + ["%%"]
+    return {"check": ("check", largest), "images": ("run", largest), "steps": ("run", steps()), "events": ("run", events())}
 
 
 def valgrind(tool, command, text):
