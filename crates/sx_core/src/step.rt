@@ -50,7 +50,8 @@ fn fetch_words<B: Bus>(
 
 /// Executes a decoded instruction with these extension words; PC is after its first word, and
 /// `next` is the address after the whole. Words and bytes are two arms, so that the compiler makes
-/// code for each, and extension words are put in by an arm, so that it needn't build an instruction.
+/// code for each, and extension words are put in by an arm, so that it needn't build an
+/// instruction.
 fn execute<B: Bus>(
     executor: &mut Executor<B>,
     instruction: Instr,

@@ -3,8 +3,7 @@
 ghost use Rattle.std.specs.Prelude.{◌≡◌, ◌<◌, Bool, true, None, length, IsTrue, IfOk, IfSome};
 ghost use Rattle.sx_alu.specs.Table.{limit};
 ghost use Rattle.sx_rules.specs.declared.access.Access.{Access};
-ghost use Rattle.sx_rules.specs.declared.access.Access.TheVariants.{Read, Write};
-ghost use Rattle.sx_machine.specs.Memory.{read_at, write_at};
+ghost use Rattle.sx_rules.specs.declared.access.Access.TheVariants.{Read};
 ghost use Rattle.sx_machine.specs.Run.{may_at, with_touch, device_of, fetch, sampled};
 ghost use Rattle.sx_executor.specs.Machine.{moment_of, extends_word, KeepsSections, Loads, Stores};
 
@@ -25,40 +24,6 @@ fn note(touches: &mut [Touch; 2], touch: Touch)
 }
 
 impl<B: Bus> Executor<B> {
-    /// The word at an address, whose bit 0 doesn't count, or in byte form the byte. It may be read,
-    /// and is no device's.
-    pub fn read(&self, wide: bool, at: u16) -> u16
-        requires right { may_at wide self.now.sections.live self.now.own Read at ≡ true }
-        requires memory { device_of self.now.devices at ≡ None }
-        ensures value { result ≡ read_at wide self.now.mem at }
-        ensures below { result < limit wide }
-    {
-        if wide {
-            let even = at - at % 2;
-            let low = self.bus.get(even);
-            let high = self.bus.get(even + 1);
-            u16::from(low) + 256 * u16::from(high)
-        } else {
-            u16::from(self.bus.get(at))
-        }
-    }
-
-    /// Writes the word at an address, or in byte form the byte. It may be written, and is no
-    /// device's.
-    pub fn write(&mut self, wide: bool, at: u16, value: u16)
-        requires right { may_at wide self.old.sections.live self.old.own Write at ≡ true }
-        requires memory { device_of self.old.devices at ≡ None }
-        ensures { self.new ≡ record self.old { mem = write_at wide self.old.mem at value } }
-    {
-        if wide {
-            let even = at - at % 2;
-            self.bus.put(even, (value % 256) as u8);
-            self.bus.put(even + 1, (value / 256) as u8);
-        } else {
-            self.bus.put(at, (value % 256) as u8);
-        }
-    }
-
     /// Whether the running code may access the word, or in byte form the byte.
     #[inline(always)]
     #[tactic(auto, using(crate::proofs::Open::open_word))]
@@ -74,8 +39,8 @@ impl<B: Bus> Executor<B> {
         self.table.may_word(self.own, access, at)
     }
 
-    /// Whether no section meets the page of an address and no device is there. Then an access asks no
-    /// more.
+    /// Whether no section meets the page of an address and no device is there. Then an access asks
+    /// no more.
     #[inline(always)]
     #[tactic(auto, using(crate::proofs::Open::open_any))]
     fn is_clear(&self, at: u16) -> bool

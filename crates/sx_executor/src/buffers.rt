@@ -1,8 +1,7 @@
 //! Reads and writes of whole buffers: the access table is asked for each byte before the first is
 //! touched.
 
-ghost use Rattle.std.specs.Prelude.{◌≡◌, ◌+◌, ◌<◌, ◌≤◌, true, false, length, IfErr, OnOk};
-ghost use Rattle.std.specs.Prelude.{slice_index};
+ghost use Rattle.std.specs.Prelude.{◌≡◌, ◌+◌, ◌≤◌, true, false, length, IfErr, OnOk};
 ghost use Rattle.sx_rules.specs.declared.access.Access.TheVariants.{Read, Write};
 ghost use Rattle.sx_rules.specs.declared.access.Violation.TheVariants as bad;
 ghost use Rattle.sx_machine.specs.Memory.{bytes_from};
@@ -75,15 +74,5 @@ impl<B: Bus> Executor<B> {
         for (i, byte) in bytes.iter().enumerate() {
             self.write(false, (at as usize + i) as u16, u16::from(*byte));
         }
-    }
-
-    /// A byte of a public section, which may be read. No device stands there, since no module is
-    /// admitted over one.
-    pub fn public_byte(&self, section: Buffer, i: u16) -> u8
-        requires right { reaches self.now Read section.at section.count ≡ true }
-        requires within { i < section.count }
-        ensures { result ≡ slice_index self.now.mem (section.at + i) }
-    {
-        self.bus.get(section.at + i)
     }
 }

@@ -32,8 +32,8 @@ impl Decoded {
         })
     }
 
-    /// The first word is that of this instruction with any extension words. Those past its own don't
-    /// matter.
+    /// The first word is that of this instruction with any extension words. Those past its own
+    /// don't matter.
     pub fn reads_on(&self)
         ensures { (second third : ℕ) → instruction_at self.now.first second third ≡ Some (record {
           0 = extended self.now.instruction second third;

@@ -1,25 +1,36 @@
-//! The state that an instruction runs on, and what others ask of it.
+//! The state that an instruction runs on, and every call that touches its memory.
+//!
+//! Memory is the field `bus`, which is seen in this file alone: the rest of the crate reaches it by
+//! these calls. An access reads by `read` and `public_byte` and writes by `write`, and these
+//! require its right. `new`, `reset` and `copy` are about a whole node; `byte`, `admit` and `remove`
+//! say why they ask for no right. What doesn't touch memory stands in other files.
 
-ghost use Rattle.std.specs.Prelude.{◌≡◌, ◌<◌, length, IfSome, slice_get, slice_index};
-ghost use Rattle.sx_bus.specs.declared.devices.Kind.TheVariants.{Sensor};
-ghost use Rattle.sx_bus.specs.Devices.{with_sample};
-ghost use Rattle.sx_rules.specs.Access.{holder, section_of};
-ghost use Rattle.sx_machine.specs.Run.{untouched};
-ghost use Rattle.sx_executor.specs.Machine.{switched_on, cleared_by_reset};
+ghost use Rattle.std.specs.Prelude.{◌≡◌, ◌+◌, ◌<◌, ◌≤◌, true, None, Some, length, IfOk};
+ghost use Rattle.std.specs.Prelude.{slice_index};
+ghost use Rattle.sx_alu.specs.Table.{limit};
+ghost use Rattle.sx_rules.specs.declared.access.Access.TheVariants.{Read, Write};
+ghost use Rattle.sx_rules.specs.Access.{section_of};
+ghost use Rattle.sx_rules.specs.Admission.{admitted, removed};
+ghost use Rattle.sx_machine.specs.Memory.{read_at, write_at, zeroed};
+ghost use Rattle.sx_machine.specs.Protect.{wiped};
+ghost use Rattle.sx_machine.specs.Run.{may_at, device_of};
+ghost use Rattle.sx_executor.specs.Machine.{switched_on, cleared_by_reset, reaches};
 
+use crate::buffer::Buffer;
 use crate::decoded::Decoded;
 use crate::decoding::PLACES;
+use std::alloc::{AllocError as OutOfMemory, Global};
 use std::marker::Model;
-use sx_bus::{Bus, Windows};
+use sx_bus::{Bus, Copied, Windows};
 use sx_machine::Touch;
-use sx_rules::{Section, Table};
+use sx_rules::{Layout, Section, Table};
 
 /// The registers R0 to R15, the memory, the devices and the sections of a node, with the module
 /// whose code runs, else 0, and what it touched so far.
 #[derive(Drop)]
 pub struct Executor<B: Bus> {
     pub(crate) regs: [u16; 16],
-    pub(crate) bus: B,
+    bus: B,
     pub(crate) windows: Windows,
     pub(crate) table: Table,
     pub(crate) own: u16,
@@ -41,6 +52,23 @@ impl<B: Bus> Model for Executor<B> {
       own = e.own;
       touches = e.touches;
     } };
+}
+
+/// Makes the bytes of a buffer zero.
+#[tactic(auto, unfolding(sx_machine::specs::Memory::zeroed))]
+fn zero<B: Bus>(bus: &mut B, buffer: Buffer)
+    ensures { B.bytes bus.new ≡ zeroed (B.bytes bus.old) buffer.at buffer.count }
+{
+    for i in 0..buffer.count {
+        bus.put(buffer.at + i, 0);
+    }
+}
+
+/// Makes the private section of a layout zero.
+fn wipe<B: Bus>(bus: &mut B, layout: &Layout)
+    ensures { B.bytes bus.new ≡ wiped (B.bytes bus.old) layout.now }
+{
+    zero(bus, Buffer::between(layout.priv_from, layout.priv_to));
 }
 
 impl<B: Bus> Executor<B> {
@@ -71,63 +99,6 @@ impl<B: Bus> Executor<B> {
         self.touches = [Touch::Quiet; 2];
     }
 
-    /// Begins an instruction of the module `own`, or of code outside every module where it is 0.
-    pub fn begin(&mut self, own: u16)
-        ensures { self.new ≡ record self.old { own = own; touches = untouched } }
-    {
-        self.own = own;
-        self.touches = [Touch::Quiet; 2];
-    }
-
-    /// The module whose code runs, else 0.
-    pub fn own(&self) -> u16
-        ensures { result ≡ self.now.own }
-    {
-        self.own
-    }
-
-    /// What the instruction did at devices.
-    pub fn touches(&self) -> [Touch; 2]
-        ensures { result ≡ self.now.touches }
-    {
-        self.touches
-    }
-
-    /// The devices.
-    pub fn windows(&self) -> &Windows
-        ensures { result.now ≡ self.now.devices }
-    {
-        &self.windows
-    }
-
-    /// The sections.
-    pub fn table(&self) -> &Table
-        ensures { result.now ≡ self.now.sections }
-    {
-        &self.table
-    }
-
-    /// The module whose public section holds the byte, else 0.
-    pub fn holder(&self, at: u16) -> u16
-        ensures { result ≡ holder self.now.sections.live at }
-    {
-        self.table.holder(at)
-    }
-
-    /// The live section with the id.
-    pub fn section(&self, id: u16) -> Option<Section>
-        ensures { result ≡ section_of self.now.sections.live id }
-    {
-        self.table.section(id)
-    }
-
-    /// The section of the module whose code runs.
-    pub fn running(&self) -> Option<Section>
-        ensures { result ≡ section_of self.now.sections.live self.now.own }
-    {
-        self.table.section(self.own)
-    }
-
     /// The byte at an address, for a caller that looks at the whole node: no instruction and no act
     /// reads by this call, so it asks for no right.
     pub fn byte(&self, at: u16) -> u8
@@ -136,17 +107,95 @@ impl<B: Bus> Executor<B> {
         self.bus.get(at)
     }
 
-    /// A sensor's new sample.
-    pub fn sense(&mut self, device: u8, value: u16)
-        requires device { device < length self.old.devices }
-        requires sensor { IfSome (slice_get self.old.devices device)
-            (λ window. window.kind ≡ Sensor) }
-        requires value { value < 32768 }
-        ensures { self.new ≡ record self.old {
-          devices =
-              with_sample self.old.devices device value;
+    /// The word at an address, whose bit 0 doesn't count, or in byte form the byte. It may be read,
+    /// and is no device's.
+    pub fn read(&self, wide: bool, at: u16) -> u16
+        requires right { may_at wide self.now.sections.live self.now.own Read at ≡ true }
+        requires memory { device_of self.now.devices at ≡ None }
+        ensures value { result ≡ read_at wide self.now.mem at }
+        ensures below { result < limit wide }
+    {
+        if wide {
+            let even = at - at % 2;
+            let low = self.bus.get(even);
+            let high = self.bus.get(even + 1);
+            u16::from(low) + 256 * u16::from(high)
+        } else {
+            u16::from(self.bus.get(at))
+        }
+    }
+
+    /// Writes the word at an address, or in byte form the byte. It may be written, and is no
+    /// device's.
+    pub fn write(&mut self, wide: bool, at: u16, value: u16)
+        requires right { may_at wide self.old.sections.live self.old.own Write at ≡ true }
+        requires memory { device_of self.old.devices at ≡ None }
+        ensures { self.new ≡ record self.old { mem = write_at wide self.old.mem at value } }
+    {
+        if wide {
+            let even = at - at % 2;
+            self.bus.put(even, (value % 256) as u8);
+            self.bus.put(even + 1, (value / 256) as u8);
+        } else {
+            self.bus.put(at, (value % 256) as u8);
+        }
+    }
+
+    /// A byte of a public section, which may be read. It asks of no device: none stands there,
+    /// since no module is admitted over one.
+    pub fn public_byte(&self, section: Buffer, i: u16) -> u8
+        requires right { reaches self.now Read section.at section.count ≡ true }
+        requires within { i < section.count }
+        ensures { result ≡ slice_index self.now.mem (section.at + i) }
+    {
+        self.bus.get(section.at + i)
+    }
+
+    /// Admits a module that `test` doesn't refuse under the next id, which it gives back. Its
+    /// private section is made zero whatever code runs: by design, this asks for no right.
+    pub fn admit(&mut self, layout: Layout, provider: u16, key: [u8; 16]) -> u16
+        requires room { length self.old.sections.live < 8 }
+        requires ids { self.old.sections.next ≤ 65535 }
+        ensures id { result ≡ self.old.sections.next }
+        ensures admitted { self.new ≡ record self.old {
+          mem = wiped self.old.mem layout;
+          sections = admitted self.old.sections layout provider key;
         } }
     {
-        self.windows.sense(device, value);
+        let id = self.table.add(layout, provider, key);
+        wipe(&mut self.bus, &layout);
+        id
+    }
+
+    /// Removes the module whose code runs, and makes its private section zero: bytes of its own, so
+    /// this asks for no right.
+    pub fn remove(&mut self, section: &Section)
+        requires own { section_of self.old.sections.live self.old.own ≡ Some section.now }
+        ensures { self.new ≡ record self.old {
+          mem = wiped self.old.mem section.now.layout;
+          sections = removed self.old.sections self.old.own;
+        } }
+    {
+        wipe(&mut self.bus, &section.layout);
+        self.table.remove(self.own);
+    }
+}
+
+impl<B: Copied> Executor<B> {
+    /// An executor of its own in an equal state. `OutOfMemory` where there is none for it.
+    pub fn copy(&self, alloc: Global) -> Result<Executor<B>, OutOfMemory>
+        ensures { IfOk result (λ copy. copy ≡ self.now) }
+    {
+        let bus = self.bus.copy(alloc)?;
+        let windows = self.windows.copy(alloc)?;
+        Ok(Executor {
+            regs: self.regs,
+            bus,
+            windows,
+            table: self.table.copy(),
+            own: self.own,
+            touches: self.touches,
+            decoded: self.decoded,
+        })
     }
 }
