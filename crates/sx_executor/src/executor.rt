@@ -2,8 +2,8 @@
 //!
 //! Memory is the field `bus`, which is seen in this file alone: the rest of the crate reaches it by
 //! these calls. An access reads by `read` and `public_byte` and writes by `write`, and these
-//! require its right. `new`, `reset` and `copy` are about a whole node; `byte`, `admit` and `remove`
-//! say why they ask for no right. What doesn't touch memory stands in other files.
+//! require its right. `new`, `reset` and `copy` are about a whole node; `byte`, `admit` and
+//! `remove` say why they ask for no right. What doesn't touch memory stands in other files.
 
 ghost use Rattle.std.specs.Prelude.{◌≡◌, ◌+◌, ◌<◌, ◌≤◌, true, None, Some, length, IfOk};
 ghost use Rattle.std.specs.Prelude.{slice_index};
