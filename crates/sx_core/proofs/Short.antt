@@ -5,9 +5,9 @@ use Rattle.sx_isa.specs.declared.instruction.Instr.{Instr}
 use Rattle.sx_isa.specs.Reading.{length_of}
 use Rattle.sx_machine.specs.Registers.{onward, at_pc}
 use Rattle.sx_machine.specs.Rows.{program, row, row_of, with_words}
-use Rattle.sx_executor.specs.Reads.{IsRead}
+use Rattle.sx_executor.specs.Reads.{IsDecoded}
 
-pub short_program : (first : ℕ) (i : Instr) (regs : List ℕ) → IsRead first i 1
+pub short_program : (first : ℕ) (i : Instr) (regs : List ℕ) → IsDecoded first i 1
     → program first regs ≡ row i (at_pc regs (onward (slice_index regs 0) 2)) (onward (slice_index regs 0) 2)
 unfolding program length_of
 short_program first i regs read =

@@ -4,5 +4,5 @@ use Rattle.sx_isa.specs.declared.instruction.Instr.{Instr}
 use Rattle.sx_isa.specs.Reading.{instruction_at}
 
 -- the first word is that of this instruction, which has so many words
-abbrev pub IsRead : ℕ → Instr → ℕ → Type 0
-IsRead first instruction words = instruction_at first 0 0 ≡ Some (instruction, words)
+abbrev pub IsDecoded : ℕ → Instr → ℕ → Type 0
+IsDecoded first instruction words = instruction_at first 0 0 ≡ Some (instruction, words)

@@ -4,7 +4,7 @@ ghost use Rattle.std.specs.Prelude.{◌≡◌, ℕ, None, Some, MatchOption};
 ghost use Rattle.std.proofs.Props.{props};
 ghost use Rattle.sx_isa.specs.Reading.{instruction_at, length_of};
 ghost use Rattle.sx_isa.specs.Extending.{extended};
-ghost use Rattle.sx_executor.specs.Reads.{IsRead};
+ghost use Rattle.sx_executor.specs.Reads.{IsDecoded};
 
 use sx_isa::{Instr, decode};
 
@@ -15,7 +15,7 @@ pub struct Decoded {
     pub first: u16,
     pub instruction: Instr,
     pub words: u8,
-    pub ghost read: { IsRead first instruction words } by { Prim.hlevel props },
+    pub ghost read: { IsDecoded first instruction words } by { Prim.hlevel props },
 }
 
 impl Decoded {
