@@ -9,6 +9,7 @@ use sx_check::checks::check;
 use sx_lang::names::Name;
 use sx_lang::tree::{BinOp, Decl, DeviceKind, Expr, Handler, Module, Stmt};
 use sx_mean::apps::{App, AppDevice, Link, Part};
+use sx_trace::items::Item;
 use sx_trace::names::Names;
 use sx_trace::reading::read_item;
 
@@ -140,122 +141,142 @@ fn lighting(alloc: Global) -> Result<App, Fail> {
     })
 }
 
-/// The modules are loaded, attested and connected, and a reading of 120 lights the lamp.
-const SHOWN: [&[u8]; 43] = [
-    b"protect a eye",
-    b"protect a logic",
-    b"protect b lamp",
-    b"ask eye 0",
-    b"packet 0 18",
-    b"vouch eye 0",
-    b"done eye 1 1",
-    b"packet 1 16",
-    b"attested eye 0",
-    b"packet 2 38",
-    b"open eye up from",
-    b"done eye 1 0",
-    b"ask logic 1",
-    b"packet 3 18",
-    b"vouch logic 1",
-    b"done logic 1 1",
-    b"packet 4 16",
-    b"attested logic 0",
-    b"packet 5 38",
-    b"packet 6 38",
-    b"open logic up to",
-    b"done logic 1 0",
-    b"open logic down from",
-    b"done logic 1 0",
-    b"ask lamp 2",
-    b"packet 7 18",
-    b"vouch lamp 2",
-    b"done lamp 1 1",
-    b"packet 8 16",
-    b"attested lamp 0",
-    b"packet 9 38",
-    b"open lamp down to",
-    b"done lamp 1 0",
-    b"sense light 120",
-    b"read eye 120",
-    b"done eye 1 1",
-    b"packet 10 24",
-    b"take logic up 0 120",
-    b"done logic 1 1",
-    b"packet 11 24",
-    b"take lamp down 0 1",
-    b"out lamp 1",
-    b"done lamp 1 0",
-];
+/// The modules are loaded, attested and connected, and a reading of 120 reaches the lamp.
+const CONNECTED: &str = "protect a eye
+protect a logic
+protect b lamp
+ask eye 0
+packet 0 18
+vouch eye 0
+done eye 1 1
+packet 1 16
+attested eye 0
+packet 2 38
+open eye up from
+done eye 1 0
+ask logic 1
+packet 3 18
+vouch logic 1
+done logic 1 1
+packet 4 16
+attested logic 0
+packet 5 38
+packet 6 38
+open logic up to
+done logic 1 0
+open logic down from
+done logic 1 0
+ask lamp 2
+packet 7 18
+vouch lamp 2
+done lamp 1 1
+packet 8 16
+attested lamp 0
+packet 9 38
+open lamp down to
+done lamp 1 0
+sense light 120
+read eye 120
+done eye 1 1
+packet 10 24
+take logic up 0 120
+done logic 1 1
+packet 11 24
+take lamp down 0 1";
+
+/// The lamp is lit.
+const LIT: &str = "out lamp 1
+done lamp 1 0";
 
 /// After a reset the lamp's old packets are refused.
-const REPLAYED: [&[u8]; 4] = [
-    b"reset b asked",
-    b"protect b lamp",
-    b"done lamp 7 0",
-    b"done lamp 5 0",
-];
+const REPLAYED: &str = "reset b asked
+protect b lamp
+done lamp 7 0
+done lamp 5 0";
 
 /// After a reset the lamp is attested again, its connection is renewed, and a reading of 50 puts it
 /// out.
-const RENEWED: [&[u8]; 24] = [
-    b"reset b asked",
-    b"protect b lamp",
-    b"ask lamp 3",
-    b"packet 12 18",
-    b"vouch lamp 3",
-    b"done lamp 1 1",
-    b"packet 13 16",
-    b"attested lamp 1",
-    b"packet 14 38",
-    b"packet 15 38",
-    b"open lamp down to 1",
-    b"done lamp 1 0",
-    b"open logic down from 1",
-    b"done logic 1 0",
-    b"sense light 50",
-    b"read eye 50",
-    b"done eye 1 1",
-    b"packet 16 24",
-    b"take logic up 1 50",
-    b"done logic 1 1",
-    b"packet 17 24",
-    b"take lamp down 65536 0",
-    b"out lamp 0",
-    b"done lamp 1 0",
-];
+const RENEWED: &str = "reset b asked
+protect b lamp
+ask lamp 3
+packet 12 18
+vouch lamp 3
+done lamp 1 1
+packet 13 16
+attested lamp 1
+packet 14 38
+packet 15 38
+open lamp down to 1
+done lamp 1 0
+open logic down from 1
+done logic 1 0
+sense light 50
+read eye 50
+done eye 1 1
+packet 16 24
+take logic up 1 50
+done logic 1 1
+packet 17 24
+take lamp down 65536 0
+out lamp 0
+done lamp 1 0";
 
-/// Takes the item of a line, and says whether it's allowed.
-fn takes(model: &mut Model, app: &App, names: &Names, line: &[u8]) -> Result<bool, Fail> {
-    if !app.valid() {
-        return Err(NotMade.into());
+fn item(names: &Names, line: &str) -> Result<Item, NotMade> {
+    if names.valid() {
+        read_item(names, line.as_bytes()).ok_or(NotMade)
+    } else {
+        Err(NotMade)
     }
-    if !names.valid() {
-        return Err(NotMade.into());
-    }
-    if model.taken() > 1_000 {
-        return Err(NotMade.into());
-    }
-    let item = read_item(names, line).ok_or(NotMade)?;
-    let is_allowed = model.step(app, &item)?;
-    Ok(is_allowed)
 }
 
-/// Whether all of the lines' items are allowed.
-fn follows(model: &mut Model, app: &App, names: &Names, lines: &[&[u8]]) -> Result<bool, Fail> {
-    for line in lines {
-        if !takes(model, app, names, line)? {
+fn items_among(alloc: Global, names: &Names, text: &str) -> Result<Vec<Item>, Fail> {
+    let mut items = Vec::new(alloc);
+    for line in text.lines() {
+        items.push(item(names, line)?)?;
+    }
+    Ok(items)
+}
+
+/// The items of a text's lines.
+fn items(alloc: Global, text: &str) -> Result<Vec<Item>, Fail> {
+    items_among(alloc, &lighting_names(alloc)?, text)
+}
+
+/// Takes an item, and says whether it's allowed.
+fn takes(model: &mut Model, app: &App, item: &Item) -> Result<bool, Fail> {
+    if app.valid() && model.taken() <= 1_000 {
+        Ok(model.step(app, item)?)
+    } else {
+        Err(NotMade.into())
+    }
+}
+
+fn takes_all(model: &mut Model, app: &App, items: &[Item]) -> Result<bool, Fail> {
+    for item in items {
+        if !takes(model, app, item)? {
             return Ok(false);
         }
     }
     Ok(true)
 }
 
+/// Whether all of the lines' items are allowed.
+fn follows(alloc: Global, model: &mut Model, text: &str) -> Result<bool, Fail> {
+    let items = items(alloc, text)?;
+    takes_all(model, &lighting(alloc)?, &items)
+}
+
+/// The lighting application's model at power-on.
+fn at_power_on(alloc: Global) -> Result<Model, Fail> {
+    Ok(Model::new(alloc, &lighting(alloc)?)?)
+}
+
 #[test]
 fn the_lamp_is_lit(rt: HostRuntime) -> Result<(), Fail> {
     let alloc = rt.alloc();
-    let (app, names) = (lighting(alloc)?, lighting_names(alloc)?);
-    let mut model = Model::new(alloc, &app)?;
-    assert!(rt; follows(&mut model, &app, &names, &SHOWN)?);
+    let mut model = at_power_on(alloc)?;
+    assert!(rt; follows(alloc, &mut model, CONNECTED)?);
+    assert!(rt; follows(alloc, &mut model, LIT)?);
     assert_eq!(rt; model.taken(), 43);
     assert_eq!(rt; model.sent(0, 0), 1);
     assert_eq!(rt; model.sent(1, 0), 1);
@@ -266,13 +287,12 @@ fn the_lamp_is_lit(rt: HostRuntime) -> Result<(), Fail> {
 #[test]
 fn another_value_changes_nothing(rt: HostRuntime) -> Result<(), Fail> {
     let alloc = rt.alloc();
-    let (app, names) = (lighting(alloc)?, lighting_names(alloc)?);
-    let mut model = Model::new(alloc, &app)?;
-    assert!(rt; follows(&mut model, &app, &names, &SHOWN[..41])?);
-    assert!(rt; !takes(&mut model, &app, &names, b"out lamp 2")?);
-    assert!(rt; !takes(&mut model, &app, &names, b"done lamp 1 0")?);
+    let mut model = at_power_on(alloc)?;
+    assert!(rt; follows(alloc, &mut model, CONNECTED)?);
+    assert!(rt; !follows(alloc, &mut model, "out lamp 2")?);
+    assert!(rt; !follows(alloc, &mut model, "done lamp 1 0")?);
     assert_eq!(rt; model.taken(), 41);
-    assert!(rt; follows(&mut model, &app, &names, &SHOWN[41..])?);
+    assert!(rt; follows(alloc, &mut model, LIT)?);
     assert_eq!(rt; model.taken(), 43);
     Ok(())
 }
@@ -280,23 +300,23 @@ fn another_value_changes_nothing(rt: HostRuntime) -> Result<(), Fail> {
 #[test]
 fn old_packets_are_refused(rt: HostRuntime) -> Result<(), Fail> {
     let alloc = rt.alloc();
-    let (app, names) = (lighting(alloc)?, lighting_names(alloc)?);
-    let mut model = Model::new(alloc, &app)?;
-    assert!(rt; follows(&mut model, &app, &names, &SHOWN)?);
-    assert!(rt; follows(&mut model, &app, &names, &REPLAYED)?);
-    assert!(rt; !takes(&mut model, &app, &names, b"open lamp down to")?);
+    let mut model = at_power_on(alloc)?;
+    assert!(rt; follows(alloc, &mut model, CONNECTED)?);
+    assert!(rt; follows(alloc, &mut model, LIT)?);
+    assert!(rt; follows(alloc, &mut model, REPLAYED)?);
+    assert!(rt; !follows(alloc, &mut model, "open lamp down to")?);
     Ok(())
 }
 
 #[test]
 fn a_connection_is_renewed(rt: HostRuntime) -> Result<(), Fail> {
     let alloc = rt.alloc();
-    let (app, names) = (lighting(alloc)?, lighting_names(alloc)?);
-    let mut model = Model::new(alloc, &app)?;
-    assert!(rt; follows(&mut model, &app, &names, &SHOWN)?);
-    assert!(rt; follows(&mut model, &app, &names, &RENEWED)?);
+    let mut model = at_power_on(alloc)?;
+    assert!(rt; follows(alloc, &mut model, CONNECTED)?);
+    assert!(rt; follows(alloc, &mut model, LIT)?);
+    assert!(rt; follows(alloc, &mut model, RENEWED)?);
     assert_eq!(rt; model.sent(1, 0), 1);
     assert_eq!(rt; model.sent(1, 1), 1);
-    assert!(rt; !takes(&mut model, &app, &names, b"take lamp down 1 1")?);
+    assert!(rt; !follows(alloc, &mut model, "take lamp down 1 1")?);
     Ok(())
 }
