@@ -72,13 +72,18 @@ arranged e modules links placements = record {
 
 -- Each rule is tried on the whole document before the next.
 
+-- rule 6: the entries, where no count is too large
+abbrev pub counted : EntryLists → Result EntryLists DeployFault
+counted entries = do
+  few ← passes (counts_fault entries)
+  Ok entries
+
 -- rules 4, 5 and 6
 abbrev pub counted_in : Members → Result EntryLists DeployFault
 counted_in table = do
   rows ← rows_of table
   entries ← entries_of rows
-  few ← passes (counts_fault entries)
-  Ok entries
+  counted entries
 
 -- rules 8, 9 and 10
 abbrev pub deployed : EntryLists → List Coded → Result Deployed DeployFault

@@ -1,6 +1,6 @@
 //! Rule 8: each source keeps the rules of the language.
 ghost use Rattle.std.specs.Prelude.{◌≡◌, map};
-ghost use Rattle.sx_stage.specs.Fault.{Gives};
+ghost use Rattle.sx_stage.specs.Fault.{Gives, TakesNoMemory};
 ghost use Rattle.sx_deploy.specs.Checks.{checked_all, checked_nth, number};
 ghost use Rattle.sx_deploy.specs.Seen.{checked_as, parsed_as};
 
@@ -48,7 +48,8 @@ fn number(rule: Rule) -> u8
 }
 
 fn checked_nth(place: usize, parsed: ParsedModule) -> Result<CheckedModule, DeployError>
-    ensures { Gives checked_as result (checked_nth place (parsed_as parsed)) }
+    ensures gives { Gives checked_as result (checked_nth place (parsed_as parsed)) }
+    ensures memory { TakesNoMemory result }
 {
     let ParsedModule {
         name,

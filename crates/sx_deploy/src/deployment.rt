@@ -4,8 +4,8 @@ ghost use Rattle.toml.specs.View.{table_view};
 ghost use Rattle.sx_mean.specs.Application.{is_valid};
 ghost use Rattle.sx_mean.specs.View.{app_as};
 ghost use Rattle.sx_trace.specs.Names.{are_valid};
-ghost use Rattle.sx_stage.specs.Fault.{Gives, GivesOne};
-ghost use Rattle.sx_deploy.specs.Deployment.{counted_in, deployed, IsFrom, IsRead};
+ghost use Rattle.sx_stage.specs.Fault.{Gives, GivesOne, TakesNoMemory};
+ghost use Rattle.sx_deploy.specs.Deployment.{counted, counted_in, deployed, IsFrom, IsRead};
 ghost use Rattle.sx_deploy.specs.Law.{IsSoundDeployment};
 ghost use Rattle.sx_deploy.specs.Seen.{parsed_as};
 ghost use Rattle.sx_deploy.specs.Sources.{AreCoded};
@@ -47,14 +47,22 @@ pub struct Deployment {
     pub providers: Vec<u16>,
 }
 
+/// Rule 6. It takes no memory.
+fn counted<'a>(entries: Entries<'a>) -> Result<Entries<'a>, DeployError>
+    ensures gives { Gives (λ e. e) result (counted entries.entry) }
+    ensures memory { TakesNoMemory result }
+{
+    passes(counts_fault(&entries))?;
+    Ok(entries)
+}
+
 /// Rules 4, 5 and 6.
 fn counted_in<'a>(alloc: Global, table: &'a Table) -> Result<Entries<'a>, DeployError>
     ensures { Gives (λ e. e) result (counted_in (table_view table.now)) }
 {
     let rows = rows_of(alloc, table)?;
     let entries = entries_of(alloc, rows)?;
-    passes(counts_fault(&entries))?;
-    Ok(entries)
+    counted(entries)
 }
 
 /// Rules 8, 9 and 10.

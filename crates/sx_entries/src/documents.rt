@@ -1,7 +1,8 @@
 //! Rule 3: the text is a document.
-ghost use Rattle.std.specs.Prelude.{◌≡◌};
+ghost use Rattle.std.specs.Prelude.{◌≡◌, false};
+ghost use Rattle.std.specs.Str.{is_utf8};
 ghost use Rattle.toml.specs.View.{table_view};
-ghost use Rattle.sx_stage.specs.Fault.{Gives};
+ghost use Rattle.sx_stage.specs.Fault.{Gives, TakesNoMemory};
 ghost use Rattle.sx_entries.specs.Documents.{table_of};
 
 use std::alloc::Global;
@@ -16,7 +17,9 @@ const NO_DOCUMENT: DeployFault = DeployFault {
 /// The table that the document of this text holds, in TOML 1.1. `Fault` is that of a text that is
 /// no document of TOML 1.1. `OutOfMemory` says that memory ran out.
 pub fn table_of(alloc: Global, text: &[u8]) -> Result<Table, DeployError>
-    ensures { Gives table_view result (table_of text.now) }
+    ensures gives { Gives table_view result (table_of text.now) }
+    // a text that is not UTF-8 is judged without memory
+    ensures memory { is_utf8 text.now ≡ false → TakesNoMemory result }
 {
     let text = match std::str::from_utf8(text) {
         Ok(text) => text,

@@ -1,6 +1,6 @@
 //! Rule 5: names are in form, new in their array, and name an entry where they should.
 ghost use Rattle.std.specs.Prelude.{◌≡◌, length};
-ghost use Rattle.sx_stage.specs.Fault.{Gives};
+ghost use Rattle.sx_stage.specs.Fault.{Gives, TakesNoMemory};
 ghost use Rattle.sx_entries.specs.Entries.{device_made, device_named, entries_of, fresh, link_made};
 ghost use Rattle.sx_entries.specs.Entries.{module_made, module_named, node_made, node_named};
 ghost use Rattle.sx_entries.specs.Entries.{not_reserved, start_named};
@@ -232,7 +232,8 @@ fn module_named<'a>(
 
 fn link_made(done: &Listed<LinkEntry>, place: usize, row: LinkRow) -> Result<LinkEntry, DeployError>
     requires { place ≡ length done.now }
-    ensures { Gives (λ l. l) result (link_made done.now row) }
+    ensures gives { Gives (λ l. l) result (link_made done.now row) }
+    ensures memory { TakesNoMemory result }
 {
     let LinkRow { name, from, to } = row;
     match fresh(done, name) {

@@ -1,7 +1,7 @@
 //! Entries in order, each found by its name.
 ghost use Rattle.std.specs.Prelude.{◌≡◌, ℕ, List, [], ◌∷◌, ◌++◌, length, Result, OnOk, position};
 ghost use Rattle.std.specs.Str.{bytes_eq};
-ghost use Rattle.sx_stage.specs.Fault.{Gives};
+ghost use Rattle.sx_stage.specs.Fault.{Gives, TakesNoMemory};
 ghost use Rattle.sx_stage.specs.Stage.{made_after};
 ghost use Rattle.sx_stage.specs.declared.fault.DeployFault.{DeployFault as FaultSeen};
 ghost use Rattle.sx_entries.specs.Entries.{has_entry, place_among};
@@ -110,10 +110,11 @@ impl<T: HasName> Listed<T> {
 pub trait Make<A, B: HasName> {
     ghost makes: { Self → List B → A → Result B FaultSeen };
 
-    /// What the row at this place becomes.
+    /// What the row at this place becomes. It takes no memory.
     fn make(&self, done: &Listed<B>, place: usize, row: A) -> Result<B, DeployError>
         requires { place ≡ length done.now }
-        ensures { Gives (λ b. b) result (makes self.now done.now row) };
+        ensures gives { Gives (λ b. b) result (makes self.now done.now row) }
+        ensures memory { TakesNoMemory result };
 }
 
 /// What the rows become, in order, or the first fault.

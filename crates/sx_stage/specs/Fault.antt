@@ -13,6 +13,12 @@ Gives view (Ok x) meant = meant ≡ Ok (view x)
 Gives view (Err OutOfMemory) meant = Unit {0}
 Gives view (Err (Fault f)) meant = meant ≡ Err f
 
+-- the answer isn't that memory ran out
+abbrev pub TakesNoMemory : {T : Type 0} → Result T DeployError → Type 0
+TakesNoMemory (Ok x) = Unit {0}
+TakesNoMemory (Err OutOfMemory) = ⊥
+TakesNoMemory (Err (Fault f)) = Unit {0}
+
 -- a rule that is broken, and where
 abbrev pub fault : ℕ → Place → DeployFault
 fault rule place = record { rule = rule; place = place }

@@ -1,7 +1,7 @@
 //! Stages: entries become entries of another type.
 ghost use Rattle.std.specs.Prelude.{◌≡◌, [], List, Result};
 ghost use Rattle.sx_stage.specs.declared.fault.DeployFault.{DeployFault as FaultSeen};
-ghost use Rattle.sx_stage.specs.Fault.{Gives, passes};
+ghost use Rattle.sx_stage.specs.Fault.{Gives, passes, TakesNoMemory};
 ghost use Rattle.sx_stage.specs.Stage.{in_entry, made_after};
 
 use crate::fault::{DeployError, DeployFault, Sort, nth};
@@ -34,9 +34,10 @@ pub fn derived<A, B: Drop, D: Derive<A, B>>(
     Ok(done)
 }
 
-/// Nothing, where there is no fault.
+/// Nothing, where there is no fault. It takes no memory.
 pub fn passes(fault: Option<DeployFault>) -> Result<(), DeployError>
-    ensures { Gives (λ x. x) result (passes fault) }
+    ensures gives { Gives (λ x. x) result (passes fault) }
+    ensures memory { TakesNoMemory result }
 {
     match fault {
         Some(fault) => Err(DeployError::Fault(fault)),
@@ -44,14 +45,15 @@ pub fn passes(fault: Option<DeployFault>) -> Result<(), DeployError>
     }
 }
 
-/// The value, or that the entry breaks the rule.
+/// The value, or that the entry breaks the rule. It takes no memory.
 pub fn in_entry<T: Drop>(
     rule: u8,
     sort: Sort,
     index: usize,
     one: Option<T>,
 ) -> Result<T, DeployError>
-    ensures { Gives (λ x. x) result (in_entry rule sort index one) }
+    ensures gives { Gives (λ x. x) result (in_entry rule sort index one) }
+    ensures memory { TakesNoMemory result }
 {
     match one {
         Some(x) => Ok(x),
