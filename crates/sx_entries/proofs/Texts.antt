@@ -1,5 +1,5 @@
--- What `table_of` is at a text and at bytes that are none.
-use Rattle.std.proofs.Common.{◌≡◌, ℕ, List, Err, inl, inr}
+-- What `table_of` is at a text and at bytes that are none, and that no bytes are both.
+use Rattle.std.proofs.Common.{◌≡◌, ℕ, true, false, List, Err, inl, inr}
 use Rattle.std.specs.Str.{IsUtf8, is_utf8}
 use Rattle.std.proofs.lemmas.Bool.{cases_Bool}
 use Rattle.std.proofs.lemmas.Str.{IsUtf8-from_is_utf8, is_utf8-from_IsUtf8}
@@ -16,3 +16,6 @@ table_of-no_text bs h = elim (cases_Bool (is_utf8 bs)) [
   | inl yes' ↦ absurd (h (IsUtf8-from_is_utf8 bs yes'))
   | inr no' ↦ rw no'
 ]
+
+pub never_both : (bs : List ℕ) → IsUtf8 bs → is_utf8 bs ≡ false → ⊥
+never_both bs h no' = let yes' : is_utf8 bs ≡ true = is_utf8-from_IsUtf8 bs h in cc
