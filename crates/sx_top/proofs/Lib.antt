@@ -8,6 +8,7 @@ pub mod Modules
 pub mod Owing
 pub mod Powering
 pub mod Promised
+pub mod Refusals
 pub mod Said
 pub mod Statuses
 pub mod Stops

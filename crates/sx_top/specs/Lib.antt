@@ -10,6 +10,7 @@ pub mod Gathering
 pub mod Disassembling
 pub mod Kept
 pub mod Headless
+pub mod Refused
 pub mod Schedule
 pub mod Run
 pub mod Turns

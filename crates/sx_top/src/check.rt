@@ -1,7 +1,7 @@
 //! The command `check`: it reads a deployment and says where its modules stand, or which rule it
 //! breaks.
 
-ghost use Rattle.std.specs.Prelude.{◌≡◌, ◌++◌, IfOk, OnOk, Ok};
+ghost use Rattle.std.specs.Prelude.{◌≡◌, ◌++◌, IfErr, IfOk, OnOk, Ok};
 ghost use Rattle.sx_told.specs.Told.{Told, CommandEnds, command_at};
 ghost use Rattle.sx_head.specs.Head.{head_lines};
 ghost use Rattle.sx_deploy.specs.SeenDeployment.{deployed_as};
@@ -9,6 +9,7 @@ ghost use Rattle.sx_top.specs.Output.{end_line};
 ghost use Rattle.sx_top.specs.Check.{Meaning, IsMeaning, module_line, module_lines, check_output};
 ghost use Rattle.sx_top.specs.Check.{check_all};
 ghost use Rattle.sx_top.specs.Promises.{CheckTold, RunsOutBehindHead};
+ghost use Rattle.sx_top.specs.Refused.{EndsRefused};
 
 use crate::address::address;
 use crate::refusing::{refuse, refuse_head};
@@ -74,17 +75,28 @@ fn accept<K: Sink>(alloc: Global, deployment: &Deployment, output: &mut K) -> u8
     }
 }
 
+/// Writes what is said of a text by what reading it gave. To say which rule it breaks takes no
+/// memory.
+fn judge_read<K: Sink>(alloc: Global, read: Result<Deployment, DeployError>, output: &mut K) -> u8
+    ensures accepted { IfOk read (λ deployment.
+        CommandEnds K.tells (K.at output.old) (K.at output.new) result
+        (check_output (Ok (deployed_as deployment)))) }
+    ensures refused { IfErr read (λ error.
+        EndsRefused K.tells (K.at output.old) (K.at output.new) result error) }
+{
+    match read {
+        Ok(deployment) => accept(alloc, &deployment, output),
+        Err(error) => refuse(error, output),
+    }
+}
+
 /// Writes what is said of a deployment's text.
 fn judge<K: Sink>(alloc: Global, text: &[u8], output: &mut K) -> u8
     ensures { (meaning : Meaning) → IsMeaning meaning
         → CommandEnds K.tells (K.at output.old) (K.at output.new) result
         (check_output (meaning text.now)) }
 {
-    match read_deployment(alloc, text) {
-        Ok(deployment) => accept(alloc, &deployment, output),
-        Err(DeployError::Fault(fault)) => refuse(alloc, fault, output),
-        Err(DeployError::OutOfMemory) => OUT_OF_MEMORY,
-    }
+    judge_read(alloc, read_deployment(alloc, text), output)
 }
 
 /// What the command `check` writes is that of the head that it took. To say that there is no head

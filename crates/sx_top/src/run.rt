@@ -1,7 +1,7 @@
 //! The command `run`: it reads a deployment, makes its modules' images, and runs a schedule while
 //! it reads it.
 
-ghost use Rattle.std.specs.Prelude.{◌≡◌, ℕ, List, IfOk, IsTrue, Ok, length};
+ghost use Rattle.std.specs.Prelude.{◌≡◌, ℕ, List, IfErr, IfOk, IsTrue, OnErr, Ok, length};
 ghost use Rattle.sx_told.specs.Told.{Rest, command_at};
 ghost use Rattle.sx_head.specs.Head.{head_lines};
 ghost use Rattle.sx_trace.specs.Names.{are_valid};
@@ -12,6 +12,7 @@ ghost use Rattle.sx_world.specs.Accepted.{AreImages};
 ghost use Rattle.sx_world.specs.InMemory.{image_setting, texts_of};
 ghost use Rattle.sx_world.specs.Standing.{Stands};
 ghost use Rattle.sx_world.specs.State.{switched_on};
+ghost use Rattle.sx_top.specs.Refused.{EndsRefused};
 ghost use Rattle.sx_top.specs.Run.{run_deployed};
 ghost use Rattle.sx_top.specs.Runs.{RunSays, RunsOrRanOut};
 
@@ -97,6 +98,32 @@ fn run_deployment<S: Source, K: Sink, T: Tag + Copy>(
     }
 }
 
+/// Runs what follows the head of a text by what reading the text gave. To say which rule it breaks
+/// takes no memory, and reads nothing.
+fn run_read<S: Source, K: Sink, T: Tag + Copy>(
+    alloc: Global,
+    tag: T,
+    read: Result<Deployment, DeployError>,
+    lines: &mut Lines,
+    input: &mut S,
+    output: &mut K,
+) -> u8
+    requires sound { IfOk read (λ plan. IsSoundDeployment (deployed_as plan)) }
+    requires names { IfOk read (λ plan. IsTrue (are_valid (deployed_as plan).names)) }
+    ensures runs { IfOk read (λ plan. (text : List ℕ) → IsRead text (Ok (deployed_as plan))
+        → RunsOrRanOut T.mac S.tells K.tells lines.old
+        (command_at (S.at input.old) (K.at output.old))
+        (command_at (S.at input.new) (K.at output.new)) result text) }
+    ensures refused { IfErr read (λ error.
+        EndsRefused K.tells (K.at output.old) (K.at output.new) result error) }
+    ensures unread { OnErr read (S.at input.new ≡ S.at input.old) }
+{
+    match read {
+        Ok(plan) => run_deployment(alloc, tag, lines, input, output, &plan),
+        Err(error) => refuse(error, output),
+    }
+}
+
 /// Runs what follows the head of this text.
 fn run_text<S: Source, K: Sink, T: Tag + Copy>(
     alloc: Global,
@@ -110,11 +137,14 @@ fn run_text<S: Source, K: Sink, T: Tag + Copy>(
         (command_at (S.at input.old) (K.at output.old))
         (command_at (S.at input.new) (K.at output.new)) result text.now }
 {
-    match read_deployment(alloc, text) {
-        Ok(plan) => run_deployment(alloc, tag, lines, input, output, &plan),
-        Err(DeployError::Fault(fault)) => refuse(alloc, fault, output),
-        Err(DeployError::OutOfMemory) => OUT_OF_MEMORY,
-    }
+    run_read(
+        alloc,
+        tag,
+        read_deployment(alloc, text),
+        lines,
+        input,
+        output,
+    )
 }
 
 /// The command `run` over any tag: a deployment, the line `%%`, and a schedule, whose lines are

@@ -28,7 +28,6 @@ use crate::run::new_world;
 use std::alloc::Global;
 use sx_bulk::{MOST_SAMPLES, head, lines};
 use sx_bus::Bus;
-use sx_deploy::DeployError;
 use sx_deploy::deployment::{Deployment, read_deployment};
 use sx_image::Image;
 use sx_io::Sink;
@@ -162,8 +161,7 @@ fn gen_head<K: Sink, T: Tag + Copy>(alloc: Global, tag: T, samples: u32, output:
 {
     match read_deployment(alloc, head()) {
         Ok(plan) => gen_deployment(alloc, tag, samples, &plan, output),
-        Err(DeployError::Fault(fault)) => refuse(alloc, fault, output),
-        Err(DeployError::OutOfMemory) => OUT_OF_MEMORY,
+        Err(error) => refuse(error, output),
     }
 }
 

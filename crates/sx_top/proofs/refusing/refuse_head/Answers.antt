@@ -1,6 +1,6 @@
-use Rattle.std.proofs.Common.{◌≡◌, ◌∙◌, ℕ, ◌+◌, ◌<◌, List, [], ◌∷◌, ◌++◌, codes, arith, sym, ap, subst}
+use Rattle.std.proofs.Common.{◌≡◌, ℕ, ◌+◌, ◌<◌, List, [], ◌∷◌, ◌++◌, codes, arith, sym, ap, subst}
 use Rattle.std.proofs.lemmas.Fmt.{decimal_digit}
-use Rattle.sx_told.specs.Told.{Output, out_of_memory, read_line, write_failed}
+use Rattle.sx_told.specs.Told.{Output, read_line}
 use Rattle.sx_told.proofs.Laws.{ends-same}
 use Rattle.sx_stage.specs.Fault.{fault}
 use Rattle.sx_stage.specs.declared.fault.Place.TheVariants.{Nowhere}
@@ -8,11 +8,8 @@ use Rattle.sx_head.specs.declared.head.HeadFault.{HeadFault}
 use Rattle.sx_top.specs.Check.{fault_line, fault_output}
 use Rattle.sx_top.specs.Headless.{EndsHeadless}
 use Rattle.sx_top.specs.Output.{line}
+use Rattle.sx_top.proofs.Refusals.{not_six}
 use Rattle.sx_top.proofs.refusing.refuse_head.Goals as goal
-
--- a status that finish gives isn't that of lack of memory
-not_six : (status ended : ℕ) → ((status ≡ write_failed → ⊥) → status ≡ ended) → (ended ≡ out_of_memory → ⊥) → status ≡ out_of_memory → ⊥
-not_six status ended e n six = n (sym (e (λ five. omega (arith, five, six))) ∙ six)
 
 -- the whole text breaks a rule
 abbrev whole_text : ℕ → List ℕ
