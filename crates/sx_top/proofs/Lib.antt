@@ -1,4 +1,5 @@
 pub mod Behind
+pub mod Batches
 pub mod Between
 pub mod Building
 pub mod Heads

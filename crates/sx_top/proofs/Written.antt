@@ -3,7 +3,7 @@ use Rattle.std.proofs.Common.{◌≡◌, ◌∙◌, ℕ, ◌+◌, List, [], ◌�
 use Rattle.sx_io.specs.Prefixes.{AppendsPrefix}
 use Rattle.sx_io.specs.Reading.{Answer}
 use Rattle.sx_io.specs.Reading as answer
-use Rattle.sx_told.specs.Told.{behind, unread_output}
+use Rattle.sx_told.specs.Told.{Output, behind, unread_output}
 use Rattle.sx_told.proofs.Laws.{prefix-more}
 use Rattle.sx_trace.specs.declared.items.Item.{Item}
 use Rattle.sx_trace.specs.Names.{NameLists}
@@ -28,6 +28,14 @@ prefix_told names old new xs rest ys more e h =
     sym (append_assoc (items_text names xs) (items_text names rest) more)
     ∙ ap (λ (t : List ℕ). t ++ more) (sym (items_text_append names xs rest) ∙ ap (λ (zs : List Item). items_text names zs) e) in
     subst (λ (t : List ℕ). AppendsPrefix old new t) same (prefix-more old new (items_text names xs) (items_text names rest ++ more) h)
+
+-- after the first items' lines come those of the rest
+pub told_front : (names : NameLists) (xs rest ys : List Item) (o : Output) → xs ++ rest ≡ ys
+    → behind (items_text names ys) o ≡ behind (items_text names xs) (behind (items_text names rest) o)
+told_front names xs rest ys o e =
+    ap (λ (t : List ℕ). record { text = t; status = o.status })
+    (ap (λ (zs : List Item). items_text names zs ++ o.text) (sym e) ∙ ap (λ (t : List ℕ). t ++ o.text) (items_text_append names xs rest)
+    ∙ append_assoc (items_text names xs) (items_text names rest) o.text)
 
 written_line : (names : NameLists) (set : Setting) (w : World) (line : Line) (rest : Schedule)
     → schedule_output names set w (record { lines = line ∷ rest.lines; stop = rest.stop }) ≡ behind (items_text names (after_next set w line).items) (schedule_output names set (after_next set w line).world rest)

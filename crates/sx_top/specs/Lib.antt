@@ -13,6 +13,7 @@ pub mod Headless
 pub mod Refused
 pub mod Schedule
 pub mod Run
+pub mod Batch
 pub mod Turns
 pub mod WellFormed
 pub mod Histories

@@ -1,18 +1,19 @@
 -- What a line of a schedule does to the program's world, and to its output.
-use Rattle.std.specs.Prelude.{ℕ, ◌+◌, ◌≡◌, Bool, List, ◌∷◌, Result, Ok, Err}
+use Rattle.std.specs.Prelude.{ℕ, ◌+◌, ◌≡◌, Bool, List, ◌∷◌, ◌++◌, IsTrue, Result, Ok, Err}
 use Rattle.sx_io.specs.Streams.{SinkAt}
 use Rattle.sx_io.specs.Reading.{Answer}
 use Rattle.sx_io.specs.Reading as answer
-use Rattle.sx_told.specs.Told.{Output, DoesPart}
+use Rattle.sx_told.specs.Told.{Output, DoesPart, out_of_memory}
 use Rattle.sx_told.specs.declared.turned.Turned.{Turned}
-use Rattle.sx_told.specs.declared.turned.Turned.TheVariants.{On}
+use Rattle.sx_told.specs.declared.turned.Turned.TheVariants.{On, Stop}
+use Rattle.sx_trace.specs.declared.items.Item.{Item}
 use Rattle.sx_trace.specs.Names.{NameLists}
 use Rattle.sx_sched.specs.Lines.{Line}
 use Rattle.sx_world.specs.Setting.{Setting}
 use Rattle.sx_world.specs.State.{World}
 use Rattle.sx_world.specs.Held.{Held}
 use Rattle.sx_world.specs.Standing.{Stands}
-use Rattle.sx_top.specs.Run.{after_next, told_by, run_from}
+use Rattle.sx_top.specs.Run.{after_next, items_text, told_by, run_from}
 
 -- Memory may run out at a line that breaks no rule, or only rule 8: its text is assembled before
 -- that is judged. Any other broken rule is found without memory.
@@ -33,6 +34,12 @@ TellsLine to_tell k0 k1 names set line held turned =
     → DoesPart to_tell k0 k1 (λ more. told_by names (after_next set w line) (λ v. left v more))
     turned
     (left (after_next set w line).world)
+
+-- Where memory ran out, the items that were made before stand written, all of them.
+abbrev pub TellsMade : Bool → SinkAt → SinkAt → NameLists → List Item → Turned → Type 0
+TellsMade to_tell k0 k1 names made turned =
+    turned ≡ Stop out_of_memory → IsTrue to_tell
+    → k1.written ≡ k0.written ++ items_text names made
 
 -- The line with this number was performed in the world w and its items were written, or the command
 -- ended.

@@ -1,7 +1,7 @@
 //! The lines of a schedule. Each is judged and performed, and its items are written, before the
 //! next is read.
 
-ghost use Rattle.std.specs.Prelude.{◌≡◌, ◌+◌, ◌<◌, ◌≤◌, IsTrue};
+ghost use Rattle.std.specs.Prelude.{◌≡◌, ◌+◌, ◌<◌, ◌≤◌, [], IsTrue};
 ghost use Rattle.sx_trace.specs.Names.{are_valid};
 ghost use Rattle.sx_sched.specs.Lines.{line_of, IsLine};
 ghost use Rattle.sx_told.specs.Told.{Rest, command_at, out_of_memory};
@@ -14,11 +14,11 @@ ghost use Rattle.sx_world.specs.Standing.{IsGoing, Stands};
 ghost use Rattle.sx_world.specs.State.{switched_on};
 ghost use Rattle.sx_top.specs.Run.{run_at_start, run_deployed};
 ghost use Rattle.sx_top.specs.Schedule.{judged_line};
-ghost use Rattle.sx_top.specs.Turns.{Advances, MayRunOut, TellsLine, TurnsFrom};
+ghost use Rattle.sx_top.specs.Turns.{Advances, MayRunOut, TellsLine, TellsMade, TurnsFrom};
 
 use crate::images::put_images;
 use crate::judging::{TOO_LONG, break_off, judge};
-use crate::trace::push_items;
+use crate::trace::put_items;
 use std::alloc::Global;
 use sx_bus::Bus;
 use sx_deploy::deployment::Deployment;
@@ -26,17 +26,16 @@ use sx_image::Image;
 use sx_io::{LineRead, Lines, Sink, Source};
 use sx_sched::lines::{Line, LineError};
 use sx_tag::Tag;
-use sx_told::{OUT_OF_MEMORY, READ_FAILED, Turned, finish, put_text};
+use sx_told::{OUT_OF_MEMORY, READ_FAILED, Turned, finish};
 use sx_trace::items::Item;
 use sx_world::world::World;
 
-/// Performs a line, and writes its items.
+/// Performs a line, and writes its items; where memory runs out, those that were made before.
 fn tell<K: Sink, B: Bus, T: Tag>(
     output: &mut K,
     world: &mut World<B, T>,
     plan: &Deployment,
     items: &mut Vec<Item>,
-    text: &mut Vec<u8>,
     line: &Line,
 ) -> Turned
     requires sound { deployment.IsSoundDeployment (deployed_as plan.now) }
@@ -44,22 +43,23 @@ fn tell<K: Sink, B: Bus, T: Tag>(
     requires going { IsGoing (world_setting T.mac plan.now world.old) world.old }
     requires form { IsLine (deployed_as plan.now).names (line_of line.now) }
     requires few { world.old.lines < 65536 }
+    requires none { items.old.items ≡ [] }
     ensures does { TellsLine K.tells (K.at output.old) (K.at output.new)
         (deployed_as plan.now).names (world_setting T.mac plan.now world.old)
         (line_of line.now) world.old result }
+    ensures made { TellsMade K.tells (K.at output.old) (K.at output.new)
+        (deployed_as plan.now).names items.new.items result }
     ensures stands { result ≡ Turned.On
         → Advances (world_setting T.mac plan.now world.old) (line_of line.now) world.old world.new }
     ensures sites { world.new.sites ≡ world.old.sites }
     ensures counts { result ≡ Turned.On → world.new.lines ≡ world.old.lines + 1 }
 {
-    items.clear();
-    text.clear();
     match world.act(plan, line, items) {
-        Ok(()) => match push_items(text, &plan.names, items) {
-            Ok(()) => put_text(output, text),
-            Err(_) => Turned::Stop(OUT_OF_MEMORY),
+        Ok(()) => put_items(output, &plan.names, items),
+        Err(_) => match put_items(output, &plan.names, items) {
+            Turned::On => Turned::Stop(OUT_OF_MEMORY),
+            Turned::Stop(status) => Turned::Stop(status),
         },
-        Err(_) => Turned::Stop(OUT_OF_MEMORY),
     }
 }
 
@@ -70,7 +70,6 @@ fn turn<K: Sink, B: Bus, T: Tag>(
     world: &mut World<B, T>,
     plan: &Deployment,
     items: &mut Vec<Item>,
-    text: &mut Vec<u8>,
     said: &[u8],
     number: u32,
 ) -> Turned
@@ -84,12 +83,15 @@ fn turn<K: Sink, B: Bus, T: Tag>(
         number said.now result }
     ensures memory { result ≡ Turned.Stop out_of_memory
         → MayRunOut (judged_line (deployed_as plan.now).names number said.now) }
+    ensures made { TellsMade K.tells (K.at output.old) (K.at output.new)
+        (deployed_as plan.now).names items.new.items result }
     ensures few { result ≡ Turned.On → number ≤ 65536 }
     ensures sites { world.new.sites ≡ world.old.sites }
     ensures counts { result ≡ Turned.On → world.new.lines ≡ number }
 {
+    items.clear();
     match judge(alloc, &plan.names, said, number) {
-        Ok(line) => tell(output, world, plan, items, text, &line),
+        Ok(line) => tell(output, world, plan, items, &line),
         Err(LineError::Fault(rule)) => Turned::Stop(break_off(output, rule, number)),
         Err(LineError::OutOfMemory) => Turned::Stop(OUT_OF_MEMORY),
     }
@@ -117,7 +119,6 @@ pub(crate) fn run_lines<S: Source, K: Sink, B: Bus, T: Tag>(
 {
     let mut into = [0; 4096];
     let mut items = Vec::new(alloc);
-    let mut text = Vec::new(alloc);
     let mut number: u32 = 1;
     'lines: loop {
         match lines.next(input, &mut into) {
@@ -130,7 +131,6 @@ pub(crate) fn run_lines<S: Source, K: Sink, B: Bus, T: Tag>(
                 world,
                 plan,
                 &mut items,
-                &mut text,
                 &into[..n],
                 number,
             ) {

@@ -1,4 +1,4 @@
-//! Short texts that take no memory.
+//! Texts that take no memory.
 
 ghost use Rattle.std.specs.Prelude.{◌≡◌, ◌+◌, ◌≤◌, ◌++◌, length};
 
@@ -8,8 +8,8 @@ use arrayvec::ArrayVec;
 pub(crate) type Text = ArrayVec<u8, 96>;
 
 /// Appends a part that there is room for.
-pub(crate) fn put(text: &mut Text, part: &[u8])
-    requires { length text.old.items + length part.now ≤ 96 }
+pub(crate) fn put<const N: usize>(text: &mut ArrayVec<u8, N>, part: &[u8])
+    requires { length text.old.items + length part.now ≤ N }
     ensures { text.new.items ≡ text.old.items ++ part.now }
 {
     match text.try_extend_from_slice(part) {
