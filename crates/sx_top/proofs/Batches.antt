@@ -1,5 +1,5 @@
 -- Texts that are written in parts, one after the other.
-use Rattle.std.proofs.Common.{◌≡◌, ◌∙◌, ℕ, ◌+◌, ◌<◌, ◌≤◌, Bool, List, [], ◌∷◌, ◌++◌, length, drop, get_or, refl, sym, ap, subst, append_assoc, Result, Ok, Err}
+use Rattle.std.proofs.Common.{◌≡◌, ◌∙◌, ℕ, ◌+◌, ◌<◌, ◌≤◌, Bool, List, [], ◌++◌, length, drop, get_or, refl, sym, ap, subst, append_assoc, Result, Ok, Err}
 use Rattle.std.specs.Prelude.{IsTrue, OnOk, OnErr}
 use Rattle.std.proofs.lemmas.List.{append-nil, at_drop_more, at_drop_all}
 use Rattle.sx_io.specs.Counts.{next_count}
@@ -7,7 +7,7 @@ use Rattle.sx_io.specs.Prefixes.{AppendsPrefix}
 use Rattle.sx_io.specs.Reading.{Answer}
 use Rattle.sx_io.specs.Streams.{SinkAt}
 use Rattle.sx_io.specs.declared.outside.Failed.{Failed}
-use Rattle.sx_told.specs.Told.{Output, DoesPart, WroteSome, behind}
+use Rattle.sx_told.specs.Told.{Output, WroteSome, behind}
 use Rattle.sx_told.proofs.Laws.{prefix-behind, prefix-more}
 use Rattle.sx_trace.specs.declared.items.Item.{Item}
 use Rattle.sx_trace.specs.Names.{NameLists}

@@ -1,5 +1,5 @@
 -- From what reading a deployment gave to what is said of its text.
-use Rattle.std.proofs.Common.{◌≡◌, inl, inr, ℕ, ◌+◌, ◌∙◌, Bool, List, [], refl, sym, ap, arith, Result, Ok, Err}
+use Rattle.std.proofs.Common.{◌≡◌, inl, inr, ℕ, ◌∙◌, Bool, List, [], refl, sym, ap, arith, Result, Ok, Err}
 use Rattle.std.specs.Prelude.{IfErr, IfOk, OnErr}
 use Rattle.sx_io.specs.Streams.{SourceAt, SinkAt}
 use Rattle.sx_io.specs.Next.{Ahead}

@@ -1,4 +1,4 @@
-use Rattle.std.proofs.Common.{◌≡◌, ◌∙◌, ℕ, ◌+◌, List, arith, sym, ap, subst}
+use Rattle.std.proofs.Common.{◌≡◌, ◌∙◌, ℕ, List, arith, sym, ap, subst}
 use Rattle.sx_told.specs.Told.{Output}
 use Rattle.sx_told.proofs.Laws.{ends-same}
 use Rattle.sx_stage.specs.declared.fault.DeployError.{DeployError}

@@ -1,4 +1,4 @@
-use Rattle.std.proofs.Common.{◌≡◌, ◌∙◌, ◌++◌, ℕ, List, ap, refl, sym}
+use Rattle.std.proofs.Common.{◌≡◌, ◌∙◌, ◌++◌, List, ap, refl, sym}
 use Rattle.sx_told.specs.Told.{behind}
 use Rattle.sx_told.proofs.Laws.{does-same, ends-out-of-memory, ends-same, prefix-all}
 use Rattle.sx_trace.specs.declared.items.Item.{Item}
