@@ -34,7 +34,7 @@ const MISUSED: u8 = 2;
 ///
 /// | Status | Last line | When |
 /// |---|---|---|
-/// | 0 | `end` | all was written; `run` read the input to its end |
+/// | 0 | `end` | all was written; `run`, `asm` and `dis` read the input to its end |
 /// | 1 | `fault deployment Dk place` | the deployment breaks rule Dk, the first that it breaks |
 /// | 2 | `fault usage` | the words are no command; nothing was read |
 /// | 3 | `fault schedule Sk line` | this line, from 1, is the first to break a rule, Sk the rule |

@@ -301,12 +301,12 @@ fn packets(rt: HostRuntime) -> Result<(), Fail> {
             b"give 9 a 0x300\ncall logic 0 0x300 0x400\n",
             b"done logic 5 0\n",
         ),
-        // key_as_an_event
+        // event_for_another_module
         (
             b"give 10 b 0x300\ncall lamp 2 0x300 0x400\n",
             b"done lamp 5 0\n",
         ),
-        // event_for_another_module
+        // key_as_an_event
         (
             b"give 9 b 0x300\ncall lamp 2 0x300 0x400\n",
             b"done lamp 4 0\n",
