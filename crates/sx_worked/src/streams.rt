@@ -2,9 +2,11 @@
 
 use crate::inputs::{IMAGES, SAMPLE, SAMPLED, joined, lighting, sink, source, words};
 use std::alloc::Global;
+use std::io::{self, ErrorKind, Read, Write};
 use std::process::Abort;
 use std::test::Fail;
 use sx_bulk::HEAD;
+use sx_io::{StdSink, StdSource};
 use sx_top::top;
 
 /// How many items the first lines of the sample have, by the number of lines.
@@ -231,5 +233,68 @@ fn failing_streams(rt: HostRuntime) -> Result<(), Fail> {
         assert_eq!(rt; top(alloc, &run, &mut input, &mut output), 5);
         assert_eq!(rt; output.written(), text_of);
     }
+    Ok(())
+}
+
+/// A module that removes itself is protected 700 times in one line of a schedule. The line's items
+/// are written in pieces: after 331 of 12 bytes there might be no room for one more.
+#[test]
+fn items_in_pieces(rt: HostRuntime) -> Result<(), Fail> {
+    let alloc = rt.alloc();
+    let run = words(alloc, "run")?;
+    let text =
+        b"%%\nput n 0x600 801330400004\nput n 0x400 811330400006\nset n r9 1\nset n r10 0x600\nset n r11 0x608\nset n r12 0x700\nset n r13 0x710\nset n pc 0x400\nrun n 2800\n";
+    let mut whole = joined(alloc, &[b"trace\n"])?;
+    for _ in 0..700 {
+        whole.extend_from_slice(b"protect n -\n")?;
+    }
+    whole.extend_from_slice(b"end\n")?;
+    // `trace`, twice 331 lines, and 38
+    let rows: [(u64, usize); 4] = [(2, 6), (3, 3978), (4, 7950), (5, 8406)];
+    for (call, count) in rows {
+        let mut input = source(alloc, text, 4096, 0)?;
+        let mut output = sink(alloc, 10_000, call)?;
+        assert_eq!(rt; top(alloc, &run, &mut input, &mut output), 5);
+        assert_eq!(rt; Some(output.written()), whole.get(..count));
+    }
+    let mut input = source(alloc, text, 4096, 0)?;
+    let mut output = sink(alloc, 10_000, 6)?;
+    assert_eq!(rt; top(alloc, &run, &mut input, &mut output), 0);
+    assert_eq!(rt; output.written(), whole.as_slice());
+    Ok(())
+}
+
+/// A stream whose calls all fail.
+#[derive(Drop)]
+struct Broken;
+
+impl Read for Broken {
+    fn read(&mut self, _buf: &mut [u8]) -> io::Result<usize> {
+        Err(ErrorKind::BrokenPipe.into())
+    }
+}
+
+impl Write for Broken {
+    fn write(&mut self, _buf: &[u8]) -> io::Result<usize> {
+        Err(ErrorKind::BrokenPipe.into())
+    }
+
+    fn flush(&mut self) -> io::Result<()> {
+        Ok(())
+    }
+}
+
+#[test]
+fn broken_streams(rt: HostRuntime) -> Result<(), Fail> {
+    let alloc = rt.alloc();
+    let run = words(alloc, "run")?;
+    let mut input = StdSource::new(Broken);
+    let mut output = sink(alloc, 100, 0)?;
+    assert_eq!(rt; top(alloc, &run, &mut input, &mut output), 4);
+    assert_eq!(rt; output.written(), b"fault read\n".as_slice());
+
+    let mut input = source(alloc, b"%%\n", 4096, 0)?;
+    let mut output = StdSink::new(Broken);
+    assert_eq!(rt; top(alloc, &run, &mut input, &mut output), 5);
     Ok(())
 }
