@@ -2,11 +2,13 @@
 
 use crate::deployment::{Deployment, read_deployment};
 use std::alloc::Global;
+use std::process::Abort;
 use std::test::Fail;
 use sx_lang::sides::Side;
 use sx_mean::events::End;
 use sx_rules::Layout;
 use sx_stage::fault::{DeployError, Place, Sort};
+use sx_trace::names::Names;
 
 /// Three modules on two nodes: a sensor's driver, its reader, and an actuator's driver.
 const LAMPS: &str = "secret = \"000102030405060708090a0b0c0d0e0f\"
@@ -86,6 +88,18 @@ fn module_of(n: u32) -> Place {
 
 fn connection(n: u32) -> Place {
     Place::Entry(Sort::Connection, n)
+}
+
+/// Each change of the deployment above gives the outcome beside it.
+fn all_give(
+    rt: &impl Abort,
+    alloc: Global,
+    rows: &[(&str, &str, (u8, Place))],
+) -> Result<(), Fail> {
+    for (from, to, want) in rows {
+        assert_eq!(rt; changed(alloc, (*from, *to), ("", ""))?, *want);
+    }
+    Ok(())
 }
 
 #[test]
@@ -175,10 +189,7 @@ fn first_fault_of_one_change(rt: HostRuntime) -> Result<(), Fail> {
         ("data = 0x2000", "data = 0x6bfe", (10, module_of(1))),
         ("data = 0x2000", "data = 0x6c00", ACCEPTED),
     ];
-    for (from, to, want) in rows {
-        assert_eq!(rt; changed(alloc, (from, to), ("", ""))?, want);
-    }
-    Ok(())
+    all_give(&rt, alloc, &rows)
 }
 
 #[test]
@@ -273,114 +284,69 @@ fn first_fault_of_two_changes(rt: HostRuntime) -> Result<(), Fail> {
     Ok(())
 }
 
+/// Whether the node `n` is the only one.
+fn has_one_node(d: &Deployment) -> bool {
+    d.app.nodes == 1 && d.names.valid() && d.names.node(b"n") == Some(0)
+}
+
 #[test]
 fn texts_without_entries(rt: HostRuntime) -> Result<(), Fail> {
     let alloc = rt.alloc();
-    let top = (4, Place::Kind(Sort::Top));
-    assert_eq!(rt; outcome(alloc, b"")?, ACCEPTED);
-    assert_eq!(rt; outcome(alloc, b"x = ")?, (3, Place::Nowhere));
-    assert_eq!(rt; outcome(alloc, &[255])?, (3, Place::Nowhere));
-    assert_eq!(rt; outcome(alloc, b"node = 5")?, top);
-    assert_eq!(rt; outcome(alloc, b"node = [ 5 ]")?, (4, node(0)));
-    let empty = read_deployment(alloc, b"node = []")?;
-    assert!(rt; empty.names.valid());
-    assert_eq!(rt; empty.app.nodes, 1);
-    assert_eq!(rt; empty.names.node(b"n"), Some(0));
+    let rows: [(&[u8], (u8, Place)); 5] = [
+        (b"", ACCEPTED),
+        (b"x = ", (3, Place::Nowhere)),
+        (&[255], (3, Place::Nowhere)),
+        (b"node = 5", (4, Place::Kind(Sort::Top))),
+        (b"node = [ 5 ]", (4, node(0))),
+    ];
+    for (text, want) in rows {
+        assert_eq!(rt; outcome(alloc, text)?, want);
+    }
     Ok(())
 }
 
-/// Entries up to this number, each with a name and what follows it.
-fn listed(
-    alloc: Global,
-    head: &str,
-    times: u8,
-    entry: &str,
-    tail: &str,
-) -> Result<(u8, Place), Fail> {
-    let mut text = String::from_str(alloc, head)?;
+#[test]
+fn a_node_without_an_entry(rt: HostRuntime) -> Result<(), Fail> {
+    let d = read_deployment(rt.alloc(), b"node = []")?;
+    assert!(rt; has_one_node(&d));
+    Ok(())
+}
+
+/// The outcome of a list with so many entries, each a name and what follows it.
+fn listed(alloc: Global, list: &str, times: u8, entry: &str) -> Result<(u8, Place), Fail> {
+    let mut text = format!(in alloc; "{list} = [")?;
     for n in 0..times {
-        text.push_str("{ name = \"x")?;
-        text.push_str(format!(in alloc; "{n}")?.as_str())?;
-        text.push_str(entry)?;
+        text.push_str(format!(in alloc; "{{ name = \"x{n}\", {entry} }}, ")?.as_str())?;
     }
-    text.push_str(tail)?;
+    text.push_str("]")?;
     Ok(outcome(alloc, text.as_bytes())?)
 }
 
 #[test]
 fn too_many_entries(rt: HostRuntime) -> Result<(), Fail> {
     let alloc = rt.alloc();
-    let key = "\", key = \"101112131415161718191a1b1c1d1e1f\" }, ";
-    assert_eq!(rt; listed(alloc, "node = [", 16, key, "]")?, ACCEPTED);
-    assert_eq!(rt;
-        listed(alloc, "node = [", 17, key, "]")?,
-        (6, Place::Kind(Sort::Node))
-    );
-    let kind = "\", node = \"n\", kind = \"sensor\", at = 2 }, ";
-    assert_eq!(rt;
-        listed(alloc, "device = [", 32, kind, "]")?,
-        (10, device(0))
-    );
-    assert_eq!(rt;
-        listed(alloc, "device = [", 33, kind, "]")?,
-        (6, Place::Kind(Sort::Device))
-    );
-    let ends = "\", from = \"a.b\", to = \"c.d\" }, ";
-    assert_eq!(rt;
-        listed(alloc, "connection = [", 64, ends, "]")?,
-        (9, connection(0))
-    );
-    assert_eq!(rt;
-        listed(alloc, "connection = [", 65, ends, "]")?,
-        (6, Place::Kind(Sort::Connection))
-    );
-    let place = "\", node = \"n\", provider = 0, text = 1, data = 0, source = \"\" }, ";
-    assert_eq!(rt;
-        listed(alloc, "module = [", 8, place, "]")?,
-        (10, module_of(0))
-    );
-    assert_eq!(rt; listed(alloc, "module = [", 9, place, "]")?, (6, node(0)));
+    let key = "key = \"101112131415161718191a1b1c1d1e1f\"";
+    let kind = "node = \"n\", kind = \"sensor\", at = 2";
+    let ends = "from = \"a.b\", to = \"c.d\"";
+    let place = "node = \"n\", provider = 0, text = 1, data = 0, source = \"\"";
+    let rows = [
+        ("node", 16, key, ACCEPTED),
+        ("node", 17, key, (6, Place::Kind(Sort::Node))),
+        ("device", 32, kind, (10, device(0))),
+        ("device", 33, kind, (6, Place::Kind(Sort::Device))),
+        ("connection", 64, ends, (9, connection(0))),
+        ("connection", 65, ends, (6, Place::Kind(Sort::Connection))),
+        ("module", 8, place, (10, module_of(0))),
+        ("module", 9, place, (6, node(0))),
+    ];
+    for (list, times, entry, want) in rows {
+        assert_eq!(rt; listed(alloc, list, times, entry)?, want);
+    }
     Ok(())
 }
 
 fn end(link: u8, side: Side, port: u8) -> End {
     End { link, side, port }
-}
-
-fn ends(alloc: Global, d: &Deployment, place: u8) -> Result<Vec<End>, Fail> {
-    Ok(d.ends(alloc, place)?)
-}
-
-#[test]
-fn lamps(rt: HostRuntime) -> Result<(), Fail> {
-    let alloc = rt.alloc();
-    let d = read_deployment(alloc, LAMPS.as_bytes())?;
-    assert!(rt; d.app.valid());
-    assert!(rt; d.names.valid());
-    assert_eq!(rt; d.names.sensor(b"light"), Some(0));
-    assert_eq!(rt; d.names.sensor(b"bulb"), None);
-    assert_eq!(rt; d.names.link(b"down"), Some(1));
-    assert_eq!(rt; d.places.as_slice(), [0x1000, 0x1000].as_slice());
-    assert_eq!(rt; d.providers.as_slice(), [7, 7, 7].as_slice());
-    let layouts = [
-        layout(0x4000, 0x4980, 0x1000, 0x1218),
-        layout(0x6000, 0x6c00, 0x2000, 0x2232),
-        layout(0x4000, 0x4980, 0x1000, 0x1218),
-    ];
-    assert_eq!(rt; d.layouts.as_slice(), layouts.as_slice());
-    assert_eq!(rt;
-        ends(alloc, &d, 0)?.as_slice(),
-        [end(0, Side::From, 0)].as_slice()
-    );
-    assert_eq!(rt;
-        ends(alloc, &d, 1)?.as_slice(),
-        [end(0, Side::To, 0), end(1, Side::From, 0)].as_slice()
-    );
-    assert_eq!(rt;
-        ends(alloc, &d, 2)?.as_slice(),
-        [end(1, Side::To, 0)].as_slice()
-    );
-    Ok(())
 }
 
 fn layout(pub_from: u16, pub_to: u16, priv_from: u16, priv_to: u16) -> Layout {
@@ -390,4 +356,58 @@ fn layout(pub_from: u16, pub_to: u16, priv_from: u16, priv_to: u16) -> Layout {
         priv_from,
         priv_to,
     }
+}
+
+fn names_of_lamps(rt: &impl Abort, names: &Names) {
+    assert!(rt; names.valid());
+    if names.valid() {
+        assert_eq!(rt; names.sensor(b"light"), Some(0));
+        assert_eq!(rt; names.sensor(b"bulb"), None);
+        assert_eq!(rt; names.link(b"down"), Some(1));
+    }
+}
+
+fn places_of_lamps(rt: &impl Abort, d: &Deployment) {
+    assert_eq!(rt; d.places.as_slice(), [0x1000, 0x1000].as_slice());
+    assert_eq!(rt; d.providers.as_slice(), [7, 7, 7].as_slice());
+    let layouts = [
+        layout(0x4000, 0x4980, 0x1000, 0x1218),
+        layout(0x6000, 0x6c00, 0x2000, 0x2232),
+        layout(0x4000, 0x4980, 0x1000, 0x1218),
+    ];
+    assert_eq!(rt; d.layouts.as_slice(), layouts.as_slice());
+}
+
+/// The module at this place has these ends.
+fn ends(
+    rt: &impl Abort,
+    alloc: Global,
+    d: &Deployment,
+    place: u8,
+    want: &[End],
+) -> Result<(), Fail> {
+    assert_eq!(rt; d.ends(alloc, place)?.as_slice(), want);
+    Ok(())
+}
+
+fn ends_of_lamps(rt: &impl Abort, alloc: Global, d: &Deployment) -> Result<(), Fail> {
+    ends(rt, alloc, d, 0, &[end(0, Side::From, 0)])?;
+    ends(
+        rt,
+        alloc,
+        d,
+        1,
+        &[end(0, Side::To, 0), end(1, Side::From, 0)],
+    )?;
+    ends(rt, alloc, d, 2, &[end(1, Side::To, 0)])
+}
+
+#[test]
+fn lamps(rt: HostRuntime) -> Result<(), Fail> {
+    let alloc = rt.alloc();
+    let d = read_deployment(alloc, LAMPS.as_bytes())?;
+    assert!(rt; d.app.valid());
+    names_of_lamps(&rt, &d.names);
+    places_of_lamps(&rt, &d);
+    ends_of_lamps(&rt, alloc, &d)
 }
