@@ -14,8 +14,9 @@ use sx_trace::items::Item;
 use sx_trace::names::Names;
 use sx_trace::writing::write_item;
 
-/// The most bytes that are written together.
-const MOST: usize = 4096;
+/// The most bytes that are written together. Each line of a schedule makes a batch of its own, so
+/// this is no more than the items of most lines need.
+const MOST: usize = 512;
 
 /// The most bytes of an item's line, with its newline.
 const LONGEST_LINE: usize = 129;
@@ -26,7 +27,7 @@ type Batch = ArrayVec<u8, MOST>;
 /// Appends an item's line, which there is room for.
 #[tactic(auto, unfolding(crate::specs::Run::item_line))]
 fn push_item(batch: &mut Batch, names: &Names, item: &Item)
-    requires { length batch.old.items + 129 ≤ 4096 }
+    requires { length batch.old.items + 129 ≤ 512 }
     ensures { batch.new.items ≡ batch.old.items ++ item_line names.now item.now }
 {
     let mut into = [0; 128];
@@ -37,7 +38,7 @@ fn push_item(batch: &mut Batch, names: &Names, item: &Item)
 
 /// Writes a batch that a further line might not fit in.
 fn make_room<K: Sink>(output: &mut K, batch: &mut Batch) -> Result<(), Failed>
-    ensures room { OnOk result (length batch.new.items + 129 ≤ 4096) }
+    ensures room { OnOk result (length batch.new.items + 129 ≤ 512) }
     ensures writes { Writes K.tells (K.at output.old) (K.at output.new) batch.old.items
         batch.new.items result }
 {

@@ -237,7 +237,7 @@ fn failing_streams(rt: HostRuntime) -> Result<(), Fail> {
 }
 
 /// A module that removes itself is protected 700 times in one line of a schedule. The line's items
-/// are written in pieces: after 331 of 12 bytes there might be no room for one more.
+/// are written in pieces: after 32 of 12 bytes there might be no room for one more.
 #[test]
 fn items_in_pieces(rt: HostRuntime) -> Result<(), Fail> {
     let alloc = rt.alloc();
@@ -249,8 +249,8 @@ fn items_in_pieces(rt: HostRuntime) -> Result<(), Fail> {
         whole.extend_from_slice(b"protect n -\n")?;
     }
     whole.extend_from_slice(b"end\n")?;
-    // `trace`, twice 331 lines, and 38
-    let rows: [(u64, usize); 4] = [(2, 6), (3, 3978), (4, 7950), (5, 8406)];
+    // `trace`, 21 times 32 lines, and 28
+    let rows: [(u64, usize); 4] = [(2, 6), (3, 390), (23, 8070), (24, 8406)];
     for (call, count) in rows {
         let mut input = source(alloc, text, 4096, 0)?;
         let mut output = sink(alloc, 10_000, call)?;
@@ -258,7 +258,7 @@ fn items_in_pieces(rt: HostRuntime) -> Result<(), Fail> {
         assert_eq!(rt; Some(output.written()), whole.get(..count));
     }
     let mut input = source(alloc, text, 4096, 0)?;
-    let mut output = sink(alloc, 10_000, 6)?;
+    let mut output = sink(alloc, 10_000, 25)?;
     assert_eq!(rt; top(alloc, &run, &mut input, &mut output), 0);
     assert_eq!(rt; output.written(), whole.as_slice());
     Ok(())
