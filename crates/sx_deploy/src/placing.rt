@@ -226,12 +226,7 @@ struct Placer<'a> {
 impl Derive<CheckedModule, Placement> for Placer<'_> {
     ghost derives = { λ s done m. placed_module s.devices.now s.links.now done (checked_as m) };
 
-    fn derive(
-        &self,
-        _alloc: Global,
-        done: &[Placement],
-        row: &CheckedModule,
-    ) -> Result<Placement, DeployError> {
+    fn derive(&self, done: &[Placement], row: &CheckedModule) -> Result<Placement, DeployError> {
         let sections = sections_of(self.devices, self.links, done.len(), row);
         let placement = placement_of(self.devices, done, &sections);
         in_entry(10, Sort::Module, done.len(), placement)

@@ -140,7 +140,7 @@ struct LinkDerivation<'a> {
 impl Derive<LinkEntry, Link> for LinkDerivation<'_> {
     ghost derives = { λ s. tied_link (map checked_as s.owners.now) };
 
-    fn derive(&self, _alloc: Global, done: &[Link], row: &LinkEntry) -> Result<Link, DeployError> {
+    fn derive(&self, done: &[Link], row: &LinkEntry) -> Result<Link, DeployError> {
         in_entry(9, Sort::Connection, done.len(), link_of(self.owners, row))
     }
 }

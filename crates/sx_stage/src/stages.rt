@@ -11,9 +11,10 @@ use std::alloc::Global;
 pub trait Derive<A, B> {
     ghost derives: { Self → List B → A → Result B FaultSeen };
 
-    /// The new entry; or the entry's fault, or that memory ran out.
-    fn derive(&self, alloc: Global, done: &[B], row: &A) -> Result<B, DeployError>
-        ensures { Gives (λ b. b) result (derives self.now done.now row.now) };
+    /// The new entry, or the entry's fault. It takes no memory.
+    fn derive(&self, done: &[B], row: &A) -> Result<B, DeployError>
+        ensures gives { Gives (λ b. b) result (derives self.now done.now row.now) }
+        ensures memory { TakesNoMemory result };
 }
 
 /// What the entries give, in order, or the first fault.
@@ -26,7 +27,7 @@ pub fn derived<A, B: Drop, D: Derive<A, B>>(
 {
     let mut done = Vec::new(alloc);
     for row in rows {
-        let one = deriver.derive(alloc, done.as_slice(), row)?;
+        let one = deriver.derive(done.as_slice(), row)?;
         if done.push(one).is_err() {
             return Err(DeployError::OutOfMemory);
         }
