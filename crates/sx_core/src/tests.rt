@@ -4,7 +4,7 @@ use super::{interrupt, step_plain};
 use std::alloc::Global;
 use std::process::Abort;
 use std::test::Fail;
-use sx_bus::{Bus, FlatBus, Kind, Windows};
+use sx_bus::{Bus, Copied, FlatBus, Kind, Windows};
 use sx_executor::Executor;
 use sx_executor::registers::PC;
 use sx_machine::Touch;
@@ -18,7 +18,7 @@ fn put_words<B: Bus>(bus: &mut B, mut at: u16, words: &[u16]) {
     }
 }
 
-fn word<B: Bus>(executor: &Executor<B>, at: u16) -> u16 {
+fn word<B: Copied>(executor: &Executor<B>, at: u16) -> u16 {
     let low = executor.byte(at);
     let high = executor.byte(at | 1);
     u16::from(low) + 256 * u16::from(high)
@@ -31,7 +31,7 @@ fn set_registers<B: Bus>(executor: &mut Executor<B>, regs: &[u16; 16]) {
 }
 
 /// One step of code outside every module.
-fn stepped<B: Bus>(executor: &mut Executor<B>) -> Result<[Touch; 2], Violation> {
+fn stepped<B: Copied>(executor: &mut Executor<B>) -> Result<[Touch; 2], Violation> {
     executor.begin(0);
     let first = word(executor, executor.register(PC));
     step_plain(executor, first)?;

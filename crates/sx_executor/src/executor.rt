@@ -2,8 +2,10 @@
 //!
 //! Memory is the field `bus`, which is seen in this file alone: the rest of the crate reaches it by
 //! these calls. An access reads by `read` and `public_byte` and writes by `write`, and these
-//! require its right. `new`, `reset` and `copy` are about a whole node; `byte`, `admit` and
-//! `remove` say why they ask for no right. What doesn't touch memory stands in other files.
+//! require its right. `new` and `reset` are about a whole node; `admit` and `remove` say why they
+//! ask for no right. `byte` and `copy` ask for none either, but stand only where the memory can be
+//! copied, which code of an instruction doesn't know. What doesn't touch memory stands in other
+//! files.
 
 ghost use Rattle.std.specs.Prelude.{◌≡◌, ◌+◌, ◌<◌, ◌≤◌, true, None, Some, length, IfOk};
 ghost use Rattle.std.specs.Prelude.{slice_index};
@@ -99,14 +101,6 @@ impl<B: Bus> Executor<B> {
         self.touches = [Touch::Quiet; 2];
     }
 
-    /// The byte at an address, for a caller that looks at the whole node: no instruction and no act
-    /// reads by this call, so it asks for no right.
-    pub fn byte(&self, at: u16) -> u8
-        ensures { result ≡ slice_index self.now.mem at }
-    {
-        self.bus.get(at)
-    }
-
     /// The word at an address, whose bit 0 doesn't count, or in byte form the byte. It may be read,
     /// and is no device's.
     pub fn read(&self, wide: bool, at: u16) -> u16
@@ -181,7 +175,16 @@ impl<B: Bus> Executor<B> {
     }
 }
 
+/// Calls for who looks at the whole node. An instruction's code is written for every `Bus`, so it
+/// can't make them.
 impl<B: Copied> Executor<B> {
+    /// The byte at an address. It asks for no right.
+    pub fn byte(&self, at: u16) -> u8
+        ensures { result ≡ slice_index self.now.mem at }
+    {
+        self.bus.get(at)
+    }
+
     /// An executor of its own in an equal state. `OutOfMemory` where there is none for it.
     pub fn copy(&self, alloc: Global) -> Result<Executor<B>, OutOfMemory>
         ensures { IfOk result (λ copy. copy ≡ self.now) }

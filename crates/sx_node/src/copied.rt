@@ -1,11 +1,21 @@
-//! Copies of a node.
+//! Calls of a node whose memory can be copied: a copy, and any byte. A step and an act are written
+//! for every `Bus`, so they can't call these.
 
-ghost use Rattle.std.specs.Prelude.{◌≡◌, IfOk};
+ghost use Rattle.std.specs.Prelude.{◌≡◌, IfOk, slice_index};
 
 use crate::node::Node;
 use std::alloc::{AllocError as OutOfMemory, Global};
 use sx_bus::Copied;
 use sx_tag::Tag;
+
+impl<B: Copied, T: Tag> Node<B, T> {
+    /// The byte at an address. It asks for no right.
+    pub fn byte(&self, at: u16) -> u8
+        ensures { result ≡ slice_index self.now.mem at }
+    {
+        self.executor.byte(at)
+    }
+}
 
 impl<B: Copied, T: Tag + Copy> Node<B, T> {
     /// A node of its own in an equal state, with the same tag. `OutOfMemory` where there is none

@@ -95,13 +95,6 @@ impl<B: Bus, T: Tag> Node<B, T> {
         self.executor.register(reg)
     }
 
-    /// The byte at an address.
-    pub fn byte(&self, at: u16) -> u8
-        ensures { result ≡ slice_index self.now.mem at }
-    {
-        self.executor.byte(at)
-    }
-
     /// How many resets the node has had.
     pub fn boot(&self) -> u32
         ensures { result ≡ self.now.boot }

@@ -17,7 +17,7 @@ use crate::counts::Counts;
 use crate::judging::judge;
 use std::alloc::Global;
 use sx_bulk::{MOST_SAMPLES, line, lines};
-use sx_bus::Bus;
+use sx_bus::Copied;
 use sx_deploy::deployment::Deployment;
 use sx_sched::lines::{Line, LineError};
 use sx_tag::Tag;
@@ -32,7 +32,7 @@ pub(crate) enum Stopped {
 }
 
 /// Performs a line, and gives its items alone.
-fn act<B: Bus, T: Tag>(
+fn act<B: Copied, T: Tag>(
     plan: &Deployment,
     world: &mut World<B, T>,
     line: &Line,
@@ -57,7 +57,7 @@ fn act<B: Bus, T: Tag>(
 }
 
 /// Does what a line says, and gives its items alone.
-fn turn<B: Bus, T: Tag>(
+fn turn<B: Copied, T: Tag>(
     alloc: Global,
     plan: &Deployment,
     world: &mut World<B, T>,
@@ -86,7 +86,7 @@ fn turn<B: Bus, T: Tag>(
 
 /// Runs the workload that carries `samples` samples, in a world where all was just switched on, and
 /// counts the items.
-pub(crate) fn run_workload<B: Bus, T: Tag>(
+pub(crate) fn run_workload<B: Copied, T: Tag>(
     alloc: Global,
     samples: u32,
     plan: &Deployment,

@@ -20,7 +20,7 @@ use crate::images::put_images;
 use crate::judging::{TOO_LONG, break_off, judge};
 use crate::trace::put_items;
 use std::alloc::Global;
-use sx_bus::Bus;
+use sx_bus::Copied;
 use sx_deploy::deployment::Deployment;
 use sx_image::Image;
 use sx_io::{LineRead, Lines, Sink, Source};
@@ -31,7 +31,7 @@ use sx_trace::items::Item;
 use sx_world::world::World;
 
 /// Performs a line, and writes its items; where memory runs out, those that were made before.
-fn tell<K: Sink, B: Bus, T: Tag>(
+fn tell<K: Sink, B: Copied, T: Tag>(
     output: &mut K,
     world: &mut World<B, T>,
     plan: &Deployment,
@@ -64,7 +64,7 @@ fn tell<K: Sink, B: Bus, T: Tag>(
 }
 
 /// Does what a line says, and writes its items.
-fn turn<K: Sink, B: Bus, T: Tag>(
+fn turn<K: Sink, B: Copied, T: Tag>(
     alloc: Global,
     output: &mut K,
     world: &mut World<B, T>,
@@ -98,7 +98,7 @@ fn turn<K: Sink, B: Bus, T: Tag>(
 }
 
 /// Runs the lines of a schedule in a world where all was just switched on.
-pub(crate) fn run_lines<S: Source, K: Sink, B: Bus, T: Tag>(
+pub(crate) fn run_lines<S: Source, K: Sink, B: Copied, T: Tag>(
     alloc: Global,
     lines: &mut Lines,
     input: &mut S,
@@ -142,7 +142,7 @@ pub(crate) fn run_lines<S: Source, K: Sink, B: Bus, T: Tag>(
 }
 
 /// The images' lines, `trace`, and the schedule, in a world where all was just switched on.
-pub(crate) fn run_built<S: Source, K: Sink, B: Bus, T: Tag>(
+pub(crate) fn run_built<S: Source, K: Sink, B: Copied, T: Tag>(
     alloc: Global,
     lines: &mut Lines,
     input: &mut S,

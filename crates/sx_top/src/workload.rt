@@ -27,7 +27,7 @@ use crate::refusing::refuse;
 use crate::run::new_world;
 use std::alloc::Global;
 use sx_bulk::{MOST_SAMPLES, head, lines};
-use sx_bus::Bus;
+use sx_bus::Copied;
 use sx_deploy::deployment::{Deployment, read_deployment};
 use sx_image::Image;
 use sx_io::Sink;
@@ -49,7 +49,7 @@ fn tell<K: Sink>(alloc: Global, samples: u32, counts: &Counts, steps: u64, outpu
 }
 
 /// Runs the workload in a world where all was just switched on, and tells how it ended.
-fn tell_run<K: Sink, B: Bus, T: Tag>(
+fn tell_run<K: Sink, B: Copied, T: Tag>(
     alloc: Global,
     samples: u32,
     plan: &Deployment,
@@ -86,7 +86,7 @@ fn put_images<K: Sink>(alloc: Global, names: &Names, images: &[Image], output: &
 }
 
 /// The images' lines, and the run in a world where all was just switched on.
-fn gen_built<K: Sink, B: Bus, T: Tag>(
+fn gen_built<K: Sink, B: Copied, T: Tag>(
     alloc: Global,
     samples: u32,
     plan: &Deployment,

@@ -13,7 +13,7 @@ use crate::recording::{NO_TARGET, add, add_unless_made, is_made};
 use crate::running::Running;
 use crate::sending::add_packet;
 use std::alloc::AllocError;
-use sx_bus::Bus;
+use sx_bus::Copied;
 use sx_deploy::deployment::Deployment;
 use sx_deployer::{Deployer, Verdict};
 use sx_ledger::Maker;
@@ -46,7 +46,7 @@ fn judge<T: Tag>(
     }
 }
 
-impl<B: Bus, T: Tag> Running<B, T> {
+impl<B: Copied, T: Tag> Running<B, T> {
     /// The deployer asks a module.
     pub(crate) fn ask(&mut self, m: u8, items: &mut Vec<Item>) -> Result<(), AllocError>
         requires known { m < length self.old.deployer.targets }

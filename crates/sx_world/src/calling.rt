@@ -14,7 +14,7 @@ use crate::registers::Register;
 use crate::running::Running;
 use crate::sites::Site;
 use std::alloc::AllocError;
-use sx_bus::Bus;
+use sx_bus::Copied;
 use sx_deploy::deployment::Deployment;
 use sx_tag::Tag;
 use sx_trace::items::Item;
@@ -33,7 +33,7 @@ fn call_registers(site: &Site, entry: u16, input: u16, output: u16) -> [Register
     ]
 }
 
-impl<B: Bus, T: Tag> Running<B, T> {
+impl<B: Copied, T: Tag> Running<B, T> {
     /// A module runs from its entry on, until none of its node runs or the budget is over.
     fn enter(
         &mut self,

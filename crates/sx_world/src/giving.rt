@@ -13,7 +13,7 @@ use crate::recording::record;
 use crate::running::Running;
 use crate::sending::add_packet;
 use std::alloc::AllocError;
-use sx_bus::Bus;
+use sx_bus::Copied;
 use sx_deploy::deployment::Deployment;
 use sx_ledger::Maker;
 use sx_tag::{Tag, kdf};
@@ -27,7 +27,7 @@ fn connection_key<T: Tag>(tag: &T, secret: &[u8; 16], link: u8, epoch: u8) -> [u
     kdf(tag, secret, &field.to_le_bytes())
 }
 
-impl<B: Bus, T: Tag> Running<B, T> {
+impl<B: Copied, T: Tag> Running<B, T> {
     /// The set-key packet of a grant, and its entry.
     fn give_key(
         &mut self,

@@ -10,13 +10,13 @@ ghost use Rattle.sx_world.specs.Run.{after_line};
 use crate::running::Running;
 use crate::sites::Site;
 use std::alloc::AllocError;
-use sx_bus::Bus;
+use sx_bus::Copied;
 use sx_deploy::deployment::Deployment;
 use sx_sched::lines::Line;
 use sx_tag::Tag;
 use sx_trace::items::Item;
 
-impl<B: Bus, T: Tag> Running<B, T> {
+impl<B: Copied, T: Tag> Running<B, T> {
     /// Performs a line.
     pub(crate) fn act(
         &mut self,

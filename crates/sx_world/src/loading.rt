@@ -13,7 +13,7 @@ use crate::registers::Register;
 use crate::running::Running;
 use crate::sites::Site;
 use std::alloc::AllocError;
-use sx_bus::Bus;
+use sx_bus::Copied;
 use sx_deploy::deployment::Deployment;
 use sx_tag::Tag;
 use sx_trace::items::Item;
@@ -39,7 +39,7 @@ fn protect_registers(site: &Site) -> [Register; 6]
     ]
 }
 
-impl<B: Bus, T: Tag> Running<B, T> {
+impl<B: Copied, T: Tag> Running<B, T> {
     /// An image is put from an address on, piece by piece.
     fn put_pieces(
         &mut self,

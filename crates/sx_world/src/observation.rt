@@ -16,7 +16,7 @@ use crate::devices::{device_number, is_driver};
 use crate::recording::{add, add_unwrapped, add_wrapped};
 use crate::sites::{Site, module_of};
 use std::alloc::AllocError;
-use sx_bus::Bus;
+use sx_bus::Copied;
 use sx_deploy::deployment::Deployment;
 use sx_ledger::Ledger;
 use sx_mean::apps::App;
@@ -68,7 +68,7 @@ fn tells(seen: &Seen) -> bool
 }
 
 /// The section whose code it was that left the node so.
-fn author<B: Bus, T: Tag>(node: &Node<B, T>, event: Event) -> u16
+fn author<B: Copied, T: Tag>(node: &Node<B, T>, event: Event) -> u16
     ensures { result ≡ author node.now event }
 {
     match event {
@@ -79,7 +79,7 @@ fn author<B: Bus, T: Tag>(node: &Node<B, T>, event: Event) -> u16
 
 /// The deployed module whose code it was that left the node so. It is looked up only where what is
 /// seen depends on it, since that compares the text of a section with those of the sites.
-pub(crate) fn runner_of<B: Bus, T: Tag>(
+pub(crate) fn runner_of<B: Copied, T: Tag>(
     sites: &[Site],
     n: u8,
     node: &Node<B, T>,
@@ -169,7 +169,7 @@ fn add_touches(
     Ok(())
 }
 
-fn protect_item<B: Bus, T: Tag>(
+fn protect_item<B: Copied, T: Tag>(
     plan: &Deployment,
     sites: &[Site],
     n: u8,
@@ -185,7 +185,7 @@ fn protect_item<B: Bus, T: Tag>(
     }
 }
 
-fn done_item<B: Bus, T: Tag>(m: u8, node: &Node<B, T>) -> Item
+fn done_item<B: Copied, T: Tag>(m: u8, node: &Node<B, T>) -> Item
     ensures { result ≡ Done m (slice_index node.now.regs 12) (slice_index node.now.regs 13) }
 {
     Item::Done {
@@ -196,7 +196,7 @@ fn done_item<B: Bus, T: Tag>(m: u8, node: &Node<B, T>) -> Item
 }
 
 /// What the event of a deployed module's step shows, and the ledger after it.
-fn add_own_event<B: Bus, T: Tag>(
+fn add_own_event<B: Copied, T: Tag>(
     plan: &Deployment,
     sites: &[Site],
     n: u8,
@@ -230,7 +230,7 @@ fn add_own_event<B: Bus, T: Tag>(
 }
 
 /// What the event of a step shows, whose code left the node so, and the ledger after it.
-fn add_event<B: Bus, T: Tag>(
+fn add_event<B: Copied, T: Tag>(
     plan: &Deployment,
     sites: &[Site],
     n: u8,
@@ -266,7 +266,7 @@ fn add_event<B: Bus, T: Tag>(
 }
 
 /// What is seen of code of this module, which left the node so: its items, and the ledger after it.
-pub(crate) fn add_seen<B: Bus, T: Tag>(
+pub(crate) fn add_seen<B: Copied, T: Tag>(
     plan: &Deployment,
     sites: &[Site],
     n: u8,

@@ -13,7 +13,7 @@ use crate::recording::add;
 use crate::running::Running;
 use crate::touching::{add_answer, put_node, refused_item};
 use std::alloc::{AllocError, Global};
-use sx_bus::Bus;
+use sx_bus::{Bus, Copied};
 use sx_node::{Node, Refused};
 use sx_tag::Tag;
 use sx_trace::items::Item;
@@ -41,7 +41,7 @@ fn taken<B: Bus, T: Tag>(
     }
 }
 
-impl<B: Bus, T: Tag> Running<B, T> {
+impl<B: Copied, T: Tag> Running<B, T> {
     /// A new packet.
     pub(crate) fn new_packet(
         &mut self,

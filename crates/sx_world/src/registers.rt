@@ -9,7 +9,7 @@ ghost use Rattle.sx_world.specs.Setting.{Setting};
 use crate::running::Running;
 use std::alloc::AllocError;
 use std::marker::Model;
-use sx_bus::Bus;
+use sx_bus::Copied;
 use sx_tag::Tag;
 use sx_trace::items::Item;
 
@@ -37,7 +37,7 @@ impl Register {
     }
 }
 
-impl<B: Bus, T: Tag> Running<B, T> {
+impl<B: Copied, T: Tag> Running<B, T> {
     /// Registers of a node are set one after the other.
     pub(crate) fn set_all(
         &mut self,

@@ -4,7 +4,7 @@ ghost use Rattle.std.specs.Prelude.{◌≡◌, []};
 
 use std::alloc::Global;
 use std::marker::Model;
-use sx_bus::Bus;
+use sx_bus::{Bus, Copied};
 use sx_deployer::Deployer;
 use sx_ledger::Ledger;
 use sx_node::Node;
@@ -38,7 +38,7 @@ impl<B: Bus, T: Tag> Model for Running<B, T> {
     } };
 }
 
-impl<B: Bus, T: Tag> Running<B, T> {
+impl<B: Copied, T: Tag> Running<B, T> {
     /// No packet was made and nothing entered into the ledger.
     pub(crate) fn new(
         alloc: Global,

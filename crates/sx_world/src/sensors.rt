@@ -12,12 +12,12 @@ ghost use Rattle.sx_world.specs.Setting.{Site, windows_at};
 use crate::devices::place_at;
 use crate::running::Running;
 use std::alloc::AllocError;
-use sx_bus::Bus;
+use sx_bus::Copied;
 use sx_deploy::deployment::Deployment;
 use sx_tag::Tag;
 use sx_trace::items::Item;
 
-impl<B: Bus, T: Tag> Running<B, T> {
+impl<B: Copied, T: Tag> Running<B, T> {
     /// A sensor of the deployment takes a sample; nothing happens where its node is none of the
     /// run's.
     pub(crate) fn sense(

@@ -10,7 +10,7 @@ ghost use Rattle.sx_world.specs.Setting.{deployed, is_at_site, module_of, same_l
 
 use std::alloc::{AllocError, Global};
 use std::marker::Model;
-use sx_bus::Bus;
+use sx_bus::Copied;
 use sx_deploy::deployment::Deployment;
 use sx_image::Image;
 use sx_node::Node;
@@ -55,7 +55,7 @@ fn same_layout(a: &Layout, b: &Layout) -> bool
 
 /// Whether these bytes stand in a node's memory from an address on.
 #[tactic(auto, unfolding(sx_machine::specs::Memory::bytes_from))]
-fn has_bytes<B: Bus, T: Tag>(node: &Node<B, T>, at: u16, bytes: &[u8]) -> bool
+fn has_bytes<B: Copied, T: Tag>(node: &Node<B, T>, at: u16, bytes: &[u8]) -> bool
     requires { at + length bytes.now ≤ 65536 }
     ensures { result ≡ bytes_eq (bytes_from node.now.mem at (length bytes.now)) bytes.now }
 {
@@ -68,7 +68,7 @@ fn has_bytes<B: Bus, T: Tag>(node: &Node<B, T>, at: u16, bytes: &[u8]) -> bool
 }
 
 /// Whether the public section of this layout holds the text.
-fn has_text<B: Bus, T: Tag>(node: &Node<B, T>, layout: &Layout, text: &[u8]) -> bool
+fn has_text<B: Copied, T: Tag>(node: &Node<B, T>, layout: &Layout, text: &[u8]) -> bool
     ensures { result ≡ bytes_eq (bytes_from node.now.mem layout.now.pub_from
         (layout.now.pub_to - layout.now.pub_from)) text.now }
 {
@@ -77,7 +77,7 @@ fn has_text<B: Bus, T: Tag>(node: &Node<B, T>, layout: &Layout, text: &[u8]) -> 
 }
 
 /// Whether a section of a node is of the site's identity.
-fn is_at_site<B: Bus, T: Tag>(n: u8, node: &Node<B, T>, x: &Section, site: &Site) -> bool
+fn is_at_site<B: Copied, T: Tag>(n: u8, node: &Node<B, T>, x: &Section, site: &Site) -> bool
     ensures { result ≡ is_at_site n node.now.mem x.now site.now }
 {
     site.node == n
@@ -87,7 +87,7 @@ fn is_at_site<B: Bus, T: Tag>(n: u8, node: &Node<B, T>, x: &Section, site: &Site
 }
 
 /// The deployed module that a section of a node is.
-fn deployed<B: Bus, T: Tag>(sites: &[Site], n: u8, node: &Node<B, T>, x: &Section) -> Option<u8>
+fn deployed<B: Copied, T: Tag>(sites: &[Site], n: u8, node: &Node<B, T>, x: &Section) -> Option<u8>
     requires { length sites.now ≤ 256 }
     ensures { result ≡ deployed sites.now n node.now.mem x.now }
 {
@@ -100,7 +100,7 @@ fn deployed<B: Bus, T: Tag>(sites: &[Site], n: u8, node: &Node<B, T>, x: &Sectio
 }
 
 /// The deployed module that the live section of a node with the id is.
-pub(crate) fn module_of<B: Bus, T: Tag>(
+pub(crate) fn module_of<B: Copied, T: Tag>(
     sites: &[Site],
     n: u8,
     node: &Node<B, T>,

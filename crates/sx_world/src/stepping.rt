@@ -22,7 +22,7 @@ use crate::running::Running;
 use crate::sites::Site;
 use crate::touching::refused_item;
 use std::alloc::AllocError;
-use sx_bus::Bus;
+use sx_bus::{Bus, Copied};
 use sx_deploy::deployment::Deployment;
 use sx_node::{Event, Node, Refused, Seen};
 use sx_tag::Tag;
@@ -66,7 +66,7 @@ fn irq_node<B: Bus, T: Tag>(nodes: &mut [Node<B, T>], n: u8, line: u8) -> Result
     nodes[usize::from(n)].irq(line)
 }
 
-impl<B: Bus, T: Tag> Running<B, T> {
+impl<B: Copied, T: Tag> Running<B, T> {
     /// An interrupt of a node, which runs as code outside every module.
     pub(crate) fn irq(
         &mut self,

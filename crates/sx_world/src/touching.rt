@@ -17,7 +17,7 @@ ghost use Rattle.sx_world.specs.Setting.{Setting};
 use crate::recording::add;
 use crate::running::Running;
 use std::alloc::AllocError;
-use sx_bus::Bus;
+use sx_bus::{Bus, Copied};
 use sx_node::{Node, Refused};
 use sx_tag::Tag;
 use sx_trace::items::{Cause, Item};
@@ -113,7 +113,7 @@ fn reset_node<B: Bus, T: Tag>(nodes: &mut [Node<B, T>], n: u8)
     nodes[usize::from(n)].reset();
 }
 
-impl<B: Bus, T: Tag> Running<B, T> {
+impl<B: Copied, T: Tag> Running<B, T> {
     /// Bytes are written into a node's memory.
     pub(crate) fn put_on(
         &mut self,

@@ -16,7 +16,7 @@ use crate::sites::{Site, sites_of};
 use crate::targets::targets_of;
 use std::alloc::{AllocError, Global};
 use std::marker::Model;
-use sx_bus::Bus;
+use sx_bus::{Bus, Copied};
 use sx_deploy::deployment::Deployment;
 use sx_deployer::Deployer;
 use sx_image::Image;
@@ -48,7 +48,7 @@ impl<B: Bus, T: Tag> Model for World<B, T> {
     } };
 }
 
-impl<B: Bus, T: Tag> World<B, T> {
+impl<B: Copied, T: Tag> World<B, T> {
     /// The world of a deployment with these images of its modules, where all nodes were just
     /// switched on. It fails only where memory runs out.
     pub fn new(
