@@ -1,5 +1,6 @@
 -- What a line of a schedule does to the program's world, and to its output.
-use Rattle.std.specs.Prelude.{ℕ, ◌+◌, ◌≡◌, Bool, List, ◌∷◌, ◌++◌, IsTrue, Result, Ok, Err}
+use Rattle.std.specs.Prelude.{ℕ, ◌+◌, ◌≡◌, ◌≢◌, Bool, false, List, length, ◌∷◌, ◌++◌, IsTrue, Result}
+use Rattle.std.specs.Prelude.{Ok, Err}
 use Rattle.sx_io.specs.Streams.{SinkAt}
 use Rattle.sx_io.specs.Reading.{Answer}
 use Rattle.sx_io.specs.Reading as answer
@@ -35,11 +36,14 @@ TellsLine to_tell k0 k1 names set line held turned =
     turned
     (left (after_next set w line).world)
 
--- Where memory ran out, the items that were made before stand written, all of them.
-abbrev pub TellsMade : Bool → SinkAt → SinkAt → NameLists → List Item → Turned → Type 0
-TellsMade to_tell k0 k1 names made turned =
-    turned ≡ Stop out_of_memory → IsTrue to_tell
-    → k1.written ≡ k0.written ++ items_text names made
+-- Where memory ran out, the items that were made before stand written, all of them: as many as the
+-- line's act made, if the line was performed.
+abbrev pub TellsMade : Bool → SinkAt → SinkAt → NameLists → Held → Held → List Item → Turned
+    → Type 0
+TellsMade to_tell k0 k1 names held left made turned =
+    turned ≡ Stop out_of_memory
+    → (held.wanted ≡ false → left ≢ held → length made ≡ left.made)
+    × (IsTrue to_tell → k1.written ≡ k0.written ++ items_text names made)
 
 -- The line with this number was performed in the world w and its items were written, or the command
 -- ended.

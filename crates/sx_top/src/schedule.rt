@@ -48,7 +48,7 @@ fn tell<K: Sink, B: Copied, T: Tag>(
         (deployed_as plan.now).names (world_setting T.mac plan.now world.old)
         (line_of line.now) world.old result }
     ensures made { TellsMade K.tells (K.at output.old) (K.at output.new)
-        (deployed_as plan.now).names items.new.items result }
+        (deployed_as plan.now).names world.old world.new items.new.items result }
     ensures stands { result ≡ Turned.On
         → Advances (world_setting T.mac plan.now world.old) (line_of line.now) world.old world.new }
     ensures sites { world.new.sites ≡ world.old.sites }
@@ -84,7 +84,7 @@ fn turn<K: Sink, B: Copied, T: Tag>(
     ensures memory { result ≡ Turned.Stop out_of_memory
         → MayRunOut (judged_line (deployed_as plan.now).names number said.now) }
     ensures made { TellsMade K.tells (K.at output.old) (K.at output.new)
-        (deployed_as plan.now).names items.new.items result }
+        (deployed_as plan.now).names world.old world.new items.new.items result }
     ensures few { result ≡ Turned.On → number ≤ 65536 }
     ensures sites { world.new.sites ≡ world.old.sites }
     ensures counts { result ≡ Turned.On → world.new.lines ≡ number }

@@ -26,13 +26,14 @@ pub record Running : Type 0 where
   pub ledger : List Entry
   pub steps : ℕ
 
--- the program's world: where modules are deployed, how the run stands, the number of lines, and
--- whether an act has run out of memory
+-- the program's world: where modules are deployed, how the run stands, the number of lines, whether
+-- an act has run out of memory, and how many items the list held when the last act ended
 pub record Held : Type 0 where
   pub sites : List Site
   pub running : Running
   pub lines : ℕ
   pub wanted : Bool
+  pub made : ℕ
 
 -- a header and a body that the machine can wrap
 abbrev pub IsShort : Made → Type 0

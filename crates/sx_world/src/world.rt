@@ -33,6 +33,8 @@ pub struct World<B: Bus, T: Tag> {
     lines: u32,
     /// Whether memory ran out in an act: no further line is performed then.
     wanted: bool,
+    /// How many items the list held when the last act ended.
+    made: usize,
 }
 
 impl<B: Bus, T: Tag> Model for World<B, T> {
@@ -45,6 +47,7 @@ impl<B: Bus, T: Tag> Model for World<B, T> {
       running = w.running;
       lines = w.lines;
       wanted = w.wanted;
+      made = w.made;
     } };
 }
 
@@ -78,6 +81,7 @@ impl<B: Copied, T: Tag> World<B, T> {
             running: Running::new(alloc, tag, nodes, deployer),
             lines: 0,
             wanted: false,
+            made: 0,
         })
     }
 
@@ -103,6 +107,7 @@ impl<B: Copied, T: Tag> World<B, T> {
             (line_of line.now) self.old items.old.items items.new.items) }
         ensures wanted { OnErr result (self.new.wanted ≡ true) }
         ensures goes_on { OnOk result (self.new.wanted ≡ false) }
+        ensures made { self.old.wanted ≡ false → self.new.made ≡ length items.new.items }
         ensures stopped { self.old.wanted ≡ true
             → IsErr result × (self.new ≡ self.old) × (items.new.items ≡ items.old.items) }
         ensures sites { self.new.sites ≡ self.old.sites }
@@ -114,10 +119,12 @@ impl<B: Copied, T: Tag> World<B, T> {
         match self.running.act(plan, &self.sites, line, items) {
             Ok(()) => {
                 self.lines += 1;
+                self.made = items.len();
                 Ok(())
             }
             Err(error) => {
                 self.wanted = true;
+                self.made = items.len();
                 Err(error)
             }
         }
@@ -128,6 +135,13 @@ impl<B: Copied, T: Tag> World<B, T> {
         ensures { result ≡ self.now.lines }
     {
         self.lines
+    }
+
+    /// How many items the list held when the last act ended, also where memory ran out in it.
+    pub fn made(&self) -> usize
+        ensures { result ≡ self.now.made }
+    {
+        self.made
     }
 
     /// How many steps of nodes were taken. A step that ends in a reset counts, an interrupt
