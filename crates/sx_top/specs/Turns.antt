@@ -1,6 +1,6 @@
 -- What a line of a schedule does to the program's world, and to its output.
-use Rattle.std.specs.Prelude.{ℕ, ◌+◌, ◌≡◌, ◌≢◌, Bool, false, List, length, ◌∷◌, ◌++◌, IsTrue, Result}
-use Rattle.std.specs.Prelude.{Ok, Err}
+use Rattle.std.specs.Prelude.{ℕ, ◌+◌, ◌≡◌, ◌≢◌, Bool, false, List, length, ◌∷◌, ◌++◌, IsTrue}
+use Rattle.std.specs.Prelude.{Result, Ok, Err}
 use Rattle.sx_io.specs.Streams.{SinkAt}
 use Rattle.sx_io.specs.Reading.{Answer}
 use Rattle.sx_io.specs.Reading as answer
