@@ -1,5 +1,6 @@
 //! The deployment that a text means.
-ghost use Rattle.std.specs.Prelude.{IfOk, IsTrue, map};
+ghost use Rattle.std.specs.Prelude.{◌≡◌, IfOk, IsTrue, false, map};
+ghost use Rattle.std.specs.Str.{is_utf8};
 ghost use Rattle.toml.specs.View.{table_view};
 ghost use Rattle.sx_mean.specs.Application.{is_valid};
 ghost use Rattle.sx_mean.specs.View.{app_as};
@@ -107,7 +108,8 @@ fn read_in(alloc: Global, table: &Table) -> Result<Deployment, DeployError>
 }
 
 fn read_text(alloc: Global, text: &[u8]) -> Result<Deployment, DeployError>
-    ensures { GivesOne deployed_as result (IsRead text.now) }
+    ensures read { GivesOne deployed_as result (IsRead text.now) }
+    ensures memory { is_utf8 text.now ≡ false → TakesNoMemory result }
 {
     match table_of(alloc, text) {
         Ok(table) => read_in(alloc, &table),
@@ -120,6 +122,8 @@ fn read_text(alloc: Global, text: &[u8]) -> Result<Deployment, DeployError>
 pub fn read_deployment(alloc: Global, text: &[u8]) -> Result<Deployment, DeployError>
     // the deployment is the text's, and so is the fault
     ensures read { GivesOne deployed_as result (IsRead text.now) }
+    // that a text is not UTF-8 is found without memory
+    ensures memory { is_utf8 text.now ≡ false → TakesNoMemory result }
     // what is accepted passes `App::valid`
     ensures app { IfOk result (λ d. IsTrue (is_valid (app_as d.app))) }
     // and `Names::valid`

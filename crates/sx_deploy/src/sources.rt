@@ -1,9 +1,9 @@
 //! Rule 7: each source is in the grammar.
-ghost use Rattle.std.specs.Prelude.{map};
+ghost use Rattle.std.specs.Prelude.{◌≡◌, map};
 ghost use Rattle.sx_lang.specs.View.{module_of};
 ghost use Rattle.sx_stage.specs.Fault.{GivesOne};
 ghost use Rattle.sx_deploy.specs.Seen.{parsed_as};
-ghost use Rattle.sx_deploy.specs.Sources.{AreCoded, IsCoded};
+ghost use Rattle.sx_deploy.specs.Sources.{AreCoded, IsCoded, source_error};
 
 use std::alloc::Global;
 use sx_entries::entries::{ModuleEntry, Start};
@@ -30,6 +30,20 @@ pub struct ParsedModule {
     pub tree: Module,
 }
 
+/// Why the module of this number has no tree: its source is not in the grammar, or memory ran out.
+/// It takes no memory.
+fn source_error(number: usize, error: ParseError) -> DeployError
+    ensures { result ≡ source_error number error }
+{
+    match error {
+        ParseError::Fault(fault) => DeployError::Fault(DeployFault {
+            rule: 7,
+            place: Place::Source(cut(number), fault.line, fault.column),
+        }),
+        ParseError::OutOfMemory => DeployError::OutOfMemory,
+    }
+}
+
 /// The module of this number with the tree of its source.
 fn coded(alloc: Global, number: usize, entry: &ModuleEntry) -> Result<ParsedModule, DeployError>
     ensures { GivesOne parsed_as result (IsCoded number entry.now) }
@@ -43,11 +57,7 @@ fn coded(alloc: Global, number: usize, entry: &ModuleEntry) -> Result<ParsedModu
             start: entry.start,
             tree,
         }),
-        Err(ParseError::Fault(fault)) => Err(DeployError::Fault(DeployFault {
-            rule: 7,
-            place: Place::Source(cut(number), fault.line, fault.column),
-        })),
-        Err(ParseError::OutOfMemory) => Err(DeployError::OutOfMemory),
+        Err(error) => Err(source_error(number, error)),
     }
 }
 

@@ -1,10 +1,10 @@
 //! Rule 4: the arrays of a document, each entry in form.
-ghost use Rattle.std.specs.Prelude.{◌≡◌, Option, option_map, [], option_and_then};
+ghost use Rattle.std.specs.Prelude.{◌≡◌, None, Option, option_map, [], option_and_then};
 ghost use Rattle.toml.specs.Data.{Members, get_member, as_table};
 ghost use Rattle.toml.specs.View.{table_view, array_view, view};
 ghost use Rattle.sx_entries.specs.Fields.{key_at};
 ghost use Rattle.sx_entries.specs.Rows.{node_row, device_row, module_row, link_row};
-ghost use Rattle.sx_stage.specs.Fault.{Gives};
+ghost use Rattle.sx_stage.specs.Fault.{Gives, TakesNoMemory};
 ghost use Rattle.sx_entries.specs.Arrays.{array_of, arrays_of, listed, made_in, rows_in, rows_of};
 ghost use Rattle.sx_entries.specs.Arrays.{secret_of};
 ghost use Rattle.sx_entries.specs.Seen.{items_seen, arrays_seen};
@@ -215,7 +215,9 @@ fn rows_in<'a>(alloc: Global, arrays: &Arrays<'a>) -> Result<Rows<'a>, DeployErr
 /// The rows of a document's arrays. `Fault` is the first fault of rule 4. `OutOfMemory` says that
 /// memory ran out.
 pub fn rows_of<'a>(alloc: Global, table: &'a Table) -> Result<Rows<'a>, DeployError>
-    ensures { Gives (λ d. d) result (rows_of (table_view table.now)) }
+    ensures gives { Gives (λ d. d) result (rows_of (table_view table.now)) }
+    // whether all arrays are there is judged without memory
+    ensures memory { arrays_of (table_view table.now) ≡ None → TakesNoMemory result }
 {
     match arrays_of(table) {
         Some(arrays) => rows_in(alloc, &arrays),

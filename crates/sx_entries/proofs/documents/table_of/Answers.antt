@@ -10,5 +10,5 @@ pub returns-in-Ok-table_from_str-clause-gives : goal.returns-in-Ok-table_from_st
 returns-in-Ok-table_from_str-clause-gives c =
     table_of-text c.args.text.now c.in-Ok.ensures.cases.1 ∙ ap document_of (rw c.in-Ok.ensures.cases.0 at c.in-Ok-table_from_str.ensures.ok)
 
-pub returns-then-is_memory-clause-memory : goal.returns-then-is_memory-clause-memory
-returns-then-is_memory-clause-memory c = never_both c.args.text.now c.in-Ok.ensures.cases.1
+pub returns-in-Err-table_from_str-clause-memory : goal.returns-in-Err-table_from_str-clause-memory
+returns-in-Err-table_from_str-clause-memory c = λ no_text. absurd (never_both c.args.text.now c.in-Ok.ensures.cases.1 no_text)
