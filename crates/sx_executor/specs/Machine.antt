@@ -8,10 +8,14 @@
 --     Keeps      what every part of an instruction keeps
 --     Runs, Gives      what a plan, and a part of one, answers and leaves
 --     loaded, Loads, stored, Stores      one read and one write, and what each answers and leaves
-use Rattle.std.specs.Prelude.{◌≡◌, ℕ, ◌+◌, Bool, false, ◌&&◌, List, replicate, Result}
+use Rattle.std.specs.Prelude.{◌≡◌, ◌⊎◌, ℕ, ◌+◌, Bool, false, ◌&&◌, List, replicate, Result}
+use Rattle.std.specs.Prelude.{Some, None}
 use Rattle.sx_rules.specs.declared.access.Access.{Access}
 use Rattle.sx_rules.specs.declared.access.Violation.{Violation}
-use Rattle.sx_rules.specs.Access.{Sections, extends}
+use Rattle.sx_rules.specs.declared.section.Section.{Section}
+use Rattle.sx_rules.specs.declared.section.Layout.{Layout}
+use Rattle.sx_rules.specs.Access.{Sections, extends, section_of}
+use Rattle.sx_rules.specs.Admission.{refusal}
 use Rattle.sx_bus.specs.Memory.{blank}
 use Rattle.sx_bus.specs.declared.devices.Window.{Window}
 use Rattle.sx_bus.specs.Devices.{all_stale, places_of}
@@ -73,6 +77,12 @@ reaches_each m access at bytes = may_each m.sections.live m.own access at bytes
 -- the machine with these bytes from an address on
 abbrev pub with_bytes : Machine → ℕ → List ℕ → Machine
 with_bytes m at bytes = record m { mem = put_bytes m.mem at bytes }
+
+-- it is the layout of a live section, or one that no rule refuses
+abbrev pub IsPublic : Machine → Layout → Type 0
+IsPublic m l =
+    (refusal m.sections l (places_of m.devices) ≡ None)
+    ⊎ ((id : ℕ) × (s : Section) × (section_of m.sections.live id ≡ Some s) × (s.layout ≡ l))
 
 -- no device meets n bytes from an address on
 abbrev pub IsClear : List Window → ℕ → ℕ → Type 0

@@ -31,12 +31,12 @@ impl<B: Bus> Executor<B> {
         ensures { result ≡ may_at wide self.now.sections.live self.now.own access at }
     {
         if !wide {
-            return self.table.may(self.own, access, at);
+            return self.table().may(self.own(), access, at);
         }
-        if self.table.is_open(at) {
+        if self.table().is_open(at) {
             return true;
         }
-        self.table.may_word(self.own, access, at)
+        self.table().may_word(self.own(), access, at)
     }
 
     /// Whether no section meets the page of an address and no device is there. Then an access asks
@@ -48,7 +48,7 @@ impl<B: Bus> Executor<B> {
             → may_at wide self.now.sections.live self.now.own access at ≡ true }
         ensures memory { IsTrue result → device_of self.now.devices at ≡ None }
     {
-        self.table.is_open(at) && self.windows.at(at).is_none()
+        self.table().is_open(at) && self.windows().at(at).is_none()
     }
 
     /// The device whose word holds the byte, with its index.
@@ -58,8 +58,8 @@ impl<B: Bus> Executor<B> {
         ensures within { IfSome result (λ d. d.0 < length self.now.devices) }
         ensures value { IfSome result (λ d. d.1.value < 32768) }
     {
-        let device = self.windows.at(at)?;
-        Some((device, self.windows.get(device)))
+        let device = self.windows().at(at)?;
+        Some((device, self.windows().get(device)))
     }
 
     /// Keeps a touch.
@@ -82,7 +82,7 @@ impl<B: Bus> Executor<B> {
         if !window.fresh {
             return 0;
         }
-        self.windows.clear(device);
+        self.clear(device);
         let value = window.value;
         note(&mut self.touches, Touch::DeviceRead { device, value });
         0x8000 + value
@@ -161,10 +161,10 @@ impl<B: Bus> Executor<B> {
         ensures readable { IsTrue result
             → may_at true self.now.sections.live self.now.own Read at ≡ true }
     {
-        if self.table.is_open(at) {
+        if self.table().is_open(at) {
             return true;
         }
-        self.table.extends_word(self.own, at)
+        self.table().extends_word(self.own(), at)
     }
 
     /// Fetches an extension word. `Fetch` where no extension word of the running code may stand,

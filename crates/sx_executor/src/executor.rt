@@ -1,22 +1,25 @@
 //! The state that an instruction runs on, and every call that touches its memory.
 //!
-//! Memory is the field `bus`, which is seen in this file alone: the rest of the crate reaches it by
-//! these calls. An access reads by `read` and `public_byte` and writes by `write`, and these
-//! require its right. `new` and `reset` are about a whole node; `admit` and `remove` say why they
-//! ask for no right. `byte` and `copy` ask for none either, but stand only where the memory can be
-//! copied, which code of an instruction doesn't know. What doesn't touch memory stands in other
-//! files.
+//! Memory, devices, sections and whose turn it is are fields that are seen in this file alone: the
+//! rest of the crate reaches them by these calls. An access reads by `read` and `public_byte` and
+//! writes by `write`, and these require its right, which is that of the module whose turn `begin`
+//! began. `new` and `reset` are about a whole node; `admit` and `remove` say why they ask for no
+//! right. `byte` and `copy` ask for none either, but stand only where the memory can be copied,
+//! which code of an instruction doesn't know.
 
-ghost use Rattle.std.specs.Prelude.{◌≡◌, ◌+◌, ◌<◌, ◌≤◌, true, None, Some, length, IfOk};
-ghost use Rattle.std.specs.Prelude.{slice_index};
+ghost use Rattle.std.specs.Prelude.{◌≡◌, ◌⊎◌, ◌+◌, ◌-◌, ◌<◌, ◌≤◌, true, None, Some, length};
+ghost use Rattle.std.specs.Prelude.{slice_index, slice_get, IfOk, IfSome};
 ghost use Rattle.sx_alu.specs.Table.{limit};
+ghost use Rattle.sx_bus.specs.declared.devices.Kind.TheVariants.{Sensor};
+ghost use Rattle.sx_bus.specs.Devices.{cleared, with_sample};
 ghost use Rattle.sx_rules.specs.declared.access.Access.TheVariants.{Read, Write};
-ghost use Rattle.sx_rules.specs.Access.{section_of};
+ghost use Rattle.sx_rules.specs.Access.{holder, section_of};
 ghost use Rattle.sx_rules.specs.Admission.{admitted, removed};
 ghost use Rattle.sx_machine.specs.Memory.{read_at, write_at, zeroed};
 ghost use Rattle.sx_machine.specs.Protect.{wiped};
-ghost use Rattle.sx_machine.specs.Run.{may_at, device_of};
-ghost use Rattle.sx_executor.specs.Machine.{switched_on, cleared_by_reset, reaches};
+ghost use Rattle.sx_machine.specs.Registers.{reg};
+ghost use Rattle.sx_machine.specs.Run.{may_at, device_of, untouched};
+ghost use Rattle.sx_executor.specs.Machine.{switched_on, cleared_by_reset, reaches, IsPublic};
 
 use crate::buffer::Buffer;
 use crate::decoded::Decoded;
@@ -33,9 +36,9 @@ use sx_rules::{Layout, Section, Table};
 pub struct Executor<B: Bus> {
     pub(crate) regs: [u16; 16],
     bus: B,
-    pub(crate) windows: Windows,
-    pub(crate) table: Table,
-    pub(crate) own: u16,
+    windows: Windows,
+    table: Table,
+    own: u16,
     pub(crate) touches: [Touch; 2],
     /// Decoded first words, each in a place that it determines.
     pub(crate) decoded: [Option<Decoded>; PLACES],
@@ -101,6 +104,61 @@ impl<B: Bus> Executor<B> {
         self.touches = [Touch::Quiet; 2];
     }
 
+    /// Begins an instruction of the module `own` whose code PC is at, or with 0 of code outside
+    /// every module, as which an interrupt and an act from outside run.
+    pub fn begin(&mut self, own: u16)
+        requires { (own ≡ 0) ⊎ (own ≡ holder self.old.sections.live (reg self.old.regs 0)) }
+        ensures { self.new ≡ record self.old { own = own; touches = untouched } }
+    {
+        self.own = own;
+        self.touches = [Touch::Quiet; 2];
+    }
+
+    /// The module whose code runs, else 0.
+    #[inline(always)]
+    pub fn own(&self) -> u16
+        ensures { result ≡ self.now.own }
+    {
+        self.own
+    }
+
+    /// The sections.
+    #[inline(always)]
+    pub fn table(&self) -> &Table
+        ensures { result.now ≡ self.now.sections }
+    {
+        &self.table
+    }
+
+    /// The devices.
+    #[inline(always)]
+    pub fn windows(&self) -> &Windows
+        ensures { result.now ≡ self.now.devices }
+    {
+        &self.windows
+    }
+
+    /// A sensor's new sample.
+    pub fn sense(&mut self, device: u8, value: u16)
+        requires device { device < length self.old.devices }
+        requires sensor { IfSome (slice_get self.old.devices device)
+            (λ window. window.kind ≡ Sensor) }
+        requires value { value < 32768 }
+        ensures { self.new ≡ record self.old {
+          devices = with_sample self.old.devices device value;
+        } }
+    {
+        self.windows.sense(device, value);
+    }
+
+    /// Clears the fresh mark of a device.
+    pub(crate) fn clear(&mut self, device: u8)
+        requires { device < length self.old.devices }
+        ensures { self.new ≡ record self.old { devices = cleared self.old.devices device } }
+    {
+        self.windows.clear(device);
+    }
+
     /// The word at an address, whose bit 0 doesn't count, or in byte form the byte. It may be read,
     /// and is no device's.
     pub fn read(&self, wide: bool, at: u16) -> u16
@@ -135,14 +193,17 @@ impl<B: Bus> Executor<B> {
         }
     }
 
-    /// A byte of a public section, which may be read. It asks of no device: none stands there,
-    /// since no module is admitted over one.
-    pub fn public_byte(&self, section: Buffer, i: u16) -> u8
-        requires right { reaches self.now Read section.at section.count ≡ true }
-        requires within { i < section.count }
-        ensures { result ≡ slice_index self.now.mem (section.at + i) }
+    /// A byte of the public section of a live module, or of one that no rule refuses. It may be
+    /// read, and no device stands there, since no module is admitted over one.
+    pub fn public_byte(&self, layout: &Layout, i: u16) -> u8
+        requires right { reaches self.now Read layout.now.pub_from
+            (layout.now.pub_to - layout.now.pub_from) ≡ true }
+        requires public { IsPublic self.now layout.now }
+        requires within { i < layout.now.pub_to - layout.now.pub_from }
+        ensures { result ≡ slice_index self.now.mem (layout.now.pub_from + i) }
     {
-        self.bus.get(section.at + i)
+        let public = Buffer::between(layout.pub_from, layout.pub_to);
+        self.bus.get(public.at + i)
     }
 
     /// Admits a module that `test` doesn't refuse under the next id, which it gives back. Its

@@ -5,55 +5,31 @@ ghost use Rattle.std.specs.Result.{result_err};
 ghost use Rattle.sx_bus.specs.Devices.{places_of};
 ghost use Rattle.sx_rules.specs.Access.{holder, section_of};
 ghost use Rattle.sx_rules.specs.Admission.{refusal};
-ghost use Rattle.sx_machine.specs.Run.{untouched};
 
 use crate::executor::Executor;
 use sx_bus::Bus;
-use sx_machine::Touch;
-use sx_rules::{Layout, Refusal, Section, Table};
+use sx_rules::{Layout, Refusal, Section};
 
 impl<B: Bus> Executor<B> {
-    /// Begins an instruction of the module `own`, or of code outside every module where it is 0.
-    pub fn begin(&mut self, own: u16)
-        ensures { self.new ≡ record self.old { own = own; touches = untouched } }
-    {
-        self.own = own;
-        self.touches = [Touch::Quiet; 2];
-    }
-
-    /// The module whose code runs, else 0.
-    pub fn own(&self) -> u16
-        ensures { result ≡ self.now.own }
-    {
-        self.own
-    }
-
-    /// The sections.
-    pub fn table(&self) -> &Table
-        ensures { result.now ≡ self.now.sections }
-    {
-        &self.table
-    }
-
     /// The module whose public section holds the byte, else 0.
     pub fn holder(&self, at: u16) -> u16
         ensures { result ≡ holder self.now.sections.live at }
     {
-        self.table.holder(at)
+        self.table().holder(at)
     }
 
     /// The live section with the id.
     pub fn section(&self, id: u16) -> Option<Section>
         ensures { result ≡ section_of self.now.sections.live id }
     {
-        self.table.section(id)
+        self.table().section(id)
     }
 
     /// The section of the module whose code runs.
     pub fn running(&self) -> Option<Section>
         ensures { result ≡ section_of self.now.sections.live self.now.own }
     {
-        self.table.section(self.own)
+        self.table().section(self.own())
     }
 
     /// Whether and why a module with this layout is refused. The error is the first refusal in the
@@ -64,6 +40,6 @@ impl<B: Bus> Executor<B> {
         ensures room { OnOk result (length self.now.sections.live < 8) }
         ensures ids { OnOk result (self.now.sections.next ≤ 65535) }
     {
-        self.table.test(layout, self.windows.places())
+        self.table().test(layout, self.windows().places())
     }
 }

@@ -191,7 +191,9 @@ impl<B: Bus, T: Tag> Node<B, T> {
             &self.tag,
             &base,
             &mut self.exchange,
-        )?;
+        );
+        self.executor.begin(0);
+        let event = event?;
         self.settle(own, caller);
         Ok(Seen {
             touch: [Touch::Quiet; 2],
@@ -208,8 +210,10 @@ impl<B: Bus, T: Tag> Node<B, T> {
     {
         let caller = self.entered_from(own);
         self.executor.begin(own);
-        step_plain(&mut self.executor, word)?;
+        let done = step_plain(&mut self.executor, word);
         let touch = self.executor.touches();
+        self.executor.begin(0);
+        done?;
         self.settle(own, caller);
         let stays = own == 0 || self.cur == own;
         let event = if stays {

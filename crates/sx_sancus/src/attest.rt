@@ -6,6 +6,7 @@ ghost use Rattle.sx_machine.specs.Given.{Given};
 ghost use Rattle.sx_machine.specs.ModuleRows.{attest, answer, vouches};
 ghost use Rattle.sx_machine.specs.Run.{Outcome};
 ghost use Rattle.sx_machine.specs.Answers.{followed};
+ghost use Rattle.sx_executor.specs.Machine.{IsPublic};
 ghost use Rattle.sx_sancus.specs.Told.{ran_of, RunsRow};
 ghost use Rattle.sx_sancus.specs.Parts.{given_tag, reads_public, public_of, attested_by};
 ghost use Rattle.sx_sancus.specs.Parts.{answer_outcome};
@@ -28,6 +29,7 @@ fn vouches<B: Bus, T: Tag>(
     given: &[u8; 16],
 ) -> bool
     requires right { reads_public executor.now other.now.layout ≡ true }
+    requires public { IsPublic executor.now other.now.layout }
     ensures { result ≡ vouches T.mac own.now given.now other.now
         (public_of executor.now other.now.layout) }
 {

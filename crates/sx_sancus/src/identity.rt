@@ -1,36 +1,37 @@
 //! Identities of modules, fed to a run of the tag.
 
-ghost use Rattle.std.specs.Prelude.{◌≡◌, ◌++◌, true, ℕ, List, None};
+ghost use Rattle.std.specs.Prelude.{◌≡◌, ◌++◌, ◌-◌, true, ℕ, List, None};
 ghost use Rattle.sx_bus.specs.Devices.{places_of};
-ghost use Rattle.sx_rules.specs.declared.access.Access.TheVariants.{Read};
 ghost use Rattle.sx_rules.specs.Admission.{refusal};
 ghost use Rattle.sx_tag.specs.Keys.{section_key, attest_tag};
 ghost use Rattle.sx_tag.specs.Stream.{Leads};
 ghost use Rattle.sx_machine.specs.Memory.{bytes_from};
 ghost use Rattle.sx_machine.specs.Protect.{identity_at};
-ghost use Rattle.sx_executor.specs.Machine.{reaches};
+ghost use Rattle.sx_executor.specs.Machine.{IsPublic};
 ghost use Rattle.sx_sancus.specs.Parts.{reads_public};
 
 use sx_bus::Bus;
-use sx_executor::{Buffer, Executor};
+use sx_executor::Executor;
 use sx_rules::Layout;
 use sx_tag::{Tag, begin_attest_tag, begin_module_key, feed_answer, finish_answer, layout_bytes};
 
 /// Feeds the bytes of a public section.
-fn feed_public<B: Bus, T: Tag>(executor: &Executor<B>, tag: &T, run: &mut T::Run, section: Buffer)
-    requires right { reaches executor.now Read section.at section.count ≡ true }
+fn feed_public<B: Bus, T: Tag>(executor: &Executor<B>, tag: &T, run: &mut T::Run, layout: &Layout)
+    requires right { reads_public executor.now layout.now ≡ true }
+    requires public { IsPublic executor.now layout.now }
     ensures { (answer : List ℕ → List ℕ) (fed : List ℕ) → Leads T.has T.mac answer run.old fed
-        → Leads T.has T.mac answer run.new
-        (fed ++ bytes_from executor.now.mem section.at section.count) }
+        → Leads T.has T.mac answer run.new (fed ++ bytes_from executor.now.mem layout.now.pub_from
+        (layout.now.pub_to - layout.now.pub_from)) }
 {
-    for i in 0..section.count {
-        feed_answer(tag, run, &[executor.public_byte(section, i)]);
+    for i in 0..layout.pub_to.saturating_sub(layout.pub_from) {
+        feed_answer(tag, run, &[executor.public_byte(layout, i)]);
     }
 }
 
 /// Feeds the identity of a module with this layout, from the bytes as they are.
 fn feed_identity<B: Bus, T: Tag>(executor: &Executor<B>, tag: &T, run: &mut T::Run, layout: &Layout)
     requires right { reads_public executor.now layout.now ≡ true }
+    requires public { IsPublic executor.now layout.now }
     ensures { (answer : List ℕ → List ℕ) (fed : List ℕ) → Leads T.has T.mac answer run.old fed
         → Leads T.has T.mac answer run.new (fed ++ identity_at executor.now.mem layout.now) }
 {
@@ -40,8 +41,7 @@ fn feed_identity<B: Bus, T: Tag>(executor: &Executor<B>, tag: &T, run: &mut T::R
         layout.priv_from,
         layout.priv_to,
     );
-    let public = Buffer::between(layout.pub_from, layout.pub_to);
-    feed_public(executor, tag, run, public);
+    feed_public(executor, tag, run, layout);
     feed_answer(tag, run, &bounds);
 }
 
@@ -73,6 +73,7 @@ pub fn attest_tag<B: Bus, T: Tag>(
     layout: &Layout,
 ) -> [u8; 16]
     requires right { reads_public executor.now layout.now ≡ true }
+    requires public { IsPublic executor.now layout.now }
     ensures { result ≡ attest_tag T.mac key.now (identity_at executor.now.mem layout.now) }
 {
     let mut run = begin_attest_tag(tag, key);

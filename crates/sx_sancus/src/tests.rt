@@ -64,12 +64,23 @@ impl Parts {
         })
     }
 
-    /// Runs an instruction of the module `own`, with R9 to R15 as given.
+    /// Begins an instruction at OWN: of the module there, or for `own` 0 of code outside every
+    /// module.
+    fn begin(&mut self, own: u16) {
+        self.executor.set_pc(OWN.pub_from);
+        if own == 0 {
+            self.executor.begin(0);
+        } else {
+            let pc = self.executor.register(0);
+            self.executor.begin(self.executor.holder(pc));
+        }
+    }
+
+    /// Runs an instruction at OWN, with R9 to R15 as given.
     fn run(&mut self, own: u16, code: u8, operands: [u16; 7]) -> Result<SancusEvent, Violation>
         requires { is_code code ≡ true }
     {
-        self.executor.begin(own);
-        self.executor.set_pc(0x600);
+        self.begin(own);
         for r in 0..7u8 {
             self.executor.set_word(9 + r, operands[r as usize]);
         }
@@ -83,9 +94,9 @@ impl Parts {
         )
     }
 
-    /// Writes bytes as code of the module `own`.
+    /// Writes bytes as code at OWN.
     fn put(&mut self, own: u16, mut at: u16, bytes: &[u8]) {
-        self.executor.begin(own);
+        self.begin(own);
         for byte in bytes {
             let _ = self.executor.store(false, at, u16::from(*byte));
             at = at.wrapping_add(1);

@@ -47,7 +47,6 @@ fn body_of(alloc: Global, m: &Checked, ends: &[End], layout: &Layout) -> Result<
 struct Node {
     executor: Executor<FlatBus>,
     exchange: Exchange,
-    own: u16,
     written: [u16; 4],
     writes: usize,
 }
@@ -71,14 +70,13 @@ impl Node {
             at = at.wrapping_add(1);
         }
         let mut executor = Executor::new(bus, windows);
-        let own = match executor.test(*layout) {
+        match executor.test(*layout) {
             Ok(()) => executor.admit(*layout, 7, [1; 16]),
             Err(_) => Err(NotMade)?,
         };
         let mut node = Node {
             executor,
             exchange: NO_EXCHANGE,
-            own,
             written: [0; 4],
             writes: 0,
         };
@@ -92,9 +90,16 @@ impl Node {
         Ok(node)
     }
 
+    /// Begins an instruction of the module whose code PC is at.
+    fn begin(&mut self) {
+        let pc = self.executor.register(PC);
+        let own = self.executor.holder(pc);
+        self.executor.begin(own);
+    }
+
     /// Writes bytes as code of the module.
     fn put(&mut self, mut at: u16, bytes: &[u8]) {
-        self.executor.begin(self.own);
+        self.begin();
         for byte in bytes {
             let _ = self.executor.store(false, at, u16::from(*byte));
             at = at.wrapping_add(1);
@@ -127,7 +132,7 @@ impl Node {
     }
 
     fn step(&mut self) -> Result<(), Violation> {
-        self.executor.begin(self.own);
+        self.begin();
         let first = self.first_word();
         match module_code(first) {
             Some(code) => {

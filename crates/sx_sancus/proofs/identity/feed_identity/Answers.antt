@@ -1,4 +1,4 @@
-use Rattle.std.proofs.Common.{◌≡◌, ◌++◌, List, ℕ, subst, append_assoc}
+use Rattle.std.proofs.Common.{◌≡◌, ◌++◌, ◌-◌, List, ℕ, subst, append_assoc}
 use Rattle.sx_tag.specs.Keys.{identity}
 use Rattle.sx_tag.specs.Stream.{Leads}
 use Rattle.sx_machine.specs.Memory.{bytes_from}
@@ -9,11 +9,10 @@ pub returns : goal.returns
 unfolding identity
 returns g c = λ answer fed h.
     let mem = c.args.executor.now.mem in
-    let public = bytes_from mem c.between-public.result.at c.between-public.result.count in
+    let l = c.args.layout.now in
+    let public = bytes_from mem l.pub_from (l.pub_to - l.pub_from) in
     let taken = c.feed_answer.ensures answer (fed ++ public) (c.feed_public.ensures answer fed h) in
     let together = append_assoc fed public c.layout_bytes-bounds.result in
-    let at = c.between-public.ensures.at in
-    let count = c.between-public.ensures.count in
     let bounds = c.layout_bytes-bounds.ensures in
     let e : (fed ++ public) ++ c.layout_bytes-bounds.result ≡ fed ++ identity_at mem c.args.layout.now = cc in
     subst (λ (bs : List ℕ). Leads g.T.Tag.has g.T.Tag.mac answer c.feed_answer.new.run bs) e taken

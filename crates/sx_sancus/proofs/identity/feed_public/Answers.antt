@@ -11,9 +11,9 @@ pub loop-i-preserved : goal.loop-i-preserved
 unfolding bytes_from
 loop-i-preserved g c = λ answer fed h.
     let mem = c.args.executor.now.mem in
-    let before = bytes_from mem c.args.section.at c.loop-i.i in
+    let before = bytes_from mem c.args.layout.now.pub_from c.loop-i.i in
     let taken = c.feed_answer.ensures answer (fed ++ before) (c.loop-i.invariant answer fed h) in
     let together = append_assoc fed before (c.public_byte.result ∷ []) in
     let byte = c.public_byte.ensures in
-    let e : (fed ++ before) ++ c.public_byte.result ∷ [] ≡ fed ++ bytes_from mem c.args.section.at (suc c.loop-i.i) = cc in
+    let e : (fed ++ before) ++ c.public_byte.result ∷ [] ≡ fed ++ bytes_from mem c.args.layout.now.pub_from (suc c.loop-i.i) = cc in
     rw add-one (subst (λ (bs : List ℕ). Leads g.T.Tag.has g.T.Tag.mac answer c.feed_answer.new.run bs) e taken)
