@@ -49,10 +49,11 @@ pub record CheckTold (tells to_tell : Bool) (m0 m1 : CommandAt) (status : ℕ) :
       → IsGoodHead meaning (head (input_of m0)) → IsFaultless m0 m1
       → CameToItsEnd to_tell m0 m1 status (check_all meaning (input_of m0))
 
--- Words that are no command: one line says so, and nothing is read.
+-- Words that are no command: one line says so, without memory, and nothing is read.
 pub record MisusedTold (to_tell : Bool) (m0 m1 : CommandAt) (status : ℕ) : Type 0 where
   pub ends : CommandEnds to_tell m0.sink m1.sink status misuse_output
   pub unread : m1.source ≡ m0.source
+  pub memory : status ≡ out_of_memory → ⊥
 
 -- The command `gen` for n samples. Nothing is read.
 pub record GenSays (mac : Mac) (n : ℕ) (to_tell : Bool) (m0 m1 : CommandAt) (status : ℕ) : Type

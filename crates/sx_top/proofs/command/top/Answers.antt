@@ -1,4 +1,4 @@
-use Rattle.std.proofs.Common.{◌∙◌, map, refl, sym, subst, ap, Option, Some, None}
+use Rattle.std.proofs.Common.{◌∙◌, arith, map, refl, sym, subst, ap, Option, Some, None}
 use Rattle.std.specs.Prelude.{string_bytes}
 use Rattle.sx_tag.specs.Mac.{hmac_sha256}
 use Rattle.sx_top.specs.declared.words.Command.{Command}
@@ -50,4 +50,9 @@ pub returns-in-None-clause-told : goal.returns-in-None-clause-told
 unfolding usage_line
 returns-in-None-clause-told g c =
     program hmac_sha256 (map string_bytes c.args.words.now) None (sym c.command_of.ensures.command ∙ c.in-None.is)
-    (record { ends = c.finish.ensures.ends; unread = refl }) (λ two. refl)
+    (record {
+      ends = c.finish.ensures.ends;
+      unread = refl;
+      memory = λ six. omega (arith, six, c.finish.ensures.status (λ five. omega (arith, five, six)));
+    })
+    (λ two. refl)
