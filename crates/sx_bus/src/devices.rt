@@ -87,6 +87,7 @@ impl Windows {
     }
 
     /// The device whose word holds the byte.
+    #[inline(always)]
     pub fn at(&self, at: u16) -> Option<u8>
         ensures device { result ≡ device_at self.now at }
         ensures within { IfSome result (λ device. device < length self.now) }

@@ -39,6 +39,11 @@ impl Bus for FlatBus {
         self.memory[at as usize] = byte;
     }
 
+    fn put_word(&mut self, at: u16, value: u16) {
+        self.put(at, (value % 256) as u8);
+        self.put(at + 1, (value / 256) as u8);
+    }
+
     fn wipe(&mut self) {
         clear(&mut self.memory);
     }

@@ -1,6 +1,6 @@
 //! The trait of memories of 65,536 bytes.
 
-ghost use Rattle.std.specs.Prelude.{◌≡◌, ℕ, List, slice_index, slice_set};
+ghost use Rattle.std.specs.Prelude.{◌≡◌, ◌+◌, ◌/◌, ◌%◌, ℕ, List, slice_index, slice_set};
 ghost use Rattle.sx_bus.specs.Memory.{blank, AreMemoryBytes};
 
 /// A memory of 65,536 bytes. Its meaning is the list of these bytes.
@@ -14,6 +14,12 @@ pub trait Bus: Drop {
     /// Writes one byte and leaves all others.
     fn put(&mut self, at: u16, byte: u8)
         ensures { bytes self.new ≡ slice_set (bytes self.old) at byte };
+
+    /// Writes the word at an even address, the low byte first, and leaves all other bytes.
+    fn put_word(&mut self, at: u16, value: u16)
+        requires { at % 2 ≡ 0 }
+        ensures { bytes self.new
+            ≡ slice_set (slice_set (bytes self.old) at (value % 256)) (at + 1) (value / 256) };
 
     /// Makes every byte 0.
     fn wipe(&mut self)

@@ -3,7 +3,7 @@ use Rattle.std.proofs.Common.{◌≡◌, ◌≢◌, ℕ, zero, suc, ◌+◌, ◌
 use Rattle.std.proofs.lemmas.Bool.{false≢true, cases_eq, cases_lt}
 use Rattle.std.proofs.lemmas.List.{get_or-set_same, get_or-set_other, set-set, length-replicate}
 use Rattle.sx_pages.proofs.Slots.{choose}
-use Rattle.sx_pages.specs.Pages.{Pages, is_page, bytes_of, is_live, held, zeros, no_pages, size}
+use Rattle.sx_pages.specs.Pages.{Pages, with_byte, is_page, bytes_of, is_live, held, zeros, no_pages, size}
 use Rattle.sx_paged.specs.Laws.{PresentGrows}
 use Rattle.sx_paged.specs.Paged.{paged, count, IsPaged}
 use Rattle.sx_paged.specs.Memory.{page_bytes, byte_at, after_put}
@@ -188,7 +188,7 @@ put-is arena numbers at p byte is h f e =
     ∙ ap (λ (b : List ℕ). set (paged arena numbers) i (Some (set b (at % 256) byte))) (sym none)
 
 -- what holds of every paged memory, after each call
-live-set : (arena : Pages) (p q : ℕ) (bytes : List ℕ) → p < length arena → is_live arena q ≡ true → is_live (set arena p (Some bytes)) q ≡ true
+pub live-set : (arena : Pages) (p q : ℕ) (bytes : List ℕ) → p < length arena → is_live arena q ≡ true → is_live (set arena p (Some bytes)) q ≡ true
 live-set arena p q bytes h t = choose (cases_eq q p)
     (λ e. ap (λ (k : ℕ). is_live (set arena p (Some bytes)) k) e ∙ ap is_page (get_or-set_same arena p (Some bytes) None h))
     (λ ne. ap is_page (get_or-set_other arena p q (Some bytes) None ne) ∙ t)
@@ -283,3 +283,14 @@ present_grows pages address byte is h =
     let within : address / 256 < length pages = omega (arith, is.count, h) in
     let more : suc (size pages) ≡ size pages + 1 = omega arith in
     (size-write pages (address / 256) _, λ f. size-put pages (address / 256) _ within f ∙ more)
+
+-- the pages after a word was written, whose bytes lie on one page
+pub word-is : (arena : Pages) (numbers : Numbers) (at p low high : ℕ) → IsPaged arena numbers → at % 2 ≡ 0 → get_or numbers (at / 256) None ≡ Some p
+    → paged (with_byte (with_byte arena p (at % 256) low) p (at % 256 + 1) high) numbers ≡ after_put (after_put (paged arena numbers) at low) (at + 1) high
+word-is arena numbers at p low high is even e =
+    let one : Pages = with_byte arena p (at % 256) low in
+    let same : (at + 1) / 256 ≡ at / 256 = omega (arith, even) in
+    let next : at % 256 + 1 ≡ (at + 1) % 256 = omega (arith, even) in
+    ap (λ (k : ℕ). paged (with_byte one p k high) numbers) next
+    ∙ write-is one numbers (at + 1) p high (IsPaged-write arena numbers (at / 256) p _ is e) (ap (λ (k : ℕ). get_or numbers k None) same ∙ e)
+    ∙ ap (λ (pages : Pages). after_put pages (at + 1) high) (write-is arena numbers at p low is e)

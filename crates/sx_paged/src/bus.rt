@@ -1,6 +1,6 @@
 //! The memory of 65,536 bytes, as its callers see it.
 
-ghost use Rattle.std.specs.Prelude.{◌≡◌, ℕ, slice_index, slice_set, IfOk};
+ghost use Rattle.std.specs.Prelude.{◌≡◌, ◌+◌, ◌/◌, ◌%◌, ℕ, slice_index, slice_set, IfOk};
 ghost use Rattle.sx_bus.specs.Memory.{blank, AreMemoryBytes};
 ghost use Rattle.sx_pages.specs.Pages.{no_pages, size};
 ghost use Rattle.sx_paged.specs.Memory.{IsMemory, joined, after_put};
@@ -49,6 +49,16 @@ impl Bus for PagedBus {
         ensures pages { self.new.pages ≡ after_put self.old.pages at byte }
     {
         self.pages.put(at, byte);
+    }
+
+    fn put_word(&mut self, at: u16, value: u16)
+        requires { at % 2 ≡ 0 }
+        ensures bytes { joined self.new.pages
+            ≡ slice_set (slice_set (joined self.old.pages) at (value % 256)) (at + 1) (value / 256) }
+        ensures pages { self.new.pages
+            ≡ after_put (after_put self.old.pages at (value % 256)) (at + 1) (value / 256) }
+    {
+        self.pages.put_word(at, value);
     }
 
     fn wipe(&mut self)

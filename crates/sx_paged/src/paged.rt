@@ -1,7 +1,7 @@
 //! The pages, and where they are in the arena.
 
-ghost use Rattle.std.specs.Prelude.{◌≡◌, ℕ, ◌/◌, length, replicate, get_or, IfOk, None};
-ghost use Rattle.sx_pages.specs.Pages.{no_pages, size};
+ghost use Rattle.std.specs.Prelude.{◌≡◌, ◌<◌, ◌+◌, ◌%◌, ℕ, ◌/◌, true, length, replicate, get_or, IfOk, None};
+ghost use Rattle.sx_pages.specs.Pages.{no_pages, size, is_live, with_byte};
 ghost use Rattle.sx_paged.specs.Memory.{byte_at, after_put};
 ghost use Rattle.sx_paged.specs.Paged.{paged, IsPaged};
 
@@ -62,6 +62,23 @@ impl Paged {
         }
     }
 
+    /// Writes the word at an even address, the low byte first. Both bytes are on one page.
+    pub(crate) fn put_word(&mut self, at: u16, value: u16)
+        requires { at % 2 ≡ 0 }
+        ensures { self.new
+            ≡ after_put (after_put self.old at (value % 256)) (at + 1) (value / 256) }
+    {
+        let low = (value % 256) as u8;
+        let high = (value / 256) as u8;
+        match self.numbers[(at / 256) as usize] {
+            Some(page) => write_two(&mut self.arena, page, (at % 256) as u8, low, high),
+            None => {
+                self.put(at, low);
+                self.put(at + 1, high);
+            }
+        }
+    }
+
     /// Makes all pages absent.
     pub(crate) fn wipe(&mut self)
         ensures { self.new ≡ no_pages }
@@ -86,6 +103,16 @@ impl Paged {
     {
         256 - self.arena.free()
     }
+}
+
+// Writes two bytes of a live page, one after the other.
+fn write_two(arena: &mut Arena, page: u8, at: u8, low: u8, high: u8)
+    requires live { is_live arena.old page ≡ true }
+    requires within { at < 255 }
+    ensures { arena.new ≡ with_byte (with_byte arena.old page at low) page (at + 1) high }
+{
+    arena.write(page, at, low);
+    arena.write(page, at + 1, high);
 }
 
 // Writes a byte of a page that was absent. A page is free for it, since each live one has an index.
