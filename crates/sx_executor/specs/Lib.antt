@@ -1,2 +1,3 @@
 pub mod Machine
 pub mod Reads
+pub mod Shortcuts

@@ -43,7 +43,7 @@ impl<B: Bus> Executor<B> {
     /// no more.
     #[inline(always)]
     #[tactic(auto, using(crate::proofs::Open::open_any))]
-    fn is_clear(&self, at: u16) -> bool
+    pub fn is_clear(&self, at: u16) -> bool
         ensures right { IsTrue result → (wide : Bool) (access : Access)
             → may_at wide self.now.sections.live self.now.own access at ≡ true }
         ensures memory { IsTrue result → device_of self.now.devices at ≡ None }
@@ -155,6 +155,7 @@ impl<B: Bus> Executor<B> {
     }
 
     /// Whether an extension word of the running code may stand at the place.
+    #[inline(always)]
     #[tactic(auto, using(crate::proofs::Rights::extends_readable, crate::proofs::Open::open_extends, crate::proofs::Open::open_word))]
     fn may_extend(&self, at: u16) -> bool
         ensures word { result ≡ extends_word self.now at }

@@ -32,6 +32,18 @@ impl Decoded {
         })
     }
 
+    /// A jump to itself: what stands where nothing was decoded yet.
+    pub(crate) fn idle() -> Decoded {
+        Decoded {
+            first: 0x3fff,
+            instruction: Instr::Jump {
+                cond: 7,
+                offset: -1,
+            },
+            words: 1,
+        }
+    }
+
     /// The first word is that of this instruction with any extension words. Those past its own
     /// don't matter.
     pub fn reads_on(&self)

@@ -8,57 +8,79 @@ ghost use Rattle.sx_isa.specs.Reading.{length_of};
 
 use crate::decoded::Decoded;
 use crate::executor::Executor;
+use crate::shortcut::Shortcut;
 use sx_bus::Bus;
 
-/// How many decoded words are kept.
+/// How many decoded words are kept, and how many shortcuts.
 pub(crate) const PLACES: usize = 256;
 
-/// Where a first word is kept.
-fn place_of(first: u16) -> usize
+/// Where the first word at an address is kept.
+fn place_of(at: u16) -> usize
     ensures { result < 256 }
 {
-    usize::from((first ^ first / 256) % 256)
+    usize::from(at / 2 % 256)
 }
 
 /// Keeps a decoded word, in the place of another one.
-fn keep(kept: &mut [Option<Decoded>], decoded: Decoded)
+fn keep(kept: &mut [Decoded], at: u16, decoded: Decoded)
     requires { length kept.old ≡ 256 }
 {
-    let place = place_of(decoded.first);
-    kept[place] = Some(decoded);
+    let place = place_of(at);
+    kept[place] = decoded;
 }
 
-/// What stands in the place of a first word, if it is that word.
+/// Keeps a shortcut, in the place of another one.
+fn keep_shortcut(kept: &mut [Shortcut], at: u16, shortcut: Shortcut)
+    requires { length kept.old ≡ 256 }
+{
+    let place = place_of(at);
+    kept[place] = shortcut;
+}
+
 #[inline(always)]
-fn found(kept: &[Option<Decoded>; PLACES], first: u16) -> Option<&Decoded>
+fn shortcut_at(kept: &[Shortcut; PLACES], at: u16) -> &Shortcut {
+    &kept[place_of(at)]
+}
+
+/// What is kept for an address, if it is this word.
+#[inline(always)]
+fn found(kept: &[Decoded; PLACES], at: u16, first: u16) -> Option<&Decoded>
     ensures { IfSome result (λ decoded. decoded.now.first ≡ first) }
 {
-    let place = place_of(first);
-    if let Some(decoded) = &kept[place] {
-        if decoded.first == first {
-            return Some(decoded);
-        }
+    let decoded = &kept[place_of(at)];
+    if decoded.first == first {
+        return Some(decoded);
     }
     None
 }
 
 impl<B: Bus> Executor<B> {
-    /// The first word as it was decoded before, if it is kept.
+    /// The shortcut that is kept for an address. Its first word may be another than stands there.
     #[inline(always)]
-    pub fn kept(&self, first: u16) -> Option<&Decoded>
-        ensures { IfSome result (λ decoded. decoded.now.first ≡ first) }
-    {
-        found(&self.decoded, first)
+    pub fn shortcut(&self, at: u16) -> &Shortcut {
+        shortcut_at(&self.shortcuts, at)
     }
 
-    /// Decodes a first word, and keeps it. None exactly where no instruction has it.
-    pub fn decode(&mut self, first: u16) -> Option<Decoded>
+    /// The first word as it was decoded before at the address, if it is kept.
+    #[inline(always)]
+    pub fn kept(&self, at: u16, first: u16) -> Option<&Decoded>
+        ensures { IfSome result (λ decoded. decoded.now.first ≡ first) }
+    {
+        found(&self.decoded, at, first)
+    }
+
+    /// Decodes a first word, and keeps it for the address, with its shortcut if it has one. None
+    /// exactly where no instruction has it.
+    pub fn decode(&mut self, at: u16, first: u16) -> Option<Decoded>
         ensures decoded { MatchOption result
             (length_of first ≡ None) (λ decoded. decoded.first ≡ first) }
         ensures same { self.new ≡ self.old }
     {
         let decoded = Decoded::new(first)?;
-        keep(&mut self.decoded, decoded);
+        keep(&mut self.decoded, at, decoded);
+        if let Some(shortcut) = Shortcut::new(&decoded) {
+            keep_shortcut(&mut self.shortcuts, at, shortcut);
+        }
         Some(decoded)
     }
 }

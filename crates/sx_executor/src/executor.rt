@@ -24,6 +24,7 @@ ghost use Rattle.sx_executor.specs.Machine.{switched_on, cleared_by_reset, reach
 use crate::buffer::Buffer;
 use crate::decoded::Decoded;
 use crate::decoding::PLACES;
+use crate::shortcut::Shortcut;
 use std::alloc::{AllocError as OutOfMemory, Global};
 use std::marker::Model;
 use sx_bus::{Bus, Copied, Windows};
@@ -40,8 +41,9 @@ pub struct Executor<B: Bus> {
     table: Table,
     own: u16,
     pub(crate) touches: [Touch; 2],
-    /// Decoded first words, each in a place that it determines.
-    pub(crate) decoded: [Option<Decoded>; PLACES],
+    /// Decoded first words and shortcuts, each in the place of an address that it was decoded at.
+    pub(crate) decoded: [Decoded; PLACES],
+    pub(crate) shortcuts: [Shortcut; PLACES],
 }
 
 impl<B: Bus> Model for Executor<B> {
@@ -88,7 +90,8 @@ impl<B: Bus> Executor<B> {
             table: Table::new(),
             own: 0,
             touches: [Touch::Quiet; 2],
-            decoded: [None; PLACES],
+            decoded: [Decoded::idle(); PLACES],
+            shortcuts: [Shortcut::idle(); PLACES],
         }
     }
 
@@ -161,6 +164,7 @@ impl<B: Bus> Executor<B> {
 
     /// The word at an address, whose bit 0 doesn't count, or in byte form the byte. It may be read,
     /// and is no device's.
+    #[inline(always)]
     pub fn read(&self, wide: bool, at: u16) -> u16
         requires right { may_at wide self.now.sections.live self.now.own Read at ≡ true }
         requires memory { device_of self.now.devices at ≡ None }
@@ -179,6 +183,7 @@ impl<B: Bus> Executor<B> {
 
     /// Writes the word at an address, or in byte form the byte. It may be written, and is no
     /// device's.
+    #[inline(always)]
     pub fn write(&mut self, wide: bool, at: u16, value: u16)
         requires right { may_at wide self.old.sections.live self.old.own Write at ≡ true }
         requires memory { device_of self.old.devices at ≡ None }
@@ -186,8 +191,7 @@ impl<B: Bus> Executor<B> {
     {
         if wide {
             let even = at - at % 2;
-            self.bus.put(even, (value % 256) as u8);
-            self.bus.put(even + 1, (value / 256) as u8);
+            self.bus.put_word(even, value);
         } else {
             self.bus.put(at, (value % 256) as u8);
         }
@@ -260,6 +264,7 @@ impl<B: Copied> Executor<B> {
             own: self.own,
             touches: self.touches,
             decoded: self.decoded,
+            shortcuts: self.shortcuts,
         })
     }
 }

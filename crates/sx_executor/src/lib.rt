@@ -15,6 +15,7 @@ pub use buffer::Buffer;
 pub use decoded::Decoded;
 pub use executor::Executor;
 pub use range::Range;
+pub use shortcut::{Form, Shortcut};
 
 mod access;
 mod buffer;
@@ -26,3 +27,4 @@ mod executor;
 mod range;
 pub mod registers;
 mod sections;
+mod shortcut;

@@ -1,10 +1,11 @@
 //! Reads and writes of the sixteen registers.
 
-ghost use Rattle.std.specs.Prelude.{◌≡◌, ◌<◌, slice_set};
+ghost use Rattle.std.specs.Prelude.{◌≡◌, ◌<◌, true, slice_set};
 ghost use Rattle.sx_alu.specs.Table.{limit};
 ghost use Rattle.sx_machine.specs.Given.{concluded};
 ghost use Rattle.sx_machine.specs.Registers.{at_pc, cut_value, reg, kept_in, set_reg, incremented};
 ghost use Rattle.sx_machine.specs.Registers.{flags, set_flags};
+ghost use Rattle.sx_executor.specs.Shortcuts.{is_general};
 
 use crate::executor::Executor;
 use sx_alu::StatusBits;
@@ -46,6 +47,13 @@ fn put_register(regs: &mut [u16; 16], r: u8, value: u16)
 {
     let r = r % 16;
     regs[r as usize] = kept_in(r, value);
+}
+
+fn put_general(regs: &mut [u16; 16], r: u8, value: u16)
+    requires { is_general r ≡ true }
+    ensures { regs.new ≡ set_reg regs.old r value }
+{
+    regs[r as usize] = value;
 }
 
 fn put_flags(regs: &mut [u16; 16], flags: StatusBits)
@@ -111,6 +119,15 @@ impl<B: Bus> Executor<B> {
         ensures { self.new ≡ record self.old { regs = set_reg self.old.regs r value } }
     {
         put_register(&mut self.regs, r, value);
+    }
+
+    /// Writes a general register, which keeps all of the value.
+    #[inline(always)]
+    pub fn set_general(&mut self, r: u8, value: u16)
+        requires { is_general r ≡ true }
+        ensures { self.new ≡ record self.old { regs = set_reg self.old.regs r value } }
+    {
+        put_general(&mut self.regs, r, value);
     }
 
     /// Writes the flags into SR.

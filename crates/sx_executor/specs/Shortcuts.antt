@@ -1,0 +1,78 @@
+-- Instructions that have a shortcut, by their form.
+--     instruction_of, words_of      the instruction of a form with extension words of 0, and how many
+--         words it has
+--     is_general      its register is no one of PC, SP, SR and R3
+--     is_fit      the register that a form writes is general
+--     IsForm      a form is that of an instruction of so many words
+use Rattle.std.specs.Prelude.{◌≡◌, ℕ, Bool, true, false, ◌&&◌, nat_le, nat_lt}
+use Rattle.sx_isa.specs.declared.instruction.Instr.{Instr}
+use Rattle.sx_isa.specs.declared.instruction.Instr.TheVariants as instr
+use Rattle.sx_isa.specs.declared.instruction.Operand.TheVariants as operand
+use Rattle.sx_executor.specs.declared.shortcut.Form.{Form}
+use Rattle.sx_executor.specs.declared.shortcut.Form.TheVariants.{JumpNotEqual, JumpEqual}
+use Rattle.sx_executor.specs.declared.shortcut.Form.TheVariants.{JumpNoCarry, JumpCarry}
+use Rattle.sx_executor.specs.declared.shortcut.Form.TheVariants.{JumpNegative, JumpGreater}
+use Rattle.sx_executor.specs.declared.shortcut.Form.TheVariants.{JumpLess, JumpAlways}
+use Rattle.sx_executor.specs.declared.shortcut.Form.TheVariants.{Registers, Constant}
+use Rattle.sx_executor.specs.declared.shortcut.Form.TheVariants.{OntoIndexed, OntoSymbolic}
+use Rattle.sx_executor.specs.declared.shortcut.Form.TheVariants.{OntoAbsolute}
+
+-- the instruction of a form, with extension words of 0
+abbrev pub instruction_of : Form → Instr
+instruction_of (JumpNotEqual offset) = instr.Jump 0 offset
+instruction_of (JumpEqual offset) = instr.Jump 1 offset
+instruction_of (JumpNoCarry offset) = instr.Jump 2 offset
+instruction_of (JumpCarry offset) = instr.Jump 3 offset
+instruction_of (JumpNegative offset) = instr.Jump 4 offset
+instruction_of (JumpGreater offset) = instr.Jump 5 offset
+instruction_of (JumpLess offset) = instr.Jump 6 offset
+instruction_of (JumpAlways offset) = instr.Jump 7 offset
+instruction_of (Registers op src dst) = instr.Two op false (operand.Reg src) (operand.Reg dst)
+instruction_of (Constant op value dst) = instr.Two op false (operand.Const value) (operand.Reg dst)
+instruction_of (OntoIndexed op value base) =
+    instr.Two op false (operand.Const value) (operand.Indexed base 0)
+instruction_of (OntoSymbolic op value) =
+    instr.Two op false (operand.Const value) (operand.Symbolic 0)
+instruction_of (OntoAbsolute op value) =
+    instr.Two op false (operand.Const value) (operand.Absolute 0)
+
+-- how many words it has
+abbrev pub words_of : Form → ℕ
+words_of (JumpNotEqual offset) = 1
+words_of (JumpEqual offset) = 1
+words_of (JumpNoCarry offset) = 1
+words_of (JumpCarry offset) = 1
+words_of (JumpNegative offset) = 1
+words_of (JumpGreater offset) = 1
+words_of (JumpLess offset) = 1
+words_of (JumpAlways offset) = 1
+words_of (Registers op src dst) = 1
+words_of (Constant op value dst) = 1
+words_of (OntoIndexed op value base) = 2
+words_of (OntoSymbolic op value) = 2
+words_of (OntoAbsolute op value) = 2
+
+-- a register that keeps all of what is written to it
+abbrev pub is_general : ℕ → Bool
+is_general r = nat_le 4 r && nat_lt r 16
+
+-- a register that is written is a general one
+abbrev pub is_fit : Form → Bool
+is_fit (JumpNotEqual offset) = true
+is_fit (JumpEqual offset) = true
+is_fit (JumpNoCarry offset) = true
+is_fit (JumpCarry offset) = true
+is_fit (JumpNegative offset) = true
+is_fit (JumpGreater offset) = true
+is_fit (JumpLess offset) = true
+is_fit (JumpAlways offset) = true
+is_fit (Registers op src dst) = is_general dst
+is_fit (Constant op value dst) = is_general dst
+is_fit (OntoIndexed op value base) = true
+is_fit (OntoSymbolic op value) = true
+is_fit (OntoAbsolute op value) = true
+
+-- a form is that of an instruction with extension words of 0, which has so many words
+abbrev pub IsForm : Form → Instr → ℕ → Type 0
+IsForm form instruction words =
+    (instruction_of form ≡ instruction) × (words_of form ≡ words) × (is_fit form ≡ true)
