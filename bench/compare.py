@@ -5,15 +5,20 @@ Both run the same code: an inner loop of 65,536 turns inside an outer loop. The 
 other a word in memory. `sancus` runs each also with one and with eight protected sections standing, which every
 access is checked against. Each of five rounds times both programs one after the other, so that what else the machine does
 meets both alike. The table has the median of the rates, in million instructions a second of processor time, and
-of their ratios, with the least and the greatest ratio. Below it stands the median time of 20,000 resets, before each
-of which a page of memory was written. The program must be built (`./sancus build`). Not a part of
-the gate.
+of their ratios, with the least and the greatest ratio. The last column has the processor's instructions that a step of
+`sancus` takes, which don't differ from run to run, so that a change of the code shows in it at once: valgrind counts them, and
+a dash stands where it isn't installed. Below the table stands the median time of 20,000 resets, before each of which a
+page of memory was written. The program must be built (`./sancus build`). Not a part of the gate.
+
+    bench/compare.py                   the table
+    bench/compare.py --instructions    the instructions a step alone
 """
-import os, resource, statistics, subprocess, sys
+import os, re, resource, shutil, statistics, subprocess, sys
 
 HERE = os.path.dirname(os.path.abspath(__file__))
 PROGRAM = os.path.join(HERE, "..", "crates", "sancus_run", "out", "sancus_run")
 TURNS, ROUNDS = 160, 5
+RUN = 65535  # the most steps of a line
 
 # R5 is 0 as each inner loop begins. The words: SUB #1,R5 or SUB #1,&0x0300; JNE back; SUB #1,R6; JNE back; JMP to itself.
 LOOPS = {
@@ -45,11 +50,31 @@ def seconds(command, text):
     return processor_seconds() - begin
 
 
-def ours(words, steps, sections):
+def schedule(words, steps, sections):
+    """A node that takes so many steps of a loop, beside so many sections."""
     lines = ["%%"] + [line for number in range(sections) for line in protect(number)]
     lines += [f"put n 0x4000 {little(words)}", f"set n r6 {TURNS}", "set n pc 0x4000"]
-    lines += ["run n 65535"] * (steps // 65535) + [f"run n {steps % 65535}"] * (steps % 65535 > 0)
-    return seconds([PROGRAM, "run"], ("\n".join(lines) + "\n").encode())
+    lines += [f"run n {RUN}"] * (steps // RUN) + [f"run n {steps % RUN}"] * (steps % RUN > 0)
+    return ("\n".join(lines) + "\n").encode()
+
+
+def ours(words, steps, sections):
+    return seconds([PROGRAM, "run"], schedule(words, steps, sections))
+
+
+def counted(text):
+    """The processor's instructions of a run of a schedule."""
+    command = ["valgrind", "--tool=callgrind", "--callgrind-out-file=/dev/null", PROGRAM, "run"]
+    told = subprocess.run(command, input=text, stdout=subprocess.DEVNULL, stderr=subprocess.PIPE, check=True).stderr
+    return int(re.search(rb"Collected : (\d+)", told).group(1))
+
+
+def instructions(words, sections):
+    """The processor's instructions of a step: sixteen more lines of steps take so many more. A dash where valgrind is missing."""
+    if shutil.which("valgrind") is None:
+        return "-"
+    few, many = (counted(schedule(words, lines * RUN, sections)) for lines in (1, 17))
+    return f"{(many - few) / (16 * RUN):.1f}"
 
 
 def theirs(words):
@@ -65,7 +90,12 @@ def resets():
 
 
 def main():
-    print(f"{'loop':<10}{'sections':<10}{'sancus':>8}{'mspdebug':>10}{'ratio':>7}{'least':>7}{'most':>7}")
+    if sys.argv[1:] == ["--instructions"]:
+        for name, (words, _each) in LOOPS.items():
+            for sections in (0, 1, 8):
+                print(f"{name:<10}{sections:<10}{instructions(words, sections):>8}")
+        return 0
+    print(f"{'loop':<10}{'sections':<10}{'sancus':>8}{'mspdebug':>10}{'ratio':>7}{'least':>7}{'most':>7}{'instructions':>14}")
     for name, (words, each) in LOOPS.items():
         steps = TURNS * (65536 * each + 2)
         for sections in (0, 1, 8):
@@ -73,7 +103,7 @@ def main():
             ratios = sorted(ours_rate / their_rate for ours_rate, their_rate in rounds)
             ours_rate, their_rate = (statistics.median(rates) / 1e6 for rates in zip(*rounds))
             print(f"{name:<10}{sections:<10}{ours_rate:>8.1f}{their_rate:>10.1f}"
-                  f"{statistics.median(ratios):>7.2f}{ratios[0]:>7.2f}{ratios[-1]:>7.2f}")
+                  f"{statistics.median(ratios):>7.2f}{ratios[0]:>7.2f}{ratios[-1]:>7.2f}{instructions(words, sections):>14}")
     print(f"20,000 resets: {statistics.median(resets() for _ in range(ROUNDS)):.3f} s")
     return 0
 

@@ -4,12 +4,14 @@ ghost use Rattle.std.specs.Prelude.{◌≡◌, if◌then◌else◌};
 ghost use Rattle.sx_machine.specs.Registers.{onward};
 ghost use Rattle.sx_machine.specs.Rows.{jump_taken, distance, jump};
 ghost use Rattle.sx_executor.specs.Machine.{RunsPlan};
+ghost use Rattle.sx_core.specs.Quickly.{RunsQuietly};
 
 use sx_alu::StatusBits;
 use sx_bus::Bus;
 use sx_executor::Executor;
 use sx_rules::Violation;
 
+#[inline(always)]
 fn taken(condition: u8, flags: StatusBits) -> bool
     ensures { result ≡ jump_taken condition flags }
 {
@@ -33,6 +35,7 @@ fn distance(offset: i16) -> u16
 }
 
 /// Where PC goes.
+#[inline(always)]
 fn target(is_taken: bool, offset: i16, next: u16) -> u16
     ensures { result ≡ (if is_taken then onward next (distance offset) else next) }
 {
@@ -43,7 +46,17 @@ fn target(is_taken: bool, offset: i16, next: u16) -> u16
     }
 }
 
-/// A jump; `next` is the address after it. The error is the instruction's first violation.
+/// A jump; `next` is the address after it.
+#[inline(always)]
+pub fn jump_quietly<B: Bus>(executor: &mut Executor<B>, condition: u8, offset: i16, next: u16)
+    ensures { RunsQuietly (jump condition offset executor.old.regs next) executor.old
+        executor.new }
+{
+    let is_taken = taken(condition, executor.flags());
+    executor.set_pc(target(is_taken, offset, next));
+}
+
+/// The same with an answer: it has no violation.
 pub fn jump<B: Bus>(
     executor: &mut Executor<B>,
     condition: u8,
@@ -53,7 +66,6 @@ pub fn jump<B: Bus>(
     ensures { RunsPlan (jump condition offset executor.old.regs next) executor.old result
         executor.new }
 {
-    let is_taken = taken(condition, executor.flags());
-    executor.set_pc(target(is_taken, offset, next));
+    jump_quietly(executor, condition, offset, next);
     Ok(())
 }

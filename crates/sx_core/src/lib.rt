@@ -7,11 +7,13 @@
 //! that of an interrupt (`Acts.antt`) and the executor (`Run.antt`). Nothing here takes memory.
 #![tactic(auto)]
 
+pub use quick::{Stepped, step_quick};
 pub use step::{interrupt, step_plain};
 
 mod jump;
 mod one_operand;
 mod operand;
+mod quick;
 mod step;
 #[cfg(test)]
 mod tests;

@@ -11,6 +11,7 @@ ghost use Rattle.sx_executor.specs.Machine.{ran, RunsPlan};
 
 use crate::jump::jump;
 use crate::one_operand::{one, reti};
+use crate::quick::{Stepped, step_quick};
 use crate::two_operands::two;
 use sx_bus::Bus;
 use sx_executor::registers::{PC, SP, SR};
@@ -108,7 +109,22 @@ fn step_decoded<B: Bus>(executor: &mut Executor<B>, decoded: Decoded) -> Result<
 fn step_anew<B: Bus>(executor: &mut Executor<B>, first: u16) -> Result<(), Violation>
     ensures { RunsPlan (program first executor.old.regs) executor.old result executor.new }
 {
-    let decoded = executor.decode(first).ok_or(Violation::Illegal)?;
+    let pc = executor.register(PC);
+    let decoded = executor.decode(pc, first).ok_or(Violation::Illegal)?;
+    step_decoded(executor, decoded)
+}
+
+/// Executes the instruction at PC with this first word, where no shortcut of it is kept for PC. Its
+/// code stays out of the way of what most steps do.
+#[inline(never)]
+pub fn step_long<B: Bus>(executor: &mut Executor<B>, first: u16) -> Result<(), Violation>
+    ensures { RunsPlan (program first executor.old.regs) executor.old result executor.new }
+{
+    let pc = executor.register(PC);
+    let Some(decoded) = executor.kept(pc, first) else {
+        return step_anew(executor, first);
+    };
+    let decoded = *decoded;
     step_decoded(executor, decoded)
 }
 
@@ -116,49 +132,13 @@ fn step_anew<B: Bus>(executor: &mut Executor<B>, first: u16) -> Result<(), Viola
 /// illegal here. After a violation nothing is said of registers and memory, and the devices may
 /// have lost a fresh mark: the caller resets the node. The instructions are those of TI's
 /// MSP430x2xx Family User's Guide, "CPU".
-///
-/// A jump, and an operation on words from a register or a constant onto a register, have one word
-/// and reach no memory: they get code of their own, which is short.
 #[inline(never)]
-#[tactic(auto, unfolding(sx_machine::specs::Rows::program, sx_isa::specs::Reading::length_of))]
 pub fn step_plain<B: Bus>(executor: &mut Executor<B>, first: u16) -> Result<(), Violation>
     ensures { RunsPlan (program first executor.old.regs) executor.old result executor.new }
 {
-    let Some(decoded) = executor.kept(first) else {
-        return step_anew(executor, first);
-    };
-    if decoded.words != 1 {
-        let decoded = *decoded;
-        return step_decoded(executor, decoded);
-    }
-    let next = executor.register(PC).wrapping_add(2);
-    match decoded.instruction {
-        Instr::Jump { cond, offset } => {
-            executor.set_pc(next);
-            jump(executor, cond, offset, next)
-        }
-        Instr::Two {
-            op,
-            byte: false,
-            src: Operand::Reg(s),
-            dst: Operand::Reg(d),
-        } => {
-            executor.set_pc(next);
-            two(executor, op, true, Operand::Reg(s), Operand::Reg(d), next)
-        }
-        Instr::Two {
-            op,
-            byte: false,
-            src: Operand::Const(c),
-            dst: Operand::Reg(d),
-        } => {
-            executor.set_pc(next);
-            two(executor, op, true, Operand::Const(c), Operand::Reg(d), next)
-        }
-        _ => {
-            let decoded = *decoded;
-            step_decoded(executor, decoded)
-        }
+    match step_quick(executor, first) {
+        Stepped::Quiet => Ok(()),
+        Stepped::Answered(answer) => answer,
     }
 }
 

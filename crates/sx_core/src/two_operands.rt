@@ -31,8 +31,9 @@ pub fn calculated(
     calc_status(kind, wide, src, dst, flags)
 }
 
-/// The compiler makes code of its own for words and for bytes.
-fn computed_as<const WIDE: bool>(
+/// What an operation gives. The compiler makes code of its own for words and for bytes.
+#[inline(always)]
+pub fn computed_as<const WIDE: bool>(
     op: Op2,
     src: u16,
     dst: u16,
@@ -55,7 +56,7 @@ fn computed_as<const WIDE: bool>(
     }
 }
 
-#[inline(always)]
+#[inline(never)]
 fn computed(op: Op2, wide: bool, src: u16, dst: u16, flags: StatusBits) -> (u16, StatusBits)
     requires src { src < limit wide }
     requires dst { dst < limit wide }
@@ -68,13 +69,13 @@ fn computed(op: Op2, wide: bool, src: u16, dst: u16, flags: StatusBits) -> (u16,
     }
 }
 
-fn reads(op: Op2) -> bool
+pub fn reads(op: Op2) -> bool
     ensures { result ≡ reads op }
 {
     !matches!(op, Op2::Mov)
 }
 
-fn writes(op: Op2) -> bool
+pub fn writes(op: Op2) -> bool
     ensures { result ≡ writes op }
 {
     !matches!(op, Op2::Cmp | Op2::Bit)
@@ -122,7 +123,7 @@ pub fn into_memory<B: Bus>(
 }
 
 #[inline(always)]
-fn on_memory<B: Bus>(
+pub fn on_memory<B: Bus>(
     executor: &mut Executor<B>,
     op: Op2,
     wide: bool,

@@ -1,0 +1,299 @@
+//! The short way of a step. It is taken where a shortcut of the first word is kept for PC.
+//!
+//! A shortcut's form leads to code of its own, which is short: it reads and writes registers, or a
+//! word of memory on a page that no section meets, where one test is all that is asked. The clauses
+//! name the same rows as those of the long way.
+
+ghost use Rattle.std.specs.Prelude.{◌≡◌, ◌<◌, ◌+◌, ℕ, true, None, List};
+ghost use Rattle.sx_isa.specs.Reading.{length_of};
+ghost use Rattle.sx_isa.specs.Extending.{extended};
+ghost use Rattle.sx_isa.specs.declared.instruction.Operand.TheVariants.{Reg, Const, Indexed};
+ghost use Rattle.sx_isa.specs.declared.instruction.Operand.TheVariants.{Symbolic, Absolute};
+ghost use Rattle.sx_alu.specs.Table.{limit};
+ghost use Rattle.sx_rules.specs.declared.access.Access.{Access};
+ghost use Rattle.sx_machine.specs.Registers.{onward, at_pc, reg};
+ghost use Rattle.sx_machine.specs.Rows.{row, with_words, program, jump, two, onto, on_memory};
+ghost use Rattle.sx_machine.specs.Rows.{into_register};
+ghost use Rattle.sx_machine.specs.Run.{may_at, device_of};
+ghost use Rattle.sx_machine.specs.Answers.{followed};
+ghost use Rattle.sx_executor.specs.Machine.{ran, RunsPlan};
+ghost use Rattle.sx_executor.specs.Shortcuts.{instruction_of, words_of, is_general};
+ghost use Rattle.sx_core.specs.Quickly.{RunsQuietly, EndsStep};
+
+use crate::jump::jump_quietly;
+use crate::step::step_long;
+use crate::two_operands::{computed_as, on_memory, reads, writes};
+use sx_alu::StatusBits;
+use sx_bus::Bus;
+use sx_executor::registers::{PC, cut};
+use sx_executor::{Executor, Form, Shortcut};
+use sx_isa::Op2;
+use sx_rules::Violation;
+
+/// How a step ended.
+pub enum Stepped {
+    /// The instruction was done, and touched no device.
+    Quiet,
+    /// It was done or ended in this violation, and may have touched devices.
+    Answered(Result<(), Violation>),
+}
+
+/// A jump; `next` is the address after it.
+#[inline(always)]
+fn jump_quickly<B: Bus>(
+    executor: &mut Executor<B>,
+    condition: u8,
+    offset: i16,
+    next: u16,
+) -> Stepped
+    ensures { EndsStep (jump condition offset (at_pc executor.old.regs next) next) executor.old
+        result executor.new }
+{
+    executor.set_pc(next);
+    jump_quietly(executor, condition, offset, next);
+    Stepped::Quiet
+}
+
+/// The end of an operation on a general register.
+#[inline(always)]
+fn into_general<B: Bus>(executor: &mut Executor<B>, written: bool, r: u8, value: (u16, StatusBits))
+    requires { is_general r ≡ true }
+    ensures { RunsQuietly (into_register written r value executor.old.regs) executor.old
+        executor.new }
+{
+    executor.set_flags(value.1);
+    if written {
+        executor.set_general(r, value.0);
+    }
+}
+
+/// An operation on words onto a general register.
+#[inline(always)]
+fn onto_general<B: Bus>(executor: &mut Executor<B>, op: Op2, src: u16, r: u8)
+    requires src { src < limit true }
+    requires general { is_general r ≡ true }
+    ensures { RunsQuietly (onto op true (Reg r) src executor.old.regs) executor.old executor.new }
+{
+    let old = executor.operand(true, r);
+    let value = computed_as::<true>(op, src, old, executor.flags());
+    into_general(executor, writes(op), r, value);
+}
+
+/// The same from a register; `next` is the address after the instruction.
+#[inline(always)]
+fn from_register<B: Bus>(
+    executor: &mut Executor<B>,
+    op: Op2,
+    src: u8,
+    dst: u8,
+    next: u16,
+) -> Stepped
+    requires { is_general dst ≡ true }
+    ensures { EndsStep (two op true (Reg src) (Reg dst) (at_pc executor.old.regs next) next)
+        executor.old result executor.new }
+{
+    executor.set_pc(next);
+    let value = executor.operand(true, src);
+    executor.set_pc(next);
+    onto_general(executor, op, value, dst);
+    Stepped::Quiet
+}
+
+/// The same from a constant.
+#[inline(always)]
+fn from_constant<B: Bus>(
+    executor: &mut Executor<B>,
+    op: Op2,
+    value: u16,
+    dst: u8,
+    next: u16,
+) -> Stepped
+    requires { is_general dst ≡ true }
+    ensures { EndsStep (two op true (Const value) (Reg dst) (at_pc executor.old.regs next) next)
+        executor.old result executor.new }
+{
+    executor.set_pc(next);
+    let value = cut(true, value);
+    executor.set_pc(next);
+    onto_general(executor, op, value, dst);
+    Stepped::Quiet
+}
+
+/// An operation on a word of memory that any code may reach and that is no device's: nothing is
+/// asked of the place again.
+#[inline(always)]
+fn on_clear<B: Bus>(executor: &mut Executor<B>, op: Op2, at: u16, src: u16)
+    requires right { (access : Access)
+        → may_at true executor.old.sections.live executor.old.own access at ≡ true }
+    requires memory { device_of executor.old.devices at ≡ None }
+    requires src { src < limit true }
+    ensures { RunsQuietly (on_memory op true at src executor.old.regs) executor.old executor.new }
+{
+    let flags = executor.flags();
+    if reads(op) {
+        let dst = executor.read(true, at);
+        let value = computed_as::<true>(op, src, dst, flags);
+        if writes(op) {
+            executor.write(true, at, value.0);
+        }
+        executor.set_flags(value.1);
+    } else {
+        let value = computed_as::<true>(op, src, 0, flags);
+        if writes(op) {
+            executor.write(true, at, value.0);
+        }
+        executor.set_flags(value.1);
+    }
+}
+
+/// An operation on a word of memory.
+#[inline(always)]
+fn on_word<B: Bus>(executor: &mut Executor<B>, op: Op2, at: u16, src: u16) -> Stepped
+    requires { src < limit true }
+    ensures { EndsStep (on_memory op true at src executor.old.regs) executor.old result
+        executor.new }
+{
+    if executor.is_clear(at) {
+        on_clear(executor, op, at, src);
+        return Stepped::Quiet;
+    }
+    Stepped::Answered(on_word_near(executor, op, at, src))
+}
+
+/// The same where a section may meet the page, or a device be there. Its code stays out of the way
+/// of what most steps do.
+#[inline(never)]
+fn on_word_near<B: Bus>(
+    executor: &mut Executor<B>,
+    op: Op2,
+    at: u16,
+    src: u16,
+) -> Result<(), Violation>
+    requires { src < limit true }
+    ensures { RunsPlan (on_memory op true at src executor.old.regs) executor.old result
+        executor.new }
+{
+    on_memory(executor, op, true, at, src)
+}
+
+/// Fetches the extension word of the instruction of two words at `pc`.
+#[inline(always)]
+#[tactic(auto, unfolding(sx_isa::specs::Reading::length_of))]
+fn fetch_second<B: Bus>(
+    executor: &Executor<B>,
+    shortcut: &Shortcut,
+    pc: u16,
+) -> Result<u16, Violation>
+    requires { words_of shortcut.now.form ≡ 2 }
+    ensures { (regs : List ℕ)
+        → ran (with_words (length_of shortcut.now.first) shortcut.now.first regs pc) executor.now
+        ≡ followed result (λ word. ran (row
+        (extended (instruction_of shortcut.now.form) word 0) regs (onward pc 4)) executor.now) }
+{
+    shortcut.reads_on();
+    executor.fetch(pc.wrapping_add(2))
+}
+
+/// An operation on words from a constant onto memory at an address, of the instruction at `pc`.
+#[inline(always)]
+fn onto_absolute<B: Bus>(
+    executor: &mut Executor<B>,
+    op: Op2,
+    value: u16,
+    at: u16,
+    pc: u16,
+) -> Stepped
+    ensures { EndsStep (two op true (Const value) (Absolute at)
+        (at_pc executor.old.regs (onward pc 2)) (onward pc 4)) executor.old result executor.new }
+{
+    executor.set_pc(pc.wrapping_add(2));
+    let value = cut(true, value);
+    executor.set_pc(pc.wrapping_add(4));
+    on_word(executor, op, at, value)
+}
+
+/// The address of the extension word plus that word, `x`. PC is after it.
+#[inline(always)]
+fn symbolic_place<B: Bus>(executor: &Executor<B>, x: u16) -> u16
+    ensures { result ≡ onward (reg executor.now.regs 0) (65534 + x) }
+{
+    executor.register(PC).wrapping_sub(2).wrapping_add(x)
+}
+
+/// The same at the extension word's address plus `x`.
+#[inline(always)]
+fn onto_symbolic<B: Bus>(
+    executor: &mut Executor<B>,
+    op: Op2,
+    value: u16,
+    x: u16,
+    pc: u16,
+) -> Stepped
+    ensures { EndsStep (two op true (Const value) (Symbolic x)
+        (at_pc executor.old.regs (onward pc 2)) (onward pc 4)) executor.old result executor.new }
+{
+    executor.set_pc(pc.wrapping_add(2));
+    let value = cut(true, value);
+    executor.set_pc(pc.wrapping_add(4));
+    let at = symbolic_place(executor, x);
+    on_word(executor, op, at, value)
+}
+
+/// The same at a register plus `x`.
+#[inline(always)]
+fn onto_indexed<B: Bus>(
+    executor: &mut Executor<B>,
+    op: Op2,
+    value: u16,
+    base: u8,
+    x: u16,
+    pc: u16,
+) -> Stepped
+    ensures { EndsStep (two op true (Const value) (Indexed base x)
+        (at_pc executor.old.regs (onward pc 2)) (onward pc 4)) executor.old result executor.new }
+{
+    executor.set_pc(pc.wrapping_add(2));
+    let value = cut(true, value);
+    executor.set_pc(pc.wrapping_add(4));
+    let at = executor.register(base).wrapping_add(x);
+    on_word(executor, op, at, value)
+}
+
+/// Executes the instruction at PC with this first word as `step_plain` does, and says where it
+/// knows that no device was touched.
+#[inline(always)]
+#[tactic(auto, unfolding(sx_machine::specs::Rows::program, sx_isa::specs::Reading::length_of))]
+pub fn step_quick<B: Bus>(executor: &mut Executor<B>, first: u16) -> Stepped
+    ensures { EndsStep (program first executor.old.regs) executor.old result executor.new }
+{
+    let pc = executor.register(PC);
+    let shortcut = executor.shortcut(pc);
+    if shortcut.first != first {
+        return Stepped::Answered(step_long(executor, first));
+    }
+    let next = pc.wrapping_add(2);
+    match shortcut.form {
+        Form::JumpNotEqual { offset } => jump_quickly(executor, 0, offset, next),
+        Form::JumpEqual { offset } => jump_quickly(executor, 1, offset, next),
+        Form::JumpNoCarry { offset } => jump_quickly(executor, 2, offset, next),
+        Form::JumpCarry { offset } => jump_quickly(executor, 3, offset, next),
+        Form::JumpNegative { offset } => jump_quickly(executor, 4, offset, next),
+        Form::JumpGreater { offset } => jump_quickly(executor, 5, offset, next),
+        Form::JumpLess { offset } => jump_quickly(executor, 6, offset, next),
+        Form::JumpAlways { offset } => jump_quickly(executor, 7, offset, next),
+        Form::Registers { op, src, dst } => from_register(executor, op, src, dst, next),
+        Form::Constant { op, value, dst } => from_constant(executor, op, value, dst, next),
+        Form::OntoIndexed { op, value, base } => match fetch_second(executor, shortcut, pc) {
+            Ok(x) => onto_indexed(executor, op, value, base, x, pc),
+            Err(violation) => Stepped::Answered(Err(violation)),
+        },
+        Form::OntoSymbolic { op, value } => match fetch_second(executor, shortcut, pc) {
+            Ok(x) => onto_symbolic(executor, op, value, x, pc),
+            Err(violation) => Stepped::Answered(Err(violation)),
+        },
+        Form::OntoAbsolute { op, value } => match fetch_second(executor, shortcut, pc) {
+            Ok(at) => onto_absolute(executor, op, value, at, pc),
+            Err(violation) => Stepped::Answered(Err(violation)),
+        },
+    }
+}
