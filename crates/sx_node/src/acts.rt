@@ -191,10 +191,13 @@ impl<B: Bus, T: Tag> Node<B, T> {
             result self.new }
     {
         self.executor.begin(0);
-        interrupt(&mut self.executor, line)?;
+        let done = interrupt(&mut self.executor, line);
+        let touch = self.executor.touches();
+        self.executor.begin(0);
+        done?;
         self.last = 0;
         Ok(Seen {
-            touch: self.executor.touches(),
+            touch,
             event: Event::Quiet,
         })
     }

@@ -9,6 +9,7 @@
 mod acts;
 mod copied;
 mod node;
+mod quick;
 mod step;
 #[cfg(test)]
 mod tests;

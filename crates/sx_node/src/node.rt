@@ -29,11 +29,13 @@ pub struct Node<B: Bus, T: Tag> {
 impl<B: Bus, T: Tag> Model for Node<B, T> {
     ghost use Rattle.std.specs.Prelude.{◌≡◌};
     ghost use Rattle.sx_machine.specs.State.{State};
+    ghost use Rattle.sx_machine.specs.Run.{untouched};
 
     ghost Value = { State };
 
-    // Between acts code outside every module has its turn, so no act reads by a module's right.
-    ghost invariant = { λ n. n.executor.own ≡ 0 };
+    // Between acts code outside every module has its turn, so no act reads by a module's right,
+    // and nothing was touched.
+    ghost invariant = { λ n. (n.executor.own ≡ 0) × (n.executor.touches ≡ untouched) };
 
     ghost view = { λ n. record {
       regs = n.executor.regs;

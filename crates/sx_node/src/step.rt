@@ -43,7 +43,7 @@ pub(crate) fn reset_by(violation: Violation) -> Seen
 }
 
 /// The code of the module instruction whose word it is, or None.
-fn code_of(word: u16) -> Option<u8>
+pub(crate) fn code_of(word: u16) -> Option<u8>
     ensures { MatchOption result (is_module_word word ≡ false) (λ code.
         (is_module_word word ≡ true) × (code ≡ word - 0x1380) × (is_code code ≡ true)) }
 {
@@ -124,7 +124,7 @@ impl<B: Bus, T: Tag> Node<B, T> {
     /// Whether no section meets the page of the word at an address. Then what a step asks of the
     /// sections needs no look at them.
     #[tactic(auto, using(sx_executor::proofs::Open::open_outside, sx_executor::proofs::Open::open_ordered, sx_executor::proofs::Open::open_holder))]
-    fn is_open(&self, at: u16) -> bool
+    pub(crate) fn is_open(&self, at: u16) -> bool
         ensures outside { IsTrue result → word_outside self.now.sections.live at ≡ true }
         ensures order { IsTrue result → in_order self.now.sections.live self.now.cur at ≡ true }
         ensures own { IsTrue result → holder self.now.sections.live at ≡ 0 }
@@ -174,7 +174,7 @@ impl<B: Bus, T: Tag> Node<B, T> {
 
     /// A module instruction. Its code stays out of the way of the plain ones'.
     #[inline(never)]
-    fn module_instruction(&mut self, own: u16, code: u8) -> Result<Seen, Violation>
+    pub(crate) fn module_instruction(&mut self, own: u16, code: u8) -> Result<Seen, Violation>
         requires own { own ≡ own_of self.old }
         requires code { is_code code ≡ true }
         ensures { Attempts self.old
