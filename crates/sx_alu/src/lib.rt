@@ -17,6 +17,3 @@ pub use calculation::Calc;
 pub use flags::Flags;
 pub use status::StatusBits;
 pub use table::{calc, calc_status};
-
-#[cfg(test)]
-mod tests;

@@ -17,5 +17,3 @@ mod copied;
 mod devices;
 mod flat;
 mod memory;
-#[cfg(test)]
-mod tests;

@@ -15,6 +15,4 @@ mod one_operand;
 mod operand;
 mod quick;
 mod step;
-#[cfg(test)]
-mod tests;
 mod two_operands;

@@ -21,6 +21,3 @@ pub use extension::{with_word, with_words};
 pub use instruction::{Instr, Op1, Op2, Operand, Words};
 pub use reading::{decode, length};
 pub use writing::{encode, valid};
-
-#[cfg(test)]
-mod tests;

@@ -8,7 +8,7 @@ use Rattle.sx_rules.specs.declared.access.Violation.TheVariants as bad
 use Rattle.sx_rules.specs.declared.section.Section.{Section}
 use Rattle.sx_rules.specs.declared.section.Layout.{Layout}
 use Rattle.sx_rules.specs.Access.{may, allows, in_public, in_private, at_entry, outside_private, in_order, Lives}
-use Rattle.sx_rules.specs.Admission.{apart, good_bounds, even as is_even}
+use Rattle.sx_rules.specs.Admission.{apart, good_bounds, is_even}
 use Rattle.sx_machine.specs.Memory.{even}
 use Rattle.sx_bus.specs.declared.devices.Window.{Window}
 use Rattle.sx_bus.specs.Devices.{places_of, on_word, device_at}

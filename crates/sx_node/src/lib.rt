@@ -11,8 +11,6 @@ mod copied;
 mod node;
 mod quick;
 mod step;
-#[cfg(test)]
-mod tests;
 
 pub use node::Node;
 pub use sx_machine::{Event, Exchange, Refused, Seen, Touch};

@@ -15,5 +15,3 @@ pub use bus::PagedBus;
 mod bus;
 pub mod laws;
 mod paged;
-#[cfg(test)]
-mod tests;

@@ -13,5 +13,3 @@ pub use arena::Arena;
 
 mod arena;
 mod block;
-#[cfg(test)]
-mod tests;

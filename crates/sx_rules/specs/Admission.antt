@@ -16,14 +16,14 @@ abbrev pub apart : ℕ → ℕ → ℕ → ℕ → Bool
 apart from to start end = nat_le to start || nat_le end from
 
 -- an even number
-abbrev pub even : ℕ → Bool
-even n = (n % 2) == 0
+abbrev pub is_even : ℕ → Bool
+is_even n = (n % 2) == 0
 
 -- each bound is even, and each end is above its start
 abbrev pub good_bounds : Layout → Bool
 good_bounds l =
     nat_lt l.pub_from l.pub_to && (nat_lt l.priv_from l.priv_to
-    && (even l.pub_from && (even l.pub_to && (even l.priv_from && even l.priv_to))))
+    && (is_even l.pub_from && (is_even l.pub_to && (is_even l.priv_from && is_even l.priv_to))))
 
 -- the public and the private part don't meet
 abbrev pub parts_apart : Layout → Bool

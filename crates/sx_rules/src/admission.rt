@@ -2,7 +2,7 @@
 
 ghost use Rattle.std.specs.Prelude.{◌≡◌, ◌+◌, ◌<◌, ◌≤◌, List, ℕ, length, IfNone};
 ghost use Rattle.std.specs.List.{list_all};
-ghost use Rattle.sx_rules.specs.Admission.{apart, even, good_bounds, parts_apart, clear_of};
+ghost use Rattle.sx_rules.specs.Admission.{apart, is_even, good_bounds, parts_apart, clear_of};
 ghost use Rattle.sx_rules.specs.Admission.{no_overlap, no_device, refusal};
 
 use crate::section::{Layout, Section};
@@ -34,8 +34,8 @@ fn apart(from: u16, to: u16, start: u16, end: u16) -> bool
     to <= start || end <= from
 }
 
-fn even(bound: u16) -> bool
-    ensures { result ≡ even bound }
+fn is_even(bound: u16) -> bool
+    ensures { result ≡ is_even bound }
 {
     bound % 2 == 0
 }
@@ -46,10 +46,10 @@ impl Layout {
     {
         self.pub_from < self.pub_to
             && self.priv_from < self.priv_to
-            && even(self.pub_from)
-            && even(self.pub_to)
-            && even(self.priv_from)
-            && even(self.priv_to)
+            && is_even(self.pub_from)
+            && is_even(self.pub_to)
+            && is_even(self.priv_from)
+            && is_even(self.priv_to)
     }
 
     fn has_parts_apart(&self) -> bool

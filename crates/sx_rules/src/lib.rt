@@ -22,5 +22,3 @@ pub mod laws;
 mod pages;
 mod section;
 mod table;
-#[cfg(test)]
-mod tests;

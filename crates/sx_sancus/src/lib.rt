@@ -15,8 +15,6 @@ mod identity;
 mod inputs;
 mod protect;
 mod step;
-#[cfg(test)]
-mod tests;
 mod text;
 mod wrapping;
 

@@ -21,7 +21,5 @@ mod hmac;
 mod keys;
 pub mod laws;
 mod mac;
-#[cfg(test)]
-mod tests;
 mod weak;
 mod wrapping;

@@ -1,6 +1,6 @@
 //! Rows of the calculation table worked by hand, and flags in status registers.
 
-use crate::{Calc, Flags, StatusBits, calc};
+use sx_alu::{Calc, Flags, StatusBits, calc};
 
 const CLEAR: Flags = Flags {
     c: false,

@@ -1,12 +1,12 @@
 //! Each call once. What no clause says is that `new` and `copy` can succeed, which page is taken,
 //! and that an arena and its copy share no byte.
 
-use super::Arena;
+use std::process::Abort;
 use std::test::Fail;
+use sx_pages::Arena;
 
-#[test]
-fn every_page_is_taken_once(rt: HostRuntime) -> Result<(), Fail> {
-    let mut arena = Arena::new(rt.alloc())?;
+/// Each page is taken once, and then none.
+fn gives_each_page(rt: &impl Abort, arena: &mut Arena) {
     let mut taken = [false; 256];
     for _ in 0..256 {
         if let Some(page) = arena.take() {
@@ -17,12 +17,17 @@ fn every_page_is_taken_once(rt: HostRuntime) -> Result<(), Fail> {
     assert!(rt; taken.iter().all(|t| *t));
     assert!(rt; arena.take() == None);
     assert_eq!(rt; arena.free(), 0);
-    Ok(())
 }
 
 #[test]
-fn a_released_page_is_taken_again_as_zeros(rt: HostRuntime) -> Result<(), Fail> {
+fn every_page_is_taken_once(rt: HostRuntime) -> Result<(), Fail> {
     let mut arena = Arena::new(rt.alloc())?;
+    gives_each_page(&rt, &mut arena);
+    Ok(())
+}
+
+/// A page that was written and released is taken again as zeros.
+fn gives_zeros_again(rt: &impl Abort, arena: &mut Arena) {
     for _ in 0..256 {
         let _page = arena.take();
     }
@@ -38,7 +43,23 @@ fn a_released_page_is_taken_again_as_zeros(rt: HostRuntime) -> Result<(), Fail> 
     if arena.live(5) {
         assert_eq!(rt; arena.read(5, 0), 0);
     }
+}
+
+#[test]
+fn a_released_page_is_taken_again_as_zeros(rt: HostRuntime) -> Result<(), Fail> {
+    let mut arena = Arena::new(rt.alloc())?;
+    gives_zeros_again(&rt, &mut arena);
     Ok(())
+}
+
+/// Writes a byte of a page that both have in the second alone.
+fn writes_the_copy(rt: &impl Abort, arena: &Arena, copy: &mut Arena, page: u8) {
+    assert!(rt; arena.live(page) && copy.live(page));
+    if arena.live(page) && copy.live(page) {
+        copy.write(page, 255, 4);
+        assert_eq!(rt; arena.read(page, 255), 3);
+        assert_eq!(rt; copy.read(page, 255), 4);
+    }
 }
 
 #[test]
@@ -49,12 +70,7 @@ fn a_copy_shares_no_page(rt: HostRuntime) -> Result<(), Fail> {
         arena.write(page, 255, 3);
     }
     let mut copy = arena.copy(rt.alloc())?;
-    assert!(rt; arena.live(page) && copy.live(page));
-    if arena.live(page) && copy.live(page) {
-        copy.write(page, 255, 4);
-        assert_eq!(rt; arena.read(page, 255), 3);
-        assert_eq!(rt; copy.read(page, 255), 4);
-    }
+    writes_the_copy(&rt, &arena, &mut copy, page);
     let next = arena.take();
     assert!(rt; next.is_some() && copy.take() == next);
     Ok(())

@@ -1,8 +1,8 @@
 //! Each call once: what no clause says is that the constructors can succeed.
 
-use super::{Bus, Copied, FlatBus, Kind, Windows};
 use std::process::Abort;
 use std::test::Fail;
+use sx_bus::{Bus, Copied, FlatBus, Kind, Windows};
 
 fn writes_and_wipes<B: Bus>(rt: &impl Abort, bus: &mut B) {
     bus.put(0xFFFF, 7);
@@ -23,12 +23,8 @@ fn flat_memory(rt: HostRuntime) -> Result<(), Fail> {
     Ok(())
 }
 
-#[test]
-fn devices(rt: HostRuntime) -> Result<(), Fail> {
-    let mut windows = Windows::new(
-        rt.alloc(),
-        &[(0x1000, Kind::Sensor), (0x1002, Kind::Actuator)],
-    )?;
+/// What stands at bytes beside a sensor's word and an actuator's, the first at 0x1000.
+fn finds(rt: &impl Abort, windows: &Windows) {
     assert!(rt; windows.places() == [0x1000, 0x1002].as_slice());
     for (place, device) in [
         (0x0FFF, None),
@@ -39,6 +35,15 @@ fn devices(rt: HostRuntime) -> Result<(), Fail> {
     ] {
         assert!(rt; windows.at(place) == device);
     }
+}
+
+#[test]
+fn devices(rt: HostRuntime) -> Result<(), Fail> {
+    let mut windows = Windows::new(
+        rt.alloc(),
+        &[(0x1000, Kind::Sensor), (0x1002, Kind::Actuator)],
+    )?;
+    finds(&rt, &windows);
     windows.sense(0, 7);
     assert!(rt; windows.get(0).fresh);
     assert_eq!(rt; windows.get(0).value, 7);

@@ -1,6 +1,6 @@
 //! Words worked by hand from the format tables, and how many first words are legal.
 
-use crate::{Instr, Op1, Op2, Operand, decode, encode, length, valid, with_words};
+use sx_isa::{Instr, Op1, Op2, Operand, decode, encode, length, valid, with_words};
 
 // Words that were assembled by hand from the format's tables.
 #[test]

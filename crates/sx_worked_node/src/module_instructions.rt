@@ -3,7 +3,6 @@
 ghost use Rattle.std.specs.Prelude.{◌≡◌, true};
 ghost use Rattle.sx_machine.specs.Modules.{is_code};
 
-use super::{SancusEvent, step_sancus};
 use std::alloc::Global;
 use std::process::Abort;
 use std::test::Fail;
@@ -11,6 +10,7 @@ use sx_bus::{FlatBus, Kind, Windows};
 use sx_executor::Executor;
 use sx_machine::Exchange;
 use sx_rules::{Layout, Violation};
+use sx_sancus::{SancusEvent, step_sancus};
 use sx_tag::Weak;
 
 const OWN: Layout = Layout {
@@ -125,9 +125,8 @@ fn is_code(code: u8) -> bool
     code < 8 && code != 3
 }
 
-#[test]
-fn violations(rt: HostRuntime) -> Result<(), Fail> {
-    let mut parts = Parts::new(&rt, rt.alloc())?;
+/// Each violation of wrap and unwrap.
+fn violates(rt: &impl Abort, parts: &mut Parts) {
     for (operands, violation) in [
         // the body passes the end of memory, also beside a header on the device
         ([0, 0x710, 6, 0xFFFF, 2, 0x720, 0x730], Violation::Range),
@@ -149,12 +148,17 @@ fn violations(rt: HostRuntime) -> Result<(), Fail> {
     let last = [0, 0x710, 0, 0xFFFE, 2, 0x720, 0x730];
     assert!(rt; parts.run(1, 4, last) == Ok(SancusEvent::Wrapped));
     assert!(rt; parts.exchange.own_key);
-    Ok(())
 }
 
 #[test]
-fn wrap_and_unwrap(rt: HostRuntime) -> Result<(), Fail> {
+fn violations(rt: HostRuntime) -> Result<(), Fail> {
     let mut parts = Parts::new(&rt, rt.alloc())?;
+    violates(&rt, &mut parts);
+    Ok(())
+}
+
+/// A wrap, its unwrap, and an unwrap under a wrong tag.
+fn wraps_and_unwraps(rt: &impl Abort, parts: &mut Parts) {
     parts.put(0, 0x200, &[0xC4; 16]);
     parts.put(0, 0x210, &[3, 0, 1, 0, 1, 0]);
     parts.put(0, 0x220, &[7, 0]);
@@ -180,12 +184,17 @@ fn wrap_and_unwrap(rt: HostRuntime) -> Result<(), Fail> {
     assert!(rt; parts.holds(0x250, &[5, 0]));
     assert_eq!(rt; parts.answer(), [0x602, 0]);
     assert_eq!(rt; parts.exchange, NO_EXCHANGE);
-    Ok(())
 }
 
 #[test]
-fn attest_and_ids(rt: HostRuntime) -> Result<(), Fail> {
+fn wrap_and_unwrap(rt: HostRuntime) -> Result<(), Fail> {
     let mut parts = Parts::new(&rt, rt.alloc())?;
+    wraps_and_unwraps(&rt, &mut parts);
+    Ok(())
+}
+
+/// The answers of attest, get-id and get-caller-id.
+fn attests(rt: &impl Abort, parts: &mut Parts) {
     // the key's sum is 0x10, the label 0x41, and the sum of the layout of OTHER 0x6A
     parts.put(0, 0x200, &[0xBB; 16]);
     for (own, code, at, answer) in [
@@ -203,12 +212,17 @@ fn attest_and_ids(rt: HostRuntime) -> Result<(), Fail> {
         assert!(rt; ended == Ok(SancusEvent::Quiet));
         assert_eq!(rt; parts.answer(), [0x602, answer]);
     }
-    Ok(())
 }
 
 #[test]
-fn protect_and_unprotect(rt: HostRuntime) -> Result<(), Fail> {
+fn attest_and_ids(rt: HostRuntime) -> Result<(), Fail> {
     let mut parts = Parts::new(&rt, rt.alloc())?;
+    attests(&rt, &mut parts);
+    Ok(())
+}
+
+/// A module goes, and another is protected over its place.
+fn protects_and_unprotects(rt: &impl Abort, parts: &mut Parts) {
     parts.put(1, 0x73F, &[5, 6]);
     assert!(rt; parts.run(0, 0, [0; 7]) == Ok(SancusEvent::Quiet));
     assert_eq!(rt; parts.executor.register(15), 0);
@@ -235,5 +249,11 @@ fn protect_and_unprotect(rt: HostRuntime) -> Result<(), Fail> {
         [parts.executor.register(14), parts.executor.register(15)],
         [2, 0]
     );
+}
+
+#[test]
+fn protect_and_unprotect(rt: HostRuntime) -> Result<(), Fail> {
+    let mut parts = Parts::new(&rt, rt.alloc())?;
+    protects_and_unprotects(&rt, &mut parts);
     Ok(())
 }

@@ -1,7 +1,7 @@
 //! Each refusal once, and the access table's rows.
 
-use super::{Access, Layout, Refusal, Table};
 use std::process::Abort;
+use sx_rules::{Access, Layout, Refusal, Table};
 
 const KEY: [u8; 16] = [0; 16];
 
@@ -21,9 +21,8 @@ const MODULE: Layout = Layout {
     priv_to: 0x710,
 };
 
-#[test]
-fn refusals_by_the_layout(rt: HostRuntime) {
-    let mut table = Table::new();
+/// Each refusal that a layout alone has, beside a module that stands.
+fn refuses_layouts(rt: &impl Abort, table: &mut Table) {
     assert!(rt; table.admit(MODULE, 1, KEY, &[0x700]) == Ok(1));
     for (refused, refusal) in [
         (layout(0x601, 0x608, 0x700, 0x710), Refusal::Bounds),
@@ -38,8 +37,13 @@ fn refusals_by_the_layout(rt: HostRuntime) {
 }
 
 #[test]
-fn refusal_of_a_ninth(rt: HostRuntime) {
+fn refusals_by_the_layout(rt: HostRuntime) {
     let mut table = Table::new();
+    refuses_layouts(&rt, &mut table);
+}
+
+/// Eight modules, a ninth that is refused, and one in the place of the third.
+fn refuses_a_ninth(rt: &impl Abort, table: &mut Table) {
     for i in 0..8u16 {
         let from = 0x1000 + 0x100 * i;
         let placed = layout(from, from + 0x10, from + 0x80, from + 0x90);
@@ -54,8 +58,13 @@ fn refusal_of_a_ninth(rt: HostRuntime) {
 }
 
 #[test]
-fn refusal_once_the_ids_are_used(rt: HostRuntime) {
+fn refusal_of_a_ninth(rt: HostRuntime) {
     let mut table = Table::new();
+    refuses_a_ninth(&rt, &mut table);
+}
+
+/// All ids are given, and then none.
+fn gives_each_id(rt: &impl Abort, table: &mut Table) {
     for id in 1..=65535u16 {
         assert!(rt; table.admit(MODULE, 1, KEY, &[]) == Ok(id));
         assert!(rt; table.remove(id));
@@ -63,13 +72,18 @@ fn refusal_once_the_ids_are_used(rt: HostRuntime) {
     assert!(rt; table.admit(MODULE, 1, KEY, &[]) == Err(Refusal::Ids));
 }
 
+#[test]
+fn refusal_once_the_ids_are_used(rt: HostRuntime) {
+    let mut table = Table::new();
+    gives_each_id(&rt, &mut table);
+}
+
 fn row(table: &Table, cur: u16, at: u16) -> [bool; 3] {
     [Access::Read, Access::Write, Access::Run].map(|access| table.may(cur, access, at))
 }
 
-#[test]
-fn access_table(rt: HostRuntime) {
-    let mut table = Table::new();
+/// The access table's rows, by own code and by other code.
+fn answers_by_the_table(rt: &impl Abort, table: &mut Table) {
     assert!(rt; table.admit(MODULE, 1, KEY, &[]) == Ok(1));
     for (own, other, at) in [
         ([true, false, true], [true, false, true], 0x600),
@@ -78,9 +92,9 @@ fn access_table(rt: HostRuntime) {
         ([true, true, false], [false, false, false], 0x70F),
         ([true, true, true], [true, true, true], 0x710),
     ] {
-        assert!(rt; row(&table, 1, at) == own);
-        assert!(rt; row(&table, 2, at) == other);
-        assert!(rt; row(&table, 0, at) == other);
+        assert!(rt; row(table, 1, at) == own);
+        assert!(rt; row(table, 2, at) == other);
+        assert!(rt; row(table, 0, at) == other);
     }
     assert_eq!(rt; table.holder(0x607), 1);
     assert_eq!(rt; table.holder(0x608), 0);
@@ -89,10 +103,14 @@ fn access_table(rt: HostRuntime) {
     assert!(rt; table.extends(1, 0x602) && !table.extends(0, 0x602));
 }
 
-// A module on three pages and one that shares the last of them; then the first goes.
 #[test]
-fn pages(rt: HostRuntime) {
+fn access_table(rt: HostRuntime) {
     let mut table = Table::new();
+    answers_by_the_table(&rt, &mut table);
+}
+
+/// A module on three pages and one that shares the last of them; then the first goes.
+fn knows_its_pages(rt: &impl Abort, table: &mut Table) {
     assert!(rt; table.is_open(0x600));
     assert!(rt; table.admit(layout(0x5FE, 0x702, 0x800, 0x810), 1, KEY, &[]) == Ok(1));
     assert!(rt; table.admit(layout(0x702, 0x710, 0x810, 0x820), 1, KEY, &[]) == Ok(2));
@@ -116,4 +134,10 @@ fn pages(rt: HostRuntime) {
     assert!(rt; table.remove(1));
     assert!(rt; table.is_open(0x600) && !table.is_open(0x700));
     assert_eq!(rt; [table.holder(0x700), table.holder(0x702)], [0, 2]);
+}
+
+#[test]
+fn pages(rt: HostRuntime) {
+    let mut table = Table::new();
+    knows_its_pages(&rt, &mut table);
 }

@@ -1,10 +1,10 @@
 //! Instructions worked by hand from the tables of TI's MSP430x2xx Family User's Guide, "CPU".
 
-use super::{interrupt, step_plain};
 use std::alloc::Global;
 use std::process::Abort;
 use std::test::Fail;
 use sx_bus::{Bus, Copied, FlatBus, Kind, Windows};
+use sx_core::{interrupt, step_plain};
 use sx_executor::Executor;
 use sx_executor::registers::PC;
 use sx_machine::Touch;
@@ -61,14 +61,23 @@ fn at_row(alloc: Global, words: &[u16], start: [u16; 3]) -> Result<Executor<Flat
     Ok(executor)
 }
 
+/// One step ends as the row says, and touches no device.
+fn ends(rt: &impl Abort, executor: &mut Executor<FlatBus>, end: &[u16; 6]) {
+    assert!(rt; stepped(executor) == Ok([Touch::Quiet; 2]));
+    let [pc, sp, sr, _, r4, _, r6, ..] = *executor.regs();
+    assert_eq!(rt; [pc, sp, r4, r6, sr, word(executor, 0x3FE)], *end);
+}
+
 fn works(rt: &impl Abort, alloc: Global, rows: &[Row]) -> Result<(), Fail> {
     for (words, start, end) in rows {
         let mut executor = at_row(alloc, words, *start)?;
-        assert!(rt; stepped(&mut executor) == Ok([Touch::Quiet; 2]));
-        let [pc, sp, sr, _, r4, _, r6, ..] = *executor.regs();
-        assert_eq!(rt; [pc, sp, r4, r6, sr, word(&executor, 0x3FE)], *end);
+        ends(rt, &mut executor, end);
     }
     Ok(())
+}
+
+fn is_illegal(rt: &impl Abort, executor: &mut Executor<FlatBus>) {
+    assert!(rt; stepped(executor) == Err(Violation::Illegal));
 }
 
 #[test]
@@ -78,7 +87,7 @@ fn worked_instructions(rt: HostRuntime) -> Result<(), Fail> {
     works(&rt, rt.alloc(), &JUMPS)?;
     for illegal in [0x0000, 0xA506, 0x1380] {
         let mut executor = at_row(rt.alloc(), &[illegal], [0; 3])?;
-        assert!(rt; stepped(&mut executor) == Err(Violation::Illegal));
+        is_illegal(&rt, &mut executor);
     }
     Ok(())
 }
@@ -244,36 +253,48 @@ const JUMPS: [Row; 9] = [
     ([0x3FFF, 0, 0], [0, 0, 0], [0x1000, 0x400, 0x200, 0, 0, 0]),
 ];
 
-#[test]
-fn devices_and_interrupts(rt: HostRuntime) -> Result<(), Fail> {
-    let mut windows = Windows::new(
-        rt.alloc(),
-        &[(0x300, Kind::Sensor), (0x302, Kind::Actuator)],
-    )?;
+/// An executor with a sensor whose sample is 7, an actuator and code that moves the sample.
+fn with_devices(alloc: Global) -> Result<Executor<FlatBus>, Fail> {
+    let mut windows = Windows::new(alloc, &[(0x300, Kind::Sensor), (0x302, Kind::Actuator)])?;
     windows.sense(0, 7);
-    let mut bus = FlatBus::new(rt.alloc())?;
+    let mut bus = FlatBus::new(alloc)?;
     // MOV &0x300, &0x302; MOV.B &0x300, R6
     put_words(&mut bus, 0, &[0x4292, 0x300, 0x302, 0x4256, 0x300]);
     put_words(&mut bus, 0xFFE6, &[0x4401]);
-    let mut executor = Executor::new(bus, windows);
+    Ok(Executor::new(bus, windows))
+}
+
+/// The sample is moved once, and then 0; a read of a byte of the sensor is a violation.
+fn moves_the_sample(rt: &impl Abort, executor: &mut Executor<FlatBus>) {
     let read = Touch::DeviceRead {
         device: 0,
         value: 7,
     };
     let wrote = |value| Touch::DeviceWrite { device: 1, value };
-    assert!(rt; stepped(&mut executor) == Ok([read, wrote(0x8007)]));
+    assert!(rt; stepped(executor) == Ok([read, wrote(0x8007)]));
     executor.set_pc(0);
-    assert!(rt; stepped(&mut executor) == Ok([wrote(0), Touch::Quiet]));
-    assert!(rt; stepped(&mut executor) == Err(Violation::Device));
-    set_registers(&mut executor, &before([0, 0, 9]));
+    assert!(rt; stepped(executor) == Ok([wrote(0), Touch::Quiet]));
+    assert!(rt; stepped(executor) == Err(Violation::Device));
+}
+
+/// An interrupt pushes PC and SR and loads PC from its line's vector.
+fn is_interrupted(rt: &impl Abort, executor: &mut Executor<FlatBus>) {
+    set_registers(executor, &before([0, 0, 9]));
     executor.begin(0);
-    assert!(rt; interrupt(&mut executor, 3).is_ok());
+    assert!(rt; interrupt(executor, 3).is_ok());
     assert!(rt; executor.touches() == [Touch::Quiet; 2]);
     assert_eq!(rt;
         *executor.regs(),
         [0x4400, 0x3FC, 0, 0, 0x200, 0, 0, 0, 0, 0, 0, 0, 0, 0, 0, 0]
     );
-    assert_eq!(rt; word(&executor, 0x3FE), 0x1000);
-    assert_eq!(rt; word(&executor, 0x3FC), 9);
+    assert_eq!(rt; word(executor, 0x3FE), 0x1000);
+    assert_eq!(rt; word(executor, 0x3FC), 9);
+}
+
+#[test]
+fn devices_and_interrupts(rt: HostRuntime) -> Result<(), Fail> {
+    let mut executor = with_devices(rt.alloc())?;
+    moves_the_sample(&rt, &mut executor);
+    is_interrupted(&rt, &mut executor);
     Ok(())
 }

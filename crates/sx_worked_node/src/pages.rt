@@ -1,8 +1,8 @@
 //! Each call once. What no clause says is that `new` and `copy` can succeed.
 
-use super::PagedBus;
 use std::test::Fail;
 use sx_bus::{Bus, Copied, FlatBus};
+use sx_paged::PagedBus;
 
 #[test]
 fn pages_are_present_where_written(rt: HostRuntime) -> Result<(), Fail> {

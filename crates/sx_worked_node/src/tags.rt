@@ -2,7 +2,7 @@
 
 ghost use Rattle.std.specs.Prelude.{◌≤◌, length};
 
-use super::{
+use sx_tag::{
     Hmac, Tag, Weak, begin_attest_tag, feed_answer, finish_answer, layout_bytes, module_key,
     unwrap, wrap,
 };
