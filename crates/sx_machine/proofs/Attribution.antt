@@ -20,7 +20,8 @@ use Rattle.sx_machine.proofs.Devices.{some_inj, cleared_shapes, window_same}
 use Rattle.sx_machine.proofs.Sparse.{attempt_traced, interrupt_traced, done_is}
 use Rattle.sx_machine.proofs.Touches.{TracedBy}
 
-pub replays_outside : (live : List Section) (own : ℕ) (s : Section) → Lives live s → own ≢ s.id → (ts : List Touch) (first a b : List Window) → shapes first ≡ shapes a → Replays live own ts a b → NoneInside s first ts
+pub replays_outside : (live : List Section) (own : ℕ) (s : Section) → Lives live s → own ≢ s.id
+    → (ts : List Touch) (first a b : List Window) → shapes first ≡ shapes a → Replays live own ts a b → NoneInside s first ts
 replays_outside live own s l ne [] first a b e h = tt
 replays_outside live own s l ne (Quiet ∷ ts) first a b e h = replays_outside live own s l ne ts first a b e h
 replays_outside live own s l ne (DeviceRead k v ∷ ts) first a b e h = (
@@ -34,7 +35,8 @@ replays_outside live own s l ne (DeviceWrite k v ∷ ts) first a b e h = (
   replays_outside live own s l ne ts first a b e h.4,
 )
 
-settled_outside : (a : State) (s : Section) (o : Outcome) → Lives a.sections.live s → own_of a ≢ s.id → TracedBy a.sections.live (own_of a) a.devices o → NoneInside s a.devices (settled_step a o).shown.touch
+settled_outside : (a : State) (s : Section) (o : Outcome) → Lives a.sections.live s → own_of a ≢ s.id
+    → TracedBy a.sections.live (own_of a) a.devices o → NoneInside s a.devices (settled_step a o).shown.touch
 settled_outside a s (Finished regs x) l ne h = replays_outside a.sections.live (own_of a) s l ne x.touches a.devices a.devices x.devices refl h
 settled_outside a s (Violated v) l ne h = tt
 settled_outside a s (Module regs x t e c) l ne h = replays_outside a.sections.live (own_of a) s l ne x.touches a.devices a.devices x.devices refl h

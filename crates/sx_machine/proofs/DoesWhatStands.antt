@@ -36,7 +36,8 @@ Does o p = (o ≡ p) ⊎ ((o ≡ Violated bad.Fetch) ⊎ (o ≡ Violated bad.Dev
 fetch_cases : (live : List Section) (own at : ℕ) (x : Moment) → (fetch live own at x ≡ Ok (word x.mem at)) ⊎ ((fetch live own at x ≡ Err bad.Fetch) ⊎ (fetch live own at x ≡ Err bad.Device))
 fetch_cases live own at x = by (extends live own (even at) && extends live own (even at + 1)) (device_of x.devices at)
   where
-    by : (b : Bool) (d : Option (ℕ × Window)) → (let r : Result ℕ Violation = if b then fetch_place at d x else Err bad.Fetch in (r ≡ Ok (word x.mem at)) ⊎ ((r ≡ Err bad.Fetch) ⊎ (r ≡ Err bad.Device)))
+    by : (b : Bool) (d : Option (ℕ × Window)) → (let r : Result ℕ Violation = if b then fetch_place at d x else Err bad.Fetch in
+        (r ≡ Ok (word x.mem at)) ⊎ ((r ≡ Err bad.Fetch) ⊎ (r ≡ Err bad.Device)))
     by true None = inl refl
     by true (Some d) = inr (inr refl)
     by false d = inr (inl refl)
@@ -155,7 +156,8 @@ instruction_does : (mac : Mac) (a : State) (i : Instr) → AreRegisters a.regs �
 instruction_does mac a i r s = by (is_module_word (word a.mem (pc_of a))) refl
   where
     by : (b : Bool) → is_module_word (word a.mem (pc_of a)) ≡ b
-        → Does (cond b (module_instruction mac (word a.mem (pc_of a) - 0x1380) (given_at_pc mac a) a.mem) (exec a.sections (own_of a) (program (word a.mem (pc_of a)) a.regs) (start a))) (instruction_done mac a i)
+        → Does (cond b (module_instruction mac (word a.mem (pc_of a) - 0x1380) (given_at_pc mac a) a.mem)
+            (exec a.sections (own_of a) (program (word a.mem (pc_of a)) a.regs) (start a))) (instruction_done mac a i)
     by false e = not_module a i r s e mac
     by true e =
         let w = word a.mem (pc_of a) in

@@ -72,11 +72,14 @@ ReadFramed live own m0 (Err v) = Unit {0}
 sampled_framed : (live : List Section) (own : ℕ) (m0 : List ℕ) (device : ℕ) (w : Window) (x : Moment) → Framed live own m0 x.mem → ReadFramed live own m0 (Ok (sampled device w x))
 sampled_framed live own m0 device w x h = by w.fresh
   where
-    by : (b : Bool) → (let p : ℕ × Moment = if b then (0x8000 + w.value, record { mem = x.mem; devices = cleared x.devices device; touches = with_touch x.touches (DeviceRead device w.value) }) else (0, x) in Framed live own m0 p.1.mem)
+    by : (b : Bool) → (let p : ℕ × Moment = if b then (0x8000 + w.value,
+        record { mem = x.mem; devices = cleared x.devices device; touches = with_touch x.touches (DeviceRead device w.value) }) else
+        (0, x) in Framed live own m0 p.1.mem)
     by true = h
     by false = h
 
-device_framed : (live : List Section) (own : ℕ) (m0 : List ℕ) (wide : Bool) (device : ℕ) (w : Window) (k : Kind) (x : Moment) → Framed live own m0 x.mem → ReadFramed live own m0 (read_device wide device w k x)
+device_framed : (live : List Section) (own : ℕ) (m0 : List ℕ) (wide : Bool) (device : ℕ) (w : Window) (k : Kind) (x : Moment)
+    → Framed live own m0 x.mem → ReadFramed live own m0 (read_device wide device w k x)
 device_framed live own m0 true device w Sensor x h = sampled_framed live own m0 device w x h
 device_framed live own m0 false device w Sensor x h = tt
 device_framed live own m0 true device w Actuator x h = tt
@@ -97,7 +100,8 @@ abbrev WriteFramed : List Section → ℕ → List ℕ → Result Moment Violati
 WriteFramed live own m0 (Ok x) = Framed live own m0 x.mem
 WriteFramed live own m0 (Err v) = Unit {0}
 
-write_device_framed : (live : List Section) (own : ℕ) (m0 : List ℕ) (wide : Bool) (device v : ℕ) (k : Kind) (x : Moment) → Framed live own m0 x.mem → WriteFramed live own m0 (write_device wide device v k x)
+write_device_framed : (live : List Section) (own : ℕ) (m0 : List ℕ) (wide : Bool) (device v : ℕ) (k : Kind) (x : Moment)
+    → Framed live own m0 x.mem → WriteFramed live own m0 (write_device wide device v k x)
 write_device_framed live own m0 true device v Actuator x h = h
 write_device_framed live own m0 false device v Actuator x h = tt
 write_device_framed live own m0 true device v Sensor x h = tt
@@ -284,7 +288,8 @@ settled_framed a (Module regs x t e c) h = inl h
 pub steps_framed : StepsFramed
 steps_framed mac a p =
     settled_framed a (attempt mac a)
-    (framed_if a.sections.live (own_of a) a.mem (word_outside a.sections.live (pc_of a)) (ordered mac a (device_at a.devices (pc_of a))) bad.Fetch (λ _. ordered_framed mac a (device_at a.devices (pc_of a)) p))
+    (framed_if a.sections.live (own_of a) a.mem (word_outside a.sections.live (pc_of a))
+        (ordered mac a (device_at a.devices (pc_of a))) bad.Fetch (λ _. ordered_framed mac a (device_at a.devices (pc_of a)) p))
 
 interrupted_framed : (a : State) (o : Outcome) → FramedBy a.sections.live 0 a.mem o → Framed a.sections.live 0 a.mem (interrupted a o).state.mem ⊎ ((interrupted a o).state ≡ reset a)
 interrupted_framed a (Finished regs x) h = inl h

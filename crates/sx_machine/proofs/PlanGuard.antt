@@ -124,7 +124,8 @@ pub put_alike : (s : Section) (bs m n : List ℕ) (at : ℕ) → Alike s m n →
 put_alike s [] m n at h = h
 put_alike s (b ∷ bs) m n at h = put_alike s bs (slice_set m at (b % 256)) (slice_set n at (b % 256)) (at + 1) (set_alike s m n at (b % 256) h)
 
-put_each_kept : (live : List Section) (own : ℕ) (s : Section) → Lives live s → own ≢ s.id → (bs m0 m : List ℕ) (at : ℕ) → may_each live own Write at bs ≡ true → PrivateKept s m0 m → PrivateKept s m0 (put_bytes m at bs)
+put_each_kept : (live : List Section) (own : ℕ) (s : Section) → Lives live s → own ≢ s.id → (bs m0 m : List ℕ) (at : ℕ)
+    → may_each live own Write at bs ≡ true → PrivateKept s m0 m → PrivateKept s m0 (put_bytes m at bs)
 put_each_kept live own s l ne [] m0 m at h g = g
 put_each_kept live own s l ne (b ∷ bs) m0 m at h g =
     let p = and_parts (may live own Write at) (may_each live own Write (at + 1) bs) h in

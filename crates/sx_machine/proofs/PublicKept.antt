@@ -65,7 +65,8 @@ clear_of_range at n from to k e lo hi = elim (cases_lt k at) [
     | inl lt ↦
         elim (and_cases (nat_lt 0 n) (nat_lt at to && nat_lt from (at + n)) e) [
           | inl a ↦ absurd (omega (arith, ltb-false 0 n a, ge, lt))
-          | inr b ↦ elim (and_cases (nat_lt at to) (nat_lt from (at + n)) b) [ inl c ↦ absurd (omega (arith, ltb-false at to c, ge, hi)) | inr c ↦ absurd (omega (arith, ltb-false from (at + n) c, lo, lt)) ]
+          | inr b ↦ elim (and_cases (nat_lt at to) (nat_lt from (at + n)) b) [ inl c ↦ absurd
+              (omega (arith, ltb-false at to c, ge, hi)) | inr c ↦ absurd (omega (arith, ltb-false from (at + n) c, lo, lt)) ]
         ]
     | inr past ↦ inr past
   ]
@@ -79,7 +80,9 @@ put_apart a at n e = by (a.cur == 0) e
     second true t e = absurd cc
     second false t e = (or_parts (meets_public a.sections.live at n) _ (or_parts (passes_end at n) _ t).1).0
 
-    by : (b : Bool) → (if not b then Some refused.Busy else if passes_end at n || (meets_public a.sections.live at n || (meets_private a.sections.live at n || meets_device (places_of a.devices) at n)) then Some refused.Guarded else None) ≡ None → meets_public a.sections.live at n ≡ false
+    by : (b : Bool) → (if not b then Some refused.Busy else if passes_end at n ||
+        (meets_public a.sections.live at n || (meets_private a.sections.live at n || meets_device (places_of a.devices) at n)) then
+        Some refused.Guarded else None) ≡ None → meets_public a.sections.live at n ≡ false
     by true e = second _ refl e
     by false e = absurd cc
 
@@ -87,7 +90,8 @@ put_public : (a : State) (at : ℕ) (bytes : List ℕ) (s : Section) → Lives a
 put_public a at bytes s l e k p =
     let q = and_parts (nat_le s.layout.pub_from k) (nat_lt k s.layout.pub_to) p in
     put_other bytes a.mem at k (clear_of_range at (length bytes) s.layout.pub_from s.layout.pub_to k
-    (none_any (λ z. meets at (length bytes) z.layout.pub_from z.layout.pub_to) a.sections.live s (put_apart a at (length bytes) e) l) (leb-true s.layout.pub_from k q.0) (ltb-true k s.layout.pub_to q.1))
+    (none_any (λ z. meets at (length bytes) z.layout.pub_from z.layout.pub_to) a.sections.live s (put_apart a at (length bytes) e) l)
+        (leb-true s.layout.pub_from k q.0) (ltb-true k s.layout.pub_to q.1))
 
 unless_public : {T : Type 0} (o : Option Refused) (a : State) (done : Shown T) (s : Section) → (o ≡ None → KeepsIt s a done.state) → KeepsIt s a (unless o a done).state
 unless_public None a done s f = f refl
@@ -96,8 +100,12 @@ unless_public (Some r) a done s f = inl (λ k p. refl)
 pub public_kept : PublicKept
 public_kept mac Step a s pl l = framed_keeps (own_of a) s a (step mac a).state l (steps_framed mac a pl)
 public_kept mac Restart a s pl l = inr refl
-public_kept mac (PutAct at bytes) a s pl l = unless_public {T = Unit {0}} (put_refusal a at (length bytes)) a (record { state = record a { mem = put_bytes a.mem at bytes }; shown = tt }) s (λ e. inl (put_public a at bytes s l e))
-public_kept mac (Set r v) a s pl l = unless_public {T = Unit {0}} (busy a) a (record { state = record a { regs = set_reg a.regs r v; last = if r == 0 then 0 else a.last }; shown = tt }) s (λ e. inl (λ k p. refl))
+public_kept mac (PutAct at bytes) a s pl l = unless_public {T = Unit {0}} (put_refusal a at (length bytes)) a
+    (record { state = record a { mem = put_bytes a.mem at bytes }; shown = tt }) s (λ e. inl (put_public a at bytes s l e))
+public_kept mac (Set r v) a s pl l = unless_public {T = Unit {0}} (busy a) a
+    (record { state = record a { regs = set_reg a.regs r v; last = if r == 0 then 0 else a.last }; shown = tt }) s (λ e. inl (λ k p. refl))
 public_kept mac (Take at n) a s pl l = unless_public (take_refusal a at n) a (record { state = a; shown = bytes_from a.mem at n }) s (λ e. inl (λ k p. refl))
 public_kept mac (Sense device v) a s pl l = unless_public {T = Unit {0}} (busy a) a (record { state = record a { devices = with_sample a.devices device v }; shown = tt }) s (λ e. inl (λ k p. refl))
-public_kept mac (Interrupt line) a s pl l = unless_public (irq_refusal a) a (interrupted a (exec a.sections 0 (interrupt line a.regs) (start a))) s (λ e. framed_keeps 0 s a (interrupted a (exec a.sections 0 (interrupt line a.regs) (start a))).state l (interrupt_framed line a))
+public_kept mac (Interrupt line) a s pl l = unless_public (irq_refusal a) a
+    (interrupted a (exec a.sections 0 (interrupt line a.regs) (start a))) s
+    (λ e. framed_keeps 0 s a (interrupted a (exec a.sections 0 (interrupt line a.regs) (start a))).state l (interrupt_framed line a))

@@ -76,7 +76,9 @@ ReadRanged ds (Err v) = Unit {0}
 sampled_ranged : (ds : List Window) (k : ℕ) (w : Window) (x : Moment) → w.value < 32768 → Steady ds x → ReadRanged ds (Ok (sampled k w x))
 sampled_ranged ds k w x lt h = by w.fresh
   where
-    by : (b : Bool) → (let p : ℕ × Moment = if b then (0x8000 + w.value, record { mem = x.mem; devices = cleared x.devices k; touches = with_touch x.touches (DeviceRead k w.value) }) else (0, x) in (p.0 < 65536) × Steady ds p.1)
+    by : (b : Bool) → (let p : ℕ × Moment = if b then (0x8000 + w.value,
+        record { mem = x.mem; devices = cleared x.devices k; touches = with_touch x.touches (DeviceRead k w.value) }) else
+        (0, x) in (p.0 < 65536) × Steady ds p.1)
     by true = (omega (arith, lt), record { memory = h.memory; shapes = cleared_shapes x.devices k ∙ h.shapes; samples = cleared_samples x.devices k h.samples })
     by false = (omega arith, h)
 
@@ -123,7 +125,8 @@ FetchRanged (Ok w) = w < 65536
 FetchRanged (Err v) = Unit {0}
 
 fetch_ranged : (ds : List Window) (t : Sections) (own : ℕ) (at : ℕ) (x : Moment) → Steady ds x → FetchRanged (fetch t.live own at x)
-fetch_ranged ds t own at x h = by (Rattle.sx_rules.specs.Access.extends t.live own (Rattle.sx_machine.specs.Memory.even at) && Rattle.sx_rules.specs.Access.extends t.live own (Rattle.sx_machine.specs.Memory.even at + 1))
+fetch_ranged ds t own at x h = by (Rattle.sx_rules.specs.Access.extends t.live own
+    (Rattle.sx_machine.specs.Memory.even at) && Rattle.sx_rules.specs.Access.extends t.live own (Rattle.sx_machine.specs.Memory.even at + 1))
   where
     at_place : (o : Option (ℕ × Window)) → FetchRanged (fetch_place at o x)
     at_place None = word_small x.mem at h.memory
@@ -133,7 +136,8 @@ fetch_ranged ds t own at x h = by (Rattle.sx_rules.specs.Access.extends t.live o
     by true = at_place (device_of x.devices at)
     by false = tt
 
-read_by : (ds : List Window) (r : Result (ℕ × Moment) Violation) (f : ℕ → Moment → Outcome) → ReadRanged ds r → ((v : ℕ) (x : Moment) → v < 65536 → Steady ds x → RangedBy ds (f v x)) → RangedBy ds (after_read r f)
+read_by : (ds : List Window) (r : Result (ℕ × Moment) Violation) (f : ℕ → Moment → Outcome) → ReadRanged ds r
+    → ((v : ℕ) (x : Moment) → v < 65536 → Steady ds x → RangedBy ds (f v x)) → RangedBy ds (after_read r f)
 read_by ds (Ok r) f h g = g r.0 r.1 h.0 h.1
 read_by ds (Err v) f h g = tt
 
@@ -150,11 +154,13 @@ exec_ranged t own ds (Done regs) x r h = (r, h)
 exec_ranged t own ds (Tell regs e c) x r h = (r, h)
 exec_ranged t own ds (Stop v) x r h = tt
 exec_ranged t own ds (Fetch at k) x r h = fetch_by ds (fetch t.live own at x) (λ w. exec t own (k w) x) (fetch_ranged ds t own at x h) (λ w lt. exec_ranged t own ds (k w) x (r w lt) h)
-exec_ranged t own ds (Load wide at k) x r h = read_by ds (load t.live own wide at x) (λ v y. exec t own (k v) y) (load_ranged ds t own wide at x h) (λ v y lt g. exec_ranged t own ds (k v) y (r v lt) g)
+exec_ranged t own ds (Load wide at k) x r h = read_by ds (load t.live own wide at x) (λ v y. exec t own (k v) y)
+    (load_ranged ds t own wide at x h) (λ v y lt g. exec_ranged t own ds (k v) y (r v lt) g)
 exec_ranged t own ds (Store wide at v k) x r h = write_by ds (store t.live own wide at v x) (λ y. exec t own k y) (store_ranged ds t own wide at v x r.0 h) (λ y g. exec_ranged t own ds k y r.1 g)
 exec_ranged t own ds (Need b v k) x r h = ranged_outcome ds b (exec t own k x) v (exec_ranged t own ds k x r h)
 exec_ranged t own ds (Writable at n k) x r h = ranged_outcome ds (may_range t.live own Write at n) (exec t own k x) bad.Write (exec_ranged t own ds k x r h)
-exec_ranged t own ds (Bytes at n k) x r h = ranged_outcome ds (may_range t.live own Read at n) (exec t own (k (bytes_from x.mem at n)) x) bad.Read (exec_ranged t own ds (k (bytes_from x.mem at n)) x (r (bytes_from x.mem at n)) h)
+exec_ranged t own ds (Bytes at n k) x r h = ranged_outcome ds (may_range t.live own Read at n)
+    (exec t own (k (bytes_from x.mem at n)) x) bad.Read (exec_ranged t own ds (k (bytes_from x.mem at n)) x (r (bytes_from x.mem at n)) h)
 exec_ranged t own ds (Put at bs k) x r h =
     ranged_outcome ds (may_each t.live own Write at bs) (exec t own k (record x { mem = put_bytes x.mem at bs })) bad.Write
     (exec_ranged t own ds k (record x { mem = put_bytes x.mem at bs }) r (record { memory = put_small bs x.mem at h.memory; shapes = h.shapes; samples = h.samples }))
@@ -216,7 +222,8 @@ pub ranged_if : (b : Bool) (p q : Plan) → Ranged p → Ranged q → Ranged (if
 ranged_if true p q f g = f
 ranged_if false p q f g = g
 
-ranged_source : (wide : Bool) (o : Operand) (regs : List ℕ) (k : ℕ → List ℕ → Plan) → IsSource o → AreRegisters regs → ((v : ℕ) (r : List ℕ) → v < 65536 → AreRegisters r → Ranged (k v r)) → Ranged (from_source wide o regs k)
+ranged_source : (wide : Bool) (o : Operand) (regs : List ℕ) (k : ℕ → List ℕ → Plan) → IsSource o
+    → AreRegisters regs → ((v : ℕ) (r : List ℕ) → v < 65536 → AreRegisters r → Ranged (k v r)) → Ranged (from_source wide o regs k)
 ranged_source wide (Reg r) regs k o h f = f (cut_value wide (reg regs r)) regs (cut_small wide (reg regs r)) h
 ranged_source wide (Indexed r x) regs k o h f = λ v lt. f v regs lt h
 ranged_source wide (Symbolic x) regs k o h f = λ v lt. f v regs lt h
@@ -242,7 +249,8 @@ ranged_on op wide at s regs lt h =
 
 ranged_onto : (op : Op2) (wide : Bool) (o : Operand) (s : ℕ) (regs : List ℕ) → s < 65536 → AreRegisters regs → Ranged (onto op wide o s regs)
 ranged_onto op wide (Reg r) s regs lt h =
-    ranged_register (writes op) r (computed op wide s (cut_value wide (reg regs r)) (flags regs)) regs (computed_small op wide s (cut_value wide (reg regs r)) (flags regs) lt (cut_small wide (reg regs r))) h
+    ranged_register (writes op) r (computed op wide s (cut_value wide (reg regs r)) (flags regs)) regs
+        (computed_small op wide s (cut_value wide (reg regs r)) (flags regs) lt (cut_small wide (reg regs r))) h
 ranged_onto op wide (Indexed r x) s regs lt h = ranged_on op wide (onward (reg regs r) x) s regs lt h
 ranged_onto op wide (Symbolic x) s regs lt h = ranged_on op wide (onward (reg regs 0) (65534 + x)) s regs lt h
 ranged_onto op wide (Absolute x) s regs lt h = ranged_on op wide x s regs lt h
@@ -256,7 +264,8 @@ ranged_in kind wide at regs h v lt = ranged_memory wide true at (alu.row kind wi
 
 ranged_place : (kind : Calc) (wide : Bool) (o : Operand) (regs : List ℕ) (next : ℕ) → IsSource o → AreRegisters regs → Holds 0 next → Ranged (in_place kind wide o regs next)
 ranged_place kind wide (Reg r) regs next o h n =
-    ranged_register true r (alu.row kind wide (cut_value wide (reg regs r)) 0 (flags regs)) (at_pc regs next) (alu_small kind wide (cut_value wide (reg regs r)) 0 (flags regs) (cut_small wide (reg regs r)) (omega arith)) (at_pc_registers regs next h n)
+    ranged_register true r (alu.row kind wide (cut_value wide (reg regs r)) 0 (flags regs)) (at_pc regs next)
+        (alu_small kind wide (cut_value wide (reg regs r)) 0 (flags regs) (cut_small wide (reg regs r)) (omega arith)) (at_pc_registers regs next h n)
 ranged_place kind wide (Indexed r x) regs next o h n = ranged_in kind wide (onward (reg regs r) x) (at_pc regs next) (at_pc_registers regs next h n)
 ranged_place kind wide (Symbolic x) regs next o h n = ranged_in kind wide (onward (reg regs 0) x) (at_pc regs next) (at_pc_registers regs next h n)
 ranged_place kind wide (Absolute x) regs next o h n = ranged_in kind wide x (at_pc regs next) (at_pc_registers regs next h n)

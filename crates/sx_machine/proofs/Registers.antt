@@ -100,7 +100,9 @@ lowered_registers regs h =
 
 -- R4 to R15 hold every word
 pub free_of : (r v : ℕ) → 4 ≤ r → kept_in r v ≡ v
-free_of r v ge = by ((r == 0) || (r == 1)) (r == 2) (r == 3) (or_none (r == 0) (r == 1) (ne_eqb r 0 (λ e. omega (arith, ge, e))) (ne_eqb r 1 (λ e. omega (arith, ge, e)))) (ne_eqb r 2 (λ e. omega (arith, ge, e))) (ne_eqb r 3 (λ e. omega (arith, ge, e)))
+free_of r v ge = by ((r == 0) || (r == 1)) (r == 2) (r == 3)
+    (or_none (r == 0) (r == 1) (ne_eqb r 0 (λ e. omega (arith, ge, e))) (ne_eqb r 1 (λ e. omega (arith, ge, e))))
+    (ne_eqb r 2 (λ e. omega (arith, ge, e))) (ne_eqb r 3 (λ e. omega (arith, ge, e)))
   where
     by : (a b c : Bool) → a ≡ false → b ≡ false → c ≡ false → kept_by a b c v ≡ v
     by a b c x y z = rw (x, y, z) refl

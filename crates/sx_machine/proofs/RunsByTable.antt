@@ -57,7 +57,8 @@ runs_entry s cur k p e = rw (p, e) (or_right (not (in_public s k)) ((cur == s.id
 entry_word : (s : Section) (pc : ℕ) → pc ≡ s.layout.pub_from → (at_entry s pc ≡ true) × (at_entry s (pc + 1) ≡ true)
 entry_word s pc e = (
   and_from (nat_le s.layout.pub_from pc) (nat_lt pc (s.layout.pub_from + 2)) (le-leb s.layout.pub_from pc (omega (arith, e))) (lt-ltb pc (s.layout.pub_from + 2) (omega (arith, e))),
-  and_from (nat_le s.layout.pub_from (pc + 1)) (nat_lt (pc + 1) (s.layout.pub_from + 2)) (le-leb s.layout.pub_from (pc + 1) (omega (arith, e))) (lt-ltb (pc + 1) (s.layout.pub_from + 2) (omega (arith, e))),
+  and_from (nat_le s.layout.pub_from (pc + 1)) (nat_lt (pc + 1) (s.layout.pub_from + 2))
+      (le-leb s.layout.pub_from (pc + 1) (omega (arith, e))) (lt-ltb (pc + 1) (s.layout.pub_from + 2) (omega (arith, e))),
 )
 
 word_runs : (s : Section) (cur pc : ℕ) → pc % 2 ≡ 0 → s.layout.pub_from % 2 ≡ 0 → in_private s pc ≡ false → in_private s (pc + 1) ≡ false → InOrder cur pc s

@@ -51,7 +51,8 @@ sparse_if n last true p q f g = f
 sparse_if n last false p q f g = g
 
 -- after at most one access for the source, the rest may make one
-sparse_source : (wide : Bool) (o : Operand) (regs : List ℕ) (k : ℕ → List ℕ → Plan) → ((n : ℕ) (last : Last) (v : ℕ) (r : List ℕ) → Sparse (suc n) last (k v r)) → Sparse 2 None (from_source wide o regs k)
+sparse_source : (wide : Bool) (o : Operand) (regs : List ℕ) (k : ℕ → List ℕ → Plan)
+    → ((n : ℕ) (last : Last) (v : ℕ) (r : List ℕ) → Sparse (suc n) last (k v r)) → Sparse 2 None (from_source wide o regs k)
 sparse_source wide (Reg r) regs k f = f 1 None _ _
 sparse_source wide (Indexed r x) regs k f = inr (λ v. f 0 _ v _)
 sparse_source wide (Symbolic x) regs k f = inr (λ v. f 0 _ v _)
@@ -140,7 +141,8 @@ sparse_key : (g : Given) (own : Section) (rest : List ℕ → Plan) → ((k : Li
 sparse_key g own rest f = sparse_if 2 None (own_key g.regs) (rest own.key) (Bytes (slice_index g.regs 9) 16 rest) (f own.key) f
 
 sparse_inputs : (g : Given) (own : Section) (rest : List ℕ → List ℕ → List ℕ → Plan) → ((k a b : List ℕ) → Sparse 2 None (rest k a b)) → Sparse 2 None (with_inputs g own rest)
-sparse_inputs g own rest f = sparse_key g own (λ key. Bytes (slice_index g.regs 10) (slice_index g.regs 11) (λ ad. Bytes (slice_index g.regs 12) (slice_index g.regs 13) (λ text. rest key ad text))) (λ k a b. f k a b)
+sparse_inputs g own rest f = sparse_key g own (λ key. Bytes (slice_index g.regs 10) (slice_index g.regs 11)
+    (λ ad. Bytes (slice_index g.regs 12) (slice_index g.regs 13) (λ text. rest key ad text))) (λ k a b. f k a b)
 
 sparse_opened : (g : Given) (ad : List ℕ) (o : Option (List ℕ)) → Sparse 2 None (opened g ad o)
 sparse_opened g ad None = tt
@@ -148,7 +150,8 @@ sparse_opened g ad (Some body) = tt
 
 sparse_wrap : (mac : Mac) (g : Given) (own : Section) → Sparse 2 None (wrap mac g own)
 sparse_wrap mac g own = sparse_inputs g own
-    (λ key ad body. Put (slice_index g.regs 14) (wrapped mac key ad body).cipher (Put (slice_index g.regs 15) (wrapped mac key ad body).tag (Tell (concluded g.regs 1) (event.Wrapped g.own) (exchanged g.regs ad body))))
+    (λ key ad body. Put (slice_index g.regs 14) (wrapped mac key ad body).cipher
+        (Put (slice_index g.regs 15) (wrapped mac key ad body).tag (Tell (concluded g.regs 1) (event.Wrapped g.own) (exchanged g.regs ad body))))
     (λ k a b. tt)
 
 sparse_unwrap : (mac : Mac) (g : Given) (own : Section) → Sparse 2 None (unwrap mac g own)
@@ -166,7 +169,8 @@ sparse_module mac code g =
 
 -- The step.
 
-first_traced : (live : List Section) (own : ℕ) (x : Moment) → x.touches ≡ untouched → ((k : ℕ) (w : Window) → slice_get x.devices k ≡ Some w → (w.at % 2 ≡ 0) × (w.at < 0xFFE0)) → Traced live own 2 None x.devices x
+first_traced : (live : List Section) (own : ℕ) (x : Moment) → x.touches ≡ untouched
+    → ((k : ℕ) (w : Window) → slice_get x.devices k ≡ Some w → (w.at % 2 ≡ 0) × (w.at < 0xFFE0)) → Traced live own 2 None x.devices x
 first_traced live own x e ev = record {
   replays = subst (λ ts. Replays live own ts x.devices x.devices) (sym e) refl;
   room = subst (λ ts. Room 2 ts) (sym e) (tt, omega arith);
@@ -203,7 +207,8 @@ outcome_if : (live : List Section) (own : ℕ) (a : List Window) (b : Bool) (o :
 outcome_if live own a true o v h = h
 outcome_if live own a false o v h = tt
 
-instruction_traced : (mac : Mac) (s : State) → ((k : ℕ) (w : Window) → slice_get s.devices k ≡ Some w → (w.at % 2 ≡ 0) × (w.at < 0xFFE0)) → TracedBy s.sections.live (own_of s) s.devices (instruction mac s)
+instruction_traced : (mac : Mac) (s : State) → ((k : ℕ) (w : Window) → slice_get s.devices k ≡ Some w → (w.at % 2 ≡ 0) × (w.at < 0xFFE0))
+    → TracedBy s.sections.live (own_of s) s.devices (instruction mac s)
 instruction_traced mac s ev =
     let g = given_at_pc mac s in
     let live = s.sections.live in
@@ -211,16 +216,21 @@ instruction_traced mac s ev =
     let w = word s.mem (pc_of s) in
     let code = w - 0x1380 in
     either_traced live own s.devices (is_module_word w) (module_instruction mac code g s.mem) (exec s.sections own (program w s.regs) (start s))
-    (either_traced live own s.devices (code == 0) (unprotect g s.mem) (cond (code == 1) (protect mac g s.mem) (exec s.sections own (module_row mac code g) (untouched_with g s.mem))) (unprotect_traced g live own s.mem)
+    (either_traced live own s.devices (code == 0) (unprotect g s.mem)
+        (cond (code == 1) (protect mac g s.mem) (exec s.sections own (module_row mac code g) (untouched_with g s.mem)))
+        (unprotect_traced g live own s.mem)
     (either_traced live own s.devices (code == 1) (protect mac g s.mem) (exec s.sections own (module_row mac code g) (untouched_with g s.mem)) (protect_traced mac g live own s.mem)
     (exec_traced s.sections own s.devices (module_row mac code g) 2 None (untouched_with g s.mem) (sparse_module mac code g) (first_traced live own (untouched_with g s.mem) refl ev))))
     (exec_traced s.sections own s.devices (program w s.regs) 2 None (start s) (sparse_program w s.regs) (first_traced live own (start s) refl ev))
 
-ordered_traced : (mac : Mac) (s : State) (d : Option ℕ) → ((k : ℕ) (w : Window) → slice_get s.devices k ≡ Some w → (w.at % 2 ≡ 0) × (w.at < 0xFFE0)) → TracedBy s.sections.live (own_of s) s.devices (ordered mac s d)
+ordered_traced : (mac : Mac) (s : State) (d : Option ℕ) → ((k : ℕ) (w : Window) → slice_get s.devices k ≡ Some w → (w.at % 2 ≡ 0) × (w.at < 0xFFE0))
+    → TracedBy s.sections.live (own_of s) s.devices (ordered mac s d)
 ordered_traced mac s (Some d) ev = tt
 ordered_traced mac s None ev = outcome_if s.sections.live (own_of s) s.devices (in_order s.sections.live s.cur (pc_of s)) (instruction mac s) bad.Order (instruction_traced mac s ev)
 
-settled_traced : (s : State) (o : Outcome) → TracedBy s.sections.live (own_of s) s.devices o → Replays s.sections.live (own_of s) (settled_step s o).shown.touch s.devices (settled_step s o).state.devices ⊎ ((settled_step s o).state ≡ reset s)
+settled_traced : (s : State) (o : Outcome) → TracedBy s.sections.live (own_of s) s.devices o
+    → Replays s.sections.live (own_of s) (settled_step s o).shown.touch s.devices (settled_step s o).state.devices
+    ⊎ ((settled_step s o).state ≡ reset s)
 settled_traced s (Finished regs x) h = inl h
 settled_traced s (Violated v) h = inr refl
 settled_traced s (Module regs x t e c) h = inl h
@@ -239,7 +249,8 @@ sparse_interrupt : (line : ℕ) (regs : List ℕ) → Sparse 2 None (interrupt l
 unfolding interrupt
 sparse_interrupt line regs = inr (inr (inl (omega arith, λ v. tt)))
 
-interrupted_traced : (s : State) (o : Outcome) → TracedBy s.sections.live 0 s.devices o → Replays s.sections.live 0 (interrupted s o).shown.touch s.devices (interrupted s o).state.devices ⊎ ((interrupted s o).state ≡ reset s)
+interrupted_traced : (s : State) (o : Outcome) → TracedBy s.sections.live 0 s.devices o
+    → Replays s.sections.live 0 (interrupted s o).shown.touch s.devices (interrupted s o).state.devices ⊎ ((interrupted s o).state ≡ reset s)
 interrupted_traced s (Finished regs x) h = inl h
 interrupted_traced s (Violated v) h = inr refl
 interrupted_traced s (Module regs x t e c) h = inl refl

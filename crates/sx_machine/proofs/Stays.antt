@@ -89,7 +89,8 @@ ranged_within : (g : Given) (f : Section → Plan) (o : Option Section) → AreR
 ranged_within g f None h r = ranged_answer g 0 h (omega arith)
 ranged_within g f (Some s) h r = r s
 
-ranged_attested : (mac : Mac) (g : Given) (own : Section) (tag : List ℕ) (id : ℕ) (o : Option Section) → section_of g.sections.live id ≡ o → Placed g.sections → AreRegisters g.regs → Ranged (attested mac g own tag o)
+ranged_attested : (mac : Mac) (g : Given) (own : Section) (tag : List ℕ) (id : ℕ) (o : Option Section)
+    → section_of g.sections.live id ≡ o → Placed g.sections → AreRegisters g.regs → Ranged (attested mac g own tag o)
 ranged_attested mac g own tag id None e p h = ranged_answer g 0 h (omega arith)
 ranged_attested mac g own tag id (Some s) e p h = λ text. by text (vouches mac own tag s text)
   where
@@ -101,7 +102,8 @@ ranged_key : (g : Given) (own : Section) (rest : List ℕ → Plan) → ((k : Li
 ranged_key g own rest f = ranged_if (own_key g.regs) (rest own.key) (Bytes (slice_index g.regs 9) 16 rest) (f own.key) f
 
 ranged_inputs : (g : Given) (own : Section) (rest : List ℕ → List ℕ → List ℕ → Plan) → ((k a b : List ℕ) → Ranged (rest k a b)) → Ranged (with_inputs g own rest)
-ranged_inputs g own rest f = ranged_key g own (λ key. Bytes (slice_index g.regs 10) (slice_index g.regs 11) (λ ad. Bytes (slice_index g.regs 12) (slice_index g.regs 13) (λ text. rest key ad text))) (λ k a b. f k a b)
+ranged_inputs g own rest f = ranged_key g own (λ key. Bytes (slice_index g.regs 10) (slice_index g.regs 11)
+    (λ ad. Bytes (slice_index g.regs 12) (slice_index g.regs 13) (λ text. rest key ad text))) (λ k a b. f k a b)
 
 ranged_opened : (g : Given) (ad : List ℕ) (o : Option (List ℕ)) → AreRegisters g.regs → Ranged (opened g ad o)
 ranged_opened g ad None h = ranged_answer g 0 h (omega arith)
@@ -109,7 +111,8 @@ ranged_opened g ad (Some body) h = concluded_registers g.regs 1 h (omega arith)
 
 ranged_wrap : (mac : Mac) (g : Given) (own : Section) → AreRegisters g.regs → Ranged (wrap mac g own)
 ranged_wrap mac g own h = ranged_inputs g own
-    (λ key ad body. Put (slice_index g.regs 14) (wrapped mac key ad body).cipher (Put (slice_index g.regs 15) (wrapped mac key ad body).tag (Tell (concluded g.regs 1) (event.Wrapped g.own) (exchanged g.regs ad body))))
+    (λ key ad body. Put (slice_index g.regs 14) (wrapped mac key ad body).cipher
+        (Put (slice_index g.regs 15) (wrapped mac key ad body).tag (Tell (concluded g.regs 1) (event.Wrapped g.own) (exchanged g.regs ad body))))
     (λ k a b. concluded_registers g.regs 1 h (omega arith))
 
 ranged_unwrap : (mac : Mac) (g : Given) (own : Section) → AreRegisters g.regs → Ranged (unwrap mac g own)
@@ -124,7 +127,8 @@ ranged_module mac code g p c h =
     ranged_if (code == 2) _ _ (ranged_within g (attest mac g) (own_section g) h (λ s tag. ranged_attested mac g s tag held (section_of g.sections.live held) refl p h))
     (ranged_if (code == 4) _ _ (ranged_within g (wrap mac g) (own_section g) h (λ s. ranged_wrap mac g s h))
     (ranged_if (code == 5) _ _ (ranged_within g (unwrap mac g) (own_section g) h (λ s. ranged_unwrap mac g s h))
-    (ranged_if (code == 6) _ _ (ranged_answer g held h (holder_small g.sections (slice_index g.regs 9) p)) (ranged_within g (λ own. answer g g.caller) (own_section g) h (λ s. ranged_answer g g.caller h c)))))
+    (ranged_if (code == 6) _ _ (ranged_answer g held h (holder_small g.sections (slice_index g.regs 9) p))
+        (ranged_within g (λ own. answer g g.caller) (own_section g) h (λ s. ranged_answer g g.caller h c)))))
 
 answered_registers : (regs : List ℕ) (id number : ℕ) → AreRegisters regs → id < 65536 → number < 65536 → AreRegisters (answer_registers regs id number)
 answered_registers regs id number h a b = concluded_registers (slice_set regs 14 number) id (set_registers regs 14 number h (b, refl)) a
@@ -139,9 +143,12 @@ number_small Ids = omega arith
 with_bytes : (g : Given) (mem : List ℕ) → HaveSamples g.devices → AreMemoryBytes mem → Steady g.devices (untouched_with g mem)
 with_bytes g mem s h = record { memory = h; shapes = refl; samples = s }
 
-protected_ranged : (mac : Mac) (g : Given) (mem : List ℕ) (l : Layout) (o : Option Refusal) → refusal g.sections l (places_of g.devices) ≡ o → AreRegisters g.regs → HaveSamples g.devices → AreMemoryBytes mem → RangedBy g.devices (protected_if mac g mem l o)
+protected_ranged : (mac : Mac) (g : Given) (mem : List ℕ) (l : Layout) (o : Option Refusal)
+    → refusal g.sections l (places_of g.devices) ≡ o → AreRegisters g.regs → HaveSamples g.devices
+    → AreMemoryBytes mem → RangedBy g.devices (protected_if mac g mem l o)
 protected_ranged mac g mem l None e r s h =
-    (answered_registers g.regs g.sections.next 0 r (omega (arith, (admits g.sections l (places_of g.devices) e).ids)) (omega arith), with_bytes g (wiped mem l) s (zeroed_small mem l.priv_from (l.priv_to - l.priv_from) h))
+    (answered_registers g.regs g.sections.next 0 r (omega (arith, (admits g.sections l (places_of g.devices) e).ids)) (omega arith),
+        with_bytes g (wiped mem l) s (zeroed_small mem l.priv_from (l.priv_to - l.priv_from) h))
 protected_ranged mac g mem l (Some why) e r s h = (answered_registers g.regs 0 (number_of why) r (omega arith) (number_small why), with_bytes g mem s h)
 
 protect_ranged : (mac : Mac) (g : Given) (mem : List ℕ) → AreRegisters g.regs → HaveSamples g.devices → AreMemoryBytes mem → RangedBy g.devices (protect mac g mem)
@@ -150,7 +157,8 @@ protect_ranged mac g mem r s h = protected_ranged mac g mem (layout_in g.regs) (
 
 removed_ranged : (g : Given) (mem : List ℕ) (o : Option Section) → AreRegisters g.regs → HaveSamples g.devices → AreMemoryBytes mem → RangedBy g.devices (removed_if g mem o)
 removed_ranged g mem None r s h = (concluded_registers g.regs 0 r (omega arith), with_bytes g mem s h)
-removed_ranged g mem (Some own) r s h = (concluded_registers g.regs 1 r (omega arith), with_bytes g (wiped mem own.layout) s (zeroed_small mem own.layout.priv_from (own.layout.priv_to - own.layout.priv_from) h))
+removed_ranged g mem (Some own) r s h = (concluded_registers g.regs 1 r (omega arith),
+    with_bytes g (wiped mem own.layout) s (zeroed_small mem own.layout.priv_from (own.layout.priv_to - own.layout.priv_from) h))
 
 unprotect_ranged : (g : Given) (mem : List ℕ) → AreRegisters g.regs → HaveSamples g.devices → AreMemoryBytes mem → RangedBy g.devices (unprotect g mem)
 unfolding unprotect
@@ -169,7 +177,9 @@ instruction_ranged mac s h =
     let code = w - 0x1380 in
     let moment : Steady s.devices (start s) = record { memory = h.memory; shapes = refl; samples = h.samples } in
     either_ranged s.devices (is_module_word w) (module_instruction mac code g s.mem) (exec s.sections (own_of s) (program w s.regs) (start s))
-    (either_ranged s.devices (code == 0) (unprotect g s.mem) (cond (code == 1) (protect mac g s.mem) (exec s.sections (own_of s) (module_row mac code g) (untouched_with g s.mem))) (unprotect_ranged g s.mem h.registers h.samples h.memory)
+    (either_ranged s.devices (code == 0) (unprotect g s.mem)
+        (cond (code == 1) (protect mac g s.mem) (exec s.sections (own_of s) (module_row mac code g) (untouched_with g s.mem)))
+        (unprotect_ranged g s.mem h.registers h.samples h.memory)
     (either_ranged s.devices (code == 1) (protect mac g s.mem) (exec s.sections (own_of s) (module_row mac code g) (untouched_with g s.mem)) (protect_ranged mac g s.mem h.registers h.samples h.memory)
     (exec_ranged s.sections (own_of s) s.devices (module_row mac code g) (untouched_with g s.mem) (ranged_module mac code g h.placed (entered_small s (own_of s) h.last h.caller) h.registers) moment)))
     (exec_ranged s.sections (own_of s) s.devices (program w s.regs) (start s) (ranged_program w s.regs (word_small s.mem (pc_of s) h.memory) h.registers) moment)
@@ -179,7 +189,8 @@ ordered_ranged mac s (Some d) h = tt
 ordered_ranged mac s None h = ranged_outcome s.devices (in_order s.sections.live s.cur (pc_of s)) (instruction mac s) bad.Order (instruction_ranged mac s h)
 
 attempt_ranged : (mac : Mac) (s : State) → IsNode s → RangedBy s.devices (attempt mac s)
-attempt_ranged mac s h = ranged_outcome s.devices (word_outside s.sections.live (pc_of s)) (ordered mac s (device_at s.devices (pc_of s))) bad.Fetch (ordered_ranged mac s (device_at s.devices (pc_of s)) h)
+attempt_ranged mac s h = ranged_outcome s.devices (word_outside s.sections.live (pc_of s))
+    (ordered mac s (device_at s.devices (pc_of s))) bad.Fetch (ordered_ranged mac s (device_at s.devices (pc_of s)) h)
 
 pub reset_is_node : (s : State) → IsNode s → IsNode (reset s)
 reset_is_node s h = record {
@@ -231,7 +242,8 @@ moved_is_node s regs x t c h r m p a = record {
   runner = runs_or_not t.live (own_of s) (slice_index regs 0);
 }
 
-settled_is_node : (mac : Mac) (s : State) (o : Outcome) → IsNode s → RangedBy s.devices o → ToldBy mac (given_at_pc mac s) s.mem o → Placed (settled_step s o).state.sections → IsNode (settled_step s o).state
+settled_is_node : (mac : Mac) (s : State) (o : Outcome) → IsNode s → RangedBy s.devices o
+    → ToldBy mac (given_at_pc mac s) s.mem o → Placed (settled_step s o).state.sections → IsNode (settled_step s o).state
 settled_is_node mac s (Finished regs x) h r w p = moved_is_node s regs x s.sections s.exchange h r.0 r.1 p h.apart
 settled_is_node mac s (Violated v) h r w p = reset_is_node s h
 settled_is_node mac s (Module regs x t e c) h r w p = moved_is_node s regs x t c h r.0 r.1 p (apart_told mac (given_at_pc mac s) s.mem x.mem t e w h.apart)
@@ -255,19 +267,24 @@ busy_idle s e = by (s.cur == 0) refl e
 pub irq_idle : (s : State) → irq_refusal s ≡ None → s.cur ≡ 0
 irq_idle s e = by (s.cur == 0) refl e
   where
-    by : (b : Bool) → (s.cur == 0) ≡ b → (if not b then Some Rattle.sx_machine.specs.declared.kinds.Refused.TheVariants.Busy else if Rattle.sx_machine.specs.Acts.is_enabled s.regs then None else Some Rattle.sx_machine.specs.declared.kinds.Refused.TheVariants.Masked) ≡ None → s.cur ≡ 0
+    by : (b : Bool) → (s.cur == 0) ≡ b → (if not b then Some Rattle.sx_machine.specs.declared.kinds.Refused.TheVariants.Busy else
+        if Rattle.sx_machine.specs.Acts.is_enabled s.regs then None else Some Rattle.sx_machine.specs.declared.kinds.Refused.TheVariants.Masked)
+        ≡ None → s.cur ≡ 0
     by true t e = eqb-true s.cur 0 t
     by false t e = absurd cc
 
 pub put_is_node : (s : State) (at : ℕ) (bytes : List ℕ) → IsNode s → IsNode (record s { mem = put_bytes s.mem at bytes })
-put_is_node s at bytes h = record { registers = h.registers; memory = put_small bytes s.mem at h.memory; places = h.places; samples = h.samples; placed = h.placed; apart = h.apart; last = h.last; caller = h.caller; runner = h.runner }
+put_is_node s at bytes h = record { registers = h.registers; memory = put_small bytes s.mem at h.memory;
+    places = h.places; samples = h.samples; placed = h.placed; apart = h.apart; last = h.last; caller = h.caller; runner = h.runner }
 
 last_small : (b : Bool) (n : ℕ) → n < 65536 → (if b then 0 else n) < 65536
 last_small true n lt = omega arith
 last_small false n lt = lt
 
 pub set_is_node : (s : State) (r v : ℕ) → v < 65536 → s.cur ≡ 0 → IsNode s → IsNode (record s { regs = set_reg s.regs r v; last = if r == 0 then 0 else s.last })
-set_is_node s r v lt idle h = record { registers = set_reg_registers s.regs r v h.registers lt; memory = h.memory; places = h.places; samples = h.samples; placed = h.placed; apart = h.apart; last = last_small (r == 0) s.last h.last; caller = h.caller; runner = inl idle }
+set_is_node s r v lt idle h = record { registers = set_reg_registers s.regs r v h.registers lt; memory =
+    h.memory; places = h.places; samples = h.samples; placed = h.placed; apart = h.apart; last = last_small
+    (r == 0) s.last h.last; caller = h.caller; runner = inl idle }
 
 pub sense_is_node : (s : State) (device v : ℕ) → v < 32768 → IsNode s → IsNode (record s { devices = with_sample s.devices device v })
 sense_is_node s device v lt h = record {
@@ -276,14 +293,16 @@ sense_is_node s device v lt h = record {
   places = subst (λ z. ArePlaces z) (sym (same_places (with_sample s.devices device v) s.devices (sensed_shapes s.devices device v))) h.places;
   samples = sensed_samples s.devices device v lt h.samples;
   placed = h.placed;
-  apart = apart_same (places_of (with_sample s.devices device v)) (places_of s.devices) s.sections.live (same_places (with_sample s.devices device v) s.devices (sensed_shapes s.devices device v)) h.apart;
+  apart = apart_same (places_of (with_sample s.devices device v)) (places_of s.devices) s.sections.live
+      (same_places (with_sample s.devices device v) s.devices (sensed_shapes s.devices device v)) h.apart;
   last = h.last;
   caller = h.caller;
   runner = h.runner;
 }
 
 pub interrupt_ranged : (s : State) (line : ℕ) → IsNode s → RangedBy s.devices (exec s.sections 0 (interrupt line s.regs) (start s))
-interrupt_ranged s line h = exec_ranged s.sections 0 s.devices (interrupt line s.regs) (start s) (ranged_interrupt line s.regs h.registers) (record { memory = h.memory; shapes = refl; samples = h.samples })
+interrupt_ranged s line h = exec_ranged s.sections 0 s.devices (interrupt line s.regs) (start s)
+    (ranged_interrupt line s.regs h.registers) (record { memory = h.memory; shapes = refl; samples = h.samples })
 
 pub interrupted_is_node : (s : State) (o : Outcome) → s.cur ≡ 0 → IsNode s → RangedBy s.devices o → IsNode (interrupted s o).state
 interrupted_is_node s (Finished regs x) idle h r = record {
@@ -303,10 +322,14 @@ interrupted_is_node s (Module regs x t e c) idle h r = h
 pub acted_is_node : (mac : Mac) (act : Act) (s : State) → ActInForm act → IsNode s → IsNode (acted mac act s).state
 acted_is_node mac Step s f h = step_is_node mac s h
 acted_is_node mac Restart s f h = reset_is_node s h
-acted_is_node mac (PutAct at bytes) s f h = unless_is_node {T = Unit {0}} (put_refusal s at (length bytes)) s (record { state = record s { mem = put_bytes s.mem at bytes }; shown = tt }) h (λ e. put_is_node s at bytes h)
-acted_is_node mac (Set r v) s f h = unless_is_node {T = Unit {0}} (busy s) s (record { state = record s { regs = set_reg s.regs r v; last = if r == 0 then 0 else s.last }; shown = tt }) h (λ e. set_is_node s r v f (busy_idle s e) h)
+acted_is_node mac (PutAct at bytes) s f h = unless_is_node {T = Unit {0}} (put_refusal s at (length bytes)) s
+    (record { state = record s { mem = put_bytes s.mem at bytes }; shown = tt }) h (λ e. put_is_node s at bytes h)
+acted_is_node mac (Set r v) s f h = unless_is_node {T = Unit {0}} (busy s) s
+    (record { state = record s { regs = set_reg s.regs r v; last = if r == 0 then 0 else s.last }; shown = tt }) h
+    (λ e. set_is_node s r v f (busy_idle s e) h)
 acted_is_node mac (Take at n) s f h = unless_is_node (take_refusal s at n) s _ h (λ e. h)
-acted_is_node mac (Sense device v) s f h = unless_is_node {T = Unit {0}} (busy s) s (record { state = record s { devices = with_sample s.devices device v }; shown = tt }) h (λ e. sense_is_node s device v f h)
+acted_is_node mac (Sense device v) s f h = unless_is_node {T = Unit {0}} (busy s) s
+    (record { state = record s { devices = with_sample s.devices device v }; shown = tt }) h (λ e. sense_is_node s device v f h)
 acted_is_node mac (Interrupt line) s f h =
     unless_is_node (irq_refusal s) s (interrupted s (exec s.sections 0 (interrupt line s.regs) (start s))) h (λ e.
     interrupted_is_node s (exec s.sections 0 (interrupt line s.regs) (start s)) (irq_idle s e) h (interrupt_ranged s line h))
@@ -337,7 +360,8 @@ acted_shapes mac Restart s h = stale_shapes s.devices
 acted_shapes mac (PutAct at bytes) s h = unless_shapes {T = Unit {0}} (put_refusal s at (length bytes)) s (record { state = record s { mem = put_bytes s.mem at bytes }; shown = tt }) refl
 acted_shapes mac (Set r v) s h = unless_shapes {T = Unit {0}} (busy s) s (record { state = record s { regs = set_reg s.regs r v; last = if r == 0 then 0 else s.last }; shown = tt }) refl
 acted_shapes mac (Take at n) s h = unless_shapes (take_refusal s at n) s _ refl
-acted_shapes mac (Sense device v) s h = unless_shapes {T = Unit {0}} (busy s) s (record { state = record s { devices = with_sample s.devices device v }; shown = tt }) (sensed_shapes s.devices device v)
+acted_shapes mac (Sense device v) s h = unless_shapes {T = Unit {0}} (busy s) s
+    (record { state = record s { devices = with_sample s.devices device v }; shown = tt }) (sensed_shapes s.devices device v)
 acted_shapes mac (Interrupt line) s h =
     unless_shapes (irq_refusal s) s (interrupted s (exec s.sections 0 (interrupt line s.regs) (start s)))
     (interrupted_shapes s (exec s.sections 0 (interrupt line s.regs) (start s)) (interrupt_ranged s line h))

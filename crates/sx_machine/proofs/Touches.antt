@@ -59,18 +59,22 @@ quiet_replays live own (DeviceRead k v ∷ ts) a q = absurd q
 quiet_replays live own (DeviceWrite k v ∷ ts) a q = absurd q
 
 -- one more touch
-read_noted : (live : List Section) (own n k : ℕ) (w : Window) (ts : List Touch) (a b : List Window) → Room (suc n) ts → Replays live own ts a b → slice_get b k ≡ Some w → w.kind ≡ Sensor → w.fresh ≡ true → may live own Read w.at ≡ true
+read_noted : (live : List Section) (own n k : ℕ) (w : Window) (ts : List Touch) (a b : List Window)
+    → Room (suc n) ts → Replays live own ts a b → slice_get b k ≡ Some w → w.kind ≡ Sensor → w.fresh ≡ true → may live own Read w.at ≡ true
     → Replays live own (with_touch ts (DeviceRead k w.value)) a (cleared b k) × Room n (with_touch ts (DeviceRead k w.value))
 read_noted live own n k w [] a b r h e s f m = absurd (omega (arith, r))
 read_noted live own n k w (Quiet ∷ ts) a b r h e s f m =
     let same = quiet_same live own ts a b r.0 h in
-    ((w, subst (λ z. slice_get z k ≡ Some w) same e, s, f, refl, m, subst (λ z. Replays live own ts (cleared a k) (cleared z k)) (sym same) (quiet_replays live own ts (cleared a k) r.0)), quiet_room n ts r.0 r.1)
+    ((w, subst (λ z. slice_get z k ≡ Some w) same e, s, f, refl, m,
+        subst (λ z. Replays live own ts (cleared a k) (cleared z k)) (sym same) (quiet_replays live own ts (cleared a k) r.0)),
+        quiet_room n ts r.0 r.1)
 read_noted live own n k w (DeviceRead j v ∷ ts) a b r h e s f m =
     let g = read_noted live own n k w ts (cleared a j) b r h.6 e s f m in ((h.0, h.1, h.2, h.3, h.4, h.5, g.0), g.1)
 read_noted live own n k w (DeviceWrite j v ∷ ts) a b r h e s f m =
     let g = read_noted live own n k w ts a b r h.4 e s f m in ((h.0, h.1, h.2, h.3, g.0), g.1)
 
-write_noted : (live : List Section) (own n k v : ℕ) (w : Window) (ts : List Touch) (a b : List Window) → Room (suc n) ts → Replays live own ts a b → slice_get b k ≡ Some w → w.kind ≡ Actuator → may live own Write w.at ≡ true
+write_noted : (live : List Section) (own n k v : ℕ) (w : Window) (ts : List Touch) (a b : List Window)
+    → Room (suc n) ts → Replays live own ts a b → slice_get b k ≡ Some w → w.kind ≡ Actuator → may live own Write w.at ≡ true
     → Replays live own (with_touch ts (DeviceWrite k v)) a b × Room n (with_touch ts (DeviceWrite k v))
 write_noted live own n k v w [] a b r h e s m = absurd (omega (arith, r))
 write_noted live own n k v w (Quiet ∷ ts) a b r h e s m =
@@ -120,7 +124,9 @@ word_even : (at p : ℕ) → p % 2 ≡ 0 → p ≤ at → at < p + 2 → even at
 word_even at p e lo hi = omega (arith, e, lo, hi)
 
 -- the window at a place lies where the access is
-window_open : (live : List Section) (own : ℕ) (access : Access) (ws : List Window) (at k : ℕ) (w : Window) → device_of ws at ≡ Some (k, w) → w.at % 2 ≡ 0 → may_at true live own access at ≡ true → (slice_get ws k ≡ Some w) × (may live own access w.at ≡ true)
+window_open : (live : List Section) (own : ℕ) (access : Access) (ws : List Window) (at k : ℕ) (w : Window)
+    → device_of ws at ≡ Some (k, w) → w.at % 2 ≡ 0 → may_at true live own access at ≡ true
+    → (slice_get ws k ≡ Some w) × (may live own access w.at ≡ true)
 window_open live own access ws at k w d e m =
     let p = device_of_parts ws at k w d in
     let q = position_is (on_word at) 0 ws k p.0 in
@@ -160,7 +166,8 @@ module _ (t : Sections) (own : ℕ) (a : List Window) where
   none_some : (d : ℕ × Window) → ◌≡◌ {A = Option (ℕ × Window)} None (Some d) → ⊥
   none_some d e = cc
 
-  after_sample : (n : ℕ) (last : Option (Bool × ℕ)) (at k : ℕ) (w : Window) (x : Moment) → Is (suc n) last x → device_of x.devices at ≡ Some (k, w) → w.kind ≡ Sensor → w.fresh ≡ true → may_at true t.live own Read at ≡ true
+  after_sample : (n : ℕ) (last : Option (Bool × ℕ)) (at k : ℕ) (w : Window) (x : Moment) → Is (suc n) last x
+      → device_of x.devices at ≡ Some (k, w) → w.kind ≡ Sensor → w.fresh ≡ true → may_at true t.live own Read at ≡ true
       → Is n (Some (true, at)) (record { mem = x.mem; devices = cleared x.devices k; touches = with_touch x.touches (DeviceRead k w.value) })
   after_sample n last at k w x h d s f m =
       let p = device_of_parts x.devices at k w d in
@@ -180,7 +187,8 @@ module _ (t : Sections) (own : ℕ) (a : List Window) where
             subst (λ z. (z % 2 ≡ 0) × (z < 0xFFE0)) v.2 (h.evens j v.0 v.1);
       }
 
-  sampled_by : (n : ℕ) (last : Option (Bool × ℕ)) (at k : ℕ) (w : Window) (x : Moment) (f : ℕ → Moment → Outcome) (b : Bool) → Is (suc n) last x → device_of x.devices at ≡ Some (k, w) → w.kind ≡ Sensor → w.fresh ≡ b → may_at true t.live own Read at ≡ true
+  sampled_by : (n : ℕ) (last : Option (Bool × ℕ)) (at k : ℕ) (w : Window) (x : Moment) (f : ℕ → Moment → Outcome) (b : Bool)
+      → Is (suc n) last x → device_of x.devices at ≡ Some (k, w) → w.kind ≡ Sensor → w.fresh ≡ b → may_at true t.live own Read at ≡ true
       → ((v : ℕ) (y : Moment) → Is n (Some (true, at)) y → By (f v y)) → By (after_read (Ok (sampled k w x)) f)
   sampled_by n last at k w x f true h d s fr m g =
       let p : ℕ × Moment = (0x8000 + w.value, record { mem = x.mem; devices = cleared x.devices k; touches = with_touch x.touches (DeviceRead k w.value) }) in
@@ -192,14 +200,16 @@ module _ (t : Sections) (own : ℕ) (a : List Window) where
       let e : sampled k w x ≡ q = ap (λ (b : Bool). if b then p else q) fr in
       subst (λ z. By (f z.0 z.1)) (sym e) (g 0 x (less n last (Some (true, at)) x (λ k2 w2 e2. ap (λ (z : ℕ × Window). z.1.kind) (some_inj (k2, w2) (k, w) (sym e2 ∙ d)) ∙ s) h))
 
-  device_by : (n : ℕ) (last : Option (Bool × ℕ)) (wide : Bool) (at k : ℕ) (w : Window) (kind : Kind) (x : Moment) (f : ℕ → Moment → Outcome) → Is (suc n) last x → device_of x.devices at ≡ Some (k, w) → w.kind ≡ kind → may_at wide t.live own Read at ≡ true
+  device_by : (n : ℕ) (last : Option (Bool × ℕ)) (wide : Bool) (at k : ℕ) (w : Window) (kind : Kind) (x : Moment) (f : ℕ → Moment → Outcome)
+      → Is (suc n) last x → device_of x.devices at ≡ Some (k, w) → w.kind ≡ kind → may_at wide t.live own Read at ≡ true
       → ((v : ℕ) (y : Moment) → Is n (Some (wide, at)) y → By (f v y)) → By (after_read (read_device wide k w kind x) f)
   device_by n last true at k w Sensor x f h d e m g = sampled_by n last at k w x f w.fresh h d e refl m g
   device_by n last false at k w Sensor x f h d e m g = tt
   device_by n last true at k w Actuator x f h d e m g = tt
   device_by n last false at k w Actuator x f h d e m g = tt
 
-  place_by : (n : ℕ) (last : Option (Bool × ℕ)) (wide : Bool) (at : ℕ) (o : Option (ℕ × Window)) (x : Moment) (f : ℕ → Moment → Outcome) → Is (suc n) last x → device_of x.devices at ≡ o → may_at wide t.live own Read at ≡ true
+  place_by : (n : ℕ) (last : Option (Bool × ℕ)) (wide : Bool) (at : ℕ) (o : Option (ℕ × Window)) (x : Moment) (f : ℕ → Moment → Outcome)
+      → Is (suc n) last x → device_of x.devices at ≡ o → may_at wide t.live own Read at ≡ true
       → ((v : ℕ) (y : Moment) → Is n (Some (wide, at)) y → By (f v y)) → By (after_read (read_place wide at o x) f)
   place_by n last wide at None x f h d m g = g (read_at wide x.mem at) x (less n last (Some (wide, at)) x (λ k w e. absurd (none_some (k, w) (sym d ∙ e))) h)
   place_by n last wide at (Some dv) x f h d m g = device_by n last wide at dv.0 dv.1 dv.1.kind x f h d refl m g
@@ -211,7 +221,8 @@ module _ (t : Sections) (own : ℕ) (a : List Window) where
 
   load_all : (n : ℕ) (last : Option (Bool × ℕ)) (wide : Bool) (at : ℕ) (k : ℕ → Plan) (x : Moment) (f : ℕ → Moment → Outcome) (b : Bool) → may_at wide t.live own Read at ≡ b → Is n last x
       → ((0xFFE0 ≤ at) × ((v : ℕ) → Sparse n (Some (wide, at)) (k v))) ⊎ Spend n (λ m. (v : ℕ) → Sparse m (Some (wide, at)) (k v))
-      → ((m v : ℕ) (y : Moment) → Sparse m (Some (wide, at)) (k v) → Is m (Some (wide, at)) y → By (f v y)) → By (after_read (if b then read_place wide at (device_of x.devices at) x else Err bad.Read) f)
+      → ((m v : ℕ) (y : Moment) → Sparse m (Some (wide, at)) (k v) → Is m (Some (wide, at)) y → By (f v y))
+          → By (after_read (if b then read_place wide at (device_of x.devices at) x else Err bad.Read) f)
   load_all n last wide at k x f false m h s g = tt
   load_all n last wide at k x f true m h (inl s) g =
       let none = none_above x.devices at h.evens s.0 in
@@ -235,7 +246,8 @@ module _ (t : Sections) (own : ℕ) (a : List Window) where
           differ e = cc
 
   -- a store that may touch an actuator
-  after_actuated : (n : ℕ) (last : Option (Bool × ℕ)) (at k v : ℕ) (w : Window) (x : Moment) → Is (suc n) last x → device_of x.devices at ≡ Some (k, w) → w.kind ≡ Actuator → may_at true t.live own Write at ≡ true
+  after_actuated : (n : ℕ) (last : Option (Bool × ℕ)) (at k v : ℕ) (w : Window) (x : Moment) → Is (suc n) last x
+      → device_of x.devices at ≡ Some (k, w) → w.kind ≡ Actuator → may_at true t.live own Write at ≡ true
       → Is n None (record x { touches = with_touch x.touches (DeviceWrite k v) })
   after_actuated n last at k v w x h d s m =
       let p = device_of_parts x.devices at k w d in
@@ -243,14 +255,16 @@ module _ (t : Sections) (own : ℕ) (a : List Window) where
       let g = write_noted t.live own n k v w x.touches a x.devices h.room h.replays o.0 s o.1 in
       record { replays = g.0; room = g.1; last_ok = tt; evens = h.evens }
 
-  actuate_by : (n : ℕ) (last : Option (Bool × ℕ)) (wide : Bool) (at v k : ℕ) (w : Window) (kind : Kind) (x : Moment) (f : Moment → Outcome) → Is (suc n) last x → device_of x.devices at ≡ Some (k, w) → w.kind ≡ kind → may_at wide t.live own Write at ≡ true
+  actuate_by : (n : ℕ) (last : Option (Bool × ℕ)) (wide : Bool) (at v k : ℕ) (w : Window) (kind : Kind) (x : Moment) (f : Moment → Outcome)
+      → Is (suc n) last x → device_of x.devices at ≡ Some (k, w) → w.kind ≡ kind → may_at wide t.live own Write at ≡ true
       → ((y : Moment) → Is n None y → By (f y)) → By (after_write (write_device wide k v kind x) f)
   actuate_by n last true at v k w Actuator x f h d e m g = g (record x { touches = with_touch x.touches (DeviceWrite k v) }) (after_actuated n last at k v w x h d e m)
   actuate_by n last false at v k w Actuator x f h d e m g = tt
   actuate_by n last true at v k w Sensor x f h d e m g = tt
   actuate_by n last false at v k w Sensor x f h d e m g = tt
 
-  write_by : (n : ℕ) (last : Option (Bool × ℕ)) (wide : Bool) (at v : ℕ) (o : Option (ℕ × Window)) (x : Moment) (f : Moment → Outcome) → Is (suc n) last x → device_of x.devices at ≡ o → may_at wide t.live own Write at ≡ true
+  write_by : (n : ℕ) (last : Option (Bool × ℕ)) (wide : Bool) (at v : ℕ) (o : Option (ℕ × Window)) (x : Moment) (f : Moment → Outcome)
+      → Is (suc n) last x → device_of x.devices at ≡ o → may_at wide t.live own Write at ≡ true
       → ((y : Moment) → Is n None y → By (f y)) → By (after_write (write_place wide at v o x) f)
   write_by n last wide at v None x f h d m g = g (record x { mem = write_at wide x.mem at v }) (with_mem n None None x (write_at wide x.mem at v) tt (less n last None x tt h))
   write_by n last wide at v (Some dv) x f h d m g = actuate_by n last wide at v dv.0 dv.1 dv.1.kind x f h d refl m g
@@ -277,10 +291,13 @@ module _ (t : Sections) (own : ℕ) (a : List Window) where
   exec_traced (Tell regs e c) n last x s h = h.replays
   exec_traced (Stop v) n last x s h = tt
   exec_traced (Fetch at k) n last x s h = fetch_by (fetch t.live own at x) (λ w. exec t own (k w) x) (λ w. exec_traced (k w) n last x (s w) h)
-  exec_traced (Load wide at k) n last x s h = load_all n last wide at k x (λ v y. exec t own (k v) y) (may_at wide t.live own Read at) refl h s (λ m v y sp i. exec_traced (k v) m (Some (wide, at)) y sp i)
+  exec_traced (Load wide at k) n last x s h = load_all n last wide at k x (λ v y. exec t own (k v) y)
+      (may_at wide t.live own Read at) refl h s (λ m v y sp i. exec_traced (k v) m (Some (wide, at)) y sp i)
   exec_traced (Store wide at v k) n last x s h = store_by n last wide at v k x (λ y. exec t own k y) (may_at wide t.live own Write at) refl h s (λ m y sp i. exec_traced k m None y sp i)
   exec_traced (Need b v k) n last x s h = if_by b (exec t own k x) v (exec_traced k n last x s h)
   exec_traced (Writable at c k) n last x s h = if_by (may_range t.live own Write at c) (exec t own k x) bad.Write (exec_traced k n last x s h)
-  exec_traced (Bytes at c k) n last x s h = if_by (may_range t.live own Read at c) (exec t own (k (bytes_from x.mem at c)) x) bad.Read (exec_traced (k (bytes_from x.mem at c)) n last x (s (bytes_from x.mem at c)) h)
+  exec_traced (Bytes at c k) n last x s h = if_by (may_range t.live own Read at c)
+      (exec t own (k (bytes_from x.mem at c)) x) bad.Read (exec_traced (k (bytes_from x.mem at c)) n last x (s (bytes_from x.mem at c)) h)
   exec_traced (Put at bs k) n last x s h =
-      if_by (may_each t.live own Write at bs) (exec t own k (record x { mem = put_bytes x.mem at bs })) bad.Write (exec_traced k n last (record x { mem = put_bytes x.mem at bs }) s (with_mem n last last x (put_bytes x.mem at bs) h.last_ok h))
+      if_by (may_each t.live own Write at bs) (exec t own k (record x { mem = put_bytes x.mem at bs })) bad.Write
+          (exec_traced k n last (record x { mem = put_bytes x.mem at bs }) s (with_mem n last last x (put_bytes x.mem at bs) h.last_ok h))

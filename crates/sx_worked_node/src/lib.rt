@@ -4,8 +4,8 @@
 //! of a crate are proved together with all of it: so a change of a test proves no crate again.
 //!
 //! `words` reads and writes instructions, `calculations` works the table of arithmetic, `memories`,
-//! `arenas` and `pages` fill memories, `sections` asks a table of sections, and `tags` makes tags and keys.
-//! `instructions` and `module_instructions` step an executor, and `nodes` a whole node.
+//! `arenas` and `pages` fill memories, `sections` asks a table of sections, and `tags` makes tags
+//! and keys. `instructions` and `module_instructions` step an executor, and `nodes` a whole node.
 #![tactic(auto)]
 
 #[cfg(test)]

@@ -1,0 +1,4 @@
+pub mod Truths
+pub mod Numbers
+pub mod Lists
+pub mod Texts

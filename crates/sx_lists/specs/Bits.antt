@@ -1,0 +1,6 @@
+-- A truth value as a number.
+use Rattle.std.specs.Prelude.{ℕ, Bool, if◌then◌else◌}
+
+-- true as 1, false as 0
+abbrev pub bit : Bool → ℕ
+bit b = if b then 1 else 0
