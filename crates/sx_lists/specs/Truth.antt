@@ -2,5 +2,5 @@
 use Rattle.std.specs.Prelude.{ℕ, Bool, if◌then◌else◌}
 
 -- true as 1, false as 0
-abbrev pub bit : Bool → ℕ
-bit b = if b then 1 else 0
+abbrev pub truth : Bool → ℕ
+truth b = if b then 1 else 0
