@@ -23,4 +23,5 @@ returns c =
     let some : 0 < a.free = positive a.free c.if-self-eq0.false in
     let it = linked a.lives a.block.pages a.head a.free c.self.invariant.2 some in
     rw (c.clear.ensures.1, c.mark.ensures, ← c.self.view_is)
-    (it.0, omega (arith, size-pages_of a.lives a.block.pages same, c.self.invariant.2.counted, some), is_live-pages_of a.lives a.block.pages a.head same ∙ it.1, take-is a.lives a.block.pages a.head same)
+    (it.0, omega (arith, size-pages_of a.lives a.block.pages same, c.self.invariant.2.counted, some),
+        is_live-pages_of a.lives a.block.pages a.head same ∙ it.1, take-is a.lives a.block.pages a.head same)
