@@ -7,7 +7,8 @@ pub loop-index-preserved : goal.loop-index-preserved
 loop-index-preserved c =
     let is = c.loop-index.invariant.0 in let inside : c.loop-index.index < 256 = omega (arith, is.long, c.loop-index-test.true, c.requires.long) in
     elim c.match-numbers-index.branch [
-      | in-Some w ↦ rw (w.arena-is, w.numbers-is, w.release.ensures) (drop-step c.loop-index.arena c.loop-index.numbers c.loop-index.index w.in-Some.page inside is w.in-Some.is c.loop-index.invariant.1)
+      | in-Some w ↦ rw (w.arena-is, w.numbers-is, w.release.ensures)
+          (drop-step c.loop-index.arena c.loop-index.numbers c.loop-index.index w.in-Some.page inside is w.in-Some.is c.loop-index.invariant.1)
       | in_default w ↦ rw (w.arena-is, w.numbers-is) (is, keep-step c.loop-index.numbers c.loop-index.index w.in_default.is c.loop-index.invariant.1)
     ]
 
