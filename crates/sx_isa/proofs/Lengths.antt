@@ -46,8 +46,8 @@ unfolding two_at one_at
 steady w0 w1 w2 v1 v2 =
     by_format (λ r. counted (r w1 w2) ≡ counted (r v1 v2)) w0
     (λ h. two_of_length _ _ _ _ _ _ _ (destination_some (w0 % 16) (w0 / 128 % 2)
-        (if takes_word (w0 / 256 % 16) (w0 / 16 % 4) then w2 else w1) (if takes_word (w0 / 256 % 16) (w0 / 16 % 4) then v2 else v1)))
-        (λ h k. refl) (λ h k l. refl) (λ h. refl) (λ h k. one_of_length _ _ _ _ _ (source_value (w0 % 16) (w0 / 16 % 4) w1 v1)) (λ h. refl)
+    (if takes_word (w0 / 256 % 16) (w0 / 16 % 4) then w2 else w1) (if takes_word (w0 / 256 % 16) (w0 / 16 % 4) then v2 else v1)))
+    (λ h k. refl) (λ h k l. refl) (λ h. refl) (λ h k. one_of_length _ _ _ _ _ (source_value (w0 % 16) (w0 / 16 % 4) w1 v1)) (λ h. refl)
 
 pub length_is : (w0 w1 w2 : ℕ) → length_of w0 ≡ counted (instruction_at w0 w1 w2)
 unfolding length_of

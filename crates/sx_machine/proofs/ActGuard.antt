@@ -88,7 +88,7 @@ take_open : (a : State) (at n : ℕ) → take_refusal a at n ≡ None → meets_
 take_open a at n h =
     let all = open_none (not (a.cur == 0)) (passes_end at n || (meets_private a.sections.live at n || meets_device (places_of a.devices) at n)) h in
     or_false_left (meets_private a.sections.live at n) (meets_device (places_of a.devices) at n)
-        (or_false_right (passes_end at n) (meets_private a.sections.live at n || meets_device (places_of a.devices) at n) all)
+    (or_false_right (passes_end at n) (meets_private a.sections.live at n || meets_device (places_of a.devices) at n) all)
 
 -- no byte of a range that meets no private section is one of s's
 range_apart : (a : State) (s : Section) (at n : ℕ) → Lives a.sections.live s → meets_private a.sections.live at n ≡ false

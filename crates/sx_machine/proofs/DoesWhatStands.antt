@@ -157,7 +157,7 @@ instruction_does mac a i r s = by (is_module_word (word a.mem (pc_of a))) refl
   where
     by : (b : Bool) → is_module_word (word a.mem (pc_of a)) ≡ b
         → Does (cond b (module_instruction mac (word a.mem (pc_of a) - 0x1380) (given_at_pc mac a) a.mem)
-            (exec a.sections (own_of a) (program (word a.mem (pc_of a)) a.regs) (start a))) (instruction_done mac a i)
+        (exec a.sections (own_of a) (program (word a.mem (pc_of a)) a.regs) (start a))) (instruction_done mac a i)
     by false e = not_module a i r s e mac
     by true e =
         let w = word a.mem (pc_of a) in

@@ -160,7 +160,7 @@ tells_opened g own e ad (Some body) = (refl, own, e)
 tells_wrap : (mac : Mac) (g : Given) (own : Section) → own_section g ≡ Some own → Tells g (wrap mac g own)
 tells_wrap mac g own e = tells_inputs g own
     (λ key ad body. Put (slice_index g.regs 14) (wrapped mac key ad body).cipher
-        (Put (slice_index g.regs 15) (wrapped mac key ad body).tag (Tell (concluded g.regs 1) (event.Wrapped g.own) (exchanged g.regs ad body))))
+    (Put (slice_index g.regs 15) (wrapped mac key ad body).tag (Tell (concluded g.regs 1) (event.Wrapped g.own) (exchanged g.regs ad body))))
     (λ k a b. (refl, own, e))
 
 tells_unwrap : (mac : Mac) (g : Given) (own : Section) → own_section g ≡ Some own → Tells g (unwrap mac g own)
@@ -218,7 +218,7 @@ exec_told mac g m0 own (Bytes at n k) x h =
     told_if mac g m0 (may_range g.sections.live own Read at n) (exec g.sections own (k (bytes_from x.mem at n)) x) bad.Read (exec_told mac g m0 own (k (bytes_from x.mem at n)) x (h _))
 exec_told mac g m0 own (Put at bs k) x h =
     told_if mac g m0 (may_each g.sections.live own Write at bs) (exec g.sections own k (record x { mem = put_bytes x.mem at bs })) bad.Write
-        (exec_told mac g m0 own k (record x { mem = put_bytes x.mem at bs }) h)
+    (exec_told mac g m0 own k (record x { mem = put_bytes x.mem at bs }) h)
 
 protected_told : (mac : Mac) (g : Given) (m0 : List ℕ) (o : Option Refusal)
     → refusal g.sections (layout_in g.regs) (places_of g.devices) ≡ o → ToldBy mac g m0 (protected_if mac g m0 (layout_in g.regs) o)
@@ -248,8 +248,8 @@ instruction_told mac s =
     let code = w - 0x1380 in
     either_told mac g s.mem (is_module_word w) (module_instruction mac code g s.mem) (exec s.sections (own_of s) (program w s.regs) (start s))
     (either_told mac g s.mem (code == 0) (unprotect g s.mem)
-        (cond (code == 1) (protect mac g s.mem) (exec s.sections (own_of s) (module_row mac code g) (untouched_with g s.mem)))
-        (unprotect_told mac g s.mem)
+    (cond (code == 1) (protect mac g s.mem) (exec s.sections (own_of s) (module_row mac code g) (untouched_with g s.mem)))
+    (unprotect_told mac g s.mem)
     (either_told mac g s.mem (code == 1) (protect mac g s.mem) (exec s.sections (own_of s) (module_row mac code g) (untouched_with g s.mem)) (protect_told mac g s.mem)
     (exec_told mac g s.mem (own_of s) (module_row mac code g) (untouched_with g s.mem) (tells_module mac code g))))
     (exec_told mac g s.mem (own_of s) (program w s.regs) (start s) (tells_program g w s.regs))

@@ -72,8 +72,10 @@ ReadFramed live own m0 (Err v) = Unit {0}
 sampled_framed : (live : List Section) (own : ℕ) (m0 : List ℕ) (device : ℕ) (w : Window) (x : Moment) → Framed live own m0 x.mem → ReadFramed live own m0 (Ok (sampled device w x))
 sampled_framed live own m0 device w x h = by w.fresh
   where
-    by : (b : Bool) → (let p : ℕ × Moment = if b then (0x8000 + w.value,
-        record { mem = x.mem; devices = cleared x.devices device; touches = with_touch x.touches (DeviceRead device w.value) }) else
+    by : (b : Bool) → (let p : ℕ × Moment = if b then (
+      0x8000 + w.value,
+      record { mem = x.mem; devices = cleared x.devices device; touches = with_touch x.touches (DeviceRead device w.value) },
+    ) else
         (0, x) in Framed live own m0 p.1.mem)
     by true = h
     by false = h
@@ -289,7 +291,7 @@ pub steps_framed : StepsFramed
 steps_framed mac a p =
     settled_framed a (attempt mac a)
     (framed_if a.sections.live (own_of a) a.mem (word_outside a.sections.live (pc_of a))
-        (ordered mac a (device_at a.devices (pc_of a))) bad.Fetch (λ _. ordered_framed mac a (device_at a.devices (pc_of a)) p))
+    (ordered mac a (device_at a.devices (pc_of a))) bad.Fetch (λ _. ordered_framed mac a (device_at a.devices (pc_of a)) p))
 
 interrupted_framed : (a : State) (o : Outcome) → FramedBy a.sections.live 0 a.mem o → Framed a.sections.live 0 a.mem (interrupted a o).state.mem ⊎ ((interrupted a o).state ≡ reset a)
 interrupted_framed a (Finished regs x) h = inl h

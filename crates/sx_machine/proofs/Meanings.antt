@@ -53,7 +53,7 @@ zeroed_bytes mem at zero = refl
 zeroed_bytes mem at (suc n) =
     let z = zeroed mem at n in
     let first : bytes_from (slice_set z (at + n) 0) at n ≡ bytes_from z at n = same_bytes z
-        (slice_set z (at + n) 0) at n (λ k lo hi. get_or-set_other z (at + n) k 0 0 (λ e. absurd (omega (arith, hi, e)))) in
+    (slice_set z (at + n) 0) at n (λ k lo hi. get_or-set_other z (at + n) k 0 0 (λ e. absurd (omega (arith, hi, e)))) in
     ap (λ l. l ++ slice_index (slice_set z (at + n) 0) (at + n) ∷ []) (first ∙ zeroed_bytes mem at n)
     ∙ ap (λ v. replicate n 0 ++ v ∷ []) (set_zero z (at + n)) ∙ more_of n 0
 

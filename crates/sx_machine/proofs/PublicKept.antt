@@ -65,8 +65,11 @@ clear_of_range at n from to k e lo hi = elim (cases_lt k at) [
     | inl lt ↦
         elim (and_cases (nat_lt 0 n) (nat_lt at to && nat_lt from (at + n)) e) [
           | inl a ↦ absurd (omega (arith, ltb-false 0 n a, ge, lt))
-          | inr b ↦ elim (and_cases (nat_lt at to) (nat_lt from (at + n)) b) [ inl c ↦ absurd
-              (omega (arith, ltb-false at to c, ge, hi)) | inr c ↦ absurd (omega (arith, ltb-false from (at + n) c, lo, lt)) ]
+          | inr b ↦ elim (and_cases (nat_lt at to) (nat_lt from (at + n)) b) [
+            | inl c ↦ absurd
+                (omega (arith, ltb-false at to c, ge, hi))
+            | inr c ↦ absurd (omega (arith, ltb-false from (at + n) c, lo, lt))
+          ]
         ]
     | inr past ↦ inr past
   ]
@@ -91,7 +94,7 @@ put_public a at bytes s l e k p =
     let q = and_parts (nat_le s.layout.pub_from k) (nat_lt k s.layout.pub_to) p in
     put_other bytes a.mem at k (clear_of_range at (length bytes) s.layout.pub_from s.layout.pub_to k
     (none_any (λ z. meets at (length bytes) z.layout.pub_from z.layout.pub_to) a.sections.live s (put_apart a at (length bytes) e) l)
-        (leb-true s.layout.pub_from k q.0) (ltb-true k s.layout.pub_to q.1))
+    (leb-true s.layout.pub_from k q.0) (ltb-true k s.layout.pub_to q.1))
 
 unless_public : {T : Type 0} (o : Option Refused) (a : State) (done : Shown T) (s : Section) → (o ≡ None → KeepsIt s a done.state) → KeepsIt s a (unless o a done).state
 unless_public None a done s f = f refl

@@ -76,8 +76,10 @@ ReadRanged ds (Err v) = Unit {0}
 sampled_ranged : (ds : List Window) (k : ℕ) (w : Window) (x : Moment) → w.value < 32768 → Steady ds x → ReadRanged ds (Ok (sampled k w x))
 sampled_ranged ds k w x lt h = by w.fresh
   where
-    by : (b : Bool) → (let p : ℕ × Moment = if b then (0x8000 + w.value,
-        record { mem = x.mem; devices = cleared x.devices k; touches = with_touch x.touches (DeviceRead k w.value) }) else
+    by : (b : Bool) → (let p : ℕ × Moment = if b then (
+      0x8000 + w.value,
+      record { mem = x.mem; devices = cleared x.devices k; touches = with_touch x.touches (DeviceRead k w.value) },
+    ) else
         (0, x) in (p.0 < 65536) × Steady ds p.1)
     by true = (omega (arith, lt), record { memory = h.memory; shapes = cleared_shapes x.devices k ∙ h.shapes; samples = cleared_samples x.devices k h.samples })
     by false = (omega arith, h)
@@ -250,7 +252,7 @@ ranged_on op wide at s regs lt h =
 ranged_onto : (op : Op2) (wide : Bool) (o : Operand) (s : ℕ) (regs : List ℕ) → s < 65536 → AreRegisters regs → Ranged (onto op wide o s regs)
 ranged_onto op wide (Reg r) s regs lt h =
     ranged_register (writes op) r (computed op wide s (cut_value wide (reg regs r)) (flags regs)) regs
-        (computed_small op wide s (cut_value wide (reg regs r)) (flags regs) lt (cut_small wide (reg regs r))) h
+    (computed_small op wide s (cut_value wide (reg regs r)) (flags regs) lt (cut_small wide (reg regs r))) h
 ranged_onto op wide (Indexed r x) s regs lt h = ranged_on op wide (onward (reg regs r) x) s regs lt h
 ranged_onto op wide (Symbolic x) s regs lt h = ranged_on op wide (onward (reg regs 0) (65534 + x)) s regs lt h
 ranged_onto op wide (Absolute x) s regs lt h = ranged_on op wide x s regs lt h
@@ -265,7 +267,7 @@ ranged_in kind wide at regs h v lt = ranged_memory wide true at (alu.row kind wi
 ranged_place : (kind : Calc) (wide : Bool) (o : Operand) (regs : List ℕ) (next : ℕ) → IsSource o → AreRegisters regs → Holds 0 next → Ranged (in_place kind wide o regs next)
 ranged_place kind wide (Reg r) regs next o h n =
     ranged_register true r (alu.row kind wide (cut_value wide (reg regs r)) 0 (flags regs)) (at_pc regs next)
-        (alu_small kind wide (cut_value wide (reg regs r)) 0 (flags regs) (cut_small wide (reg regs r)) (omega arith)) (at_pc_registers regs next h n)
+    (alu_small kind wide (cut_value wide (reg regs r)) 0 (flags regs) (cut_small wide (reg regs r)) (omega arith)) (at_pc_registers regs next h n)
 ranged_place kind wide (Indexed r x) regs next o h n = ranged_in kind wide (onward (reg regs r) x) (at_pc regs next) (at_pc_registers regs next h n)
 ranged_place kind wide (Symbolic x) regs next o h n = ranged_in kind wide (onward (reg regs 0) x) (at_pc regs next) (at_pc_registers regs next h n)
 ranged_place kind wide (Absolute x) regs next o h n = ranged_in kind wide x (at_pc regs next) (at_pc_registers regs next h n)

@@ -151,7 +151,7 @@ sparse_opened g ad (Some body) = tt
 sparse_wrap : (mac : Mac) (g : Given) (own : Section) → Sparse 2 None (wrap mac g own)
 sparse_wrap mac g own = sparse_inputs g own
     (λ key ad body. Put (slice_index g.regs 14) (wrapped mac key ad body).cipher
-        (Put (slice_index g.regs 15) (wrapped mac key ad body).tag (Tell (concluded g.regs 1) (event.Wrapped g.own) (exchanged g.regs ad body))))
+    (Put (slice_index g.regs 15) (wrapped mac key ad body).tag (Tell (concluded g.regs 1) (event.Wrapped g.own) (exchanged g.regs ad body))))
     (λ k a b. tt)
 
 sparse_unwrap : (mac : Mac) (g : Given) (own : Section) → Sparse 2 None (unwrap mac g own)
@@ -217,8 +217,8 @@ instruction_traced mac s ev =
     let code = w - 0x1380 in
     either_traced live own s.devices (is_module_word w) (module_instruction mac code g s.mem) (exec s.sections own (program w s.regs) (start s))
     (either_traced live own s.devices (code == 0) (unprotect g s.mem)
-        (cond (code == 1) (protect mac g s.mem) (exec s.sections own (module_row mac code g) (untouched_with g s.mem)))
-        (unprotect_traced g live own s.mem)
+    (cond (code == 1) (protect mac g s.mem) (exec s.sections own (module_row mac code g) (untouched_with g s.mem)))
+    (unprotect_traced g live own s.mem)
     (either_traced live own s.devices (code == 1) (protect mac g s.mem) (exec s.sections own (module_row mac code g) (untouched_with g s.mem)) (protect_traced mac g live own s.mem)
     (exec_traced s.sections own s.devices (module_row mac code g) 2 None (untouched_with g s.mem) (sparse_module mac code g) (first_traced live own (untouched_with g s.mem) refl ev))))
     (exec_traced s.sections own s.devices (program w s.regs) 2 None (start s) (sparse_program w s.regs) (first_traced live own (start s) refl ev))

@@ -112,7 +112,7 @@ ranged_opened g ad (Some body) h = concluded_registers g.regs 1 h (omega arith)
 ranged_wrap : (mac : Mac) (g : Given) (own : Section) → AreRegisters g.regs → Ranged (wrap mac g own)
 ranged_wrap mac g own h = ranged_inputs g own
     (λ key ad body. Put (slice_index g.regs 14) (wrapped mac key ad body).cipher
-        (Put (slice_index g.regs 15) (wrapped mac key ad body).tag (Tell (concluded g.regs 1) (event.Wrapped g.own) (exchanged g.regs ad body))))
+    (Put (slice_index g.regs 15) (wrapped mac key ad body).tag (Tell (concluded g.regs 1) (event.Wrapped g.own) (exchanged g.regs ad body))))
     (λ k a b. concluded_registers g.regs 1 h (omega arith))
 
 ranged_unwrap : (mac : Mac) (g : Given) (own : Section) → AreRegisters g.regs → Ranged (unwrap mac g own)
@@ -128,7 +128,7 @@ ranged_module mac code g p c h =
     (ranged_if (code == 4) _ _ (ranged_within g (wrap mac g) (own_section g) h (λ s. ranged_wrap mac g s h))
     (ranged_if (code == 5) _ _ (ranged_within g (unwrap mac g) (own_section g) h (λ s. ranged_unwrap mac g s h))
     (ranged_if (code == 6) _ _ (ranged_answer g held h (holder_small g.sections (slice_index g.regs 9) p))
-        (ranged_within g (λ own. answer g g.caller) (own_section g) h (λ s. ranged_answer g g.caller h c)))))
+    (ranged_within g (λ own. answer g g.caller) (own_section g) h (λ s. ranged_answer g g.caller h c)))))
 
 answered_registers : (regs : List ℕ) (id number : ℕ) → AreRegisters regs → id < 65536 → number < 65536 → AreRegisters (answer_registers regs id number)
 answered_registers regs id number h a b = concluded_registers (slice_set regs 14 number) id (set_registers regs 14 number h (b, refl)) a
@@ -146,9 +146,10 @@ with_bytes g mem s h = record { memory = h; shapes = refl; samples = s }
 protected_ranged : (mac : Mac) (g : Given) (mem : List ℕ) (l : Layout) (o : Option Refusal)
     → refusal g.sections l (places_of g.devices) ≡ o → AreRegisters g.regs → HaveSamples g.devices
     → AreMemoryBytes mem → RangedBy g.devices (protected_if mac g mem l o)
-protected_ranged mac g mem l None e r s h =
-    (answered_registers g.regs g.sections.next 0 r (omega (arith, (admits g.sections l (places_of g.devices) e).ids)) (omega arith),
-        with_bytes g (wiped mem l) s (zeroed_small mem l.priv_from (l.priv_to - l.priv_from) h))
+protected_ranged mac g mem l None e r s h = (
+  answered_registers g.regs g.sections.next 0 r (omega (arith, (admits g.sections l (places_of g.devices) e).ids)) (omega arith),
+  with_bytes g (wiped mem l) s (zeroed_small mem l.priv_from (l.priv_to - l.priv_from) h),
+)
 protected_ranged mac g mem l (Some why) e r s h = (answered_registers g.regs 0 (number_of why) r (omega arith) (number_small why), with_bytes g mem s h)
 
 protect_ranged : (mac : Mac) (g : Given) (mem : List ℕ) → AreRegisters g.regs → HaveSamples g.devices → AreMemoryBytes mem → RangedBy g.devices (protect mac g mem)
@@ -157,8 +158,10 @@ protect_ranged mac g mem r s h = protected_ranged mac g mem (layout_in g.regs) (
 
 removed_ranged : (g : Given) (mem : List ℕ) (o : Option Section) → AreRegisters g.regs → HaveSamples g.devices → AreMemoryBytes mem → RangedBy g.devices (removed_if g mem o)
 removed_ranged g mem None r s h = (concluded_registers g.regs 0 r (omega arith), with_bytes g mem s h)
-removed_ranged g mem (Some own) r s h = (concluded_registers g.regs 1 r (omega arith),
-    with_bytes g (wiped mem own.layout) s (zeroed_small mem own.layout.priv_from (own.layout.priv_to - own.layout.priv_from) h))
+removed_ranged g mem (Some own) r s h = (
+  concluded_registers g.regs 1 r (omega arith),
+  with_bytes g (wiped mem own.layout) s (zeroed_small mem own.layout.priv_from (own.layout.priv_to - own.layout.priv_from) h),
+)
 
 unprotect_ranged : (g : Given) (mem : List ℕ) → AreRegisters g.regs → HaveSamples g.devices → AreMemoryBytes mem → RangedBy g.devices (unprotect g mem)
 unfolding unprotect
@@ -178,8 +181,8 @@ instruction_ranged mac s h =
     let moment : Steady s.devices (start s) = record { memory = h.memory; shapes = refl; samples = h.samples } in
     either_ranged s.devices (is_module_word w) (module_instruction mac code g s.mem) (exec s.sections (own_of s) (program w s.regs) (start s))
     (either_ranged s.devices (code == 0) (unprotect g s.mem)
-        (cond (code == 1) (protect mac g s.mem) (exec s.sections (own_of s) (module_row mac code g) (untouched_with g s.mem)))
-        (unprotect_ranged g s.mem h.registers h.samples h.memory)
+    (cond (code == 1) (protect mac g s.mem) (exec s.sections (own_of s) (module_row mac code g) (untouched_with g s.mem)))
+    (unprotect_ranged g s.mem h.registers h.samples h.memory)
     (either_ranged s.devices (code == 1) (protect mac g s.mem) (exec s.sections (own_of s) (module_row mac code g) (untouched_with g s.mem)) (protect_ranged mac g s.mem h.registers h.samples h.memory)
     (exec_ranged s.sections (own_of s) s.devices (module_row mac code g) (untouched_with g s.mem) (ranged_module mac code g h.placed (entered_small s (own_of s) h.last h.caller) h.registers) moment)))
     (exec_ranged s.sections (own_of s) s.devices (program w s.regs) (start s) (ranged_program w s.regs (word_small s.mem (pc_of s) h.memory) h.registers) moment)
@@ -274,17 +277,36 @@ irq_idle s e = by (s.cur == 0) refl e
     by false t e = absurd cc
 
 pub put_is_node : (s : State) (at : ℕ) (bytes : List ℕ) → IsNode s → IsNode (record s { mem = put_bytes s.mem at bytes })
-put_is_node s at bytes h = record { registers = h.registers; memory = put_small bytes s.mem at h.memory;
-    places = h.places; samples = h.samples; placed = h.placed; apart = h.apart; last = h.last; caller = h.caller; runner = h.runner }
+put_is_node s at bytes h = record {
+  registers = h.registers;
+  memory = put_small bytes s.mem at h.memory;
+  places = h.places;
+  samples = h.samples;
+  placed = h.placed;
+  apart = h.apart;
+  last = h.last;
+  caller = h.caller;
+  runner = h.runner;
+}
 
 last_small : (b : Bool) (n : ℕ) → n < 65536 → (if b then 0 else n) < 65536
 last_small true n lt = omega arith
 last_small false n lt = lt
 
 pub set_is_node : (s : State) (r v : ℕ) → v < 65536 → s.cur ≡ 0 → IsNode s → IsNode (record s { regs = set_reg s.regs r v; last = if r == 0 then 0 else s.last })
-set_is_node s r v lt idle h = record { registers = set_reg_registers s.regs r v h.registers lt; memory =
-    h.memory; places = h.places; samples = h.samples; placed = h.placed; apart = h.apart; last = last_small
-    (r == 0) s.last h.last; caller = h.caller; runner = inl idle }
+set_is_node s r v lt idle h = record {
+  registers = set_reg_registers s.regs r v h.registers lt;
+  memory =
+      h.memory;
+  places = h.places;
+  samples = h.samples;
+  placed = h.placed;
+  apart = h.apart;
+  last = last_small
+      (r == 0) s.last h.last;
+  caller = h.caller;
+  runner = inl idle;
+}
 
 pub sense_is_node : (s : State) (device v : ℕ) → v < 32768 → IsNode s → IsNode (record s { devices = with_sample s.devices device v })
 sense_is_node s device v lt h = record {

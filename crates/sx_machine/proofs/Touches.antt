@@ -64,10 +64,18 @@ read_noted : (live : List Section) (own n k : ℕ) (w : Window) (ts : List Touch
     → Replays live own (with_touch ts (DeviceRead k w.value)) a (cleared b k) × Room n (with_touch ts (DeviceRead k w.value))
 read_noted live own n k w [] a b r h e s f m = absurd (omega (arith, r))
 read_noted live own n k w (Quiet ∷ ts) a b r h e s f m =
-    let same = quiet_same live own ts a b r.0 h in
-    ((w, subst (λ z. slice_get z k ≡ Some w) same e, s, f, refl, m,
-        subst (λ z. Replays live own ts (cleared a k) (cleared z k)) (sym same) (quiet_replays live own ts (cleared a k) r.0)),
-        quiet_room n ts r.0 r.1)
+    let same = quiet_same live own ts a b r.0 h in (
+      (
+        w,
+        subst (λ z. slice_get z k ≡ Some w) same e,
+        s,
+        f,
+        refl,
+        m,
+        subst (λ z. Replays live own ts (cleared a k) (cleared z k)) (sym same) (quiet_replays live own ts (cleared a k) r.0),
+      ),
+      quiet_room n ts r.0 r.1,
+    )
 read_noted live own n k w (DeviceRead j v ∷ ts) a b r h e s f m =
     let g = read_noted live own n k w ts (cleared a j) b r h.6 e s f m in ((h.0, h.1, h.2, h.3, h.4, h.5, g.0), g.1)
 read_noted live own n k w (DeviceWrite j v ∷ ts) a b r h e s f m =
@@ -222,7 +230,7 @@ module _ (t : Sections) (own : ℕ) (a : List Window) where
   load_all : (n : ℕ) (last : Option (Bool × ℕ)) (wide : Bool) (at : ℕ) (k : ℕ → Plan) (x : Moment) (f : ℕ → Moment → Outcome) (b : Bool) → may_at wide t.live own Read at ≡ b → Is n last x
       → ((0xFFE0 ≤ at) × ((v : ℕ) → Sparse n (Some (wide, at)) (k v))) ⊎ Spend n (λ m. (v : ℕ) → Sparse m (Some (wide, at)) (k v))
       → ((m v : ℕ) (y : Moment) → Sparse m (Some (wide, at)) (k v) → Is m (Some (wide, at)) y → By (f v y))
-          → By (after_read (if b then read_place wide at (device_of x.devices at) x else Err bad.Read) f)
+      → By (after_read (if b then read_place wide at (device_of x.devices at) x else Err bad.Read) f)
   load_all n last wide at k x f false m h s g = tt
   load_all n last wide at k x f true m h (inl s) g =
       let none = none_above x.devices at h.evens s.0 in
@@ -300,4 +308,4 @@ module _ (t : Sections) (own : ℕ) (a : List Window) where
       (exec t own (k (bytes_from x.mem at c)) x) bad.Read (exec_traced (k (bytes_from x.mem at c)) n last x (s (bytes_from x.mem at c)) h)
   exec_traced (Put at bs k) n last x s h =
       if_by (may_each t.live own Write at bs) (exec t own k (record x { mem = put_bytes x.mem at bs })) bad.Write
-          (exec_traced k n last (record x { mem = put_bytes x.mem at bs }) s (with_mem n last last x (put_bytes x.mem at bs) h.last_ok h))
+      (exec_traced k n last (record x { mem = put_bytes x.mem at bs }) s (with_mem n last last x (put_bytes x.mem at bs) h.last_ok h))

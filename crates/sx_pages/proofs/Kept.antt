@@ -75,7 +75,7 @@ IsArena-write lives pages head free p at byte is a hp t = record {
 pub first-put : (pages : Blocks) (p byte : ℕ) → IsArenaBlock pages → p < 256 → first (set pages p (set (get_or pages p []) 0 (Some byte))) p ≡ Some byte
 first-put pages p byte is hp =
     ap (λ (page : List Slot). get_or page 0 None) (get_or-set_same pages p _ [] (omega (arith, is.0, hp)))
-        ∙ get_or-set_same (get_or pages p []) 0 (Some byte) None (omega (arith, length-page pages p hp is))
+    ∙ get_or-set_same (get_or pages p []) 0 (Some byte) None (omega (arith, length-page pages p hp is))
 
 pub IsArena-release : (lives : Lives) (pages : Blocks) (head free p : ℕ) → IsArenaBlock pages → IsArena lives pages head free → p < 256 → get_or lives p false ≡ true
     → IsArena (set lives p false) (set pages p (set (get_or pages p []) 0 (Some head))) p (free + 1)
@@ -83,7 +83,7 @@ IsArena-release lives pages head free p is a hp t =
     let new = set pages p (set (get_or pages p []) 0 (Some head)) in
     let gone : get_or (set lives p false) p false ≡ false = get_or-set_same lives p false false (omega (arith, a.flags, hp)) in
     let rest : IsChain (set (set lives p false) p true) new head free = subst (λ (ls : Lives). IsChain ls new head free)
-        (sym (back lives p t)) (chain-same lives pages new head free (λ q h f. first-other pages p q _ (apart lives p q t f)) a.chained) in
+    (sym (back lives p t)) (chain-same lives pages new head free (λ q h f. first-other pages p q _ (apart lives p q t f)) a.chained) in
     let more : suc free ≡ free + 1 = omega arith in
     record {
       flags = length-set lives p false ∙ a.flags;
@@ -111,8 +111,8 @@ IsArena-take lives pages head (suc n) next is a h e =
     let now : get_or (set lives head true) head false ≡ true = get_or-set_same lives head true false (omega (arith, a.flags, c.0)) in
     let same : c.2 ≡ next = ap byte_in (sym c.4 ∙ e) in
     let rest : IsChain (set lives head true) (set pages head zeroed) next n = chain-same
-        (set lives head true) pages _ next n (λ q h' f. first-other pages head q _ (apart (set lives head true) head q now f))
-        (subst (λ (k : ℕ). IsChain (set lives head true) pages k n) same c.5) in
+    (set lives head true) pages _ next n (λ q h' f. first-other pages head q _ (apart (set lives head true) head q now f))
+    (subst (λ (k : ℕ). IsChain (set lives head true) pages k n) same c.5) in
     let less : n ≡ suc n - 1 = omega arith in
     record {
       flags = length-set lives head true ∙ a.flags;
@@ -136,7 +136,7 @@ chain-new lives pages h (suc (suc n)) le long free all =
       it.2,
       subst (λ (k : ℕ). IsChain (set lives h true) pages k (suc n)) (sym (it.3 (omega (arith, le))))
           (chain-new (set lives h true) pages (h + 1) (suc n) (omega (arith, le)) (length-set lives h true ∙ long)
-              (λ q m. get_or-set_other lives h q true false (λ e. absurd (omega (arith, m, e))) ∙ free q (omega (arith, m))) all),
+          (λ q m. get_or-set_other lives h q true false (λ e. absurd (omega (arith, m, e))) ∙ free q (omega (arith, m))) all),
     )
 
 none-live : (n q : ℕ) → get_or (replicate n false) q false ≡ false

@@ -41,8 +41,13 @@ below page n h ne = choose (cases_lt page n) (λ lt. lt) (λ ge. absurd (ne (ome
 pub AllLinked-more : (pages : Blocks) (n next : ℕ) → IsArenaBlock pages → n < 256 → next < 256 → (n < 255 → next ≡ n + 1) → AllLinked pages n
     → AllLinked (set pages n (set (get_or pages n []) 0 (Some next))) (n + 1)
 AllLinked-more pages n next is h hn it all page hp = choose (cases_eq page n)
-    (λ e. (next, hn, subst (λ (k : ℕ). first (set pages n (set (get_or pages n []) 0 (Some next))) k ≡ Some next)
-        (sym e) (first-put pages n next is h), λ lt. it (subst (λ (k : ℕ). k < 255) e lt) ∙ ap (λ (k : ℕ). k + 1) (sym e)))
+    (λ e. (
+      next,
+      hn,
+      subst (λ (k : ℕ). first (set pages n (set (get_or pages n []) 0 (Some next))) k ≡ Some next)
+          (sym e) (first-put pages n next is h),
+      λ lt. it (subst (λ (k : ℕ). k < 255) e lt) ∙ ap (λ (k : ℕ). k + 1) (sym e),
+    ))
     (λ ne. let old = all page (below page n hp ne) in (old.0, old.1, first-other pages n page _ ne ∙ old.2, old.3))
 
 pub AreCopied-more : (lives : List Bool) (from to new : Blocks) (n : ℕ) → ((q : ℕ) → q ≢ n → get_or new q [] ≡ get_or to q [])

@@ -39,7 +39,7 @@ module _ {M : Type 1} {𝓤 : Ura M} (𝓛 : Logic 𝓤) (b : ℕ) where
     slot_out hp hat = qed 𝓛 (‵ (pages_own pages b o) ∷ []) ∵
         use1 𝓛 (‵ (page.own_at own_page b (nth 256 o p)) ⊛ ‵ (others in_block full_share pages p b o)) (takes in_block full_share 𝓛 pages p [] b o hp) $ split ! $
         use1 𝓛 (‵ (slot_own (get_or own_page at None) b (nth 1 (nth 256 o p) at)) ⊛ ‵ (others in_page full_share own_page at b (nth 256 o p)))
-            (takes in_page full_share 𝓛 own_page at None b (nth 256 o p) hat) $ split ! $
+        (takes in_page full_share 𝓛 own_page at None b (nth 256 o p) hat) $ split ! $
         rewrite ! 0 (λ (k : ℕ). ‵ (slot_own (get_or own_page at None) b k)) (nth_is o p at) refl $ frame ! $ fjoin ! $ done !
 
     pub slot_in : (byte : ℕ) → p < length pages → at < length own_page

@@ -103,7 +103,7 @@ pub write-is : (lives : List Bool) (pages : List (List Slot)) (p at byte : ℕ) 
 write-is lives pages p at byte e t =
     pages_of-written lives pages p _ e ∙ ap (λ (x : Option (List ℕ)). set (pages_of lives pages) p x)
     (ap (λ (l : Bool). page_of l (set (get_or pages p []) at (Some byte))) t ∙ ap (λ (x : List ℕ). Some x)
-        (bytes-set (get_or pages p []) at byte ∙ ap (λ (x : List ℕ). set x at byte) (sym (held-live lives pages p e t))))
+    (bytes-set (get_or pages p []) at byte ∙ ap (λ (x : List ℕ). set x at byte) (sym (held-live lives pages p e t))))
 
 zeros-are : (n : ℕ) → map byte_in (replicate n (Some 0)) ≡ replicate n 0
 zeros-are zero = refl

@@ -8,6 +8,9 @@ pub invariant_of-self : goal.invariant_of-self
 invariant_of-self c =
     let items = c.self.inside.windows.items in
     let written : take c.self.inside.windows.len (c.clear_one.new.windows ++ drop (length c.clear_one.new.windows) items)
-        ≡ cleared c.self.inside.windows.items c.args.device = grind (arith, common_steps) in
-    (c.self.invariant.0 ∙ sym (ap places_of written ∙ places_of-cleared c.self.inside.windows.items c.args.device),
-        c.self.invariant.1, subst HaveSamples (sym written) (HaveSamples-cleared items c.args.device c.self.invariant.2), c.self.invariant.3)
+    ≡ cleared c.self.inside.windows.items c.args.device = grind (arith, common_steps) in (
+      c.self.invariant.0 ∙ sym (ap places_of written ∙ places_of-cleared c.self.inside.windows.items c.args.device),
+      c.self.invariant.1,
+      subst HaveSamples (sym written) (HaveSamples-cleared items c.args.device c.self.invariant.2),
+      c.self.invariant.3,
+    )

@@ -8,7 +8,10 @@ pub invariant_of-self : goal.invariant_of-self
 invariant_of-self c =
     let items = c.self.inside.windows.items in
     let written : take c.self.inside.windows.len (c.sense_one.new.windows ++ drop (length c.sense_one.new.windows) items)
-        ≡ with_sample c.self.inside.windows.items c.args.device c.args.value = grind (arith, common_steps) in
-    (c.self.invariant.0 ∙ sym (ap places_of written ∙ places_of-with_sample c.self.inside.windows.items c.args.device c.args.value),
-        c.self.invariant.1, subst HaveSamples (sym written) (HaveSamples-with_sample items c.args.device
-        c.args.value c.requires.value c.self.invariant.2), c.self.invariant.3)
+    ≡ with_sample c.self.inside.windows.items c.args.device c.args.value = grind (arith, common_steps) in (
+      c.self.invariant.0 ∙ sym (ap places_of written ∙ places_of-with_sample c.self.inside.windows.items c.args.device c.args.value),
+      c.self.invariant.1,
+      subst HaveSamples (sym written) (HaveSamples-with_sample items c.args.device
+          c.args.value c.requires.value c.self.invariant.2),
+      c.self.invariant.3,
+    )

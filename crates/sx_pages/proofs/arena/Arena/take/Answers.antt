@@ -22,6 +22,9 @@ returns c =
     let a = c.self.inside in let same = c.self.invariant.2.flags ∙ sym a.block.shaped.0 in
     let some : 0 < a.free = positive a.free c.if-self-eq0.false in
     let it = linked a.lives a.block.pages a.head a.free c.self.invariant.2 some in
-    rw (c.clear.ensures.1, c.mark.ensures, ← c.self.view_is)
-    (it.0, omega (arith, size-pages_of a.lives a.block.pages same, c.self.invariant.2.counted, some),
-        is_live-pages_of a.lives a.block.pages a.head same ∙ it.1, take-is a.lives a.block.pages a.head same)
+    rw (c.clear.ensures.1, c.mark.ensures, ← c.self.view_is) (
+      it.0,
+      omega (arith, size-pages_of a.lives a.block.pages same, c.self.invariant.2.counted, some),
+      is_live-pages_of a.lives a.block.pages a.head same ∙ it.1,
+      take-is a.lives a.block.pages a.head same,
+    )

@@ -75,7 +75,7 @@ byte_spec 𝓤 𝓛 𝓜 𝓡 wired =
     move ! (1 ∷ []) $ heard ! Asked (λ asked. split ! $ split ! $ move ! (2 ∷ []) $ fsplit ! $ fsplit ! $ drop ! $ keep ! (0 ∷ 2 ∷ []) $
     enter ! _ _ _ _ _ $ alloc_all ! (λ l. pass_all ! refl ((tt, tt), ((tt, record { fits = are.1.0.1 }), ((tt, record { fits = are.1.1.0.1 }), tt))) $
     use1 𝓛 (‵ (hidden_shr Words κ (h.start, tt) b o) ⊛ ‵ (fhide (block_lends h.start h.pages κ)))
-        (lent_out 𝓛 C.struct C.the_codes C.the_heap C.the_lent κ h b o) $ split ! $ move ! (1 ∷ []) $ unhide ! $
+    (lent_out 𝓛 C.struct C.the_codes C.the_heap C.the_lent κ h b o) $ split ! $ move ! (1 ∷ []) $ unhide ! $
     in_a_block ! h.start (λ s. block_lends s h.pages κ) (id⊢ 𝓤 (never 𝓤)) (λ b' o' e.
     let k = p * 256 + at + o' in let inb : InBlock h.start = subst InBlock (sym e) tt in
     use1 𝓛 (‵ (slot_lent (get_or (get_or h.pages p []) at None) b' k κ)) (slot_seen 𝓛 b' κ h.pages p at o' hp hat) $

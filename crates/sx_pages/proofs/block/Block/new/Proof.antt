@@ -66,13 +66,13 @@ new_spec 𝓤 𝓛 𝓜 𝓡 wired A L g d dd met md =
     qed 𝓛 ((raw (alive 𝓛 En₀.signature z.0.0 z.0.1) ⊛ ‵ (owns (types_at En₀.signature.params z.0.0) a z.0.4)) ∷ (raw (fact 𝓤 (z.0.0.1.0 ⊑ A.lives)) ⊛ ‵ ftrue) ∷ []) ∵
     move ! (1 ∷ []) $ split ! $ heard ! (z.0.0.1.0 ⊑ A.lives) (λ le. drop ! $ split ! $ move ! (1 ∷ []) $
     fsplit ! $ fsplit ! $ drop ! $ move ! (1 ∷ []) $ drop ! $ use1 𝓛 (‵ (seen Y κ at h)) (id⊢ 𝓤 _) $ move !
-        (1 ∷ []) $ use1 𝓛 (‵ (flft κ q) ⊛ ‵ (flft z.0.0.1.0 z.0.1.1.0) ⊛ ‵ ftrue) (id⊢ 𝓤 _) $ split ! $ move ! (2 ∷ 0 ∷ []) $
+    (1 ∷ []) $ use1 𝓛 (‵ (flft κ q) ⊛ ‵ (flft z.0.0.1.0 z.0.1.1.0) ⊛ ‵ ftrue) (id⊢ 𝓤 _) $ split ! $ move ! (2 ∷ 0 ∷ []) $
     regoal ! (λ (us : List Val). prop (WpFn 𝓤 H C Λ fn us Post)) (λ i. are.0.0 i ++ []) refl $
     enter ! C Λ fn (vptr at.0 at.1 ∷ []) Post $
     alloc_all ! (λ l. pass_all ! refl ((tt, tt), tt) $ let En : Env 𝓤 𝓛.H = env fn.locals l in
     use2 𝓛 (raw ((Takes Y 𝓛 𝓜.mem 𝓡.returns).pre y)) (Takes-goes Y 𝓛 𝓜.mem 𝓡.returns κ q at h (⊑_trans κ z.0.0.1.0 A.lives z.0.2.0 le) 65536 1 τ (capped_is 65536 (lit< tt)) refl (lit< tt) (lit< tt)) $
     calls_at ! (framed 𝓤 𝓛.H 𝓜 (tables 𝓤 𝓛.H 𝓜 𝓡 𝓡.env)) (Takes Y 𝓛 𝓜.mem 𝓡.returns) (met.allocate dd) y
-        (and_then ! (get ! refl) (and_then ! (big_lit ! (record { fits = lit< tt })) (and_then ! (lit ! tt) (no_more !)))) (λ v.
+    (and_then ! (get ! refl) (and_then ! (big_lit ! (record { fits = lit< tt })) (and_then ! (lit ! tt) (no_more !)))) (λ v.
     use1 𝓛 (later (raw (Answered Y 𝓛 𝓜.mem 𝓡.returns h τ v) ⊛ ‵ (flft κ q))) (Takes-gives Y 𝓛 𝓜.mem 𝓡.returns κ q at h 65536 1 τ v) $ await ! tt $ split ! $
     answers Y ! 𝓜.mem 𝓡.returns h τ v
     (λ b o e. move ! (2 ∷ 3 ∷ []) $ join ! $ move ! (1 ∷ 2 ∷ []) $ lands_as ! e refl (tt, (record { fits = lit< tt }, (tt, tt))) $
@@ -87,15 +87,15 @@ new_spec 𝓤 𝓛 𝓜 𝓡 wired A L g d dd met md =
     sets ! (of_opd ! (get ! refl)) refl (tt, (record { fits = lit< tt }, (((tt, tt), ((tt, tt), tt)), tt))) $
     returns ! (look_at ! 0 refl) $ free_all ! refl $
     let p : Ptr = block_ptr b o in let x : (block.the_row).Denot = record
-        { start = p; pages = unwritten 256; shaped = IsArenaBlock-unwritten } in let k :
-        (lease.the_row Z g).Denot = record { mark = record {}; alloc = h; start = p } in
+    { start = p; pages = unwritten 256; shaped = IsArenaBlock-unwritten } in let k :
+    (lease.the_row Z g).Denot = record { mark = record {}; alloc = h; start = p } in
     let v : Val = pair_val (block_val p) lease_val in
     use1 𝓛 (‵ (pages_own (unwritten 256) b o)) (of_room 𝓛 b 256 o) $
     use0 𝓛 (‵ (block_own p (block_val p ∷ []))) (block_made 𝓛 p) $ fjoin ! $ move ! (1 ∷ []) $ use0 𝓛 (‵ (lease_own (lease_val ∷ []))) (lease_made 𝓛) $ fjoin ! $ move ! (1 ∷ 0 ∷ []) $
     use2 𝓛 (‵ (Pair.own_val (x, k) (v ∷ []))) (pair_of 𝓛 (block.the_row) (lease.the_row Z g) x k (block_val p) lease_val) $
     use1 𝓛 (‵ (Out.own_val (Some (x, k)) (live 1 (vcons v vnil) ∷ []))) (Some-of 𝓛 Pair (x, k) v) $ use0 𝓛
-        (raw (fact 𝓤 ((unwritten 256 ≡ unwritten 256) × (h ≡ h) × (p ≡ p))))
-        (fact_i 𝓤 ((unwritten 256 ≡ unwritten 256) × (h ≡ h) × (p ≡ p)) (emp 𝓤) (refl, refl, refl)) $
+    (raw (fact 𝓤 ((unwritten 256 ≡ unwritten 256) × (h ≡ h) × (p ≡ p))))
+    (fact_i 𝓤 ((unwritten 256 ≡ unwritten 256) × (h ≡ h) × (p ≡ p)) (emp 𝓤) (refl, refl, refl)) $
     nothing ! $ nothing ! $ fjoin ! $ move ! (3 ∷ 0 ∷ 2 ∷ 1 ∷ []) $
     by ! (leaves 𝓛 En₀ stays c z (live 1 (vcons v vnil)) (Some (x, k)) (tt, tt) (tt, tt)))
     (λ e. join ! $ lands_as ! e refl (tt, (record { fits = lit< tt }, (tt, tt))) $
@@ -105,5 +105,5 @@ new_spec 𝓤 𝓛 𝓜 𝓡 wired A L g d dd met md =
     sets ! (of_opd ! (get ! refl)) refl (tt, (record { fits = lit< tt }, tt)) $
     returns ! (look_at ! 0 refl) $ free_all ! refl $
     use0 𝓛 (‵ (Out.own_val None (live 0 vnil ∷ []))) (none_of 𝓛 Pair) $ use0 𝓛 (raw (fact 𝓤 (Unit {0})))
-        (fact_i 𝓤 (Unit {0}) (emp 𝓤) tt) $ nothing ! $ nothing ! $ fjoin ! $ move ! (3 ∷ 0 ∷ 2 ∷ 1 ∷ []) $
+    (fact_i 𝓤 (Unit {0}) (emp 𝓤) tt) $ nothing ! $ nothing ! $ fjoin ! $ move ! (3 ∷ 0 ∷ 2 ∷ 1 ∷ []) $
     by ! (leaves 𝓛 En₀ stays c z (live 0 vnil) None (tt, tt) (tt, tt)))))))
