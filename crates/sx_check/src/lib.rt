@@ -15,6 +15,4 @@ pub mod laws;
 mod locals;
 pub mod rules;
 mod scopes;
-#[cfg(test)]
-mod tests;
 mod uses;

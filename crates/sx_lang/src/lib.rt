@@ -13,7 +13,5 @@
 pub mod names;
 pub mod sides;
 pub mod sizes;
-#[cfg(test)]
-mod tests;
 pub mod tree;
 pub mod words;

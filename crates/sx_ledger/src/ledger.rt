@@ -1,11 +1,11 @@
 //! The set of entries that were made.
 
-ghost use Rattle.std.specs.Prelude.{◌≡◌, ◌↔◌, List, [], IsTrue, OnErr, OnOk};
+ghost use Rattle.std.specs.Prelude.{◌≡◌, ◌↔◌, List, [], IfOk, IsTrue, OnErr, OnOk};
 ghost use Rattle.std.specs.List.{Contains};
 ghost use Rattle.sx_ledger.specs.Made.{AddsEntry};
 
 use crate::entry::Entry;
-use std::alloc::{AllocError, Global};
+use std::alloc::{AllocError, AllocError as OutOfMemory, Global};
 use std::collections::BTreeSet;
 use std::marker::Model;
 
@@ -34,12 +34,13 @@ impl Ledger {
         }
     }
 
-    /// Adds the entry. One that is there already changes nothing. After an error, which says that
-    /// memory ran out, the ledger is as before.
+    /// Adds the entry. One that is there already changes nothing and takes no memory. After an
+    /// error, which says that memory ran out, the ledger is as before.
     pub fn made(&mut self, entry: Entry) -> Result<(), AllocError>
         ensures added { OnOk result (AddsEntry self.old self.new entry) }
         ensures again { Contains self.old entry → self.new ≡ self.old }
         ensures err { OnErr result (self.new ≡ self.old) }
+        ensures absent { OnErr result (Contains self.old entry → ⊥) }
     {
         match self.entries.insert(entry) {
             Ok(_) => Ok(()),
@@ -52,5 +53,14 @@ impl Ledger {
         ensures { IsTrue result ↔ Contains self.now entry.now }
     {
         self.entries.contains(entry)
+    }
+
+    /// A ledger that is equal to this one. The error says that memory ran out.
+    pub fn copy(&self, _alloc: Global) -> Result<Ledger, OutOfMemory>
+        ensures { IfOk result (λ copy. copy ≡ self.now) }
+    {
+        Ok(Ledger {
+            entries: self.entries.clone()?,
+        })
     }
 }

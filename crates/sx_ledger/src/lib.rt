@@ -13,5 +13,3 @@ pub use ledger::Ledger;
 mod entry;
 pub mod laws;
 mod ledger;
-#[cfg(test)]
-mod tests;

@@ -9,6 +9,4 @@ pub mod laws;
 pub mod quoted;
 pub mod reading;
 mod scan;
-#[cfg(test)]
-mod tests;
 pub mod tokens;

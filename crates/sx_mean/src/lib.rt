@@ -25,5 +25,3 @@ pub mod places;
 pub mod reactions;
 mod statements;
 pub mod stores;
-#[cfg(test)]
-mod tests;

@@ -19,8 +19,6 @@ pub mod printed;
 mod sign;
 mod statement;
 mod stop;
-#[cfg(test)]
-mod tests;
 
 pub use sx_print::conditions::printable;
 pub use sx_print::printing::print;

@@ -8,6 +8,4 @@
 
 pub mod conditions;
 pub mod printing;
-#[cfg(test)]
-mod tests;
 mod words;

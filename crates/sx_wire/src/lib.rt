@@ -14,6 +14,4 @@ pub use writing::{write_ask, write_event, write_set_key};
 pub mod laws;
 mod packets;
 mod reading;
-#[cfg(test)]
-mod tests;
 mod writing;

@@ -1,11 +1,12 @@
 //! The texts of two modules, and which modules can be printed.
 
-use crate::conditions::printable;
-use crate::printing::print;
 use std::alloc::{AllocError, Global};
+use std::process::Abort;
 use std::test::Fail;
 use sx_lang::names::Name;
 use sx_lang::tree::{BinOp, Decl, Expr, Handler, Module, Stmt, UnOp};
+use sx_print::conditions::printable;
+use sx_print::printing::print;
 
 #[derive(Debug, Drop)]
 struct NoName;
@@ -88,29 +89,49 @@ fn rest(alloc: Global) -> Result<Module, Fail> {
     Ok(module)
 }
 
-#[test]
-fn texts_of_two_modules(rt: HostRuntime) -> Result<(), Fail> {
-    let alloc = rt.alloc();
-    let rows = [
-        (
-            logic(alloc)?,
-            "input level;\noutput bright;\nvar limit = 100;\non level(v) {\n    if (v > limit) {\n        send bright(1);\n    } else {\n        send bright(0);\n    }\n}\n",
-        ),
-        (
-            rest(alloc)?,
-            "array cells[4];\non level(v) {\n    let x = 0;\n    x = -~!x;\n    cells[(x & 3)] = cells[65535];\n    if (x * 10) {\n    }\n    repeat 256 {\n        repeat 2 {\n        }\n    }\n}\n",
-        ),
-    ];
-    for (module, want) in &rows {
-        assert!(rt; printable(module));
-        let text = print(alloc, module)?;
-        assert_eq!(rt; text.as_str(), *want);
+/// Whether this is the module's text.
+fn is_printed(rt: &impl Abort, alloc: Global, module: &Module, want: &str) -> Result<(), Fail> {
+    assert!(rt; printable(module));
+    if printable(module) {
+        assert_eq!(rt; print(alloc, module)?.as_str(), want);
     }
     Ok(())
 }
 
 #[test]
-fn modules_that_can_be_printed(rt: HostRuntime) -> Result<(), Fail> {
+fn the_text_of_a_module(rt: HostRuntime) -> Result<(), Fail> {
+    let alloc = rt.alloc();
+    is_printed(
+        &rt,
+        alloc,
+        &logic(alloc)?,
+        "input level;\noutput bright;\nvar limit = 100;\non level(v) {\n    if (v > limit) {\n        send bright(1);\n    } else {\n        send bright(0);\n    }\n}\n",
+    )
+}
+
+#[test]
+fn the_text_of_the_other_forms(rt: HostRuntime) -> Result<(), Fail> {
+    let alloc = rt.alloc();
+    is_printed(
+        &rt,
+        alloc,
+        &rest(alloc)?,
+        "array cells[4];\non level(v) {\n    let x = 0;\n    x = -~!x;\n    cells[(x & 3)] = cells[65535];\n    if (x * 10) {\n    }\n    repeat 256 {\n        repeat 2 {\n        }\n    }\n}\n",
+    )
+}
+
+/// Whether a module can be printed.
+fn is_printable(rt: &impl Abort, module: &Module, want: bool) {
+    assert_eq!(rt; printable(module), want);
+}
+
+/// A module that emits this expression.
+fn emitting(alloc: Global, e: Expr) -> Result<Module, Fail> {
+    handling(alloc, vec![in alloc; Stmt::Emit(e)]?)
+}
+
+#[test]
+fn names_that_can_be_printed(rt: HostRuntime) -> Result<(), Fail> {
     let alloc = rt.alloc();
     let names = [
         ("x_1", true),
@@ -123,17 +144,26 @@ fn modules_that_can_be_printed(rt: HostRuntime) -> Result<(), Fail> {
         ("a-b", false),
     ];
     for (text, want) in names {
-        let module = handling(alloc, vec![in alloc; Stmt::Emit(read(text)?)]?)?;
-        assert_eq!(rt; printable(&module), want);
+        is_printable(&rt, &emitting(alloc, read(text)?)?, want);
     }
+    Ok(())
+}
+
+/// So many signs before `v`.
+fn signed(alloc: Global, signs: u8) -> Result<Expr, Fail> {
+    let mut e = read("v")?;
+    for _sign in 0..signs {
+        e = unary(alloc, UnOp::Neg, e)?;
+    }
+    Ok(e)
+}
+
+#[test]
+fn signs_that_can_be_printed(rt: HostRuntime) -> Result<(), Fail> {
+    let alloc = rt.alloc();
     // with the brace of the handler one more
     for (signs, want) in [(47, true), (48, false)] {
-        let mut e = read("v")?;
-        for _sign in 0..signs {
-            e = unary(alloc, UnOp::Neg, e)?;
-        }
-        let module = handling(alloc, vec![in alloc; Stmt::Emit(e)]?)?;
-        assert_eq!(rt; printable(&module), want);
+        is_printable(&rt, &emitting(alloc, signed(alloc, signs)?)?, want);
     }
     Ok(())
 }

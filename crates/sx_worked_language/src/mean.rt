@@ -1,15 +1,16 @@
 //! What small modules do at events, and an application that is valid or not.
 
-use crate::apps::{App, AppDevice, Link, Part};
-use crate::events::{Act, SourceEvent};
-use crate::reactions::react;
-use crate::stores::Store;
 use std::alloc::{AllocError, Global};
+use std::process::Abort;
 use std::test::Fail;
 use sx_check::checked::Checked;
 use sx_check::checks::check;
 use sx_lang::names::Name;
 use sx_lang::tree::{BinOp, Decl, DeviceKind, Expr, Handler, Module, Stmt};
+use sx_mean::apps::{App, AppDevice, Link, Part};
+use sx_mean::events::{Act, SourceEvent};
+use sx_mean::reactions::react;
+use sx_mean::stores::Store;
 
 #[derive(Debug, Drop)]
 struct NotMade;
@@ -99,32 +100,66 @@ fn falling(alloc: Global) -> Result<Checked, Fail> {
     })?)
 }
 
+/// Whether the module does this at an event, and keeps these cells.
+fn does(
+    rt: &impl Abort,
+    alloc: Global,
+    m: &Checked,
+    store: &mut Store,
+    event: SourceEvent,
+    want: &[Act],
+    cells: &[u16],
+) -> Result<(), Fail> {
+    let acts = react(alloc, m, store, event)?;
+    assert_eq!(rt; acts.as_slice(), want);
+    assert_eq!(rt; store.cells.as_slice(), cells);
+    Ok(())
+}
+
+/// What the logic does at three events.
+fn compared_values(rt: &impl Abort, alloc: Global, m: &Checked) -> Result<(), Fail> {
+    let mut store = Store::initial(alloc, m)?;
+    let rows = [(100, 0), (101, 1)];
+    for (value, want) in rows {
+        let event = SourceEvent::Input(0, value);
+        does(
+            rt,
+            alloc,
+            m,
+            &mut store,
+            event,
+            &[Act::Send(0, want)],
+            &[100],
+        )?;
+    }
+    does(
+        rt,
+        alloc,
+        m,
+        &mut store,
+        SourceEvent::Sample(7),
+        &[],
+        &[100],
+    )
+}
+
 #[test]
 fn logic_compares_with_its_limit(rt: HostRuntime) -> Result<(), Fail> {
-    let alloc = rt.alloc();
-    let m = logic(alloc)?;
-    let mut store = Store::initial(alloc, &m)?;
-    for (value, want) in [(100, 0), (101, 1)] {
-        let acts = react(alloc, &m, &mut store, SourceEvent::Input(0, value))?;
-        assert_eq!(rt; acts.as_slice(), [Act::Send(0, want)].as_slice());
-    }
-    let none = react(alloc, &m, &mut store, SourceEvent::Sample(7))?;
-    assert!(rt; none.is_empty());
-    Ok(())
+    compared_values(&rt, rt.alloc(), &logic(rt.alloc())?)
+}
+
+/// A variable that falls below 0 and on.
+fn falling_values(rt: &impl Abort, alloc: Global, m: &Checked) -> Result<(), Fail> {
+    let mut store = Store::initial(alloc, m)?;
+    let first = SourceEvent::Input(0, 1);
+    does(rt, alloc, m, &mut store, first, &[], &[65_535])?;
+    let second = SourceEvent::Input(0, 65_534);
+    does(rt, alloc, m, &mut store, second, &[Act::Send(0, 1)], &[1])
 }
 
 #[test]
 fn a_variable_wraps_and_is_kept(rt: HostRuntime) -> Result<(), Fail> {
-    let alloc = rt.alloc();
-    let m = falling(alloc)?;
-    let mut store = Store::initial(alloc, &m)?;
-    let none = react(alloc, &m, &mut store, SourceEvent::Input(0, 1))?;
-    assert!(rt; none.is_empty());
-    assert_eq!(rt; store.cells.as_slice(), [65_535].as_slice());
-    let acts = react(alloc, &m, &mut store, SourceEvent::Input(0, 65_534))?;
-    assert_eq!(rt; acts.as_slice(), [Act::Send(0, 1)].as_slice());
-    assert_eq!(rt; store.cells.as_slice(), [1].as_slice());
-    Ok(())
+    falling_values(&rt, rt.alloc(), &falling(rt.alloc())?)
 }
 
 /// Eye and logic at node 0, lamp at node 1 with this device.
@@ -175,17 +210,15 @@ fn lights(alloc: Global, lamp_device: Option<u8>) -> Result<App, Fail> {
     })
 }
 
+fn is_valid(rt: &impl Abort, app: &App, want: bool) {
+    assert_eq!(rt; app.valid(), want);
+}
+
 #[test]
 fn an_application_is_valid_with_its_devices(rt: HostRuntime) -> Result<(), Fail> {
-    let alloc = rt.alloc();
-    assert!(rt; lights(alloc, Some(1))?.valid());
-    assert!(rt;
-        !lights(alloc, Some(0))?.valid(),
-        "the device of another node"
-    );
-    assert!(rt;
-        !lights(alloc, None)?.valid(),
-        "an actuator without a device"
-    );
+    // with its device, with one of another node, and with none
+    for (lamp_device, want) in [(Some(1), true), (Some(0), false), (None, false)] {
+        is_valid(&rt, &lights(rt.alloc(), lamp_device)?, want);
+    }
     Ok(())
 }

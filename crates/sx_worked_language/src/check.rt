@@ -1,9 +1,10 @@
 //! For each rule a module that breaks it, and a module that keeps them all.
 
-use crate::checks::check;
-use crate::rules::Rule;
 use std::alloc::{AllocError, Global};
+use std::process::Abort;
 use std::test::Fail;
+use sx_check::checks::check;
+use sx_check::rules::Rule;
 use sx_lang::names::Name;
 use sx_lang::tree::{Decl, DeviceKind, Expr, Handler, Module, Stmt};
 
@@ -102,9 +103,13 @@ fn broken(alloc: Global, rule: Rule) -> Result<Module, Fail> {
     sampling(alloc, decls, body)
 }
 
+/// Whether the module breaks this rule first.
+fn breaks(rt: &impl Abort, module: Module, rule: Rule) {
+    assert_eq!(rt; check(module).err().map(|e| e.0), Some(rule));
+}
+
 #[test]
 fn each_rule_is_answered(rt: HostRuntime) -> Result<(), Fail> {
-    let alloc = rt.alloc();
     let rules = [
         Rule::Duplicate,
         Rule::Unknown,
@@ -118,33 +123,40 @@ fn each_rule_is_answered(rt: HostRuntime) -> Result<(), Fail> {
         Rule::Cells,
     ];
     for rule in rules {
-        let answer = check(broken(alloc, rule)?);
-        assert_eq!(rt; answer.err().map(|e| e.0), Some(rule));
+        breaks(&rt, broken(rt.alloc(), rule)?, rule);
     }
     Ok(())
 }
 
+/// A module that breaks the rule of costs, and that of unknown names before it.
+fn costly(alloc: Global) -> Result<Module, Fail> {
+    let unknown = vec![in alloc; assigned(&name("x")?)]?;
+    let body = nested(alloc, 256, 2, unknown)?;
+    sampling(alloc, sensor(alloc)?, body)
+}
+
 #[test]
 fn the_first_broken_rule_is_answered(rt: HostRuntime) -> Result<(), Fail> {
-    let alloc = rt.alloc();
-    let unknown = vec![in alloc; assigned(&name("x")?)]?;
-    let costly = nested(alloc, 256, 2, unknown)?;
-    let answer = check(sampling(alloc, sensor(alloc)?, costly)?);
-    assert_eq!(rt; answer.err().map(|e| e.0), Some(Rule::Unknown));
+    breaks(&rt, costly(rt.alloc())?, Rule::Unknown);
     Ok(())
+}
+
+/// A module that keeps the rules.
+fn kept(alloc: Global) -> Result<Module, Fail> {
+    let body = nested(alloc, 256, 1, Vec::new(alloc))?;
+    sampling(alloc, sensor(alloc)?, body)
+}
+
+/// Whether the module is checked, and has so many handlers.
+fn is_checked(rt: &impl Abort, module: Module, handlers: usize) {
+    match check(module) {
+        Ok(m) => assert_eq!(rt; m.module().handlers.len(), handlers),
+        Err(_) => assert!(rt; false),
+    }
 }
 
 #[test]
 fn a_module_that_keeps_the_rules_is_checked(rt: HostRuntime) -> Result<(), Fail> {
-    let alloc = rt.alloc();
-    let module = sampling(
-        alloc,
-        sensor(alloc)?,
-        nested(alloc, 256, 1, Vec::new(alloc))?,
-    )?;
-    let Ok(checked) = check(module) else {
-        return Err(NoName)?;
-    };
-    assert_eq!(rt; checked.module().handlers.len(), 1);
+    is_checked(&rt, kept(rt.alloc())?, 1);
     Ok(())
 }

@@ -1,12 +1,17 @@
 //! Texts without a fault, the places of first faults, and the bounds at their limits.
 
-use crate::error::ParseError;
-use crate::parse::parse;
-use crate::printed::reread;
-use crate::{print, printable};
 use std::alloc::Global;
+use std::process::Abort;
 use std::test::Fail;
 use sx_lang::sizes::{cost, data_size, nodes, weight};
+use sx_lang::tree::Module;
+use sx_parse::error::ParseError;
+use sx_parse::parse::parse;
+use sx_parse::printed::reread;
+use sx_parse::{print, printable};
+
+#[derive(Debug, Drop)]
+struct NotPrinted;
 
 /// Line and column of the first fault; none where the text is a module.
 fn fault_of(alloc: Global, text: &str) -> Result<Option<(u32, u32)>, ParseError> {
@@ -40,23 +45,26 @@ const LOGIC: &str = "input level;\noutput bright;\nvar limit = 100;\n\
 
 const LAMP: &str = "actuator;\ninput show;\non show(v) { emit v; }\n";
 
+/// The sizes of a module that has so many ends: nodes, weight, data and cost.
+fn has_sizes(rt: &impl Abort, module: &Module, ends: u8, want: (u64, u64, u64, u64)) {
+    let sizes = (
+        nodes(module),
+        weight(module, ends),
+        data_size(module, ends),
+        cost(module),
+    );
+    assert_eq!(rt; sizes, want);
+}
+
 #[test]
 fn sizes_of_three_texts(rt: HostRuntime) -> Result<(), Fail> {
-    let alloc = rt.alloc();
     let rows = [
         (EYE, 1, (3, 2432, 536, 8288)),
         (LOGIC, 2, (10, 3072, 562, 8448)),
         (LAMP, 1, (3, 2432, 536, 160)),
     ];
     for (text, ends, want) in rows {
-        let module = parse(alloc, text)?;
-        let sizes = (
-            nodes(&module),
-            weight(&module, ends),
-            data_size(&module, ends),
-            cost(&module),
-        );
-        assert_eq!(rt; sizes, want);
+        has_sizes(&rt, &parse(rt.alloc(), text)?, ends, want);
     }
     Ok(())
 }
@@ -189,6 +197,24 @@ fn all_bounds_at_once(rt: HostRuntime) -> Result<(), Fail> {
     Ok(())
 }
 
+/// Whether this is the module's text.
+fn is_printed(rt: &impl Abort, alloc: Global, module: &Module, want: &str) -> Result<(), Fail> {
+    assert!(rt; printable(module));
+    if printable(module) {
+        assert_eq!(rt; print(alloc, module)?.as_str(), want);
+    }
+    Ok(())
+}
+
+/// The module that is read from the module's text.
+fn read_again(alloc: Global, module: &Module) -> Result<Module, Fail> {
+    if printable(module) {
+        Ok(reread(alloc, module)?)
+    } else {
+        Err(NotPrinted.into())
+    }
+}
+
 #[test]
 fn texts_that_are_printed(rt: HostRuntime) -> Result<(), Fail> {
     let alloc = rt.alloc();
@@ -212,13 +238,8 @@ fn texts_that_are_printed(rt: HostRuntime) -> Result<(), Fail> {
     ];
     for (text, want) in rows {
         let module = parse(alloc, text)?;
-        assert!(rt; printable(&module));
-        let printed = print(alloc, &module)?;
-        assert_eq!(rt; printed.as_str(), want);
-        let again = reread(alloc, &module)?;
-        assert!(rt; printable(&again));
-        let printed = print(alloc, &again)?;
-        assert_eq!(rt; printed.as_str(), want);
+        is_printed(&rt, alloc, &module, want)?;
+        is_printed(&rt, alloc, &read_again(alloc, &module)?, want)?;
     }
     Ok(())
 }

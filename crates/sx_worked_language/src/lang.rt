@@ -1,11 +1,12 @@
 //! The sizes of three modules, and names of 1 to 16 bytes.
 
-use crate::names::Name;
-use crate::sides::Side;
-use crate::sizes::{cost, data_size, nodes, weight};
-use crate::tree::{BinOp, Decl, DeviceKind, Expr, Handler, Module, Stmt};
 use std::alloc::{AllocError, Global};
+use std::process::Abort;
 use std::test::Fail;
+use sx_lang::names::Name;
+use sx_lang::sides::Side;
+use sx_lang::sizes::{cost, data_size, nodes, weight};
+use sx_lang::tree::{BinOp, Decl, DeviceKind, Expr, Handler, Module, Stmt};
 
 #[derive(Debug, Drop)]
 struct NoName;
@@ -70,23 +71,32 @@ fn lamp(alloc: Global) -> Result<Module, Fail> {
     })
 }
 
+/// The sizes of a module that has so many ends: nodes, weight, data and cost.
+fn has_sizes(rt: &impl Abort, module: &Module, ends: u8, want: (u64, u64, u64, u64)) {
+    let sizes = (
+        nodes(module),
+        weight(module, ends),
+        data_size(module, ends),
+        cost(module),
+    );
+    assert_eq!(rt; sizes, want);
+}
+
 #[test]
-fn sizes_of_three_modules(rt: HostRuntime) -> Result<(), Fail> {
-    let alloc = rt.alloc();
-    let rows = [
-        (eye(alloc)?, 1, (3, 2432, 536, 8288)),
-        (logic(alloc)?, 2, (10, 3072, 562, 8448)),
-        (lamp(alloc)?, 1, (3, 2432, 536, 160)),
-    ];
-    for (module, ends, want) in &rows {
-        let sizes = (
-            nodes(module),
-            weight(module, *ends),
-            data_size(module, *ends),
-            cost(module),
-        );
-        assert_eq!(rt; sizes, *want);
-    }
+fn sizes_of_the_eye(rt: HostRuntime) -> Result<(), Fail> {
+    has_sizes(&rt, &eye(rt.alloc())?, 1, (3, 2432, 536, 8288));
+    Ok(())
+}
+
+#[test]
+fn sizes_of_the_logic(rt: HostRuntime) -> Result<(), Fail> {
+    has_sizes(&rt, &logic(rt.alloc())?, 2, (10, 3072, 562, 8448));
+    Ok(())
+}
+
+#[test]
+fn sizes_of_the_lamp(rt: HostRuntime) -> Result<(), Fail> {
+    has_sizes(&rt, &lamp(rt.alloc())?, 1, (3, 2432, 536, 160));
     Ok(())
 }
 

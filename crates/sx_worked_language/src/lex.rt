@@ -1,9 +1,9 @@
 //! The tokens of a dozen texts, with their places.
 
-use crate::reading::tokens_of;
-use crate::tokens::{Kind, Place, Placed};
 use std::test::Fail;
 use sx_lang::names::Name;
+use sx_lex::reading::tokens_of;
+use sx_lex::tokens::{Kind, Place, Placed};
 
 #[derive(Debug, Drop)]
 struct NoName;
