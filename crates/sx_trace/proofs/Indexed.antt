@@ -10,7 +10,7 @@ use Rattle.std.proofs.lemmas.List.Sums.{prefix_len-le-length}
 use Rattle.std.proofs.lemmas.List.Quantifiers.{position-Some}
 use Rattle.std.proofs.lemmas.Slice.Eq.{bytes_eq-Decides}
 use Rattle.indexmap.specs.IndexMap.{get}
-use Rattle.sx_trace.specs.Index.{IsNameIndex, GrowsIndex}
+use Rattle.sx_trace.specs.Index.{IsNameIndex, IsNewTo, GrowsIndex}
 use Rattle.sx_trace.specs.Names.{place_of}
 use Rattle.sx_trace.specs.declared.index.NameIndex.{NameIndex}
 
@@ -56,6 +56,14 @@ module _ (index : NameIndex) (names : List (List ℕ)) (name : List ℕ) (at : �
     sized = λ text i e. h.sized text i (sym (same text) ∙ e);
   }
 
+none_of : (o : Option ℕ) → is_some o ≡ false → o ≡ None
+none_of None h = refl
+none_of (Some i) h = absurd (cc)
+
+-- a name that an index doesn't give stands in no list of its
+pub is-new-to : (index : NameIndex) (name : List ℕ) (o : Option ℕ) → ((names : List (List ℕ)) → IsNameIndex index names → o ≡ place_of names name) → is_some o ≡ false → IsNewTo index name
+is-new-to index name o says h = λ names is. sym (says names is) ∙ none_of o h
+
 -- the old index takes in a name that it has
 pub grows-again : (old : NameIndex) (name : List ℕ) (place : ℕ) (o : Option ℕ) → ((names : List (List ℕ)) → IsNameIndex old names → o ≡ place_of names name) → is_some o ≡ true → GrowsIndex old old name place
 grows-again old name place None says h = absurd (cc)
@@ -86,10 +94,6 @@ module _ (old new : NameIndex) (name : List ℕ) (place : ℕ) (some : 0 < lengt
       gives = λ text. updates text ∙ ap (cond (bytes_eq name text) (Some place)) (h.gives text) ∙ sym (placed text);
       sized = λ text i e. of_size text i (sym (placed text) ∙ e);
     }
-
-  none_of : (o : Option ℕ) → is_some o ≡ false → o ≡ None
-  none_of None h = refl
-  none_of (Some i) h = absurd (cc)
 
   pub grows-new : (o : Option ℕ) → ((names : List (List ℕ)) → IsNameIndex old names → o ≡ place_of names name) → is_some o ≡ false → GrowsIndex old new name place
   grows-new o says h = λ names len is. index-new names len is (sym (says names is) ∙ none_of o h)

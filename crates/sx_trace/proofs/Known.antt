@@ -74,9 +74,10 @@ form_word (b ∷ bs) h =
     let rest = and_true (list_all is_name_byte bs) (nat_le (length bs) 15) first.1 in
     rw (plain b (lower_byte b first.0)) (all_plain bs rest.0)
 
--- the name at an index stands there first, is a word, and isn't `-`
+-- the name at an index stands there first, has a name's form, is a word, and isn't `-`
 pub record Known (names : List (List ℕ)) (i : ℕ) : Type 0 where
   pub found : place_of names (name_at names i) ≡ Some i
+  pub formed : is_name (name_at names i) ≡ true
   pub word : is_word (name_at names i) ≡ true
   pub no_dash : bytes_eq (name_at names i) (codes "-") ≡ false
 
@@ -97,7 +98,7 @@ known most names i h lt =
     let at = place names i rest.1 lt in
     let within : nat_lt i (length names) ≡ true = grind (arith, nat_tests) in
     let formed = form names i rest.0 lt in
-    record { found = rw (at, within) refl; word = form_word (name_at names i) formed; no_dash = dash (name_at names i) formed }
+    record { found = rw (at, within) refl; formed = formed; word = form_word (name_at names i) formed; no_dash = dash (name_at names i) formed }
 
 pub known_node : (n : NameLists) (i : ℕ) → IsTrue (are_valid n) → i < length n.nodes → Known n.nodes i
 unfolding are_valid

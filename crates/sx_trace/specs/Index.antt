@@ -1,5 +1,5 @@
 -- What it means that an index is one of a list of names.
-use Rattle.std.specs.Prelude.{◌≡◌, ℕ, ◌<◌, ◌≤◌, List, [], ◌∷◌, ◌++◌, length, Some}
+use Rattle.std.specs.Prelude.{◌≡◌, ℕ, ◌<◌, ◌≤◌, List, [], ◌∷◌, ◌++◌, length, Some, None}
 use Rattle.std.specs.Str.{bytes_eq}
 use Rattle.indexmap.specs.IndexMap.{get}
 use Rattle.sx_trace.specs.Names.{place_of}
@@ -19,3 +19,7 @@ GrowsIndex old new name place = (names : List (List ℕ)) → length names ≡ p
 -- where the old index is one of a list, so is the new
 abbrev pub KeepsIndex : NameIndex → NameIndex → Type 0
 KeepsIndex old new = (names : List (List ℕ)) → IsNameIndex old names → IsNameIndex new names
+
+-- a list of which this is the index has no such name
+abbrev pub IsNewTo : NameIndex → List ℕ → Type 0
+IsNewTo index name = (names : List (List ℕ)) → IsNameIndex index names → place_of names name ≡ None

@@ -1,6 +1,6 @@
 //! The first place of each name of a list, found without going through the list.
 ghost use Rattle.std.specs.Prelude.{◌≡◌, ℕ, List, [], IfOk, OnOk, OnErr};
-ghost use Rattle.sx_trace.specs.Index.{GrowsIndex, IsNameIndex, KeepsIndex};
+ghost use Rattle.sx_trace.specs.Index.{GrowsIndex, IsNameIndex, IsNewTo, KeepsIndex};
 ghost use Rattle.sx_trace.specs.Names.{place_of};
 
 use crate::keys::NameKey;
@@ -37,10 +37,11 @@ impl NameIndex {
     }
 
     /// Takes in the name that comes next, at this place. A name that stands before keeps its first
-    /// place. The error says that memory ran out.
+    /// place, and takes no memory. The error says that memory ran out.
     pub fn push(&mut self, name: Name, place: usize) -> Result<(), AllocError>
         ensures grows { OnOk result (GrowsIndex self.old self.new name place) }
         ensures kept { OnErr result (KeepsIndex self.old self.new) }
+        ensures fresh { OnErr result (IsNewTo self.old name) }
     {
         if self.place_of(name.bytes()).is_some() {
             return Ok(());

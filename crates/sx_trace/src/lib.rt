@@ -19,6 +19,4 @@ pub mod keys;
 pub mod laws;
 pub mod names;
 pub mod reading;
-#[cfg(test)]
-mod tests;
 pub mod writing;

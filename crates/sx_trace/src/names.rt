@@ -4,6 +4,7 @@ ghost use Rattle.std.specs.Prelude.{◌≡◌, ◌<◌, length, IsTrue, IfOk, If
 ghost use Rattle.std.specs.List.{list_all};
 ghost use Rattle.std.specs.Str.{bytes_eq};
 ghost use Rattle.sx_lang.specs.Form.{is_name};
+ghost use Rattle.sx_trace.specs.Index.{IsNameIndex};
 ghost use Rattle.sx_trace.specs.Names.{are_names, are_valid, deployer, has_name, if_sensor};
 ghost use Rattle.sx_trace.specs.Names.{name_lists, no_repeat, place_of, sensor_place};
 
@@ -114,6 +115,40 @@ fn if_sensor(sensors: &[bool], device: u8) -> Option<u8>
     }
 }
 
+/// An index of each list.
+#[derive(Drop)]
+struct NameIndexes {
+    node_index: NameIndex,
+    device_index: NameIndex,
+    module_index: NameIndex,
+    link_index: NameIndex,
+}
+
+/// An index of each of these lists. The error says that memory ran out.
+fn indexes_of(
+    alloc: Global,
+    nodes: &[Name],
+    devices: &[Name],
+    modules: &[Name],
+    links: &[Name],
+) -> Result<NameIndexes, AllocError>
+    ensures { IfOk result (λ i. IsNameIndex i.node_index nodes.now
+        × IsNameIndex i.device_index devices.now
+        × IsNameIndex i.module_index modules.now
+        × IsNameIndex i.link_index links.now) }
+{
+    let node_index = NameIndex::of(alloc, nodes)?;
+    let device_index = NameIndex::of(alloc, devices)?;
+    let module_index = NameIndex::of(alloc, modules)?;
+    let link_index = NameIndex::of(alloc, links)?;
+    Ok(NameIndexes {
+        node_index,
+        device_index,
+        module_index,
+        link_index,
+    })
+}
+
 impl Names {
     /// These lists of names, with their indexes. The error says that memory ran out.
     pub fn new(
@@ -127,10 +162,12 @@ impl Names {
         ensures { IfOk result (λ n.
             n ≡ name_lists nodes.items devices.items sensors.items modules.items links.items) }
     {
-        let node_index = NameIndex::of(alloc, &nodes)?;
-        let device_index = NameIndex::of(alloc, &devices)?;
-        let module_index = NameIndex::of(alloc, &modules)?;
-        let link_index = NameIndex::of(alloc, &links)?;
+        let NameIndexes {
+            node_index,
+            device_index,
+            module_index,
+            link_index,
+        } = indexes_of(alloc, &nodes, &devices, &modules, &links)?;
         Ok(Names {
             nodes,
             devices,

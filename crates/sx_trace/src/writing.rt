@@ -12,7 +12,7 @@ use sx_lang::names::Name;
 use sx_lang::sides::Side;
 
 /// The name at an index of its list, or no bytes where the list has none.
-fn name_at(names: &[Name], index: u8) -> &[u8]
+pub fn name_at(names: &[Name], index: u8) -> &[u8]
     ensures name { result.now ≡ name_at names.now index }
     ensures short { length result.now ≤ 16 }
 {
@@ -84,7 +84,7 @@ fn write_next(into: &mut [u8; 128], written: usize, word: &[u8]) -> usize
 }
 
 /// Writes two words with a space between them, and answers how many bytes they take.
-fn write_two(into: &mut [u8; 128], a: &[u8], b: &[u8]) -> usize
+pub fn write_two(into: &mut [u8; 128], a: &[u8], b: &[u8]) -> usize
     requires { length a.now + length b.now ≤ 127 }
     ensures { IsWrittenText (spaced_words (a.now ∷ b.now ∷ [])) into.old result into.new }
 {
@@ -93,7 +93,7 @@ fn write_two(into: &mut [u8; 128], a: &[u8], b: &[u8]) -> usize
 }
 
 /// Writes three words as `write_two` does.
-fn write_three(into: &mut [u8; 128], a: &[u8], b: &[u8], c: &[u8]) -> usize
+pub fn write_three(into: &mut [u8; 128], a: &[u8], b: &[u8], c: &[u8]) -> usize
     requires { length a.now + length b.now + length c.now ≤ 126 }
     ensures { IsWrittenText (spaced_words (a.now ∷ b.now ∷ c.now ∷ [])) into.old result into.new }
 {
@@ -102,7 +102,7 @@ fn write_three(into: &mut [u8; 128], a: &[u8], b: &[u8], c: &[u8]) -> usize
 }
 
 /// Writes four words as `write_two` does.
-fn write_four(into: &mut [u8; 128], a: &[u8], b: &[u8], c: &[u8], d: &[u8]) -> usize
+pub fn write_four(into: &mut [u8; 128], a: &[u8], b: &[u8], c: &[u8], d: &[u8]) -> usize
     requires { length a.now + length b.now + length c.now + length d.now ≤ 125 }
     ensures { IsWrittenText (spaced_words (a.now ∷ b.now ∷ c.now ∷ d.now ∷ [])) into.old result
         into.new }
@@ -112,7 +112,7 @@ fn write_four(into: &mut [u8; 128], a: &[u8], b: &[u8], c: &[u8], d: &[u8]) -> u
 }
 
 /// Writes five words as `write_two` does.
-fn write_five(into: &mut [u8; 128], a: &[u8], b: &[u8], c: &[u8], d: &[u8], e: &[u8]) -> usize
+pub fn write_five(into: &mut [u8; 128], a: &[u8], b: &[u8], c: &[u8], d: &[u8], e: &[u8]) -> usize
     requires { length a.now + length b.now + length c.now + length d.now + length e.now ≤ 124 }
     ensures { IsWrittenText (spaced_words (a.now ∷ b.now ∷ c.now ∷ d.now ∷ e.now ∷ [])) into.old
         result into.new }
