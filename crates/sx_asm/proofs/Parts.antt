@@ -30,27 +30,31 @@ all_first p x xs h = by_test (p x) refl
 pub all_rest : (p : ℕ → Bool) (x : ℕ) (xs : List ℕ) → list_all p (x ∷ xs) ≡ true → list_all p xs ≡ true
 all_rest p x xs h = rw (all_first p x xs h) at h
 
+-- (alone, so that no test of the byte stands among what is searched)
+is_of : (a k : ℕ) → (a == k) ≡ true → a ≡ k
+is_of a k e = grind (arith, nat_tests, e)
+
 not_hash : (a : ℕ) → is_word_byte a ≡ true → (a == 35) ≡ false
 not_hash a h = by_test (a == 35) refl
   where
     by_test : (b : Bool) → (a == 35) ≡ b → (a == 35) ≡ false
     by_test false e = e
-    by_test true e = (let k : a ≡ 35 = grind (arith, nat_tests, e) in no (rw k at h))
+    by_test true e = no (rw (is_of a 35 e) at h)
 
 not_slash : (a : ℕ) → is_word_byte a ≡ true → (a == 47) ≡ false
 not_slash a h = by_test (a == 47) refl
   where
     by_test : (b : Bool) → (a == 47) ≡ b → (a == 47) ≡ false
     by_test false e = e
-    by_test true e = (let k : a ≡ 47 = grind (arith, nat_tests, e) in no (rw k at h))
+    by_test true e = no (rw (is_of a 47 e) at h)
 
 not_gap : (a : ℕ) (bs : List ℕ) → is_word_byte a ≡ true → is_gap (a ∷ bs) ≡ false
 not_gap a bs h = by_test (a == 32) (a == 9) refl refl
   where
     by_test : (s t : Bool) → (a == 32) ≡ s → (a == 9) ≡ t → is_gap (a ∷ bs) ≡ false
     by_test false false e f = rw (e, f) refl
-    by_test true t e f = (let k : a ≡ 32 = grind (arith, nat_tests, e) in no (rw k at h))
-    by_test false true e f = (let k : a ≡ 9 = grind (arith, nat_tests, f) in no (rw k at h))
+    by_test true t e f = no (rw (is_of a 32 e) at h)
+    by_test false true e f = no (rw (is_of a 9 f) at h)
 
 not_comment : (a : ℕ) (bs : List ℕ) → is_word_byte a ≡ true → begins_comment (a ∷ bs) ≡ false
 not_comment a [] h = refl

@@ -1,6 +1,6 @@
 -- The code of a text, or the first rule that it breaks and the first line that breaks it.
 use Rattle.std.specs.Prelude.{◌≡◌, ℕ, ◌+◌, ◌-◌, ◌%◌, ◌==◌, min, Bool, true, false, ◌&&◌, ◌||◌, not}
-use Rattle.std.specs.Prelude.{nat_le, nat_lt, if◌then◌else◌, List, [], ◌∷◌, take, Result, Ok, Err}
+use Rattle.std.specs.Prelude.{nat_le, nat_lt, if◌then◌else◌, List, [], ◌∷◌, take, Result, Ok, Err, IsOk}
 use Rattle.sx_isa.specs.declared.instruction.Operand.{Operand}
 use Rattle.sx_isa.specs.declared.instruction.Operand.TheVariants as operand
 use Rattle.sx_isa.specs.Legal.{is_constant, is_allowed}
@@ -159,3 +159,9 @@ abbrev pub AnswersMeant : {T V : Type 0} → (T → V) → Result V AsmError →
 AnswersMeant view meant (Ok x) = meant ≡ Ok (view x)
 AnswersMeant view meant (Err (Fault rule line)) = meant ≡ Err (Fault rule line)
 AnswersMeant view meant (Err OutOfMemory) = Unit {0}
+
+-- memory runs out only where there is no fault
+abbrev pub HidesNoFault : {T V : Type 0} → Result V AsmError → Result T AsmError → Type 0
+HidesNoFault meant (Ok x) = Unit {0}
+HidesNoFault meant (Err (Fault rule line)) = Unit {0}
+HidesNoFault meant (Err OutOfMemory) = IsOk meant

@@ -9,3 +9,4 @@ pub mod Meaning
 pub mod Assembled
 pub mod Shown
 pub mod Laws
+pub mod Faults

@@ -5,10 +5,11 @@ ghost use Rattle.std.specs.Prelude.{length, Ok, IfOk, IfErr, OnOk, IsTrue};
 ghost use Rattle.sx_isa.specs.Spelling.{spelling};
 ghost use Rattle.sx_isa.specs.Legal.{IsInstruction};
 ghost use Rattle.sx_asm.specs.declared.error.AsmError.TheVariants.{OutOfMemory, Fault};
+ghost use Rattle.sx_asm.specs.Faults.{IsFault};
 ghost use Rattle.sx_asm.specs.Meaning.{words_at, bytes_of, code_of};
 ghost use Rattle.sx_asm.specs.Assembled.{is_known, operand_known, names_known, named, formed};
 ghost use Rattle.sx_asm.specs.Assembled.{has_form, reaches, reached, fitted, stands, assembled};
-ghost use Rattle.sx_asm.specs.Assembled.{AnswersMeant, label_count};
+ghost use Rattle.sx_asm.specs.Assembled.{AnswersMeant, HidesNoFault, code_with, label_count};
 
 use crate::error::AsmError;
 use crate::meaning::{
@@ -30,7 +31,8 @@ fn fault(rule: u8, line: u32) -> AsmError
 
 /// Rule 2: the operands are those of their instructions.
 fn formed(entries: &[Entry]) -> Result<(), AsmError>
-    ensures { result ≡ formed entries.now }
+    ensures rule { result ≡ formed entries.now }
+    ensures fault { IfErr result IsFault }
 {
     for entry in entries {
         if !has_form(&entry.item) {
@@ -100,7 +102,8 @@ fn label_count(item: &Item) -> usize
 
 /// Rule 3: each name has one label.
 fn named(labels: &[Label], entries: &[Entry]) -> Result<(), AsmError>
-    ensures { result ≡ named labels.now 0 entries.now }
+    ensures rule { result ≡ named labels.now 0 entries.now }
+    ensures fault { IfErr result IsFault }
 {
     let mut before = 0;
     for entry in entries {
@@ -123,7 +126,8 @@ fn reaches(labels: &[Label], at: u16, item: &Item) -> bool
 
 /// Rule 4: the jumps reach their targets.
 fn reached(labels: &[Label], at: u16, entries: &[Entry]) -> Result<(), AsmError>
-    ensures { result ≡ reached labels.now at entries.now }
+    ensures rule { result ≡ reached labels.now at entries.now }
+    ensures fault { IfErr result IsFault }
 {
     let mut address = at;
     for entry in entries {
@@ -136,7 +140,8 @@ fn reached(labels: &[Label], at: u16, entries: &[Entry]) -> Result<(), AsmError>
 }
 
 fn fitted(room: u32, entries: &[Entry]) -> Result<(), AsmError>
-    ensures { result ≡ fitted room entries.now }
+    ensures rule { result ≡ fitted room entries.now }
+    ensures fault { IfErr result IsFault }
 {
     let mut left = room;
     for entry in entries {
@@ -151,7 +156,8 @@ fn fitted(room: u32, entries: &[Entry]) -> Result<(), AsmError>
 
 /// Rule 5: the code stands at an even address, and has room there.
 fn stands(at: u16, entries: &[Entry]) -> Result<(), AsmError>
-    ensures { result ≡ stands at entries.now }
+    ensures rule { result ≡ stands at entries.now }
+    ensures fault { IfErr result IsFault }
 {
     if at % 2 != 0 {
         return Err(fault(5, 1));
@@ -234,6 +240,24 @@ fn code_of(alloc: Global, labels: &[Label], at: u16, entries: &[Entry]) -> Resul
     Ok(code)
 }
 
+/// The code of items that stand from an address on, or the first of the rules 2 to 5 that they
+/// break. Memory is wanted only where they break none.
+fn code_with(
+    alloc: Global,
+    labels: &[Label],
+    at: u16,
+    entries: &[Entry],
+) -> Result<Vec<u8>, AsmError>
+    ensures answer { AnswersMeant (λ code. code.items) (code_with labels.now at entries.now) result }
+    ensures fault { HidesNoFault (code_with labels.now at entries.now) result }
+{
+    formed(entries)?;
+    named(labels, entries)?;
+    reached(labels, at, entries)?;
+    stands(at, entries)?;
+    code_of(alloc, labels, at, entries)
+}
+
 /// The code of a text that stands at an address. A fault is the first of the five rules that the
 /// text breaks, each tried on the whole text, and the first line that breaks it, from 1.
 #[tactic(auto, unfolding(crate::specs::Assembled::assembled))]
@@ -242,9 +266,5 @@ pub fn assemble(alloc: Global, at: u16, text: &str) -> Result<Vec<u8>, AsmError>
 {
     let entries = read(alloc, text.as_bytes())?;
     let labels = labels_of(alloc, at, &entries)?;
-    formed(&entries)?;
-    named(&labels, &entries)?;
-    reached(&labels, at, &entries)?;
-    stands(at, &entries)?;
-    code_of(alloc, &labels, at, &entries)
+    code_with(alloc, &labels, at, &entries)
 }

@@ -2,7 +2,8 @@
 //!
 //! `assemble` gives the bytes of a text, or the first of five rules that it breaks and the first
 //! line that breaks it. `show` writes the text of an instruction, and `dis` that of the first
-//! instruction of some bytes. What they write is assembled to the same bytes (`laws`).
+//! instruction of some bytes. What they write is assembled to the same bytes (`laws`). `hex` writes
+//! a number as they do.
 //!
 //! What must be believed stands in specs/: Words.antt and Tokens.antt (names, signs and tokens),
 //! Grammar.antt (statements), Reading.antt (lines; rule 1), Meaning.antt (addresses and
@@ -22,7 +23,4 @@ mod written;
 
 pub use assembling::assemble;
 pub use error::AsmError;
-pub use showing::{dis, show};
-
-#[cfg(test)]
-mod tests;
+pub use showing::{dis, hex, show};

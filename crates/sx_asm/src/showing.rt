@@ -174,6 +174,16 @@ fn put_hex(text: &mut Text, n: u16)
     put_digits(text, n);
 }
 
+/// The number as `0x` and lower-case hexadecimal digits, without leading zeros.
+pub fn hex(n: u16) -> ArrayVec<u8, 64>
+    ensures text { result.items ≡ hex n }
+    ensures short { length result.items ≤ 6 }
+{
+    let mut text = Text::new();
+    put_hex(&mut text, n);
+    text
+}
+
 /// A sign, and a number after it.
 fn put_signed(text: &mut Text, sign: &[u8], n: u16)
     requires room { length text.old.items + 8 ≤ 64 }
