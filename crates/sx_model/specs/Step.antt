@@ -54,6 +54,12 @@ is_sensor Actuator = false
 abbrev pub idle : Standing → Option Present
 idle x = x.present >>? (λ p. if is_none p.pending then Some p else None)
 
+-- the epoch with which an end of a module is open, by its index among the module's ends; none where
+-- it isn't open
+abbrev pub open_epoch : Model → ℕ → ℕ → Option ℕ
+open_epoch s m k =
+    slice_get s.modules m >>? (λ x. x.present >>? (λ p. slice_get p.ends k >>? (λ e. e.epoch)))
+
 -- the module with another pending event, or with none
 abbrev pub with_pending : Present → Option Pending → Present
 with_pending p pending = record p { pending = pending }

@@ -27,5 +27,3 @@ mod sendings;
 mod start;
 mod state;
 mod taking;
-#[cfg(test)]
-mod tests;

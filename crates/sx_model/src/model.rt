@@ -1,13 +1,13 @@
 //! The model as code: it tells whether a trace is a legal run, item by item.
 
 ghost use Rattle.std.specs.Prelude.{◌≡◌, ◌+◌, ◌*◌, ◌<◌, ◌≤◌, [], All, IfOk, OnErr, OnOk};
-ghost use Rattle.std.specs.Prelude.{if◌then◌else◌, is_some, length, slice_index_or, true};
-ghost use Rattle.std.specs.Prelude.{unwrap_or};
+ghost use Rattle.std.specs.Prelude.{if◌then◌else◌, is_some, length, slice_get, slice_index_or};
+ghost use Rattle.std.specs.Prelude.{true, unwrap_or};
 ghost use Rattle.sx_mean.specs.View.{app_as};
 ghost use Rattle.sx_mean.specs.Application.{is_valid};
 ghost use Rattle.sx_model.specs.Counted.{CountsWithin};
 ghost use Rattle.sx_model.specs.State.{power_on};
-ghost use Rattle.sx_model.specs.Step.{step};
+ghost use Rattle.sx_model.specs.Step.{◌>>?◌, open_epoch, step};
 ghost use Rattle.sx_model.specs.Changes.{is_plain, steps};
 
 use crate::asks::{ask, attest, vouch};
@@ -17,7 +17,7 @@ use crate::nodes::reset;
 use crate::opening::{Opening, open};
 use crate::protecting::protect;
 use crate::start::power_on;
-use crate::state::{State, Words};
+use crate::state::{EndView, Standing, State, Words};
 use crate::taking::{Taking, read, take};
 use std::alloc::{AllocError, Global};
 use sx_mean::apps::App;
@@ -105,6 +105,27 @@ fn count(words: &Words) -> u32
     words.words.len() as u32
 }
 
+/// The epoch with which the end of this index is open, if it is.
+fn epoch_at(ends: &[EndView], index: u8) -> Option<u8>
+    ensures { result ≡ (slice_get ends.now index >>? (λ e. e.epoch)) }
+{
+    match ends.get(usize::from(index)) {
+        Some(view) => view.epoch,
+        None => None,
+    }
+}
+
+/// The epoch with which an end of a module that is present is open, if it is.
+fn epoch_in(standing: &Standing, index: u8) -> Option<u8>
+    ensures { result ≡ (standing.now.present >>? (λ p. slice_get p.ends index
+        >>? (λ e. e.epoch))) }
+{
+    match &standing.present {
+        Some(present) => epoch_at(&present.ends, index),
+        None => None,
+    }
+}
+
 impl Model {
     /// The model of an application at power-on. The error says that memory ran out.
     #[tactic(auto, using(crate::proofs::Counts::none_counted))]
@@ -157,5 +178,16 @@ impl Model {
             &self.state.sent,
             usize::from(link) + 256 * usize::from(epoch),
         )
+    }
+
+    /// The epoch with which an end of a module is open, by its index among the module's ends;
+    /// `None` exactly where the module is absent, has no end of this index, or the end isn't open.
+    pub fn open_epoch(&self, module: u8, end: u8) -> Option<u8>
+        ensures { result ≡ open_epoch self.now.state «module» «end» }
+    {
+        match self.state.modules.get(usize::from(module)) {
+            Some(standing) => epoch_in(standing, end),
+            None => None,
+        }
     }
 }
