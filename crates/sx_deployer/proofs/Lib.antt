@@ -1,3 +1,4 @@
 pub mod Granted
 pub mod Raised
 pub mod RenewsAsTheModel
+pub mod Firsts

@@ -10,11 +10,11 @@ use Rattle.sx_deployer.specs.Keeping.{has_link, is_spent, raised_from}
 above : (a b : ℕ) → nat_le a b ≡ false → b < a
 above a b h = grind (arith, nat_tests)
 
-first : (a b : Bool) → (a || b) ≡ false → a ≡ false
+pub first : (a b : Bool) → (a || b) ≡ false → a ≡ false
 first true b h = absurd (cc)
 first false b h = refl
 
-second : (a b : Bool) → (a || b) ≡ false → b ≡ false
+pub second : (a b : Bool) → (a || b) ≡ false → b ≡ false
 second true b h = absurd (cc)
 second false b h = h
 

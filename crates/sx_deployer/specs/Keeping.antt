@@ -71,6 +71,14 @@ expected mac t boot ask = (wrapped mac (key_of mac t boot) ask []).tag
 abbrev pub has_link : List End → ℕ → Bool
 has_link es c = list_any (λ e. e.link == c) es
 
+-- one of the modules has an end of this connection
+abbrev pub is_held : List Known → ℕ → Bool
+is_held targets c = list_any (λ t. has_link t.ends c) targets
+
+-- a connection that no module has is in its first epoch
+abbrev pub AreFirst : List Known → List ℕ → Type 0
+AreFirst targets epochs = (c : ℕ) → is_held targets c ≡ false → slice_index epochs c ≡ 0
+
 -- one of the ends' connections has the last epoch
 abbrev pub is_spent : List End → List ℕ → Bool
 is_spent es epochs = list_any (λ e. nat_le 255 (slice_index epochs e.link)) es

@@ -1,6 +1,6 @@
 //! The deployer: its open asks, what it accepted, and the epochs of the connections.
 
-ghost use Rattle.std.specs.Prelude.{◌≡◌, ℕ, ◌<◌, ◌≤◌, if◌then◌else◌, IfOk, IsSome, None, length};
+ghost use Rattle.std.specs.Prelude.{◌≡◌, ℕ, ◌<◌, ◌≤◌, if◌then◌else◌, IfOk, IsSome, None, false, length};
 ghost use Rattle.std.specs.Prelude.{map, option_map, slice_get, slice_index};
 ghost use Rattle.sx_deployer.specs.Keeping as spec;
 ghost use Rattle.sx_deployer.specs.Granting as grants;
@@ -35,7 +35,7 @@ pub struct Deployer {
 
 impl Model for Deployer {
     ghost use Rattle.std.specs.Prelude.{◌≤◌, length, map};
-    ghost use Rattle.sx_deployer.specs.Keeping.{Keeping, known};
+    ghost use Rattle.sx_deployer.specs.Keeping.{AreFirst, Keeping, known};
 
     ghost Value = { Keeping };
 
@@ -49,7 +49,8 @@ impl Model for Deployer {
       epochs = d.epochs;
     } };
 
-    ghost invariant = { λ d. length d.targets.items ≤ 32 };
+    ghost invariant = { λ d. (length d.targets.items ≤ 32)
+        × AreFirst (map known d.targets.items) d.epochs };
 }
 
 impl Deployer {
@@ -125,7 +126,8 @@ impl Deployer {
 
     /// The epoch of a connection: 0 of one that no module has.
     pub fn epoch(&self, link: u8) -> u8
-        ensures { result ≡ slice_index self.now.epochs link }
+        ensures epoch { result ≡ slice_index self.now.epochs link }
+        ensures first { spec.is_held self.now.targets link ≡ false → result ≡ 0 }
     {
         self.epochs.get(usize::from(link)).copied().unwrap_or(0)
     }

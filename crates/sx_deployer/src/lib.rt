@@ -18,5 +18,3 @@ mod keys;
 pub mod laws;
 mod renewal;
 mod target;
-#[cfg(test)]
-mod tests;
