@@ -1,5 +1,3 @@
-pub mod Words
-pub mod Decimals
 pub mod WellFormed
 pub mod Lexing
 pub mod Trees

@@ -11,8 +11,8 @@ use Rattle.sx_sched.specs.Words.{text_behind, words_of}
 use Rattle.sx_sched.specs.Reading.{◌>>=◌, said_line, said_in}
 use Rattle.sx_bulk.specs.Bulk.{setup, event, line, line_at}
 use Rattle.sx_bulk.specs.Laws.{names, WellFormed}
-use Rattle.sx_bulk.proofs.Words.{is_word, spaced, words_read}
-use Rattle.sx_bulk.proofs.Decimals.{decimal_word, number_said}
+use Rattle.sx_sched.proofs.Spaced.{is_word, spaced, words_read}
+use Rattle.sx_sched.proofs.Decimals.{decimal_word, number_said}
 
 abbrev IsGood : List ℕ → Type 0
 IsGood text = IsOk (said_line names text)

@@ -11,8 +11,6 @@
 
 mod deployment;
 pub mod laws;
-#[cfg(test)]
-mod tests;
 mod workload;
 
 pub use deployment::{HEAD, head};

@@ -1,4 +1,8 @@
 pub mod Answered
 pub mod Blanks
+pub mod Decimals
 pub mod Form
+pub mod Hexadecimals
+pub mod SaidTexts
+pub mod Spaced
 pub mod Texts

@@ -1,9 +1,6 @@
 -- The words of a schedule's line, and the text after some of them.
-use Rattle.std.specs.Prelude.{ℕ, zero, suc, ◌==◌, Bool, ◌||◌, if◌then◌else◌, List, [], ◌∷◌, ◌++◌}
-
--- spaces and tabs separate words
-abbrev pub is_blank : ℕ → Bool
-is_blank b = b == 32 || b == 9
+use Rattle.std.specs.Prelude.{ℕ, zero, suc, if◌then◌else◌, List, [], ◌∷◌, ◌++◌}
+use Rattle.sx_lex.specs.Lexed.{is_space}
 
 -- a word that has begun, before the words after it
 abbrev pub ended_word : List ℕ → List (List ℕ) → List (List ℕ)
@@ -14,21 +11,21 @@ ended_word (b ∷ bs) rest = (b ∷ bs) ∷ rest
 abbrev pub words_behind : List ℕ → List ℕ → List (List ℕ)
 words_behind begun [] = ended_word begun []
 words_behind begun (b ∷ bs) =
-    if is_blank b then ended_word begun (words_behind [] bs) else words_behind (begun ++ b ∷ []) bs
+    if is_space b then ended_word begun (words_behind [] bs) else words_behind (begun ++ b ∷ []) bs
 
--- the longest runs of bytes that aren't blanks, in order
+-- the longest runs of bytes that aren't spaces or tabs, in order
 unfoldable pub words_of : List ℕ → List (List ℕ)
 words_of text = words_behind [] text
 
 -- a text after the blanks that it begins with
 abbrev pub past_blanks : List ℕ → List ℕ
 past_blanks [] = []
-past_blanks (b ∷ bs) = if is_blank b then past_blanks bs else b ∷ bs
+past_blanks (b ∷ bs) = if is_space b then past_blanks bs else b ∷ bs
 
 -- a text after the word that it begins with
 abbrev pub past_word : List ℕ → List ℕ
 past_word [] = []
-past_word (b ∷ bs) = if is_blank b then b ∷ bs else past_word bs
+past_word (b ∷ bs) = if is_space b then b ∷ bs else past_word bs
 
 -- The text after this many words and the blanks that follow them. Blanks within it and at its end
 -- are its own.

@@ -1,9 +1,15 @@
-//! What holds of the lines of a schedule. The law is a function that does nothing: its contract is
+//! What holds of the lines of a schedule. Each law is a function that does nothing: its contract is
 //! the law.
 
 ghost use Rattle.sx_sched.specs.Reading.{SaidInForm};
+ghost use Rattle.sx_sched.specs.Written.{TextIsSaid};
 
 /// What a text says is in form for the names.
 pub fn said_in_form()
     ensures { SaidInForm }
+{}
+
+/// The text of a line that is in form says this line.
+pub fn text_is_said()
+    ensures { TextIsSaid }
 {}

@@ -4,15 +4,16 @@
 ghost use Rattle.std.specs.Prelude.{◌≡◌, ◌<◌, ◌≤◌, ℕ, true, false, [], ◌∷◌, length, slice_index};
 ghost use Rattle.std.specs.Prelude.{None, Some, MatchOption, IfSome, Ok, Err, MatchResult, IfOk};
 ghost use Rattle.std.specs.Prelude.{IfErr};
-ghost use Rattle.sx_sched.specs.Words.{is_blank, words_of, past_blanks, past_word, text_behind};
+ghost use Rattle.sx_lex.specs.Lexed.{is_space};
+ghost use Rattle.sx_sched.specs.Words.{words_of, past_blanks, past_word, text_behind};
 ghost use Rattle.sx_sched.specs.Reading.{IsBrokenRule, no_word, one_word, two_words, three_words};
 ghost use Rattle.sx_sched.specs.Reading.{four_words, some_word, one_before, two_before};
 
 use crate::lines::{LineError, WRONG_COUNT};
 
 /// Whether a byte separates words.
-fn is_blank(byte: u8) -> bool
-    ensures { result ≡ is_blank byte }
+fn is_space(byte: u8) -> bool
+    ensures { result ≡ is_space byte }
 {
     byte == b' ' || byte == b'\t'
 }
@@ -20,11 +21,11 @@ fn is_blank(byte: u8) -> bool
 /// How many blanks a text begins with.
 fn blanks_before(text: &[u8]) -> usize
     ensures within { result ≤ length text.now }
-    ensures before { (k : ℕ) → k < result → is_blank (slice_index text.now k) ≡ true }
-    ensures first { result < length text.now → is_blank (slice_index text.now result) ≡ false }
+    ensures before { (k : ℕ) → k < result → is_space (slice_index text.now k) ≡ true }
+    ensures first { result < length text.now → is_space (slice_index text.now result) ≡ false }
 {
     for (i, byte) in text.iter().enumerate() {
-        if !is_blank(*byte) {
+        if !is_space(*byte) {
             return i;
         }
     }
@@ -34,7 +35,7 @@ fn blanks_before(text: &[u8]) -> usize
 /// What follows the blanks that a text begins with.
 fn past_blanks(text: &[u8]) -> &[u8]
     ensures words { words_of result.now ≡ words_of text.now }
-    ensures first { 0 < length result.now → is_blank (slice_index result.now 0) ≡ false }
+    ensures first { 0 < length result.now → is_space (slice_index result.now 0) ≡ false }
     ensures text { result.now ≡ past_blanks text.now }
 {
     &text[blanks_before(text)..]
@@ -43,11 +44,11 @@ fn past_blanks(text: &[u8]) -> &[u8]
 /// How many bytes stand before the first blank.
 fn word_length(text: &[u8]) -> usize
     ensures within { result ≤ length text.now }
-    ensures before { (k : ℕ) → k < result → is_blank (slice_index text.now k) ≡ false }
-    ensures first { result < length text.now → is_blank (slice_index text.now result) ≡ true }
+    ensures before { (k : ℕ) → k < result → is_space (slice_index text.now k) ≡ false }
+    ensures first { result < length text.now → is_space (slice_index text.now result) ≡ true }
 {
     for (i, byte) in text.iter().enumerate() {
-        if is_blank(*byte) {
+        if is_space(*byte) {
             return i;
         }
     }

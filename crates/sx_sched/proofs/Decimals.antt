@@ -9,7 +9,7 @@ use Rattle.std.proofs.lemmas.Fmt.{decimal_is_IsNumeral, length-decimal-le}
 use Rattle.sx_io.specs.Numbers.{are_digits, place_value, is_numeral, numeral, written_number, number_of}
 use Rattle.sx_io.proofs.Digits.{digits_value-place, are_digits-true}
 use Rattle.sx_sched.specs.Reading.{number_in}
-use Rattle.sx_bulk.proofs.Words.{is_plain, is_word}
+use Rattle.sx_sched.proofs.Spaced.{is_plain, is_word}
 
 -- '0' to '9'
 is_decimal : (c : ℕ) → digit_value c < 10 → (48 ≤ c) × (c ≤ 57)
@@ -70,3 +70,8 @@ pub number_said : (most n : ℕ) → n ≤ most → n < 2 ^ 64 → number_in 0 m
 number_said most n within small =
     let low : nat_le 0 n ≡ true = grind (arith, nat_tests) in
     rw (number_read most n within small, low) refl
+
+pub number_between : (low most n : ℕ) → low ≤ n → n ≤ most → n < 2 ^ 64 → number_in low most (decimal n) ≡ Ok n
+number_between low most n enough within small =
+    let least : nat_le low n ≡ true = grind (arith, nat_tests, enough) in
+    rw (number_read most n within small, least) refl

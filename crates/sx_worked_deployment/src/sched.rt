@@ -1,11 +1,16 @@
 //! Lines worked by hand from the table of schedule lines.
 
-use crate::lines::{Line, LineError};
-use crate::parse_line;
+ghost use Rattle.std.specs.Prelude.{IsTrue};
+ghost use Rattle.sx_trace.specs.Names.{are_valid};
+ghost use Rattle.sx_sched.specs.Lines.{line_of, IsLine};
+ghost use Rattle.sx_sched.specs.Written.{IsWritten};
+
 use std::alloc::Global;
 use std::process::Abort;
 use std::test::Fail;
 use sx_lang::names::Name;
+use sx_sched::lines::{Line, LineError};
+use sx_sched::{parse_line, write_line};
 use sx_trace::names::Names;
 
 #[derive(Debug, Drop)]
@@ -306,4 +311,74 @@ fn too_much_code(rt: HostRuntime) -> Result<(), Fail> {
     assert!(rt; is_put(&line(alloc, &most)?, (0, 0), &code));
     let more = repeated(alloc, &most, 1, b",2")?;
     all_break(&rt, alloc, 8, &[&more])
+}
+
+/// Whether the line is written as this text.
+fn is_written(rt: &impl Abort, names: &Names, line: &Line, text: &[u8])
+    requires valid { IsTrue (are_valid names.now) }
+    requires kind { IsWritten (line_of line.now) }
+    requires in_form { IsLine names.now (line_of line.now) }
+{
+    let mut into = [0; 128];
+    let length = write_line(names, line, &mut into);
+    assert_eq!(rt; into.get(..length), Some(text));
+}
+
+fn are_written(rt: &impl Abort, names: &Names) {
+    let counted = names.nodes.len() == 2 && names.modules.len() == 3 && names.devices.len() == 2;
+    assert!(rt; names.valid() && counted);
+    if names.valid() && counted {
+        is_written(rt, names, &Line::Load { module: 1 }, b"load logic");
+        is_written(rt, names, &Line::Ask { module: 2 }, b"ask lamp");
+        let (boot, packet) = (0, 4_294_967_295);
+        let answer = Line::Answer {
+            module: 0,
+            boot,
+            packet,
+        };
+        is_written(rt, names, &answer, b"answer eye 0 4294967295");
+        let (packet, node, at) = (10, 1, 0x300);
+        is_written(
+            rt,
+            names,
+            &Line::Give { packet, node, at },
+            b"give 10 b 0x300",
+        );
+        let (node, at, len) = (0, 0xfffe, 384);
+        is_written(
+            rt,
+            names,
+            &Line::Take { node, at, len },
+            b"take a 0xfffe 384",
+        );
+        let call = Line::Call {
+            module: 2,
+            entry: 65_535,
+            input: 0,
+            output: 0x4a,
+        };
+        is_written(rt, names, &call, b"call lamp 65535 0x0 0x4a");
+    }
+}
+
+fn a_sense_is_written(rt: &impl Abort, names: &Names) {
+    let is_sensor = names.sensors.first() == Some(&true);
+    assert!(rt; names.valid() && is_sensor && names.devices.len() == 2);
+    if names.valid() && is_sensor && names.devices.len() == 2 {
+        let (device, value) = (0, 32_767);
+        is_written(
+            rt,
+            names,
+            &Line::Sense { device, value },
+            b"sense light 32767",
+        );
+    }
+}
+
+#[test]
+fn lines_that_are_written(rt: HostRuntime) -> Result<(), Fail> {
+    let names = lighting(rt.alloc())?;
+    are_written(&rt, &names);
+    a_sense_is_written(&rt, &names);
+    Ok(())
 }

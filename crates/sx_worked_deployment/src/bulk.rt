@@ -1,6 +1,6 @@
 //! The lines of the workload at chosen numbers, and how many there are.
 
-use crate::{HEAD, MOST_SAMPLES, head, line, lines};
+use sx_bulk::{HEAD, MOST_SAMPLES, head, line, lines};
 
 #[test]
 fn the_lines(rt: HostRuntime) {

@@ -2,10 +2,11 @@
 use Rattle.std.proofs.Common.{◌≡◌, ℕ, Bool, true, false, ◌&&◌, not, List, [], ◌∷◌, ◌++◌, refl, sym, ap, ◌∙◌, append_assoc}
 use Rattle.std.specs.List.{list_all}
 use Rattle.std.proofs.lemmas.List.{append-nil}
-use Rattle.sx_sched.specs.Words.{is_blank, ended_word, words_behind, words_of}
+use Rattle.sx_lex.specs.Lexed.{is_space}
+use Rattle.sx_sched.specs.Words.{ended_word, words_behind, words_of}
 
 abbrev pub is_plain : ℕ → Bool
-is_plain b = not (is_blank b)
+is_plain b = not (is_space b)
 
 -- some bytes, and no blank
 abbrev pub is_word : List ℕ → Bool
@@ -17,7 +18,7 @@ abbrev pub spaced : List (List ℕ) → List ℕ
 spaced [] = []
 spaced (w ∷ ws) = 32 ∷ (w ++ spaced ws)
 
-and_true : (a b : Bool) → (a && b) ≡ true → (a ≡ true) × (b ≡ true)
+pub and_true : (a b : Bool) → (a && b) ≡ true → (a ≡ true) × (b ≡ true)
 and_true true b h = (refl, h)
 and_true false b h = absurd (cc)
 
@@ -30,7 +31,7 @@ goes_on : (begun w rest : List ℕ) → list_all is_plain w ≡ true → words_b
 goes_on begun [] rest h = ap (λ (w : List ℕ). words_behind w rest) (sym (append-nil begun))
 goes_on begun (b ∷ bs) rest h =
     let both = and_true (is_plain b) (list_all is_plain bs) h in
-    let plain : is_blank b ≡ false = not_true (is_blank b) both.0 in
+    let plain : is_space b ≡ false = not_true (is_space b) both.0 in
     let step : words_behind begun (b ∷ (bs ++ rest)) ≡ words_behind (begun ++ b ∷ []) (bs ++ rest) = rw plain refl in
     step ∙ goes_on (begun ++ b ∷ []) bs rest both.1 ∙ ap (λ (w : List ℕ). words_behind w rest) (append_assoc begun (b ∷ []) bs)
 
