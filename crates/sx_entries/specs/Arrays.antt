@@ -1,9 +1,9 @@
 -- Rule 4: the arrays of a document, each entry in form.
-use Rattle.std.specs.Prelude.{ℕ, Bool, codes, if◌then◌else◌, List, [], ◌∷◌, ◌++◌, length, replicate}
+use Rattle.std.specs.Prelude.{ℕ, codes, if◌then◌else◌, List, [], ◌∷◌, ◌++◌, length, replicate}
 use Rattle.std.specs.Prelude.{Option, Some, None, option_and_then, Result, Ok, Err, is_some}
 use Rattle.toml.specs.Data.{Data, Items, no_items, item, Members, get_member, as_table, as_array}
 use Rattle.sx_entries.specs.Fields.{key_at, name_of, has_only}
-use Rattle.sx_entries.specs.Rows.{node_row, device_row, module_row, link_row}
+use Rattle.sx_entries.specs.Rows.{holds, node_row, device_row, module_row, link_row}
 use Rattle.sx_stage.specs.Fault.{fault, ◌>>=◌}
 use Rattle.sx_stage.specs.Stage.{in_entry}
 use Rattle.sx_stage.specs.declared.fault.Sort.{Sort}
@@ -53,10 +53,6 @@ pub record Arrays : Type 0 where
   pub devices : Items
   pub modules : Items
   pub links : Items
-
--- a step that goes on only where the test holds
-abbrev pub holds : Bool → Option (Unit {0})
-holds b = if b then Some tt else None
 
 -- `secret` and the four arrays, where the top is in form
 abbrev pub arrays_of : Members → Option Arrays

@@ -337,13 +337,16 @@ pub fn entries_of<'a>(alloc: Global, rows: Rows<'a>) -> Result<Entries<'a>, Depl
         nodes: &nodes,
         devices: &devices,
     };
-    let modules = made(alloc, &named, modules)?;
-    let links = made(alloc, &Links, links)?;
+    let modules = made(alloc, &named, modules)?.into_entries();
+    // the indexes have served
+    let nodes = nodes.into_entries();
+    let devices = devices.into_entries();
+    let links = made(alloc, &Links, links)?.into_entries();
     Ok(Entries {
         secret,
-        nodes: nodes.into_entries(),
-        devices: devices.into_entries(),
-        modules: modules.into_entries(),
-        links: links.into_entries(),
+        nodes,
+        devices,
+        modules,
+        links,
     })
 }
