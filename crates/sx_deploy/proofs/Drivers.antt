@@ -11,7 +11,7 @@ use Rattle.sx_entries.specs.declared.entries.DeviceEntry.{DeviceEntry}
 use Rattle.sx_entries.specs.declared.entries.Start.{Start}
 use Rattle.sx_entries.specs.declared.entries.Start.TheVariants as start
 use Rattle.sx_deploy.specs.Sources.{Coded}
-use Rattle.sx_deploy.specs.Ties.{app_device, byte, device_of}
+use Rattle.sx_deploy.specs.Ties.{app_device, byte, start_device}
 use Rattle.sx_deploy.specs.Places.{ends_of, start_of}
 use Rattle.sx_deploy.specs.Law.{AreBeside}
 use Rattle.sx_check.proofs.Distinct.{count_by-cons}
@@ -44,7 +44,7 @@ same_bytes a b h k e = omega arith
 pub record IsFit (devices : List DeviceEntry) (m : Coded) : Type 0 where
   pub node : m.node < 16
   pub there : IsThere m.start (length devices)
-  pub driven : is_driven (map app_device devices) (byte m.node) (device_of m.start) (declared_kind m.tree.decls) ≡ true
+  pub driven : is_driven (map app_device devices) (byte m.node) (start_device m.start) (declared_kind m.tree.decls) ≡ true
 
 module _ (devices : List DeviceEntry) (links : List Link) (few : length devices ≤ 32) where
   -- two modules that drive one device don't stand beside each other
@@ -55,9 +55,9 @@ module _ (devices : List DeviceEntry) (links : List Link) (few : length devices 
       let b_there : b < length devices = subst (λ (s : Start). IsThere s (length devices)) f q.there in
       let one : a ≡ b = same_bytes a b (omega arith) (omega arith) same in
       let m_driven : is_driven (map app_device devices) (byte m.node) (Some (byte a)) (declared_kind m.tree.decls) ≡ true =
-      subst (λ (s : Start). is_driven (map app_device devices) (byte m.node) (device_of s) (declared_kind m.tree.decls) ≡ true) e p.driven in
+      subst (λ (s : Start). is_driven (map app_device devices) (byte m.node) (start_device s) (declared_kind m.tree.decls) ≡ true) e p.driven in
       let c_driven : is_driven (map app_device devices) (byte c.node) (Some (byte b)) (declared_kind c.tree.decls) ≡ true =
-      subst (λ (s : Start). is_driven (map app_device devices) (byte c.node) (device_of s) (declared_kind c.tree.decls) ≡ true) f q.driven in
+      subst (λ (s : Start). is_driven (map app_device devices) (byte c.node) (start_device s) (declared_kind c.tree.decls) ≡ true) f q.driven in
       let c_driven_too : is_driven (map app_device devices) (byte c.node) (Some (byte a)) (declared_kind c.tree.decls) ≡ true =
       subst (λ (x : ℕ). is_driven (map app_device devices) (byte c.node) (Some x) (declared_kind c.tree.decls) ≡ true) (sym same) c_driven in
       let nodes : byte m.node ≡ byte c.node = driven_node (map app_device devices) (byte a) (byte m.node) (byte c.node) (declared_kind m.tree.decls) (declared_kind c.tree.decls) m_driven c_driven_too in
@@ -73,7 +73,7 @@ module _ (devices : List DeviceEntry) (links : List Link) (few : length devices 
       meet_there x y s t h i j (inr r) = omega arith
 
   unlike : (n k : ℕ) (m c : Coded) (x y : Start) → m.start ≡ x → c.start ≡ y → IsFit devices m → IsFit devices c → AreBeside (stand devices links n m) (stand devices links k c)
-      → same_device (device_of x) (device_of y) ≡ false
+      → same_device (start_device x) (start_device y) ≡ false
   unlike n k m c (start.At a) y e f p q apart = refl
   unlike n k m c (start.Device a) (start.At b) e f p q apart = refl
   unlike n k m c (start.Device a) (start.Device b) e f p q apart = by_case (byte a == byte b) refl
@@ -83,7 +83,7 @@ module _ (devices : List DeviceEntry) (links : List Link) (few : length devices 
       by_case false h = refl
 
   abbrev pub IsUnlike : Coded → Coded → Type 0
-  IsUnlike m c = same_device (device_of m.start) (device_of c.start) ≡ false
+  IsUnlike m c = same_device (start_device m.start) (start_device c.start) ≡ false
 
   unlike_all : (n k : ℕ) (m : Coded) (cs : List Coded) → IsFit devices m → Each (IsFit devices) cs → Each (AreBeside (stand devices links n m)) (stand_after devices links k cs) → Each (IsUnlike m) cs
   unlike_all n k m [] p q h = tt
@@ -101,15 +101,15 @@ carried (Some a) (Some b) None h k = refl
 carried (Some a) (Some b) (Some c) h k = let same : b ≡ a = sym (tests-equal a b h) in subst (λ (n : ℕ). (n == c) ≡ false) same k
 
 abbrev pub drives_too : Option ℕ → Coded → Bool
-drives_too d c = same_device d (device_of c.start)
+drives_too d c = same_device d (start_device c.start)
 
-none_drives : (d : Option ℕ) (m : Coded) (cs : List Coded) → drives_too d m ≡ true → Each (λ (c : Coded). same_device (device_of m.start) (device_of c.start) ≡ false) cs → count_by (drives_too d) cs ≡ 0
+none_drives : (d : Option ℕ) (m : Coded) (cs : List Coded) → drives_too d m ≡ true → Each (λ (c : Coded). same_device (start_device m.start) (start_device c.start) ≡ false) cs → count_by (drives_too d) cs ≡ 0
 none_drives d m [] h k = refl
 none_drives d m (c ∷ cs) h k =
-    let not_it : drives_too d c ≡ false = carried d (device_of m.start) (device_of c.start) h k.0 in
+    let not_it : drives_too d c ≡ false = carried d (start_device m.start) (start_device c.start) h k.0 in
     count_by-cons (drives_too d) c cs ∙ ap (λ b. cond b 1 0 + count_by (drives_too d) cs) not_it ∙ ap (λ (n : ℕ). 0 + n) (none_drives d m cs h k.1)
 
-pub one_drives : (d : Option ℕ) (ms : List Coded) → EachPair (λ (m c : Coded). same_device (device_of m.start) (device_of c.start) ≡ false) ms → count_by (drives_too d) ms ≤ 1
+pub one_drives : (d : Option ℕ) (ms : List Coded) → EachPair (λ (m c : Coded). same_device (start_device m.start) (start_device c.start) ≡ false) ms → count_by (drives_too d) ms ≤ 1
 one_drives d [] h = omega arith
 one_drives d (m ∷ ms) h = by_case (drives_too d m) refl (one_drives d ms h.1)
   where

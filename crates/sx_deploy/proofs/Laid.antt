@@ -16,7 +16,7 @@ use Rattle.sx_entries.specs.declared.entries.Start.{Start}
 use Rattle.sx_entries.specs.declared.entries.Start.TheVariants as start
 use Rattle.sx_deploy.specs.declared.placing.Placement.{Placement}
 use Rattle.sx_deploy.specs.Sources.{Coded}
-use Rattle.sx_deploy.specs.Ties.{app_device, byte, device_of}
+use Rattle.sx_deploy.specs.Ties.{app_device, byte, start_device}
 use Rattle.sx_deploy.specs.Places.{ModuleSections, Span, data_of, drives, ends_of, holds_word, is_bad_place, is_outside, is_own, layout_of, meet, meets_module, placed_module, sections_of, span, start_of, text_of}
 use Rattle.sx_mean.specs.Application.{PartTree}
 use Rattle.sx_deploy.specs.Deployment.{Deployed, part_of}
@@ -58,7 +58,7 @@ and_true false b h = absurd (cc)
 equal-tests : (a b : ℕ) → a ≡ b → (a == b) ≡ true
 equal-tests a b h = grind (arith, nat_tests)
 
-has_device : (s : Start) → drives s ≡ true → IsSome (device_of s)
+has_device : (s : Start) → drives s ≡ true → IsSome (start_device s)
 has_device (start.At at) h = absurd (cc)
 has_device (start.Device n) h = refl
 
@@ -71,7 +71,7 @@ words-map [] = refl
 words-map (d ∷ ds) = ap (λ ws. word d ∷ ws) (words-map ds)
 
 -- a driver's private section begins at its device's place
-at_device : (ds : List DeviceEntry) (s : Start) → length ds ≤ 32 → IsThere s (length ds) → IfSome (device_of s) (λ n. slice_get (map (λ (d : DeviceEntry). d.at) ds) n ≡ Some (start_of ds s))
+at_device : (ds : List DeviceEntry) (s : Start) → length ds ≤ 32 → IsThere s (length ds) → IfSome (start_device s) (λ n. slice_get (map (λ (d : DeviceEntry). d.at) ds) n ≡ Some (start_of ds s))
 at_device ds (start.At at) f h = tt
 at_device ds (start.Device n) f h = by_case ds n f h
   where
@@ -93,7 +93,7 @@ one_clear m s n v small d there h same =
     by_own (is_own s d) refl (λ own. and_false (d.node == s.node && not (is_own s d)) _ h (rw (equal-tests d.node s.node nodes, own) refl))
   where
     by_own : (b : Bool) → is_own s d ≡ b → (is_own s d ≡ false → (meet s.text (span d.at 2) || meet s.data_part (span d.at 2)) ≡ false)
-        → (IsSome (device_of m.start) × (d.at ≡ s.data_part.from)) ⊎ (AreApartSpans (span d.at 2) s.text × AreApartSpans (span d.at 2) s.data_part)
+        → (IsSome (start_device m.start) × (d.at ≡ s.data_part.from)) ⊎ (AreApartSpans (span d.at 2) s.text × AreApartSpans (span d.at 2) s.data_part)
     by_own true e k = let parts = and_true s.drives (d.at == s.data_part.from) e in inl (has_device m.start (sym v ∙ parts.0), tests-equal d.at s.data_part.from parts.1)
     by_own false e k = let parts = or_false (meet s.text (span d.at 2)) _ (k e) in inr (apart_back s.text (span d.at 2) parts.0, apart_back s.data_part (span d.at 2) parts.1)
 
@@ -203,7 +203,7 @@ module _ (d : Deployed) (devices : List DeviceEntry) (links : List Link) (total 
         text = inside s.text ranges.0;
         data_part = inside s.data_part ranges.1;
         apart = apart s.text s.data_part own.1;
-        device = subst (λ (ps : List ℕ). IfSome (device_of m.start) (λ n. slice_get ps n ≡ Some (start_of devices m.start))) (sym same_places) (at_device devices m.start few f.there);
+        device = subst (λ (ps : List ℕ). IfSome (start_device m.start) (λ n. slice_get ps n ≡ Some (start_of devices m.start))) (sym same_places) (at_device devices m.start few f.there);
         words = subst (λ (ws : List Word). All (IsClear (part_of m) (layout_of s)) ws) (sym words)
             (all-each (IsClear (part_of m) (layout_of s)) (map word devices) (each-map word (IsClear (part_of m) (layout_of s)) devices clear));
       }

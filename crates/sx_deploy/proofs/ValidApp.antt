@@ -21,7 +21,7 @@ use Rattle.sx_entries.specs.declared.entries.LinkEntry.{LinkEntry}
 use Rattle.sx_entries.proofs.EntriesKeep.{entries_keep}
 use Rattle.sx_deploy.specs.Counts as counts
 use Rattle.sx_deploy.specs.Sources.{Coded}
-use Rattle.sx_deploy.specs.Ties.{app_device, byte, device_of, has_many_ends, is_mismatched, links_of, makes_many_packets, tied_link}
+use Rattle.sx_deploy.specs.Ties.{app_device, byte, start_device, has_many_ends, is_mismatched, links_of, makes_many_packets, tied_link}
 use Rattle.sx_deploy.specs.Places.{is_bad_place, placed_module, placements_of}
 use Rattle.sx_deploy.specs.declared.placing.Placement.{Placement}
 use Rattle.sx_deploy.specs.Deployment.{Deployed, IsRead, app_of, part_of}
@@ -84,7 +84,7 @@ pub record AreFit (e : EntryLists) (modules : List Coded) (links : List Link) : 
   pub nodes : Each (λ (m : Coded). m.node < length e.nodes) modules
   pub fit : Each (IsFit e.devices) modules
   pub crowd : (node : ℕ) → node < length e.nodes → count_by (λ (c : Coded). byte c.node == byte node) modules ≤ 8
-  pub drivers : EachPair (λ (m c : Coded). same_device (device_of m.start) (device_of c.start) ≡ false) modules
+  pub drivers : EachPair (λ (m c : Coded). same_device (start_device m.start) (start_device c.start) ≡ false) modules
   pub ends : first_bad (has_many_ends links) [] modules ≡ None
   pub packets : first_bad (makes_many_packets links) [] modules ≡ None
   pub linked : Each (λ (l : Link). IsLinked modules l) links
@@ -125,8 +125,8 @@ module _ (e : EntryLists) (modules : List Coded) (links : List Link) (f : AreFew
       let node : m.node < length e.nodes = each-at (λ (m : Coded). m.node < length e.nodes) modules i d t.nodes h in
       let few_there : nat_lt 8 (count_by (λ (r : PartTree). r.node == byte m.node) (map part_of modules)) ≡ false =
       few_enough 8 _ (subst (λ (n : ℕ). n ≤ 8) (count_by-map part_of (λ (r : PartTree). r.node == byte m.node) modules) (t.crowd m.node node)) in
-      let alone : nat_lt 1 (count_by (λ (r : PartTree). same_device (device_of m.start) r.device) (map part_of modules)) ≡ false =
-      few_enough 1 _ (subst (λ (n : ℕ). n ≤ 1) (count_by-map part_of (λ (r : PartTree). same_device (device_of m.start) r.device) modules) (one_drives (device_of m.start) modules t.drivers)) in
+      let alone : nat_lt 1 (count_by (λ (r : PartTree). same_device (start_device m.start) r.device) (map part_of modules)) ≡ false =
+      few_enough 1 _ (subst (λ (n : ℕ). n ≤ 1) (count_by-map part_of (λ (r : PartTree). same_device (start_device m.start) r.device) modules) (one_drives (start_device m.start) modules t.drivers)) in
       rw (few_there, alone) refl
 
   not_overloaded : (i : ℕ) (d : Coded) → i < length modules → is_overloaded (app_of e modules links) i (part_of (get_or modules i d)) ≡ false
@@ -203,14 +203,14 @@ fits d a k f =
     let there : Each (λ (m : Coded). IsThere m.start (length e.devices)) a.modules =
     pairs-each (λ (m : ModuleEntry). IsThere m.start (length e.devices)) (λ (c : Coded). IsThere c.start (length e.devices)) (λ m tree h. h) e.modules a.modules ps
     (each-all-back (λ (m : ModuleEntry). IsThere m.start (length e.devices)) e.modules k.module_devices) in
-    let driven : Each (λ (m : Coded). not (is_driven (map app_device e.devices) (byte m.node) (device_of m.start) (declared_kind m.tree.decls)) ≡ false) a.modules =
-    each-clear (is_mismatched (map app_device e.devices)) (λ m. not (is_driven (map app_device e.devices) (byte m.node) (device_of m.start) (declared_kind m.tree.decls))) (λ e m. refl) [] a.modules lines.first in
+    let driven : Each (λ (m : Coded). not (is_driven (map app_device e.devices) (byte m.node) (start_device m.start) (declared_kind m.tree.decls)) ≡ false) a.modules =
+    each-clear (is_mismatched (map app_device e.devices)) (λ m. not (is_driven (map app_device e.devices) (byte m.node) (start_device m.start) (declared_kind m.tree.decls))) (λ e m. refl) [] a.modules lines.first in
     let small : length e.nodes ≤ 16 = f.nodes in
     let placed_there : Each (λ (m : Coded). (m.node < length e.nodes) × IsThere m.start (length e.devices)) a.modules =
     each-both (λ (m : Coded). m.node < length e.nodes) (λ (m : Coded). IsThere m.start (length e.devices)) _ (λ m p q. (p, q)) a.modules nodes there in
     let fit : Each (IsFit e.devices) a.modules =
     each-both (λ (m : Coded). (m.node < length e.nodes) × IsThere m.start (length e.devices))
-    (λ (m : Coded). not (is_driven (map app_device e.devices) (byte m.node) (device_of m.start) (declared_kind m.tree.decls)) ≡ false)
+    (λ (m : Coded). not (is_driven (map app_device e.devices) (byte m.node) (start_device m.start) (declared_kind m.tree.decls)) ≡ false)
     (IsFit e.devices)
     (λ m p q. record { node = (let n : m.node < length e.nodes = p.0 in omega (arith, n, small)); there = p.1; driven = not_false _ q }) a.modules placed_there driven in
     let many : length a.modules ≡ length e.modules = pairs-length e.modules a.modules ps in

@@ -15,7 +15,7 @@ use Rattle.sx_entries.specs.Entries.{EntryLists, entries_of}
 use Rattle.sx_deploy.specs.Counts.{counts_fault}
 use Rattle.sx_deploy.specs.Sources.{AreCoded, Coded}
 use Rattle.sx_deploy.specs.Checks.{checked_all}
-use Rattle.sx_deploy.specs.Ties.{byte, app_device, device_of, links_of}
+use Rattle.sx_deploy.specs.Ties.{byte, app_device, start_device, links_of}
 use Rattle.sx_deploy.specs.Places.{placements_of}
 use Rattle.sx_deploy.specs.declared.placing.Placement.{Placement}
 
@@ -47,7 +47,7 @@ names_of e = record {
 
 -- a module as a part of the application
 abbrev pub part_of : Coded → PartTree
-part_of m = record { node = byte m.node; device = device_of m.start; tree = m.tree }
+part_of m = record { node = byte m.node; device = start_device m.start; tree = m.tree }
 
 -- the application: nodes, devices, parts and connections
 abbrev pub app_of : EntryLists → List Coded → List Link → AppTree

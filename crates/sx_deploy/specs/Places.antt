@@ -47,14 +47,14 @@ pub record ModuleSections : Type 0 where
   pub data_part : Span
 
 -- the place of a device, 0 where there is none
-abbrev pub place_of : Option DeviceEntry → ℕ
-place_of None = 0
-place_of (Some d) = d.at
+abbrev pub device_place : Option DeviceEntry → ℕ
+device_place None = 0
+device_place (Some d) = d.at
 
 -- a driver's private section starts at its device's place
 abbrev pub start_of : List DeviceEntry → Start → ℕ
 start_of devices (start.At at) = at
-start_of devices (start.Device n) = place_of (slice_get devices n)
+start_of devices (start.Device n) = device_place (slice_get devices n)
 
 -- the private section begins at a device
 abbrev pub drives : Start → Bool

@@ -1,6 +1,6 @@
 -- Rule 9: modules fit their devices, connections their modules, and nothing is overloaded.
 use Rattle.std.specs.Prelude.{ℕ, ◌+◌, Bool, true, false, not, nat_lt, min, if◌then◌else◌, List, []}
-use Rattle.std.specs.Prelude.{◌∷◌, length, slice_get, Option, Some, None, option_and_then, Result}
+use Rattle.std.specs.Prelude.{◌∷◌, length, slice_get, Option, Some, None, Result}
 use Rattle.std.specs.Prelude.{Ok}
 use Rattle.std.specs.List.{cons_option}
 use Rattle.sx_lang.specs.declared.tree.Decl.{Decl}
@@ -14,6 +14,7 @@ use Rattle.sx_stage.specs.Stage.{in_entry, made_after}
 use Rattle.sx_stage.specs.Lines.{entries}
 use Rattle.sx_stage.specs.declared.fault.Sort.TheVariants.{Module, Connection}
 use Rattle.sx_stage.specs.declared.fault.DeployFault.{DeployFault}
+use Rattle.sx_entries.specs.Arrays.{◌>>?◌}
 use Rattle.sx_entries.specs.Entries.{place_among}
 use Rattle.sx_entries.specs.declared.entries.DeviceEntry.{DeviceEntry}
 use Rattle.sx_entries.specs.declared.entries.LinkEntry.{LinkEntry}
@@ -31,15 +32,15 @@ abbrev pub app_device : DeviceEntry → AppDevice
 app_device d = record { node = byte d.node; kind = d.kind }
 
 -- the device that a module drives
-abbrev pub device_of : Start → Option ℕ
-device_of (start.At at) = None
-device_of (start.Device n) = Some (byte n)
+abbrev pub start_device : Start → Option ℕ
+start_device (start.At at) = None
+start_device (start.Device n) = Some (byte n)
 
 -- First: a module and its device differ in node, its declaration isn't its device's kind, or only
 -- the declaration or only the device is there.
 abbrev pub is_mismatched : List AppDevice → List Coded → Coded → Bool
 is_mismatched devices earlier m =
-    not (is_driven devices (byte m.node) (device_of m.start) (declared_kind m.tree.decls))
+    not (is_driven devices (byte m.node) (start_device m.start) (declared_kind m.tree.decls))
 
 -- the name of the output that is declared, or of the input
 abbrev pub port_in : Bool → Decl → Option (List ℕ)
@@ -63,11 +64,6 @@ port_place output ds (Some name) = place_of (port_names output ds) name
 pub record Port : Type 0 where
   pub owner : ℕ
   pub port : ℕ
-
--- goes on with the value, where there is one
-infixr 10 ◌>>?◌
-abbrev pub ◌>>?◌ : {A B : Type 0} → Option A → (A → Option B) → Option B
-o >>? f = option_and_then f o
 
 -- Second: a connection's end names no output, or no input.
 abbrev pub port_of : Bool → List Coded → EndRow → Option Port

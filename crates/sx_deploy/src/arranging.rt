@@ -9,7 +9,7 @@ ghost use Rattle.sx_deploy.specs.Ties.{app_device};
 use crate::checks::CheckedModule;
 use crate::deployment::Deployment;
 use crate::placing::Placement;
-use crate::ties::{byte, device_of};
+use crate::ties::{byte, start_device};
 use std::alloc::{AllocError, Global};
 use sx_entries::entries::{DeviceEntry, Entries, LinkEntry, ModuleEntry, NodeEntry};
 use sx_lang::names::Name;
@@ -108,7 +108,7 @@ fn parts(alloc: Global, modules: Vec<CheckedModule>) -> Result<Vec<Part>, AllocE
     for module in modules {
         let part = Part {
             node: byte(module.node),
-            device: device_of(module.start),
+            device: start_device(module.start),
             code: module.code,
         };
         parts.push(part)?;
@@ -127,6 +127,55 @@ fn names(alloc: Global, e: &Entries) -> Result<Names, AllocError>
     Names::new(alloc, nodes, devices, sensors, modules, links)
 }
 
+/// The application of these entries. The error says that memory ran out.
+fn app_of(
+    alloc: Global,
+    e: &Entries,
+    devices: Vec<AppDevice>,
+    modules: Vec<CheckedModule>,
+    links: Vec<Link>,
+) -> Result<App, AllocError>
+    requires { devices.items ≡ map app_device e.now.devices }
+    ensures { IfOk result (λ a. app_as a ≡ app_of e.now (map checked_as modules.items)
+        links.items) }
+{
+    let parts = parts(alloc, modules)?;
+    Ok(App {
+        nodes: byte(e.nodes.len()),
+        devices,
+        parts,
+        links,
+    })
+}
+
+/// What a deployment has by node, device and module.
+#[derive(Drop)]
+struct Tables {
+    keys: Vec<[u8; 16]>,
+    places: Vec<u16>,
+    layouts: Vec<Layout>,
+    providers: Vec<u16>,
+}
+
+/// The tables of these entries. The error says that memory ran out.
+fn tables_of(alloc: Global, e: &Entries, placements: &[Placement]) -> Result<Tables, AllocError>
+    ensures { IfOk result (λ t. (t.keys.items ≡ map (λ n. n.key) e.now.nodes)
+        × (t.places.items ≡ map (λ d. d.at) e.now.devices)
+        × (t.layouts.items ≡ map (λ p. p.layout) placements.now)
+        × (t.providers.items ≡ map (λ m. m.provider) e.now.modules)) }
+{
+    let keys = node_keys(alloc, &e.nodes)?;
+    let places = places(alloc, &e.devices)?;
+    let layouts = layouts(alloc, placements)?;
+    let providers = providers(alloc, &e.modules)?;
+    Ok(Tables {
+        keys,
+        places,
+        layouts,
+        providers,
+    })
+}
+
 /// The deployment of these entries. The error says that memory ran out.
 pub fn arranged(
     alloc: Global,
@@ -140,18 +189,15 @@ pub fn arranged(
     ensures { IfOk result (λ d. deployed_as d ≡ arranged e.now (map checked_as modules.items)
         links.items placements.now) }
 {
+    let app = app_of(alloc, e, devices, modules, links)?;
+    let tables = tables_of(alloc, e, placements)?;
     let names = names(alloc, e)?;
-    let keys = node_keys(alloc, &e.nodes)?;
-    let places = places(alloc, &e.devices)?;
-    let layouts = layouts(alloc, placements)?;
-    let providers = providers(alloc, &e.modules)?;
-    let parts = parts(alloc, modules)?;
-    let app = App {
-        nodes: byte(e.nodes.len()),
-        devices,
-        parts,
-        links,
-    };
+    let Tables {
+        keys,
+        places,
+        layouts,
+        providers,
+    } = tables;
     Ok(Deployment {
         app,
         names,

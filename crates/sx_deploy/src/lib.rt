@@ -16,14 +16,10 @@ mod checks;
 mod counts;
 pub mod deployment;
 mod ends;
-#[cfg(test)]
-mod heights;
 pub mod laws;
 mod owners;
 mod placing;
 mod sources;
-#[cfg(test)]
-mod tests;
 mod ties;
 
 pub use sx_stage::fault::{DeployError, DeployFault, Place, Sort};

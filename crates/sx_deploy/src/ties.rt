@@ -1,15 +1,16 @@
 //! Rule 9: modules fit their devices, connections their modules, and nothing is overloaded.
-ghost use Rattle.std.specs.Prelude.{◌≡◌, ◌+◌, map, nat_lt, option_map};
+ghost use Rattle.std.specs.Prelude.{◌≡◌, ◌+◌, [], map, nat_lt, option_map};
 ghost use Rattle.std.specs.Option.{option_copied};
 ghost use Rattle.sx_mean.specs.Application.{ends_from, ends_to, sends_too_much};
 ghost use Rattle.sx_check.specs.Source.{source_tree};
 ghost use Rattle.sx_stage.specs.Fault.{Gives};
 ghost use Rattle.sx_stage.specs.Lines.{entries};
+ghost use Rattle.sx_stage.specs.Stage.{made_after};
 ghost use Rattle.sx_stage.specs.declared.fault.Sort.TheVariants.{Module};
 ghost use Rattle.sx_trace.specs.Names.{place_of};
 ghost use Rattle.sx_deploy.specs.Seen.{checked_as};
 ghost use Rattle.sx_deploy.specs.SeenPort.{port_as};
-ghost use Rattle.sx_deploy.specs.Ties.{byte, device_of, has_many_ends, is_mismatched, link_of};
+ghost use Rattle.sx_deploy.specs.Ties.{byte, start_device, has_many_ends, is_mismatched, link_of};
 ghost use Rattle.sx_deploy.specs.Ties.{links_of, makes_many_packets, port_in, port_names, port_of};
 ghost use Rattle.sx_deploy.specs.Ties.{port_place, tied_link};
 
@@ -36,8 +37,8 @@ pub fn byte(number: usize) -> u8
 }
 
 /// The device that a module drives.
-pub fn device_of(start: Start) -> Option<u8>
-    ensures { result ≡ device_of start }
+pub fn start_device(start: Start) -> Option<u8>
+    ensures { result ≡ start_device start }
 {
     match start {
         Start::At(_) => None,
@@ -55,7 +56,7 @@ impl Line<CheckedModule> for Mismatches<'_> {
 
     fn is_bad(&self, earlier: &[CheckedModule], row: &CheckedModule) -> bool {
         let kind = declared_kind(&row.code.module().decls);
-        !is_driven(self.devices, byte(row.node), device_of(row.start), kind)
+        !is_driven(self.devices, byte(row.node), start_device(row.start), kind)
     }
 }
 
@@ -204,6 +205,22 @@ fn many_packets(links: &[Link], modules: &[CheckedModule]) -> Option<DeployFault
     entries(9, Sort::Module, &ManyPackets { links }, modules)
 }
 
+/// The connections that the entries give, or the first that is between no output and input. The
+/// index of the modules' names has served then.
+fn tied(
+    alloc: Global,
+    modules: &[CheckedModule],
+    rows: &[LinkEntry],
+) -> Result<Vec<Link>, DeployError>
+    ensures { Gives (λ v. v.items) result (made_after (tied_link (map checked_as modules.now)) []
+        rows.now) }
+{
+    let Ok(owners) = Owners::new(alloc, modules) else {
+        return Err(DeployError::OutOfMemory);
+    };
+    derived(alloc, &LinkDerivation { owners: &owners }, rows)
+}
+
 /// The connections, by the indices of modules and ports. `Fault` is the first fault of rule 9.
 /// `OutOfMemory` says that memory ran out.
 pub fn links_of(
@@ -216,10 +233,7 @@ pub fn links_of(
         rows.now) }
 {
     passes(mismatched(devices, modules))?;
-    let Ok(owners) = Owners::new(alloc, modules) else {
-        return Err(DeployError::OutOfMemory);
-    };
-    let links = derived(alloc, &LinkDerivation { owners: &owners }, rows)?;
+    let links = tied(alloc, modules, rows)?;
     passes(many_ends(&links, modules))?;
     passes(many_packets(&links, modules))?;
     Ok(links)
