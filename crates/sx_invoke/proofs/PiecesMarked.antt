@@ -2,7 +2,6 @@
 use Rattle.std.proofs.Common.{◌≡◌, ℕ, ◌+◌, ◌*◌, ◌≤◌, Bool, true, false, ◌&&◌, ◌||◌, not, ◌==◌, List, [], ◌∷◌, ◌++◌, length, take, drop, Option, Some, None, Result, Ok, Err, refl, sym, ap, ◌∙◌, arith}
 use Rattle.std.specs.Prelude.{if◌then◌else◌, nat_lt}
 use Rattle.std.proofs.lemmas.List.{length-append, length-take}
-use Rattle.sx_lang.specs.declared.sides.Side.TheVariants.{To}
 use Rattle.sx_mean.specs.declared.events.End.{End}
 use Rattle.sx_mean.specs.declared.events.Act.{Act}
 use Rattle.sx_mean.specs.declared.events.Act.TheVariants.{Send, Emit}
@@ -10,35 +9,36 @@ use Rattle.sx_mean.specs.declared.events.SourceEvent.{SourceEvent}
 use Rattle.sx_mean.specs.declared.events.SourceEvent.TheVariants as event
 use Rattle.sx_mean.specs.React.{react}
 use Rattle.sx_rules.specs.declared.access.Violation.{Violation}
-use Rattle.sx_rules.specs.declared.access.Violation.TheVariants as bad
 use Rattle.sx_bus.specs.declared.devices.Window.{Window}
-use Rattle.sx_tag.specs.Wrap.{unwrapped, wrapped, crypt, wrap_tag, stream, xor_bytes}
+use Rattle.sx_tag.specs.Wrap.{wrapped, crypt, wrap_tag, stream, xor_bytes}
 use Rattle.sx_machine.specs.Memory.{word}
 use Rattle.sx_invoke.specs.Setup.{Setup, Call}
 use Rattle.sx_tag.specs.Mac.{Mac, IsTag}
 use Rattle.sx_invoke.specs.Marks as mark
 use Rattle.sx_invoke.specs.Marks.{Mark, piece_size, made_bytes}
 use Rattle.sx_invoke.specs.Laws.{PiecesMarked}
-use Rattle.sx_invoke.specs.ModuleState.{EndState, end_of, link_of, epoch_of}
-use Rattle.sx_invoke.specs.Windows.{write_bytes, read_bytes, two}
+use Rattle.sx_invoke.specs.ModuleState.{EndState, end_of}
+use Rattle.sx_invoke.specs.Windows.{write_bytes, two}
 use Rattle.sx_invoke.specs.Progress.{bytes_in, Progress, Invoked, Returns, Violates, Course, Going, Broken, and_on, finished, marks_in, pieces_in}
 use Rattle.sx_invoke.specs.Acts.{with_piece, copied_to, with_packet, event_packet, event_header, wrap_counted, with_packets, with_act, with_acts, actuated, own_window, handled}
 use Rattle.sx_mean.specs.Ends.{is_sending}
-use Rattle.sx_invoke.specs.Invocation.{invoke, entered, returns_inside, is_no_entry, has_bad_windows}
-use Rattle.sx_invoke.specs.Entries.{received, is_kind, set_key, set_key_at, key_opened, is_keyed, attest, input, input_at, event_numbered, event_opened, sample, sample_of, sample_read, number_taken, field_in, second_in, header_in, end_on, end_found, side_of, with_received}
+use Rattle.sx_invoke.specs.Invocation.{invoke}
+use Rattle.sx_invoke.specs.Entries.{attest, sample_read, number_taken, header_in}
+use Rattle.sx_invoke.specs.Protocol.{tag_size, event_size, key_size, value_size, last_number}
+use Rattle.sx_invoke.proofs.ByEntry.{Ways, by_entry}
 
 -- a tag has 16 bytes
-pub tag_length : (mac : Mac) (key ad cipher : List ℕ) → IsTag mac → length (wrap_tag mac key ad cipher) ≡ 16
+pub tag_length : (mac : Mac) (key ad cipher : List ℕ) → IsTag mac → length (wrap_tag mac key ad cipher) ≡ tag_size
 unfolding wrap_tag
 tag_length mac key ad cipher t = let w = t.width key (0x54 ∷ length ad ∷ (ad ++ cipher)) in length-take 16 (mac key (0x54 ∷ length ad ∷ (ad ++ cipher))) ∙ omega (arith, w)
 
-xor_length : (xs ys : List ℕ) → length xs ≤ length ys → length (xor_bytes xs ys) ≡ length xs
+pub xor_length : (xs ys : List ℕ) → length xs ≤ length ys → length (xor_bytes xs ys) ≡ length xs
 xor_length [] ys le = refl
 xor_length (x ∷ xs) [] le = absurd (omega (arith, le))
 xor_length (x ∷ xs) (y ∷ ys) le = let e = xor_length xs ys (omega (arith, le)) in omega (arith, e)
 
 -- an event packet has 24 bytes
-pub packet_length : (s : Setup) (e : EndState) (v : ℕ) → IsTag s.mac → length (event_packet s e v) ≡ 24
+pub packet_length : (s : Setup) (e : EndState) (v : ℕ) → IsTag s.mac → length (event_packet s e v) ≡ event_size
 unfolding crypt
 packet_length s e v t =
     let ad = event_header e in
@@ -49,11 +49,11 @@ packet_length s e v t =
     let z = length-append cipher (wrap_tag s.mac e.key ad cipher) in
     omega (arith, x, y, z)
 
-made_more : (ms : List Mark) (m : Mark) → made_bytes (ms ++ m ∷ []) ≡ made_bytes ms + piece_size m
+pub made_more : (ms : List Mark) (m : Mark) → made_bytes (ms ++ m ∷ []) ≡ made_bytes ms + piece_size m
 made_more [] m = omega arith
 made_more (x ∷ ms) m = let e = made_more ms m in omega (arith, e)
 
-bytes_more : (ps : List (List ℕ)) (p : List ℕ) → bytes_in (ps ++ p ∷ []) ≡ bytes_in ps + length p
+pub bytes_more : (ps : List (List ℕ)) (p : List ℕ) → bytes_in (ps ++ p ∷ []) ≡ bytes_in ps + length p
 bytes_more [] p = omega arith
 bytes_more (x ∷ ps) p = let e = bytes_more ps p in omega (arith, e)
 
@@ -73,20 +73,22 @@ module _ (s : Setup) (call : Call) (tag : IsTag s.mac) where
   copied (Ok mem) p h = h
   copied (Err v) p h = h
 
-  piece_made : (piece : List ℕ) (p : Progress) (m : Mark) (before : Progress) → p.marks ≡ before.marks ++ m ∷ [] → p.pieces ≡ before.pieces → length piece ≡ piece_size m → Tallied before → OnCourse (with_piece s call piece p)
+  piece_made : (piece : List ℕ) (p : Progress) (m : Mark) (before : Progress) → p.marks ≡ before.marks ++ m ∷ [] → p.pieces ≡ before.pieces → length piece ≡ piece_size m → Tallied before
+      → OnCourse (with_piece s call piece p)
   piece_made piece p m before em ep size h =
       let x = bytes_more p.pieces piece in
       let y = ap made_bytes em in
       let z = made_more before.marks m in
       let w = ap bytes_in ep in
-      copied (write_bytes s p.devices p.mem (call.output + 24 * length p.pieces) piece) (record p { pieces = p.pieces ++ piece ∷ [] }) (omega (arith, x, y, z, w, size, h))
+      copied (write_bytes s p.devices p.mem (call.output + event_size * length p.pieces) piece) (record p { pieces = p.pieces ++ piece ∷ [] }) (omega (arith, x, y, z, w, size, h))
 
   packet_made : (v k : ℕ) (p : Progress) → Tallied p → OnCourse (with_packet s call v k p)
   unfolding with_packet
-  packet_made v k p h = go ((end_of p.state.ends k).is_open && nat_lt (end_of p.state.ends k).number 65535)
+  packet_made v k p h = go ((end_of p.state.ends k).is_open && nat_lt (end_of p.state.ends k).number last_number)
     where
       go : (b : Bool) → OnCourse (if b then with_piece s call (event_packet s (end_of p.state.ends k) v) (wrap_counted k (end_of p.state.ends k) v p) else Going p)
-      go true = piece_made (event_packet s (end_of p.state.ends k) v) (wrap_counted k (end_of p.state.ends k) v p) (mark.Wrapped (event_header (end_of p.state.ends k)) (two v) false) p refl refl (packet_length s (end_of p.state.ends k) v tag) h
+      go true = piece_made (event_packet s (end_of p.state.ends k) v) (wrap_counted k (end_of p.state.ends k) v p) (mark.Wrapped (event_header (end_of p.state.ends k)) (two v) false) p refl refl
+          (packet_length s (end_of p.state.ends k) v tag) h
       go false = h
 
   then_on : (x : Course) (rest : Progress → Course) → OnCourse x → ((p : Progress) → Tallied p → OnCourse (rest p)) → OnCourse (and_on x rest)
@@ -97,7 +99,8 @@ module _ (s : Setup) (call : Call) (tag : IsTag s.mac) where
   packets_made output v k [] p h = h
   packets_made output v k (e ∷ es) p h = go (is_sending output e.side e.port) (λ q t. packets_made output v (k + 1) es q t)
     where
-      go : (b : Bool) → ((q : Progress) → Tallied q → OnCourse (with_packets s call output v (k + 1) es q)) → OnCourse (if b then and_on (with_packet s call v k p) (with_packets s call output v (k + 1) es) else with_packets s call output v (k + 1) es p)
+      go : (b : Bool) → ((q : Progress) → Tallied q → OnCourse (with_packets s call output v (k + 1) es q))
+          → OnCourse (if b then and_on (with_packet s call v k p) (with_packets s call output v (k + 1) es) else with_packets s call output v (k + 1) es p)
       go true f = then_on (with_packet s call v k p) (with_packets s call output v (k + 1) es) (packet_made v k p h) f
       go false f = f p h
 
@@ -124,77 +127,27 @@ module _ (s : Setup) (call : Call) (tag : IsTag s.mac) where
   finishes (Going p) h = h
   finishes (Broken v p) h = h
 
-  either : (b : Bool) (x y : Invoked) → OnResult x → OnResult y → OnResult (if b then x else y)
-  either true x y a b = a
-  either false x y a b = b
+  handles : (e : SourceEvent) (p : Progress) → Tallied p → OnResult (finished (handled s call e p))
+  handles e p h = finishes (handled s call e p) (handled_made e p h)
 
-  module _ (p : Progress) (h : Tallied p) where
-    received_made : (r : Result (List ℕ) Violation) (kind : ℕ) (rest : List ℕ → Invoked) → ((packet : List ℕ) → OnResult (rest packet)) → OnResult (received r kind rest p)
-    received_made (Err v) kind rest f = h
-    received_made (Ok packet) kind rest f = either (is_kind kind packet) (rest packet) (Returns 4 p) (f packet) h
+  attests : (ask : List ℕ) (p : Progress) → Tallied p → OnResult (attest s call ask p)
+  attests ask p h =
+      let q = record p { marks = p.marks ++ mark.Wrapped ask [] true ∷ [] } in
+      let piece = (wrapped s.mac s.section.key ask []).tag in
+      finishes (with_piece s call piece q) (piece_made piece q (mark.Wrapped ask [] true) p refl refl (tag_length s.mac s.section.key ask (crypt s.mac s.section.key ask []) tag) h)
 
-    set_key_made : (packet : List ℕ) → OnResult (set_key s packet p)
-    set_key_made packet = by_end (end_on (link_of (field_in packet)) s.ends (side_of (second_in packet)))
-      where
-        by_tag : (k : ℕ) (u : Option (List ℕ)) → OnResult (key_opened k packet u p)
-        by_tag k None = h
-        by_tag k (Some body) = no_piece p (mark.Unwrapped (header_in packet) (take 16 body) true) refl h
-
-        by_end : (e : Option (ℕ × End)) → OnResult (set_key_at s packet e p)
-        by_end None = h
-        by_end (Some e) =
-            let u = unwrapped s.mac s.section.key (header_in packet) (take 16 (drop 6 packet)) (drop 22 packet) in
-            either (is_keyed (end_of p.state.ends e.0) (field_in packet)) (Returns 5 p) (key_opened e.0 packet u p) h (by_tag e.0 u)
-
-    attest_made : (ask : List ℕ) → OnResult (attest s call ask p)
-    attest_made ask =
-        let r = record p { marks = p.marks ++ mark.Wrapped ask [] true ∷ [] } in
-        let tg = (wrapped s.mac s.section.key ask []).tag in
-        finishes (with_piece s call tg r) (piece_made tg r (mark.Wrapped ask [] true) p refl refl (tag_length s.mac s.section.key ask (crypt s.mac s.section.key ask []) tag) h)
-
-    input_made : (packet : List ℕ) → OnResult (input s call packet p)
-    input_made packet = by_end (end_found (link_of (field_in packet)) To 0 s.ends)
-      where
-        by_tag : (e : ℕ × End) (u : Option (List ℕ)) → OnResult (event_opened s call e packet u p)
-        by_tag e None = h
-        by_tag e (Some body) =
-            let r = number_taken e.0 packet (take 2 body) (end_of p.state.ends e.0) p in
-            finishes (handled s call (event.Input e.1.port (word body 0)) r) (handled_made (event.Input e.1.port (word body 0)) r (no_piece p (mark.Unwrapped (header_in packet) (take 2 body) false) refl h))
-
-        by_end : (e : Option (ℕ × End)) → OnResult (input_at s call packet e p)
-        by_end None = h
-        by_end (Some e) =
-            let st = end_of p.state.ends e.0 in
-            let u = unwrapped s.mac st.key (header_in packet) (take 2 (drop 6 packet)) (drop 8 packet) in
-            either (not st.is_open || not (epoch_of st.field == epoch_of (field_in packet))) (Returns 5 p) (event_numbered s call e packet st p) h
-            (either (nat_lt (second_in packet) st.number || (second_in packet == 65535)) (Returns 6 p) (event_opened s call e packet u p) h (by_tag e u))
-
-    sample_made : OnResult (sample s call p)
-    sample_made = by_device (own_window s p.devices)
-      where
-        by_device : (d : Option (ℕ × Window)) → OnResult (sample_of s call d p)
-        by_device None = h
-        by_device (Some d) =
-            let r = sample_read d p in
-            either d.1.fresh (finished (handled s call (event.Sample d.1.value) r)) (Returns 8 p) (finishes (handled s call (event.Sample d.1.value) r) (handled_made (event.Sample d.1.value) r (no_piece p (mark.Sampled d.0 d.1.value) refl h))) h
-
-    entered_made : OnResult (entered s call p)
-    unfolding entered
-    entered_made =
-        let r3 = sample s call p in
-        let i2 = with_received s call 24 3 p (λ packet. input s call packet p) in
-        let i1 = with_received s call 18 2 p (λ packet. attest s call packet p) in
-        let i0 = with_received s call 38 1 p (λ packet. set_key s packet p) in
-        either (call.entry == 0) i0 (if call.entry == 1 then i1 else if call.entry == 2 then i2 else r3) (received_made (read_bytes s p.devices p.mem call.input 38) 1 (λ packet. set_key s packet p) set_key_made)
-        (either (call.entry == 1) i1 (if call.entry == 2 then i2 else r3) (received_made (read_bytes s p.devices p.mem call.input 18) 2 (λ packet. attest s call packet p) attest_made)
-        (either (call.entry == 2) i2 r3 (received_made (read_bytes s p.devices p.mem call.input 24) 3 (λ packet. input s call packet p) input_made) sample_made))
-
-    pub invoke_made : OnResult (invoke s call p)
-    unfolding invoke
-    invoke_made =
-        either (returns_inside s call) (Violates bad.Illegal p) (if is_no_entry s call then Returns 2 p else if has_bad_windows s call then Returns 3 p else entered s call p) h
-        (either (is_no_entry s call) (Returns 2 p) (if has_bad_windows s call then Returns 3 p else entered s call p) h
-        (either (has_bad_windows s call) (Returns 3 p) (entered s call p) h entered_made))
+  pub invoke_made : (p : Progress) → Tallied p → OnResult (invoke s call p)
+  invoke_made p h =
+      by_entry s call p OnResult
+      (record {
+        refused = λ status. h;
+        violated = λ v. h;
+        keyed = λ good k packet body. no_piece p (mark.Unwrapped (header_in packet) (take key_size body) true) refl h;
+        attested = λ good ask. attests ask p h;
+        taken = λ good e packet body. handles (event.Input e.1.port (word body 0)) (number_taken e.0 packet (take value_size body) (end_of p.state.ends e.0) p)
+            (no_piece p (mark.Unwrapped (header_in packet) (take value_size body) false) refl h);
+        sampled = λ good d. handles (event.Sample d.1.value) (sample_read d p) (no_piece p (mark.Sampled d.0 d.1.value) refl h);
+      })
 
 pub pieces_marked : PiecesMarked
 pieces_marked s call p tag none quiet = go (invoke s call p) (invoke_made s call tag p (ap bytes_in none ∙ sym (ap made_bytes quiet)))

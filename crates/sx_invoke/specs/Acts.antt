@@ -11,13 +11,14 @@ use Rattle.sx_rules.specs.declared.access.Violation.{Violation}
 use Rattle.sx_bus.specs.declared.devices.Window.{Window}
 use Rattle.sx_tag.specs.Wrap.{wrapped}
 use Rattle.sx_machine.specs.Run.{device_of}
+use Rattle.sx_invoke.specs.Protocol.{event_size, event_kind, last_number}
 use Rattle.sx_invoke.specs.Setup.{Setup, Call}
 use Rattle.sx_invoke.specs.ModuleState.{EndState, end_of, with_end}
 use Rattle.sx_invoke.specs.Marks.{Wrapped, Actuated}
 use Rattle.sx_invoke.specs.Windows.{two, write_bytes}
 use Rattle.sx_invoke.specs.Progress.{Progress, Course, Going, Broken, and_on}
 
--- Pieces. The k-th packet stands at offset 24 k of the out-window.
+-- Pieces. The packets stand in the out-window one after the other.
 
 -- a copy to the out-window that was made, or was refused
 abbrev pub copied_to : Result (List ℕ) Violation → Progress → Course
@@ -27,12 +28,12 @@ copied_to (Err v) p = Broken v p
 -- a piece is made, and then copied to its offset
 abbrev pub with_piece : Setup → Call → List ℕ → Progress → Course
 with_piece s c piece p =
-    copied_to (write_bytes s p.devices p.mem (c.output + 24 * length p.pieces) piece)
+    copied_to (write_bytes s p.devices p.mem (c.output + event_size * length p.pieces) piece)
     (record p { pieces = p.pieces ++ piece ∷ [] })
 
 -- an event packet's header: its kind, the connection field and the number
 abbrev pub event_header : EndState → List ℕ
-event_header e = 3 ∷ 0 ∷ two e.field ++ two e.number
+event_header e = event_kind ∷ 0 ∷ two e.field ++ two e.number
 
 -- the number rises, and the mark of the wrap comes before the copy
 abbrev pub wrap_counted : ℕ → EndState → ℕ → Progress → Progress
@@ -47,11 +48,11 @@ event_packet s e v =
     let w = wrapped s.mac e.key (event_header e) (two v) in
     event_header e ++ w.cipher ++ w.tag
 
--- an event packet for the k-th end, where it is open and its number is below 65,535
+-- an event packet for the k-th end, where it is open and its number is below the last
 unfoldable pub with_packet : Setup → Call → ℕ → ℕ → Progress → Course
 with_packet s c v k p =
     let e = end_of p.state.ends k in
-    if e.is_open && nat_lt e.number 65535 then with_piece s c (event_packet s e v)
+    if e.is_open && nat_lt e.number last_number then with_piece s c (event_packet s e v)
     (wrap_counted k e v p) else Going p
 
 -- Acts of a handler, in order.

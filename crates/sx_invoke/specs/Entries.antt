@@ -11,6 +11,9 @@ use Rattle.sx_bus.specs.declared.devices.Window.{Window}
 use Rattle.sx_bus.specs.Devices.{cleared}
 use Rattle.sx_tag.specs.Wrap.{wrapped, unwrapped}
 use Rattle.sx_machine.specs.Memory.{word}
+use Rattle.sx_invoke.specs.Protocol.{all_done, other_kind, no_end, past_number, other_tag}
+use Rattle.sx_invoke.specs.Protocol.{no_sample, header_size, key_size, key_tag_at, value_size}
+use Rattle.sx_invoke.specs.Protocol.{value_tag_at, last_number}
 use Rattle.sx_invoke.specs.Setup.{Setup, Call}
 use Rattle.sx_invoke.specs.ModuleState.{EndState, end_of, with_end, epoch_of, link_of}
 use Rattle.sx_invoke.specs.Marks.{Wrapped, Unwrapped, Sampled}
@@ -57,9 +60,9 @@ field_in packet = word packet 2
 abbrev pub second_in : List ℕ → ℕ
 second_in packet = word packet 4
 
--- the first 6 bytes
+-- the first bytes
 abbrev pub header_in : List ℕ → List ℕ
-header_in packet = take 6 packet
+header_in packet = take header_size packet
 
 -- Steps 4 and 5: a packet is copied from the in-window, and its first two bytes tell its kind
 
@@ -67,10 +70,10 @@ header_in packet = take 6 packet
 abbrev pub is_kind : ℕ → List ℕ → Bool
 is_kind kind packet = (slice_index packet 0 == kind) && (slice_index packet 1 == 0)
 
--- step 5: a packet of the kind goes on, another gives status 4
+-- step 5: a packet of the kind goes on, another is refused
 abbrev pub received : Result (List ℕ) Violation → ℕ → (List ℕ → Invoked) → Progress → Invoked
 received (Err v) kind rest p = Violates v p
-received (Ok packet) kind rest p = if is_kind kind packet then rest packet else Returns 4 p
+received (Ok packet) kind rest p = if is_kind kind packet then rest packet else Returns other_kind p
 
 -- steps 4 and 5
 abbrev pub with_received : Setup → Call → ℕ → ℕ → Progress → (List ℕ → Invoked) → Invoked
@@ -94,16 +97,17 @@ end_keyed k packet key p = record p {
 
 -- step 8: the tag
 abbrev pub key_opened : ℕ → List ℕ → Option (List ℕ) → Progress → Invoked
-key_opened k packet None p = Returns 7 p
-key_opened k packet (Some body) p = Returns 1 (end_keyed k packet (take 16 body) p)
+key_opened k packet None p = Returns other_tag p
+key_opened k packet (Some body) p =
+    Returns all_done (end_keyed k packet (take key_size body) p)
 
 -- step 6: the end
 abbrev pub set_key_at : Setup → List ℕ → Option (ℕ × End) → Progress → Invoked
-set_key_at s packet None p = Returns 5 p
+set_key_at s packet None p = Returns no_end p
 set_key_at s packet (Some e) p =
-    if is_keyed (end_of p.state.ends e.0) (field_in packet) then Returns 5 p
+    if is_keyed (end_of p.state.ends e.0) (field_in packet) then Returns no_end p
     else key_opened e.0 packet (unwrapped s.mac s.section.key (header_in packet)
-    (take 16 (drop 6 packet)) (drop 22 packet)) p
+    (take key_size (drop header_size packet)) (drop key_tag_at packet)) p
 
 -- steps 6 to 10 of entry 0
 abbrev pub set_key : Setup → List ℕ → Progress → Invoked
@@ -132,25 +136,26 @@ number_taken k packet value e p = record p {
 
 -- steps 8 and 10: the tag, the next number, and the handler
 abbrev pub event_opened : Setup → Call → ℕ × End → List ℕ → Option (List ℕ) → Progress → Invoked
-event_opened s c e packet None p = Returns 7 p
+event_opened s c e packet None p = Returns other_tag p
 event_opened s c e packet (Some body) p =
     finished (handled s c (event.Input e.1.port (word body 0))
-    (number_taken e.0 packet (take 2 body) (end_of p.state.ends e.0) p))
+    (number_taken e.0 packet (take value_size body) (end_of p.state.ends e.0) p))
 
 -- step 7: the number
 abbrev pub event_numbered : Setup → Call → ℕ × End → List ℕ → EndState → Progress → Invoked
 event_numbered s c e packet state p =
-    if nat_lt (second_in packet) state.number || (second_in packet == 65535) then Returns 6 p
+    if nat_lt (second_in packet) state.number || (second_in packet == last_number) then
+    Returns past_number p
     else event_opened s c e packet (unwrapped s.mac state.key (header_in packet)
-    (take 2 (drop 6 packet)) (drop 8 packet)) p
+    (take value_size (drop header_size packet)) (drop value_tag_at packet)) p
 
 -- step 6: the end
 abbrev pub input_at : Setup → Call → List ℕ → Option (ℕ × End) → Progress → Invoked
-input_at s c packet None p = Returns 5 p
+input_at s c packet None p = Returns no_end p
 input_at s c packet (Some e) p =
     let state = end_of p.state.ends e.0 in
     if not state.is_open || not (epoch_of state.field == epoch_of (field_in packet)) then
-    Returns 5 p
+    Returns no_end p
     else event_numbered s c e packet state p
 
 -- steps 6 to 10 of entry 2
@@ -166,10 +171,10 @@ sample_read d p =
 
 -- steps 9 and 10: the sensor is fresh, and the handler runs with its value
 abbrev pub sample_of : Setup → Call → Option (ℕ × Window) → Progress → Invoked
-sample_of s c None p = Returns 8 p
+sample_of s c None p = Returns no_sample p
 sample_of s c (Some d) p =
     if d.1.fresh then finished (handled s c (event.Sample d.1.value) (sample_read d p)) else
-    Returns 8 p
+    Returns no_sample p
 
 -- steps 9 and 10 of entry 3
 abbrev pub sample : Setup → Call → Progress → Invoked

@@ -8,6 +8,9 @@ use Rattle.sx_mean.specs.Application.{declared_kind}
 use Rattle.sx_rules.specs.declared.access.Violation.TheVariants as bad
 use Rattle.sx_rules.specs.Access.{in_public}
 use Rattle.sx_machine.specs.Memory.{even}
+use Rattle.sx_invoke.specs.Protocol.{set_key_entry, attest_entry, input_entry, sample_entry}
+use Rattle.sx_invoke.specs.Protocol.{set_key_size, set_key_kind, ask_size, ask_kind}
+use Rattle.sx_invoke.specs.Protocol.{event_size, event_kind, no_entry, bad_window}
 use Rattle.sx_invoke.specs.Setup.{Setup, Call}
 use Rattle.sx_invoke.specs.Windows.{in_window_size, out_window_size, is_bad_window}
 use Rattle.sx_invoke.specs.Progress.{Progress, Invoked, Returns, Violates}
@@ -26,7 +29,8 @@ is_sensor_driver (Some Actuator) = false
 -- step 2: there is no such entry
 abbrev pub is_no_entry : Setup → Call → Bool
 is_no_entry s c =
-    nat_lt 3 c.entry || ((c.entry == 3) && not (is_sensor_driver (declared_kind s.tree.decls)))
+    nat_lt sample_entry c.entry
+    || ((c.entry == sample_entry) && not (is_sensor_driver (declared_kind s.tree.decls)))
 
 -- step 3: one of the windows is bad
 abbrev pub has_bad_windows : Setup → Call → Bool
@@ -36,15 +40,18 @@ has_bad_windows s c =
 -- the four entries
 unfoldable pub entered : Setup → Call → Progress → Invoked
 entered s c p =
-    if c.entry == 0 then with_received s c 38 1 p (λ packet. set_key s packet p)
-    else if c.entry == 1 then with_received s c 18 2 p (λ packet. attest s c packet p)
-    else if c.entry == 2 then with_received s c 24 3 p (λ packet. input s c packet p)
+    if c.entry == set_key_entry then
+    with_received s c set_key_size set_key_kind p (λ packet. set_key s packet p)
+    else if c.entry == attest_entry then
+    with_received s c ask_size ask_kind p (λ packet. attest s c packet p)
+    else if c.entry == input_entry then
+    with_received s c event_size event_kind p (λ packet. input s c packet p)
     else sample s c p
 
 -- an invocation
 unfoldable pub invoke : Setup → Call → Progress → Invoked
 invoke s c p =
     if returns_inside s c then Violates bad.Illegal p
-    else if is_no_entry s c then Returns 2 p
-    else if has_bad_windows s c then Returns 3 p
+    else if is_no_entry s c then Returns no_entry p
+    else if has_bad_windows s c then Returns bad_window p
     else entered s c p

@@ -1,3 +1,4 @@
+pub mod Protocol
 pub mod Setup
 pub mod ModuleState
 pub mod Marks

@@ -1,5 +1,6 @@
 -- Marks: what a module does that others can rely on.
 use Rattle.std.specs.Prelude.{◌≡◌, ℕ, ◌+◌, Bool, true, false, List, [], ◌∷◌, ◌++◌}
+use Rattle.sx_invoke.specs.Protocol.{tag_size, event_size}
 
 -- a wrap, or an unwrap that was accepted, each with its header, its plain body and whether it was
 -- under the module's own key; a read of a fresh sensor, or a write to an actuator, each with the
@@ -17,8 +18,8 @@ HasPrefix all seen = (rest : List Mark) × (seen ++ rest ≡ all)
 -- the bytes of the piece that a mark makes: an answer's tag under the module's own key, or an
 -- event's packet
 abbrev pub piece_size : Mark → ℕ
-piece_size (Wrapped header body true) = 16
-piece_size (Wrapped header body false) = 24
+piece_size (Wrapped header body true) = tag_size
+piece_size (Wrapped header body false) = event_size
 piece_size (Unwrapped header body own) = 0
 piece_size (Sampled device v) = 0
 piece_size (Actuated device v) = 0

@@ -7,6 +7,7 @@ use Rattle.sx_mean.specs.declared.events.End.{End}
 use Rattle.sx_mean.specs.Places.{initial_cells}
 use Rattle.sx_machine.specs.Memory.{word, bytes_from}
 use Rattle.sx_mean.specs.Offsets.{end_at, end_number_at, end_open_at, end_key_at, cell_at}
+use Rattle.sx_invoke.specs.Protocol.{key_size}
 
 -- One end of a connection: whether it is open, the connection field of its set-key packet, which is
 -- 256 times its epoch plus the connection's number, the number that is next, or that counts the
@@ -32,7 +33,7 @@ link_of field = field % 256
 
 -- an end that was never opened
 abbrev pub closed_end : EndState
-closed_end = record { is_open = false; field = 0; number = 0; key = replicate 16 0 }
+closed_end = record { is_open = false; field = 0; number = 0; key = replicate key_size 0 }
 
 -- the k-th end's state
 abbrev pub end_of : List EndState → ℕ → EndState
@@ -61,7 +62,7 @@ end_state priv k = record {
   is_open = not (word priv (end_open_at k) == 0);
   field = word priv (end_at k);
   number = word priv (end_number_at k);
-  key = bytes_from priv (end_key_at k) 16;
+  key = bytes_from priv (end_key_at k) key_size;
 }
 
 -- the states of ends in their slots, from the k-th on

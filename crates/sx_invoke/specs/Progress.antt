@@ -2,6 +2,7 @@
 use Rattle.std.specs.Prelude.{ℕ, ◌+◌, List, [], ◌∷◌, length}
 use Rattle.sx_rules.specs.declared.access.Violation.{Violation}
 use Rattle.sx_bus.specs.declared.devices.Window.{Window}
+use Rattle.sx_invoke.specs.Protocol.{all_done}
 use Rattle.sx_invoke.specs.ModuleState.{ModuleState}
 use Rattle.sx_invoke.specs.Marks.{Mark}
 
@@ -30,9 +31,9 @@ abbrev pub and_on : Course → (Progress → Course) → Course
 and_on (Going p) rest = rest p
 and_on (Broken v p) rest = Broken v p
 
--- a whole course: status 1 or its violation
+-- a whole course: all is done, or its violation
 abbrev pub finished : Course → Invoked
-finished (Going p) = Returns 1 p
+finished (Going p) = Returns all_done p
 finished (Broken v p) = Violates v p
 
 -- the marks until the end
