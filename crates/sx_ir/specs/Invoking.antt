@@ -7,6 +7,8 @@ use Rattle.sx_mean.specs.React.{value_of}
 use Rattle.sx_rules.specs.declared.access.Violation.{Violation}
 use Rattle.sx_machine.specs.Memory.{word}
 use Rattle.sx_mean.specs.Offsets.{event_at}
+use Rattle.sx_invoke.specs.Protocol.{entry_register, input_register, output_register}
+use Rattle.sx_invoke.specs.Protocol.{back_register}
 use Rattle.sx_invoke.specs.ModuleState.{state_of}
 use Rattle.sx_invoke.specs.Marks.{Mark}
 use Rattle.sx_invoke.specs.Setup.{Setup, Call}
@@ -28,10 +30,10 @@ pub record Represents (s : Setup) (call : Call) (p : Progress) (c : Conf) : Type
   pub devices : c.devices ≡ p.devices
   pub marks : c.marks ≡ p.marks
   pub count : pieces c ≡ length p.pieces
-  pub entry : saved c 12 ≡ call.entry
-  pub input : saved c 13 ≡ call.input
-  pub output : saved c 14 ≡ call.output
-  pub back : saved c 15 ≡ call.back
+  pub entry : saved c entry_register ≡ call.entry
+  pub input : saved c input_register ≡ call.input
+  pub output : saved c output_register ≡ call.output
+  pub back : saved c back_register ≡ call.back
 
 -- the course breaks with this violation, after these marks
 abbrev pub CourseBreaks : Course → Violation → List Mark → Type 0

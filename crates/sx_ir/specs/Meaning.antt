@@ -16,6 +16,8 @@ use Rattle.sx_tag.specs.Wrap.{Wrapped, wrapped, unwrapped}
 use Rattle.sx_machine.specs.Memory.{even, word, put_word, bytes_from, put_bytes}
 use Rattle.sx_reach.specs.Reach.{Stepped, Goes, Stops, Comes}
 use Rattle.sx_mean.specs.Offsets as offsets
+use Rattle.sx_invoke.specs.Protocol.{input_register, output_register, back_register}
+use Rattle.sx_invoke.specs.Protocol.{entry_register, event_size, key_size, tag_size, last_number}
 use Rattle.sx_invoke.specs.ModuleState.{EndState, end_state}
 use Rattle.sx_invoke.specs.Marks as mark
 use Rattle.sx_invoke.specs.Marks.{Mark, made_bytes}
@@ -95,11 +97,11 @@ pieces c = word c.priv offsets.pieces_at
 
 -- the in-window is one that a caller may give
 abbrev pub has_in_window : Setup → Conf → Bool
-has_in_window s c = not (is_bad_window s (saved c 13) in_window_size)
+has_in_window s c = not (is_bad_window s (saved c input_register) in_window_size)
 
 -- the out-window is one that a caller may give
 abbrev pub has_out_window : Setup → Conf → Bool
-has_out_window s c = not (is_bad_window s (saved c 14) out_window_size)
+has_out_window s c = not (is_bad_window s (saved c output_register) out_window_size)
 
 -- a copy to the out-window that was made, or was refused
 abbrev pub copied_out : Result (List ℕ) Violation → Conf → (List ℕ → Conf) → OperationResult
@@ -123,20 +125,22 @@ sealed_event c e v =
 -- is written before the exit lies where the pieces go.
 abbrev pub has_packet_room : Conf → Bool
 has_packet_room c =
-    nat_le (24 * pieces c + 24) out_window_size && nat_le (24 * pieces c) (made_bytes c.marks)
+    nat_le (event_size * pieces c + event_size) out_window_size
+    && nat_le (event_size * pieces c) (made_bytes c.marks)
 
 -- a packet of an open end
 abbrev pub send_open : Setup → Conf → ℕ → ℕ → EndState → OperationResult
 send_open s c k v e =
     when (has_packet_room c)
-    (copied_out (write_bytes s c.devices c.mem (saved c 14 + 24 * pieces c) (event_packet s e v))
-    (sealed_event c e v) (packed (sealed_event c e v) k e))
+    (copied_out (write_bytes s c.devices c.mem
+    (saved c output_register + event_size * pieces c) (event_packet s e v)) (sealed_event c e v)
+    (packed (sealed_event c e v) k e))
 
--- a packet, where the end is open and its number below 65,535
+-- a packet, where the end is open and its number below the last
 abbrev pub send : Setup → Conf → ℕ → ℕ → EndState → OperationResult
 send s c k v e =
-    when (has_out_window s c) (if e.is_open && nat_lt e.number 65535 then send_open s c k v e else
-    Goes (next c c.stack))
+    when (has_out_window s c) (if e.is_open && nat_lt e.number last_number then
+    send_open s c k v e else Goes (next c c.stack))
 
 -- a write to an actuator
 abbrev pub emitted : Conf → ℕ → List ℕ → Kind → ℕ → OperationResult
@@ -173,7 +177,7 @@ copied_in c o (Err v) = Stops (Violates v c.marks)
 -- n bytes of the in-window to an offset
 abbrev pub copy_in : Setup → Conf → ℕ → ℕ → OperationResult
 copy_in s c n o = when (has_in_window s c && nat_le n in_window_size)
-    (copied_in c o (read_bytes s c.devices c.mem (saved c 13) n))
+    (copied_in c o (read_bytes s c.devices c.mem (saved c input_register) n))
 
 -- the bytes at the out-window's offset lie in it, and are no more than the marks have made
 abbrev pub has_copy_room : Conf → ℕ → ℕ → Bool
@@ -183,13 +187,14 @@ has_copy_room c at n = nat_le (at + n) out_window_size && nat_le (at + n) (made_
 abbrev pub copy_out : Setup → Conf → ℕ → ℕ → ℕ → List ℕ → OperationResult
 copy_out s c n o at rest =
     when (has_out_window s c && has_copy_room c at n)
-    (copied_out (write_bytes s c.devices c.mem (saved c 14 + at) (bytes_from c.priv o n)) c
+    (copied_out (write_bytes s c.devices c.mem
+    (saved c output_register + at) (bytes_from c.priv o n)) c
     (λ mem. record (next c rest) { mem = mem }))
 
 -- the key at an offset, the module's own at 0
 abbrev pub key_at : Setup → Conf → ℕ → List ℕ
 key_at s c zero = s.section.key
-key_at s c (suc k) = bytes_from c.priv (suc k) 16
+key_at s c (suc k) = bytes_from c.priv (suc k) key_size
 
 -- a wrap leaves its cipher and tag, and its mark
 abbrev pub sealed : Conf → ℕ → ℕ → List ℕ → List ℕ → ℕ → Wrapped → OperationResult
@@ -220,7 +225,7 @@ abbrev pub unseal : Setup → Conf → ℕ → ℕ → ℕ → ℕ → ℕ → O
 unseal s c k h hn b bn =
     let ad = bytes_from c.priv h hn in
     opened c k ad b bn (unwrapped s.mac (key_at s c k) ad (bytes_from c.priv (h + hn) bn)
-    (bytes_from c.priv (h + hn + bn) 16))
+    (bytes_from c.priv (h + hn + bn) tag_size))
 
 -- the k-th slot with a key, a connection field, and number 0
 abbrev pub slot_keyed : List ℕ → ℕ → ℕ → List ℕ → List ℕ
@@ -233,7 +238,7 @@ abbrev pub set_end : Conf → ℕ → OperationResult
 set_end c k = Goes (record (next c c.stack) {
   priv =
       slot_keyed c.priv k (word c.priv (offsets.packet_at + 2))
-      (bytes_from c.priv offsets.plain_at 16);
+      (bytes_from c.priv offsets.plain_at key_size);
 })
 
 -- a handler's part ends: the run goes on where the part was begun from
@@ -246,9 +251,9 @@ abbrev pub jump_zero : Conf → ℕ → ℕ → List ℕ → OperationResult
 jump_zero c p zero rest = Goes (record c { place = p; stack = rest })
 jump_zero c p (suc v) rest = Goes (next c rest)
 
--- R12 to R15 are saved
+-- the registers of a call are saved
 abbrev pub is_saved : ℕ → Bool
-is_saved r = nat_le 12 r && nat_le r 15
+is_saved r = nat_le entry_register r && nat_le r back_register
 
 -- The operation at a configuration's place. What `Handler` does is given: `handle` has the
 -- handler's number and the configuration with a count of pieces of 0.
@@ -270,7 +275,7 @@ do_op s handle ir.Drop c = on_top c.stack (λ x rest. Goes (next c rest))
 do_op s handle ir.Emit c = on_top c.stack (λ x rest. emit c x rest (own_window s c.devices))
 do_op s handle ir.Stop c = stop c c.back
 do_op s handle (ir.Saved r) c = when (is_saved r) (pushed c (saved c r))
-do_op s handle ir.Inside c = if in_public s.section (even (saved c 15)) then
+do_op s handle ir.Inside c = if in_public s.section (even (saved c back_register)) then
     Stops (Violates bad.Illegal c.marks) else Goes (next c c.stack)
 do_op s handle (ir.Meets r n) c =
     when (is_saved r) (pushed c (truth (is_bad_window s (saved c r) n)))

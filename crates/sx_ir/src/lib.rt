@@ -15,8 +15,6 @@ mod ir;
 mod joining;
 mod sizes;
 mod soundness;
-#[cfg(test)]
-mod tests;
 
 pub use ir::{Code, Ir, IrOp};
 pub use joining::join;
