@@ -1,5 +1,6 @@
 -- A private section that holds a source state: its locals and cells.
-use Rattle.std.proofs.Common.{◌≡◌, ◌≢◌, ℕ, ◌+◌, ◌-◌, ◌*◌, ◌%◌, ◌<◌, ◌≤◌, Bool, true, false, if◌then◌else◌, List, [], ◌∷◌, ◌++◌, length, get_or, take, nat_lt, refl, sym, ap, ◌∙◌, subst, arith, length-append}
+use Rattle.std.proofs.Common.{◌≡◌, ◌≢◌, ℕ, ◌+◌, ◌-◌, ◌*◌, ◌%◌, ◌<◌, ◌≤◌, Bool, true, false, if◌then◌else◌, List, [], ◌∷◌, ◌++◌, length, get_or, take, nat_lt}
+use Rattle.std.proofs.Common.{refl, sym, ap, ◌∙◌, subst, arith, length-append}
 use Rattle.std.specs.Prelude.{All, slice_set}
 use Rattle.std.proofs.lemmas.Bool.{lt-ltb, le-ltb, ltb-false, ltb-true}
 use Rattle.sx_lang.specs.declared.tree.Decl.{Decl}
@@ -116,7 +117,8 @@ module _ (ds : List Decl) (n : ℕ) (names : List (List ℕ)) (st : HandlerState
         bytes = bytes-put priv (local_at (length names)) v lt h.bytes;
       }
 
-  holds_local : (x : List ℕ) (v : ℕ) → v < 65536 → nat_lt (index_of names x) (length names) ≡ true → Holds ds n names (record st { locals = slice_set st.locals (local_place st.locals x) (new_local x v) }) (put_word priv (local_at (index_of names x)) v)
+  holds_local : (x : List ℕ) (v : ℕ) → v < 65536 → nat_lt (index_of names x) (length names) ≡ true
+      → Holds ds n names (record st { locals = slice_set st.locals (local_place st.locals x) (new_local x v) }) (put_word priv (local_at (index_of names x)) v)
   holds_local x v lt is =
       let i = local_place st.locals x in
       let at : i ≡ index_of names x = place_of_local st.locals x ∙ ap (λ ns. index_of ns x) h.named in
@@ -135,7 +137,8 @@ module _ (ds : List Decl) (n : ℕ) (names : List (List ℕ)) (st : HandlerState
       }
 
   -- a word in a cell, which begins with f
-  holds_cell : (i w v : ℕ) → i < declared_cells ds → w < 65536 → (w + get_or (initial_cells ds) i 0) % 65536 ≡ v → Holds ds n names (record st { cells = slice_set st.cells i v }) (put_word priv (cell_at n i) w)
+  holds_cell : (i w v : ℕ) → i < declared_cells ds → w < 65536 → (w + get_or (initial_cells ds) i 0) % 65536 ≡ v
+      → Holds ds n names (record st { cells = slice_set st.cells i v }) (put_word priv (cell_at n i) w)
   holds_cell i w v inside lt is =
       let at : cell_at n 0 + 2 * i ≡ cell_at n i = omega arith in
       let even_base : cell_at n 0 % 2 ≡ 0 = omega arith in
@@ -160,7 +163,8 @@ module _ (ds : List Decl) (n : ℕ) (names : List (List ℕ)) (st : HandlerState
       let e : assign ds x v st ≡ record st { locals = slice_set st.locals (local_place st.locals x) (new_local x v) } = rw t refl in
       subst (λ u. Holds ds n names u (put_word priv (local_at (index_of names x)) v)) (sym e) (holds_local x v lt is)
 
-  pub holds_assign_cell : (x : List ℕ) (v : ℕ) → v < 65536 → nat_lt (index_of names x) (length names) ≡ false → IsVariable ds x → first_value ds x < 65536 → Holds ds n names (assign ds x v st) (put_word priv (cell_at n (place ds x)) ((v + (65536 - first_value ds x)) % 65536))
+  pub holds_assign_cell : (x : List ℕ) (v : ℕ) → v < 65536 → nat_lt (index_of names x) (length names) ≡ false → IsVariable ds x → first_value ds x < 65536
+      → Holds ds n names (assign ds x v st) (put_word priv (cell_at n (place ds x)) ((v + (65536 - first_value ds x)) % 65536))
   holds_assign_cell x v lt is var small =
       let at : local_place st.locals x ≡ index_of names x = place_of_local st.locals x ∙ ap (λ ns. index_of ns x) h.named in
       let count : length names ≡ length st.locals = omega (arith, length-names st.locals, ap length h.named) in
@@ -174,10 +178,12 @@ module _ (ds : List Decl) (n : ℕ) (names : List (List ℕ)) (st : HandlerState
       there_and_back : (v f : ℕ) → v < 65536 → f < 65536 → ((v + (65536 - f)) % 65536 + f) % 65536 ≡ v
       there_and_back v f a b = omega arith
 
-  pub holds_element : (x : List ℕ) (i v : ℕ) → v < 65536 → Holds ds n names (assign_element ds x i v st) (if nat_lt i (array_length ds x) then put_word priv (cell_at n (place ds x) + 2 * i) v else priv)
+  pub holds_element : (x : List ℕ) (i v : ℕ) → v < 65536
+      → Holds ds n names (assign_element ds x i v st) (if nat_lt i (array_length ds x) then put_word priv (cell_at n (place ds x) + 2 * i) v else priv)
   holds_element x i v lt = go (nat_lt i (array_length ds x)) refl
     where
-      go : (b : Bool) → nat_lt i (array_length ds x) ≡ b → Holds ds n names (if b then record st { cells = slice_set st.cells (place ds x + i) v } else st) (if b then put_word priv (cell_at n (place ds x) + 2 * i) v else priv)
+      go : (b : Bool) → nat_lt i (array_length ds x) ≡ b
+          → Holds ds n names (if b then record st { cells = slice_set st.cells (place ds x + i) v } else st) (if b then put_word priv (cell_at n (place ds x) + 2 * i) v else priv)
       go false e = h
       go true e =
           let el = is_element ds x i e in
@@ -186,7 +192,8 @@ module _ (ds : List Decl) (n : ℕ) (names : List (List ℕ)) (st : HandlerState
           subst (λ o. Holds ds n names (record st { cells = slice_set st.cells (place ds x + i) v }) (put_word priv o v)) at (holds_cell (place ds x + i) v v el.there lt is)
 
 -- a block's locals end
-pub holds_forget : (ds : List Decl) (n : ℕ) (names all : List (List ℕ)) (st : HandlerState) (priv : List ℕ) (k : ℕ) → Holds ds n all st priv → take k all ≡ names → length names ≤ 16 → Holds ds n names (forget k st) priv
+pub holds_forget : (ds : List Decl) (n : ℕ) (names all : List (List ℕ)) (st : HandlerState) (priv : List ℕ) (k : ℕ) → Holds ds n all st priv → take k all ≡ names → length names ≤ 16
+    → Holds ds n names (forget k st) priv
 holds_forget ds n names all st priv k h e few = record {
   named = names_take st.locals k ∙ ap (take k) h.named ∙ e;
   few = few;

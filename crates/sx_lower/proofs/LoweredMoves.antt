@@ -94,7 +94,8 @@ module _ (k : ℕ) where
     mutual
       statement_moves : (t : Statement) (p : ℕ) (names : List (List ℕ)) → Move (statement_code ds es p names t) ≡ statement_code ds es (k + p) names t
       statement_moves (Defines x e) p names = both (expression_code ds (length es) names e) _ (expression_stays ds (length es) names e) refl
-      statement_moves (Assigns x e) p names = both (expression_code ds (length es) names e) _ (expression_stays ds (length es) names e) (chosen (nat_lt (index_of names x) (length names)) _ _ refl refl)
+      statement_moves (Assigns x e) p names = both (expression_code ds (length es) names e) _ (expression_stays ds (length es) names e)
+          (chosen (nat_lt (index_of names x) (length names)) _ _ refl refl)
       statement_moves (Stores x i e) p names =
           both (expression_code ds (length es) names i) _ (expression_stays ds (length es) names i) (both (expression_code ds (length es) names e) _ (expression_stays ds (length es) names e) refl)
       statement_moves (Sends x e) p names =
@@ -111,7 +112,8 @@ module _ (k : ℕ) where
           let qb : k + pb ≡ k + p + length ce + 1 + length (block_code ds es (k + p + length ce + 1) names a) + 1 = omega (arith, la) in
           let eb = block_moves b pb names ∙ ap (λ q. block_code ds es q names b) qb in
           choice_moves pa ce ca _ _ _ (expression_stays ds (length es) names e) ea eb
-          ∙ ap (λ q. choice_code q ce (block_code ds es (k + p + length ce + 1) names a) (block_code ds es (k + p + length ce + 1 + length (block_code ds es (k + p + length ce + 1) names a) + 1) names b)) qa
+          ∙ ap (λ q. choice_code q ce (block_code ds es (k + p + length ce + 1) names a)
+          (block_code ds es (k + p + length ce + 1 + length (block_code ds es (k + p + length ce + 1) names a) + 1) names b)) qa
       statement_moves (Repeats n a) p names =
           let q : k + (p + 5) ≡ k + p + 5 = omega arith in
           loop_moves p n (block_code ds es (p + 5) names a) _ (block_moves a (p + 5) names ∙ ap (λ q. block_code ds es q names a) q)

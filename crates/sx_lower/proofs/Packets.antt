@@ -1,5 +1,6 @@
 -- Packets of a send: stack code and invocation, side by side.
-use Rattle.std.proofs.Common.{◌≡◌, ◌≢◌, ℕ, ◌+◌, ◌*◌, ◌<◌, ◌≤◌, Bool, true, false, ◌&&◌, not, if◌then◌else◌, cond, List, [], ◌∷◌, ◌++◌, length, Some, nat_lt, nat_le, refl, sym, ap, ◌∙◌, subst, arith, length-append}
+use Rattle.std.proofs.Common.{◌≡◌, ◌≢◌, ℕ, ◌+◌, ◌*◌, ◌<◌, ◌≤◌, Bool, true, false, ◌&&◌, not, if◌then◌else◌, cond, List, [], ◌∷◌, ◌++◌, length, Some, nat_lt}
+use Rattle.std.proofs.Common.{nat_le, refl, sym, ap, ◌∙◌, subst, arith, length-append}
 use Rattle.std.specs.Prelude.{slice_get, Result, Ok, Err}
 use Rattle.std.proofs.lemmas.Bool.{le-leb, ltb-true}
 use Rattle.std.proofs.lemmas.List.Sums.{sum_by-cons}
@@ -19,6 +20,7 @@ use Rattle.sx_invoke.specs.ModuleState.{EndState, end_of, with_end, end_state, e
 use Rattle.sx_invoke.specs.Windows.{is_bad_window, two, write_bytes, out_window_size}
 use Rattle.sx_invoke.specs.Progress.{Progress, Course, Going, Broken, and_on}
 use Rattle.sx_invoke.specs.Acts.{copied_to, with_piece, event_header, event_packet, wrap_counted, with_packet, with_packets}
+use Rattle.sx_invoke.proofs.PiecesMarked.{made_more}
 use Rattle.sx_mean.specs.Ends.{is_sending, senders}
 use Rattle.sx_ir.specs.Conf.{Conf}
 use Rattle.sx_ir.specs.Meaning.{OperationResult, do_op, send_open, copied_out, packed, sealed_event, has_out_window, pieces, saved, when}
@@ -29,11 +31,6 @@ use Rattle.sx_lower.proofs.Bytes.{length-put_word, word-put_same, word-put_other
 use Rattle.sx_lower.proofs.Slots.{end_among, ends_number, ends_other}
 use Rattle.sx_lower.proofs.Holds.{Holds, holds_other}
 use Rattle.sx_lower.proofs.Run.{HasAt, at, do_one, do_last, weaker, Comes_to}
-
--- what a mark more makes
-pub made_more : (ms : List Mark) (m : Mark) → made_bytes (ms ++ m ∷ []) ≡ made_bytes ms + piece_size m
-made_more [] m = omega arith
-made_more (x ∷ ms) m = let e = made_more ms m in omega (arith, e)
 
 -- the sending ends of a list, by its first
 pub senders-cons : (e : End) (es : List End) (output : ℕ) → senders (e ∷ es) output ≡ (if is_sending output e.side e.port then 1 + senders es output else senders es output)
@@ -58,7 +55,8 @@ pub record Shows (s : Setup) (call : Call) (p : Progress) (priv mem : List ℕ) 
   pub told : 24 * length p.pieces ≤ made_bytes p.marks
 
 -- a write that meets neither what an invocation keeps nor the ends
-pub shows_other : (s : Setup) (call : Call) (p : Progress) (priv mem : List ℕ) (devices : List Window) (marks : List Mark) (o v : ℕ) → ((b : ℕ) → 4 ≤ b → b < 16 → even b ≢ even o) → ((b : ℕ) → 512 ≤ b → b < 512 + 24 * length s.ends → even b ≢ even o) → Shows s call p priv mem devices marks → Shows s call p (put_word priv o v) mem devices marks
+pub shows_other : (s : Setup) (call : Call) (p : Progress) (priv mem : List ℕ) (devices : List Window) (marks : List Mark) (o v : ℕ) → ((b : ℕ) → 4 ≤ b → b < 16 → even b ≢ even o)
+    → ((b : ℕ) → 512 ≤ b → b < 512 + 24 * length s.ends → even b ≢ even o) → Shows s call p priv mem devices marks → Shows s call p (put_word priv o v) mem devices marks
 shows_other s call p priv mem devices marks o v low slots h = record {
   size = length-put_word priv o v ∙ h.size;
   ends = ends_other s.ends priv 0 o v (λ b l m. slots b (omega (arith, l)) (omega (arith, m))) ∙ h.ends;
@@ -84,7 +82,8 @@ module _ (s : Setup) (call : Call) where
       ap (λ e. if e.is_open && nat_lt e.number 65535 then with_piece s call (event_packet s e v) (wrap_counted k e v p) else Going p) is
       ∙ ap (λ b. if b then with_piece s call (event_packet s e v) (wrap_counted k e v p) else Going p) no_
 
-  packet_open : (v k : ℕ) (p : Progress) (e : EndState) (to : ℕ) (devices : List Window) (mem : List ℕ) → end_of p.state.ends k ≡ e → (e.is_open && nat_lt e.number 65535) ≡ true → call.output + 24 * length p.pieces ≡ to → p.devices ≡ devices → p.mem ≡ mem
+  packet_open : (v k : ℕ) (p : Progress) (e : EndState) (to : ℕ) (devices : List Window) (mem : List ℕ) → end_of p.state.ends k ≡ e → (e.is_open && nat_lt e.number 65535) ≡ true
+      → call.output + 24 * length p.pieces ≡ to → p.devices ≡ devices → p.mem ≡ mem
       → with_packet s call v k p ≡ copied_to (write_bytes s devices mem to (event_packet s e v)) (packet_made s k e v p)
   unfolding with_packet
   packet_open v k p e to devices mem is open_ a d m =
@@ -100,7 +99,8 @@ packed_section priv k e = put_word (put_word priv (end_number_at k) (e.number + 
 
 module _ (s : Setup) (call : Call) (ds : List Decl) (names : List (List ℕ)) (st : HandlerState) where
   packed_shows : (p : Progress) (priv mem : List ℕ) (devices : List Window) (marks : List Mark) (k v : ℕ) (mem2 : List ℕ) → k < length s.ends → Shows s call p priv mem devices marks
-      → Shows s call (record (packet_made s k (end_state priv k) v p) { mem = mem2 }) (packed_section priv k (end_state priv k)) mem2 devices (marks ++ Wrapped (event_header (end_state priv k)) (two v) false ∷ [])
+      → Shows s call (record (packet_made s k (end_state priv k) v p) { mem = mem2 }) (packed_section priv k (end_state priv k)) mem2 devices
+      (marks ++ Wrapped (event_header (end_state priv k)) (two v) false ∷ [])
   packed_shows p priv mem devices marks k v mem2 inside h =
       let e = end_state priv k in
       let o = end_number_at k in
@@ -111,7 +111,8 @@ module _ (s : Setup) (call : Call) (ds : List Decl) (names : List (List ℕ)) (s
       let raw = ends_number s.ends priv 0 k (e.number + 1) (omega (arith, h.size)) inside in
       let z : 0 + k ≡ k = omega arith in
       let numbers : end_states one 0 s.ends ≡ with_end p.state.ends k (record e { number = e.number + 1 }) =
-      subst (λ i. end_states (put_word priv (end_number_at i) (e.number + 1)) 0 s.ends ≡ with_end (end_states priv 0 s.ends) k (record (end_state priv i) { number = e.number + 1 })) z raw ∙ ap (λ l. with_end l k (record e { number = e.number + 1 })) h.ends in
+      subst (λ i. end_states (put_word priv (end_number_at i) (e.number + 1)) 0 s.ends ≡ with_end (end_states priv 0 s.ends) k (record (end_state priv i) { number = e.number + 1 })) z raw
+      ∙ ap (λ l. with_end l k (record e { number = e.number + 1 })) h.ends in
       let same_word = λ (b : ℕ) (l : b < 16). word-put_other priv o (e.number + 1) b (omega (arith, l)) in
       record {
         size = omega (arith, long, long2, h.size);
@@ -127,14 +128,16 @@ module _ (s : Setup) (call : Call) (ds : List Decl) (names : List (List ℕ)) (s
         told = omega (arith, h.told, length-append p.pieces (event_packet s e v ∷ []), made_more p.marks (Wrapped (event_header e) (two v) false));
       }
 
-  packed_holds : (priv : List ℕ) (k : ℕ) → k < length s.ends → (end_state priv k).number < 65535 → word priv pieces_at < 65535 → Holds ds (length s.ends) names st priv → Holds ds (length s.ends) names st (packed_section priv k (end_state priv k))
+  packed_holds : (priv : List ℕ) (k : ℕ) → k < length s.ends → (end_state priv k).number < 65535 → word priv pieces_at < 65535 → Holds ds (length s.ends) names st priv
+      → Holds ds (length s.ends) names st (packed_section priv k (end_state priv k))
   packed_holds priv k inside small few h =
       let e = end_state priv k in
       let o = end_number_at k in
       let one = holds_other ds (length s.ends) names st priv h o (e.number + 1) (omega (arith, small)) (λ b l m. omega (arith, m)) (λ b l. omega (arith, l, inside)) in
       holds_other ds (length s.ends) names st (put_word priv o (e.number + 1)) one pieces_at (word priv pieces_at + 1) (omega (arith, few)) (λ b l m. omega (arith, l)) (λ b l. omega (arith, l))
 
-module _ (s : Setup) (handle : ℕ → Conf → OperationResult) (given : ℕ → ℕ) (code : List Ir) (B : Violation → List Mark → Type 0) (call : Call) (ds : List Decl) (names : List (List ℕ)) (st : HandlerState) (window : is_bad_window s call.output out_window_size ≡ false) where
+module _ (s : Setup) (handle : ℕ → Conf → OperationResult) (given : ℕ → ℕ) (code : List Ir) (B : Violation → List Mark
+    → Type 0) (call : Call) (ds : List Decl) (names : List (List ℕ)) (st : HandlerState) (window : is_bad_window s call.output out_window_size ≡ false) where
   -- a configuration after packets
   abbrev pub sent : Conf → List ℕ → List ℕ → List Mark → Conf
   sent c priv mem marks = record c { priv = priv; mem = mem; marks = marks }
@@ -152,9 +155,11 @@ module _ (s : Setup) (handle : ℕ → Conf → OperationResult) (given : ℕ �
   both_true true b h = h
   both_true false b h = absurd (cc)
 
-  packet_reach : (Q : Conf → Type 0) (v k p m n : ℕ) (stack : List ℕ) (c : Conf) (progress : Progress) → slice_get code p ≡ Some (ir.Packet k) → k < length s.ends → 200 + m ≤ n → length progress.pieces < 16
+  packet_reach : (Q : Conf → Type 0) (v k p m n : ℕ) (stack : List ℕ) (c : Conf) (progress : Progress) → slice_get code p ≡ Some (ir.Packet k) → k < length s.ends → 200 + m ≤ n
+      → length progress.pieces < 16
       → Holds ds (length s.ends) names st c.priv → Shows s call progress c.priv c.mem c.devices c.marks
-      → ((q : Progress) (priv mem : List ℕ) (marks : List Mark) → with_packet s call v k progress ≡ Going q → length q.pieces ≤ length progress.pieces + 1 → Holds ds (length s.ends) names st priv → Shows s call q priv mem c.devices marks → Comes_to s handle given code B Q m (at (p + 1) (v ∷ stack) (sent c priv mem marks)))
+      → ((q : Progress) (priv mem : List ℕ) (marks : List Mark) → with_packet s call v k progress ≡ Going q → length q.pieces ≤ length progress.pieces + 1 → Holds ds (length s.ends) names st priv
+      → Shows s call q priv mem c.devices marks → Comes_to s handle given code B Q m (at (p + 1) (v ∷ stack) (sent c priv mem marks)))
       → ((w : Violation) (q : Progress) → with_packet s call v k progress ≡ Broken w q → B w q.marks)
       → Comes_to s handle given code B Q n (at p (v ∷ stack) c)
   packet_reach Q v k p m n stack c progress has inside le few h shown goes breaks =
@@ -162,7 +167,8 @@ module _ (s : Setup) (handle : ℕ → Conf → OperationResult) (given : ℕ �
       let is : end_of progress.state.ends k ≡ e = ap (λ l. end_of l k) (sym shown.ends) ∙ end_among s.ends c.priv 0 k inside ∙ ap (end_state c.priv) (omega arith) in
       by_open (e.is_open && nat_lt e.number 65535) refl is
     where
-      by_open : (b : Bool) → ((end_state c.priv k).is_open && nat_lt (end_state c.priv k).number 65535) ≡ b → end_of progress.state.ends k ≡ end_state c.priv k → Comes_to s handle given code B Q n (at p (v ∷ stack) c)
+      by_open : (b : Bool) → ((end_state c.priv k).is_open && nat_lt (end_state c.priv k).number 65535) ≡ b → end_of progress.state.ends k ≡ end_state c.priv k
+          → Comes_to s handle given code B Q n (at p (v ∷ stack) c)
       by_open false shut is =
           let e = end_state c.priv k in
           let stays : do_op s handle (ir.Packet k) (at p (v ∷ stack) c) ≡ Goes (at (p + 1) (v ∷ stack) c) =
@@ -175,18 +181,23 @@ module _ (s : Setup) (handle : ℕ → Conf → OperationResult) (given : ℕ �
           let to : call.output + 24 * length progress.pieces ≡ saved c 14 + 24 * pieces c = omega (arith, shown.output, shown.count) in
           let course = packet_open s call v k progress e (saved c 14 + 24 * pieces c) c.devices c.mem is open_ to (sym shown.windows) (sym shown.outside) in
           let small = ltb-true e.number 65535 (both_true e.is_open (nat_lt e.number 65535) open_) in
-          let does : do_op s handle (ir.Packet k) (at p (v ∷ stack) c) ≡ copied_out (write_bytes s c.devices c.mem (saved c 14 + 24 * pieces c) (event_packet s e v)) (sealed_event (at p (v ∷ stack) c) e v) (packed (sealed_event (at p (v ∷ stack) c) e v) k e) =
+          let does : do_op s handle (ir.Packet k) (at p (v ∷ stack) c) ≡ copied_out (write_bytes s c.devices c.mem (saved c 14 + 24 * pieces c) (event_packet s e v))
+          (sealed_event (at p (v ∷ stack) c) e v) (packed (sealed_event (at p (v ∷ stack) c) e v) k e) =
           ap (λ b. when b (if e.is_open && nat_lt e.number 65535 then send_open s (at p (v ∷ stack) c) k v e else Goes (at (p + 1) (v ∷ stack) c))) (has_window c progress shown)
           ∙ ap (λ b. if b then send_open s (at p (v ∷ stack) c) k v e else Goes (at (p + 1) (v ∷ stack) c)) open_
-          ∙ ap (λ b. when b (copied_out (write_bytes s c.devices c.mem (saved c 14 + 24 * pieces c) (event_packet s e v)) (sealed_event (at p (v ∷ stack) c) e v) (packed (sealed_event (at p (v ∷ stack) c) e v) k e))) (room (pieces c) (made_bytes c.marks) (omega (arith, shown.count, few)) (omega (arith, shown.count, shown.told, ap made_bytes shown.marked))) in
+          ∙ ap (λ b. when b (copied_out (write_bytes s c.devices c.mem (saved c 14 + 24 * pieces c) (event_packet s e v)) (sealed_event (at p (v ∷ stack) c) e v)
+          (packed (sealed_event (at p (v ∷ stack) c) e v) k e)))
+          (room (pieces c) (made_bytes c.marks) (omega (arith, shown.count, few)) (omega (arith, shown.count, shown.told, ap made_bytes shown.marked))) in
           by_write (write_bytes s c.devices c.mem (saved c 14 + 24 * pieces c) (event_packet s e v)) course does small
         where
           by_write : (w : Result (List ℕ) Violation) → with_packet s call v k progress ≡ copied_to w (packet_made s k (end_state c.priv k) v progress)
-              → do_op s handle (ir.Packet k) (at p (v ∷ stack) c) ≡ copied_out w (sealed_event (at p (v ∷ stack) c) (end_state c.priv k) v) (packed (sealed_event (at p (v ∷ stack) c) (end_state c.priv k) v) k (end_state c.priv k))
+              → do_op s handle (ir.Packet k) (at p (v ∷ stack) c) ≡ copied_out w (sealed_event (at p (v ∷ stack) c) (end_state c.priv k) v)
+              (packed (sealed_event (at p (v ∷ stack) c) (end_state c.priv k) v) k (end_state c.priv k))
               → (end_state c.priv k).number < 65535 → Comes_to s handle given code B Q n (at p (v ∷ stack) c)
           by_write (Ok mem2) course does small =
               do_one s handle given code B Q (ir.Packet k) (at p (v ∷ stack) c) _ m n has does (omega (arith, le))
-              (goes (record (packet_made s k (end_state c.priv k) v progress) { mem = mem2 }) (packed_section c.priv k (end_state c.priv k)) mem2 (c.marks ++ Wrapped (event_header (end_state c.priv k)) (two v) false ∷ []) course
+              (goes (record (packet_made s k (end_state c.priv k) v progress) { mem = mem2 }) (packed_section c.priv k (end_state c.priv k)) mem2
+              (c.marks ++ Wrapped (event_header (end_state c.priv k)) (two v) false ∷ []) course
               (omega (arith, length-append progress.pieces (event_packet s (end_state c.priv k) v ∷ [])))
               (packed_holds s call ds names st c.priv k inside small (omega (arith, shown.count, few)) h)
               (packed_shows s call ds names st progress c.priv c.mem c.devices c.marks k v mem2 inside shown))
@@ -196,9 +207,12 @@ module _ (s : Setup) (handle : ℕ → Conf → OperationResult) (given : ℕ �
               (breaks w (packet_made s k (end_state c.priv k) v progress) course))
 
   -- the packets of all ends from the k-th on
-  pub packets_reach : (es : List End) (Q : Conf → Type 0) (output v k p m n : ℕ) (stack : List ℕ) (c : Conf) (progress : Progress) → HasAt code p (packets_code k es output) → k + length es ≡ length s.ends → 200 * length es + m ≤ n → length progress.pieces + senders es output ≤ 16
+  pub packets_reach : (es : List End) (Q : Conf → Type 0) (output v k p m n : ℕ) (stack : List ℕ) (c : Conf) (progress : Progress) → HasAt code p (packets_code k es output)
+      → k + length es ≡ length s.ends → 200 * length es + m ≤ n → length progress.pieces + senders es output ≤ 16
       → Holds ds (length s.ends) names st c.priv → Shows s call progress c.priv c.mem c.devices c.marks
-      → ((q : Progress) (priv mem : List ℕ) (marks : List Mark) → with_packets s call output v k es progress ≡ Going q → length q.pieces ≤ length progress.pieces + senders es output → Holds ds (length s.ends) names st priv → Shows s call q priv mem c.devices marks → Comes_to s handle given code B Q m (at (p + length (packets_code k es output)) (v ∷ stack) (sent c priv mem marks)))
+      → ((q : Progress) (priv mem : List ℕ) (marks : List Mark) → with_packets s call output v k es progress ≡ Going q → length q.pieces ≤ length progress.pieces + senders es output
+      → Holds ds (length s.ends) names st priv → Shows s call q priv mem c.devices marks
+      → Comes_to s handle given code B Q m (at (p + length (packets_code k es output)) (v ∷ stack) (sent c priv mem marks)))
       → ((w : Violation) (q : Progress) → with_packets s call output v k es progress ≡ Broken w q → B w q.marks)
       → Comes_to s handle given code B Q n (at p (v ∷ stack) c)
   packets_reach [] Q output v k p m n stack c progress has all le few h shown goes breaks =
@@ -211,12 +225,20 @@ module _ (s : Setup) (handle : ℕ → Conf → OperationResult) (given : ℕ �
       (λ q priv mem marks did count. goes q priv mem marks did (subst (λ n. length q.pieces ≤ length progress.pieces + n) (sym sends) count))
       breaks (packets_reach es Q output v (k + 1))
     where
-      by_side : (b : Bool) → HasAt code p (if b then ir.Packet k ∷ packets_code (k + 1) es output else packets_code (k + 1) es output) → length progress.pieces + (if b then 1 + senders es output else senders es output) ≤ 16
-          → ((q : Progress) (priv mem : List ℕ) (marks : List Mark) → (if b then and_on (with_packet s call v k progress) (with_packets s call output v (k + 1) es) else with_packets s call output v (k + 1) es progress) ≡ Going q → length q.pieces ≤ length progress.pieces + (if b then 1 + senders es output else senders es output) → Holds ds (length s.ends) names st priv → Shows s call q priv mem c.devices marks → Comes_to s handle given code B Q m (at (p + length (if b then ir.Packet k ∷ packets_code (k + 1) es output else packets_code (k + 1) es output)) (v ∷ stack) (sent c priv mem marks)))
-          → ((w : Violation) (q : Progress) → (if b then and_on (with_packet s call v k progress) (with_packets s call output v (k + 1) es) else with_packets s call output v (k + 1) es progress) ≡ Broken w q → B w q.marks)
-          → ((p m n : ℕ) (stack : List ℕ) (c : Conf) (progress : Progress) → HasAt code p (packets_code (k + 1) es output) → k + 1 + length es ≡ length s.ends → 200 * length es + m ≤ n → length progress.pieces + senders es output ≤ 16
+      by_side : (b : Bool) → HasAt code p (if b then ir.Packet k ∷ packets_code (k + 1) es output else packets_code (k + 1) es output)
+          → length progress.pieces + (if b then 1 + senders es output else senders es output) ≤ 16
+          → ((q : Progress) (priv mem : List ℕ) (marks : List Mark)
+          → (if b then and_on (with_packet s call v k progress) (with_packets s call output v (k + 1) es) else with_packets s call output v (k + 1) es progress) ≡ Going q
+          → length q.pieces ≤ length progress.pieces + (if b then 1 + senders es output else senders es output) → Holds ds (length s.ends) names st priv → Shows s call q priv mem c.devices marks
+          → Comes_to s handle given code B Q m (at (p + length (if b then ir.Packet k ∷ packets_code (k + 1) es output else packets_code (k + 1) es output)) (v ∷ stack) (sent c priv mem marks)))
+          → ((w : Violation) (q : Progress)
+          → (if b then and_on (with_packet s call v k progress) (with_packets s call output v (k + 1) es) else with_packets s call output v (k + 1) es progress) ≡ Broken w q → B w q.marks)
+          → ((p m n : ℕ) (stack : List ℕ) (c : Conf) (progress : Progress) → HasAt code p (packets_code (k + 1) es output) → k + 1 + length es ≡ length s.ends → 200 * length es + m ≤ n
+          → length progress.pieces + senders es output ≤ 16
           → Holds ds (length s.ends) names st c.priv → Shows s call progress c.priv c.mem c.devices c.marks
-          → ((q : Progress) (priv mem : List ℕ) (marks : List Mark) → with_packets s call output v (k + 1) es progress ≡ Going q → length q.pieces ≤ length progress.pieces + senders es output → Holds ds (length s.ends) names st priv → Shows s call q priv mem c.devices marks → Comes_to s handle given code B Q m (at (p + length (packets_code (k + 1) es output)) (v ∷ stack) (sent c priv mem marks)))
+          → ((q : Progress) (priv mem : List ℕ) (marks : List Mark) → with_packets s call output v (k + 1) es progress ≡ Going q → length q.pieces ≤ length progress.pieces + senders es output
+          → Holds ds (length s.ends) names st priv → Shows s call q priv mem c.devices marks
+          → Comes_to s handle given code B Q m (at (p + length (packets_code (k + 1) es output)) (v ∷ stack) (sent c priv mem marks)))
           → ((w : Violation) (q : Progress) → with_packets s call output v (k + 1) es progress ≡ Broken w q → B w q.marks)
           → Comes_to s handle given code B Q n (at p (v ∷ stack) c))
           → Comes_to s handle given code B Q n (at p (v ∷ stack) c)

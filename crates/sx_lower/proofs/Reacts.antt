@@ -1,5 +1,6 @@
 -- A handler's part does the handler.
-use Rattle.std.proofs.Common.{◌≡◌, ℕ, zero, suc, ◌+◌, ◌<◌, ◌≤◌, inl, inr, Bool, true, false, ◌&&◌, if◌then◌else◌, List, [], ◌∷◌, ◌++◌, length, Option, Some, None, nat_lt, refl, sym, ap, ◌∙◌, subst, arith, length-append}
+use Rattle.std.proofs.Common.{◌≡◌, ℕ, zero, suc, ◌+◌, ◌<◌, ◌≤◌, inl, inr, Bool, true, false, ◌&&◌, if◌then◌else◌, List, [], ◌∷◌, ◌++◌, length, Option, Some}
+use Rattle.std.proofs.Common.{None, nat_lt, refl, sym, ap, ◌∙◌, subst, arith, length-append}
 use Rattle.std.specs.Prelude.{slice_get, Result, Ok, Err}
 use Rattle.std.proofs.lemmas.Bool.{and_from, le-leb, lt-ltb}
 use Rattle.std.proofs.lemmas.List.{append-nil}
@@ -76,7 +77,8 @@ module _ (s : Setup) (call : Call) (cells : List ℕ) where
   packets_keep output v k [] p e = e
   packets_keep output v k (x ∷ es) p e = go (is_sending output x.side x.port) (λ q e. packets_keep output v (k + 1) es q e)
     where
-      go : (b : Bool) → ((q : Progress) → q.state.cells ≡ cells → KeepsCells cells (with_packets s call output v (k + 1) es q)) → KeepsCells cells (if b then and_on (with_packet s call v k p) (with_packets s call output v (k + 1) es) else with_packets s call output v (k + 1) es p)
+      go : (b : Bool) → ((q : Progress) → q.state.cells ≡ cells → KeepsCells cells (with_packets s call output v (k + 1) es q))
+          → KeepsCells cells (if b then and_on (with_packet s call v k p) (with_packets s call output v (k + 1) es) else with_packets s call output v (k + 1) es p)
       go true more = over cells (with_packet s call v k p) _ (packet_keeps v k p e) more
       go false more = more p e
 
@@ -112,11 +114,13 @@ ends_in : (m : ModuleTree) (ends : List End) (priv : List ℕ) (st : ModuleState
 unfolding state_of
 ends_in m ends priv st e = ap (λ s. s.ends) e
 
-state_is : (m : ModuleTree) (ends : List End) (priv : List ℕ) (st : ModuleState) → cells_from priv (cell_at (length ends) 0) (initial_cells m.decls) ≡ st.cells → end_states priv 0 ends ≡ st.ends → state_of m ends priv ≡ st
+state_is : (m : ModuleTree) (ends : List End) (priv : List ℕ) (st : ModuleState) → cells_from priv (cell_at (length ends) 0) (initial_cells m.decls) ≡ st.cells → end_states priv 0 ends ≡ st.ends
+    → state_of m ends priv ≡ st
 unfolding state_of
 state_is m ends priv st c e = rw (c, e) refl
 
-module _ (s : Setup) (handle : ℕ → Conf → OperationResult) (given : ℕ → ℕ) (code : List Ir) (low : IsLowerable s.tree s.ends) (e : SourceEvent) (h : HandlerTree) (is : handler_at s.tree e ≡ Some h) (place : ℕ) (has : HasAt code place (handler_code s.tree.decls s.ends place h)) where
+module _ (s : Setup) (handle : ℕ → Conf → OperationResult) (given : ℕ → ℕ) (code : List Ir) (low : IsLowerable s.tree s.ends) (e : SourceEvent) (h : HandlerTree) (is : handler_at s.tree e ≡ Some h)
+    (place : ℕ) (has : HasAt code place (handler_code s.tree.decls s.ends place h)) where
   abbrev done : Progress → HandlerState
   done p = in_block s.tree.decls h.body (start h (value_of e) p.state.cells)
 
@@ -125,7 +129,8 @@ module _ (s : Setup) (handle : ℕ → Conf → OperationResult) (given : ℕ �
 
   course_is : (call : Call) (p : Progress) → handled s call e p ≡ with_acts s call (done p).acts (begun p)
   unfolding handled
-  course_is call p = ap (λ o. with_acts s call (run s.tree.decls o (value_of e) p.state.cells).acts (record p { state = record p.state { cells = (run s.tree.decls o (value_of e) p.state.cells).cells } })) is
+  course_is call p = ap (λ o. with_acts s call (run s.tree.decls o (value_of e) p.state.cells).acts
+      (record p { state = record p.state { cells = (run s.tree.decls o (value_of e) p.state.cells).cells } })) is
 
   -- the run is at the `Stop` of this place
   abbrev IsAtStop : ℕ → Option ℕ → Conf → Type 0
@@ -136,7 +141,8 @@ module _ (s : Setup) (handle : ℕ → Conf → OperationResult) (given : ℕ �
   stop_place = place + 2 + length (block_code s.tree.decls s.ends (place + 2) (h.param ∷ []) h.body)
 
   -- a run that has ended stands for what the handler gave
-  ended_represents : (call : Call) (p0 : Progress) (devs : List Window) (fin st : HandlerState) (names : List (List ℕ)) (q most : ℕ) (back : Option ℕ) (t : Conf) → st.cells ≡ fin.cells → st.acts ≡ fin.acts → p0.state.cells ≡ fin.cells → slice_get code q ≡ Some ir.Stop → Ended s call p0 devs names q [] back st most t
+  ended_represents : (call : Call) (p0 : Progress) (devs : List Window) (fin st : HandlerState) (names : List (List ℕ)) (q most : ℕ) (back : Option ℕ) (t : Conf) → st.cells ≡ fin.cells
+      → st.acts ≡ fin.acts → p0.state.cells ≡ fin.cells → slice_get code q ≡ Some ir.Stop → Ended s call p0 devs names q [] back st most t
       → CourseGoesOn (with_acts s call fin.acts p0) (λ p. Represents s call p t × IsAtStop q back t)
   ended_represents call p0 devs fin st names q most back t cells acts first stops h =
       let g = h.tied.progress in
@@ -160,7 +166,8 @@ module _ (s : Setup) (handle : ℕ → Conf → OperationResult) (given : ℕ �
       (r, (h.placed, ap (slice_get code) h.placed ∙ stops, h.stacked, h.returns))
 
   -- the part comes to its `Stop`
-  pub part_ends : (call : Call) (p : Progress) (c : Conf) → c.place ≡ place → HandlerBegins s call e p c → DoesCourse s call handle given code (handled s call e p) (λ t. IsAtStop stop_place c.back t) (handler_cost h) c
+  pub part_ends : (call : Call) (p : Progress) (c : Conf) → c.place ≡ place → HandlerBegins s call e p c
+      → DoesCourse s call handle given code (handled s call e p) (λ t. IsAtStop stop_place c.back t) (handler_cost h) c
   part_ends call p c at_place b =
       let r = b.represents in
       let ds = s.tree.decls in
@@ -169,13 +176,22 @@ module _ (s : Setup) (handle : ℕ → Conf → OperationResult) (given : ℕ �
       let fin = done p in
       let p0 = begun p in
       let links = senders s.ends in
-      let driver = λ (a : list_any is_actuator ds ≡ true). actuates s c.devices (declared_kind ds) (drives s.tree low.checked a) (subst (λ w. HasDevices w (declared_kind ds) s.section.layout) (sym r.devices) b.devices) in
+      let driver = λ (a : list_any is_actuator ds ≡ true). actuates s c.devices (declared_kind ds) (drives s.tree low.checked a)
+      (subst (λ w. HasDevices w (declared_kind ds) s.section.layout) (sym r.devices) b.devices) in
       let good = is_fine s.tree low.checked links (Actuates s c.devices) h (handler_in s.tree e h is) low.words low.few_packets driver in
       let window = b.window in
       let c2 : Conf = record c { priv = put_word c.priv (local_at 0) v } in
       let small : v < 65536 = subst (λ w. w < 65536) b.value (word_small c.priv event_at (omega (arith, r.size)) r.bytes) in
       let st : HandlerState = record { locals = []; cells = p.state.cells; acts = [] } in
-      let holds : Holds ds n [] st c.priv = record { named = refl; few = omega arith; locals = tt; cells = cells_in s.tree s.ends c.priv p.state r.state; size = omega (arith, r.size); bytes = r.bytes } in
+      let holds : Holds ds n [] st c.priv = record {
+        named = refl;
+        few = omega arith;
+        locals = tt;
+        cells = cells_in s.tree s.ends c.priv p.state r.state;
+        size = omega (arith, r.size);
+        bytes =
+            r.bytes;
+      } in
       let shown : Shows s call p0 c.priv c.mem c.devices c.marks = record {
         size = r.size;
         ends = ends_in s.tree s.ends c.priv p.state r.state;
@@ -203,15 +219,18 @@ module _ (s : Setup) (handle : ℕ → Conf → OperationResult) (given : ℕ �
       let none : length p0.pieces ≡ 0 = ap length b.pieces in
       let Goal : Conf → Type 0 = λ t. CourseGoesOn (with_acts s call fin.acts p0) (λ q. Represents s call q t × IsAtStop stop_place c.back t) in
       let Broke : Violation → List Mark → Type 0 = CourseBreaks (with_acts s call fin.acts p0) in
-      let runs = block_reach s handle given code call p0 c.devices fin window low.few_ends good.values h.body (place + 2) (h.param ∷ []) good.fine good.height (omega (arith, good.lets)) (has_front code (place + 2) body (ir.Stop ∷ []) rest)
+      let runs = block_reach s handle given code call p0 c.devices fin window low.few_ends good.values h.body (place + 2) (h.param ∷ []) good.fine good.height (omega (arith, good.lets))
+      (has_front code (place + 2) body (ir.Stop ∷ []) rest)
       (start h v p.state.cells) [] c2 tied (omega (arith, good.depth)) (omega (arith, none, good.packets)) (record { more = []; all = append-nil _ }) in
       let ran = weaker s handle given code Broke _ Goal (at (place + 2) [] c2) (block_cost h.body) (block_cost h.body) (omega arith)
       (λ t ended. ended_represents call p0 c.devices fin (after_block ds h.body (start h v p.state.cells)) _ _ _ c.back t refl refl refl stops ended) runs in
       let from_start =
-      do_one s handle given code Broke Goal (ir.Load event_at) (at place [] c) (at (place + 1) (v ∷ []) c) (8 + block_cost h.body) (handler_cost h) has.0 (room s handle given code Broke [] _ (omega arith) ∙ ap (λ w. Goes (at (place + 1) (w ∷ []) c)) b.value) (omega arith)
+      do_one s handle given code Broke Goal (ir.Load event_at) (at place [] c) (at (place + 1) (v ∷ []) c) (8 + block_cost h.body) (handler_cost h) has.0
+      (room s handle given code Broke [] _ (omega arith) ∙ ap (λ w. Goes (at (place + 1) (w ∷ []) c)) b.value) (omega arith)
       (do_one s handle given code Broke Goal (ir.Store (local_at 0)) (at (place + 1) (v ∷ []) c) (at (place + 1 + 1) [] c2) (block_cost h.body) (8 + block_cost h.body) has.1.0 refl (omega arith)
       (to s handle given code Broke Goal (block_cost h.body) (place + 1 + 1) (place + 2) [] c2 p2 ran)) in
-      let at_c = subst (λ x. Comes_to s handle given code Broke Goal (handler_cost h) (at x c.stack c)) (sym at_place) (subst (λ l. Comes_to s handle given code Broke Goal (handler_cost h) (at place l c)) (sym b.stack) from_start) in
+      let at_c = subst (λ x. Comes_to s handle given code Broke Goal (handler_cost h) (at x c.stack c)) (sym at_place)
+      (subst (λ l. Comes_to s handle given code Broke Goal (handler_cost h) (at place l c)) (sym b.stack) from_start) in
       subst (λ course. DoesCourse s call handle given code course (λ t. IsAtStop stop_place c.back t) (handler_cost h) c) (sym (course_is call p)) at_c
 
   goes_also : (r : Course) (P Q : Progress → Type 0) → ((q : Progress) → P q → Q q) → CourseGoesOn r P → CourseGoesOn r Q
@@ -222,13 +241,16 @@ module _ (s : Setup) (handle : ℕ → Conf → OperationResult) (given : ℕ �
   part_does call p c at_place b =
       let course = handled s call e p in
       let Stops = λ (t : Conf). (slice_get code t.place ≡ Some ir.Stop) × (t.stack ≡ []) × (t.back ≡ c.back) in
-      weaker s handle given code (CourseBreaks course) (λ t. CourseGoesOn course (λ q. Represents s call q t × IsAtStop stop_place c.back t)) (λ t. CourseGoesOn course (λ q. Represents s call q t × Stops t)) c (handler_cost h) (handler_cost h) (omega arith)
-      (λ t g. goes_also course (λ q. Represents s call q t × IsAtStop stop_place c.back t) (λ q. Represents s call q t × Stops t) (λ q x. (x.0, (x.1.1, x.1.2, x.1.3))) g) (part_ends call p c at_place b)
+      weaker s handle given code (CourseBreaks course) (λ t. CourseGoesOn course (λ q. Represents s call q t × IsAtStop stop_place c.back t)) (λ t. CourseGoesOn course (λ q. Represents s call q t
+      × Stops t)) c (handler_cost h) (handler_cost h) (omega arith)
+      (λ t g. goes_also course (λ q. Represents s call q t × IsAtStop stop_place c.back t) (λ q. Represents s call q t × Stops t) (λ q x. (x.0, (x.1.1, x.1.2, x.1.3))) g)
+      (part_ends call p c at_place b)
 
 -- Parts
 
 -- a handler's part stands where its number among the parts says
-part_stands : (ds : List Decl) (ends : List End) (hs : List HandlerTree) (code : List Ir) (p k from to : ℕ) (h : HandlerTree) → HasAt code p (handlers_code ds ends p hs) → slice_get hs k ≡ Some h → slice_get (handlers_parts ds ends p hs) k ≡ Some (from, to) → HasAt code from (handler_code ds ends from h)
+part_stands : (ds : List Decl) (ends : List End) (hs : List HandlerTree) (code : List Ir) (p k from to : ℕ) (h : HandlerTree) → HasAt code p (handlers_code ds ends p hs) → slice_get hs k ≡ Some h
+    → slice_get (handlers_parts ds ends p hs) k ≡ Some (from, to) → HasAt code from (handler_code ds ends from h)
 part_stands ds ends [] code p k from to h has is part = absurd (differ is)
   where
     differ : ◌≡◌ {A = Option HandlerTree} None (Some h) → ⊥
@@ -248,7 +270,8 @@ part_stands ds ends (x ∷ hs) code p (suc k) from to h has is part =
     part_stands ds ends hs code (p + length (handler_code ds ends p x)) k from to h (has_back code p (handler_code ds ends p x) _ has) is part
 
 -- it ends after its last operation
-part_behind : (ds : List Decl) (ends : List End) (hs : List HandlerTree) (p k from to : ℕ) (h : HandlerTree) → slice_get hs k ≡ Some h → slice_get (handlers_parts ds ends p hs) k ≡ Some (from, to) → from + length (handler_code ds ends from h) ≡ to
+part_behind : (ds : List Decl) (ends : List End) (hs : List HandlerTree) (p k from to : ℕ) (h : HandlerTree) → slice_get hs k ≡ Some h → slice_get (handlers_parts ds ends p hs) k ≡ Some (from, to)
+    → from + length (handler_code ds ends from h) ≡ to
 part_behind ds ends [] p k from to h is part = absurd (differ is)
   where
     differ : ◌≡◌ {A = Option HandlerTree} None (Some h) → ⊥
@@ -271,7 +294,8 @@ part_behind ds ends (x ∷ hs) p zero from to h is part =
 part_behind ds ends (x ∷ hs) p (suc k) from to h is part = part_behind ds ends hs (p + length (handler_code ds ends p x)) k from to h is part
 
 -- In the handlers' code alone, a part comes to its last operation.
-pub lowered_ends : (s : Setup) (handle : ℕ → Conf → OperationResult) (given : ℕ → ℕ) (e : SourceEvent) (h : HandlerTree) (k from to : ℕ) → IsLowerable s.tree s.ends → handler_at s.tree e ≡ Some h → slice_get s.tree.handlers k ≡ Some h
+pub lowered_ends : (s : Setup) (handle : ℕ → Conf → OperationResult) (given : ℕ → ℕ) (e : SourceEvent) (h : HandlerTree) (k from to : ℕ) → IsLowerable s.tree s.ends → handler_at s.tree e ≡ Some h
+    → slice_get s.tree.handlers k ≡ Some h
     → slice_get (handlers_parts s.tree.decls s.ends 0 s.tree.handlers) k ≡ Some (from, to) → (call : Call) (p : Progress) (c : Conf) → c.place ≡ from → HandlerBegins s call e p c
     → DoesCourse s call handle given (handlers_code s.tree.decls s.ends 0 s.tree.handlers) (handled s call e p) (λ t. (t.place + 1 ≡ to) × (t.stack ≡ []) × (t.back ≡ c.back)) (handler_cost h) c
 lowered_ends s handle given e h k from to low is handler part call p c at_place b =
@@ -284,7 +308,8 @@ lowered_ends s handle given e h k from to low is handler part call p c at_place 
     let course = handled s call e p in
     let Before = λ (t : Conf). (t.place ≡ from + 2 + length body) × (slice_get code t.place ≡ Some ir.Stop) × (t.stack ≡ []) × (t.back ≡ c.back) in
     let After_ = λ (t : Conf). (t.place + 1 ≡ to) × (t.stack ≡ []) × (t.back ≡ c.back) in
-    weaker s handle given code (CourseBreaks course) (λ t. CourseGoesOn course (λ q. Represents s call q t × Before t)) (λ t. CourseGoesOn course (λ q. Represents s call q t × After_ t)) c (handler_cost h) (handler_cost h) (omega arith)
+    weaker s handle given code (CourseBreaks course) (λ t. CourseGoesOn course (λ q. Represents s call q t × Before t)) (λ t. CourseGoesOn course (λ q. Represents s call q t × After_ t)) c
+    (handler_cost h) (handler_cost h) (omega arith)
     (λ t g. goes_also s handle given code low e h is from has course (λ q. Represents s call q t × Before t) (λ q. Represents s call q t × After_ t)
     (λ q x. let placed = x.1.0 in (x.0, (omega (arith, placed, behind, long), x.1.2, x.1.3))) g)
     (part_ends s handle given code low e h is from has call p c at_place b)
@@ -296,7 +321,8 @@ lowered_reacts s handle given before after e h k from to low is handler part =
     part_does s handle given code low e h is from (part_stands s.tree.decls s.ends s.tree.handlers code (length before) k from to h stands handler part)
 
 -- every handler's code is sound
-handlers_sound : (m : ModuleTree) (ends : List End) (ops size : ℕ) → cell_at (length ends) (declared_cells m.decls) ≤ size → (hs : List HandlerTree) (p : ℕ) → ((h : HandlerTree) → In h hs → IsFine m (senders ends) (Unit {0}) h) → p + length (handlers_code m.decls ends p hs) ≤ ops → AreSound ops size ends (handlers_code m.decls ends p hs)
+handlers_sound : (m : ModuleTree) (ends : List End) (ops size : ℕ) → cell_at (length ends) (declared_cells m.decls) ≤ size → (hs : List HandlerTree) (p : ℕ)
+    → ((h : HandlerTree) → In h hs → IsFine m (senders ends) (Unit {0}) h) → p + length (handlers_code m.decls ends p hs) ≤ ops → AreSound ops size ends (handlers_code m.decls ends p hs)
 handlers_sound m ends ops size fits [] p fine le = tt
 handlers_sound m ends ops size fits (h ∷ hs) p fine le =
     let first = handler_code m.decls ends p h in
@@ -314,7 +340,7 @@ lowered_fits m ends place ops parts low le =
     record { sound = all_sound ops parts size ends code s; plain = all_ours ops size ends code s; light = light m ends place low.few_ends }
 
 -- the places of the parts are there
-parts_there : (ds : List Decl) (ends : List End) (p ops : ℕ) (hs : List HandlerTree) → p + length (handlers_code ds ends p hs) ≤ ops → list_all (is_sound_part ops) (handlers_parts ds ends p hs) ≡ true
+pub parts_there : (ds : List Decl) (ends : List End) (p ops : ℕ) (hs : List HandlerTree) → p + length (handlers_code ds ends p hs) ≤ ops → list_all (is_sound_part ops) (handlers_parts ds ends p hs) ≡ true
 parts_there ds ends p ops [] le = refl
 parts_there ds ends p ops (h ∷ hs) le =
     let first = handler_code ds ends p h in
@@ -322,11 +348,12 @@ parts_there ds ends p ops (h ∷ hs) le =
     and_from _ _ (and_from _ _ (lt-ltb p ops (omega (arith, le, long))) (le-leb (p + length first) ops (omega (arith, le, long))))
     (parts_there ds ends (p + length first) ops hs (omega (arith, le, long)))
 
-length-parts : (ds : List Decl) (ends : List End) (p : ℕ) (hs : List HandlerTree) → length (handlers_parts ds ends p hs) ≡ length hs
+pub length-parts : (ds : List Decl) (ends : List End) (p : ℕ) (hs : List HandlerTree) → length (handlers_parts ds ends p hs) ≡ length hs
 length-parts ds ends p [] = refl
 length-parts ds ends p (h ∷ hs) = ap suc (length-parts ds ends (p + length (handler_code ds ends p h)) hs)
 
-pub lowers : (m : ModuleTree) (ends : List End) (ops : List Ir) (parts : List (ℕ × ℕ)) → IsLowerable m ends → ops ≡ handlers_code m.decls ends 0 m.handlers → parts ≡ handlers_parts m.decls ends 0 m.handlers → Lowers m ends ops parts
+pub lowers : (m : ModuleTree) (ends : List End) (ops : List Ir) (parts : List (ℕ × ℕ)) → IsLowerable m ends → ops ≡ handlers_code m.decls ends 0 m.handlers
+    → parts ≡ handlers_parts m.decls ends 0 m.handlers → Lowers m ends ops parts
 lowers m ends ops parts low eo ep =
     subst (λ o. Lowers m ends o parts) (sym eo) (subst (λ l. Lowers m ends (handlers_code m.decls ends 0 m.handlers) l) (sym ep) (record {
       short = short m ends low.checked low.few_ends;
@@ -340,10 +367,14 @@ lowers m ends ops parts low eo ep =
     alone : (ops : List Ir) → [] ++ (ops ++ []) ≡ ops
     alone ops = append-nil ops
 
-    reacts : (s : Setup) (handle : ℕ → Conf → OperationResult) (given : ℕ → ℕ) (e : SourceEvent) (h : HandlerTree) (k from to : ℕ) (m : ModuleTree) (ends : List End) → s.tree ≡ m → s.ends ≡ ends → IsLowerable m ends
-        → handler_at m e ≡ Some h → slice_get m.handlers k ≡ Some h → slice_get (handlers_parts m.decls ends 0 m.handlers) k ≡ Some (from, to) → PartDoes s handle given (handlers_code m.decls ends 0 m.handlers) from e (handler_cost h)
+    reacts : (s : Setup) (handle : ℕ → Conf → OperationResult) (given : ℕ → ℕ) (e : SourceEvent) (h : HandlerTree) (k from to : ℕ) (m : ModuleTree) (ends : List End) → s.tree ≡ m → s.ends ≡ ends
+        → IsLowerable m ends
+        → handler_at m e ≡ Some h → slice_get m.handlers k ≡ Some h → slice_get (handlers_parts m.decls ends 0 m.handlers) k ≡ Some (from, to)
+        → PartDoes s handle given (handlers_code m.decls ends 0 m.handlers) from e (handler_cost h)
     reacts s handle given e h k from to m ends et ee low is handler part =
-        let T = λ (m : ModuleTree) (ends : List End). IsLowerable m ends → handler_at m e ≡ Some h → slice_get m.handlers k ≡ Some h → slice_get (handlers_parts m.decls ends 0 m.handlers) k ≡ Some (from, to) → PartDoes s handle given (handlers_code m.decls ends 0 m.handlers) from e (handler_cost h) in
+        let T = λ (m : ModuleTree) (ends : List End). IsLowerable m ends → handler_at m e ≡ Some h → slice_get m.handlers k ≡ Some h
+        → slice_get (handlers_parts m.decls ends 0 m.handlers) k ≡ Some (from, to) → PartDoes s handle given (handlers_code m.decls ends 0 m.handlers) from e (handler_cost h) in
         let own : T s.tree s.ends = λ low is handler part.
-        subst (λ code. PartDoes s handle given code from e (handler_cost h)) (alone (handlers_code s.tree.decls s.ends 0 s.tree.handlers)) (lowered_reacts s handle given [] [] e h k from to low is handler part) in
+        subst (λ code. PartDoes s handle given code from e (handler_cost h)) (alone (handlers_code s.tree.decls s.ends 0 s.tree.handlers))
+        (lowered_reacts s handle given [] [] e h k from to low is handler part) in
         subst (λ m. T m ends) et (subst (λ ends. T s.tree ends) ee own) low is handler part

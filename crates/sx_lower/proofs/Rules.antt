@@ -28,7 +28,8 @@ pub record IsFine (m : ModuleTree) (links : ℕ → ℕ) (E : Type 0) (h : Handl
   pub packets : block_packets links m.decls h.body ≤ 16
   pub values : (x : List ℕ) → first_value m.decls x < 65536
 
-pub is_fine : (m : ModuleTree) → first_broken m ≡ None → (links : ℕ → ℕ) (E : Type 0) (h : HandlerTree) → In h m.handlers → TreeHasWords m → SendFew links m m.handlers → (list_any is_actuator m.decls ≡ true → E) → IsFine m links E h
+pub is_fine : (m : ModuleTree) → first_broken m ≡ None → (links : ℕ → ℕ) (E : Type 0) (h : HandlerTree) → In h m.handlers → TreeHasWords m → SendFew links m m.handlers
+    → (list_any is_actuator m.decls ≡ true → E) → IsFine m links E h
 is_fine m checked links E h i w f em =
     let a = fine m checked h i in
     record {

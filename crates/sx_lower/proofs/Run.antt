@@ -68,12 +68,14 @@ module _ (s : Setup) (handle : ℕ → Conf → OperationResult) (given : ℕ �
   Comes_to Q n c = CodeReaches s handle given code B Q n c
 
   -- one operation, and what follows
-  pub do_one : (Q : Conf → Type 0) (i : Ir) (c t : Conf) (k n : ℕ) → slice_get code c.place ≡ Some i → do_op s handle i c ≡ Goes t → count_of i + handler_count given i + k ≤ n → Comes_to Q k t → Comes_to Q n c
+  pub do_one : (Q : Conf → Type 0) (i : Ir) (c t : Conf) (k n : ℕ) → slice_get code c.place ≡ Some i → do_op s handle i c ≡ Goes t → count_of i + handler_count given i + k ≤ n → Comes_to Q k t
+      → Comes_to Q n c
   unfolding op_step op_count
   do_one Q i c t k n has e le r = Next {k = k} {t = t} tt (ap (λ o. do_at s handle o c) has ∙ e) (subst (λ o. count_at given o + k ≤ n) (sym has) le) r
 
   -- an operation that ends the run with a violation
-  pub do_last : (Q : Conf → Type 0) (i : Ir) (c : Conf) (n : ℕ) (v : Violation) (marks : List Mark) → slice_get code c.place ≡ Some i → do_op s handle i c ≡ Stops (Violates v marks) → count_of i + handler_count given i ≤ n → B v marks → Comes_to Q n c
+  pub do_last : (Q : Conf → Type 0) (i : Ir) (c : Conf) (n : ℕ) (v : Violation) (marks : List Mark) → slice_get code c.place ≡ Some i → do_op s handle i c ≡ Stops (Violates v marks)
+      → count_of i + handler_count given i ≤ n → B v marks → Comes_to Q n c
   unfolding op_step op_count
   do_last Q i c n v marks has e le b = Ends {v = Violates v marks} tt (ap (λ o. do_at s handle o c) has ∙ e) (subst (λ o. count_at given o ≤ n) (sym has) le) b
 
@@ -97,11 +99,13 @@ module _ (s : Setup) (handle : ℕ → Conf → OperationResult) (given : ℕ �
   room stack a h = ap (λ b. when b a) (lt-ltb (length stack) stack_words h)
 
   -- one operation of at most 8 instructions
-  pub step : (Q : Conf → Type 0) (i : Ir) (c t : Conf) (k n : ℕ) → slice_get code c.place ≡ Some i → do_op s handle i c ≡ Goes t → count_of i + handler_count given i ≤ 8 → 8 + k ≤ n → Comes_to Q k t → Comes_to Q n c
+  pub step : (Q : Conf → Type 0) (i : Ir) (c t : Conf) (k n : ℕ) → slice_get code c.place ≡ Some i → do_op s handle i c ≡ Goes t → count_of i + handler_count given i ≤ 8 → 8 + k ≤ n → Comes_to Q k t
+      → Comes_to Q n c
   step Q i c t k n has e small le r = do_one Q i c t k n has e (omega (arith, small)) r
 
   -- an operator of two values
-  operator_reach : (o : BinOp) (a b p : ℕ) (stack : List ℕ) (c : Conf) → HasAt code p (operator_code o) → Gives (at p ((if is_turned o then a else b) ∷ (if is_turned o then b else a) ∷ stack) c) (at (p + length (operator_code o)) (combine o a b ∷ stack) c) (operator_cost o)
+  operator_reach : (o : BinOp) (a b p : ℕ) (stack : List ℕ) (c : Conf) → HasAt code p (operator_code o)
+      → Gives (at p ((if is_turned o then a else b) ∷ (if is_turned o then b else a) ∷ stack) c) (at (p + length (operator_code o)) (combine o a b ∷ stack) c) (operator_cost o)
   operator_reach Add a b p stack c has = do_one _ (ir.Op op.Add) _ _ 0 _ has.0 refl (omega arith) (Here refl)
   operator_reach Sub a b p stack c has = do_one _ (ir.Op op.Sub) _ _ 0 _ has.0 refl (omega arith) (Here refl)
   operator_reach Or a b p stack c has = do_one _ (ir.Op op.Or) _ _ 0 _ has.0 refl (omega arith) (Here refl)
@@ -133,10 +137,14 @@ module _ (s : Setup) (handle : ℕ → Conf → OperationResult) (given : ℕ �
   unary_reach unary.Not a p stack c has = do_one _ (ir.Op op.Not) _ _ 0 _ has.0 refl (omega arith) (Here refl)
 
   module _ (ds : List Decl) (n : ℕ) (names : List (List ℕ)) (st : HandlerState) where
-    variable_reach : (x : List ℕ) (p : ℕ) (stack : List ℕ) (c : Conf) → Holds ds n names st c.priv → IsKnown ds names x → length stack + 1 < stack_words → HasAt code p (variable_code ds n names x) → Gives (at p stack c) (at (p + length (variable_code ds n names x)) (word ds st x ∷ stack) c) 32
+    variable_reach : (x : List ℕ) (p : ℕ) (stack : List ℕ) (c : Conf) → Holds ds n names st c.priv → IsKnown ds names x → length stack + 1 < stack_words → HasAt code p (variable_code ds n names x)
+        → Gives (at p stack c) (at (p + length (variable_code ds n names x)) (word ds st x ∷ stack) c) 32
     variable_reach x p stack c h known space has = go (nat_lt (index_of names x) (length names)) refl has
       where
-        go : (b : Bool) → nat_lt (index_of names x) (length names) ≡ b → HasAt code p (if b then ir.Load (local_at (index_of names x)) ∷ [] else ir.Load (cell_at n (place ds x)) ∷ ir.Push (first_value ds x) ∷ ir.Op op.Add ∷ []) → Gives (at p stack c) (at (p + length (if b then ir.Load (local_at (index_of names x)) ∷ [] else ir.Load (cell_at n (place ds x)) ∷ ir.Push (first_value ds x) ∷ ir.Op op.Add ∷ [])) (word ds st x ∷ stack) c) 32
+        go : (b : Bool) → nat_lt (index_of names x) (length names) ≡ b
+            → HasAt code p (if b then ir.Load (local_at (index_of names x)) ∷ [] else ir.Load (cell_at n (place ds x)) ∷ ir.Push (first_value ds x) ∷ ir.Op op.Add ∷ [])
+            → Gives (at p stack c) (at (p + length (if b then ir.Load (local_at (index_of names x)) ∷ [] else ir.Load (cell_at n (place ds x)) ∷ ir.Push (first_value ds x) ∷ ir.Op op.Add ∷ []))
+            (word ds st x ∷ stack) c) 32
         go true e has =
             do_one _ (ir.Load (local_at (index_of names x))) _ (at (p + 1) (memory.word c.priv (local_at (index_of names x)) ∷ stack) c) 0 _ has.0 (room stack _ (omega (arith, space))) (omega arith)
             (Here (ap (λ v. at (p + 1) (v ∷ stack) c) (read_local ds n names st c.priv h x e)))
@@ -161,7 +169,8 @@ module _ (s : Setup) (handle : ℕ → Conf → OperationResult) (given : ℕ �
         (after _ _ _ nb nc _ (omega arith) rb
         (subst (λ q. Gives (at (p + length ca + length cb) (y ∷ x ∷ stack) c) (at q (z ∷ stack) c) nc) len ro))
 
-    pub expression_reach : (e : Expression) (p : ℕ) (stack : List ℕ) (c : Conf) → Holds ds n names st c.priv → FineExpression ds names e → length stack + height e < stack_words → HasAt code p (expression_code ds n names e) → Gives (at p stack c) (at (p + length (expression_code ds n names e)) (value ds st e ∷ stack) c) (expression_cost e)
+    pub expression_reach : (e : Expression) (p : ℕ) (stack : List ℕ) (c : Conf) → Holds ds n names st c.priv → FineExpression ds names e → length stack + height e < stack_words
+        → HasAt code p (expression_code ds n names e) → Gives (at p stack c) (at (p + length (expression_code ds n names e)) (value ds st e ∷ stack) c) (expression_cost e)
     expression_reach (Constant v) p stack c h fine space has =
         do_one _ (ir.Push v) _ (at (p + 1) (v ∷ stack) c) 0 _ has.0 (room stack _ (omega (arith, space))) (omega arith) (Here refl)
     expression_reach (Variable x) p stack c h fine space has = variable_reach x p stack c h fine space has
@@ -187,13 +196,15 @@ module _ (s : Setup) (handle : ℕ → Conf → OperationResult) (given : ℕ �
         go : (t : Bool) → is_turned o ≡ t → (ca cb : List Ir) → HasAt code p (if t then cb ++ (ca ++ operator_code o) else ca ++ (cb ++ operator_code o))
             → ((p : ℕ) (stack : List ℕ) → length stack + height a < stack_words → HasAt code p ca → Gives (at p stack c) (at (p + length ca) (value ds st a ∷ stack) c) (expression_cost a))
             → ((p : ℕ) (stack : List ℕ) → length stack + height b < stack_words → HasAt code p cb → Gives (at p stack c) (at (p + length cb) (value ds st b ∷ stack) c) (expression_cost b))
-            → Gives (at p stack c) (at (p + length (if t then cb ++ (ca ++ operator_code o) else ca ++ (cb ++ operator_code o))) (combine o (value ds st a) (value ds st b) ∷ stack) c) (operator_cost o + expression_cost a + expression_cost b)
+            → Gives (at p stack c) (at (p + length (if t then cb ++ (ca ++ operator_code o) else ca ++ (cb ++ operator_code o))) (combine o (value ds st a) (value ds st b) ∷ stack) c)
+            (operator_cost o + expression_cost a + expression_cost b)
         go false e ca cb has ra rb =
             let x = value ds st a in
             let y = value ds st b in
             let back = has_back code p ca _ has in
             let ro = operator_reach o x y (p + length ca + length cb) stack c (has_back code (p + length ca) cb _ back) in
-            let ro2 = subst (λ t. Gives (at (p + length ca + length cb) ((if t then x else y) ∷ (if t then y else x) ∷ stack) c) (at (p + length ca + length cb + length (operator_code o)) (combine o x y ∷ stack) c) (operator_cost o)) e ro in
+            let ro2 = subst (λ t. Gives (at (p + length ca + length cb) ((if t then x else y) ∷ (if t then y else x) ∷ stack) c)
+            (at (p + length ca + length cb + length (operator_code o)) (combine o x y ∷ stack) c) (operator_cost o)) e ro in
             two_reach ca cb (operator_code o) x y _ (expression_cost a) (expression_cost b) (operator_cost o) _ p stack c (omega arith)
             (ra p stack (omega (arith, space)) (has_front code p ca _ has))
             (rb (p + length ca) (x ∷ stack) (omega (arith, space)) (has_front code (p + length ca) cb _ back)) ro2
@@ -202,7 +213,8 @@ module _ (s : Setup) (handle : ℕ → Conf → OperationResult) (given : ℕ �
             let y = value ds st b in
             let back = has_back code p cb _ has in
             let ro = operator_reach o x y (p + length cb + length ca) stack c (has_back code (p + length cb) ca _ back) in
-            let ro2 = subst (λ t. Gives (at (p + length cb + length ca) ((if t then x else y) ∷ (if t then y else x) ∷ stack) c) (at (p + length cb + length ca + length (operator_code o)) (combine o x y ∷ stack) c) (operator_cost o)) e ro in
+            let ro2 = subst (λ t. Gives (at (p + length cb + length ca) ((if t then x else y) ∷ (if t then y else x) ∷ stack) c)
+            (at (p + length cb + length ca + length (operator_code o)) (combine o x y ∷ stack) c) (operator_cost o)) e ro in
             two_reach cb ca (operator_code o) y x _ (expression_cost b) (expression_cost a) (operator_cost o) _ p stack c (omega arith)
             (rb p stack (omega (arith, space)) (has_front code p cb _ has))
             (ra (p + length cb) (y ∷ stack) (omega (arith, space)) (has_front code (p + length cb) ca _ back)) ro2

@@ -16,7 +16,8 @@ use Rattle.sx_ir.specs.Sizes.{ops_bytes}
 use Rattle.sx_mean.specs.Offsets.{event_at, local_at}
 use Rattle.sx_mean.specs.Ends.{is_sending}
 use Rattle.sx_mean.specs.Scope.{index_of}
-use Rattle.sx_lower.specs.Lowered.{variable_code, assign_code, unary_op, is_turned, operator_code, combined_code, expression_code, turns_at, packets_code, statement_code, block_code, handler_code, handlers_code}
+use Rattle.sx_lower.specs.Lowered.{variable_code, assign_code, unary_op, is_turned, operator_code, combined_code, expression_code, turns_at, packets_code}
+use Rattle.sx_lower.specs.Lowered.{statement_code, block_code, handler_code, handlers_code}
 
 pub ops_bytes-append : (a b : List Ir) → ops_bytes (a ++ b) ≡ ops_bytes a + ops_bytes b
 ops_bytes-append [] b = omega arith
@@ -108,13 +109,16 @@ module _ (ds : List Decl) (ends : List End) (few : length ends ≤ 16) where
         let na = block_nodes a in
         let nb = block_nodes b in
         within_append _ _ _ (10 + (64 * na + (4 + 64 * nb))) _ (1 + (18 * na + (1 + 18 * nb))) _ _ (omega arith) (omega arith) we
-        (within_append (ir.JumpZero (q + length first + 1) ∷ []) _ 10 (64 * na + (4 + 64 * nb)) 1 (18 * na + (1 + 18 * nb)) _ _ (omega arith) (omega arith) (record { size = omega arith; ops = omega arith })
+        (within_append (ir.JumpZero (q + length first + 1) ∷ []) _ 10 (64 * na + (4 + 64 * nb)) 1 (18 * na + (1 + 18 * nb)) _ _ (omega arith) (omega arith)
+        (record { size = omega arith; ops = omega arith })
         (within_append first _ (64 * na) (4 + 64 * nb) (18 * na) (1 + 18 * nb) _ _ (omega arith) (omega arith) wa
-        (within_append (ir.Jump (q + length first + 1 + length (block_code ds ends (q + length first + 1) names b)) ∷ []) _ 4 (64 * nb) 1 (18 * nb) _ _ (omega arith) (omega arith) (record { size = omega arith; ops = omega arith }) wb)))
+        (within_append (ir.Jump (q + length first + 1 + length (block_code ds ends (q + length first + 1) names b)) ∷ []) _ 4 (64 * nb) 1 (18 * nb) _ _ (omega arith) (omega arith)
+        (record { size = omega arith; ops = omega arith }) wb)))
     statement_within (Repeats n a) p names =
         let wa = block_within a (p + 5) names in
         let body = block_code ds ends (p + 5) names a in
-        within_append (ir.Push n ∷ ir.Store turns_at ∷ ir.Load turns_at ∷ ir.Load turns_at ∷ ir.JumpZero (p + 5 + length body + 3) ∷ []) _ 26 (64 * block_nodes a + 14) 5 (18 * block_nodes a + 4) _ _ (omega arith) (omega arith) (record { size = omega arith; ops = omega arith })
+        within_append (ir.Push n ∷ ir.Store turns_at ∷ ir.Load turns_at ∷ ir.Load turns_at ∷ ir.JumpZero (p + 5 + length body + 3) ∷ []) _ 26 (64 * block_nodes a + 14) 5 (18 * block_nodes a + 4) _ _
+        (omega arith) (omega arith) (record { size = omega arith; ops = omega arith })
         (within_append body _ (64 * block_nodes a) 14 (18 * block_nodes a) 4 _ _ (omega arith) (omega arith) wa (record { size = omega arith; ops = omega arith }))
     statement_within (Sends x e) p names =
         let some = some_nodes e in
@@ -130,8 +134,10 @@ module _ (ds : List Decl) (ends : List End) (few : length ends ≤ 16) where
 
   pub handler_within : (h : HandlerTree) (p : ℕ) → Within (handler_code ds ends p h) (64 * (1 + block_nodes h.body)) (18 * (1 + block_nodes h.body))
   handler_within h p =
-      within_append (ir.Load event_at ∷ ir.Store (local_at 0) ∷ []) _ 8 (64 * block_nodes h.body + 4) 2 (18 * block_nodes h.body + 1) _ _ (omega arith) (omega arith) (record { size = omega arith; ops = omega arith })
-      (within_append _ _ (64 * block_nodes h.body) 4 (18 * block_nodes h.body) 1 _ _ (omega arith) (omega arith) (block_within h.body (p + 2) (h.param ∷ [])) (record { size = omega arith; ops = omega arith }))
+      within_append (ir.Load event_at ∷ ir.Store (local_at 0) ∷ []) _ 8 (64 * block_nodes h.body + 4) 2 (18 * block_nodes h.body + 1) _ _ (omega arith) (omega arith)
+      (record { size = omega arith; ops = omega arith })
+      (within_append _ _ (64 * block_nodes h.body) 4 (18 * block_nodes h.body) 1 _ _ (omega arith) (omega arith) (block_within h.body (p + 2) (h.param ∷ []))
+      (record { size = omega arith; ops = omega arith }))
 
   pub handlers_within : (hs : List HandlerTree) (p : ℕ) → Within (handlers_code ds ends p hs) (64 * handlers_nodes hs) (18 * handlers_nodes hs)
   handlers_within [] p = record { size = omega arith; ops = omega arith }

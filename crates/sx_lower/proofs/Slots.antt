@@ -28,7 +28,8 @@ cell_read (f ∷ fs) priv at (suc i) h =
     let e : at + 2 + 2 * i ≡ at + 2 * suc i = omega arith in
     cell_read fs priv (at + 2) i (omega arith) ∙ ap (λ n. (word priv n + get_or fs i 0) % 65536) e
 
-pub cell_write : (fs : List ℕ) (priv : List ℕ) (at i w v : ℕ) → at % 2 ≡ 0 → at + 2 * length fs ≤ length priv → i < length fs → (w + get_or fs i 0) % 65536 ≡ v → cells_from (put_word priv (at + 2 * i) w) at fs ≡ slice_set (cells_from priv at fs) i v
+pub cell_write : (fs : List ℕ) (priv : List ℕ) (at i w v : ℕ) → at % 2 ≡ 0 → at + 2 * length fs ≤ length priv → i < length fs → (w + get_or fs i 0) % 65536 ≡ v
+    → cells_from (put_word priv (at + 2 * i) w) at fs ≡ slice_set (cells_from priv at fs) i v
 cell_write [] priv at i w v ev long h is = absurd (omega (arith, h))
 cell_write (f ∷ fs) priv at zero w v ev long h is =
     let e : at + 2 * 0 ≡ at = omega arith in
@@ -65,7 +66,8 @@ slots_other (l ∷ ls) priv at o v h s =
     (here ∙ s.0, s.1, slots_other ls priv (at + 2) o v (λ j p. subst (λ n. even n ≢ even o) (omega arith) (h (suc j) (omega arith))) s.2)
 
 -- a new local after the others
-pub slots_push : (ls : List Local) (priv : List ℕ) (at : ℕ) (l : Local) → at % 2 ≡ 0 → at + 2 * length ls + 1 < length priv → l.value < 65536 → InSlots priv at ls → InSlots (put_word priv (at + 2 * length ls) l.value) at (ls ++ l ∷ [])
+pub slots_push : (ls : List Local) (priv : List ℕ) (at : ℕ) (l : Local) → at % 2 ≡ 0 → at + 2 * length ls + 1 < length priv → l.value < 65536 → InSlots priv at ls
+    → InSlots (put_word priv (at + 2 * length ls) l.value) at (ls ++ l ∷ [])
 slots_push [] priv at l ev long lt s =
     let e : at + 2 * 0 ≡ at = omega arith in
     (ap (λ n. word (put_word priv n l.value) at) e ∙ word-put_same priv at l.value (omega (arith, ev, long)), lt, tt)
@@ -76,7 +78,8 @@ slots_push (x ∷ ls) priv at l ev long lt s =
     (here ∙ s.0, s.1, slots_push ls priv (at + 2) l (omega (arith, ev)) (omega (arith, long)) lt s.2)
 
 -- a local gets another value
-pub slots_set : (ls : List Local) (priv : List ℕ) (at i : ℕ) (l : Local) → at % 2 ≡ 0 → at + 2 * length ls ≤ length priv → i < length ls → l.value < 65536 → InSlots priv at ls → InSlots (put_word priv (at + 2 * i) l.value) at (slice_set ls i l)
+pub slots_set : (ls : List Local) (priv : List ℕ) (at i : ℕ) (l : Local) → at % 2 ≡ 0 → at + 2 * length ls ≤ length priv → i < length ls → l.value < 65536 → InSlots priv at ls
+    → InSlots (put_word priv (at + 2 * i) l.value) at (slice_set ls i l)
 slots_set [] priv at i l ev long h lt s = absurd (omega (arith, h))
 slots_set (x ∷ ls) priv at zero l ev long h lt s =
     let e : at ≡ at + 2 * 0 = omega arith in
@@ -128,7 +131,8 @@ end_numbered priv k n long =
     rw (a, b, c, d) refl
 
 -- the number of one end
-pub ends_number : (es : List End) (priv : List ℕ) (k j n : ℕ) → end_at (k + length es) ≤ length priv → j < length es → end_states (put_word priv (end_number_at (k + j)) n) k es ≡ with_end (end_states priv k es) j (record (end_state priv (k + j)) { number = n })
+pub ends_number : (es : List End) (priv : List ℕ) (k j n : ℕ) → end_at (k + length es) ≤ length priv → j < length es
+    → end_states (put_word priv (end_number_at (k + j)) n) k es ≡ with_end (end_states priv k es) j (record (end_state priv (k + j)) { number = n })
 ends_number [] priv k j n long h = absurd (omega (arith, h))
 ends_number (e ∷ es) priv k zero n long h =
     let q : k + 0 ≡ k = omega arith in

@@ -1,5 +1,6 @@
 -- The places and offsets of lowered code are there.
-use Rattle.std.proofs.Common.{◌≡◌, ℕ, ◌+◌, ◌*◌, ◌%◌, ◌<◌, ◌≤◌, ◌⊎◌, inl, inr, Bool, true, false, ◌||◌, ◌&&◌, if◌then◌else◌, List, [], ◌∷◌, ◌++◌, length, nat_lt, nat_le, Some, refl, sym, ap, ◌∙◌, arith, append_assoc, length-append}
+use Rattle.std.proofs.Common.{◌≡◌, ℕ, ◌+◌, ◌*◌, ◌%◌, ◌<◌, ◌≤◌, ◌⊎◌, inl, inr, Bool, true, false, ◌||◌, ◌&&◌, if◌then◌else◌, List, [], ◌∷◌, ◌++◌, length, nat_lt}
+use Rattle.std.proofs.Common.{nat_le, Some, refl, sym, ap, ◌∙◌, arith, append_assoc, length-append}
 use Rattle.std.specs.Prelude.{slice_get}
 use Rattle.std.specs.List.{list_all}
 use Rattle.std.proofs.lemmas.Bool.{ltb-true, le-leb, lt-ltb, eq-eqb, and_from}
@@ -24,6 +25,7 @@ use Rattle.sx_mean.specs.Scope.{index_of}
 use Rattle.sx_mean.specs.Variables.{first_value, IsKnown, FineExpression, FineStatement, FineBlock}
 use Rattle.sx_lower.specs.Lowered.{variable_code, assign_code, is_turned, operator_code, combined_code, expression_code, packets_code, statement_code, block_code, handler_code}
 use Rattle.sx_lower.specs.Lowering.{IsSender, IsHandlerOp, AreHandlerOps}
+use Rattle.sx_lower.proofs.Puts.{lets_defined}
 
 -- an array lies in the cells
 on_name : (t : Bool) (own cells p l all : ℕ) → own ≤ cells → p + l ≤ all → (if t then 0 else cells + p) + (if t then own else l) ≤ cells + all
@@ -189,14 +191,16 @@ module _ (ds : List Decl) (es : List End) (ops size : ℕ) (fits : cell_at (leng
   variable_sound : (names : List (List ℕ)) (x : List ℕ) → length names ≤ 16 → IsKnown ds names x → Sound (variable_code ds (length es) names x)
   variable_sound names x few known = go (nat_lt (index_of names x) (length names)) refl
     where
-      go : (b : Bool) → nat_lt (index_of names x) (length names) ≡ b → AreSound ops size es (if b then ir.Load (local_at (index_of names x)) ∷ [] else ir.Load (cell_at (length es) (place ds x)) ∷ ir.Push (first_value ds x) ∷ ir.Op op.Add ∷ [])
+      go : (b : Bool) → nat_lt (index_of names x) (length names) ≡ b
+          → AreSound ops size es (if b then ir.Load (local_at (index_of names x)) ∷ [] else ir.Load (cell_at (length es) (place ds x)) ∷ ir.Push (first_value ds x) ∷ ir.Op op.Add ∷ [])
       go true e = let l = ltb-true (index_of names x) (length names) e in (local_place (index_of names x) (omega (arith, l, few)), tt)
       go false e = (cell_place (place ds x) (known e).there, (tt, (tt, tt)))
 
   assign_sound : (names : List (List ℕ)) (x : List ℕ) → length names ≤ 16 → IsKnown ds names x → Sound (assign_code ds (length es) names x)
   assign_sound names x few known = go (nat_lt (index_of names x) (length names)) refl
     where
-      go : (b : Bool) → nat_lt (index_of names x) (length names) ≡ b → AreSound ops size es (if b then ir.Store (local_at (index_of names x)) ∷ [] else ir.Push (first_value ds x) ∷ ir.Op op.Sub ∷ ir.Store (cell_at (length es) (place ds x)) ∷ [])
+      go : (b : Bool) → nat_lt (index_of names x) (length names) ≡ b
+          → AreSound ops size es (if b then ir.Store (local_at (index_of names x)) ∷ [] else ir.Push (first_value ds x) ∷ ir.Op op.Sub ∷ ir.Store (cell_at (length es) (place ds x)) ∷ [])
       go true e = let l = ltb-true (index_of names x) (length names) e in (local_place (index_of names x) (omega (arith, l, few)), tt)
       go false e = (tt, (tt, (cell_place (place ds x) (known e).there, tt)))
 
@@ -228,22 +232,15 @@ module _ (ds : List Decl) (es : List End) (ops size : ℕ) (fits : cell_at (leng
       let slot : end_at k + 24 ≤ size = omega (arith, at, fits, length-append before (e ∷ rest), ap length all) in
       go (is_sending output e.side e.port) refl here slot more
     where
-      go : (b : Bool) → is_sending output e.side e.port ≡ b → slice_get es k ≡ Some e → end_at k + 24 ≤ size → Sound (packets_code (k + 1) rest output) → Sound (if b then ir.Packet k ∷ packets_code (k + 1) rest output else packets_code (k + 1) rest output)
+      go : (b : Bool) → is_sending output e.side e.port ≡ b → slice_get es k ≡ Some e → end_at k + 24 ≤ size → Sound (packets_code (k + 1) rest output)
+          → Sound (if b then ir.Packet k ∷ packets_code (k + 1) rest output else packets_code (k + 1) rest output)
       go true is here slot more = ((sends e output k here is, slot), more)
       go false is here slot more = more
 
-  lets_defined : (t : Statement) → length (defined t) ≤ length (statement_lets t)
-  lets_defined (Defines x e) = omega arith
-  lets_defined (Assigns x e) = omega arith
-  lets_defined (Stores x i e) = omega arith
-  lets_defined (Chooses e a b) = omega arith
-  lets_defined (Repeats n a) = omega arith
-  lets_defined (Sends x e) = omega arith
-  lets_defined (Emits e) = omega arith
-
   -- a statement's jumps go to its own places or to the one after it
   mutual
-    pub statement_sound : (E : Type 0) (t : Statement) (p : ℕ) (names : List (List ℕ)) → FineStatement ds E names t → length names + length (statement_lets t) ≤ 16 → p + length (statement_code ds es p names t) < ops → Sound (statement_code ds es p names t)
+    pub statement_sound : (E : Type 0) (t : Statement) (p : ℕ) (names : List (List ℕ)) → FineStatement ds E names t → length names + length (statement_lets t) ≤ 16
+        → p + length (statement_code ds es p names t) < ops → Sound (statement_code ds es p names t)
     statement_sound E (Defines x e) p names fine lets short =
         sound_append ops size es (expression_code ds (length es) names e) _ (expression_sound names e (omega (arith, lets)) fine) (local_place (length names) (omega (arith, lets)), tt)
     statement_sound E (Assigns x e) p names fine lets short =
@@ -280,7 +277,8 @@ module _ (ds : List Decl) (es : List End) (ops size : ℕ) (fits : cell_at (leng
         let sa = block_sound E a (p + 5) names fine.1 lets (omega (arith, end_fits)) in
         (tt, (turns, (turns, (turns, (end_fits, sound_append ops size es ca _ sa (tt, (tt, (back_fits, (tt, tt)))))))))
 
-    pub block_sound : (E : Type 0) (b : Block) (p : ℕ) (names : List (List ℕ)) → FineBlock ds E names b → length names + length (block_lets b) ≤ 16 → p + length (block_code ds es p names b) < ops → Sound (block_code ds es p names b)
+    pub block_sound : (E : Type 0) (b : Block) (p : ℕ) (names : List (List ℕ)) → FineBlock ds E names b → length names + length (block_lets b) ≤ 16 → p + length (block_code ds es p names b) < ops
+        → Sound (block_code ds es p names b)
     block_sound E Done p names fine lets short = tt
     block_sound E (Then t b) p names fine lets short =
         let first = statement_code ds es p names t in
@@ -291,7 +289,8 @@ module _ (ds : List Decl) (es : List End) (ops size : ℕ) (fits : cell_at (leng
         sound_append ops size es first rest (statement_sound E t p names fine.0 (omega (arith, lets, some)) (omega (arith, short, long)))
         (block_sound E b (p + length first) (names ++ defined t) fine.1 (omega (arith, lets, some, own, length-append names (defined t))) (omega (arith, short, long)))
 
-  pub handler_sound : (E : Type 0) (h : HandlerTree) (p : ℕ) → FineBlock ds E (h.param ∷ []) h.body → 1 + length (block_lets h.body) ≤ 16 → p + length (handler_code ds es p h) ≤ ops → Sound (handler_code ds es p h)
+  pub handler_sound : (E : Type 0) (h : HandlerTree) (p : ℕ) → FineBlock ds E (h.param ∷ []) h.body → 1 + length (block_lets h.body) ≤ 16 → p + length (handler_code ds es p h) ≤ ops
+      → Sound (handler_code ds es p h)
   handler_sound E h p fine lets short =
       let body = block_code ds es (p + 2) (h.param ∷ []) h.body in
       let long = length-append body (ir.Stop ∷ []) in

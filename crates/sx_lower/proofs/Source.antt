@@ -16,11 +16,14 @@ less_by_one i n = go (nat_lt i n) refl
     go false e = let l = ltb-false i n e in le-ltb (1 + i) (suc n) (omega (arith, l))
 
 -- a local in scope is found in its slot
-pub look_at : (ls : List Local) (priv : List ℕ) (at : ℕ) (x : List ℕ) → InSlots priv at ls → nat_lt (index_of (names_of ls) x) (length (names_of ls)) ≡ true → look_up ls x ≡ Some (memory.word priv (at + 2 * index_of (names_of ls) x))
+pub look_at : (ls : List Local) (priv : List ℕ) (at : ℕ) (x : List ℕ) → InSlots priv at ls → nat_lt (index_of (names_of ls) x) (length (names_of ls)) ≡ true
+    → look_up ls x ≡ Some (memory.word priv (at + 2 * index_of (names_of ls) x))
 look_at [] priv at x s h = let l = ltb-true 0 0 h in absurd (omega (arith, l))
 look_at (l ∷ ls) priv at x s h = go (same x l.name) h (look_at ls priv (at + 2) x s.2)
   where
-    go : (t : Bool) → nat_lt (cond (not t) (1 + index_of (names_of ls) x) 0) (suc (length (names_of ls))) ≡ true → (nat_lt (index_of (names_of ls) x) (length (names_of ls)) ≡ true → look_up ls x ≡ Some (memory.word priv (at + 2 + 2 * index_of (names_of ls) x))) → (if t then Some l.value else look_up ls x) ≡ Some (memory.word priv (at + 2 * cond (not t) (1 + index_of (names_of ls) x) 0))
+    go : (t : Bool) → nat_lt (cond (not t) (1 + index_of (names_of ls) x) 0) (suc (length (names_of ls))) ≡ true
+        → (nat_lt (index_of (names_of ls) x) (length (names_of ls)) ≡ true → look_up ls x ≡ Some (memory.word priv (at + 2 + 2 * index_of (names_of ls) x)))
+        → (if t then Some l.value else look_up ls x) ≡ Some (memory.word priv (at + 2 * cond (not t) (1 + index_of (names_of ls) x) 0))
     go true h more = let e : at ≡ at + 2 * 0 = omega arith in ap Some (sym s.0 ∙ ap (memory.word priv) e)
     go false h more =
         let e : at + 2 + 2 * index_of (names_of ls) x ≡ at + 2 * (1 + index_of (names_of ls) x) = omega arith in

@@ -91,7 +91,7 @@ fn put_handlers(
 
 /// The stack code of a module's handlers, and the places of their parts. The error says that memory
 /// ran out.
-pub(crate) fn code_of(alloc: Global, m: &Checked, ends: &[End]) -> Result<Code, AllocError>
+fn code_of(alloc: Global, m: &Checked, ends: &[End]) -> Result<Code, AllocError>
     requires few { length ends.now ≤ 16 }
     ensures ops { IfOk result (λ code. code.ops.items
         ≡ handlers_code (source_tree m.now).decls ends.now 0 (source_tree m.now).handlers) }

@@ -15,8 +15,6 @@ mod blocks;
 mod expressions;
 mod handlers;
 pub mod laws;
-#[cfg(test)]
-mod tests;
 mod variables;
 
 pub use handlers::lower;
