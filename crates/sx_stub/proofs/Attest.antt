@@ -8,6 +8,8 @@ use Rattle.sx_tag.specs.Mac.{Mac, IsTag}
 use Rattle.sx_tag.specs.Wrap.{wrapped, crypt, wrap_tag}
 use Rattle.sx_machine.specs.Memory.{put_bytes, bytes_from}
 use Rattle.sx_reach.specs.Reach.{Goes}
+use Rattle.sx_invoke.specs.Protocol.{output_register, all_done, ask_kind, ask_size, event_size}
+use Rattle.sx_invoke.specs.Windows.{in_window_size, out_window_size}
 use Rattle.sx_invoke.specs.Setup.{Setup, Call}
 use Rattle.sx_invoke.specs.Marks as mark
 use Rattle.sx_invoke.specs.Marks.{Mark, piece_size, made_bytes}
@@ -15,7 +17,7 @@ use Rattle.sx_invoke.specs.Windows.{is_bad_window, write_bytes}
 use Rattle.sx_invoke.specs.Progress.{Progress, Returns, Violates, finished}
 use Rattle.sx_invoke.specs.Entries.{attest, with_received}
 use Rattle.sx_invoke.specs.Acts.{copied_to}
-use Rattle.sx_invoke.proofs.PiecesMarked.{tag_length}
+use Rattle.sx_invoke.proofs.PiecesMarked.{made_more, tag_length}
 use Rattle.sx_ir.specs.Conf.{Conf}
 use Rattle.sx_ir.specs.Meaning.{OperationResult, do_op, copied_out, copy_out, has_copy_room, on_top, when, saved, next}
 use Rattle.sx_ir.specs.declared.ir.Ir.{Ir}
@@ -48,33 +50,50 @@ progress_mark p m = record p { marks = p.marks ++ m ∷ [] }
 
 pub shows_mark : (s : Setup) (call : Call) (p : Progress) (c : Conf) (m : Mark) → ShowsCall s call p c
     → ShowsCall s call (progress_mark p m) (with_mark c m)
-shows_mark s call p c m h = record { size = h.size; bytes = h.bytes; state = h.state; mem = h.mem; devices = h.devices; marks = ap (λ (x : List Mark). x ++ m ∷ []) h.marks; entry = h.entry; input = h.input; output = h.output; back = h.back }
-
-made_more : (ms : List Mark) (m : Mark) → made_bytes (ms ++ m ∷ []) ≡ made_bytes ms + piece_size m
-made_more [] m = omega arith
-made_more (x ∷ ms) m = let e = made_more ms m in omega (arith, e)
+shows_mark s call p c m h = record {
+  size = h.size;
+  bytes = h.bytes;
+  state = h.state;
+  mem = h.mem;
+  devices = h.devices;
+  marks = ap (λ (x : List Mark). x ++ m ∷ []) h.marks;
+  entry = h.entry;
+  input =
+      h.input;
+  output = h.output;
+  back = h.back;
+}
 
 -- a copy to the out-window
 pub copy_out_does : (s : Setup) (call : Call) (handle : ℕ → Conf → OperationResult) (p : Progress) (c : Conf) (n o off : ℕ) (rest piece : List ℕ)
-    → ShowsCall s call p c → is_bad_window s call.output 384 ≡ false → has_copy_room c off n ≡ true
+    → ShowsCall s call p c → is_bad_window s call.output out_window_size ≡ false → has_copy_room c off n ≡ true
     → bytes_from c.priv o n ≡ piece → c.stack ≡ off ∷ rest
     → do_op s handle (ir.CopyOut n o) c ≡ copied_out (write_bytes s p.devices p.mem (call.output + off) piece) c (λ mem. record (next c rest) { mem = mem })
 copy_out_does s call handle p c n o off rest piece h window room e stack =
-    let ok : not (is_bad_window s (saved c 14) 384) ≡ true = ap (λ (x : ℕ). not (is_bad_window s x 384)) h.output ∙ good_window (is_bad_window s call.output 384) window in
+    let ok : not (is_bad_window s (saved c output_register) 384) ≡ true = ap (λ (x : ℕ). not (is_bad_window s x 384)) h.output ∙ good_window (is_bad_window s call.output out_window_size) window in
     ap (λ (st : List ℕ). on_top st (copy_out s c n o)) stack
-    ∙ ap (λ (b : Bool). when (b && has_copy_room c off n) (copied_out (write_bytes s c.devices c.mem (saved c 14 + off) (bytes_from c.priv o n)) c (λ mem. record (next c rest) { mem = mem }))) ok
-    ∙ ap (λ (b : Bool). when b (copied_out (write_bytes s c.devices c.mem (saved c 14 + off) (bytes_from c.priv o n)) c (λ mem. record (next c rest) { mem = mem }))) room
+    ∙ ap (λ (b : Bool). when (b && has_copy_room c off n) (copied_out (write_bytes s c.devices c.mem (saved c output_register + off) (bytes_from c.priv o n)) c
+    (λ mem. record (next c rest) { mem = mem }))) ok
+    ∙ ap (λ (b : Bool). when b (copied_out (write_bytes s c.devices c.mem (saved c output_register + off) (bytes_from c.priv o n)) c (λ mem. record (next c rest) { mem = mem }))) room
     ∙ ap (λ (x : ℕ). copied_out (write_bytes s c.devices c.mem (x + off) (bytes_from c.priv o n)) c (λ mem. record (next c rest) { mem = mem })) h.output
     ∙ ap (λ (x : List ℕ). copied_out (write_bytes s c.devices x (call.output + off) (bytes_from c.priv o n)) c (λ mem. record (next c rest) { mem = mem })) h.mem
     ∙ ap (λ (x : List Window). copied_out (write_bytes s x p.mem (call.output + off) (bytes_from c.priv o n)) c (λ mem. record (next c rest) { mem = mem })) h.devices
     ∙ ap (λ (x : List ℕ). copied_out (write_bytes s p.devices p.mem (call.output + off) x) c (λ mem. record (next c rest) { mem = mem })) e
 
-module _ (s : Setup) (call : Call) (handle : ℕ → Conf → OperationResult) (given : ℕ → ℕ) (code : List Ir) (p : Progress) (c : Conf) (shows : ShowsCall s call p c) (none : p.pieces ≡ []) (bytes : AllBytes p.mem) (room : 512 ≤ length c.priv) (window : is_bad_window s call.input 40 ≡ false) (outside : is_bad_window s call.output 384 ≡ false) (tag : IsTag s.mac) where
+module _ (s : Setup) (call : Call) (handle : ℕ → Conf → OperationResult) (given : ℕ
+    → ℕ) (code : List Ir) (p : Progress) (c : Conf) (shows : ShowsCall s call p c) (none : p.pieces ≡ []) (bytes : AllBytes p.mem) (room : 512 ≤ length c.priv)
+    (window : is_bad_window s call.input in_window_size ≡ false) (outside : is_bad_window s call.output out_window_size ≡ false) (tag : IsTag s.mac) where
   abbrev answer_of : List ℕ → List ℕ
   answer_of ask = (wrapped s.mac s.section.key ask []).tag
 
   abbrev after_seal : List ℕ → ℕ → List ℕ → List ℕ → List ℕ → Conf
-  after_seal priv q ad body cipher = record c { place = q; stack = []; priv = put_bytes (put_bytes priv 34 cipher) 34 (wrapped s.mac s.section.key ad body).tag; marks = c.marks ++ mark.Wrapped ad body true ∷ [] }
+  after_seal priv q ad body cipher = record c {
+    place = q;
+    stack = [];
+    priv = put_bytes (put_bytes priv 34 cipher) 34 (wrapped s.mac s.section.key ad body).tag;
+    marks =
+        c.marks ++ mark.Wrapped ad body true ∷ [];
+  }
 
   seals : (ask : List ℕ) (q : ℕ) → length ask ≡ 18 → AllBytes ask
       → do_op s handle (ir.Seal 0 16 18 56 0) (with_priv c (put_bytes c.priv 16 ask) q []) ≡ Goes (after_seal (put_bytes c.priv 16 ask) (q + 1) ask [] [])
@@ -100,14 +119,16 @@ module _ (s : Setup) (call : Call) (handle : ℕ → Conf → OperationResult) (
       let read : bytes_from c1.priv 34 16 ≡ piece = ap (bytes_from c1.priv 34) (sym len) ∙ bytes_from_put priv 34 piece isb (omega (arith, len, size, room)) in
       let shows0 = copied_shows s call handle given code p c shows none bytes room window ask q (omega (arith, e)) in
       let shows1 : ShowsCall s call p1 c1 = shows_mark s call p (with_priv c (put_bytes priv 34 piece) (q + 1) []) m
-      (shows_priv s call p (with_priv c priv q []) (put_bytes priv 34 piece) (q + 1) [] shows0 (length-put_bytes priv 34 piece) (AllBytes-put_bytes priv 34 piece shows0.bytes) (λ i kept. get-put_bytes_other priv 34 piece i (apart i kept (length piece) len))) in
+      (shows_priv s call p (with_priv c priv q []) (put_bytes priv 34 piece) (q + 1) [] shows0 (length-put_bytes priv 34 piece) (AllBytes-put_bytes priv 34 piece shows0.bytes)
+      (λ i kept. get-put_bytes_other priv 34 piece i (apart i kept (length piece) len))) in
       let made_room : has_copy_room c1 0 16 ≡ true = let x = made_more c.marks m in le-leb 16 (made_bytes c1.marks) (omega (arith, x)) in
-      let r = finished (copied_to (write_bytes s p1.devices p1.mem (call.output + 24 * length p1.pieces) piece) (record p1 { pieces = p1.pieces ++ piece ∷ [] })) in
+      let r = finished (copied_to (write_bytes s p1.devices p1.mem (call.output + event_size * length p1.pieces) piece) (record p1 { pieces = p1.pieces ++ piece ∷ [] })) in
       goes_on s call handle given code r (ir.Seal 0 16 18 56 0) (with_priv c priv q []) c1 k 272 a.0 (seals ask q e h) refl (omega (arith, le))
       (runs_on s call handle given code r (ir.Push 0 ∷ []) c1 (q + 1) (q + 1 + 1) [] (0 ∷ []) 272 264 (a.1.0, tt) refl refl (omega arith)
-      (copy (write_bytes s p.devices p.mem (call.output + 24 * length p.pieces) piece) c1 p1 piece shows1
+      (copy (write_bytes s p.devices p.mem (call.output + event_size * length p.pieces) piece) c1 p1 piece shows1
       (copy_out_does s call handle p1 (at c1 (q + 1 + 1) (0 ∷ [])) 16 34 0 [] piece (shows_at s call p1 c1 (q + 1 + 1) (0 ∷ []) shows1) outside made_room read refl
-      ∙ ap (λ (x : ℕ). copied_out (write_bytes s p.devices p.mem (call.output + x) piece) (at c1 (q + 1 + 1) (0 ∷ [])) (λ mem. record (next (at c1 (q + 1 + 1) (0 ∷ [])) []) { mem = mem })) (ap (λ (l : List (List ℕ)). 24 * length l) (sym none)))
+      ∙ ap (λ (x : ℕ). copied_out (write_bytes s p.devices p.mem (call.output + x) piece) (at c1 (q + 1 + 1) (0 ∷ [])) (λ mem. record (next (at c1 (q + 1 + 1) (0 ∷ [])) []) { mem = mem }))
+      (ap (λ (l : List (List ℕ)). 24 * length l) (sym none)))
       (ap (λ (l : List (List ℕ)). length (l ++ piece ∷ [])) (sym none))))
     where
       apart : (i : ℕ) → IsKept i → (n : ℕ) → n ≡ 16 → (i < 34) ⊎ (34 + n ≤ i)
@@ -124,16 +145,30 @@ module _ (s : Setup) (call : Call) (handle : ℕ → Conf → OperationResult) (
       copy (Ok mem) c1 p1 piece h d one =
           let p2 = record p1 { pieces = p1.pieces ++ piece ∷ []; mem = mem } in
           let c2 = record c1 { mem = mem } in
-          let r = Returns 1 p2 in
-          let shows2 : ShowsCall s call p2 c2 = record { size = h.size; bytes = h.bytes; state = h.state; mem = refl; devices = h.devices; marks = h.marks; entry = h.entry; input = h.input; output = h.output; back = h.back } in
+          let r = Returns all_done p2 in
+          let shows2 : ShowsCall s call p2 c2 = record {
+            size = h.size;
+            bytes = h.bytes;
+            state = h.state;
+            mem = refl;
+            devices = h.devices;
+            marks = h.marks;
+            entry = h.entry;
+            input = h.input;
+            output =
+                h.output;
+            back = h.back;
+          } in
           goes_on s call handle given code r (ir.CopyOut 16 34) (at c1 (q + 1 + 1) (0 ∷ [])) (at c2 (q + 1 + 1 + 1) []) 264 16 a.1.1.0 d refl (omega arith)
-          (runs_on s call handle given code r (ir.Push 1 ∷ ir.Push 1 ∷ []) c2 (q + 1 + 1 + 1) (q + 1 + 1 + 1 + 1 + 1) [] (1 ∷ 1 ∷ []) 16 0 (a.1.1.1.0, (a.1.1.1.1.0, tt)) refl (omega arith) (omega arith)
+          (runs_on s call handle given code r (ir.Push 1 ∷ ir.Push 1 ∷ []) c2 (q + 1 + 1 + 1) (q + 1 + 1 + 1 + 1 + 1) [] (1 ∷ 1 ∷ []) 16 0 (a.1.1.1.0, (a.1.1.1.1.0, tt)) refl (omega arith)
+          (omega arith)
           (returned s call handle given code 1 1 p2 c2 (q + 1 + 1 + 1 + 1 + 1) 0 a.1.1.1.1.1.0 shows2 one))
 
   -- the entry
   pub attest_does : (place k : ℕ) → At code place (attest_code place) → 600 ≤ k
-      → Invokes s call handle given code (with_received s call 18 2 p (λ packet. attest s call packet p)) k (at c place [])
+      → Invokes s call handle given code (with_received s call ask_size ask_kind p (λ packet. attest s call packet p)) k (at c place [])
   attest_does place k a le =
-      let tests = refuse_if (place + 1) (is_wrong_kind 2) 4 in
-      receive_does s call handle given code p c shows none bytes room window place 18 2 k 300 (λ packet. attest s call packet p) a.0 (at_front code (place + 1) tests answer_code a.1) refl (omega arith) (omega arith) (omega arith) (omega (arith, le))
+      let tests = refuse_if (place + 1) (is_wrong_kind ask_kind) 4 in
+      receive_does s call handle given code p c shows none bytes room window place 18 2 k 300 (λ packet. attest s call packet p) a.0 (at_front code (place + 1) tests answer_code a.1) refl
+      (omega arith) (omega arith) (omega arith) (omega (arith, le))
       (λ ask e h. answers ask (place + 8) 300 (at_back code (place + 1) (place + 8) tests answer_code (omega arith) a.1) e h (omega arith))

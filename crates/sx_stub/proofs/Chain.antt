@@ -36,7 +36,8 @@ abbrev pub AreWords : Cases → ℕ → List End → Type 0
 AreWords cs k [] = Unit {0}
 AreWords cs k (e ∷ es) = (cs.number k e < 65536) × AreWords cs (k + 1) es
 
-module _ (s : Setup) (call : Call) (handle : ℕ → Conf → OperationResult) (given : ℕ → ℕ) (code : List Ir) (result : Invoked) (cs : Cases) (v : ℕ) (c : Conf) (here : word c.priv cs.offset ≡ v) (small : v < 65536) where
+module _ (s : Setup) (call : Call) (handle : ℕ → Conf → OperationResult) (given : ℕ
+    → ℕ) (code : List Ir) (result : Invoked) (cs : Cases) (v : ℕ) (c : Conf) (here : word c.priv cs.offset ≡ v) (small : v < 65536) where
   abbrev Goal : ℕ → ℕ → Type 0
   Goal n p = Invokes s call handle given code result n (at c p [])
 
@@ -55,7 +56,8 @@ module _ (s : Setup) (call : Call) (handle : ℕ → Conf → OperationResult) (
       let d = (v + (65536 - number)) % 65536 in
       let test : pure s c.priv (ir.Load cs.offset ∷ ir.Push number ∷ ir.Op op.Sub ∷ []) [] ≡ Some (d ∷ []) = ap (λ (x : ℕ). Some ((x + (65536 - number)) % 65536 ∷ [])) here in
       runs_on s call handle given code result (ir.Load cs.offset ∷ ir.Push number ∷ ir.Op op.Sub ∷ []) c p (p + 3) [] (d ∷ []) n (16 + m) (a.0, (a.1.0, (a.1.1.0, tt))) test refl (omega (arith, le))
-      (jumps d (v == number) (sub_zero v number small is_word) hit miss (ap (slice_get code) (omega arith) ∙ a.1.1.1.0) (ap (slice_get code) (omega arith) ∙ a.1.1.1.1.0) (subst (λ (x : ℕ). At code x body) (omega arith) (at_front code (p + 1 + 1 + 1 + 1 + 1) body _ a.1.1.1.1.1)))
+      (jumps d (v == number) (sub_zero v number small is_word) hit miss (ap (slice_get code) (omega arith) ∙ a.1.1.1.0) (ap (slice_get code) (omega arith)
+      ∙ a.1.1.1.1.0) (subst (λ (x : ℕ). At code x body) (omega arith) (at_front code (p + 1 + 1 + 1 + 1 + 1) body _ a.1.1.1.1.1)))
     where
       jumps : (d : ℕ) (b : Bool) → (d == 0) ≡ b → (b ≡ true → At code (p + 5) (cs.body (p + 5) k e) → Goal m (p + 5))
           → (b ≡ false → Goal m (p + length (case_if cs true p k e)))
@@ -66,8 +68,10 @@ module _ (s : Setup) (call : Call) (handle : ℕ → Conf → OperationResult) (
       jumps zero b z hit miss jump over a2 =
           goes_on s call handle given code result (ir.JumpZero (p + 5)) (at c (p + 3) (0 ∷ [])) (at c (p + 5) []) (16 + m) m jump refl refl (omega arith) (hit (sym z) a2)
       jumps (suc d) b z hit miss jump over a2 =
-          goes_on s call handle given code result (ir.JumpZero (p + 5)) (at c (p + 3) (suc d ∷ [])) (at c (p + 4) []) (16 + m) (8 + m) jump (ap (λ (x : ℕ). Goes (at c x [])) (omega arith)) refl (omega arith)
-          (goes_on s call handle given code result (ir.Jump (p + 5 + length (cs.body (p + 5) k e))) (at c (p + 4) []) (at c (p + 5 + length (cs.body (p + 5) k e)) []) (8 + m) m over refl refl (omega arith)
+          goes_on s call handle given code result (ir.JumpZero (p + 5)) (at c (p + 3) (suc d ∷ [])) (at c (p + 4) []) (16 + m) (8 + m) jump (ap (λ (x : ℕ). Goes (at c x [])) (omega arith)) refl
+          (omega arith)
+          (goes_on s call handle given code result (ir.Jump (p + 5 + length (cs.body (p + 5) k e))) (at c (p + 4) []) (at c (p + 5 + length (cs.body (p + 5) k e)) []) (8 + m) m over refl refl
+          (omega arith)
           (subst (λ (x : ℕ). Goal m x) (omega arith) (miss (sym z ∙ ne_eqb (suc d) 0 (omega arith)))))
 
   -- all of them: the body of the first end that passes, or what is after them all

@@ -49,7 +49,8 @@ same_side To To = refl
 pub any_same : (found link : ℕ) (side : Side) (es : List End) → FewLinks es → link < 256
     → found_by (case_test (find_any found) (link + 256 * truth (is_to side))) 0 es ≡ end_found link side 0 es
 any_same found link side es few lt =
-    found_same (case_test (find_any found) (link + 256 * truth (is_to side))) link side es 0 few (λ j e p. eq_link link e.link (truth (is_to side)) (truth (is_to e.side)) lt p ∙ ap (λ (b : Bool). (e.link == link) && b) (same_side side e.side))
+    found_same (case_test (find_any found) (link + 256 * truth (is_to side))) link side es 0 few (λ j e p. eq_link link e.link (truth (is_to side)) (truth (is_to e.side)) lt p
+    ∙ ap (λ (b : Bool). (e.link == link) && b) (same_side side e.side))
 
 -- what is found has a place among the ends, and passes the test
 abbrev Passes : (ℕ → End → Bool) → ℕ → ℕ → Option (ℕ × End) → Type 0
@@ -75,7 +76,8 @@ pub index_found : (t : ℕ → End → Bool) (cs : Cases) (es : List End) (k j :
     → ((i : ℕ) (d : End) → cs.number i d ≡ 12 * i) → ((i : ℕ) (d : End) → d.link < 256 → t i d ≡ true → cs.has d ≡ true)
     → found_by t k es ≡ Some (j, e) → found_by (case_test cs (12 * j)) k es ≡ Some (j, e)
 index_found t cs [] k j e few number has h = h
-index_found t cs (d ∷ es) k j e few number has h = go (t k d) refl h (λ h. index_found t cs es (k + 1) j e (λ i x p. few (suc i) x (omega (arith, p))) number has h) (λ h. (found_in t es (k + 1) j e h).0)
+index_found t cs (d ∷ es) k j e few number has h = go (t k d) refl h (λ h. index_found t cs es (k + 1) j e (λ i x p. few (suc i) x (omega (arith, p))) number has h)
+    (λ h. (found_in t es (k + 1) j e h).0)
   where
     some_pair : (a b : ℕ) (x y : End) → ◌≡◌ {A = Option (ℕ × End)} (Some (a, x)) (Some (b, y)) → (a ≡ b)
     some_pair a b x y h = ap (λ (o : Option (ℕ × End)). place o) h
@@ -96,7 +98,8 @@ index_found t cs (d ∷ es) k j e few number has h = go (t k d) refl h (λ h. in
         → (found_by t (k + 1) es ≡ Some (j, e) → k + 1 ≤ j) → found_by (case_test cs (12 * j)) k (d ∷ es) ≡ Some (j, e)
     go true x h again le =
         let same = some_pair k j d e h in
-        let pass : case_test cs (12 * j) k d ≡ true = ap (λ (b : Bool). b && (12 * j == cs.number k d)) (has k d (few 0 d (omega arith)) x) ∙ ap (λ (v : ℕ). 12 * j == v) (number k d) ∙ eq-eqb (12 * j) (12 * k) (omega (arith, same)) in
+        let pass : case_test cs (12 * j) k d ≡ true = ap (λ (b : Bool). b && (12 * j == cs.number k d)) (has k d (few 0 d (omega arith)) x) ∙ ap (λ (v : ℕ). 12 * j == v) (number k d)
+        ∙ eq-eqb (12 * j) (12 * k) (omega (arith, same)) in
         rw pass h
     go false x h again le =
         let miss : case_test cs (12 * j) k d ≡ false = ap (λ (v : ℕ). cs.has d && (12 * j == v)) (number k d) ∙ ap (λ (b : Bool). cs.has d && b) (other j (le h)) ∙ and_false (cs.has d) in
@@ -125,7 +128,11 @@ index_words cs (e ∷ es) k number le = (let n = number k e in omega (arith, n, 
 
 pub named_words : (found : ℕ) (es : List End) (k : ℕ) → FewLinks es → AreWords (find_any found) k es
 named_words found [] k few = tt
-named_words found (e ∷ es) k few = (let n = few 0 e (omega arith) in let t = truth_small (is_to e.side) in omega (arith, n, t), named_words found es (k + 1) (λ i d p. few (suc i) d (omega (arith, p))))
+named_words found (e ∷ es) k few = (
+  let n = few 0 e (omega arith) in let t = truth_small (is_to e.side) in
+      omega (arith, n, t),
+  named_words found es (k + 1) (λ i d p. few (suc i) d (omega (arith, p))),
+)
   where
     truth_small : (b : Bool) → truth b ≤ 1
     truth_small true = omega arith

@@ -99,7 +99,8 @@ member_alike : (q r : Option (List ℕ)) (ys : List (Option (List ℕ))) → sam
 member_alike q r [] h = refl
 member_alike q r (y ∷ ys) h = ap (λ b. b || is_member same_input ys q) (inputs_equiv.congr q r y h) ∙ ap (λ b. same_input r y || b) (member_alike q r ys h)
 
-members : (ys : List (Option (List ℕ))) (hs : List HandlerTree) → ((h : HandlerTree) → In h hs → is_member same_input ys h.input ≡ true) → (q : Option (List ℕ)) → is_member same_input (inputs hs) q ≡ true → is_member same_input ys q ≡ true
+members : (ys : List (Option (List ℕ))) (hs : List HandlerTree) → ((h : HandlerTree) → In h hs → is_member same_input ys h.input ≡ true) → (q : Option (List ℕ))
+    → is_member same_input (inputs hs) q ≡ true → is_member same_input ys q ≡ true
 members ys [] f q h = absurd (cc)
 members ys (x ∷ hs) f q h = go (or_cases (same_input q x.input) (is_member same_input (inputs hs) q) h) (members ys hs (λ h i. f h (inr i)) q)
   where

@@ -16,12 +16,17 @@ use Rattle.sx_mean.specs.declared.events.SourceEvent.TheVariants as event
 use Rattle.sx_mean.specs.Application.{declared_kind}
 use Rattle.sx_mean.specs.Meaning.{truth}
 use Rattle.sx_mean.specs.React.{input_names, nth}
+use Rattle.sx_invoke.specs.Protocol.{entry_register, input_register, output_register, other_tag, set_key_kind, ask_kind, event_kind}
+use Rattle.sx_invoke.specs.Windows.{in_window_size, out_window_size}
 use Rattle.sx_invoke.specs.Invocation.{is_sensor_driver}
 use Rattle.sx_ir.specs.declared.ir.Ir.{Ir}
 use Rattle.sx_ir.specs.declared.ir.Ir.TheVariants as ir
 use Rattle.sx_ir.specs.declared.ir.IrOp.TheVariants as op
 use Rattle.sx_mean.specs.Handlers.{number_of, number_of_name}
-use Rattle.sx_stub.specs.Stub.{Cases, answer_code, attest_code, case_of, cases, entries, find_any, found_code, handled_by, input_code, input_found, is_above_three, is_closed_code, is_keyed_code, is_last_number, is_no_sample, is_opened_not, is_other_epoch, is_past_number, is_stale_code, is_to, is_wrong_kind, jump_on, key_found, key_place, named_end, open_any, refuse_if, returns, sample_code, sampled_code, search_code, set_key_code, slot_word, stub_code, stub_ops, take_event, take_receiving, tests}
+use Rattle.sx_stub.specs.Stub.{Cases, answer_code, attest_code, case_of, cases, entries, find_any, found_code, handled_by, input_code, input_found}
+use Rattle.sx_stub.specs.Stub.{is_above_three, is_closed_code, is_keyed_code, is_last_number, is_no_sample, is_opened_not, is_other_epoch, is_past_number}
+use Rattle.sx_stub.specs.Stub.{is_stale_code, is_to, is_wrong_kind, jump_on, key_found, key_place, named_end, open_any, refuse_if, returns, sample_code}
+use Rattle.sx_stub.specs.Stub.{sampled_code, search_code, set_key_code, slot_word, stub_code, stub_ops, take_event, take_receiving, tests}
 use Rattle.sx_stub.proofs.Plain.{is_fit, is_low}
 
 -- The handler that is named is there.
@@ -74,8 +79,10 @@ module _ (n ops parts : ℕ) (few : n ≤ 16) where
       both first rest (here (cs.has e) (omega (arith, lt, long)))
       (cases_fit cs load number f (place + length first) (k + 1) es (omega (arith, le)) (All-tail (λ e. e.link < 256) e es links) (omega (arith, lt, long)))
     where
-      here : (b : Bool) → place + length (if b then ir.Load cs.offset ∷ ir.Push (cs.number k e) ∷ ir.Op op.Sub ∷ ir.JumpZero (place + 5) ∷ ir.Jump (place + 5 + length (cs.body (place + 5) k e)) ∷ cs.body (place + 5) k e else []) < ops
-          → Fit (if b then ir.Load cs.offset ∷ ir.Push (cs.number k e) ∷ ir.Op op.Sub ∷ ir.JumpZero (place + 5) ∷ ir.Jump (place + 5 + length (cs.body (place + 5) k e)) ∷ cs.body (place + 5) k e else [])
+      here : (b : Bool) → place + length (if b then ir.Load cs.offset ∷ ir.Push (cs.number k e) ∷ ir.Op op.Sub ∷ ir.JumpZero (place + 5) ∷ ir.Jump
+          (place + 5 + length (cs.body (place + 5) k e)) ∷ cs.body (place + 5) k e else []) < ops
+          → Fit (if b then ir.Load cs.offset ∷ ir.Push (cs.number k e) ∷ ir.Op op.Sub ∷ ir.JumpZero (place + 5) ∷ ir.Jump (place + 5 + length (cs.body (place + 5) k e)) ∷ cs.body
+          (place + 5) k e else [])
       here true h =
           let body = cs.body (place + 5) k e in
           and_from _ _ load (and_from _ _ (number k e (omega (arith, le)) (All-head (λ e. e.link < 256) e es links)) (and_from _ _ (lt-ltb (place + 5) ops (omega (arith, h)))
@@ -98,7 +105,8 @@ module _ (n ops parts : ℕ) (few : n ≤ 16) where
   number_fits k lt =
       let o = 512 + 24 * k + 2 in
       one (ir.Store o) (and_from _ _ (eq-eqb (o % 2) 0 (omega arith))
-      (and_from _ _ (or_right (is_low o 2) _ (and_from _ _ (le-leb 512 o (omega arith)) (le-leb (o + 2) (512 + 24 * n) (omega (arith, lt))))) (or_right (nat_le (o + 2) 6) _ (le-leb 14 o (omega arith)))))
+      (and_from _ _ (or_right (is_low o 2) _ (and_from _ _ (le-leb 512 o (omega arith)) (le-leb (o + 2) (512 + 24 * n) (omega (arith, lt)))))
+      (or_right (nat_le (o + 2) 6) _ (le-leb 14 o (omega arith)))))
 
   keyed_fit : Fit (is_keyed_code n)
   keyed_fit =
@@ -137,9 +145,9 @@ module _ (tree : ModuleTree) (ends : List End) (ops : ℕ) (few : length ends �
       let rest = ir.Load 56 ∷ ir.Store 2 ∷ handled_by (number_of tree (event.Input e.port 0)) in
       let store = ir.Store (512 + 24 * k + 2) ∷ [] in
       let raise = ir.Load 20 ∷ ir.Push 1 ∷ ir.Op op.Add ∷ [] in
-      let refuse = refuse_if (place + 1) is_opened_not 7 in
+      let refuse = refuse_if (place + 1) is_opened_not other_tag in
       join (ir.Open (512 + 24 * k + 8) 16 6 56 2 ∷ []) (refuse ++ (raise ++ (store ++ rest))) (key_fits (length ends) ops (length tree.handlers) few k lt)
-      (join refuse (raise ++ (store ++ rest)) (refuses (place + 1) is_opened_not 7 refl (omega (arith, short)) refl)
+      (join refuse (raise ++ (store ++ rest)) (refuses (place + 1) is_opened_not other_tag refl (omega (arith, short)) refl)
       (join raise (store ++ rest) refl (join store rest (number_fits (length ends) ops (length tree.handlers) few k lt) (handled (event.Input e.port 0)))))
 
   input_fit : (place : ℕ) → place + length (input_found tree ends place) < ops → Fits (input_found tree ends place)
@@ -151,21 +159,25 @@ module _ (tree : ModuleTree) (ends : List End) (ops : ℕ) (few : length ends �
       let second = refuse_if (place + 10) (is_other_epoch n) 5 ++ third in
       join (refuse_if place (is_closed_code n) 5) second (refuses place (is_closed_code n) 5 refl (omega (arith, short)) (join (slot_word n 2) (ir.Push 0 ∷ ir.Op op.Eq ∷ []) (slots 2 refl) refl))
       (join (refuse_if (place + 10) (is_other_epoch n) 5) third
-      (refuses (place + 10) (is_other_epoch n) 5 refl (omega (arith, short)) (join (slot_word n 0) (ir.Push 0xFF00 ∷ ir.Op op.And ∷ ir.Load 18 ∷ ir.Push 0xFF00 ∷ ir.Op op.And ∷ ir.Op op.Sub ∷ []) (slots 0 refl) refl))
+      (refuses (place + 10) (is_other_epoch n) 5 refl (omega (arith, short)) (join (slot_word n 0) (ir.Push 0xFF00 ∷ ir.Op op.And ∷ ir.Load 18 ∷ ir.Push 0xFF00 ∷ ir.Op op.And ∷ ir.Op op.Sub ∷ [])
+      (slots 0 refl) refl))
       (join (refuse_if (place + 24) (is_past_number n) 6) fourth
-      (refuses (place + 24) (is_past_number n) 6 refl (omega (arith, short)) (join (ir.Load 20 ∷ []) (slot_word n 1 ++ ir.Op op.Lt ∷ []) refl (join (slot_word n 1) (ir.Op op.Lt ∷ []) (slots 1 refl) refl)))
+      (refuses (place + 24) (is_past_number n) 6 refl (omega (arith, short))
+      (join (ir.Load 20 ∷ []) (slot_word n 1 ++ ir.Op op.Lt ∷ []) refl (join (slot_word n 1) (ir.Op op.Lt ∷ []) (slots 1 refl) refl)))
       (join (refuse_if (place + 34) is_last_number 6) last (refuses (place + 34) is_last_number 6 refl (omega (arith, short)) refl)
-      (cases_fit n ops (length tree.handlers) few (take_receiving tree) refl (λ k e lt link. index_small n ops (length tree.handlers) few k lt) take_fit (place + 41) 0 ends (omega arith) links (omega (arith, short))))))
+      (cases_fit n ops (length tree.handlers) few (take_receiving tree) refl (λ k e lt link. index_small n ops (length tree.handlers) few k lt) take_fit (place + 41) 0 ends (omega arith) links
+      (omega (arith, short))))))
 
   key_fit : (place : ℕ) → place + length (key_found ends place) < ops → Fits (key_found ends place)
   key_fit place short =
       let n = length ends in
       let last = cases open_any (place + 29) 0 ends in
-      let opened = refuse_if (place + 24) is_opened_not 7 in
+      let opened = refuse_if (place + 24) is_opened_not other_tag in
       let unwrap = ir.Open 0 16 6 56 16 ∷ [] in
       join (refuse_if place (is_keyed_code n) 5) (unwrap ++ (opened ++ last)) (refuses place (is_keyed_code n) 5 refl (omega (arith, short)) (keyed_fit n ops (length tree.handlers) few))
-      (join unwrap (opened ++ last) refl (join opened last (refuses (place + 24) is_opened_not 7 refl (omega (arith, short)) refl)
-      (cases_fit n ops (length tree.handlers) few open_any refl (λ k e lt link. index_small n ops (length tree.handlers) few k lt) (λ p k e lt s. and_from _ _ (lt-ltb k n lt) refl) (place + 29) 0 ends (omega arith) links (omega (arith, short)))))
+      (join unwrap (opened ++ last) refl (join opened last (refuses (place + 24) is_opened_not other_tag refl (omega (arith, short)) refl)
+      (cases_fit n ops (length tree.handlers) few open_any refl (λ k e lt link. index_small n ops (length tree.handlers) few k lt) (λ p k e lt s. and_from _ _ (lt-ltb k n lt) refl)
+      (place + 29) 0 ends (omega arith) links (omega (arith, short)))))
 
   found_fit : (place : ℕ) → place + length (found_code tree ends place) < ops → Fits (found_code tree ends place)
   found_fit place short =
@@ -198,32 +210,35 @@ module _ (tree : ModuleTree) (ends : List End) (ops : ℕ) (few : length ends �
   set_key_fit search place lt short =
       let last = ir.Load 18 ∷ ir.Push 255 ∷ ir.Op op.And ∷ ir.Load 20 ∷ ir.Push 256 ∷ ir.Op op.Mul ∷ ir.Op op.Add ∷ ir.Store 72 ∷ ir.Jump search ∷ [] in
       let sides = refuse_if (place + 8) (ir.Push 1 ∷ ir.Load 20 ∷ ir.Op op.Lt ∷ []) 5 in
-      join (refuse_if (place + 1) (is_wrong_kind 1) 4) (sides ++ last) (refuses (place + 1) (is_wrong_kind 1) 4 refl (omega (arith, short)) refl)
-      (join sides last (refuses (place + 8) (ir.Push 1 ∷ ir.Load 20 ∷ ir.Op op.Lt ∷ []) 5 refl (omega (arith, short)) refl) (one (length ends) ops (length tree.handlers) few (ir.Jump search) (lt-ltb search ops lt)))
+      join (refuse_if (place + 1) (is_wrong_kind set_key_kind) 4) (sides ++ last) (refuses (place + 1) (is_wrong_kind set_key_kind) 4 refl (omega (arith, short)) refl)
+      (join sides last (refuses (place + 8) (ir.Push 1 ∷ ir.Load 20 ∷ ir.Op op.Lt ∷ []) 5 refl (omega (arith, short)) refl)
+      (one (length ends) ops (length tree.handlers) few (ir.Jump search) (lt-ltb search ops lt)))
 
   attest_fit : (place : ℕ) → place + 14 < ops → Fits (attest_code place)
-  attest_fit place short = join (refuse_if (place + 1) (is_wrong_kind 2) 4) answer_code (refuses (place + 1) (is_wrong_kind 2) 4 refl (omega (arith, short)) refl) refl
+  attest_fit place short = join (refuse_if (place + 1) (is_wrong_kind ask_kind) 4) answer_code (refuses (place + 1) (is_wrong_kind ask_kind) 4 refl (omega (arith, short)) refl) refl
 
   asked_fit : (search place : ℕ) → search < ops → place + 15 < ops → Fits (input_code search place)
   asked_fit search place lt short =
       let last = ir.Load 18 ∷ ir.Push 255 ∷ ir.Op op.And ∷ ir.Push 256 ∷ ir.Op op.Add ∷ ir.Store 72 ∷ ir.Jump search ∷ [] in
-      join (refuse_if (place + 1) (is_wrong_kind 3) 4) last (refuses (place + 1) (is_wrong_kind 3) 4 refl (omega (arith, short)) refl) (one (length ends) ops (length tree.handlers) few (ir.Jump search) (lt-ltb search ops lt))
+      join (refuse_if (place + 1) (is_wrong_kind event_kind) 4) last (refuses (place + 1) (is_wrong_kind event_kind) 4 refl (omega (arith, short)) refl)
+      (one (length ends) ops (length tree.handlers) few (ir.Jump search) (lt-ltb search ops lt))
 
   no_sample_fit : Fits (is_no_sample tree)
   no_sample_fit = go (not (is_sensor_driver (declared_kind tree.decls)))
     where
-      go : (b : Bool) → Fits (ir.Saved 12 ∷ ir.Push 3 ∷ ir.Op op.Eq ∷ ir.Push (truth b) ∷ ir.Op op.And ∷ [])
+      go : (b : Bool) → Fits (ir.Saved entry_register ∷ ir.Push 3 ∷ ir.Op op.Eq ∷ ir.Push (truth b) ∷ ir.Op op.And ∷ [])
       go true = refl
       go false = refl
 
   tests_fit : 27 < ops → Fits (tests tree)
   tests_fit short =
-      let last = refuse_if 22 (ir.Meets 14 384 ∷ []) 3 in
-      let third = refuse_if 17 (ir.Meets 13 40 ∷ []) 3 in
+      let last = refuse_if 22 (ir.Meets output_register out_window_size ∷ []) 3 in
+      let third = refuse_if 17 (ir.Meets input_register in_window_size ∷ []) 3 in
       let second = refuse_if 8 (is_no_sample tree) 2 in
       join (refuse_if 1 is_above_three 2) (second ++ (third ++ last)) (refuses 1 is_above_three 2 refl (omega (arith, short)) refl)
       (join second (third ++ last) (refuses 8 (is_no_sample tree) 2 refl (omega (arith, short)) no_sample_fit)
-      (join third last (refuses 17 (ir.Meets 13 40 ∷ []) 3 refl (omega (arith, short)) refl) (refuses 22 (ir.Meets 14 384 ∷ []) 3 refl (omega (arith, short)) refl)))
+      (join third last (refuses 17 (ir.Meets input_register in_window_size ∷ []) 3 refl (omega (arith, short)) refl)
+      (refuses 22 (ir.Meets output_register out_window_size ∷ []) 3 refl (omega (arith, short)) refl)))
 
   entries_fit : 27 + length (entries tree ends) < ops → Fits (entries tree ends)
   entries_fit short =

@@ -7,6 +7,7 @@ use Rattle.sx_mean.specs.Handlers.{number_of}
 use Rattle.sx_mean.proofs.Handlers.{none_at}
 use Rattle.sx_machine.specs.Memory.{word}
 use Rattle.sx_reach.proofs.Reaching.{and_then, weaken}
+use Rattle.sx_invoke.specs.Protocol.{all_done}
 use Rattle.sx_invoke.specs.Setup.{Setup, Call}
 use Rattle.sx_invoke.specs.Progress.{Progress, Invoked, Returns, Violates, Course, Going, Broken, finished}
 use Rattle.sx_invoke.specs.Acts.{handled, with_acts}
@@ -27,7 +28,8 @@ pub none_handled : (s : Setup) (call : Call) (e : SourceEvent) (p : Progress) �
     → handled s call e p ≡ Going p
 unfolding handled
 none_handled s call e p h =
-    ap (λ (x : Option HandlerTree). let done = run s.tree.decls x (value_of e) p.state.cells in with_acts s call done.acts (record p { state = record p.state { cells = done.cells } })) (none_at s.tree e h)
+    ap (λ (x : Option HandlerTree). let done = run s.tree.decls x (value_of e) p.state.cells in
+    with_acts s call done.acts (record p { state = record p.state { cells = done.cells } })) (none_at s.tree e h)
 
 -- where the course goes on, the configuration stands for it, at the next place
 abbrev pub IsDone : Setup → Call → Course → Conf → Conf → Type 0
@@ -57,9 +59,9 @@ module _ (s : Setup) (call : Call) (handle : ℕ → Conf → OperationResult) (
 
   -- what follows a handler
   ends : (p : Progress) (t : Conf) (q n : ℕ) → Represents s call p t → t.place ≡ q → t.stack ≡ [] → At code q behind
-      → 16 ≤ n → Goal (Returns 1 p) n t
+      → 16 ≤ n → Goal (Returns all_done p) n t
   ends p t q n h place stack a le =
-      let r = Returns 1 p in
+      let r = Returns all_done p in
       subst (λ (x : ℕ). Goal r n (at t x t.stack)) (sym place)
       (subst (λ (st : List ℕ). Goal r n (at t q st)) (sym stack)
       (runs_on s call handle given code r (ir.Push 1 ∷ ir.Load 4 ∷ []) t q (q + 1 + 1) [] (word t.priv 4 ∷ 1 ∷ []) n 0 (a.0, (a.1.0, tt)) refl (omega arith) (omega (arith, le))
@@ -68,14 +70,14 @@ module _ (s : Setup) (call : Call) (handle : ℕ → Conf → OperationResult) (
   by_course : (course : Course) (c : Conf) (n : ℕ) → At code (c.place + 1) behind
       → DoesCourse s call handle given code course (IsBehind c) n c → Goal (finished course) (n + 16) c
   by_course (Going p) c n a d =
-      let r = Returns 1 p in
+      let r = Returns all_done p in
       let done = IsDone s call (Going p) c in
       and_then Conf Halt (op_step s handle code) (op_count given code) (λ c. Unit {0}) (OnViolation (EndsSo r)) done (LeavesSo s call code r) n 16 (n + 16) c (omega arith)
       (weaken Conf Halt (op_step s handle code) (op_count given code) (λ c. Unit {0}) (λ c. Unit {0}) (OnViolation (CourseBreaks (Going p))) (OnViolation (EndsSo r)) done done n n c
       (omega arith) (λ t x. x) never (λ t x. x) d)
       (λ t x. ends p t (c.place + 1) 16 x.0 x.1.0 x.1.1 a (omega arith))
     where
-      never : (t : Conf) (v : Halt) → OnViolation (CourseBreaks (Going p)) t v → OnViolation (EndsSo (Returns 1 p)) t v
+      never : (t : Conf) (v : Halt) → OnViolation (CourseBreaks (Going p)) t v → OnViolation (EndsSo (Returns all_done p)) t v
       never t (conf.Violates v marks) x = x
       never t conf.Stuck x = x
   by_course (Broken v p) c n a d =

@@ -1,5 +1,6 @@
 -- Entry 2: an event packet.
-use Rattle.std.proofs.Common.{◌≡◌, ◌≢◌, ℕ, zero, suc, ◌+◌, ◌-◌, ◌*◌, ◌%◌, ◌<◌, ◌≤◌, ◌⊎◌, inl, inr, Bool, true, false, not, ◌==◌, List, [], ◌∷◌, ◌++◌, length, take, drop, Option, Some, None, refl, sym, ap, ◌∙◌, subst, arith}
+use Rattle.std.proofs.Common.{◌≡◌, ◌≢◌, ℕ, zero, suc, ◌+◌, ◌-◌, ◌*◌, ◌%◌, ◌<◌, ◌≤◌, ◌⊎◌, inl, inr, Bool, true, false, not, ◌==◌, List, [], ◌∷◌, ◌++◌, length}
+use Rattle.std.proofs.Common.{take, drop, Option, Some, None, refl, sym, ap, ◌∙◌, subst, arith}
 use Rattle.std.specs.Prelude.{slice_get, if◌then◌else◌, nat_lt, bit_and}
 use Rattle.std.proofs.lemmas.List.{length-take, length-drop, take_all, get_or-take}
 use Rattle.std.proofs.lemmas.List.Elements.{All-take}
@@ -16,6 +17,8 @@ use Rattle.sx_tag.specs.Wrap.{unwrapped}
 use Rattle.sx_tag.specs.Mac.{IsTag}
 use Rattle.sx_machine.specs.Memory.{word, put_word, put_bytes, bytes_from}
 use Rattle.sx_reach.specs.Reach.{Goes}
+use Rattle.sx_invoke.specs.Protocol.{entry_register, no_end, past_number, other_tag, event_kind, event_size}
+use Rattle.sx_invoke.specs.Windows.{in_window_size, out_window_size}
 use Rattle.sx_invoke.specs.Setup.{Setup, Call}
 use Rattle.sx_invoke.specs.Marks as mark
 use Rattle.sx_invoke.specs.ModuleState.{EndState, end_of, end_state, epoch_of, link_of}
@@ -29,9 +32,12 @@ use Rattle.sx_ir.specs.Meaning.{OperationResult, do_op, element, opened, key_at}
 use Rattle.sx_ir.specs.declared.ir.Ir.{Ir}
 use Rattle.sx_ir.specs.declared.ir.Ir.TheVariants as ir
 use Rattle.sx_ir.specs.declared.ir.IrOp.TheVariants as op
-use Rattle.sx_stub.specs.Stub.{input_code, input_found, key_found, key_place, search_code, refuse_if, cases, find_any, take_receiving, take_event, taken_code, is_receiving, is_to, is_wrong_kind, wanted_receiving, is_closed_code, is_other_epoch, is_past_number, is_last_number, is_opened_not, handled_by}
+use Rattle.sx_stub.specs.Stub.{input_code, input_found, key_found, key_place, search_code, refuse_if, cases, find_any, take_receiving, take_event, taken_code}
+use Rattle.sx_stub.specs.Stub.{is_receiving, is_to, is_wrong_kind, wanted_receiving, is_closed_code, is_other_epoch, is_past_number, is_last_number}
+use Rattle.sx_stub.specs.Stub.{is_opened_not, handled_by}
 use Rattle.sx_stub.specs.Invokes.{ShowsCall, Ready, Invokes, HandlersDo}
-use Rattle.sx_stub.proofs.Mem.{AllBytes, word_lt, word_same, word-put_same, word-put_other, get-put_other, length-put_word, length-put_bytes, AllBytes-put_word, AllBytes-put_bytes, get-put_bytes_other, get-put_bytes_in, bytes_from_same, AllBytes-bytes_from}
+use Rattle.sx_stub.proofs.Mem.{AllBytes, word_lt, word_same, word-put_same, word-put_other, get-put_other, length-put_word, length-put_bytes, AllBytes-put_word}
+use Rattle.sx_stub.proofs.Mem.{AllBytes-put_bytes, get-put_bytes_other, get-put_bytes_in, bytes_from_same, AllBytes-bytes_from}
 use Rattle.sx_stub.proofs.Straight.{At, at, at_front, at_back, pure}
 use Rattle.sx_stub.proofs.Slots.{Same, IsKept, with_priv, shows_priv, end_with, end_state_is, end_in_slot, end_state_same}
 use Rattle.sx_stub.proofs.Refuse.{refuse_does, refuse_zero, or_if, sub_zero, not_twice, goes_on, runs_on, within}
@@ -114,7 +120,10 @@ number_end priv k v le =
 end_same : (m n : List ℕ) (k : ℕ) → ((i : ℕ) → 512 ≤ i → Same m n i) → end_state n k ≡ end_state m k
 end_same m n k f = end_state_same m n k (λ i p q. f i (omega (arith, p)))
 
-module _ (s : Setup) (call : Call) (handle : ℕ → Conf → OperationResult) (given : ℕ → ℕ) (code : List Ir) (p : Progress) (none : p.pieces ≡ []) (tag : IsTag s.mac) (few : length s.ends ≤ 16) (links : FewLinks s.ends) (outside : is_bad_window s call.output 384 ≡ false) (devices : HasDevices p.devices (declared_kind s.tree.decls) s.section.layout) (cost : ℕ) (does : HandlersDo s handle given code cost) where
+module _ (s : Setup) (call : Call) (handle : ℕ → Conf → OperationResult) (given : ℕ
+    → ℕ) (code : List Ir) (p : Progress) (none : p.pieces ≡ []) (tag : IsTag s.mac) (few : length s.ends ≤ 16) (links : FewLinks s.ends)
+    (outside : is_bad_window s call.output out_window_size ≡ false) (devices : HasDevices p.devices (declared_kind s.tree.decls) s.section.layout) (cost : ℕ)
+    (does : HandlersDo s handle given code cost) where
   -- the event is taken, and handled
   takes : (packet body : List ℕ) (j : ℕ) (e : End) (place : ℕ) (c : Conf) → length packet ≡ 24 → AllBytes packet
       → AllBytes body → length body ≡ 32 → j < length s.ends → c.back ≡ None → second_in packet ≢ 65535
@@ -130,11 +139,13 @@ module _ (s : Setup) (call : Call) (handle : ℕ → Conf → OperationResult) (
       let p2 = number_taken j packet (take 2 body) st p in
       let r = finished (handled s call ev p2) in
       let small : second_in packet < 65536 = word_lt packet 4 h in
-      let sum : pure s c.priv (ir.Load 20 ∷ ir.Push 1 ∷ ir.Op op.Add ∷ []) [] ≡ Some (v ∷ []) = ap (λ (x : ℕ). Some ((x + 1) % 65536 ∷ [])) second ∙ ap (λ (x : ℕ). Some (x ∷ [])) (omega (arith, small, last)) in
+      let sum : pure s c.priv (ir.Load 20 ∷ ir.Push 1 ∷ ir.Op op.Add ∷ []) [] ≡ Some (v ∷ []) = ap (λ (x : ℕ). Some ((x + 1) % 65536 ∷ [])) second
+      ∙ ap (λ (x : ℕ). Some (x ∷ [])) (omega (arith, small, last)) in
       let size = shows.size in
       let priv5 = put_word c.priv (end_at j + 2) v in
       let c5 = with_priv c priv5 (place + 4) [] in
-      let shows5 : ShowsCall s call p2 c5 = shows_slot s call (progress_mark p m) c priv5 (place + 4) [] j (record st { number = v }) shows lt (length-put_word c.priv (end_at j + 2) v) (AllBytes-put_word c.priv (end_at j + 2) v (omega (arith, small, last)) shows.bytes)
+      let shows5 : ShowsCall s call p2 c5 = shows_slot s call (progress_mark p m) c priv5 (place + 4) [] j (record st { number = v }) shows lt (length-put_word c.priv (end_at j + 2) v)
+      (AllBytes-put_word c.priv (end_at j + 2) v (omega (arith, small, last)) shows.bytes)
       (λ i o. get-put_other c.priv (end_at j + 2) v i (omega arith) (apart i o 0 (end_at j + 2) (omega arith) (omega arith)) (apart i o 1 (end_at j + 2 + 1) (omega arith) (omega arith)))
       (number_end c.priv j v (omega (arith, size, lt)) ∙ ap (λ (x : EndState). record x { number = v }) state) in
       let value5 : word priv5 56 ≡ word body 0 = word-put_other c.priv (end_at j + 2) v 56 (omega arith) refl (omega arith) ∙ value in
@@ -143,13 +154,29 @@ module _ (s : Setup) (call : Call) (handle : ℕ → Conf → OperationResult) (
       let priv6 = put_word priv5 2 w in
       let c6 = with_priv c priv6 (place + 6) [] in
       let size5 = shows5.size in
-      let shows6 : ShowsCall s call p2 c6 = shows_priv s call p2 c5 priv6 (place + 6) [] shows5 (length-put_word priv5 2 w) (AllBytes-put_word priv5 2 w smallw shows5.bytes) (λ i kept. get-put_other priv5 2 w i refl (low i kept 2 (omega arith)) (low i kept 3 (omega arith))) in
-      let ready : Ready s call ev p2 c6 = record { shows = shows6; value = word-put_same priv5 2 w refl (omega (arith, size5)); pieces = none; stack = refl; back = back; window = outside; devices = devices } in
+      let shows6 : ShowsCall s call p2 c6 = shows_priv s call p2 c5 priv6 (place + 6) [] shows5 (length-put_word priv5 2 w) (AllBytes-put_word priv5 2 w smallw shows5.bytes)
+      (λ i kept. get-put_other priv5 2 w i refl (low i kept 2 (omega arith)) (low i kept 3 (omega arith))) in
+      let ready : Ready s call ev p2 c6 = record {
+        shows = shows6;
+        value = word-put_same priv5 2 w refl (omega (arith, size5));
+        pieces = none;
+        stack = refl;
+        back = back;
+        window = outside;
+        devices =
+            devices;
+      } in
       runs_on s call handle given code r (ir.Load 20 ∷ ir.Push 1 ∷ ir.Op op.Add ∷ []) c place (place + 3) [] (v ∷ []) (cost + 100) (cost + 76) (a.0, (a.1.0, (a.1.1.0, tt))) sum refl (omega arith)
-      (goes_on s call handle given code r (ir.Store (end_number_at j)) (at c (place + 3) (v ∷ [])) (at c5 (place + 3 + 1) []) (cost + 76) (cost + 68) (ap (slice_get code) (omega arith) ∙ a.1.1.1.0) refl refl (omega arith)
+      (goes_on s call handle given code r (ir.Store (end_number_at j)) (at c (place + 3) (v ∷ [])) (at c5 (place + 3 + 1) []) (cost + 76) (cost + 68) (ap (slice_get code) (omega arith)
+      ∙ a.1.1.1.0) refl refl (omega arith)
       (subst (λ (x : ℕ). Invokes s call handle given code r (cost + 68) (at c5 x [])) (omega arith)
-      (runs_on s call handle given code r (ir.Load 56 ∷ []) c5 (place + 4) (place + 5) [] (w ∷ []) (cost + 68) (cost + 60) (ap (slice_get code) (omega arith) ∙ a.1.1.1.1.0, tt) (ap (λ (x : ℕ). Some (x ∷ [])) value5) (omega arith) (omega arith)
-      (goes_on s call handle given code r (ir.Store 2) (at c5 (place + 5) (w ∷ [])) (at c6 (place + 5 + 1) []) (cost + 60) (cost + 52) (ap (slice_get code) (omega arith) ∙ a.1.1.1.1.1.0) refl refl (omega arith)
+      (runs_on s call handle given code r (ir.Load 56 ∷ []) c5 (place + 4) (place + 5) [] (w ∷ []) (cost + 68) (cost + 60) (
+        ap (slice_get code) (omega arith)
+            ∙ a.1.1.1.1.0,
+        tt,
+      ) (ap (λ (x : ℕ). Some (x ∷ [])) value5) (omega arith) (omega arith)
+      (goes_on s call handle given code r (ir.Store 2) (at c5 (place + 5) (w ∷ [])) (at c6 (place + 5 + 1) []) (cost + 60) (cost + 52) (ap (slice_get code) (omega arith)
+      ∙ a.1.1.1.1.1.0) refl refl (omega arith)
       (subst (λ (x : ℕ). Invokes s call handle given code r (cost + 52) (at c6 x [])) (omega arith)
       (within s call handle given code r (cost + 52) (cost + 16) (at c6 (place + 6) []) (omega arith)
       (handles s call handle given code ev p2 c6 (place + 6) cost ready (λ x n. does ev x n) (subst (λ (x : ℕ). At code x (handled_by (number_of s.tree ev))) (omega arith) a.1.1.1.1.1.1))))))))
@@ -166,7 +193,8 @@ module _ (s : Setup) (call : Call) (handle : ℕ → Conf → OperationResult) (
   opens : (packet : List ℕ) (j : ℕ) (e : End) (place : ℕ) (c : Conf) → length packet ≡ 24 → AllBytes packet
       → j < length s.ends → c.back ≡ None → second_in packet ≢ 65535 → ShowsCall s call p c → Holds c.priv packet
       → At code place (take_event s.tree place j e)
-      → Invokes s call handle given code (event_opened s call (j, e) packet (unwrapped s.mac (end_of p.state.ends j).key (header_in packet) (take 2 (drop 6 packet)) (drop 8 packet)) p) (cost + 200) (at c place [])
+      → Invokes s call handle given code (event_opened s call (j, e) packet (unwrapped s.mac (end_of p.state.ends j).key (header_in packet) (take 2 (drop 6 packet)) (drop 8 packet)) p) (cost + 200)
+      (at c place [])
   opens packet j e place c len h lt back last shows holds a =
       let d6 = length-drop 6 packet in
       let d8 = length-drop 8 packet in
@@ -190,9 +218,10 @@ module _ (s : Setup) (call : Call) (handle : ℕ → Conf → OperationResult) (
           → do_op s handle (ir.Open (end_at j + 8) 16 6 56 2) (at c place []) ≡ opened (at c place []) (end_at j + 8) (header_in packet) 56 2 u
           → Invokes s call handle given code (event_opened s call (j, e) packet u p) (cost + 200) (at c place [])
       by_tag None g d =
-          let r = Returns 7 p in
+          let r = Returns other_tag p in
           goes_on s call handle given code r (ir.Open (end_at j + 8) 16 6 56 2) (at c place []) (at c (place + 1) (0 ∷ [])) (cost + 200) (cost + 170) a.0 d refl (omega arith)
-          (refuse_does s call handle given code true is_opened_not 7 1 c (place + 1) (place + 6) (cost + 170) (cost + 100) (0 ∷ []) r p (at_front code (place + 1) (refuse_if (place + 1) is_opened_not 7) (taken_code s.tree j e) a.1) refl refl shows none (omega arith) (omega arith) (λ x. absurd (true≢false x)))
+          (refuse_does s call handle given code true is_opened_not other_tag 1 c (place + 1) (place + 6) (cost + 170) (cost + 100) (0 ∷ []) r p
+          (at_front code (place + 1) (refuse_if (place + 1) is_opened_not other_tag) (taken_code s.tree j e) a.1) refl refl shows none (omega arith) (omega arith) (λ x. absurd (true≢false x)))
       by_tag (Some body) g d =
           let value = take 2 body in
           let lv = length-take 2 body in
@@ -205,17 +234,23 @@ module _ (s : Setup) (call : Call) (handle : ℕ → Conf → OperationResult) (
           let priv4 = put_bytes c.priv 56 value in
           let c4 = with_mark (with_priv c priv4 (place + 1) (1 ∷ [])) m in
           let shows4 : ShowsCall s call p1 c4 = shows_mark s call p (with_priv c priv4 (place + 1) (1 ∷ [])) m
-          (shows_priv s call p c priv4 (place + 1) (1 ∷ []) shows (length-put_bytes c.priv 56 value) (AllBytes-put_bytes c.priv 56 value shows.bytes) (λ i kept. get-put_bytes_other c.priv 56 value i (apart i kept (length value) len2))) in
+          (shows_priv s call p c priv4 (place + 1) (1 ∷ []) shows (length-put_bytes c.priv 56 value) (AllBytes-put_bytes c.priv 56 value shows.bytes)
+          (λ i kept. get-put_bytes_other c.priv 56 value i (apart i kept (length value) len2))) in
           let own : (end_at j + 8 == 0) ≡ false = ne_eqb (end_at j + 8) 0 (omega arith) in
-          let d2 : do_op s handle (ir.Open (end_at j + 8) 16 6 56 2) (at c place []) ≡ Goes c4 = d ∙ ap (λ (b : Bool). Goes (with_mark (with_priv c priv4 (place + 1) (1 ∷ [])) (mark.Unwrapped (header_in packet) value b))) own in
-          let second4 : word priv4 20 ≡ second_in packet = word_same c.priv priv4 20 20 refl refl (get-put_bytes_other c.priv 56 value 20 (inl (omega arith))) (get-put_bytes_other c.priv 56 value 21 (inl (omega arith))) ∙ holds_word c.priv packet 4 refl (omega (arith, len)) holds in
+          let d2 : do_op s handle (ir.Open (end_at j + 8) 16 6 56 2) (at c place []) ≡ Goes c4 = d
+          ∙ ap (λ (b : Bool). Goes (with_mark (with_priv c priv4 (place + 1) (1 ∷ [])) (mark.Unwrapped (header_in packet) value b))) own in
+          let second4 : word priv4 20 ≡ second_in packet = word_same c.priv priv4 20 20 refl refl (get-put_bytes_other c.priv 56 value 20 (inl (omega arith)))
+          (get-put_bytes_other c.priv 56 value 21 (inl (omega arith))) ∙ holds_word c.priv packet 4 refl (omega (arith, len)) holds in
           let value4 : word priv4 56 ≡ word body 0 = word_same body priv4 0 56 refl refl
           (get-put_bytes_in c.priv 56 value 0 isv (omega (arith, len2)) (omega (arith, len2, size)) ∙ get_or-take 2 body 0 0 (omega arith))
           (get-put_bytes_in c.priv 56 value 1 isv (omega (arith, len2)) (omega (arith, len2, size)) ∙ get_or-take 2 body 1 0 (omega arith)) in
-          let state4 : end_state priv4 j ≡ end_of p.state.ends j = end_same c.priv priv4 j (λ i le. get-put_bytes_other c.priv 56 value i (inr (omega (arith, le, len2)))) ∙ sym (end_in_slot s call p c j shows lt) in
+          let state4 : end_state priv4 j ≡ end_of p.state.ends j = end_same c.priv priv4 j (λ i le. get-put_bytes_other c.priv 56 value i (inr (omega (arith, le, len2))))
+          ∙ sym (end_in_slot s call p c j shows lt) in
           goes_on s call handle given code r (ir.Open (end_at j + 8) 16 6 56 2) (at c place []) c4 (cost + 200) (cost + 170) a.0 d2 refl (omega arith)
-          (refuse_does s call handle given code false is_opened_not 7 0 c4 (place + 1) (place + 6) (cost + 170) (cost + 100) (1 ∷ []) r p1 (at_front code (place + 1) (refuse_if (place + 1) is_opened_not 7) (taken_code s.tree j e) a.1) refl refl shows4 none (omega arith) (omega arith)
-          (λ x. takes packet body j e (place + 6) c4 len h g.1 g.0 lt back last shows4 second4 value4 state4 (at_back code (place + 1) (place + 6) (refuse_if (place + 1) is_opened_not 7) (taken_code s.tree j e) (omega arith) a.1)))
+          (refuse_does s call handle given code false is_opened_not other_tag 0 c4 (place + 1) (place + 6) (cost + 170) (cost + 100) (1 ∷ []) r p1
+          (at_front code (place + 1) (refuse_if (place + 1) is_opened_not other_tag) (taken_code s.tree j e) a.1) refl refl shows4 none (omega arith) (omega arith)
+          (λ x. takes packet body j e (place + 6) c4 len h g.1 g.0 lt back last shows4 second4 value4 state4 (at_back code (place + 1) (place + 6) (refuse_if (place + 1) is_opened_not other_tag)
+          (taken_code s.tree j e) (omega arith) a.1)))
         where
           apart : (i : ℕ) → IsKept i → (n : ℕ) → n ≡ 2 → (i < 56) ⊎ (56 + n ≤ i)
           apart i (inl k) n e = inl (omega (arith, k.1))
@@ -240,9 +275,12 @@ module _ (s : Setup) (call : Call) (handle : ℕ → Conf → OperationResult) (
       let state3 = end_in_slot s call p c3 j shows3 lt in
       let smalls : st.field < 65536 = subst (λ (x : EndState). x.field < 65536) (sym (state3 ∙ state_is c3.priv j)) (word_lt c3.priv (end_at j) shows3.bytes) in
       let d = (epoch_of st.field * 256 + (65536 - epoch_of field * 256)) % 65536 in
-      let closed : pure s c3.priv (is_closed_code n) [] ≡ Some (truth (not st.is_open) ∷ []) = closed_word s c3.priv n j few lt index3 ∙ sym (ap (λ (x : EndState). Some (truth (not x.is_open) ∷ [])) state3) in
-      let epoch : pure s c3.priv (is_other_epoch n) [] ≡ Some (d ∷ []) = epoch_word s c3.priv n j field shows3.bytes few lt index3 field3 smallf ∙ sym (ap (λ (x : EndState). Some ((epoch_of x.field * 256 + (65536 - epoch_of field * 256)) % 65536 ∷ [])) state3) in
-      let number : pure s c3.priv (is_past_number n) [] ≡ Some (truth (nat_lt second st.number) ∷ []) = number_word s c3.priv n j second few lt index3 second3 ∙ sym (ap (λ (x : EndState). Some (truth (nat_lt second x.number) ∷ [])) state3) in
+      let closed : pure s c3.priv (is_closed_code n) [] ≡ Some (truth (not st.is_open) ∷ []) = closed_word s c3.priv n j few lt index3
+      ∙ sym (ap (λ (x : EndState). Some (truth (not x.is_open) ∷ [])) state3) in
+      let epoch : pure s c3.priv (is_other_epoch n) [] ≡ Some (d ∷ []) = epoch_word s c3.priv n j field shows3.bytes few lt index3 field3 smallf
+      ∙ sym (ap (λ (x : EndState). Some ((epoch_of x.field * 256 + (65536 - epoch_of field * 256)) % 65536 ∷ [])) state3) in
+      let number : pure s c3.priv (is_past_number n) [] ≡ Some (truth (nat_lt second st.number) ∷ []) = number_word s c3.priv n j second few lt index3 second3
+      ∙ sym (ap (λ (x : EndState). Some (truth (nat_lt second x.number) ∷ [])) state3) in
       let final : pure s c3.priv is_last_number [] ≡ Some (truth (second == 65535) ∷ []) = ap (λ (x : ℕ). Some (truth (x == 65535) ∷ [])) second3 in
       let r4 = cases (take_receiving s.tree) (q + 41) 0 s.ends in
       let r3 = refuse_if (q + 34) is_last_number 6 ++ r4 in
@@ -256,13 +294,19 @@ module _ (s : Setup) (call : Call) (handle : ℕ → Conf → OperationResult) (
       let numbered = event_numbered s call (j, e) packet st p in
       let u = unwrapped s.mac st.key (header_in packet) (take 2 (drop 6 packet)) (drop 8 packet) in
       let rest = event_opened s call (j, e) packet u p in
-      subst (λ (x : Invoked). Invokes s call handle given code x (cost + 1400) (at c3 q [])) (sym (or_if (not st.is_open) (not (epoch_of st.field == epoch_of field)) (Returns 5 p) numbered))
-      (refuse_does s call handle given code (not st.is_open) (is_closed_code n) 5 (truth (not st.is_open)) c3 q (q + 10) (cost + 1400) (cost + 1320) [] (if not (epoch_of st.field == epoch_of field) then Returns 5 p else numbered) p (at_front code q (refuse_if q (is_closed_code n) 5) r1 a) closed refl shows3 none (omega arith) (omega arith)
-      (λ x1. refuse_zero s call handle given code (not (epoch_of st.field == epoch_of field)) (is_other_epoch n) 5 d c3 (q + 10) (q + 24) (cost + 1320) (cost + 1200) [] numbered p (at_front code (q + 10) (refuse_if (q + 10) (is_other_epoch n) 5) r2 a1) epoch (epoch_zero st.field field smalls smallf) shows3 none (omega arith) (omega arith)
-      (λ x2. subst (λ (x : Invoked). Invokes s call handle given code x (cost + 1200) (at c3 (q + 24) [])) (sym (or_if (nat_lt second st.number) (second == 65535) (Returns 6 p) rest))
-      (refuse_does s call handle given code (nat_lt second st.number) (is_past_number n) 6 (truth (nat_lt second st.number)) c3 (q + 24) (q + 34) (cost + 1200) (cost + 1100) [] (if second == 65535 then Returns 6 p else rest) p (at_front code (q + 24) (refuse_if (q + 24) (is_past_number n) 6) r3 a2) number refl shows3 none (omega arith) (omega arith)
-      (λ x3. refuse_does s call handle given code (second == 65535) is_last_number 6 (truth (second == 65535)) c3 (q + 34) (q + 41) (cost + 1100) (cost + 1000) [] rest p (at_front code (q + 34) (refuse_if (q + 34) is_last_number 6) r4 a3) final refl shows3 none (omega arith) (omega arith)
-      (λ x4. chain_does s call handle given code rest (take_receiving s.tree) (12 * j) c3 index3 (omega (arith, few, lt)) s.ends 0 (q + 41) (q + 41 + length r4) (cost + 1000) (cost + 200) (index_words (take_receiving s.tree) s.ends 0 (λ i d. refl) (omega (arith, few))) a4 refl (omega (arith, few))
+      subst (λ (x : Invoked). Invokes s call handle given code x (cost + 1400) (at c3 q [])) (sym (or_if (not st.is_open) (not (epoch_of st.field == epoch_of field)) (Returns no_end p) numbered))
+      (refuse_does s call handle given code (not st.is_open) (is_closed_code n) 5 (truth (not st.is_open)) c3 q (q + 10) (cost + 1400) (cost + 1320) []
+      (if not (epoch_of st.field == epoch_of field) then Returns no_end p else numbered) p (at_front code q (refuse_if q (is_closed_code n) 5) r1 a) closed refl shows3 none (omega arith)
+      (omega arith)
+      (λ x1. refuse_zero s call handle given code (not (epoch_of st.field == epoch_of field)) (is_other_epoch n) 5 d c3 (q + 10) (q + 24) (cost + 1320) (cost + 1200) [] numbered p
+      (at_front code (q + 10) (refuse_if (q + 10) (is_other_epoch n) 5) r2 a1) epoch (epoch_zero st.field field smalls smallf) shows3 none (omega arith) (omega arith)
+      (λ x2. subst (λ (x : Invoked). Invokes s call handle given code x (cost + 1200) (at c3 (q + 24) [])) (sym (or_if (nat_lt second st.number) (second == 65535) (Returns past_number p) rest))
+      (refuse_does s call handle given code (nat_lt second st.number) (is_past_number n) 6 (truth (nat_lt second st.number)) c3 (q + 24) (q + 34) (cost + 1200) (cost + 1100) []
+      (if second == 65535 then Returns past_number p else rest) p (at_front code (q + 24) (refuse_if (q + 24) (is_past_number n) 6) r3 a2) number refl shows3 none (omega arith) (omega arith)
+      (λ x3. refuse_does s call handle given code (second == 65535) is_last_number 6 (truth (second == 65535)) c3 (q + 34) (q + 41) (cost + 1100) (cost + 1000) [] rest p
+      (at_front code (q + 34) (refuse_if (q + 34) is_last_number 6) r4 a3) final refl shows3 none (omega arith) (omega arith)
+      (λ x4. chain_does s call handle given code rest (take_receiving s.tree) (12 * j) c3 index3 (omega (arith, few, lt)) s.ends 0 (q + 41) (q + 41 + length r4) (cost + 1000) (cost + 200)
+      (index_words (take_receiving s.tree) s.ends 0 (λ i d. refl) (omega (arith, few))) a4 refl (omega (arith, few))
       (λ j2 e2 place found2 a5.
       let again = sym found2 ∙ index_found t (take_receiving s.tree) s.ends 0 j e links (λ i d. refl) receives found in
       let a6 = subst (λ (x : ℕ). At code place (take_event s.tree place x e2)) (some_place j2 j e2 e again) a5 in
@@ -279,7 +323,11 @@ receives_to found link i d p q h = go d.side (let e = eqb-true (link + 256 * 1) 
     go To e = refl
     go From e = absurd (omega (arith, e, p, q))
 
-module _ (s : Setup) (call : Call) (handle : ℕ → Conf → OperationResult) (given : ℕ → ℕ) (code : List Ir) (p : Progress) (c : Conf) (shows : ShowsCall s call p c) (none : p.pieces ≡ []) (bytes : AllBytes p.mem) (back : c.back ≡ None) (window : is_bad_window s call.input 40 ≡ false) (outside : is_bad_window s call.output 384 ≡ false) (tag : IsTag s.mac) (few : length s.ends ≤ 16) (links : FewLinks s.ends) (devices : HasDevices p.devices (declared_kind s.tree.decls) s.section.layout) (cost : ℕ) (does : HandlersDo s handle given code cost) (entry : call.entry ≡ 2) (search : ℕ) (at_search : At code search (search_code s.tree s.ends search)) where
+module _ (s : Setup) (call : Call) (handle : ℕ → Conf → OperationResult) (given : ℕ
+    → ℕ) (code : List Ir) (p : Progress) (c : Conf) (shows : ShowsCall s call p c) (none : p.pieces ≡ []) (bytes : AllBytes p.mem) (back : c.back ≡ None)
+    (window : is_bad_window s call.input in_window_size ≡ false) (outside : is_bad_window s call.output out_window_size ≡ false) (tag : IsTag s.mac) (few : length s.ends ≤ 16)
+    (links : FewLinks s.ends) (devices : HasDevices p.devices (declared_kind s.tree.decls) s.section.layout) (cost : ℕ) (does : HandlersDo s handle given code cost) (entry : call.entry ≡ 2)
+    (search : ℕ) (at_search : At code search (search_code s.tree s.ends search)) where
   room512 : 512 ≤ length c.priv
   room512 = omega (arith, shows.size)
 
@@ -297,7 +345,8 @@ module _ (s : Setup) (call : Call) (handle : ℕ → Conf → OperationResult) (
       let shows1 = copied_shows s call handle given code p c shows none bytes room512 window packet (place + 8) (omega (arith, len)) in
       let holds1 = holds_copied c.priv packet h (omega (arith, len, room512)) in
       let f18 : word c1.priv 18 ≡ field = holds_word c1.priv packet 2 refl (omega (arith, len)) holds1 in
-      let value : pure s c1.priv wanted_receiving [] ≡ Some (v ∷ []) = ap (λ (x : ℕ). Some ((bit_and x 255 + 256) % 65536 ∷ [])) f18 ∙ ap (λ (x : ℕ). Some ((x + 256) % 65536 ∷ [])) (lower field) ∙ ap (λ (x : ℕ). Some (x ∷ [])) (omega arith) in
+      let value : pure s c1.priv wanted_receiving [] ≡ Some (v ∷ []) = ap (λ (x : ℕ). Some ((bit_and x 255 + 256) % 65536 ∷ [])) f18 ∙ ap (λ (x : ℕ). Some ((x + 256) % 65536 ∷ [])) (lower field)
+      ∙ ap (λ (x : ℕ). Some (x ∷ [])) (omega arith) in
       let tail = ir.Store 72 ∷ ir.Jump search ∷ [] in
       let a2 = at_back code (place + 8) (place + 13) wanted_receiving tail (omega arith) a in
       let c2 = with_priv c1 (put_word c1.priv 72 v) search [] in
@@ -307,7 +356,8 @@ module _ (s : Setup) (call : Call) (handle : ℕ → Conf → OperationResult) (
       let here : word c2.priv 72 ≡ v = word-put_same c1.priv 72 v refl (omega (arith, size)) in
       let t = case_test (find_any found) v in
       let same : found_by t 0 s.ends ≡ end_found link To 0 s.ends = any_same found link To s.ends links (omega arith) in
-      runs_on s call handle given code r wanted_receiving c1 (place + 8) (place + 13) [] (v ∷ []) (cost + 2300) (cost + 2250) (at_front code (place + 8) wanted_receiving tail a) value (omega arith) (omega arith)
+      runs_on s call handle given code r wanted_receiving c1 (place + 8) (place + 13) [] (v ∷ []) (cost + 2300) (cost + 2250) (at_front code (place + 8) wanted_receiving tail a) value (omega arith)
+      (omega arith)
       (goes_on s call handle given code r (ir.Store 72) (at c1 (place + 13) (v ∷ [])) (at c2 (place + 13 + 1) []) (cost + 2250) (cost + 2240) a2.0 refl refl (omega arith)
       (goes_on s call handle given code r (ir.Jump search) (at c2 (place + 13 + 1) []) (at c2 search []) (cost + 2240) (cost + 2230) a2.1.0 refl refl (omega arith)
       (search_does s call handle given code p none few links r v c2 shows2 here (omega arith) search (cost + 2230) (cost + 1430) at_search (omega arith)
@@ -317,16 +367,20 @@ module _ (s : Setup) (call : Call) (handle : ℕ → Conf → OperationResult) (
       let key = key_place s.tree s.ends found in
       let a5 = found_at s.tree s.ends code search at_search in
       let a6 = both_at s.tree s.ends code search at_search in
-      runs_on s call handle given code r2 (ir.Saved 12 ∷ []) c3 (found + 1) (found + 1 + 1) [] (2 ∷ []) (cost + 1430) (cost + 1420) (a5.1.0, tt) (ap (λ (x : ℕ). Some (x ∷ [])) (shows3.entry ∙ entry)) refl (omega arith)
-      (goes_on s call handle given code r2 (ir.JumpZero key) (at c3 (found + 1 + 1) (2 ∷ [])) (at c3 (found + 3) []) (cost + 1420) (cost + 1400) a5.1.1.0 (ap (λ (x : ℕ). Goes (at c3 x [])) (omega arith)) refl (omega arith)
-      (found_does s call handle given code p none tag few links outside devices cost does packet j e t c3 (found + 3) len h (same_back ∙ back) shows3 (held packet (omega (arith, len)) holds2) index3 hit (λ i d p x. receives_to found link i d (omega arith) p x)
+      runs_on s call handle given code r2 (ir.Saved entry_register ∷ []) c3 (found + 1) (found + 1 + 1) [] (2 ∷ []) (cost + 1430) (cost + 1420) (a5.1.0, tt)
+      (ap (λ (x : ℕ). Some (x ∷ [])) (shows3.entry ∙ entry)) refl (omega arith)
+      (goes_on s call handle given code r2 (ir.JumpZero key) (at c3 (found + 1 + 1) (2 ∷ [])) (at c3 (found + 3) []) (cost + 1420) (cost + 1400) a5.1.1.0
+      (ap (λ (x : ℕ). Goes (at c3 x [])) (omega arith)) refl (omega arith)
+      (found_does s call handle given code p none tag few links outside devices cost does packet j e t c3 (found + 3) len h (same_back
+      ∙ back) shows3 (held packet (omega (arith, len)) holds2) index3 hit (λ i d p x. receives_to found link i d (omega arith) p x)
       (at_front code (found + 3) (input_found s.tree s.ends (found + 3)) (key_found s.ends key) a6)))))
       (λ miss. ap (λ (o : Option (ℕ × End)). input_at s call packet o p) (sym same ∙ miss)))))
 
   pub input_does : (place k : ℕ) → At code place (input_code search place) → cost + 2700 ≤ k
-      → Invokes s call handle given code (with_received s call 24 3 p (λ packet. input s call packet p)) k (at c place [])
+      → Invokes s call handle given code (with_received s call event_size event_kind p (λ packet. input s call packet p)) k (at c place [])
   input_does place k a le =
       let rest = wanted_receiving ++ ir.Store 72 ∷ ir.Jump search ∷ [] in
-      let tests = refuse_if (place + 1) (is_wrong_kind 3) 4 in
-      receive_does s call handle given code p c shows none bytes room512 window place 24 3 k (cost + 2300) (λ packet. input s call packet p) a.0 (at_front code (place + 1) tests rest a.1) refl (omega arith) (omega arith) (omega arith) (omega (arith, le))
+      let tests = refuse_if (place + 1) (is_wrong_kind event_kind) 4 in
+      receive_does s call handle given code p c shows none bytes room512 window place 24 3 k (cost + 2300) (λ packet. input s call packet p) a.0 (at_front code (place + 1) tests rest a.1) refl
+      (omega arith) (omega arith) (omega arith) (omega (arith, le))
       (λ packet len h. searches place packet len h (at_back code (place + 1) (place + 8) tests rest (omega arith) a.1))

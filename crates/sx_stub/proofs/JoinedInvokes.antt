@@ -51,7 +51,8 @@ module _ (s : Setup) (code : List Ir) (parts : List (ℕ × ℕ)) where
   begins_part place e call p c ready =
       let size = ready.shows.size in
       let priv = put_word c.priv 4 0 in
-      let shows = shows_priv s call p c priv place c.stack ready.shows (length-put_word c.priv 4 0) (AllBytes-put_word c.priv 4 0 (omega arith) ready.shows.bytes) (λ i kept. get-put_other c.priv 4 0 i refl (low i kept 4 (inl refl)) (low i kept 5 (inr refl))) in
+      let shows = shows_priv s call p c priv place c.stack ready.shows (length-put_word c.priv 4 0) (AllBytes-put_word c.priv 4 0 (omega arith) ready.shows.bytes)
+      (λ i kept. get-put_other c.priv 4 0 i refl (low i kept 4 (inl refl)) (low i kept 5 (inr refl))) in
       record {
         represents = record {
           size = shows.size;
@@ -84,7 +85,20 @@ module _ (s : Setup) (code : List Ir) (parts : List (ℕ × ℕ)) where
   stops call (Going p) c t x =
       let t2 = record t { place = c.place + 1; back = None } in
       let r = x.0 in
-      let represents : Represents s call p t2 = record { size = r.size; bytes = r.bytes; state = r.state; mem = r.mem; devices = r.devices; marks = r.marks; count = r.count; entry = r.entry; input = r.input; output = r.output; back = r.back } in
+      let represents : Represents s call p t2 = record {
+        size = r.size;
+        bytes = r.bytes;
+        state = r.state;
+        mem = r.mem;
+        devices = r.devices;
+        marks = r.marks;
+        count = r.count;
+        entry = r.entry;
+        input =
+            r.input;
+        output = r.output;
+        back = r.back;
+      } in
       goes s handle no_count code (CourseBreaks (Going p)) (IsDone s call (Going p) c) ir.Stop t t2 8 0 x.1.0 (ap (stop t) x.1.2) refl (omega arith)
       (Here (represents, (refl, x.1.1, refl)))
   stops call (Broken v p) c t x = absurd x
@@ -98,7 +112,8 @@ module _ (s : Setup) (code : List Ir) (parts : List (ℕ × ℕ)) where
       let done = IsDone s call course c in
       let begins : do_op s handle (ir.Handler h) c ≡ Goes begun = parts_begin parts h place end (record c { priv = priv }) there in
       goes s handle no_count code (CourseBreaks course) done (ir.Handler h) c begun (16 + n) (8 + n) at_handler begins refl (omega arith)
-      (and_then Conf Halt (op_step s handle code) (op_count no_count code) (λ c. Unit {0}) (OnViolation (CourseBreaks course)) (IsStopped call course (c.place + 1)) done n 8 (8 + n) begun (omega arith)
+      (and_then Conf Halt (op_step s handle code) (op_count no_count code) (λ c. Unit {0}) (OnViolation (CourseBreaks course)) (IsStopped call course (c.place + 1)) done n 8 (8 + n) begun
+      (omega arith)
       (does call p begun refl (begins_part place e call p c ready)) (λ t x. stops call course c t x))
 
 pub joined_invokes : JoinedInvokes

@@ -13,7 +13,8 @@ use Rattle.sx_ir.specs.declared.ir.Ir.{Ir}
 use Rattle.sx_ir.specs.declared.ir.Ir.TheVariants as ir
 use Rattle.sx_ir.specs.declared.ir.IrOp.TheVariants as op
 use Rattle.sx_mean.specs.Handlers.{number_of}
-use Rattle.sx_stub.specs.Stub.{Cases, case_of, cases, find_any, handled_by, input_found, key_found, key_place, found_code, open_any, returns, sample_code, set_key_code, attest_code, input_code, search_code, stub_code, stub_ops, take_receiving}
+use Rattle.sx_stub.specs.Stub.{Cases, case_of, cases, find_any, handled_by, input_found, key_found, key_place, found_code, open_any, returns, sample_code}
+use Rattle.sx_stub.specs.Stub.{set_key_code, attest_code, input_code, search_code, stub_code, stub_ops, take_receiving}
 use Rattle.std.specs.List.{list_all}
 use Rattle.sx_stub.specs.Sound.{AreSound, is_plain}
 use Rattle.sx_stub.specs.Weight.{FitsWeight}
@@ -32,7 +33,8 @@ cases_within cs n f place k (e ∷ es) =
     let c = cases_within cs n f (place + length first) (k + 1) es in
     omega (arith, a, b, c)
   where
-    one : (b : Bool) → length (if b then ir.Load cs.offset ∷ ir.Push (cs.number k e) ∷ ir.Op op.Sub ∷ ir.JumpZero (place + 5) ∷ ir.Jump (place + 5 + length (cs.body (place + 5) k e)) ∷ cs.body (place + 5) k e else []) ≤ 5 + n
+    one : (b : Bool) → length (if b then ir.Load cs.offset ∷ ir.Push (cs.number k e) ∷ ir.Op op.Sub ∷ ir.JumpZero (place + 5) ∷ ir.Jump (place + 5 + length (cs.body (place + 5) k e)) ∷ cs.body
+        (place + 5) k e else []) ≤ 5 + n
     one true = let h = f (place + 5) k e in omega (arith, h)
     one false = omega arith
 

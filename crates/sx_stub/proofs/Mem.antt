@@ -29,7 +29,8 @@ pub get-put_low : (m : List ℕ) (a v : ℕ) → a % 2 ≡ 0 → a < length m �
 get-put_low m a v e p = let ne : a ≢ a + 1 = omega arith in ap (λ (l : List ℕ). get_or l a 0) (put_even m a v e) ∙ rw (get_or-set_other, get_or-set_same) refl
 
 pub get-put_high : (m : List ℕ) (a v : ℕ) → a % 2 ≡ 0 → a + 1 < length m → get_or (put_word m a v) (a + 1) 0 ≡ v / 256
-get-put_high m a v e p = let le = length-set m a (v % 256) in let q : a + 1 < length (set m a (v % 256)) = omega arith in ap (λ (l : List ℕ). get_or l (a + 1) 0) (put_even m a v e) ∙ rw get_or-set_same refl
+get-put_high m a v e p = let le = length-set m a (v % 256) in let q : a + 1 < length (set m a (v % 256)) = omega arith in
+    ap (λ (l : List ℕ). get_or l (a + 1) 0) (put_even m a v e) ∙ rw get_or-set_same refl
 
 pub word-put_same : (m : List ℕ) (a v : ℕ) → a % 2 ≡ 0 → a + 1 < length m → word (put_word m a v) a ≡ v
 word-put_same m a v e p =

@@ -1,5 +1,6 @@
 -- A copied packet in the private section: its words and parts, and what is opened of it.
-use Rattle.std.proofs.Common.{◌≡◌, ◌≢◌, ℕ, zero, suc, ◌+◌, ◌-◌, ◌*◌, ◌/◌, ◌%◌, ◌<◌, ◌≤◌, ◌⊎◌, inl, inr, Bool, true, false, ◌==◌, List, [], ◌∷◌, ◌++◌, length, get_or, take, drop, Option, Some, None, refl, sym, ap, ◌∙◌, arith, ⊎_elim}
+use Rattle.std.proofs.Common.{◌≡◌, ◌≢◌, ℕ, zero, suc, ◌+◌, ◌-◌, ◌*◌, ◌/◌, ◌%◌, ◌<◌, ◌≤◌, ◌⊎◌, inl, inr, Bool, true, false, ◌==◌, List, [], ◌∷◌, ◌++◌, length}
+use Rattle.std.proofs.Common.{get_or, take, drop, Option, Some, None, refl, sym, ap, ◌∙◌, arith, ⊎_elim}
 use Rattle.std.specs.Prelude.{if◌then◌else◌, bytes_eq, bit_and, nat_lt, replicate}
 use Rattle.std.proofs.lemmas.List.{length-append, length-take, length-drop, get_or-take, get_or-drop, ext_get_or, length-replicate, get_or_append_left}
 use Rattle.std.proofs.Math.Seq.{get_or-append_seam}
@@ -11,6 +12,7 @@ use Rattle.std.proofs.lemmas.Nat.{and_mask, xor_of_8}
 use Rattle.sx_tag.specs.Mac.{Mac, IsTag}
 use Rattle.sx_tag.specs.Wrap.{crypt, wrap_tag, unwrapped, padded, stream, xor_bytes}
 use Rattle.sx_machine.specs.Memory.{word, put_word, bytes_from, put_bytes}
+use Rattle.sx_invoke.proofs.PiecesMarked.{xor_length}
 use Rattle.sx_stub.proofs.Mem.{AllBytes, word_even, length-bytes_from, get-put_other, get-put_bytes_other, get-put_bytes_in}
 
 -- the packet stands at offset 16
@@ -85,11 +87,6 @@ upper_eq a b = go (eqb_tells (a * 256) (b * 256)) (eqb_tells a b)
 
 -- what is opened has 32 bytes
 
-xor_length : (xs ys : List ℕ) → length xs ≤ length ys → length (xor_bytes xs ys) ≡ length xs
-xor_length [] ys le = refl
-xor_length (x ∷ xs) [] le = absurd (omega (arith, le))
-xor_length (x ∷ xs) (y ∷ ys) le = let e = xor_length xs ys (omega (arith, le)) in omega (arith, e)
-
 xor_are_bytes : (xs ys : List ℕ) → AllBytes xs → AllBytes ys → AllBytes (xor_bytes xs ys)
 xor_are_bytes [] ys h g k d lt = absurd (omega (arith, lt))
 xor_are_bytes (x ∷ xs) [] h g k d lt = absurd (omega (arith, lt))
@@ -116,5 +113,8 @@ opened_body mac key ad cipher tag t le h = go (bytes_eq tag (wrap_tag mac key ad
         let w = t.width key (0x53 ∷ length ad ∷ (ad ++ 0 ∷ [])) in
         let e = xor_length cipher (stream mac key ad) (omega (arith, w, le)) in
         let l = length-append (xor_bytes cipher (stream mac key ad)) (replicate (32 - length (xor_bytes cipher (stream mac key ad))) 0) in
-        let r = length-replicate {A = ℕ} (32 - length (xor_bytes cipher (stream mac key ad))) 0 in
-        (omega (arith, e, l, r, le), All-append (λ (b : ℕ). b < 256) (xor_bytes cipher (stream mac key ad)) (replicate (32 - length (xor_bytes cipher (stream mac key ad))) 0) (xor_are_bytes cipher (stream mac key ad) h (t.bytes key (0x53 ∷ length ad ∷ (ad ++ 0 ∷ [])))) (zeros (32 - length (xor_bytes cipher (stream mac key ad)))))
+        let r = length-replicate {A = ℕ} (32 - length (xor_bytes cipher (stream mac key ad))) 0 in (
+          omega (arith, e, l, r, le),
+          All-append (λ (b : ℕ). b < 256) (xor_bytes cipher (stream mac key ad)) (replicate (32 - length (xor_bytes cipher (stream mac key ad))) 0)
+              (xor_are_bytes cipher (stream mac key ad) h (t.bytes key (0x53 ∷ length ad ∷ (ad ++ 0 ∷ [])))) (zeros (32 - length (xor_bytes cipher (stream mac key ad)))),
+        )

@@ -1,5 +1,6 @@
 -- A packet is copied from the in-window, and tried for its kind.
-use Rattle.std.proofs.Common.{◌≡◌, ◌≢◌, ℕ, zero, suc, ◌+◌, ◌-◌, ◌*◌, ◌%◌, ◌<◌, ◌≤◌, ◌⊎◌, inl, inr, Bool, true, false, ◌&&◌, not, ◌==◌, List, [], ◌∷◌, length, get_or, Option, Some, None, Result, Ok, Err, refl, sym, ap, ◌∙◌, subst, arith}
+use Rattle.std.proofs.Common.{◌≡◌, ◌≢◌, ℕ, zero, suc, ◌+◌, ◌-◌, ◌*◌, ◌%◌, ◌<◌, ◌≤◌, ◌⊎◌, inl, inr, Bool, true, false, ◌&&◌, not, ◌==◌, List, [], ◌∷◌, length}
+use Rattle.std.proofs.Common.{get_or, Option, Some, None, Result, Ok, Err, refl, sym, ap, ◌∙◌, subst, arith}
 use Rattle.std.specs.Prelude.{slice_get, slice_index, if◌then◌else◌, nat_le}
 use Rattle.std.proofs.lemmas.Bool.{true≢false}
 use Rattle.std.proofs.lemmas.Bool.Decides.{eqb_tells}
@@ -11,6 +12,8 @@ use Rattle.sx_rules.specs.Access.{may}
 use Rattle.sx_bus.specs.declared.devices.Window.{Window}
 use Rattle.sx_bus.specs.Devices.{device_at}
 use Rattle.sx_machine.specs.Memory.{word, put_bytes}
+use Rattle.sx_invoke.specs.Protocol.{input_register, other_kind}
+use Rattle.sx_invoke.specs.Windows.{in_window_size}
 use Rattle.sx_invoke.specs.Setup.{Setup, Call}
 use Rattle.sx_invoke.specs.Windows.{is_bad_window, read_byte, read_bytes, then_, unless_device}
 use Rattle.sx_invoke.specs.Progress.{Progress, Invoked, Returns, Violates}
@@ -92,14 +95,17 @@ pub good_window : (b : Bool) → b ≡ false → not b ≡ true
 good_window true e = absurd (true≢false e)
 good_window false e = refl
 
-module _ (s : Setup) (call : Call) (handle : ℕ → Conf → OperationResult) (given : ℕ → ℕ) (code : List Ir) (p : Progress) (c : Conf) (shows : ShowsCall s call p c) (none : p.pieces ≡ []) (bytes : AllBytes p.mem) (room : 512 ≤ length c.priv) (window : is_bad_window s call.input 40 ≡ false) where
+module _ (s : Setup) (call : Call) (handle : ℕ → Conf → OperationResult) (given : ℕ
+    → ℕ) (code : List Ir) (p : Progress) (c : Conf) (shows : ShowsCall s call p c) (none : p.pieces ≡ []) (bytes : AllBytes p.mem) (room : 512 ≤ length c.priv)
+    (window : is_bad_window s call.input in_window_size ≡ false) where
   -- the copy is done or refused as the protocol says
   copies : (place n : ℕ) → nat_le n 40 ≡ true
       → do_op s handle (ir.CopyIn n 16) (at c place []) ≡ copied_in (at c place []) 16 (read_bytes s p.devices p.mem call.input n)
   copies place n le =
-      let ok : not (is_bad_window s (saved c 13) 40) ≡ true = ap (λ (x : ℕ). not (is_bad_window s x 40)) shows.input ∙ good_window (is_bad_window s call.input 40) window in
-      ap (λ (b : Bool). when (b && nat_le n 40) (copied_in (at c place []) 16 (read_bytes s c.devices c.mem (saved c 13) n))) ok
-      ∙ ap (λ (b : Bool). when b (copied_in (at c place []) 16 (read_bytes s c.devices c.mem (saved c 13) n))) le
+      let ok : not (is_bad_window s (saved c input_register) 40) ≡ true = ap (λ (x : ℕ). not (is_bad_window s x in_window_size)) shows.input
+      ∙ good_window (is_bad_window s call.input in_window_size) window in
+      ap (λ (b : Bool). when (b && nat_le n 40) (copied_in (at c place []) 16 (read_bytes s c.devices c.mem (saved c input_register) n))) ok
+      ∙ ap (λ (b : Bool). when b (copied_in (at c place []) 16 (read_bytes s c.devices c.mem (saved c input_register) n))) le
       ∙ ap (λ (x : ℕ). copied_in (at c place []) 16 (read_bytes s c.devices c.mem x n)) shows.input
       ∙ ap (λ (x : List ℕ). copied_in (at c place []) 16 (read_bytes s c.devices x call.input n)) shows.mem
       ∙ ap (λ (x : List Window). copied_in (at c place []) 16 (read_bytes s x p.mem call.input n)) shows.devices
@@ -107,7 +113,8 @@ module _ (s : Setup) (call : Call) (handle : ℕ → Conf → OperationResult) (
   pub copied_shows : (packet : List ℕ) (q : ℕ) → length packet ≤ 40
       → ShowsCall s call p (with_priv c (put_bytes c.priv 16 packet) q [])
   copied_shows packet q le =
-      shows_priv s call p c (put_bytes c.priv 16 packet) q [] shows (length-put_bytes c.priv 16 packet) (AllBytes-put_bytes c.priv 16 packet shows.bytes) (λ i k. get-put_bytes_other c.priv 16 packet i (apart i k))
+      shows_priv s call p c (put_bytes c.priv 16 packet) q [] shows (length-put_bytes c.priv 16 packet) (AllBytes-put_bytes c.priv 16 packet shows.bytes)
+      (λ i k. get-put_bytes_other c.priv 16 packet i (apart i k))
     where
       apart : (i : ℕ) → IsKept i → (i < 16) ⊎ (16 + length packet ≤ i)
       apart i (inl k) = inl (omega (arith, k.1))
@@ -147,10 +154,12 @@ module _ (s : Setup) (call : Call) (handle : ℕ → Conf → OperationResult) (
       go (Err v) q e =
           breaks s call handle given code (Violates v p) (ir.CopyIn n 16) (at c place []) v c.marks k copy e refl (omega (arith, le)) (refl, sym shows.marks)
       go (Ok packet) q e =
-          let result = if is_kind kind packet then rest packet else Returns 4 p in
+          let result = if is_kind kind packet then rest packet else Returns other_kind p in
           let c2 = with_priv c (put_bytes c.priv 16 packet) (place + 1) [] in
           goes_on s call handle given code result (ir.CopyIn n 16) (at c place []) c2 k (84 + m) copy e refl (omega (arith, le))
-          (subst (λ (x : Invoked). Invokes s call handle given code x (84 + m) c2) (sym (if_not (is_kind kind packet) (rest packet) (Returns 4 p)))
-          (refuse_zero s call handle given code (not (is_kind kind packet)) (is_wrong_kind kind) 4 ((word packet 0 + (65536 - kind)) % 65536) c2 (place + 1) (place + 8) (84 + m) m [] (rest packet) p test
-          (wrong_kind packet kind q.1 (omega (arith, lo, q.0)) (omega (arith, hi, q.0))) (zero_kind packet kind q.1 lt) (copied_shows packet (place + 1) (omega (arith, hi, q.0))) none (omega arith) (omega arith)
+          (subst (λ (x : Invoked). Invokes s call handle given code x (84 + m) c2) (sym (if_not (is_kind kind packet) (rest packet) (Returns other_kind p)))
+          (refuse_zero s call handle given code (not (is_kind kind packet)) (is_wrong_kind kind) 4 ((word packet 0 + (65536 - kind)) % 65536) c2 (place + 1) (place + 8) (84 + m) m []
+          (rest packet) p test
+          (wrong_kind packet kind q.1 (omega (arith, lo, q.0)) (omega (arith, hi, q.0))) (zero_kind packet kind q.1 lt) (copied_shows packet (place + 1) (omega (arith, hi, q.0))) none (omega arith)
+          (omega arith)
           (λ x. rest_does packet q.0 q.1)))

@@ -101,7 +101,8 @@ module _ (s : Setup) (call : Call) (handle : ℕ → Conf → OperationResult) (
 pub sub_zero : (a b : ℕ) → a < 65536 → b < 65536 → ((a + (65536 - b)) % 65536 == 0) ≡ (a == b)
 sub_zero a b p q = go (eqb_tells ((a + (65536 - b)) % 65536) 0) (eqb_tells a b)
   where
-    go : (((a + (65536 - b)) % 65536 == 0) ≡ true × ((a + (65536 - b)) % 65536 ≡ 0)) ⊎ (((a + (65536 - b)) % 65536 == 0) ≡ false × ((a + (65536 - b)) % 65536 ≢ 0)) → ((a == b) ≡ true × (a ≡ b)) ⊎ ((a == b) ≡ false × (a ≢ b)) → ((a + (65536 - b)) % 65536 == 0) ≡ (a == b)
+    go : (((a + (65536 - b)) % 65536 == 0) ≡ true × ((a + (65536 - b)) % 65536 ≡ 0)) ⊎ (((a + (65536 - b)) % 65536 == 0) ≡ false × ((a + (65536 - b)) % 65536 ≢ 0))
+        → ((a == b) ≡ true × (a ≡ b)) ⊎ ((a == b) ≡ false × (a ≢ b)) → ((a + (65536 - b)) % 65536 == 0) ≡ (a == b)
     go (inl x) (inl y) = x.0 ∙ sym y.0
     go (inl x) (inr y) = absurd (y.1 (omega (arith, x.1, p, q)))
     go (inr x) (inl y) = absurd (x.1 (omega (arith, y.1, p, q)))

@@ -14,6 +14,8 @@ use Rattle.sx_bus.specs.declared.devices.Window.{Window}
 use Rattle.sx_bus.specs.Devices.{device_at, cleared, with_changed, stale, on_word, HaveSamples}
 use Rattle.sx_machine.specs.Memory.{word, put_word}
 use Rattle.sx_machine.specs.Run.{device_of, found, with_window}
+use Rattle.sx_invoke.specs.Protocol.{no_sample}
+use Rattle.sx_invoke.specs.Windows.{out_window_size}
 use Rattle.sx_invoke.specs.Setup.{Setup, Call}
 use Rattle.sx_invoke.specs.Marks as mark
 use Rattle.sx_invoke.specs.Marks.{Mark}
@@ -92,7 +94,10 @@ device_cleared ws a d w h =
     let q = device_parts ws a d w h in
     ap (found (cleared ws d)) (position_cleared a ws 0 d ∙ q.0) ∙ ap (with_window d) (slice_cleared ws d w q.1)
 
-module _ (s : Setup) (call : Call) (handle : ℕ → Conf → OperationResult) (given : ℕ → ℕ) (code : List Ir) (p : Progress) (c : Conf) (shows : ShowsCall s call p c) (none : p.pieces ≡ []) (back : c.back ≡ None) (outside : is_bad_window s call.output 384 ≡ false) (sensor : declared_kind s.tree.decls ≡ Some Sensor) (drives : Drives p.devices kind.Sensor s.section.layout) (samples : HaveSamples p.devices) (cost : ℕ) (does : HandlersDo s handle given code cost) where
+module _ (s : Setup) (call : Call) (handle : ℕ → Conf → OperationResult) (given : ℕ
+    → ℕ) (code : List Ir) (p : Progress) (c : Conf) (shows : ShowsCall s call p c) (none : p.pieces ≡ []) (back : c.back ≡ None) (outside : is_bad_window s call.output out_window_size ≡ false)
+    (sensor : declared_kind s.tree.decls ≡ Some Sensor) (drives : Drives p.devices kind.Sensor s.section.layout) (samples : HaveSamples p.devices) (cost : ℕ)
+    (does : HandlersDo s handle given code cost) where
   abbrev dev : ℕ
   dev = drives.device
 
@@ -108,7 +113,8 @@ module _ (s : Setup) (call : Call) (handle : ℕ → Conf → OperationResult) (
 
   event_word : (p : Progress) (c : Conf) (v q : ℕ) → ShowsCall s call p c → v < 65536
       → ShowsCall s call p (with_priv c (put_word c.priv 2 v) q [])
-  event_word p c v q h lt = shows_priv s call p c (put_word c.priv 2 v) q [] h (length-put_word c.priv 2 v) (AllBytes-put_word c.priv 2 v lt h.bytes) (λ i kept. get-put_other c.priv 2 v i refl (low i kept 2 (omega arith)) (low i kept 3 (omega arith)))
+  event_word p c v q h lt = shows_priv s call p c (put_word c.priv 2 v) q [] h (length-put_word c.priv 2 v) (AllBytes-put_word c.priv 2 v lt h.bytes)
+      (λ i kept. get-put_other c.priv 2 v i refl (low i kept 2 (omega arith)) (low i kept 3 (omega arith)))
 
   senses : (place : ℕ) → do_op s handle ir.Sense (at c place []) ≡ sensor_read (at c place []) dev win kind.Sensor
   senses place =
@@ -137,25 +143,41 @@ module _ (s : Setup) (call : Call) (handle : ℕ → Conf → OperationResult) (
           → do_op s handle ir.Sense (at c place []) ≡ sensor_read (at c place []) dev win kind.Sensor
           → Invokes s call handle given code (sample_of s call (Some (dev, win)) p) k (at c place [])
       by_fresh false f d =
-          let r = Returns 8 p in
+          let r = Returns no_sample p in
           let c1 = with_priv c (put_word c.priv 2 0) (place + 2) [] in
           let size = shows.size in
           let shows1 = event_word p c 0 (place + 2) shows (omega arith) in
           let e : word c1.priv 2 ≡ 0 = word-put_same c.priv 2 0 refl (omega (arith, size)) in
-          subst (λ (b : Bool). Invokes s call handle given code (if b then finished (handled s call (event.Sample win.value) (sample_read (dev, win) p)) else Returns 8 p) k (at c place [])) (sym f)
+          subst (λ (b : Bool). Invokes s call handle given code (if b then finished (handled s call (event.Sample win.value) (sample_read (dev, win) p)) else Returns no_sample p) k (at c place []))
+          (sym f)
           (goes_on s call handle given code r ir.Sense (at c place []) (at c (place + 1) (0 ∷ [])) k (cost + 290) a.0
-          (d ∙ ap (λ (b : Bool). if b then pushed (record (at c place []) { devices = cleared c.devices dev; marks = c.marks ++ mark.Sampled dev win.value ∷ [] }) (0x8000 + win.value) else pushed (at c place []) 0) f) refl (omega (arith, le))
+          (d ∙ ap (λ (b : Bool). if b then pushed (record (at c place []) { devices = cleared c.devices dev; marks = c.marks ++ mark.Sampled dev win.value ∷ [] }) (0x8000 + win.value) else pushed
+          (at c place []) 0) f) refl (omega (arith, le))
           (goes_on s call handle given code r (ir.Store 2) (at c (place + 1) (0 ∷ [])) (at c1 (place + 1 + 1) []) (cost + 290) (cost + 280) a.1.0 refl refl (omega arith)
           (subst (λ (x : ℕ). Invokes s call handle given code r (cost + 280) (at c1 x [])) (omega arith)
           (refuse_does s call handle given code true is_stale_code 8 (truth (word c1.priv 2 == 0)) c1 (place + 2) (place + 9) (cost + 280) (cost + 100) [] r p
-          (at_front code (place + 2) (refuse_if (place + 2) is_stale_code 8) (sampled_code s.tree) (subst (λ (x : ℕ). At code x (refuse_if (place + 2) is_stale_code 8 ++ sampled_code s.tree)) (omega arith) a.1.1)) refl (ap (λ (x : ℕ). truth (x == 0)) e) shows1 none (omega arith) (omega arith) (λ x. absurd (true≢false x))))))
+          (at_front code (place + 2) (refuse_if (place + 2) is_stale_code 8) (sampled_code s.tree) (subst (λ (x : ℕ). At code x (refuse_if (place + 2) is_stale_code 8 ++ sampled_code s.tree))
+          (omega arith) a.1.1)) refl (ap (λ (x : ℕ). truth (x == 0)) e) shows1 none (omega arith) (omega arith) (λ x. absurd (true≢false x))))))
       by_fresh true f d =
           let v = win.value in
           let p1 = sample_read (dev, win) p in
           let r = finished (handled s call (event.Sample v) p1) in
           let m = mark.Sampled dev v in
           let c0 = record c { devices = cleared c.devices dev; marks = c.marks ++ m ∷ [] } in
-          let shows0 : ShowsCall s call p1 c0 = record { size = shows.size; bytes = shows.bytes; state = shows.state; mem = shows.mem; devices = ap (λ (x : List Window). cleared x dev) shows.devices; marks = ap (λ (x : List Mark). x ++ m ∷ []) shows.marks; entry = shows.entry; input = shows.input; output = shows.output; back = shows.back } in
+          let shows0 : ShowsCall s call p1 c0 = record {
+            size = shows.size;
+            bytes = shows.bytes;
+            state = shows.state;
+            mem = shows.mem;
+            devices = ap
+                (λ (x : List Window). cleared x dev) shows.devices;
+            marks = ap (λ (x : List Mark). x ++ m ∷ []) shows.marks;
+            entry = shows.entry;
+            input = shows.input;
+            output = shows.output;
+            back =
+                shows.back;
+          } in
           let c1 = with_priv c0 (put_word c0.priv 2 (0x8000 + v)) (place + 2) [] in
           let size = shows.size in
           let shows1 = event_word p1 c0 (0x8000 + v) (place + 2) shows0 (omega (arith, small)) in
@@ -166,17 +188,31 @@ module _ (s : Setup) (call : Call) (handle : ℕ → Conf → OperationResult) (
           let all = sampled_code s.tree in
           let a2 : At code (place + 2) (refuse_if (place + 2) is_stale_code 8 ++ all) = subst (λ (x : ℕ). At code x (refuse_if (place + 2) is_stale_code 8 ++ all)) (omega arith) a.1.1 in
           let a3 = at_back code (place + 2) (place + 9) (refuse_if (place + 2) is_stale_code 8) all (omega arith) a2 in
-          let ready : Ready s call (event.Sample v) p1 c2 = record { shows = shows2; value = word-put_same c1.priv 2 v refl (omega (arith, size1)); pieces = none; stack = refl; back = back; window = outside; devices = still } in
-          subst (λ (b : Bool). Invokes s call handle given code (if b then finished (handled s call (event.Sample win.value) (sample_read (dev, win) p)) else Returns 8 p) k (at c place [])) (sym f)
+          let ready : Ready s call (event.Sample v) p1 c2 = record {
+            shows = shows2;
+            value = word-put_same c1.priv 2 v refl (omega (arith, size1));
+            pieces = none;
+            stack = refl;
+            back = back;
+            window =
+                outside;
+            devices = still;
+          } in
+          subst (λ (b : Bool). Invokes s call handle given code (if b then finished (handled s call (event.Sample win.value) (sample_read (dev, win) p)) else Returns no_sample p) k (at c place []))
+          (sym f)
           (goes_on s call handle given code r ir.Sense (at c place []) (at c0 (place + 1) ((0x8000 + v) ∷ [])) k (cost + 290) a.0
-          (d ∙ ap (λ (b : Bool). if b then pushed (record (at c place []) { devices = cleared c.devices dev; marks = c.marks ++ mark.Sampled dev win.value ∷ [] }) (0x8000 + win.value) else pushed (at c place []) 0) f) refl (omega (arith, le))
+          (d ∙ ap (λ (b : Bool). if b then pushed (record (at c place []) { devices = cleared c.devices dev; marks = c.marks ++ mark.Sampled dev win.value ∷ [] }) (0x8000 + win.value) else pushed
+          (at c place []) 0) f) refl (omega (arith, le))
           (goes_on s call handle given code r (ir.Store 2) (at c0 (place + 1) ((0x8000 + v) ∷ [])) (at c1 (place + 1 + 1) []) (cost + 290) (cost + 280) a.1.0 refl refl (omega arith)
           (subst (λ (x : ℕ). Invokes s call handle given code r (cost + 280) (at c1 x [])) (omega arith)
           (refuse_does s call handle given code false is_stale_code 8 (truth (word c1.priv 2 == 0)) c1 (place + 2) (place + 9) (cost + 280) (cost + 100) [] r p1
-          (at_front code (place + 2) (refuse_if (place + 2) is_stale_code 8) all a2) refl (ap (λ (x : ℕ). truth (x == 0)) e ∙ ap truth (ne_eqb (0x8000 + v) 0 (omega arith))) shows1 none (omega arith) (omega arith)
+          (at_front code (place + 2) (refuse_if (place + 2) is_stale_code 8) all a2) refl (ap (λ (x : ℕ). truth (x == 0)) e
+          ∙ ap truth (ne_eqb (0x8000 + v) 0 (omega arith))) shows1 none (omega arith) (omega arith)
           (λ x. runs_on s call handle given code r (ir.Load 2 ∷ ir.Push 0x8000 ∷ ir.Op op.Sub ∷ []) c1 (place + 9) (place + 12) [] (v ∷ []) (cost + 100) (cost + 70) (a3.0, (a3.1.0, (a3.1.1.0, tt)))
           (ap (λ (x : ℕ). Some ((x + (65536 - 0x8000)) % 65536 ∷ [])) e ∙ ap (λ (x : ℕ). Some (x ∷ [])) (omega (arith, small))) (omega arith) (omega arith)
-          (goes_on s call handle given code r (ir.Store 2) (at c1 (place + 12) (v ∷ [])) (at c2 (place + 12 + 1) []) (cost + 70) (cost + 60) (ap (slice_get code) (omega arith) ∙ a3.1.1.1.0) refl refl (omega arith)
+          (goes_on s call handle given code r (ir.Store 2) (at c1 (place + 12) (v ∷ [])) (at c2 (place + 12 + 1) []) (cost + 70) (cost + 60) (ap (slice_get code) (omega arith)
+          ∙ a3.1.1.1.0) refl refl (omega arith)
           (subst (λ (x : ℕ). Invokes s call handle given code r (cost + 60) (at c2 x [])) (omega arith)
           (within s call handle given code r (cost + 60) (cost + 16) (at c2 (place + 13) []) (omega arith)
-          (handles s call handle given code (event.Sample v) p1 c2 (place + 13) cost ready (λ x n. does (event.Sample v) x n) (subst (λ (x : ℕ). At code x (handled_by (number_of s.tree (event.Sample v)))) (omega arith) a3.1.1.1.1))))))))))
+          (handles s call handle given code (event.Sample v) p1 c2 (place + 13) cost ready (λ x n. does (event.Sample v) x n)
+          (subst (λ (x : ℕ). At code x (handled_by (number_of s.tree (event.Sample v)))) (omega arith) a3.1.1.1.1))))))))))

@@ -3,6 +3,7 @@ use Rattle.std.proofs.Common.{◌≡◌, ◌≢◌, ℕ, ◌+◌, ◌*◌, ◌%�
 use Rattle.sx_lang.specs.Tree.{ModuleTree}
 use Rattle.sx_mean.specs.declared.events.End.{End}
 use Rattle.sx_machine.specs.Memory.{word, put_word}
+use Rattle.sx_invoke.specs.Protocol.{no_end}
 use Rattle.sx_invoke.specs.Setup.{Setup, Call}
 use Rattle.sx_invoke.specs.Progress.{Progress, Invoked, Returns}
 use Rattle.sx_ir.specs.Conf.{Conf}
@@ -34,7 +35,8 @@ pub shows_kept_word : (s : Setup) (call : Call) (p : Progress) (c : Conf) (a v q
     → ShowsCall s call p c → a % 2 ≡ 0 → 14 ≤ a → a + 1 < 512 → v < 65536
     → ShowsCall s call p (with_priv c (put_word c.priv a v) q stack)
 shows_kept_word s call p c a v q stack h e lo hi small =
-    shows_priv s call p c (put_word c.priv a v) q stack h (length-put_word c.priv a v) (AllBytes-put_word c.priv a v small h.bytes) (λ i kept. get-put_other c.priv a v i e (ne i kept 0 a (omega arith) (omega arith)) (ne i kept 1 (a + 1) refl (omega arith)))
+    shows_priv s call p c (put_word c.priv a v) q stack h (length-put_word c.priv a v) (AllBytes-put_word c.priv a v small h.bytes)
+    (λ i kept. get-put_other c.priv a v i e (ne i kept 0 a (omega arith) (omega arith)) (ne i kept 1 (a + 1) refl (omega arith)))
   where
     ne : (i : ℕ) → IsKept i → (d b : ℕ) → b ≡ a + d → d < 2 → i ≢ b
     ne i (inl k) d b e lt = omega (arith, k.1, e, lo)
@@ -66,14 +68,16 @@ key_at tree ends code q a =
     let found = q + 7 * length ends + 3 in
     at_back code (found + 3) (key_place tree ends found) (input_found tree ends (found + 3)) (key_found ends (key_place tree ends found)) refl (both_at tree ends code q a)
 
-module _ (s : Setup) (call : Call) (handle : ℕ → Conf → OperationResult) (given : ℕ → ℕ) (code : List Ir) (p : Progress) (none : p.pieces ≡ []) (few : length s.ends ≤ 16) (links : FewLinks s.ends) where
+module _ (s : Setup) (call : Call) (handle : ℕ → Conf → OperationResult) (given : ℕ
+    → ℕ) (code : List Ir) (p : Progress) (none : p.pieces ≡ []) (few : length s.ends ≤ 16) (links : FewLinks s.ends) where
   -- the end that is looked for is found, and its index kept; or it is refused
   pub search_does : (r : Invoked) (v : ℕ) (c : Conf) → ShowsCall s call p c → word c.priv 72 ≡ v → v < 65536 → (q n m : ℕ)
       → At code q (search_code s.tree s.ends q) → 700 + m ≤ n
-      → ((j : ℕ) (e : End) → found_by (case_test (find_any (q + 7 * length s.ends + 3)) v) 0 s.ends ≡ Some (j, e) → j < length s.ends → (c3 : Conf) → ShowsCall s call p c3 → c3.back ≡ c.back → word c3.priv 74 ≡ 12 * j
+      → ((j : ℕ) (e : End) → found_by (case_test (find_any (q + 7 * length s.ends + 3)) v) 0 s.ends ≡ Some (j, e) → j < length s.ends → (c3 : Conf) → ShowsCall s call p c3 → c3.back ≡ c.back
+      → word c3.priv 74 ≡ 12 * j
       → ((packet : List ℕ) → 16 + length packet ≤ 74 → Holds c.priv packet → Holds c3.priv packet)
       → Invokes s call handle given code r m (at c3 (q + 7 * length s.ends + 3 + 1) []))
-      → (found_by (case_test (find_any (q + 7 * length s.ends + 3)) v) 0 s.ends ≡ None → r ≡ Returns 5 p)
+      → (found_by (case_test (find_any (q + 7 * length s.ends + 3)) v) 0 s.ends ≡ None → r ≡ Returns no_end p)
       → Invokes s call handle given code r n (at c q [])
   search_does r v c shows here small q n m a le hit miss =
       let found = q + 7 * length s.ends + 3 in
@@ -83,7 +87,8 @@ module _ (s : Setup) (call : Call) (handle : ℕ → Conf → OperationResult) (
       let a2 = found_at s.tree s.ends code q a in
       let size = shows.size in
       within s call handle given code r n (700 + m) (at c q []) le
-      (chain_does s call handle given code r (find_any found) v c here small s.ends 0 q (q + length search) (700 + m) (40 + m) (named_words found s.ends 0 links) (at_front code q search rest a) refl (omega (arith, few))
+      (chain_does s call handle given code r (find_any found) v c here small s.ends 0 q (q + length search) (700 + m) (40 + m) (named_words found s.ends 0 links) (at_front code q search rest a) refl
+      (omega (arith, few))
       (λ j e place f a3.
       let inside = found_in (case_test (find_any found) v) s.ends 0 j e f in
       let lt : j < length s.ends = omega (arith, inside.1) in

@@ -1,5 +1,6 @@
 -- Entry 0: a set-key packet.
-use Rattle.std.proofs.Common.{◌≡◌, ◌≢◌, ℕ, zero, suc, ◌+◌, ◌*◌, ◌%◌, ◌<◌, ◌≤◌, ◌⊎◌, inl, inr, Bool, true, false, not, ◌==◌, List, [], ◌∷◌, ◌++◌, length, take, drop, Option, Some, None, refl, sym, ap, ◌∙◌, subst, arith}
+use Rattle.std.proofs.Common.{◌≡◌, ◌≢◌, ℕ, zero, suc, ◌+◌, ◌*◌, ◌%◌, ◌<◌, ◌≤◌, ◌⊎◌, inl, inr, Bool, true, false, not, ◌==◌, List, [], ◌∷◌, ◌++◌, length, take}
+use Rattle.std.proofs.Common.{drop, Option, Some, None, refl, sym, ap, ◌∙◌, subst, arith}
 use Rattle.std.specs.Prelude.{if◌then◌else◌, nat_lt, bit_and}
 use Rattle.std.proofs.lemmas.List.{length-take, length-drop, take_all}
 use Rattle.std.proofs.lemmas.List.Elements.{All-take}
@@ -13,6 +14,8 @@ use Rattle.sx_tag.specs.Wrap.{unwrapped}
 use Rattle.sx_tag.specs.Mac.{IsTag}
 use Rattle.sx_machine.specs.Memory.{word, put_word, put_bytes, bytes_from}
 use Rattle.sx_reach.specs.Reach.{Goes}
+use Rattle.sx_invoke.specs.Protocol.{entry_register, all_done, no_end, other_tag, set_key_kind, set_key_size}
+use Rattle.sx_invoke.specs.Windows.{in_window_size}
 use Rattle.sx_invoke.specs.Setup.{Setup, Call}
 use Rattle.sx_invoke.specs.Marks as mark
 use Rattle.sx_invoke.specs.Marks.{Mark}
@@ -25,9 +28,11 @@ use Rattle.sx_ir.specs.Meaning.{OperationResult, do_op, element, opened, unseal,
 use Rattle.sx_ir.specs.Meaning as meaning
 use Rattle.sx_ir.specs.declared.ir.Ir.{Ir}
 use Rattle.sx_ir.specs.declared.ir.Ir.TheVariants as ir
-use Rattle.sx_stub.specs.Stub.{set_key_code, key_found, key_place, search_code, refuse_if, cases, find_any, open_any, open_end, is_wrong_kind, is_no_side, wanted_end, is_keyed_code, is_opened_not, is_to}
+use Rattle.sx_stub.specs.Stub.{set_key_code, key_found, key_place, search_code, refuse_if, cases, find_any, open_any, open_end, is_wrong_kind, is_no_side}
+use Rattle.sx_stub.specs.Stub.{wanted_end, is_keyed_code, is_opened_not, is_to}
 use Rattle.sx_stub.specs.Invokes.{ShowsCall, Invokes}
-use Rattle.sx_stub.proofs.Mem.{AllBytes, word_lt, word_same, word-put_same, word-put_other, get-put_other, length-put_word, length-put_bytes, AllBytes-put_word, AllBytes-put_bytes, get-put_bytes_other, bytes_from_put, AllBytes-bytes_from}
+use Rattle.sx_stub.proofs.Mem.{AllBytes, word_lt, word_same, word-put_same, word-put_other, get-put_other, length-put_word, length-put_bytes, AllBytes-put_word}
+use Rattle.sx_stub.proofs.Mem.{AllBytes-put_bytes, get-put_bytes_other, bytes_from_put, AllBytes-bytes_from}
 use Rattle.sx_stub.proofs.Straight.{At, at, at_front, at_back, pure}
 use Rattle.sx_stub.proofs.Slots.{Same, IsKept, with_priv, shows_priv, end_state_is, end_in_slot, state_put}
 use Rattle.sx_stub.proofs.Refuse.{returned, refuse_does, goes_on, runs_on}
@@ -44,12 +49,15 @@ pub keyed_word : (priv : List ℕ) (ends j : ℕ) (field : ℕ) → AllBytes pri
     → pure s priv (is_keyed_code ends) [] ≡ Some (truth (is_keyed (end_state priv j) field) ∷ [])
 keyed_word priv ends j field h few lt index is small s =
     let at_end = word priv (end_at j) in
-    let e2 : element priv 512 (12 * ends) ((word priv 74 + 2) % 65536) ≡ word priv (end_at j + 4) = ap (λ (x : ℕ). element priv 512 (12 * ends) ((x + 2) % 65536)) index ∙ slot_value priv ends j 2 few lt (omega arith) in
-    let e0 : element priv 512 (12 * ends) ((word priv 74 + 0) % 65536) ≡ at_end = ap (λ (x : ℕ). element priv 512 (12 * ends) ((x + 0) % 65536)) index ∙ slot_value priv ends j 0 few lt (omega arith) ∙ ap (word priv) (omega arith) in
+    let e2 : element priv 512 (12 * ends) ((word priv 74 + 2) % 65536) ≡ word priv (end_at j + 4) = ap (λ (x : ℕ). element priv 512 (12 * ends) ((x + 2) % 65536)) index
+    ∙ slot_value priv ends j 2 few lt (omega arith) in
+    let e0 : element priv 512 (12 * ends) ((word priv 74 + 0) % 65536) ≡ at_end = ap (λ (x : ℕ). element priv 512 (12 * ends) ((x + 0) % 65536)) index ∙ slot_value priv ends j 0 few lt (omega arith)
+    ∙ ap (word priv) (omega arith) in
     let a : bit_and at_end 0xFF00 ≡ epoch_of at_end * 256 = upper at_end (word_lt priv (end_at j) h) in
     let b : bit_and field 0xFF00 ≡ epoch_of field * 256 = upper field small in
     let opened = word priv (end_at j + 4) in
-    ap (λ (x : ℕ). Some (bit_and (truth (truth (x == 0) == 0)) (truth (truth (nat_lt (bit_and (element priv 512 (12 * ends) ((word priv 74 + 0) % 65536)) 0xFF00) (bit_and (word priv 18) 0xFF00)) == 0)) ∷ [])) e2
+    ap (λ (x : ℕ). Some (bit_and (truth (truth (x == 0) == 0))
+    (truth (truth (nat_lt (bit_and (element priv 512 (12 * ends) ((word priv 74 + 0) % 65536)) 0xFF00) (bit_and (word priv 18) 0xFF00)) == 0)) ∷ [])) e2
     ∙ ap (λ (x : ℕ). Some (bit_and (truth (truth (opened == 0) == 0)) (truth (truth (nat_lt (bit_and x 0xFF00) (bit_and (word priv 18) 0xFF00)) == 0)) ∷ [])) e0
     ∙ ap (λ (x : ℕ). Some (bit_and (truth (truth (opened == 0) == 0)) (truth (truth (nat_lt (bit_and at_end 0xFF00) (bit_and x 0xFF00)) == 0)) ∷ [])) is
     ∙ ap (λ (x : ℕ). Some (bit_and (truth (truth (opened == 0) == 0)) (truth (truth (nat_lt x (bit_and field 0xFF00)) == 0)) ∷ [])) a
@@ -61,7 +69,8 @@ keyed_word priv ends j field h few lt index is small s =
     ∙ sym (ap (λ (x : EndState). Some (truth (is_keyed x field) ∷ [])) (end_state_is priv j opened at_end (word priv (end_at j + 2)) (bytes_from priv (end_at j + 8) 16) refl refl refl refl))
 
 -- the slot with its new key
-pub keyed_end : (priv key : List ℕ) (k field : ℕ) → AllBytes key → length key ≡ 16 → end_at k + 24 ≤ length priv → end_state (meaning.slot_keyed priv k field key) k ≡ record { is_open = true; field = field; number = 0; key = key }
+pub keyed_end : (priv key : List ℕ) (k field : ℕ) → AllBytes key → length key ≡ 16 → end_at k + 24 ≤ length priv
+    → end_state (meaning.slot_keyed priv k field key) k ≡ record { is_open = true; field = field; number = 0; key = key }
 keyed_end priv key k field h len le =
     let p1 = put_word priv (end_at k) field in
     let p2 = put_word p1 (end_at k + 2) 0 in
@@ -72,12 +81,15 @@ keyed_end priv key k field h len le =
     let l3 = length-put_word p2 (end_at k + 4) 1 in
     end_state_is p4 k 1 field 0 key
     (unput p3 (end_at k + 4) (omega arith) (omega arith) ∙ word-put_same p2 (end_at k + 4) 1 (omega arith) (omega (arith, le, l1, l2)))
-    (unput p3 (end_at k) (omega arith) (omega arith) ∙ word-put_other p2 (end_at k + 4) 1 (end_at k) (omega arith) (omega arith) (omega arith) ∙ word-put_other p1 (end_at k + 2) 0 (end_at k) (omega arith) (omega arith) (omega arith) ∙ word-put_same priv (end_at k) field (omega arith) (omega (arith, le)))
-    (unput p3 (end_at k + 2) (omega arith) (omega arith) ∙ word-put_other p2 (end_at k + 4) 1 (end_at k + 2) (omega arith) (omega arith) (omega arith) ∙ word-put_same p1 (end_at k + 2) 0 (omega arith) (omega (arith, le, l1)))
+    (unput p3 (end_at k) (omega arith) (omega arith) ∙ word-put_other p2 (end_at k + 4) 1 (end_at k) (omega arith) (omega arith) (omega arith)
+    ∙ word-put_other p1 (end_at k + 2) 0 (end_at k) (omega arith) (omega arith) (omega arith) ∙ word-put_same priv (end_at k) field (omega arith) (omega (arith, le)))
+    (unput p3 (end_at k + 2) (omega arith) (omega arith) ∙ word-put_other p2 (end_at k + 4) 1 (end_at k + 2) (omega arith) (omega arith) (omega arith)
+    ∙ word-put_same p1 (end_at k + 2) 0 (omega arith) (omega (arith, le, l1)))
     (ap (bytes_from p4 (end_at k + 8)) (sym len) ∙ bytes_from_put p3 (end_at k + 8) key h (omega (arith, le, l1, l2, l3, len)))
   where
     unput : (m : List ℕ) (a : ℕ) → a % 2 ≡ 0 → a + 1 < end_at k + 8 → word (put_bytes m (end_at k + 8) key) a ≡ word m a
-    unput m a e lt = word_same m (put_bytes m (end_at k + 8) key) a a e e (get-put_bytes_other m (end_at k + 8) key a (inl (omega (arith, lt)))) (get-put_bytes_other m (end_at k + 8) key (a + 1) (inl (omega (arith, lt))))
+    unput m a e lt = word_same m (put_bytes m (end_at k + 8) key) a a e e (get-put_bytes_other m (end_at k + 8) key a (inl (omega (arith, lt))))
+        (get-put_bytes_other m (end_at k + 8) key (a + 1) (inl (omega (arith, lt))))
 
 -- nothing but the slot changes
 pub keyed_other : (priv key : List ℕ) (k field i : ℕ) → length key ≡ 16 → (i < end_at k) ⊎ (end_at k + 24 ≤ i)
@@ -125,17 +137,18 @@ shows_slot s call p c priv q stack k new h lt len bytes f e = record {
     kept : (a : ℕ) → a % 2 ≡ 0 → a + 1 < 512 → word priv a ≡ word c.priv a
     kept a e lt = word_same c.priv priv a a e e (f a (inl (omega (arith, lt)))) (f (a + 1) (inl (omega (arith, lt))))
 
-module _ (s : Setup) (call : Call) (handle : ℕ → Conf → OperationResult) (given : ℕ → ℕ) (code : List Ir) (p : Progress) (none : p.pieces ≡ []) (tag : IsTag s.mac) (few : length s.ends ≤ 16) (links : FewLinks s.ends) where
+module _ (s : Setup) (call : Call) (handle : ℕ → Conf → OperationResult) (given : ℕ
+    → ℕ) (code : List Ir) (p : Progress) (none : p.pieces ≡ []) (tag : IsTag s.mac) (few : length s.ends ≤ 16) (links : FewLinks s.ends) where
   -- the end is opened
   opens : (packet key : List ℕ) (j place : ℕ) (c : Conf) → length packet ≡ 38 → AllBytes packet → AllBytes key
       → length key ≡ 16 → j < length s.ends
       → ShowsCall s call (progress_mark p (mark.Unwrapped (header_in packet) key true)) c → word c.priv 18 ≡ field_in packet
       → bytes_from c.priv 56 16 ≡ key → 512 + 24 * length s.ends ≤ length c.priv
       → At code place (open_end place j (record { link = 0; side = From; port = 0 }))
-      → Invokes s call handle given code (Returns 1 (end_keyed j packet key p)) 60 (at c place [])
+      → Invokes s call handle given code (Returns all_done (end_keyed j packet key p)) 60 (at c place [])
   opens packet key j place c e h isb len lt shows field read room a =
       let m = mark.Unwrapped (header_in packet) key true in
-      let r = Returns 1 (end_keyed j packet key p) in
+      let r = Returns all_done (end_keyed j packet key p) in
       let priv = meaning.slot_keyed c.priv j (field_in packet) key in
       let new : EndState = record { is_open = true; field = field_in packet; number = 0; key = key } in
       let l1 = length-put_word c.priv (end_at j) (field_in packet) in
@@ -148,12 +161,14 @@ module _ (s : Setup) (call : Call) (handle : ℕ → Conf → OperationResult) (
       (AllBytes-put_word (put_word c.priv (end_at j) (field_in packet)) (end_at j + 2) 0 (omega arith)
       (AllBytes-put_word c.priv (end_at j) (field_in packet) (word_lt packet 2 h) shows.bytes))) in
       let shows5 : ShowsCall s call (end_keyed j packet key p) (with_priv c priv (place + 1) []) =
-      shows_slot s call (progress_mark p m) c priv (place + 1) [] j new shows lt (l4 ∙ l3 ∙ l2 ∙ l1) bytes5 (λ i o. keyed_other c.priv key j (field_in packet) i len o) (keyed_end c.priv key j (field_in packet) isb len (omega (arith, lt, room))) in
+      shows_slot s call (progress_mark p m) c priv (place + 1) [] j new shows lt (l4 ∙ l3 ∙ l2
+      ∙ l1) bytes5 (λ i o. keyed_other c.priv key j (field_in packet) i len o) (keyed_end c.priv key j (field_in packet) isb len (omega (arith, lt, room))) in
       let does : do_op s handle (ir.SetEnd j) (at c place []) ≡ Goes (with_priv c priv (place + 1) []) =
       ap (λ (x : ℕ). Goes (with_priv c (meaning.slot_keyed c.priv j x (bytes_from c.priv 56 16)) (place + 1) [])) field
       ∙ ap (λ (x : List ℕ). Goes (with_priv c (meaning.slot_keyed c.priv j (field_in packet) x) (place + 1) [])) read in
       goes_on s call handle given code r (ir.SetEnd j) (at c place []) (with_priv c priv (place + 1) []) 60 16 a.0 does refl (omega arith)
-      (runs_on s call handle given code r (ir.Push 1 ∷ ir.Push 0 ∷ []) (with_priv c priv (place + 1) []) (place + 1) (place + 1 + 1 + 1) [] (0 ∷ 1 ∷ []) 16 0 (a.1.0, (a.1.1.0, tt)) refl (omega arith) (omega arith)
+      (runs_on s call handle given code r (ir.Push 1 ∷ ir.Push 0 ∷ []) (with_priv c priv (place + 1) []) (place + 1) (place + 1 + 1 + 1) [] (0 ∷ 1 ∷ []) 16 0 (a.1.0, (a.1.1.0, tt)) refl
+      (omega arith) (omega arith)
       (returned s call handle given code 1 0 (end_keyed j packet key p) (with_priv c priv (place + 1) []) (place + 1 + 1 + 1) 0 a.1.1.1.0 shows5 (ap length (sym none))))
 
   room_is : (c : Conf) → ShowsCall s call p c → 512 + 24 * length s.ends ≤ length c.priv
@@ -175,7 +190,7 @@ module _ (s : Setup) (call : Call) (handle : ℕ → Conf → OperationResult) (
       keyed_word c3.priv (length s.ends) j field shows3.bytes few lt index3 field3 small s
       ∙ sym (ap (λ (x : EndState). Some (truth (is_keyed x field) ∷ [])) state3) in
       let rest2 = cases open_any (q + 29) 0 s.ends in
-      let rest1 = ir.Open 0 16 6 56 16 ∷ (refuse_if (q + 24) is_opened_not 7 ++ rest2) in
+      let rest1 = ir.Open 0 16 6 56 16 ∷ (refuse_if (q + 24) is_opened_not other_tag ++ rest2) in
       let a1 = at_back code q (q + 23) (refuse_if q (is_keyed_code (length s.ends)) 5) rest1 (omega arith) a in
       refuse_does s call handle given code (is_keyed (end_of p.state.ends j) field) (is_keyed_code (length s.ends)) 5 (truth (is_keyed (end_of p.state.ends j) field)) c3 q (q + 23) 1100 900 []
       (key_opened j packet (unwrapped s.mac s.section.key (header_in packet) (take 16 (drop 6 packet)) (drop 22 packet)) p) p
@@ -185,7 +200,7 @@ module _ (s : Setup) (call : Call) (handle : ℕ → Conf → OperationResult) (
       unseals : (packet : List ℕ) (j : ℕ) (e : End) (t : ℕ → End → Bool) (c3 : Conf) (q : ℕ) → length packet ≡ 38
           → AllBytes packet → ShowsCall s call p c3 → Holds c3.priv packet → found_by t 0 s.ends ≡ Some (j, e)
           → j < length s.ends → word c3.priv 74 ≡ 12 * j
-          → At code (q + 23) (ir.Open 0 16 6 56 16 ∷ refuse_if (q + 24) is_opened_not 7 ++ cases open_any (q + 29) 0 s.ends)
+          → At code (q + 23) (ir.Open 0 16 6 56 16 ∷ refuse_if (q + 24) is_opened_not other_tag ++ cases open_any (q + 29) 0 s.ends)
           → Invokes s call handle given code (key_opened j packet (unwrapped s.mac s.section.key (header_in packet) (take 16 (drop 6 packet)) (drop 22 packet)) p) 900 (at c3 (q + 23) [])
       unseals packet j e t c3 q len h shows3 holds3 found lt index3 a1 =
           let d6 = length-drop 6 packet in
@@ -206,35 +221,45 @@ module _ (s : Setup) (call : Call) (handle : ℕ → Conf → OperationResult) (
               → do_op s handle (ir.Open 0 16 6 56 16) (at c3 (q + 23) []) ≡ opened (at c3 (q + 23) []) 0 (header_in packet) 56 16 u
               → Invokes s call handle given code (key_opened j packet u p) 900 (at c3 (q + 23) [])
           by_tag None g does =
-              let r = Returns 7 p in
+              let r = Returns other_tag p in
               goes_on s call handle given code r (ir.Open 0 16 6 56 16) (at c3 (q + 23) []) (at c3 (q + 23 + 1) (0 ∷ [])) 900 860 a1.0 does refl (omega arith)
               (subst (λ (x : ℕ). Invokes s call handle given code r 860 (at c3 x (0 ∷ []))) (omega arith)
-              (refuse_does s call handle given code true is_opened_not 7 1 c3 (q + 24) (q + 29) 860 780 (0 ∷ []) r p (at_front code (q + 24) (refuse_if (q + 24) is_opened_not 7) (cases open_any (q + 29) 0 s.ends) (subst (λ (x : ℕ). At code x (refuse_if (q + 24) is_opened_not 7 ++ cases open_any (q + 29) 0 s.ends)) (omega arith) a1.1)) refl refl shows3 none (omega arith) (omega arith) (λ x. absurd (true≢false x))))
+              (refuse_does s call handle given code true is_opened_not other_tag 1 c3 (q + 24) (q + 29) 860 780 (0 ∷ []) r p
+              (at_front code (q + 24) (refuse_if (q + 24) is_opened_not other_tag) (cases open_any (q + 29) 0 s.ends)
+              (subst (λ (x : ℕ). At code x (refuse_if (q + 24) is_opened_not other_tag ++ cases open_any (q + 29) 0 s.ends)) (omega arith) a1.1)) refl refl shows3 none (omega arith)
+              (omega arith) (λ x. absurd (true≢false x))))
           by_tag (Some body) g does =
               let key = take 16 body in
               let lk = length-take 16 body in
               let isk : AllBytes key = All-take (λ (b : ℕ). b < 256) 16 body g.1 in
               let m = mark.Unwrapped (header_in packet) key true in
-              let r = Returns 1 (end_keyed j packet key p) in
+              let r = Returns all_done (end_keyed j packet key p) in
               let p1 = progress_mark p m in
               let room = room_is c3 shows3 in
               let priv4 = put_bytes c3.priv 56 key in
               let c4 = with_mark (with_priv c3 priv4 (q + 23 + 1) (1 ∷ [])) m in
               let lp = length-put_bytes c3.priv 56 key in
               let shows4 : ShowsCall s call p1 c4 = shows_mark s call p (with_priv c3 priv4 (q + 23 + 1) (1 ∷ [])) m
-              (shows_priv s call p c3 priv4 (q + 23 + 1) (1 ∷ []) shows3 lp (AllBytes-put_bytes c3.priv 56 key shows3.bytes) (λ i kept. get-put_bytes_other c3.priv 56 key i (apart i kept (length key) (omega (arith, lk, g.0))))) in
+              (shows_priv s call p c3 priv4 (q + 23 + 1) (1 ∷ []) shows3 lp (AllBytes-put_bytes c3.priv 56 key shows3.bytes)
+              (λ i kept. get-put_bytes_other c3.priv 56 key i (apart i kept (length key) (omega (arith, lk, g.0))))) in
               let read : bytes_from priv4 56 16 ≡ key = ap (bytes_from priv4 56) (omega (arith, lk, g.0)) ∙ bytes_from_put c3.priv 56 key isk (omega (arith, lk, room)) in
-              let index4 : word priv4 74 ≡ 12 * j = word_same c3.priv priv4 74 74 refl refl (get-put_bytes_other c3.priv 56 key 74 (inr (omega (arith, lk)))) (get-put_bytes_other c3.priv 56 key 75 (inr (omega (arith, lk)))) ∙ index3 in
-              let field4 : word priv4 18 ≡ field_in packet = word_same c3.priv priv4 18 18 refl refl (get-put_bytes_other c3.priv 56 key 18 (inl (omega arith))) (get-put_bytes_other c3.priv 56 key 19 (inl (omega arith))) ∙ holds_word c3.priv packet 2 refl (omega (arith, len)) holds3 in
-              let rest = refuse_if (q + 24) is_opened_not 7 ++ cases open_any (q + 29) 0 s.ends in
+              let index4 : word priv4 74 ≡ 12 * j = word_same c3.priv priv4 74 74 refl refl (get-put_bytes_other c3.priv 56 key 74 (inr (omega (arith, lk))))
+              (get-put_bytes_other c3.priv 56 key 75 (inr (omega (arith, lk)))) ∙ index3 in
+              let field4 : word priv4 18 ≡ field_in packet = word_same c3.priv priv4 18 18 refl refl (get-put_bytes_other c3.priv 56 key 18 (inl (omega arith)))
+              (get-put_bytes_other c3.priv 56 key 19 (inl (omega arith))) ∙ holds_word c3.priv packet 2 refl (omega (arith, len)) holds3 in
+              let rest = refuse_if (q + 24) is_opened_not other_tag ++ cases open_any (q + 29) 0 s.ends in
               let all : At code (q + 24) rest = subst (λ (x : ℕ). At code x rest) (omega arith) a1.1 in
               goes_on s call handle given code r (ir.Open 0 16 6 56 16) (at c3 (q + 23) []) c4 900 860 a1.0 does refl (omega arith)
               (subst (λ (x : ℕ). Invokes s call handle given code r 860 (at c4 x (1 ∷ []))) (omega arith)
-              (refuse_does s call handle given code false is_opened_not 7 0 c4 (q + 24) (q + 29) 860 780 (1 ∷ []) r p1 (at_front code (q + 24) (refuse_if (q + 24) is_opened_not 7) (cases open_any (q + 29) 0 s.ends) all) refl refl shows4 none (omega arith) (omega arith)
-              (λ x. chain_does s call handle given code r open_any (12 * j) c4 index4 (omega (arith, few, lt)) s.ends 0 (q + 29) (q + 29 + length (cases open_any (q + 29) 0 s.ends)) 780 60 (index_words open_any s.ends 0 (λ i d. refl) (omega (arith, few))) (at_back code (q + 24) (q + 29) (refuse_if (q + 24) is_opened_not 7) (cases open_any (q + 29) 0 s.ends) (omega arith) all) refl (omega (arith, few))
+              (refuse_does s call handle given code false is_opened_not other_tag 0 c4 (q + 24) (q + 29) 860 780 (1 ∷ []) r p1
+              (at_front code (q + 24) (refuse_if (q + 24) is_opened_not other_tag) (cases open_any (q + 29) 0 s.ends) all) refl refl shows4 none (omega arith) (omega arith)
+              (λ x. chain_does s call handle given code r open_any (12 * j) c4 index4 (omega (arith, few, lt)) s.ends 0 (q + 29) (q + 29 + length (cases open_any (q + 29) 0 s.ends)) 780 60
+              (index_words open_any s.ends 0 (λ i d. refl) (omega (arith, few))) (at_back code (q + 24) (q + 29) (refuse_if (q + 24) is_opened_not other_tag) (cases open_any (q + 29) 0 s.ends)
+              (omega arith) all) refl (omega (arith, few))
               (λ j2 e2 place found2 a2.
               let same : j2 ≡ j = some_place j2 j e2 e (sym found2 ∙ index_found t open_any s.ends 0 j e links (λ i d. refl) (λ i d lt x. refl) found) in
-              opens packet key j place c4 len h isk (omega (arith, lk, g.0)) lt shows4 field4 read (omega (arith, lp, room)) (subst (λ (x : ℕ). At code place (open_end place x (record { link = 0; side = From; port = 0 }))) same a2))
+              opens packet key j place c4 len h isk (omega (arith, lk, g.0)) lt shows4 field4 read (omega (arith, lp, room))
+              (subst (λ (x : ℕ). At code place (open_end place x (record { link = 0; side = From; port = 0 }))) same a2))
               (λ miss. absurd (some_none (j, e) (sym (index_found t open_any s.ends 0 j e links (λ i d. refl) (λ i d lt x. refl) found) ∙ miss))))))
             where
               apart : (i : ℕ) → IsKept i → (n : ℕ) → n ≡ 16 → (i < 56) ⊎ (56 + n ≤ i)
@@ -260,7 +285,9 @@ if_same : (b : Bool) (x y : Invoked) → (b ≡ true → y ≡ x) → (if b then
 if_same true x y f = sym (f refl)
 if_same false x y f = refl
 
-module _ (s : Setup) (call : Call) (handle : ℕ → Conf → OperationResult) (given : ℕ → ℕ) (code : List Ir) (p : Progress) (c : Conf) (shows : ShowsCall s call p c) (none : p.pieces ≡ []) (bytes : AllBytes p.mem) (window : is_bad_window s call.input 40 ≡ false) (tag : IsTag s.mac) (few : length s.ends ≤ 16) (links : FewLinks s.ends) (entry : call.entry ≡ 0) (search : ℕ) (at_search : At code search (search_code s.tree s.ends search)) where
+module _ (s : Setup) (call : Call) (handle : ℕ → Conf → OperationResult) (given : ℕ
+    → ℕ) (code : List Ir) (p : Progress) (c : Conf) (shows : ShowsCall s call p c) (none : p.pieces ≡ []) (bytes : AllBytes p.mem) (window : is_bad_window s call.input in_window_size ≡ false)
+    (tag : IsTag s.mac) (few : length s.ends ≤ 16) (links : FewLinks s.ends) (entry : call.entry ≡ 0) (search : ℕ) (at_search : At code search (search_code s.tree s.ends search)) where
   room512 : 512 ≤ length c.priv
   room512 = omega (arith, shows.size)
 
@@ -279,8 +306,10 @@ module _ (s : Setup) (call : Call) (handle : ℕ → Conf → OperationResult) (
       let test : pure s c1.priv is_no_side [] ≡ Some (truth (nat_lt 1 second) ∷ []) = ap (λ (x : ℕ). Some (truth (nat_lt 1 x) ∷ [])) s20 in
       let rest = wanted_end ++ ir.Store 72 ∷ ir.Jump search ∷ [] in
       let a1 = at_back code (place + 8) (place + 15) (refuse_if (place + 8) is_no_side 5) rest (omega arith) a in
-      subst (λ (x : Invoked). Invokes s call handle given code x 2300 c1) (if_same (nat_lt 1 second) (Returns 5 p) (set_key s packet p) (λ x. ap (λ (o : Option Side). set_key_at s packet (end_on (link_of field) s.ends o) p) (no_side second x)))
-      (refuse_does s call handle given code (nat_lt 1 second) is_no_side 5 (truth (nat_lt 1 second)) c1 (place + 8) (place + 15) 2300 2240 [] (set_key s packet p) p (at_front code (place + 8) (refuse_if (place + 8) is_no_side 5) rest a) test refl shows1 none (omega arith) (omega arith)
+      subst (λ (x : Invoked). Invokes s call handle given code x 2300 c1)
+      (if_same (nat_lt 1 second) (Returns no_end p) (set_key s packet p) (λ x. ap (λ (o : Option Side). set_key_at s packet (end_on (link_of field) s.ends o) p) (no_side second x)))
+      (refuse_does s call handle given code (nat_lt 1 second) is_no_side 5 (truth (nat_lt 1 second)) c1 (place + 8) (place + 15) 2300 2240 [] (set_key s packet p) p
+      (at_front code (place + 8) (refuse_if (place + 8) is_no_side 5) rest a) test refl shows1 none (omega arith) (omega arith)
       (λ x. wanted (some_side second x) c1 shows1 holds1 f18 s20 a1))
     where
       wanted : (side_of (second_in packet) ≡ Some (side_at (second_in packet))) × (second_in packet ≡ truth (is_to (side_at (second_in packet))))
@@ -308,8 +337,10 @@ module _ (s : Setup) (call : Call) (handle : ℕ → Conf → OperationResult) (
           let shows2 = shows_kept_word s call p c1 72 v search [] shows1 refl (omega arith) (omega arith) (omega (arith, small)) in
           let holds2 = holds_put c1.priv packet 72 v refl (omega (arith, len)) holds1 in
           let here : word c2.priv 72 ≡ v = word-put_same c1.priv 72 v refl (omega (arith, room)) in
-          let same : found_by (case_test (find_any found) v) 0 s.ends ≡ end_on link s.ends (side_of second) = any_same found link sd s.ends links (omega arith) ∙ sym (ap (λ (o : Option Side). end_on link s.ends o) side.0) in
-          runs_on s call handle given code r wanted_end c1 (place + 15) (place + 22) [] (v ∷ []) 2240 2030 (at_front code (place + 15) wanted_end (ir.Store 72 ∷ ir.Jump search ∷ []) a1) value (omega arith) (omega arith)
+          let same : found_by (case_test (find_any found) v) 0 s.ends ≡ end_on link s.ends (side_of second) = any_same found link sd s.ends links (omega arith)
+          ∙ sym (ap (λ (o : Option Side). end_on link s.ends o) side.0) in
+          runs_on s call handle given code r wanted_end c1 (place + 15) (place + 22) [] (v ∷ []) 2240 2030 (at_front code (place + 15) wanted_end (ir.Store 72 ∷ ir.Jump search ∷ []) a1) value
+          (omega arith) (omega arith)
           (goes_on s call handle given code r (ir.Store 72) (at c1 (place + 22) (v ∷ [])) (at c2 (place + 22 + 1) []) 2030 2020 a2.0 refl refl (omega arith)
           (goes_on s call handle given code r (ir.Jump search) (at c2 (place + 22 + 1) []) (at c2 search []) 2020 2010 a2.1.0 refl refl (omega arith)
           (search_does s call handle given code p none few links r v c2 shows2 here (omega (arith, small)) search 2010 1200 at_search (omega arith)
@@ -318,9 +349,11 @@ module _ (s : Setup) (call : Call) (handle : ℕ → Conf → OperationResult) (
           (let r2 = set_key_at s packet (Some (j, e)) p in
           let key = key_place s.tree s.ends found in
           let a5 = found_at s.tree s.ends code search at_search in
-          runs_on s call handle given code r2 (ir.Saved 12 ∷ []) c3 (found + 1) (found + 1 + 1) [] (0 ∷ []) 1200 1190 (a5.1.0, tt) (ap (λ (x : ℕ). Some (x ∷ [])) (shows3.entry ∙ entry)) refl (omega arith)
+          runs_on s call handle given code r2 (ir.Saved entry_register ∷ []) c3 (found + 1) (found + 1 + 1) [] (0 ∷ []) 1200 1190 (a5.1.0, tt) (ap (λ (x : ℕ). Some (x ∷ [])) (shows3.entry
+          ∙ entry)) refl (omega arith)
           (goes_on s call handle given code r2 (ir.JumpZero key) (at c3 (found + 1 + 1) (0 ∷ [])) (at c3 key []) 1190 1100 a5.1.1.0 refl refl (omega arith)
-          (found_does s call handle given code p none tag few links packet j e (case_test (find_any found) v) c3 key len h shows3 (held packet (omega (arith, len)) holds2) index3 hit (key_at s.tree s.ends code search at_search)))))
+          (found_does s call handle given code p none tag few links packet j e (case_test (find_any found) v) c3 key len h shows3 (held packet (omega (arith, len)) holds2) index3 hit
+          (key_at s.tree s.ends code search at_search)))))
           (λ miss. ap (λ (o : Option (ℕ × End)). set_key_at s packet o p) (sym same ∙ miss)))))
         where
           truth_small : (b : Bool) → truth b ≤ 1
@@ -328,9 +361,10 @@ module _ (s : Setup) (call : Call) (handle : ℕ → Conf → OperationResult) (
           truth_small false = omega arith
 
   pub set_key_does : (place k : ℕ) → At code place (set_key_code search place) → 2800 ≤ k
-      → Invokes s call handle given code (with_received s call 38 1 p (λ packet. set_key s packet p)) k (at c place [])
+      → Invokes s call handle given code (with_received s call set_key_size set_key_kind p (λ packet. set_key s packet p)) k (at c place [])
   set_key_does place k a le =
       let rest = refuse_if (place + 8) is_no_side 5 ++ (wanted_end ++ ir.Store 72 ∷ ir.Jump search ∷ []) in
-      let tests = refuse_if (place + 1) (is_wrong_kind 1) 4 in
-      receive_does s call handle given code p c shows none bytes room512 window place 38 1 k 2300 (λ packet. set_key s packet p) a.0 (at_front code (place + 1) tests rest a.1) refl (omega arith) (omega arith) (omega arith) (omega (arith, le))
+      let tests = refuse_if (place + 1) (is_wrong_kind set_key_kind) 4 in
+      receive_does s call handle given code p c shows none bytes room512 window place 38 1 k 2300 (λ packet. set_key s packet p) a.0 (at_front code (place + 1) tests rest a.1) refl (omega arith)
+      (omega arith) (omega arith) (omega (arith, le))
       (λ packet len h. searches place packet len h (at_back code (place + 1) (place + 8) tests rest (omega arith) a.1))

@@ -39,7 +39,8 @@ end_state_same m n k f =
     ∙ sym (end_state_is m k (word m (end_at k + 4)) (word m (end_at k)) (word m (end_at k + 2)) (bytes_from m (end_at k + 8) 16) refl refl refl refl)
   where
     same : (o : ℕ) → o % 2 ≡ 0 → o + 1 < 24 → word n (end_at k + o) ≡ word m (end_at k + o)
-    same o e lt = word_same m n (end_at k + o) (end_at k + o) (omega (arith, e)) (omega (arith, e)) (f (end_at k + o) (omega arith) (omega (arith, lt))) (f (end_at k + o + 1) (omega arith) (omega (arith, lt)))
+    same o e lt = word_same m n (end_at k + o) (end_at k + o) (omega (arith, e)) (omega (arith, e)) (f (end_at k + o) (omega arith) (omega (arith, lt)))
+        (f (end_at k + o + 1) (omega arith) (omega (arith, lt)))
 
 pub end_states_same : (m n : List ℕ) (es : List End) (k : ℕ)
     → ((i : ℕ) → end_at k ≤ i → i < end_at (k + length es) → Same m n i) → end_states n k es ≡ end_states m k es
@@ -90,7 +91,8 @@ end_states_put m n (e ∷ es) j (suc k) lt f =
     again i (inl p) = inl (omega (arith, p))
     again i (inr p) = inr (omega (arith, p))
 
-pub state_put : (tree : ModuleTree) (ends : List End) (m n : List ℕ) (k : ℕ) → k < length ends → ((i : ℕ) → 512 ≤ i → (i < end_at k) ⊎ (end_at k + 24 ≤ i) → Same m n i) → state_of tree ends n ≡ record (state_of tree ends m) { ends = with_end (state_of tree ends m).ends k (end_state n k) }
+pub state_put : (tree : ModuleTree) (ends : List End) (m n : List ℕ) (k : ℕ) → k < length ends → ((i : ℕ) → 512 ≤ i → (i < end_at k) ⊎ (end_at k + 24 ≤ i) → Same m n i)
+    → state_of tree ends n ≡ record (state_of tree ends m) { ends = with_end (state_of tree ends m).ends k (end_state n k) }
 unfolding state_of
 state_put tree ends m n k lt f =
     let a = cells_same m n (initial_cells tree.decls) (cell_at (length ends) 0) (omega arith) (λ i p. f i (omega arith) (inr (omega (arith, lt)))) in
@@ -120,7 +122,19 @@ end_in_slot s call p c k h lt =
 
 pub shows_at : (s : Setup) (call : Call) (p : Progress) (c : Conf) (q : ℕ) (stack : List ℕ) → ShowsCall s call p c
     → ShowsCall s call p (at c q stack)
-shows_at s call p c q stack h = record { size = h.size; bytes = h.bytes; state = h.state; mem = h.mem; devices = h.devices; marks = h.marks; entry = h.entry; input = h.input; output = h.output; back = h.back }
+shows_at s call p c q stack h = record {
+  size = h.size;
+  bytes = h.bytes;
+  state = h.state;
+  mem = h.mem;
+  devices = h.devices;
+  marks = h.marks;
+  entry = h.entry;
+  input = h.input;
+  output =
+      h.output;
+  back = h.back;
+}
 
 abbrev pub with_priv : Conf → List ℕ → ℕ → List ℕ → Conf
 with_priv c priv q stack = record c { place = q; stack = stack; priv = priv }

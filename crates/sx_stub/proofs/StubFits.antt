@@ -8,7 +8,8 @@ use Rattle.sx_ir.specs.declared.ir.Ir.{Ir}
 use Rattle.sx_ir.specs.declared.ir.Ir.TheVariants as ir
 use Rattle.sx_ir.specs.declared.ir.IrOp.TheVariants as op
 use Rattle.sx_mean.specs.Handlers.{number_of}
-use Rattle.sx_stub.specs.Stub.{Cases, case_of, cases, find_any, open_any, take_receiving, take_event, is_receiving, handled_by, set_key_code, key_found, key_place, found_code, search_code, attest_code, input_code, input_found, sample_code, stub_code, returns}
+use Rattle.sx_stub.specs.Stub.{Cases, case_of, cases, find_any, open_any, take_receiving, take_event, is_receiving, handled_by, set_key_code, key_found}
+use Rattle.sx_stub.specs.Stub.{key_place, found_code, search_code, attest_code, input_code, input_found, sample_code, stub_code, returns}
 use Rattle.sx_stub.specs.Weight.{routine_bytes, StubFits}
 use Rattle.sx_ir.specs.Sizes.{ops_bytes}
 
@@ -30,7 +31,8 @@ cases_bytes cs n f place k (e ∷ es) =
     let c = cases_bytes cs n f (place + length first) (k + 1) es in
     omega (arith, a, b, c)
   where
-    one : (b : Bool) → ops_bytes (if b then ir.Load cs.offset ∷ ir.Push (cs.number k e) ∷ ir.Op op.Sub ∷ ir.JumpZero (place + 5) ∷ ir.Jump (place + 5 + length (cs.body (place + 5) k e)) ∷ cs.body (place + 5) k e else []) ≤ (if b then 26 + n else 0)
+    one : (b : Bool) → ops_bytes (if b then ir.Load cs.offset ∷ ir.Push (cs.number k e) ∷ ir.Op op.Sub ∷ ir.JumpZero (place + 5) ∷ ir.Jump (place + 5 + length (cs.body (place + 5) k e)) ∷ cs.body
+        (place + 5) k e else []) ≤ (if b then 26 + n else 0)
     one true = let h = f (place + 5) k e in omega (arith, h)
     one false = omega arith
 
@@ -46,7 +48,8 @@ sum_ends [] = omega arith
 sum_ends (e ∷ es) = let a = sum_ends es in go (is_receiving e) a
   where
     go : (b : Bool) → all_ends (λ e. true) 34 es + all_ends (λ e. true) 46 es + all_ends is_receiving 146 es + routine_bytes es ≤ 226 * length es
-        → (34 + all_ends (λ e. true) 34 es) + (46 + all_ends (λ e. true) 46 es) + ((if b then 146 else 0) + all_ends is_receiving 146 es) + ((if b then 0 else 112) + routine_bytes es) ≤ 226 * length (e ∷ es)
+        → (34 + all_ends (λ e. true) 34 es) + (46 + all_ends (λ e. true) 46 es) + ((if b then 146 else 0) + all_ends is_receiving 146 es) + ((if b then 0 else 112) + routine_bytes es) ≤ 226 * length
+        (e ∷ es)
     go true h = omega (arith, h)
     go false h = omega (arith, h)
 

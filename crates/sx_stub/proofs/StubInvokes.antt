@@ -1,5 +1,6 @@
 -- The whole stub: the tests of the entry and the windows, and the four entries.
-use Rattle.std.proofs.Common.{◌≡◌, ℕ, zero, suc, ◌+◌, ◌-◌, ◌%◌, ◌<◌, ◌≤◌, Bool, true, false, ◌&&◌, ◌||◌, not, ◌==◌, List, [], ◌∷◌, ◌++◌, length, Option, Some, None, refl, sym, ap, ◌∙◌, subst, arith, ⊎_elim}
+use Rattle.std.proofs.Common.{◌≡◌, ℕ, zero, suc, ◌+◌, ◌-◌, ◌%◌, ◌<◌, ◌≤◌, Bool, true, false, ◌&&◌, ◌||◌, not, ◌==◌, List, [], ◌∷◌, ◌++◌, length, Option, Some}
+use Rattle.std.proofs.Common.{None, refl, sym, ap, ◌∙◌, subst, arith, ⊎_elim}
 use Rattle.std.specs.Prelude.{slice_get, if◌then◌else◌, nat_lt, bit_and}
 use Rattle.std.proofs.lemmas.Bool.{false≢true, true≢false, eqb-false, eqb-true, eq-eqb, lt-ltb, cases_lt}
 use Rattle.sx_lang.specs.declared.tree.DeviceKind.{DeviceKind}
@@ -11,6 +12,8 @@ use Rattle.sx_rules.specs.Access.{in_public}
 use Rattle.sx_bus.specs.declared.devices.Kind.TheVariants as kind
 use Rattle.sx_isa.specs.Memory.{even}
 use Rattle.sx_reach.specs.Reach.{Goes, Stops}
+use Rattle.sx_invoke.specs.Protocol.{entry_register, input_register, output_register, no_entry, bad_window, set_key_kind, ask_kind, event_kind, set_key_size, ask_size, event_size}
+use Rattle.sx_invoke.specs.Windows.{in_window_size, out_window_size}
 use Rattle.sx_invoke.specs.Setup.{Setup, Call}
 use Rattle.sx_invoke.specs.Windows.{is_bad_window}
 use Rattle.sx_invoke.specs.Progress.{Progress, Invoked, Returns, Violates}
@@ -54,7 +57,8 @@ and_not false b h e = absurd (false≢true e)
 below_four : (n : ℕ) → nat_lt 3 n ≡ false → n ≤ 3
 below_four n h = ⊎_elim (λ (p : 3 < n). absurd (true≢false (sym (lt-ltb 3 n p) ∙ h))) (λ (p : n ≤ 3). p) (cases_lt 3 n)
 
-module _ (s : Setup) (call : Call) (p : Progress) (handle : ℕ → Conf → OperationResult) (given : ℕ → ℕ) (code : List Ir) (c : Conf) (cost : ℕ) (b : CallBegun s call p c) (does : HandlersDo s handle given code cost) where
+module _ (s : Setup) (call : Call) (p : Progress) (handle : ℕ → Conf → OperationResult) (given : ℕ
+    → ℕ) (code : List Ir) (c : Conf) (cost : ℕ) (b : CallBegun s call p c) (does : HandlersDo s handle given code cost) where
   abbrev Goal : Invoked → ℕ → ℕ → Type 0
   Goal result n place = Invokes s call handle given code result n (at c place [])
 
@@ -65,9 +69,10 @@ module _ (s : Setup) (call : Call) (p : Progress) (handle : ℕ → Conf → Ope
   jumps t entry place q n m x y small e a le hit miss =
       let r = if t then x else y in
       let d = (call.entry + (65536 - entry)) % 65536 in
-      let test : pure s c.priv (ir.Saved 12 ∷ ir.Push entry ∷ ir.Op op.Sub ∷ []) [] ≡ Some (d ∷ []) = ap (λ (v : ℕ). Some ((v + (65536 - entry)) % 65536 ∷ [])) b.shows.entry in
+      let test : pure s c.priv (ir.Saved entry_register ∷ ir.Push entry ∷ ir.Op op.Sub ∷ []) [] ≡ Some (d ∷ []) = ap (λ (v : ℕ). Some ((v + (65536 - entry)) % 65536 ∷ [])) b.shows.entry in
       let is_word : call.entry < 65536 = subst (λ (v : ℕ). v < 65536) b.shows.entry (word_lt c.priv 6 b.shows.bytes) in
-      runs_on s call handle given code r (ir.Saved 12 ∷ ir.Push entry ∷ ir.Op op.Sub ∷ []) c place (place + 3) [] (d ∷ []) n (8 + m) (at_front code place (ir.Saved 12 ∷ ir.Push entry ∷ ir.Op op.Sub ∷ []) (ir.JumpZero q ∷ []) a) test (omega arith) (omega (arith, le))
+      runs_on s call handle given code r (ir.Saved entry_register ∷ ir.Push entry ∷ ir.Op op.Sub ∷ []) c place (place + 3) [] (d ∷ []) n (8 + m)
+      (at_front code place (ir.Saved entry_register ∷ ir.Push entry ∷ ir.Op op.Sub ∷ []) (ir.JumpZero q ∷ []) a) test (omega arith) (omega (arith, le))
       (go t d (sub_zero call.entry entry is_word small ∙ e) (ap (slice_get code) (omega arith) ∙ a.1.1.1.0) hit miss)
     where
       go : (t : Bool) (d : ℕ) → (d == 0) ≡ t → slice_get code (place + 3) ≡ Some (ir.JumpZero q)
@@ -81,8 +86,8 @@ module _ (s : Setup) (call : Call) (p : Progress) (handle : ℕ → Conf → Ope
           (subst (λ (z : ℕ). Goal y m z) (omega arith) (miss refl))
 
   -- the four entries
-  enters : At code 27 (entries s.tree s.ends) → is_no_entry s call ≡ false → is_bad_window s call.input 40 ≡ false
-      → is_bad_window s call.output 384 ≡ false → Goal (entered s call p) (cost + 2900) 27
+  enters : At code 27 (entries s.tree s.ends) → is_no_entry s call ≡ false → is_bad_window s call.input in_window_size ≡ false
+      → is_bad_window s call.output out_window_size ≡ false → Goal (entered s call p) (cost + 2900) 27
   unfolding entered
   enters a known window outside =
       let size = b.shows.size in
@@ -105,14 +110,20 @@ module _ (s : Setup) (call : Call) (p : Progress) (handle : ℕ → Conf → Ope
       let a7 = at_back code q_attest q_input (attest_code q_attest) l7 refl a6 in
       let a8 = at_back code q_input q_search (input_code q_search q_input) (search_code s.tree s.ends q_search) refl a7 in
       let r3 = sample s call p in
-      let r2 = if call.entry == 2 then with_received s call 24 3 p (λ packet. input s call packet p) else r3 in
-      let r1 = if call.entry == 1 then with_received s call 18 2 p (λ packet. attest s call packet p) else r2 in
-      jumps (call.entry == 0) 0 27 q_key (cost + 2900) (cost + 2860) (with_received s call 38 1 p (λ packet. set_key s packet p)) r1 (omega arith) refl (at_front code 27 (jump_on 0 q_key) l2 a) (omega arith)
-      (λ x. set_key_does s call handle given code p c b.shows b.pieces b.mem window b.tag b.few b.links (eqb-true call.entry 0 x) q_search a8 q_key (cost + 2860) (at_front code q_key (set_key_code q_search q_key) l6 a5) (omega arith))
-      (λ n0. jumps (call.entry == 1) 1 31 q_attest (cost + 2860) (cost + 2820) (with_received s call 18 2 p (λ packet. attest s call packet p)) r2 (omega arith) refl (at_front code 31 (jump_on 1 q_attest) l3 a2) (omega arith)
-      (λ x. attest_does s call handle given code p c b.shows b.pieces b.mem (omega (arith, size)) window outside b.tag q_attest (cost + 2820) (at_front code q_attest (attest_code q_attest) l7 a6) (omega arith))
-      (λ n1. jumps (call.entry == 2) 2 35 q_input (cost + 2820) (cost + 2780) (with_received s call 24 3 p (λ packet. input s call packet p)) r3 (omega arith) refl (at_front code 35 (jump_on 2 q_input) l4 a3) (omega arith)
-      (λ x. input_does s call handle given code p c b.shows b.pieces b.mem b.back window outside b.tag b.few b.links b.devices cost does (eqb-true call.entry 2 x) q_search a8 q_input (cost + 2780) (at_front code q_input (input_code q_search q_input) (search_code s.tree s.ends q_search) a7) (omega arith))
+      let r2 = if call.entry == 2 then with_received s call event_size event_kind p (λ packet. input s call packet p) else r3 in
+      let r1 = if call.entry == 1 then with_received s call ask_size ask_kind p (λ packet. attest s call packet p) else r2 in
+      jumps (call.entry == 0) 0 27 q_key (cost + 2900) (cost + 2860) (with_received s call set_key_size set_key_kind p (λ packet. set_key s packet p)) r1 (omega arith) refl
+      (at_front code 27 (jump_on 0 q_key) l2 a) (omega arith)
+      (λ x. set_key_does s call handle given code p c b.shows b.pieces b.mem window b.tag b.few b.links (eqb-true call.entry 0 x) q_search a8 q_key (cost + 2860)
+      (at_front code q_key (set_key_code q_search q_key) l6 a5) (omega arith))
+      (λ n0. jumps (call.entry == 1) 1 31 q_attest (cost + 2860) (cost + 2820) (with_received s call ask_size ask_kind p (λ packet. attest s call packet p)) r2 (omega arith) refl
+      (at_front code 31 (jump_on 1 q_attest) l3 a2) (omega arith)
+      (λ x. attest_does s call handle given code p c b.shows b.pieces b.mem (omega (arith, size)) window outside b.tag q_attest (cost + 2820) (at_front code q_attest (attest_code q_attest) l7 a6)
+      (omega arith))
+      (λ n1. jumps (call.entry == 2) 2 35 q_input (cost + 2820) (cost + 2780) (with_received s call event_size event_kind p (λ packet. input s call packet p)) r3 (omega arith) refl
+      (at_front code 35 (jump_on 2 q_input) l4 a3) (omega arith)
+      (λ x. input_does s call handle given code p c b.shows b.pieces b.mem b.back window outside b.tag b.few b.links b.devices cost does (eqb-true call.entry 2 x) q_search a8 q_input (cost + 2780)
+      (at_front code q_input (input_code q_search q_input) (search_code s.tree s.ends q_search) a7) (omega arith))
       (λ n2.
       let parts = or_parts (nat_lt 3 call.entry) ((call.entry == 3) && not (is_sensor_driver (declared_kind s.tree.decls))) known in
       let three : call.entry ≡ 3 = three_left call.entry (below_four call.entry parts.0) (eqb-false call.entry 0 n0) (eqb-false call.entry 1 n1) (eqb-false call.entry 2 n2) in
@@ -131,8 +142,8 @@ module _ (s : Setup) (call : Call) (p : Progress) (handle : ℕ → Conf → Ope
   pub begins : At code 0 (tests s.tree ++ entries s.tree s.ends) → Goal (invoke s call p) (3300 + cost) 0
   unfolding invoke
   begins a =
-      let k3 = refuse_if 22 (ir.Meets 14 384 ∷ []) 3 in
-      let k2 = refuse_if 17 (ir.Meets 13 40 ∷ []) 3 ++ k3 in
+      let k3 = refuse_if 22 (ir.Meets output_register out_window_size ∷ []) 3 in
+      let k2 = refuse_if 17 (ir.Meets input_register in_window_size ∷ []) 3 ++ k3 in
       let k1 = refuse_if 8 (is_no_sample s.tree) 2 ++ k2 in
       let k0 = refuse_if 1 is_above_three 2 ++ k1 in
       let ns = not (is_sensor_driver (declared_kind s.tree.decls)) in
@@ -140,22 +151,32 @@ module _ (s : Setup) (call : Call) (p : Progress) (handle : ℕ → Conf → Ope
       let e = at_back code 0 27 (ir.Inside ∷ k0) (entries s.tree s.ends) refl a in
       let a1 = at_back code 1 8 (refuse_if 1 is_above_three 2) k1 refl t.1 in
       let a2 = at_back code 8 17 (refuse_if 8 (is_no_sample s.tree) 2) k2 refl a1 in
-      let a3 = at_back code 17 22 (refuse_if 17 (ir.Meets 13 40 ∷ []) 3) k3 refl a2 in
+      let a3 = at_back code 17 22 (refuse_if 17 (ir.Meets input_register in_window_size ∷ []) 3) k3 refl a2 in
       let above : pure s c.priv is_above_three [] ≡ Some (truth (nat_lt 3 call.entry) ∷ []) = ap (λ (v : ℕ). Some (truth (nat_lt 3 v) ∷ [])) b.shows.entry in
-      let no_sample : pure s c.priv (is_no_sample s.tree) [] ≡ Some (truth ((call.entry == 3) && ns) ∷ []) = ap (λ (v : ℕ). Some (bit_and (truth (v == 3)) (truth ns) ∷ [])) b.shows.entry ∙ ap (λ (v : ℕ). Some (v ∷ [])) (and_truth (call.entry == 3) ns) in
-      let in_bad : pure s c.priv (ir.Meets 13 40 ∷ []) [] ≡ Some (truth (is_bad_window s call.input 40) ∷ []) = ap (λ (v : ℕ). Some (truth (is_bad_window s v 40) ∷ [])) b.shows.input in
-      let out_bad : pure s c.priv (ir.Meets 14 384 ∷ []) [] ≡ Some (truth (is_bad_window s call.output 384) ∷ []) = ap (λ (v : ℕ). Some (truth (is_bad_window s v 384) ∷ [])) b.shows.output in
+      let no_sample : pure s c.priv (is_no_sample s.tree) [] ≡ Some (truth ((call.entry == 3) && ns) ∷ []) = ap (λ (v : ℕ). Some (bit_and (truth (v == 3)) (truth ns) ∷ [])) b.shows.entry
+      ∙ ap (λ (v : ℕ). Some (v ∷ [])) (and_truth (call.entry == 3) ns) in
+      let in_bad : pure s c.priv (ir.Meets input_register in_window_size ∷ []) [] ≡ Some (truth (is_bad_window s call.input in_window_size) ∷ []) = ap
+      (λ (v : ℕ). Some (truth (is_bad_window s v in_window_size) ∷ [])) b.shows.input in
+      let out_bad : pure s c.priv (ir.Meets output_register out_window_size ∷ []) [] ≡ Some (truth (is_bad_window s call.output out_window_size) ∷ []) = ap
+      (λ (v : ℕ). Some (truth (is_bad_window s v 384) ∷ [])) b.shows.output in
       let from_entries = entered s call p in
-      let from_windows = if has_bad_windows s call then Returns 3 p else from_entries in
-      let from_entry = if is_no_entry s call then Returns 2 p else from_windows in
-      let inside : do_op s handle ir.Inside (at c 0 []) ≡ (if returns_inside s call then Stops (conf.Violates bad.Illegal c.marks) else Goes (at c 1 [])) = ap (λ (v : ℕ). if in_public s.section (even v) then Stops (conf.Violates bad.Illegal c.marks) else Goes (at c 1 [])) b.shows.back in
+      let from_windows = if has_bad_windows s call then Returns bad_window p else from_entries in
+      let from_entry = if is_no_entry s call then Returns no_entry p else from_windows in
+      let inside : do_op s handle ir.Inside (at c 0 []) ≡ (if returns_inside s call then Stops (conf.Violates bad.Illegal c.marks) else Goes (at c 1 [])) = ap
+      (λ (v : ℕ). if in_public s.section (even v) then Stops (conf.Violates bad.Illegal c.marks) else Goes (at c 1 [])) b.shows.back in
       by_inside (returns_inside s call) from_entry t.0 inside
-      (subst (λ (x : Invoked). Goal x (3280 + cost) 1) (sym (or_if (nat_lt 3 call.entry) ((call.entry == 3) && ns) (Returns 2 p) from_windows))
-      (refuse_does s call handle given code (nat_lt 3 call.entry) is_above_three 2 (truth (nat_lt 3 call.entry)) c 1 8 (3280 + cost) (3230 + cost) [] (if (call.entry == 3) && ns then Returns 2 p else from_windows) p (at_front code 1 (refuse_if 1 is_above_three 2) k1 t.1) above refl b.shows b.pieces refl (omega arith)
-      (λ x1. refuse_does s call handle given code ((call.entry == 3) && ns) (is_no_sample s.tree) 2 (truth ((call.entry == 3) && ns)) c 8 17 (3230 + cost) (3150 + cost) [] from_windows p (at_front code 8 (refuse_if 8 (is_no_sample s.tree) 2) k2 a1) no_sample refl b.shows b.pieces refl (omega arith)
-      (λ x2. subst (λ (x : Invoked). Goal x (3150 + cost) 17) (sym (or_if (is_bad_window s call.input 40) (is_bad_window s call.output 384) (Returns 3 p) from_entries))
-      (refuse_does s call handle given code (is_bad_window s call.input 40) (ir.Meets 13 40 ∷ []) 3 (truth (is_bad_window s call.input 40)) c 17 22 (3150 + cost) (3080 + cost) [] (if is_bad_window s call.output 384 then Returns 3 p else from_entries) p (at_front code 17 (refuse_if 17 (ir.Meets 13 40 ∷ []) 3) k3 a2) in_bad refl b.shows b.pieces refl (omega arith)
-      (λ x3. refuse_does s call handle given code (is_bad_window s call.output 384) (ir.Meets 14 384 ∷ []) 3 (truth (is_bad_window s call.output 384)) c 22 27 (3080 + cost) (cost + 2900) [] from_entries p a3 out_bad refl b.shows b.pieces refl (omega arith)
+      (subst (λ (x : Invoked). Goal x (3280 + cost) 1) (sym (or_if (nat_lt 3 call.entry) ((call.entry == 3) && ns) (Returns no_entry p) from_windows))
+      (refuse_does s call handle given code (nat_lt 3 call.entry) is_above_three 2 (truth (nat_lt 3 call.entry)) c 1 8 (3280 + cost) (3230 + cost) []
+      (if (call.entry == 3) && ns then Returns no_entry p else from_windows) p (at_front code 1 (refuse_if 1 is_above_three 2) k1 t.1) above refl b.shows b.pieces refl (omega arith)
+      (λ x1. refuse_does s call handle given code ((call.entry == 3) && ns) (is_no_sample s.tree) 2 (truth ((call.entry == 3) && ns)) c 8 17 (3230 + cost) (3150 + cost) [] from_windows p
+      (at_front code 8 (refuse_if 8 (is_no_sample s.tree) 2) k2 a1) no_sample refl b.shows b.pieces refl (omega arith)
+      (λ x2. subst (λ (x : Invoked). Goal x (3150 + cost) 17)
+      (sym (or_if (is_bad_window s call.input in_window_size) (is_bad_window s call.output out_window_size) (Returns bad_window p) from_entries))
+      (refuse_does s call handle given code (is_bad_window s call.input in_window_size) (ir.Meets input_register in_window_size ∷ []) 3 (truth (is_bad_window s call.input in_window_size)) c 17 22
+      (3150 + cost) (3080 + cost) [] (if is_bad_window s call.output out_window_size then Returns bad_window p else from_entries) p
+      (at_front code 17 (refuse_if 17 (ir.Meets input_register in_window_size ∷ []) 3) k3 a2) in_bad refl b.shows b.pieces refl (omega arith)
+      (λ x3. refuse_does s call handle given code (is_bad_window s call.output out_window_size) (ir.Meets output_register out_window_size ∷ []) 3
+      (truth (is_bad_window s call.output out_window_size)) c 22 27 (3080 + cost) (cost + 2900) [] from_entries p a3 out_bad refl b.shows b.pieces refl (omega arith)
       (λ x4. enters e (or_false (nat_lt 3 call.entry) ((call.entry == 3) && ns) x1 x2) x3 x4)))))))
     where
       or_false : (x y : Bool) → x ≡ false → y ≡ false → (x || y) ≡ false

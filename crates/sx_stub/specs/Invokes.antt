@@ -11,6 +11,8 @@ use Rattle.sx_rules.specs.declared.access.Violation.{Violation}
 use Rattle.sx_bus.specs.Devices.{HaveSamples}
 use Rattle.sx_tag.specs.Mac.{IsTag}
 use Rattle.sx_machine.specs.Memory.{word}
+use Rattle.sx_invoke.specs.Protocol.{entry_register, input_register, output_register}
+use Rattle.sx_invoke.specs.Protocol.{back_register}
 use Rattle.sx_invoke.specs.ModuleState.{state_of}
 use Rattle.sx_invoke.specs.Marks.{Mark}
 use Rattle.sx_invoke.specs.Setup.{Setup, Call}
@@ -34,10 +36,10 @@ pub record ShowsCall (s : Setup) (call : Call) (p : Progress) (c : Conf) : Type 
   pub mem : c.mem ≡ p.mem
   pub devices : c.devices ≡ p.devices
   pub marks : c.marks ≡ p.marks
-  pub entry : saved c 12 ≡ call.entry
-  pub input : saved c 13 ≡ call.input
-  pub output : saved c 14 ≡ call.output
-  pub back : saved c 15 ≡ call.back
+  pub entry : saved c entry_register ≡ call.entry
+  pub input : saved c input_register ≡ call.input
+  pub output : saved c output_register ≡ call.output
+  pub back : saved c back_register ≡ call.back
 
 -- A call begins: nothing of it is done yet, and this is true of the module and the node.
 pub record CallBegun (s : Setup) (call : Call) (p : Progress) (c : Conf) : Type 0 where

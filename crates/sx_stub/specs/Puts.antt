@@ -2,6 +2,7 @@
 use Rattle.std.specs.Prelude.{◌≡◌, ℕ, ◌+◌, List, [], ◌∷◌, ◌++◌, length}
 use Rattle.sx_lang.specs.Tree.{ModuleTree}
 use Rattle.sx_mean.specs.declared.events.End.{End}
+use Rattle.sx_invoke.specs.Protocol.{entry_register}
 use Rattle.sx_ir.specs.declared.ir.IrOp.TheVariants as op
 use Rattle.sx_ir.specs.declared.ir.Ir.{Ir}
 use Rattle.sx_ir.specs.declared.ir.Ir.TheVariants as ir
@@ -40,7 +41,7 @@ searched search = ir.Store wanted_at ∷ ir.Jump search ∷ []
 
 -- where it is found is kept, and set-key goes on at the place
 abbrev pub parted : ℕ → List Ir
-parted key = ir.Store index_at ∷ ir.Saved 12 ∷ ir.JumpZero key ∷ []
+parted key = ir.Store index_at ∷ ir.Saved entry_register ∷ ir.JumpZero key ∷ []
 
 -- the place after the cases of the receiving ends
 abbrev pub behind_cases : ModuleTree → List End → ℕ → ℕ

@@ -11,6 +11,14 @@ use Rattle.sx_mean.specs.Application.{declared_kind}
 use Rattle.sx_mean.specs.Handlers.{number_of}
 use Rattle.sx_mean.specs.Meaning.{truth}
 use Rattle.sx_mean.specs.Offsets as offsets
+use Rattle.sx_invoke.specs.Protocol.{set_key_entry, attest_entry, input_entry, sample_entry}
+use Rattle.sx_invoke.specs.Protocol.{entry_register, input_register, output_register}
+use Rattle.sx_invoke.specs.Protocol.{all_done, no_entry, bad_window, other_kind, no_end}
+use Rattle.sx_invoke.specs.Protocol.{past_number, other_tag, no_sample, last_number}
+use Rattle.sx_invoke.specs.Protocol.{set_key_kind, ask_kind, event_kind}
+use Rattle.sx_invoke.specs.Protocol.{set_key_size, ask_size, event_size, header_size, tag_size}
+use Rattle.sx_invoke.specs.Protocol.{key_size, value_size}
+use Rattle.sx_invoke.specs.Windows.{in_window_size, out_window_size}
 use Rattle.sx_invoke.specs.Invocation.{is_sensor_driver}
 use Rattle.sx_ir.specs.declared.ir.IrOp.TheVariants as op
 use Rattle.sx_ir.specs.declared.ir.Ir.{Ir}
@@ -54,7 +62,8 @@ refuse_if place test status = test ++ ir.JumpZero (place + length test + 4) ∷ 
 
 -- goes on at a place where the caller's entry is this one
 abbrev pub jump_on : ℕ → ℕ → List Ir
-jump_on entry place = ir.Saved 12 ∷ ir.Push entry ∷ ir.Op op.Sub ∷ ir.JumpZero place ∷ []
+jump_on entry place =
+    ir.Saved entry_register ∷ ir.Push entry ∷ ir.Op op.Sub ∷ ir.JumpZero place ∷ []
 
 -- One case for each end that has it: where the word at an offset is the case's number, its body,
 -- else the next case. The number depends on the end and its place among the ends, the body also on
@@ -131,7 +140,7 @@ find_any found =
 
 -- the slot of the k-th end is opened
 abbrev pub open_end : ℕ → ℕ → End → List Ir
-open_end place k e = ir.SetEnd k ∷ ir.Push 1 ∷ ir.Push 0 ∷ ir.Leave ∷ []
+open_end place k e = ir.SetEnd k ∷ ir.Push all_done ∷ ir.Push 0 ∷ ir.Leave ∷ []
 
 -- the slot of the end that was found is opened
 abbrev pub open_any : Cases
@@ -157,33 +166,41 @@ is_keyed_code ends =
 -- of the end that was found: the tests, and then the slot's opening
 abbrev pub key_found : List End → ℕ → List Ir
 key_found ends place =
-    refuse_if place (is_keyed_code (length ends)) 5
-    ++ ir.Open 0 16 6 56 16 ∷ (refuse_if (place + 24) is_opened_not 7
+    refuse_if place (is_keyed_code (length ends)) no_end
+    ++ ir.Open 0 offsets.packet_at header_size offsets.plain_at key_size
+    ∷ (refuse_if (place + 24) is_opened_not other_tag
     ++ cases open_any (place + 29) 0 ends)
 
 -- the packet is copied and tested, and its end is searched for
 abbrev pub set_key_code : ℕ → ℕ → List Ir
 set_key_code search place =
-    ir.CopyIn 38 16 ∷ (refuse_if (place + 1) (is_wrong_kind 1) 4
-    ++ (refuse_if (place + 8) is_no_side 5
+    ir.CopyIn set_key_size offsets.packet_at
+    ∷ (refuse_if (place + 1) (is_wrong_kind set_key_kind) other_kind
+    ++ (refuse_if (place + 8) is_no_side no_end
     ++ (wanted_end ++ ir.Store wanted_at ∷ ir.Jump search ∷ [])))
 
 -- Attest.
 
+-- where the answer's tag is made, behind the ask
+abbrev pub answer_at : ℕ
+answer_at = 34
+
 -- the answer's tag is made and copied
 abbrev pub answer_code : List Ir
 answer_code =
-    ir.Seal 0 16 18 56 0 ∷ ir.Push 0 ∷ ir.CopyOut 16 34 ∷ ir.Push 1 ∷ ir.Push 1 ∷ ir.Leave ∷ []
+    ir.Seal 0 offsets.packet_at ask_size offsets.plain_at 0 ∷ ir.Push 0
+    ∷ ir.CopyOut tag_size answer_at ∷ ir.Push all_done ∷ ir.Push 1 ∷ ir.Leave ∷ []
 
 -- the ask is copied, tested and answered
 abbrev pub attest_code : ℕ → List Ir
 attest_code place =
-    ir.CopyIn 18 16 ∷ (refuse_if (place + 1) (is_wrong_kind 2) 4 ++ answer_code)
+    ir.CopyIn ask_size offsets.packet_at
+    ∷ (refuse_if (place + 1) (is_wrong_kind ask_kind) other_kind ++ answer_code)
 
 -- A handler, where there is one, and the return.
 abbrev pub handled_by : Option ℕ → List Ir
-handled_by None = ir.Push 1 ∷ ir.Push 0 ∷ ir.Leave ∷ []
-handled_by (Some h) = ir.Handler h ∷ ir.Push 1 ∷ ir.Load offsets.pieces_at ∷ ir.Leave ∷ []
+handled_by None = ir.Push all_done ∷ ir.Push 0 ∷ ir.Leave ∷ []
+handled_by (Some h) = ir.Handler h ∷ ir.Push all_done ∷ ir.Load offsets.pieces_at ∷ ir.Leave ∷ []
 
 -- Input, and the cases in it.
 
@@ -196,13 +213,14 @@ wanted_receiving =
 abbrev pub taken_code : ModuleTree → ℕ → End → List Ir
 taken_code tree k e =
     ir.Load second_at ∷ ir.Push 1 ∷ ir.Op op.Add ∷ ir.Store (offsets.end_number_at k)
-    ∷ ir.Load 56 ∷ ir.Store offsets.event_at ∷ handled_by (number_of tree (event.Input e.port 0))
+    ∷ ir.Load offsets.plain_at ∷ ir.Store offsets.event_at
+    ∷ handled_by (number_of tree (event.Input e.port 0))
 
 -- the packet is unwrapped and taken
 abbrev pub take_event : ModuleTree → ℕ → ℕ → End → List Ir
 take_event tree place k e =
-    ir.Open (offsets.end_key_at k) 16 6 56 2 ∷ (refuse_if (place + 1) is_opened_not 7
-    ++ taken_code tree k e)
+    ir.Open (offsets.end_key_at k) offsets.packet_at header_size offsets.plain_at value_size
+    ∷ (refuse_if (place + 1) is_opened_not other_tag ++ taken_code tree k e)
 
 -- the receiving end that was found takes the packet
 abbrev pub take_receiving : ModuleTree → Cases
@@ -224,20 +242,23 @@ is_past_number ends = ir.Load second_at ∷ (slot_word ends 1 ++ ir.Op op.Lt ∷
 
 -- it has no number above it
 abbrev pub is_last_number : List Ir
-is_last_number = ir.Load second_at ∷ ir.Push 65535 ∷ ir.Op op.Eq ∷ []
+is_last_number = ir.Load second_at ∷ ir.Push last_number ∷ ir.Op op.Eq ∷ []
 
 -- of the end that was found: the tests, and then the event's taking
 abbrev pub input_found : ModuleTree → List End → ℕ → List Ir
 input_found tree ends place =
     let n = length ends in
-    refuse_if place (is_closed_code n) 5 ++ (refuse_if (place + 10) (is_other_epoch n) 5
-    ++ (refuse_if (place + 24) (is_past_number n) 6 ++ (refuse_if (place + 34) is_last_number 6
+    refuse_if place (is_closed_code n) no_end
+    ++ (refuse_if (place + 10) (is_other_epoch n) no_end
+    ++ (refuse_if (place + 24) (is_past_number n) past_number
+    ++ (refuse_if (place + 34) is_last_number past_number
     ++ cases (take_receiving tree) (place + 41) 0 ends)))
 
 -- the packet is copied and tested, and its end is searched for
 abbrev pub input_code : ℕ → ℕ → List Ir
 input_code search place =
-    ir.CopyIn 24 16 ∷ (refuse_if (place + 1) (is_wrong_kind 3) 4
+    ir.CopyIn event_size offsets.packet_at
+    ∷ (refuse_if (place + 1) (is_wrong_kind event_kind) other_kind
     ++ (wanted_receiving ++ ir.Store wanted_at ∷ ir.Jump search ∷ []))
 
 -- The search for the end, which set-key and input share, and what follows it.
@@ -249,14 +270,14 @@ key_place tree ends place = place + 3 + length (input_found tree ends (place + 3
 -- the index is kept, and the caller's entry goes on: set-key's is 0
 abbrev pub found_code : ModuleTree → List End → ℕ → List Ir
 found_code tree ends place =
-    ir.Store index_at ∷ ir.Saved 12 ∷ ir.JumpZero (key_place tree ends place)
+    ir.Store index_at ∷ ir.Saved entry_register ∷ ir.JumpZero (key_place tree ends place)
     ∷ (input_found tree ends (place + 3) ++ key_found ends (key_place tree ends place))
 
 -- the end that the packet is for is searched for; without one the status is 5
 abbrev pub search_code : ModuleTree → List End → ℕ → List Ir
 search_code tree ends place =
     let found = place + 7 * length ends + 3 in
-    cases (find_any found) place 0 ends ++ (returns 5 ++ found_code tree ends found)
+    cases (find_any found) place 0 ends ++ (returns no_end ++ found_code tree ends found)
 
 -- Sample: the value is what the sensor's word reads, without its bit 15.
 
@@ -273,36 +294,58 @@ sampled_code tree =
 -- the sensor is read, tested and taken
 abbrev pub sample_code : ModuleTree → ℕ → List Ir
 sample_code tree place =
-    ir.Sense ∷ ir.Store offsets.event_at ∷ (refuse_if (place + 2) is_stale_code 8
+    ir.Sense ∷ ir.Store offsets.event_at ∷ (refuse_if (place + 2) is_stale_code no_sample
     ++ sampled_code tree)
 
 -- The tests of the entry and the windows, and the way to the four entries.
 
 -- there are entries 0 to 3 alone
 abbrev pub is_above_three : List Ir
-is_above_three = ir.Push 3 ∷ ir.Saved 12 ∷ ir.Op op.Lt ∷ []
+is_above_three = ir.Push sample_entry ∷ ir.Saved entry_register ∷ ir.Op op.Lt ∷ []
 
 -- entry 3 is of a module that drives a sensor
 abbrev pub is_no_sample : ModuleTree → List Ir
 is_no_sample tree =
-    ir.Saved 12 ∷ ir.Push 3 ∷ ir.Op op.Eq
+    ir.Saved entry_register ∷ ir.Push sample_entry ∷ ir.Op op.Eq
     ∷ ir.Push (truth (not (is_sensor_driver (declared_kind tree.decls)))) ∷ ir.Op op.And ∷ []
 
 -- the return address, the entry and the windows, in this order
 abbrev pub tests : ModuleTree → List Ir
 tests tree =
-    ir.Inside ∷ (refuse_if 1 is_above_three 2 ++ (refuse_if 8 (is_no_sample tree) 2
-    ++ (refuse_if 17 (ir.Meets 13 40 ∷ []) 3 ++ refuse_if 22 (ir.Meets 14 384 ∷ []) 3)))
+    ir.Inside ∷ (refuse_if 1 is_above_three no_entry
+    ++ (refuse_if 8 (is_no_sample tree) no_entry
+    ++ (refuse_if 17 (ir.Meets input_register in_window_size ∷ []) bad_window
+    ++ refuse_if 22 (ir.Meets output_register out_window_size ∷ []) bad_window)))
+
+-- where the ways to the entries begin, behind the tests
+abbrev pub entries_place : ℕ
+entries_place = 27
+
+-- where the entry of sample begins, behind the ways to the three others
+abbrev pub sample_place : ℕ
+sample_place = 39
+
+-- the operations of the entry of set-key
+abbrev pub set_key_length : ℕ
+set_key_length = 24
+
+-- those of attest
+abbrev pub attest_length : ℕ
+attest_length = 14
+
+-- those of input
+abbrev pub input_length : ℕ
+input_length = 15
 
 -- the four entries' code begins at these places, and the search after them
 abbrev pub entries : ModuleTree → List End → List Ir
 entries tree ends =
-    let set_key = 39 + length (sample_code tree 39) in
-    let attest = set_key + 24 in
-    let input = attest + 14 in
-    let search = input + 15 in
-    jump_on 0 set_key ++ (jump_on 1 attest ++ (jump_on 2 input
-    ++ (sample_code tree 39 ++ (set_key_code search set_key ++ (attest_code attest
+    let set_key = sample_place + length (sample_code tree sample_place) in
+    let attest = set_key + set_key_length in
+    let input = attest + attest_length in
+    let search = input + input_length in
+    jump_on set_key_entry set_key ++ (jump_on attest_entry attest ++ (jump_on input_entry input
+    ++ (sample_code tree sample_place ++ (set_key_code search set_key ++ (attest_code attest
     ++ (input_code search input ++ search_code tree ends search))))))
 
 -- the stub, which begins at place 0
@@ -312,4 +355,4 @@ stub_code tree ends = tests tree ++ entries tree ends
 -- the stub's operations: its code, and after it a return, so that each of its jumps goes to an
 -- operation
 abbrev pub stub_ops : ModuleTree → List End → List Ir
-stub_ops tree ends = stub_code tree ends ++ returns 5
+stub_ops tree ends = stub_code tree ends ++ returns no_end

@@ -6,20 +6,24 @@ ghost use Rattle.sx_stub.specs.Stub.{answer_code, attest_code};
 
 use crate::pieces::{KIND, put, put_all, put_refuse};
 use std::alloc::AllocError;
+use sx_invoke::protocol::{ALL_DONE, ASK_HEADER_SIZE, ASK_KIND, ASK_SIZE, OTHER_KIND, TAG_SIZE};
 use sx_ir::{Ir, IrOp};
 use sx_mean::offsets::{PACKET, PLAIN};
 
-/// The offset of the tag after an attest packet.
+/// The number of operations of the entry of attest.
+pub const ATTEST_LENGTH: u16 = 14;
+
+/// The offset of the tag after an ask.
 const TAG: u16 = 34;
 
 fn put_answer(code: &mut Vec<Ir>) -> Result<(), AllocError>
     ensures { OnOk result (Puts answer_code code.old.items code.new.items) }
 {
     let ops = [
-        Ir::Seal(0, PACKET, 18, PLAIN, 0),
+        Ir::Seal(0, PACKET, ASK_HEADER_SIZE, PLAIN, 0),
         Ir::Push(0),
-        Ir::CopyOut(16, TAG),
-        Ir::Push(1),
+        Ir::CopyOut(TAG_SIZE, TAG),
+        Ir::Push(ALL_DONE),
         Ir::Push(1),
         Ir::Leave,
     ];
@@ -31,7 +35,11 @@ pub fn put_attest(code: &mut Vec<Ir>) -> Result<(), AllocError>
     requires short { length code.old.items < 60000 }
     ensures { OnOk result (PutsAt attest_code code.old.items code.new.items) }
 {
-    put(code, Ir::CopyIn(18, PACKET))?;
-    put_refuse(code, &[Ir::Load(KIND), Ir::Push(2), Ir::Op(IrOp::Sub)], 4)?;
+    put(code, Ir::CopyIn(ASK_SIZE, PACKET))?;
+    put_refuse(
+        code,
+        &[Ir::Load(KIND), Ir::Push(ASK_KIND), Ir::Op(IrOp::Sub)],
+        OTHER_KIND,
+    )?;
     put_answer(code)
 }

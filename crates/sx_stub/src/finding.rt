@@ -9,6 +9,7 @@ use crate::inputs::{behind_input_found, put_input_found};
 use crate::keys::put_key_found;
 use crate::pieces::{INDEX, WANTED, put_all, put_choice, put_returns};
 use std::alloc::AllocError;
+use sx_invoke::protocol::{ENTRY_REGISTER, NO_END};
 use sx_ir::Ir;
 use sx_lang::sides::Side;
 use sx_lang::tree::Module;
@@ -49,7 +50,14 @@ fn put_find_cases(code: &mut Vec<Ir>, ends: &[End], found: u16) -> Result<(), Al
 fn put_kept(code: &mut Vec<Ir>, key: u16) -> Result<(), AllocError>
     ensures { OnOk result (Puts (parted key) code.old.items code.new.items) }
 {
-    put_all(code, &[Ir::Store(INDEX), Ir::Saved(12), Ir::JumpZero(key)])
+    put_all(
+        code,
+        &[
+            Ir::Store(INDEX),
+            Ir::Saved(ENTRY_REGISTER),
+            Ir::JumpZero(key),
+        ],
+    )
 }
 
 fn put_found(code: &mut Vec<Ir>, tree: &Module, ends: &[End]) -> Result<(), AllocError>
@@ -77,6 +85,6 @@ pub fn put_search(code: &mut Vec<Ir>, tree: &Module, ends: &[End]) -> Result<(),
 {
     let found = code.len() as u16 + 7 * ends.len() as u16 + 3;
     put_find_cases(code, ends, found)?;
-    put_returns(code, 5)?;
+    put_returns(code, NO_END)?;
     put_found(code, tree, ends)
 }

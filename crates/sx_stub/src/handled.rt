@@ -10,6 +10,7 @@ ghost use Rattle.sx_stub.specs.Puts.{Puts};
 
 use crate::pieces::put_all;
 use std::alloc::AllocError;
+use sx_invoke::protocol::ALL_DONE;
 use sx_ir::Ir;
 use sx_lang::names::Name;
 use sx_lang::tree::{Decl, Handler, Module};
@@ -89,11 +90,16 @@ pub fn put_handled(code: &mut Vec<Ir>, handler: Option<u8>) -> Result<(), AllocE
     ensures { OnOk result (Puts (handled_by handler) code.old.items code.new.items) }
 {
     match handler {
-        None => put_all(code, &[Ir::Push(1), Ir::Push(0), Ir::Leave]),
+        None => put_all(code, &[Ir::Push(ALL_DONE), Ir::Push(0), Ir::Leave]),
         Some(h) => {
             put_all(
                 code,
-                &[Ir::Handler(h), Ir::Push(1), Ir::Load(PIECES), Ir::Leave],
+                &[
+                    Ir::Handler(h),
+                    Ir::Push(ALL_DONE),
+                    Ir::Load(PIECES),
+                    Ir::Leave,
+                ],
             )
         }
     }

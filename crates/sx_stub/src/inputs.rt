@@ -16,11 +16,18 @@ use crate::pieces::{
     FIELD, INDEX, KIND, SECOND, SLOTS, WANTED, put, put_all, put_choice, put_refuse,
 };
 use std::alloc::AllocError;
+use sx_invoke::protocol::{
+    EVENT_KIND, EVENT_SIZE, HEADER_SIZE, LAST_NUMBER, NO_END, OTHER_KIND, OTHER_TAG, PAST_NUMBER,
+    VALUE_SIZE,
+};
 use sx_ir::{Ir, IrOp};
 use sx_lang::sides::Side;
 use sx_lang::tree::Module;
 use sx_mean::events::End;
 use sx_mean::offsets::{EVENT, PACKET, PLAIN, end_key_at, end_number_at};
+
+/// The number of operations of the entry of input.
+pub const INPUT_LENGTH: u16 = 15;
 
 fn put_wanted_receiving(code: &mut Vec<Ir>, search: u16) -> Result<(), AllocError>
     ensures { OnOk result (Puts (wanted_receiving ++ searched search) code.old.items
@@ -44,8 +51,12 @@ pub fn put_input(code: &mut Vec<Ir>, search: u16) -> Result<(), AllocError>
     requires short { length code.old.items < 60000 }
     ensures { OnOk result (PutsAt (input_code search) code.old.items code.new.items) }
 {
-    put(code, Ir::CopyIn(24, PACKET))?;
-    put_refuse(code, &[Ir::Load(KIND), Ir::Push(3), Ir::Op(IrOp::Sub)], 4)?;
+    put(code, Ir::CopyIn(EVENT_SIZE, PACKET))?;
+    put_refuse(
+        code,
+        &[Ir::Load(KIND), Ir::Push(EVENT_KIND), Ir::Op(IrOp::Sub)],
+        OTHER_KIND,
+    )?;
     put_wanted_receiving(code, search)
 }
 
@@ -81,8 +92,11 @@ fn put_take(code: &mut Vec<Ir>, tree: &Module, k: u8, e: &End) -> Result<(), All
     ensures { OnOk result
         (PutsAt (λ p. take_event (module_of tree.now) p k e.now) code.old.items code.new.items) }
 {
-    put(code, Ir::Open(end_key_at(k), PACKET, 6, PLAIN, 2))?;
-    put_refuse(code, &[Ir::Op(IrOp::Not)], 7)?;
+    put(
+        code,
+        Ir::Open(end_key_at(k), PACKET, HEADER_SIZE, PLAIN, VALUE_SIZE),
+    )?;
+    put_refuse(code, &[Ir::Op(IrOp::Not)], OTHER_TAG)?;
     put_taken(code, tree, k, e)
 }
 
@@ -177,7 +191,7 @@ fn put_closed_test(code: &mut Vec<Ir>, ends: u16) -> Result<(), AllocError>
         Ir::Push(0),
         Ir::Op(IrOp::Eq),
     ];
-    put_refuse(code, &test, 5)
+    put_refuse(code, &test, NO_END)
 }
 
 fn put_epoch_test(code: &mut Vec<Ir>, ends: u16) -> Result<(), AllocError>
@@ -197,7 +211,7 @@ fn put_epoch_test(code: &mut Vec<Ir>, ends: u16) -> Result<(), AllocError>
         Ir::Op(IrOp::And),
         Ir::Op(IrOp::Sub),
     ];
-    put_refuse(code, &test, 5)
+    put_refuse(code, &test, NO_END)
 }
 
 fn put_past_test(code: &mut Vec<Ir>, ends: u16) -> Result<(), AllocError>
@@ -213,7 +227,7 @@ fn put_past_test(code: &mut Vec<Ir>, ends: u16) -> Result<(), AllocError>
         Ir::LoadAt(SLOTS, 12 * ends),
         Ir::Op(IrOp::Lt),
     ];
-    put_refuse(code, &test, 6)
+    put_refuse(code, &test, PAST_NUMBER)
 }
 
 fn put_last_test(code: &mut Vec<Ir>) -> Result<(), AllocError>
@@ -222,8 +236,8 @@ fn put_last_test(code: &mut Vec<Ir>) -> Result<(), AllocError>
 {
     put_refuse(
         code,
-        &[Ir::Load(SECOND), Ir::Push(65535), Ir::Op(IrOp::Eq)],
-        6,
+        &[Ir::Load(SECOND), Ir::Push(LAST_NUMBER), Ir::Op(IrOp::Eq)],
+        PAST_NUMBER,
     )
 }
 

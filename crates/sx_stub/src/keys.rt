@@ -8,9 +8,15 @@ use crate::pieces::{
     FIELD, INDEX, KIND, SECOND, SLOTS, WANTED, put, put_all, put_choice, put_refuse,
 };
 use std::alloc::AllocError;
+use sx_invoke::protocol::{
+    ALL_DONE, HEADER_SIZE, KEY_SIZE, NO_END, OTHER_KIND, OTHER_TAG, SET_KEY_KIND, SET_KEY_SIZE,
+};
 use sx_ir::{Ir, IrOp};
 use sx_mean::events::End;
 use sx_mean::offsets::{PACKET, PLAIN};
+
+/// The number of operations of the entry of set-key.
+pub const SET_KEY_LENGTH: u16 = 24;
 
 fn put_wanted_end(code: &mut Vec<Ir>, search: u16) -> Result<(), AllocError>
     ensures { OnOk result (Puts (wanted_end ++ searched search) code.old.items code.new.items) }
@@ -35,9 +41,17 @@ pub fn put_set_key(code: &mut Vec<Ir>, search: u16) -> Result<(), AllocError>
     requires short { length code.old.items < 60000 }
     ensures { OnOk result (PutsAt (set_key_code search) code.old.items code.new.items) }
 {
-    put(code, Ir::CopyIn(38, PACKET))?;
-    put_refuse(code, &[Ir::Load(KIND), Ir::Push(1), Ir::Op(IrOp::Sub)], 4)?;
-    put_refuse(code, &[Ir::Push(1), Ir::Load(SECOND), Ir::Op(IrOp::Lt)], 5)?;
+    put(code, Ir::CopyIn(SET_KEY_SIZE, PACKET))?;
+    put_refuse(
+        code,
+        &[Ir::Load(KIND), Ir::Push(SET_KEY_KIND), Ir::Op(IrOp::Sub)],
+        OTHER_KIND,
+    )?;
+    put_refuse(
+        code,
+        &[Ir::Push(1), Ir::Load(SECOND), Ir::Op(IrOp::Lt)],
+        NO_END,
+    )?;
     put_wanted_end(code, search)
 }
 
@@ -68,7 +82,7 @@ fn put_keyed_test(code: &mut Vec<Ir>, ends: u16) -> Result<(), AllocError>
         Ir::Op(IrOp::Not),
         Ir::Op(IrOp::And),
     ];
-    put_refuse(code, &test, 5)
+    put_refuse(code, &test, NO_END)
 }
 
 fn put_open_case(code: &mut Vec<Ir>, k: u8, e: &End) -> Result<(), AllocError>
@@ -78,7 +92,10 @@ fn put_open_case(code: &mut Vec<Ir>, k: u8, e: &End) -> Result<(), AllocError>
 {
     let next = (code.len() + 9) as u16;
     put_choice(code, INDEX, 12 * u16::from(k), next)?;
-    put_all(code, &[Ir::SetEnd(k), Ir::Push(1), Ir::Push(0), Ir::Leave])
+    put_all(
+        code,
+        &[Ir::SetEnd(k), Ir::Push(ALL_DONE), Ir::Push(0), Ir::Leave],
+    )
 }
 
 fn put_open_cases(code: &mut Vec<Ir>, ends: &[End]) -> Result<(), AllocError>
@@ -102,7 +119,7 @@ pub fn put_key_found(code: &mut Vec<Ir>, ends: &[End]) -> Result<(), AllocError>
     ensures { OnOk result (PutsAt (key_found ends.now) code.old.items code.new.items) }
 {
     put_keyed_test(code, ends.len() as u16)?;
-    put(code, Ir::Open(0, PACKET, 6, PLAIN, 16))?;
-    put_refuse(code, &[Ir::Op(IrOp::Not)], 7)?;
+    put(code, Ir::Open(0, PACKET, HEADER_SIZE, PLAIN, KEY_SIZE))?;
+    put_refuse(code, &[Ir::Op(IrOp::Not)], OTHER_TAG)?;
     put_open_cases(code, ends)
 }

@@ -21,7 +21,5 @@ pub mod laws;
 mod pieces;
 mod protocol;
 mod samples;
-#[cfg(test)]
-mod tests;
 
 pub use protocol::{links_fit, stub};

@@ -5,6 +5,7 @@ ghost use Rattle.sx_stub.specs.Puts.{Puts, PutsAt, RefusesWith, choice, searched
 ghost use Rattle.sx_stub.specs.Stub.{jump_on, returns};
 
 use std::alloc::AllocError;
+use sx_invoke::protocol::ENTRY_REGISTER;
 use sx_ir::{Ir, IrOp};
 
 /// The word by which an end is searched for.
@@ -68,7 +69,7 @@ pub fn put_jump_on(code: &mut Vec<Ir>, entry: u16, place: u16) -> Result<(), All
     ensures { OnOk result (Puts (jump_on entry place) code.old.items code.new.items) }
 {
     let ops = [
-        Ir::Saved(12),
+        Ir::Saved(ENTRY_REGISTER),
         Ir::Push(entry),
         Ir::Op(IrOp::Sub),
         Ir::JumpZero(place),

@@ -5,18 +5,23 @@ ghost use Rattle.sx_check.specs.Source.{source_tree};
 ghost use Rattle.sx_lang.specs.View.{module_of};
 ghost use Rattle.sx_invoke.specs.Invocation.{is_sensor_driver};
 ghost use Rattle.sx_mean.specs.Application.{declared_kind};
-ghost use Rattle.sx_stub.specs.Stub.{entries, is_above_three, is_no_sample, stub_ops, tests};
+ghost use Rattle.sx_stub.specs.Stub.{entries, entries_place, is_above_three, is_no_sample};
+ghost use Rattle.sx_stub.specs.Stub.{stub_ops, tests};
 ghost use Rattle.sx_stub.specs.Puts.{Puts, RefusesWith};
 ghost use Rattle.sx_stub.specs.Stubs.{StubsTo};
 
-use crate::answers::put_attest;
+use crate::answers::{ATTEST_LENGTH, put_attest};
 use crate::finding::put_search;
-use crate::inputs::put_input;
-use crate::keys::put_set_key;
+use crate::inputs::{INPUT_LENGTH, put_input};
+use crate::keys::{SET_KEY_LENGTH, put_set_key};
 use crate::pieces::{put, put_jump_on, put_refuse, put_returns};
-use crate::samples::{put_sample, sample_len};
+use crate::samples::{SAMPLE_PLACE, put_sample, sample_len};
 use std::alloc::{AllocError, Global};
 use sx_check::checked::Checked;
+use sx_invoke::protocol::{
+    ATTEST_ENTRY, BAD_WINDOW, ENTRY_REGISTER, IN_WINDOW_SIZE, INPUT_ENTRY, INPUT_REGISTER, NO_END,
+    NO_ENTRY, OUT_WINDOW_SIZE, OUTPUT_REGISTER, SAMPLE_ENTRY, SET_KEY_ENTRY,
+};
 use sx_ir::{Code, Ir, IrOp};
 use sx_lang::tree::{DeviceKind, Module};
 use sx_mean::apps::declared_kind;
@@ -39,20 +44,28 @@ fn put_sample_test(code: &mut Vec<Ir>, tree: &Module) -> Result<(), AllocError>
         code.new.items) }
 {
     let test = [
-        Ir::Saved(12),
-        Ir::Push(3),
+        Ir::Saved(ENTRY_REGISTER),
+        Ir::Push(SAMPLE_ENTRY),
         Ir::Op(IrOp::Eq),
         Ir::Push(u16::from(has_no_sensor(tree))),
         Ir::Op(IrOp::And),
     ];
-    put_refuse(code, &test, 2)
+    put_refuse(code, &test, NO_ENTRY)
 }
 
 fn put_entry_test(code: &mut Vec<Ir>) -> Result<(), AllocError>
     requires short { length code.old.items < 60000 }
     ensures { OnOk result (RefusesWith is_above_three 2 code.old.items code.new.items) }
 {
-    put_refuse(code, &[Ir::Push(3), Ir::Saved(12), Ir::Op(IrOp::Lt)], 2)
+    put_refuse(
+        code,
+        &[
+            Ir::Push(SAMPLE_ENTRY),
+            Ir::Saved(ENTRY_REGISTER),
+            Ir::Op(IrOp::Lt),
+        ],
+        NO_ENTRY,
+    )
 }
 
 fn put_tests(code: &mut Vec<Ir>, tree: &Module) -> Result<(), AllocError>
@@ -62,24 +75,32 @@ fn put_tests(code: &mut Vec<Ir>, tree: &Module) -> Result<(), AllocError>
     put(code, Ir::Inside)?;
     put_entry_test(code)?;
     put_sample_test(code, tree)?;
-    put_refuse(code, &[Ir::Meets(13, 40)], 3)?;
-    put_refuse(code, &[Ir::Meets(14, 384)], 3)
+    put_refuse(
+        code,
+        &[Ir::Meets(INPUT_REGISTER, IN_WINDOW_SIZE)],
+        BAD_WINDOW,
+    )?;
+    put_refuse(
+        code,
+        &[Ir::Meets(OUTPUT_REGISTER, OUT_WINDOW_SIZE)],
+        BAD_WINDOW,
+    )
 }
 
 fn put_entries(code: &mut Vec<Ir>, tree: &Module, ends: &[End]) -> Result<(), AllocError>
-    requires here { length code.old.items ≡ 27 }
+    requires here { length code.old.items ≡ entries_place }
     requires few { length tree.now.handlers.items ≤ 256 }
     requires ends { length ends.now ≤ 16 }
     ensures { OnOk result (Puts (entries (module_of tree.now) ends.now) code.old.items
         code.new.items) }
 {
-    let set_key = 39 + sample_len(tree);
-    let attest = set_key + 24;
-    let input = attest + 14;
-    let search = input + 15;
-    put_jump_on(code, 0, set_key)?;
-    put_jump_on(code, 1, attest)?;
-    put_jump_on(code, 2, input)?;
+    let set_key = SAMPLE_PLACE + sample_len(tree);
+    let attest = set_key + SET_KEY_LENGTH;
+    let input = attest + ATTEST_LENGTH;
+    let search = input + INPUT_LENGTH;
+    put_jump_on(code, SET_KEY_ENTRY, set_key)?;
+    put_jump_on(code, ATTEST_ENTRY, attest)?;
+    put_jump_on(code, INPUT_ENTRY, input)?;
     put_sample(code, tree)?;
     put_set_key(code, search)?;
     put_attest(code)?;
@@ -95,7 +116,7 @@ fn put_stub(code: &mut Vec<Ir>, tree: &Module, ends: &[End]) -> Result<(), Alloc
 {
     put_tests(code, tree)?;
     put_entries(code, tree, ends)?;
-    put_returns(code, 5)
+    put_returns(code, NO_END)
 }
 
 fn ops_of(alloc: Global, m: &Checked, ends: &[End]) -> Result<Vec<Ir>, AllocError>

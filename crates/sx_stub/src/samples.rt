@@ -3,19 +3,23 @@
 ghost use Rattle.std.specs.Prelude.{◌≡◌, ◌<◌, ◌≤◌, OnOk, length};
 ghost use Rattle.sx_lang.specs.View.{module_of};
 ghost use Rattle.sx_stub.specs.Puts.{Puts, PutsAt};
-ghost use Rattle.sx_stub.specs.Stub.{sample_code, sampled_code};
+ghost use Rattle.sx_stub.specs.Stub.{sample_code, sample_place, sampled_code};
 
 use crate::handled::{handled_len, put_handled, sample_handler};
 use crate::pieces::{put, put_all, put_refuse};
 use std::alloc::AllocError;
+use sx_invoke::protocol::NO_SAMPLE;
 use sx_ir::{Ir, IrOp};
 use sx_lang::tree::Module;
 use sx_mean::offsets::EVENT;
 
+/// The place where the entry of a sample begins, behind the tests and the ways to the others.
+pub const SAMPLE_PLACE: u16 = 39;
+
 /// The number of operations of the entry of a sample.
 pub fn sample_len(tree: &Module) -> u16
     requires few { length tree.now.handlers.items ≤ 256 }
-    ensures len { result ≡ length (sample_code (module_of tree.now) 39) }
+    ensures len { result ≡ length (sample_code (module_of tree.now) sample_place) }
     ensures small { result ≤ 17 }
 {
     13 + handled_len(sample_handler(tree))
@@ -44,6 +48,10 @@ pub fn put_sample(code: &mut Vec<Ir>, tree: &Module) -> Result<(), AllocError>
 {
     put(code, Ir::Sense)?;
     put(code, Ir::Store(EVENT))?;
-    put_refuse(code, &[Ir::Load(EVENT), Ir::Push(0), Ir::Op(IrOp::Eq)], 8)?;
+    put_refuse(
+        code,
+        &[Ir::Load(EVENT), Ir::Push(0), Ir::Op(IrOp::Eq)],
+        NO_SAMPLE,
+    )?;
     put_sampled(code, tree)
 }

@@ -1,3 +1,4 @@
+use Rattle.sx_invoke.specs.Protocol.{entry_register}
 use Rattle.std.proofs.Common.{◌≡◌, ◌+◌, [], ◌∷◌, ◌++◌, length, refl, ap, ◌∙◌, arith}
 use Rattle.sx_lang.specs.View.{module_of}
 use Rattle.sx_ir.specs.declared.ir.Ir.TheVariants as ir
@@ -17,8 +18,8 @@ returns c =
     let key = key_place tree ends (length x) in
     let here : c.len.result ≡ length x = omega (arith, c.len.ensures) in
     let key_is = c.behind_input_found-key.ensures.place ∙ ap (λ p. p + 3 + length (input_found tree ends (p + 3))) here in
-    let kept = ir.Store 74 ∷ ir.Saved 12 ∷ ir.JumpZero key ∷ [] in
-    let first : y ≡ x ++ kept = c.in_ok-put_kept.ensures ∙ ap (λ k. x ++ ir.Store 74 ∷ ir.Saved 12 ∷ ir.JumpZero k ∷ []) key_is in
+    let kept = ir.Store 74 ∷ ir.Saved entry_register ∷ ir.JumpZero key ∷ [] in
+    let first : y ≡ x ++ kept = c.in_ok-put_kept.ensures ∙ ap (λ k. x ++ ir.Store 74 ∷ ir.Saved entry_register ∷ ir.JumpZero k ∷ []) key_is in
     let one : length y ≡ length x + 3 = grown x y kept first in
     behind r x y z kept (λ p. input_found tree ends p ++ key_found ends key) (length x + 3) first refl
     (behind r y w z (input_found tree ends (length y)) (λ p. key_found ends p) key c.in_ok-put_input_found.ensures (ap (λ p. p + length (input_found tree ends p)) one) c.put_key_found.ensures)

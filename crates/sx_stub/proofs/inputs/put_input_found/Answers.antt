@@ -26,4 +26,5 @@ returns c =
     behind r x y z closed (λ p. refuse_if p (is_other_epoch n) 5 ++ third) (length x + 10) c.in_ok-put_closed_test.ensures refl
     (behind r y w z other (λ p. refuse_if p (is_past_number n) 6 ++ fourth) (length x + 24) c.in_ok-put_epoch_test.ensures (omega (arith, one))
     (behind r w v z past (λ p. refuse_if p is_last_number 6 ++ fifth) (length x + 34) c.in_ok-put_past_test.ensures (omega (arith, one, two))
-    (behind r v u z (refuse_if (length v) is_last_number 6) (λ p. cases (take_receiving (module_of c.args.tree.now)) p 0 c.args.ends.now) (length x + 41) c.in_ok-put_last_test.ensures (omega (arith, one, two, three)) c.put_take_cases.ensures)))
+    (behind r v u z (refuse_if (length v) is_last_number 6) (λ p. cases (take_receiving (module_of c.args.tree.now)) p 0 c.args.ends.now) (length x + 41) c.in_ok-put_last_test.ensures
+    (omega (arith, one, two, three)) c.put_take_cases.ensures)))

@@ -1,5 +1,7 @@
-use Rattle.std.proofs.Common.{◌+◌, ◌*◌, [], ◌∷◌, ◌++◌, length, ap, ◌∙◌, refl}
+use Rattle.sx_invoke.specs.Protocol.{header_size, other_tag, value_size}
+use Rattle.std.proofs.Common.{ℕ, ◌+◌, ◌*◌, List, [], ◌∷◌, ◌++◌, length, ap, ◌∙◌, refl}
 use Rattle.sx_lang.specs.View.{module_of}
+use Rattle.sx_ir.specs.declared.ir.Ir.{Ir}
 use Rattle.sx_ir.specs.declared.ir.Ir.TheVariants as ir
 use Rattle.sx_stub.specs.Stub.{is_opened_not, refuse_if, taken_code}
 use Rattle.sx_stub.proofs.Steps.{behind}
@@ -12,6 +14,7 @@ returns c =
     let w = c.put_refuse.new.code.items in
     let z = c.put_taken.new.code.items in
     let last = taken_code (module_of c.args.tree.now) c.args.k c.args.e.now in
-    let first = c.in_ok-put.ensures ∙ ap (λ o. x ++ ir.Open o 16 6 56 2 ∷ []) c.end_key_at.ensures in
-    behind c.put_taken.result x y z (ir.Open (512 + 24 * c.args.k + 8) 16 6 56 2 ∷ []) (λ p. refuse_if p is_opened_not 7 ++ last) (length x + 1) first refl
-    (behind c.put_taken.result y w z (refuse_if (length y) is_opened_not 7) (λ p. last) (length y + 5) c.in_ok-put_refuse.ensures refl c.put_taken.ensures)
+    let refused : ℕ → List Ir = λ p. refuse_if p is_opened_not other_tag in
+    let first = c.in_ok-put.ensures ∙ ap (λ o. x ++ ir.Open o 16 header_size 56 value_size ∷ []) c.end_key_at.ensures in
+    behind c.put_taken.result x y z (ir.Open (512 + 24 * c.args.k + 8) 16 header_size 56 value_size ∷ []) (λ p. refused p ++ last) (length x + 1) first refl
+    (behind c.put_taken.result y w z (refused (length y)) (λ p. last) (length y + 5) c.in_ok-put_refuse.ensures refl c.put_taken.ensures)
