@@ -13,6 +13,8 @@ use Rattle.sx_machine.specs.Memory.{bytes_from}
 use Rattle.sx_machine.specs.Node.{IsNode}
 use Rattle.sx_machine.specs.State.{State}
 use Rattle.sx_machine.specs.Step.{pc_of}
+use Rattle.sx_invoke.specs.Protocol.{entry_register, input_register, output_register}
+use Rattle.sx_invoke.specs.Protocol.{back_register}
 use Rattle.sx_invoke.specs.Setup.{Setup, Call}
 use Rattle.sx_invoke.specs.ModuleState.{state_of}
 use Rattle.sx_invoke.specs.Devices.{HasDevices}
@@ -61,14 +63,13 @@ abbrev pub setup_at : Mac → ModuleTree → List End → Section → State → 
 setup_at mac tree ends section n =
     record { mac = mac; section = section; live = n.sections.live; tree = tree; ends = ends }
 
--- what the caller asks, in R12 to R15
+-- what the caller asks, in its registers
 abbrev pub call_at : State → Call
 call_at n = record {
-  entry = slice_index n.regs 12;
-  input = slice_index n.regs 13;
-  output =
-      slice_index n.regs 14;
-  back = slice_index n.regs 15;
+  entry = slice_index n.regs entry_register;
+  input = slice_index n.regs input_register;
+  output = slice_index n.regs output_register;
+  back = slice_index n.regs back_register;
 }
 
 -- an invocation begins with the state that the private section represents

@@ -25,7 +25,7 @@ use Rattle.sx_mean.specs.Ends.{is_sending}
 use Rattle.sx_invoke.specs.Invocation.{invoke}
 use Rattle.sx_invoke.specs.Entries.{attest, sample_read, number_taken, header_in}
 use Rattle.sx_invoke.specs.Protocol.{tag_size, event_size, key_size, value_size, last_number}
-use Rattle.sx_invoke.proofs.ByEntry.{Ways, by_entry}
+use Rattle.sx_invoke.proofs.ByEntry.{by_entry}
 
 -- a tag has 16 bytes
 pub tag_length : (mac : Mac) (key ad cipher : List ℕ) → IsTag mac → length (wrap_tag mac key ad cipher) ≡ tag_size

@@ -19,10 +19,9 @@ use Rattle.sx_invoke.specs.Windows.{two, write_bytes}
 use Rattle.sx_invoke.specs.Progress.{Progress, Course, Going, Broken, and_on, finished, marks_in}
 use Rattle.sx_invoke.specs.Acts.{with_piece, copied_to, with_packet, event_packet, event_header, wrap_counted, with_packets, with_act, with_acts, actuated, own_window, handled}
 use Rattle.sx_mean.specs.Ends.{is_sending}
-use Rattle.sx_invoke.specs.Invocation.{invoke}
 use Rattle.sx_invoke.specs.Entries.{attest, sample_read, number_taken, header_in}
 use Rattle.sx_invoke.specs.Protocol.{key_size, value_size, event_size, last_number}
-use Rattle.sx_invoke.proofs.ByEntry.{Ways, by_entry}
+use Rattle.sx_invoke.proofs.ByEntry.{by_entry}
 use Rattle.sx_invoke.specs.Laws.{is_unwrap, NoUnwrap, FirstAlone, UnwrapsOnce}
 
 abbrev marks_on : Course → List Mark
