@@ -14,6 +14,7 @@ use Rattle.sx_machine.specs.declared.kinds.Event.TheVariants as event
 use Rattle.sx_machine.specs.Memory.{even, put_word}
 use Rattle.sx_machine.specs.State.{State}
 use Rattle.sx_reach.specs.Reach.{Comes, Goes, Stops}
+use Rattle.sx_invoke.specs.Protocol.{output_register}
 use Rattle.sx_invoke.specs.Marks.{HasPrefix, Mark, made_bytes}
 use Rattle.sx_invoke.specs.Setup.{Call, Setup}
 use Rattle.sx_invoke.specs.Progress.{Invoked, bytes_in, marks_in, pieces_in}
@@ -66,7 +67,7 @@ ReturnsBehind ops (Some p) = (q : ℕ) × (i : Ir) × (p ≡ q + 1) × (slice_ge
 -- caller's, the marks so far are a prefix, the stack has room for return addresses, and a sensor's
 -- value is one.
 pub record IsRegular (ops : List Ir) (call : Call) (all : List Mark) (c : Conf) : Type 0 where
-  pub window : saved c 14 ≡ call.output
+  pub window : saved c output_register ≡ call.output
   pub marks : HasPrefix all c.marks
   pub room : length c.stack ≤ stack_words
   pub back : ReturnsBehind ops c.back

@@ -13,8 +13,6 @@ mod put;
 mod routines;
 mod table;
 mod templates;
-#[cfg(test)]
-mod tests;
 mod text;
 
 pub use text::emit;

@@ -22,7 +22,7 @@ pub struct Table {
 impl Table {
     /// The addresses of a code's text in a section of this layout. The error says that memory ran
     /// out.
-    #[tactic(auto, using(crate::proofs::TextTurns::table_is))]
+    #[tactic(auto, using(crate::proofs::Texts::TextTurns::table_is))]
     pub fn new(alloc: Global, code: &Code, layout: &Layout) -> Result<Table, OutOfMemory>
         requires { layout.now.pub_from + bytes code.now.ops.items < 65536 }
         ensures { IfOk result (λ table. IsTable layout.now code.now table) }
@@ -65,7 +65,7 @@ fn places(alloc: Global, from: u16, ops: &[Ir]) -> Result<Vec<u16>, OutOfMemory>
 }
 
 /// For each end, how many of those before it have a packet routine.
-#[tactic(auto, using(crate::proofs::TextTurns::counts_none, crate::proofs::TextTurns::no_routines, crate::proofs::TextTurns::counts_turn, crate::proofs::TextTurns::one_more, crate::proofs::TextTurns::none_more))]
+#[tactic(auto, using(crate::proofs::Texts::TextTurns::counts_none, crate::proofs::Texts::TextTurns::no_routines, crate::proofs::Texts::TextTurns::counts_turn, crate::proofs::Texts::TextTurns::one_more, crate::proofs::Texts::TextTurns::none_more))]
 fn routine_counts(alloc: Global, ops: &[Ir]) -> Result<Vec<u16>, OutOfMemory>
     ensures { IfOk result (λ counts. AreCounts ops.now 256 counts.items) }
 {

@@ -135,7 +135,7 @@ fn put_handler(text: &mut Vec<u8>, base: u16, next: u16, part: u16) -> Result<()
 }
 
 /// The first place of a handler's part.
-#[tactic(auto, using(crate::proofs::TextTurns::part_is))]
+#[tactic(auto, using(crate::proofs::Texts::TextTurns::part_is))]
 fn first_place(parts: &[(u16, u16)], handler: u8) -> u16
     requires { handler < length parts.now }
     ensures { result ≡ part_place parts.now handler }

@@ -20,7 +20,7 @@ use sx_ir::{Code, has_routine};
 use sx_rules::Layout;
 use sx_tag::Tag;
 
-#[tactic(auto, using(crate::proofs::TextTurns::turn))]
+#[tactic(auto, using(crate::proofs::Texts::TextTurns::turn))]
 fn put_operations(
     text: &mut Vec<u8>,
     code: &Code,
@@ -55,7 +55,7 @@ fn put_packet(text: &mut Vec<u8>, code: &Code, base: u16, end: u16) -> Result<()
 }
 
 /// Appends the packet routines.
-#[tactic(auto, using(crate::proofs::TextTurns::packets_none, crate::proofs::TextTurns::packets_turn))]
+#[tactic(auto, using(crate::proofs::Texts::TextTurns::packets_none, crate::proofs::Texts::TextTurns::packets_turn))]
 fn put_packets(text: &mut Vec<u8>, code: &Code, base: u16) -> Result<(), OutOfMemory>
     requires slots { (k : ℕ) → k < 256 → IsTrue (has_routine code.now.ops.items k)
         → base + (end_at k + 24) < 65536 }

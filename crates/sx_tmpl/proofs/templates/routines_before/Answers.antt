@@ -1,7 +1,7 @@
 use Rattle.std.proofs.Common.{◌≡◌, ◌<◌, ◌∙◌, ap, arith}
 use Rattle.std.specs.Prelude.{slice_index}
 use Rattle.sx_ir.specs.Sizes.{routines}
-use Rattle.sx_tmpl.proofs.TextTurns.{before_below}
+use Rattle.sx_tmpl.proofs.Texts.TextTurns.{before_below}
 use Rattle.sx_tmpl.proofs.templates.routines_before.Goals as goal
 
 pub preceding-requires : goal.preceding-requires

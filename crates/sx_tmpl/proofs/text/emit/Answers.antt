@@ -1,9 +1,9 @@
 use Rattle.std.proofs.Common.{ℕ, List, ◌++◌, length, ap, sym, ◌∙◌, subst, arith}
 use Rattle.sx_tmpl.specs.Performs.{DoesCode}
 use Rattle.sx_tmpl.specs.Text.{bytes_of, text_words}
-use Rattle.sx_tmpl.proofs.Fitting.{all_fit, slots_fit, text_below}
-use Rattle.sx_tmpl.proofs.Performing.{text_does}
-use Rattle.sx_tmpl.proofs.TextBytes.{text_size}
+use Rattle.sx_tmpl.proofs.Texts.Fitting.{all_fit, slots_fit, text_below}
+use Rattle.sx_tmpl.proofs.Texts.Performing.{text_does}
+use Rattle.sx_tmpl.proofs.Texts.TextBytes.{text_size}
 use Rattle.sx_tmpl.proofs.text.emit.Goals as goal
 
 pub new-requires : goal.new-requires

@@ -1,5 +1,5 @@
 use Rattle.std.proofs.Common.{arith}
-use Rattle.sx_tmpl.proofs.TextTurns.{packets_turn}
+use Rattle.sx_tmpl.proofs.Texts.TextTurns.{packets_turn}
 use Rattle.sx_tmpl.proofs.text.put_packets.Goals as goal
 
 pub put_packet-requires-clause-slot : goal.put_packet-requires-clause-slot

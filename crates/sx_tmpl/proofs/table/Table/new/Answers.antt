@@ -2,7 +2,7 @@ use Rattle.std.proofs.Common.{◌∙◌, ap, subst, ◌+◌, List}
 use Rattle.sx_ir.specs.declared.ir.Ir.{Ir}
 use Rattle.sx_tmpl.specs.Fits.{AreCounts}
 use Rattle.sx_tmpl.specs.Text.{places_from}
-use Rattle.sx_tmpl.proofs.TextTurns.{table_is}
+use Rattle.sx_tmpl.proofs.Texts.TextTurns.{table_is}
 use Rattle.sx_tmpl.proofs.table.Table.new.Goals as goal
 
 pub returns : goal.returns

@@ -1,0 +1,22 @@
+-- Each operation's template does the operation; and the entry, the exit and the routines.
+pub mod Plain
+pub mod Branch
+pub mod Arrays
+pub mod Bytes
+pub mod CopyLoop
+pub mod Sealing
+pub mod Packet
+pub mod PacketOp
+pub mod Leave
+pub mod Entry
+pub mod DeviceOps
+pub mod Arith
+pub mod Product
+pub mod Multiply
+pub mod Parts
+pub mod SealOps
+pub mod CopyIn
+pub mod CopyOps
+pub mod InsideOp
+pub mod MeetsOp
+pub mod SetEndOp

@@ -1,0 +1,326 @@
+-- Elements of arrays, by an index at run time.
+use Rattle.std.proofs.Common.{◌≡◌, ℕ, suc, ◌+◌, ◌*◌, ◌%◌, ◌<◌, ◌≤◌, ◌⊎◌, inl, inr, false, cond, List, [], ◌∷◌, length, refl, sym, ap, subst, arith}
+use Rattle.sx_isa.specs.declared.instruction.Operand.TheVariants.{Reg, Indexed, Increment, Immediate, Const}
+use Rattle.sx_isa.specs.declared.instruction.Op2.TheVariants as op2
+use Rattle.sx_isa.specs.declared.instruction.Op1.TheVariants as op1
+use Rattle.sx_isa.specs.declared.instruction.Instr.TheVariants.{Two, One, Jump}
+use Rattle.sx_rules.specs.declared.access.Violation.{Violation}
+use Rattle.sx_machine.specs.declared.kinds.Event.TheVariants as event
+use Rattle.sx_machine.specs.Memory.{word, put_word}
+use Rattle.sx_invoke.specs.Marks.{Mark}
+use Rattle.sx_image.specs.Watched.{Watched}
+use Rattle.sx_ir.specs.Conf.{Conf}
+use Rattle.sx_ir.specs.Meaning.{next, element, with_element}
+use Rattle.sx_tmpl.specs.Running.{Regs, Fixed, Data, running, Safe}
+use Rattle.sx_tmpl.proofs.Running.MidRun.{Stands, Runs, put_cell}
+use Rattle.sx_tmpl.specs.Shows.{base_of, IsData, MemoryHolds, ShowsConfiguration}
+use Rattle.sx_tmpl.proofs.Running.Steps.{Text, one, two}
+use Rattle.sx_tmpl.proofs.Running.Flags.{flags_after, no_borrow, borrow}
+use Rattle.std.specs.Prelude.{pos}
+use Rattle.std.proofs.lemmas.Bool.{cases_lt, lt-ltb, le-ltb}
+use Rattle.sx_tmpl.proofs.Operations.Plain.{inside, Leads, stood}
+use Rattle.sx_tmpl.proofs.Running.Words as w
+use Rattle.sx_tmpl.proofs.Running.Holding.{stack_word, data_word, holds_push, holds_pop, holds_store, holds_word, cell_below}
+
+-- an array of the data: its offset and length in words
+pub record IsArray (o n size : ℕ) : Type 0 where
+  pub is_even : o % 2 ≡ 0
+  pub low : 2 ≤ o
+  pub beside : (o + 2 * n ≤ 104) ⊎ (512 ≤ o)
+  pub fits : o + 2 * n ≤ size
+
+element_data : (o n size i : ℕ) → IsArray o n size → i < n → IsData (o + 2 * i)
+element_data o n size i a lt = record { low = omega (arith, a.low); beside = elim (a.beside) [ inl p ↦ inl (omega arith) | inr p ↦ inr (omega arith) ] }
+
+module _ (f : Fixed) (st : Stands f) (all : List Mark) (B : Watched → Violation → Type 0) (at : ℕ → ℕ) where
+  abbrev L : ℕ → List ℕ → ℕ → Conf → Conf → Type 0
+  L n ws count c c2 = Leads f st all B at n ws count c c2
+
+  abbrev load_words : ℕ → ℕ → List ℕ
+  load_words o n = 0x413c ∷ 0x903c ∷ n ∷ 0x2c04 ∷ 0x5c0c ∷ 0x121c ∷ (base_of f + o) ∷ 0x3c01 ∷ 0x1203 ∷ []
+
+  -- the index is popped and compared
+  load_begins : (Q : Watched → Type 0) (c : Conf) (o n i k : ℕ) (rest : List ℕ) (r : Regs) (d : Data) → Text f (at c.place) 9 (load_words o n)
+      → ShowsConfiguration f at (record c { stack = i ∷ rest }) r d → Safe f all (running f r d)
+      → (let r2 = record r { pc = at c.place + 6; sp = r.sp + 2; r12 = i; sr = flags_after op2.Cmp (n % 65536) (i % 65536) (flags_after op2.Mov 0 0 r.sr) } in
+      Safe f all (running f r2 d) → Runs f all B Q k (running f r2 d)) → Runs f all B Q (suc (suc k)) (running f r d)
+  load_begins Q c o n i k rest r d t sh safe after =
+      let h = sh.holds in
+      let p1 = stack_word f st r.sp (length (i ∷ rest)) h.top (omega arith) (omega (arith, h.room)) in
+      let up : (r.sp + 2) % 65536 ≡ r.sp + 2 = omega (arith, p1.high, st.beneath) in
+      let r1 = record r { pc = at c.place + 2; sp = r.sp + 2; r12 = i; sr = flags_after op2.Mov 0 0 r.sr } in
+      let r2 = record r1 { pc = at c.place + 6; sr = flags_after op2.Cmp (n % 65536) (i % 65536) r1.sr } in
+      one f st all B Q t 0 0x413c (λ x y. Two op2.Mov false (Increment 1) (Reg 12)) refl (omega arith) w.pop_12 event.Quiet r d (suc k) (omega (arith, sh.pc)) safe (
+        r.sp,
+        refl,
+        p1,
+        i,
+        h.words.0,
+        λ kept. (
+          r1,
+          rw up refl,
+          inside t 1 (omega arith),
+          λ s1.
+              two f st all B Q t 1 0x903c n (λ x y. Two op2.Cmp false (Immediate x) (Reg 12)) refl refl (omega arith) w.cmp_immediate_12 event.Quiet r1 d k refl s1
+              (λ kept. (r2, refl, inside t 3 (omega arith), after)),
+        ),
+      )
+
+  -- an element that is there
+  load_element : (c : Conf) (o n i : ℕ) (rest : List ℕ) → n < 65536 → IsArray o n (length c.priv) → i < n
+      → L 9 (load_words o n) 6 (record c { stack = i ∷ rest }) (next c (word c.priv (o + 2 * i) ∷ rest))
+  load_element c o n i rest ln a lt r d t on sh safe =
+      let h = sh.holds in
+      let top = h.top in
+      let sz = h.size in
+      let fits = a.fits in
+      let beneath = st.beneath in
+      let below = st.below in
+      let even = a.is_even in
+      let sp = r.sp + 2 in
+      let p1 = stack_word f st r.sp (length (i ∷ rest)) h.top (omega arith) (omega (arith, h.room)) in
+      let dat = element_data o n (length c.priv) i a lt in
+      let po = data_word f st (o + 2 * i) dat.low (omega arith) (omega arith) in
+      let v = word c.priv (o + 2 * i) in
+      let is = holds_word f st at c.back (i ∷ rest) c.priv c.mem r.sp d.mem (o + 2 * i) h (omega arith) dat (omega arith) in
+      let lv = subst (λ (n : ℕ). n < 65536) is (cell_below f st d.mem (base_of f + (o + 2 * i)) safe.memory) in
+      let down : (sp + 65534) % 65536 ≡ r.sp = omega (arith, p1.high) in
+      let sr2 = flags_after op2.Cmp (n % 65536) (i % 65536) (flags_after op2.Mov 0 0 r.sr) in
+      let j = borrow (n % 65536) (i % 65536) (flags_after op2.Mov 0 0 r.sr) (omega arith) (omega arith) in
+      let twice : (i % 65536 + i % 65536 + 0) % 65536 ≡ 2 * i = omega arith in
+      let place : (2 * i + (base_of f + o)) % 65536 ≡ base_of f + (o + 2 * i) = omega arith in
+      let to : (at c.place + 16 + 2) % 65536 ≡ at c.place + 18 = omega (arith, t.to) in
+      let m5 = put_cell d.mem r.sp v in
+      let h1 = holds_pop f st at c.back i rest c.priv c.mem r.sp d.mem h in
+      let r2 = record r { pc = at c.place + 6; sp = sp; r12 = i; sr = sr2 } in
+      let r3 = record r2 { pc = at c.place + 8 } in
+      let r4 = record r3 { pc = at c.place + 10; r12 = 2 * i; sr = flags_after op2.Add (i % 65536) (i % 65536) sr2 } in
+      let r5 = record r4 { pc = at c.place + 14; sp = r.sp } in
+      let r6 = record r5 { pc = at c.place + 18 } in
+      load_begins _ c o n i 4 rest r d t sh safe (λ s2.
+      one f st all B _ t 3 0x2c04 (λ x y. Jump 3 (pos 4)) refl (omega arith) w.jc_4 event.Quiet r2 d 3 refl s2
+      (λ kept. (
+        r3,
+        rw j refl,
+        inside t 4 (omega arith),
+        λ s3.
+            one f st all B _ t 4 0x5c0c (λ x y. Two op2.Add false (Reg 12) (Reg 12)) refl (omega arith) w.double_12 event.Quiet r3 d 2 refl s3
+            (λ kept. (
+              r4,
+              rw twice refl,
+              inside t 5 (omega arith),
+              λ s4.
+                  two f st all B _ t 5 0x121c (base_of f + o) (λ x y. One op1.Push false (Indexed 12 x)) refl refl (omega arith) w.push_indexed_12 event.Quiet r4 d 1 refl s4 (
+                    base_of f + (o + 2 * i),
+                    place,
+                    po,
+                    v,
+                    is,
+                    (
+                      r.sp,
+                      down,
+                      p1,
+                      v,
+                      refl,
+                      lv,
+                      λ kept5. (
+                        r5,
+                        rw down refl,
+                        inside t 7 (omega arith),
+                        λ s5.
+                            one f st all B _ t 7 0x3c01 (λ x y. Jump 7 (pos 1)) refl (omega arith) w.jmp_1 event.Quiet r5 (record d { mem = m5 }) 0 refl s5
+                            (λ kept. (
+                              r6,
+                              rw to refl,
+                              inside t 9 (omega arith),
+                              λ s6.
+                                  stood f st all B at (next c (v ∷ rest)) r6 m5 d 0 s6 (omega (arith, on)) (holds_push f st at c.back rest c.priv c.mem sp d.mem r.sp v safe.memory h1 refl
+                                  (omega (arith, h.room))) sh.devices sh.marks,
+                            )),
+                      ),
+                    ),
+                  ),
+            )),
+      )))
+
+  -- past the end
+  load_past : (c : Conf) (o n i : ℕ) (rest : List ℕ) → n < 65536 → n ≤ i → L 9 (load_words o n) 6 (record c { stack = i ∷ rest }) (next c (0 ∷ rest))
+  load_past c o n i rest ln ge r d t on sh safe =
+      let h = sh.holds in
+      let top = h.top in
+      let below = st.below in
+      let li : i < 65536 = subst (λ (n : ℕ). n < 65536) h.words.0 (cell_below f st d.mem r.sp safe.memory) in
+      let sp = r.sp + 2 in
+      let p1 = stack_word f st r.sp (length (i ∷ rest)) h.top (omega arith) (omega (arith, h.room)) in
+      let down : (sp + 65534) % 65536 ≡ r.sp = omega (arith, p1.high, st.beneath) in
+      let sr2 = flags_after op2.Cmp (n % 65536) (i % 65536) (flags_after op2.Mov 0 0 r.sr) in
+      let j = no_borrow (n % 65536) (i % 65536) (flags_after op2.Mov 0 0 r.sr) (omega arith) (omega arith) in
+      let to : (at c.place + 8 + 8) % 65536 ≡ at c.place + 16 = omega (arith, t.to) in
+      let h1 = holds_pop f st at c.back i rest c.priv c.mem r.sp d.mem h in
+      let r2 = record r { pc = at c.place + 6; sp = sp; r12 = i; sr = sr2 } in
+      let r3 = record r2 { pc = at c.place + 16 } in
+      let r4 = record r3 { pc = at c.place + 18; sp = r.sp } in
+      load_begins _ c o n i 4 rest r d t sh safe (λ s2.
+      one f st all B _ t 3 0x2c04 (λ x y. Jump 3 (pos 4)) refl (omega arith) w.jc_4 event.Quiet r2 d 3 refl s2
+      (λ kept. (
+        r3,
+        rw (j, to) refl,
+        inside t 8 (omega arith),
+        λ s3.
+            one f st all B _ t 8 0x1203 (λ x y. One op1.Push false (Const 0)) refl (omega arith) w.push_zero event.Quiet r3 d 2 refl s3 (
+              r.sp,
+              down,
+              p1,
+              0,
+              refl,
+              omega arith,
+              λ kept4. (
+                r4,
+                rw down refl,
+                inside t 9 (omega arith),
+                λ s4.
+                    stood f st all B at (next c (0 ∷ rest)) r4 (put_cell d.mem r.sp 0) d 2 s4 (omega (arith, on)) (holds_push f st at c.back rest c.priv c.mem sp d.mem r.sp 0 safe.memory h1 refl
+                    (omega (arith, h.room))) sh.devices sh.marks,
+              ),
+            ),
+      )))
+
+  pub load_at_leads : (c : Conf) (o n i : ℕ) (rest : List ℕ) → n < 65536 → IsArray o n (length c.priv) → L 9 (load_words o n) 6 (record c { stack = i ∷ rest }) (next c (element c.priv o n i ∷ rest))
+  load_at_leads c o n i rest ln a = elim (cases_lt i n) [
+    | inl h ↦ subst (λ v. L 9 (load_words o n) 6 (record c { stack = i ∷ rest }) (next c (v ∷ rest))) (sym (ap (λ b. cond b (word c.priv (o + 2 * i)) 0) (lt-ltb i n h)))
+        (load_element c o n i rest ln a h)
+    | inr h ↦ subst (λ v. L 9 (load_words o n) 6 (record c { stack = i ∷ rest }) (next c (v ∷ rest))) (sym (ap (λ b. cond b (word c.priv (o + 2 * i)) 0) (le-ltb i n h))) (load_past c o n i rest ln h)
+  ]
+
+  abbrev store_words : ℕ → ℕ → List ℕ
+  store_words o n = 0x413d ∷ 0x413c ∷ 0x903c ∷ n ∷ 0x2c03 ∷ 0x5c0c ∷ 0x4d8c ∷ (base_of f + o) ∷ []
+
+  store_begins : (Q : Watched → Type 0) (c : Conf) (o n i v k : ℕ) (rest : List ℕ) (r : Regs) (d : Data) → Text f (at c.place) 8 (store_words o n)
+      → ShowsConfiguration f at (record c { stack = v ∷ i ∷ rest }) r d → Safe f all (running f r d)
+      → (let r3 = record r { pc = at c.place + 8; sp = r.sp + 4; r12 = i; r13 = v; sr = flags_after op2.Cmp (n % 65536) (i % 65536) (flags_after op2.Mov 0 0 (flags_after op2.Mov 0 0 r.sr)) } in
+      Safe f all (running f r3 d) → Runs f all B Q k (running f r3 d)) → Runs f all B Q (suc (suc (suc k))) (running f r d)
+  store_begins Q c o n i v k rest r d t sh safe after =
+      let h = sh.holds in
+      let top = h.top in
+      let p1 = stack_word f st r.sp (length (v ∷ i ∷ rest)) h.top (omega arith) (omega (arith, h.room)) in
+      let p2 = stack_word f st (r.sp + 2) (length (i ∷ rest)) (omega arith) (omega arith) (omega (arith, h.room)) in
+      let up : (r.sp + 2) % 65536 ≡ r.sp + 2 = omega (arith, p1.high, st.beneath) in
+      let up2 : (r.sp + 2 + 2) % 65536 ≡ r.sp + 4 = omega (arith, p2.high, st.beneath) in
+      let r1 = record r { pc = at c.place + 2; sp = r.sp + 2; r13 = v; sr = flags_after op2.Mov 0 0 r.sr } in
+      let r2 = record r1 { pc = at c.place + 4; sp = r.sp + 4; r12 = i; sr = flags_after op2.Mov 0 0 r1.sr } in
+      let r3 = record r2 { pc = at c.place + 8; sr = flags_after op2.Cmp (n % 65536) (i % 65536) r2.sr } in
+      one f st all B Q t 0 0x413d (λ x y. Two op2.Mov false (Increment 1) (Reg 13)) refl (omega arith) w.pop_13 event.Quiet r d (suc (suc k)) (omega (arith, sh.pc)) safe (
+        r.sp,
+        refl,
+        p1,
+        v,
+        h.words.0,
+        λ kept. (
+          r1,
+          rw up refl,
+          inside t 1 (omega arith),
+          λ s1.
+              one f st all B Q t 1 0x413c (λ x y. Two op2.Mov false (Increment 1) (Reg 12)) refl (omega arith) w.pop_12 event.Quiet r1 d (suc k) refl s1 (
+                r.sp + 2,
+                refl,
+                p2,
+                i,
+                h.words.1.0,
+                λ kept. (
+                  r2,
+                  rw up2 refl,
+                  inside t 2 (omega arith),
+                  λ s2.
+                      two f st all B Q t 2 0x903c n (λ x y. Two op2.Cmp false (Immediate x) (Reg 12)) refl refl (omega arith) w.cmp_immediate_12 event.Quiet r2 d k refl s2
+                      (λ kept. (r3, refl, inside t 4 (omega arith), after)),
+                ),
+              ),
+        ),
+      )
+
+  popped_twice : (c : Conf) (v i sp : ℕ) (rest m : List ℕ) → MemoryHolds f at c.back (v ∷ i ∷ rest) c.priv c.mem sp m → MemoryHolds f at c.back rest c.priv c.mem (sp + 4) m
+  popped_twice c v i sp rest m h =
+      subst (λ s. MemoryHolds f at c.back rest c.priv c.mem s m) (omega arith) (holds_pop f st at c.back i rest c.priv c.mem (sp + 2) m (holds_pop f st at c.back v (i ∷ rest) c.priv c.mem sp m h))
+
+  store_element : (c : Conf) (o n i v : ℕ) (rest : List ℕ) → n < 65536 → IsArray o n (length c.priv) → i < n
+      → L 8 (store_words o n) 6 (record c { stack = v ∷ i ∷ rest }) (record c { place = c.place + 1; stack = rest; priv = put_word c.priv (o + 2 * i) v })
+  store_element c o n i v rest ln a lt r d t on sh safe =
+      let h = sh.holds in
+      let top = h.top in
+      let sz = h.size in
+      let fits = a.fits in
+      let beneath = st.beneath in
+      let even = a.is_even in
+      let lv : v < 65536 = subst (λ (n : ℕ). n < 65536) h.words.0 (cell_below f st d.mem r.sp safe.memory) in
+      let dat = element_data o n (length c.priv) i a lt in
+      let po = data_word f st (o + 2 * i) dat.low (omega arith) (omega arith) in
+      let sr3 = flags_after op2.Cmp (n % 65536) (i % 65536) (flags_after op2.Mov 0 0 (flags_after op2.Mov 0 0 r.sr)) in
+      let j = borrow (n % 65536) (i % 65536) (flags_after op2.Mov 0 0 (flags_after op2.Mov 0 0 r.sr)) (omega arith) (omega arith) in
+      let twice : (i % 65536 + i % 65536 + 0) % 65536 ≡ 2 * i = omega arith in
+      let place : (2 * i + (base_of f + o)) % 65536 ≡ base_of f + (o + 2 * i) = omega arith in
+      let r3 = record r { pc = at c.place + 8; sp = r.sp + 4; r12 = i; r13 = v; sr = sr3 } in
+      let r4 = record r3 { pc = at c.place + 10 } in
+      let r5 = record r4 { pc = at c.place + 12; r12 = 2 * i; sr = flags_after op2.Add (i % 65536) (i % 65536) sr3 } in
+      let r6 = record r5 { pc = at c.place + 16; sr = flags_after op2.Mov 0 0 r5.sr } in
+      store_begins _ c o n i v 3 rest r d t sh safe (λ s3.
+      one f st all B _ t 4 0x2c03 (λ x y. Jump 3 (pos 3)) refl (omega arith) w.jc_3 event.Quiet r3 d 2 refl s3
+      (λ kept. (
+        r4,
+        rw j refl,
+        inside t 5 (omega arith),
+        λ s4.
+            one f st all B _ t 5 0x5c0c (λ x y. Two op2.Add false (Reg 12) (Reg 12)) refl (omega arith) w.double_12 event.Quiet r4 d 1 refl s4
+            (λ kept. (
+              r5,
+              rw twice refl,
+              inside t 6 (omega arith),
+              λ s5.
+                  two f st all B _ t 6 0x4d8c (base_of f + o) (λ x y. Two op2.Mov false (Reg 13) (Indexed 12 x)) refl refl (omega arith) w.store_13_indexed_12 event.Quiet r5 d 0 refl s5 (
+                    base_of f + (o + 2 * i),
+                    place,
+                    po,
+                    v,
+                    omega arith,
+                    lv,
+                    λ kept. (
+                      r6,
+                      refl,
+                      inside t 8 (omega arith),
+                      λ s6.
+                          stood f st all B at (record c { place = c.place + 1; stack = rest; priv = put_word c.priv (o + 2 * i) v }) r6 (put_cell d.mem (base_of f + (o + 2 * i)) v) d 0 s6
+                          (omega (arith, on))
+                          (holds_store f st at c.back rest c.priv c.mem (r.sp + 4) d.mem (o + 2 * i) v safe.memory (popped_twice c v i r.sp rest d.mem h) (omega arith) dat
+                          (omega arith)) sh.devices sh.marks,
+                    ),
+                  ),
+            )),
+      )))
+
+  store_past : (c : Conf) (o n i v : ℕ) (rest : List ℕ) → n < 65536 → n ≤ i → L 8 (store_words o n) 6 (record c { stack = v ∷ i ∷ rest }) (next c rest)
+  store_past c o n i v rest ln ge r d t on sh safe =
+      let h = sh.holds in
+      let below = st.below in
+      let li : i < 65536 = subst (λ (n : ℕ). n < 65536) h.words.1.0 (cell_below f st d.mem (r.sp + 2) safe.memory) in
+      let sr3 = flags_after op2.Cmp (n % 65536) (i % 65536) (flags_after op2.Mov 0 0 (flags_after op2.Mov 0 0 r.sr)) in
+      let j = no_borrow (n % 65536) (i % 65536) (flags_after op2.Mov 0 0 (flags_after op2.Mov 0 0 r.sr)) (omega arith) (omega arith) in
+      let to : (at c.place + 10 + 6) % 65536 ≡ at c.place + 16 = omega (arith, t.to) in
+      let r3 = record r { pc = at c.place + 8; sp = r.sp + 4; r12 = i; r13 = v; sr = sr3 } in
+      let r4 = record r3 { pc = at c.place + 16 } in
+      store_begins _ c o n i v 3 rest r d t sh safe (λ s3.
+      one f st all B _ t 4 0x2c03 (λ x y. Jump 3 (pos 3)) refl (omega arith) w.jc_3 event.Quiet r3 d 2 refl s3
+      (λ kept. (
+        r4,
+        rw (j, to) refl,
+        inside t 8 (omega arith),
+        λ s4.
+            stood f st all B at (next c rest) r4 d.mem d 2 s4 (omega (arith, on)) (popped_twice c v i r.sp rest d.mem h) sh.devices sh.marks,
+      )))
+
+  pub store_at_leads : (c : Conf) (o n i v : ℕ) (rest : List ℕ) → n < 65536 → IsArray o n (length c.priv)
+      → L 8 (store_words o n) 6 (record c { stack = v ∷ i ∷ rest }) (record c { place = c.place + 1; stack = rest; priv = with_element c.priv o n i v })
+  store_at_leads c o n i v rest ln a = elim (cases_lt i n) [
+    | inl h ↦ subst (λ p. L 8 (store_words o n) 6 (record c { stack = v ∷ i ∷ rest }) (record c { place = c.place + 1; stack = rest; priv = p }))
+        (sym (ap (λ b. cond b (put_word c.priv (o + 2 * i) v) c.priv) (lt-ltb i n h))) (store_element c o n i v rest ln a h)
+    | inr h ↦ subst (λ p. L 8 (store_words o n) 6 (record c { stack = v ∷ i ∷ rest }) (record c { place = c.place + 1; stack = rest; priv = p }))
+        (sym (ap (λ b. cond b (put_word c.priv (o + 2 * i) v) c.priv) (le-ltb i n h))) (store_past c o n i v rest ln h)
+  ]

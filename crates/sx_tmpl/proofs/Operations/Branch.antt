@@ -1,0 +1,231 @@
+-- Operations whose template branches.
+use Rattle.std.proofs.Common.{◌≡◌, ℕ, suc, ◌+◌, ◌-◌, ◌*◌, ◌%◌, ◌<◌, ◌≤◌, inl, inr, Bool, true, false, not, List, [], ◌∷◌, length, Some, refl, sym, ◌∙◌, ap, subst, arith}
+use Rattle.sx_isa.specs.declared.instruction.Operand.TheVariants.{Reg, Indexed, Increment, Immediate, Const}
+use Rattle.sx_isa.specs.declared.instruction.Op2.TheVariants as op2
+use Rattle.sx_alu.specs.Status.{flags_of}
+use Rattle.sx_lang.specs.declared.tree.BinOp.TheVariants as binary
+use Rattle.sx_mean.specs.Meaning.{combine, truth}
+use Rattle.sx_isa.specs.declared.instruction.Instr.TheVariants.{Two, Jump}
+use Rattle.sx_rules.specs.declared.access.Violation.{Violation}
+use Rattle.sx_machine.specs.declared.kinds.Event.TheVariants as event
+use Rattle.sx_invoke.specs.Marks.{Mark}
+use Rattle.sx_image.specs.Watched.{Watched}
+use Rattle.sx_ir.specs.Conf.{Conf}
+use Rattle.sx_ir.specs.Meaning.{next}
+use Rattle.sx_tmpl.specs.Running.{Regs, Fixed, Data, running, Safe}
+use Rattle.sx_tmpl.proofs.Running.MidRun.{Stands, Runs, put_cell}
+use Rattle.sx_tmpl.specs.Shows.{MemoryHolds, ShowsConfiguration, Stood}
+use Rattle.sx_machine.specs.Rows.{jump_taken}
+use Rattle.sx_tmpl.proofs.Running.Steps.{Text, InText, Reads, one, two}
+use Rattle.sx_tmpl.proofs.Running.Flags.{flags_after, no_borrow, borrow, equal, unequal, carry_of, zero_of}
+use Rattle.std.specs.Prelude.{pos, slice_get, nat_lt, ◌==◌}
+use Rattle.std.proofs.lemmas.Bool.{cases_lt, cases_eq, lt-ltb, le-ltb, eq-eqb, ne_eqb}
+use Rattle.sx_tmpl.proofs.Operations.Plain.{inside, Leads, stood}
+use Rattle.sx_tmpl.proofs.Running.Words as w
+use Rattle.sx_tmpl.proofs.Running.Holding.{stack_word, holds_pop, holds_replace, cell_below}
+
+module _ (f : Fixed) (st : Stands f) (all : List Mark) (B : Watched → Violation → Type 0) (at : ℕ → ℕ) where
+  abbrev L : ℕ → List ℕ → ℕ → Conf → Conf → Type 0
+  L n ws count c c2 = Leads f st all B at n ws count c c2
+
+  pub jump_leads : (c : Conf) (q : ℕ) → InText f (at q) → at q % 2 ≡ 0 → L 2 (0x4030 ∷ at q ∷ []) 1 c (record c { place = q })
+  jump_leads c q to ev r d t on sh safe =
+      let e : at q % 65536 - at q % 65536 % 2 ≡ at q = omega (arith, to.to, st.below) in
+      let r2 = record r { pc = at q; sr = flags_after op2.Mov 0 0 r.sr } in
+      two f st all B _ t 0 0x4030 (at q) (λ x y. Two op2.Mov false (Immediate x) (Reg 0)) refl refl (omega arith) w.goto event.Quiet r d 0 (omega (arith, sh.pc)) safe
+      (λ kept. (r2, rw e refl, to, λ safe2. stood f st all B at (record c { place = q }) r2 d.mem d 0 safe2 refl sh.holds sh.devices sh.marks))
+
+  -- the first two instructions of a test of the top word
+  tested : (Q : Watched → Type 0) (c : Conf) (x q : ℕ) (rest : List ℕ) (k : ℕ) (r : Regs) (d : Data) → Text f (at c.place) 5 (0x413c ∷ 0x930c ∷ 0x2002 ∷ 0x4030 ∷ at q ∷ [])
+      → ShowsConfiguration f at (record c { stack = x ∷ rest }) r d → Safe f all (running f r d)
+      → (let r2 = record r { pc = at c.place + 4; sp = r.sp + 2; r12 = x; sr = flags_after op2.Cmp 0 (x % 65536) (flags_after op2.Mov 0 0 r.sr) } in
+      Safe f all (running f r2 d) → Runs f all B Q k (running f r2 d)) → Runs f all B Q (suc (suc k)) (running f r d)
+  tested Q c x q rest k r d t sh safe after =
+      let h = sh.holds in
+      let p1 = stack_word f st r.sp (length (x ∷ rest)) h.top (omega arith) (omega (arith, h.room)) in
+      let up : (r.sp + 2) % 65536 ≡ r.sp + 2 = omega (arith, p1.high, st.beneath) in
+      let r1 = record r { pc = at c.place + 2; sp = r.sp + 2; r12 = x; sr = flags_after op2.Mov 0 0 r.sr } in
+      let r2 = record r1 { pc = at c.place + 4; sr = flags_after op2.Cmp 0 (x % 65536) r1.sr } in
+      one f st all B Q t 0 0x413c (λ x y. Two op2.Mov false (Increment 1) (Reg 12)) refl (omega arith) w.pop_12 event.Quiet r d (suc k) (omega (arith, sh.pc)) safe (
+        r.sp,
+        refl,
+        p1,
+        x,
+        h.words.0,
+        λ kept. (
+          r1,
+          rw up refl,
+          inside t 1 (omega arith),
+          λ s1.
+              one f st all B Q t 1 0x930c (λ x y. Two op2.Cmp false (Const 0) (Reg 12)) refl (omega arith) w.test_12 event.Quiet r1 d k refl s1
+              (λ kept. (r2, refl, inside t 2 (omega arith), after)),
+        ),
+      )
+
+  pub jump_zero_leads : (c : Conf) (q : ℕ) (rest : List ℕ) → InText f (at q) → at q % 2 ≡ 0
+      → L 5 (0x413c ∷ 0x930c ∷ 0x2002 ∷ 0x4030 ∷ at q ∷ []) 4 (record c { stack = 0 ∷ rest }) (record c { place = q; stack = rest })
+  jump_zero_leads c q rest to ev r d t on sh safe =
+      let h = sh.holds in
+      let e : at q % 65536 - at q % 65536 % 2 ≡ at q = omega (arith, to.to, st.below) in
+      let sr1 = flags_after op2.Mov 0 0 r.sr in
+      let z = equal 0 0 sr1 (omega arith) refl in
+      tested _ c 0 q rest 2 r d t sh safe (λ s2.
+      let r2 = record r { pc = at c.place + 4; sp = r.sp + 2; r12 = 0; sr = flags_after op2.Cmp 0 (0 % 65536) sr1 } in
+      let r3 = record r2 { pc = at c.place + 6 } in
+      let r4 = record r3 { pc = at q; sr = flags_after op2.Mov 0 0 r3.sr } in
+      one f st all B _ t 2 0x2002 (λ x y. Jump 0 (pos 2)) refl (omega arith) w.jne_2 event.Quiet r2 d 1 refl s2
+      (λ kept. (
+        r3,
+        rw z refl,
+        inside t 3 (omega arith),
+        λ s3.
+            two f st all B _ t 3 0x4030 (at q) (λ x y. Two op2.Mov false (Immediate x) (Reg 0)) refl refl (omega arith) w.goto event.Quiet r3 d 0 refl s3
+            (λ kept. (
+              r4,
+              rw e refl,
+              to,
+              λ s4. stood f st all B at (record c { place = q; stack = rest }) r4 d.mem d 0 s4 refl
+                  (holds_pop f st at c.back 0 rest c.priv c.mem r.sp d.mem h) sh.devices sh.marks,
+            )),
+      )))
+
+  pub jump_not_leads : (c : Conf) (q v : ℕ) (rest : List ℕ) → L 5 (0x413c ∷ 0x930c ∷ 0x2002 ∷ 0x4030 ∷ at q ∷ []) 4 (record c { stack = suc v ∷ rest }) (next c rest)
+  jump_not_leads c q v rest r d t on sh safe =
+      let h = sh.holds in
+      let lt : suc v < 65536 = subst (λ (n : ℕ). n < 65536) h.words.0 (cell_below f st d.mem r.sp safe.memory) in
+      let sr1 = flags_after op2.Mov 0 0 r.sr in
+      let z = unequal 0 (suc v % 65536) sr1 (omega arith) (omega arith) (omega arith) in
+      let to : (at c.place + 6 + 4) % 65536 ≡ at c.place + 10 = omega (arith, t.to, st.below) in
+      tested _ c (suc v) q rest 2 r d t sh safe (λ s2.
+      let r2 = record r { pc = at c.place + 4; sp = r.sp + 2; r12 = suc v; sr = flags_after op2.Cmp 0 (suc v % 65536) sr1 } in
+      let r3 = record r2 { pc = at c.place + 10 } in
+      one f st all B _ t 2 0x2002 (λ x y. Jump 0 (pos 2)) refl (omega arith) w.jne_2 event.Quiet r2 d 1 refl s2
+      (λ kept. (
+        r3,
+        rw (z, to) refl,
+        inside t 5 (omega arith),
+        λ s3. stood f st all B at (next c rest) r3 d.mem d 1 s3 (omega (arith, on))
+            (holds_pop f st at c.back (suc v) rest c.priv c.mem r.sp d.mem h) sh.devices sh.marks,
+      )))
+
+  -- the end of a comparison: a jump over the next instruction, which makes the top word 1, is taken where it doesn't hold
+  pub compare_end : {P n : ℕ} {ws : List ℕ} (t : Text f P n ws) (k : ℕ) (c2 : Conf) (rest : List ℕ) (jw cond : ℕ) (b : Bool) (r : Regs) (d : Data) → slice_get ws k ≡ Some jw
+      → slice_get ws (k + 1) ≡ Some 0x4391 → slice_get ws (k + 1 + 1) ≡ Some 0 → k + 1 + 2 ≤ n → Reads jw 1 (λ x y. Jump cond (pos 2)) → jump_taken cond (flags_of r.sr) ≡ not b
+      → r.pc ≡ P + 2 * k → at c2.place ≡ P + 2 * (k + 1 + 2) → c2.stack ≡ truth b ∷ rest → MemoryHolds f at c2.back (0 ∷ rest) c2.priv c2.mem r.sp d.mem → d.devices ≡ c2.devices → d.marks ≡ c2.marks
+      → Safe f all (running f r d)
+      → Runs f all B (Stood f all at c2) 2 (running f r d)
+  compare_end {P = P} t k c2 rest jw cond true r d g0 g1 g2 le reads tk pc on stack h dev marks safe =
+      let p2 = stack_word f st r.sp (length (0 ∷ rest)) h.top (omega arith) (omega (arith, h.room)) in
+      let up0 : (r.sp + 0) % 65536 ≡ r.sp = omega (arith, p2.high, st.beneath) in
+      let r4 = record r { pc = P + 2 * (k + 1) } in
+      let r5 = record r4 { pc = P + 2 * (k + 1 + 2); sr = flags_after op2.Mov 0 0 r.sr } in
+      one f st all B _ t k jw (λ x y. Jump cond (pos 2)) g0 (omega arith) reads event.Quiet r d 1 pc safe
+      (λ kept. (
+        r4,
+        rw tk refl,
+        inside t (k + 1) (omega arith),
+        λ s4.
+            two f st all B _ t (k + 1) 0x4391 0 (λ x y. Two op2.Mov false (Const 1) (Indexed 1 x)) g1 g2 le w.one_top event.Quiet r4 d 0 refl s4 (
+              r.sp,
+              up0,
+              p2,
+              1,
+              refl,
+              omega arith,
+              λ kept5. (
+                r5,
+                refl,
+                inside t (k + 1 + 2) le,
+                λ s5.
+                    stood f st all B at c2 r5 (put_cell d.mem r.sp 1) d 0 s5 (sym on) (subst (λ l. MemoryHolds f at c2.back l c2.priv c2.mem r.sp (put_cell d.mem r.sp 1)) (sym stack)
+                    (holds_replace f st at c2.back 0 1 rest c2.priv c2.mem r.sp d.mem safe.memory h)) dev marks,
+              ),
+            ),
+      ))
+  compare_end {P = P} t k c2 rest jw cond false r d g0 g1 g2 le reads tk pc on stack h dev marks safe =
+      let to : (P + 2 * (k + 1) + 4) % 65536 ≡ P + 2 * (k + 1 + 2) = omega (arith, t.to, st.below) in
+      let r4 = record r { pc = P + 2 * (k + 1 + 2) } in
+      one f st all B _ t k jw (λ x y. Jump cond (pos 2)) g0 (omega arith) reads event.Quiet r d 1 pc safe
+      (λ kept. (
+        r4,
+        rw (tk, to) refl,
+        inside t (k + 1 + 2) le,
+        λ s4.
+            stood f st all B at c2 r4 d.mem d 1 s4 (sym on) (subst (λ l. MemoryHolds f at c2.back l c2.priv c2.mem r.sp d.mem) (sym stack) h) dev marks,
+      ))
+
+  -- A comparison of the two upper words: the first is popped and compared, and 0 takes the place of the other.
+  compare_leads : (c : Conf) (x y : ℕ) (rest : List ℕ) (jw cond : ℕ) (b : Bool) → Reads jw 1 (λ x y. Jump cond (pos 2))
+      → ((sr : ℕ) → y < 65536 → x < 65536 → jump_taken cond (flags_of (flags_after op2.Mov 0 0 (flags_after op2.Cmp (y % 65536) x sr))) ≡ not b)
+      → L 8 (0x413c ∷ 0x9c81 ∷ 0 ∷ 0x4381 ∷ 0 ∷ jw ∷ 0x4391 ∷ 0 ∷ []) 5 (record c { stack = y ∷ x ∷ rest }) (next c (truth b ∷ rest))
+  compare_leads c x y rest jw cond b reads jumps r d t on sh safe =
+      let h = sh.holds in
+      let top = h.top in
+      let sp = r.sp + 2 in
+      let ly : y < 65536 = subst (λ (n : ℕ). n < 65536) h.words.0 (cell_below f st d.mem r.sp safe.memory) in
+      let lx : x < 65536 = subst (λ (n : ℕ). n < 65536) h.words.1.0 (cell_below f st d.mem sp safe.memory) in
+      let p1 = stack_word f st r.sp (length (y ∷ x ∷ rest)) top (omega arith) (omega (arith, h.room)) in
+      let p2 = stack_word f st sp (length (x ∷ rest)) (omega arith) (omega arith) (omega (arith, h.room)) in
+      let up : (r.sp + 2) % 65536 ≡ sp = omega (arith, p1.high, st.beneath) in
+      let up0 : (sp + 0) % 65536 ≡ sp = omega (arith, p2.high, st.beneath) in
+      let h1 = holds_pop f st at c.back y (x ∷ rest) c.priv c.mem r.sp d.mem h in
+      let h3 = holds_replace f st at c.back x 0 rest c.priv c.mem sp d.mem safe.memory h1 in
+      let r1 = record r { pc = at c.place + 2; sp = sp; r12 = y; sr = flags_after op2.Mov 0 0 r.sr } in
+      let r2 = record r1 { pc = at c.place + 6; sr = flags_after op2.Cmp (y % 65536) x r1.sr } in
+      let r3 = record r2 { pc = at c.place + 10; sr = flags_after op2.Mov 0 0 r2.sr } in
+      one f st all B _ t 0 0x413c (λ x y. Two op2.Mov false (Increment 1) (Reg 12)) refl (omega arith) w.pop_12 event.Quiet r d 4 (omega (arith, sh.pc)) safe (
+        r.sp,
+        refl,
+        p1,
+        y,
+        h.words.0,
+        λ kept. (
+          r1,
+          rw up refl,
+          inside t 1 (omega arith),
+          λ s1.
+              two f st all B _ t 1 0x9c81 0 (λ x y. Two op2.Cmp false (Reg 12) (Indexed 1 x)) refl refl (omega arith) w.cmp_12_top event.Quiet r1 d 3 refl s1 (
+                sp,
+                up0,
+                p2,
+                x,
+                h.words.1.0,
+                λ kept. (
+                  r2,
+                  refl,
+                  inside t 3 (omega arith),
+                  λ s2.
+                      two f st all B _ t 3 0x4381 0 (λ x y. Two op2.Mov false (Const 0) (Indexed 1 x)) refl refl (omega arith) w.zero_top event.Quiet r2 d 2 refl s2 (
+                        sp,
+                        up0,
+                        p2,
+                        0,
+                        refl,
+                        omega arith,
+                        λ kept3. (
+                          r3,
+                          refl,
+                          inside t 5 (omega arith),
+                          λ s3.
+                              compare_end t 5 (next c (truth b ∷ rest)) rest jw cond b r3 (record d { mem = put_cell d.mem sp 0 }) refl refl refl (omega arith) reads
+                              (jumps r1.sr ly lx) refl on refl h3 sh.devices sh.marks s3,
+                        ),
+                      ),
+                ),
+              ),
+        ),
+      )
+
+  pub lt_leads : (c : Conf) (x y : ℕ) (rest : List ℕ) → L 8 (0x413c ∷ 0x9c81 ∷ 0 ∷ 0x4381 ∷ 0 ∷ 0x2c02 ∷ 0x4391 ∷ 0 ∷ []) 5 (record c { stack = y ∷ x ∷ rest }) (next c (combine binary.Lt x y ∷ rest))
+  lt_leads c x y rest = compare_leads c x y rest 0x2c02 3 (nat_lt x y) w.jc_2 (λ sr ly lx.
+      carry_of (flags_after op2.Cmp (y % 65536) x sr) _ ∙ elim (cases_lt x y) [
+        | inl h ↦ borrow (y % 65536) x sr (omega arith) (omega arith) ∙ sym (ap not (lt-ltb x y h))
+        | inr h ↦ no_borrow (y % 65536) x sr (omega arith) (omega arith) ∙ sym (ap not (le-ltb x y h))
+      ])
+
+  pub eq_leads : (c : Conf) (x y : ℕ) (rest : List ℕ) → L 8 (0x413c ∷ 0x9c81 ∷ 0 ∷ 0x4381 ∷ 0 ∷ 0x2002 ∷ 0x4391 ∷ 0 ∷ []) 5 (record c { stack = y ∷ x ∷ rest }) (next c (combine binary.Eq x y ∷ rest))
+  eq_leads c x y rest = compare_leads c x y rest 0x2002 0 (x == y) w.jne_2 (λ sr ly lx.
+      ap not (zero_of (flags_after op2.Cmp (y % 65536) x sr) _ ∙ elim (cases_eq x y) [
+        | inl h ↦ equal (y % 65536) x sr (omega arith) (omega arith) ∙ sym (eq-eqb x y h)
+        | inr h ↦ unequal (y % 65536) x sr (omega arith) lx (omega arith) ∙ sym (ne_eqb x y h)
+      ]))

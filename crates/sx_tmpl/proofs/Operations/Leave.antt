@@ -1,0 +1,313 @@
+-- The return to the caller.
+use Rattle.sx_tmpl.specs.Template.{leave_words}
+use Rattle.std.proofs.Common.{◌≡◌, ℕ, suc, ◌+◌, ◌-◌, ◌*◌, ◌%◌, ◌<◌, ◌≤◌, inl, inr, Bool, true, false, List, [], ◌∷◌, length, Some, refl, sym, ◌∙◌, ap, arith}
+use Rattle.sx_reach.specs.Reach.{Here}
+use Rattle.sx_isa.specs.declared.instruction.Operand.TheVariants.{Reg, Increment, Absolute, Const}
+use Rattle.sx_isa.specs.declared.instruction.Op2.TheVariants as op2
+use Rattle.sx_isa.specs.declared.instruction.Instr.TheVariants.{Two}
+use Rattle.sx_rules.specs.declared.access.Violation.{Violation}
+use Rattle.sx_machine.specs.declared.kinds.Event.TheVariants as event
+use Rattle.std.proofs.lemmas.Option.{same_Some}
+use Rattle.std.proofs.lemmas.Bool.{true≢false}
+use Rattle.sx_rules.specs.Access.{may, in_private}
+use Rattle.sx_reach.specs.Reach.{Next, Ends}
+use Rattle.sx_tmpl.proofs.Running.Steps.{text_word, tests_passed, plain_instruction, fetched, program_two, onward_to, by_outcome}
+use Rattle.sx_reach.specs.Reach.{Goes}
+use Rattle.std.proofs.lemmas.List.{append-nil}
+use Rattle.sx_isa.specs.declared.instruction.Instr.{Instr}
+use Rattle.sx_rules.specs.declared.section.Section.{Section}
+use Rattle.sx_rules.specs.Access.{Sections, Lives, holder, in_public}
+use Rattle.sx_rules.proofs.Placing.{placed_found}
+use Rattle.sx_machine.specs.Run.{Outcome, Finished, Violated, Module}
+use Rattle.sx_machine.specs.Step.{own_of, start, attempt}
+use Rattle.sx_image.specs.Watched.{watch}
+use Rattle.sx_ir.specs.Meaning.{saved}
+use Rattle.sx_tmpl.specs.Running.{sections_of}
+use Rattle.sx_tmpl.proofs.Running.Owned.{own_above, run_holder}
+use Rattle.sx_tmpl.proofs.Running.Owes.{Met, owes_met}
+use Rattle.sx_tmpl.proofs.Running.Flags.{flags_stay}
+use Rattle.sx_invoke.specs.Marks.{Mark}
+use Rattle.sx_image.specs.Watched.{Watched}
+use Rattle.sx_ir.specs.Conf.{Conf}
+use Rattle.sx_tmpl.specs.Running.{Regs, regs16, Fixed, Data, running, Safe, cell}
+use Rattle.sx_tmpl.proofs.Running.MidRun.{Stands, Runs}
+use Rattle.sx_tmpl.specs.Shows.{base_of, IsData, MemoryHolds, ShowsConfiguration}
+use Rattle.sx_machine.specs.Rows.{row}
+use Rattle.sx_machine.specs.Registers.{at_pc}
+use Rattle.sx_tmpl.specs.Running.{OutsideKept}
+use Rattle.sx_tmpl.proofs.Running.Steps.{Text, InText, NoTell, one, two}
+use Rattle.sx_tmpl.proofs.Running.Flags.{flags_after}
+use Rattle.std.specs.Prelude.{slice_get, ◌==◌}
+use Rattle.std.proofs.lemmas.Bool.{cases_eq, eq-eqb, ne_eqb}
+use Rattle.sx_tmpl.proofs.Operations.Plain.{inside}
+use Rattle.sx_tmpl.proofs.Running.Words as w
+use Rattle.sx_tmpl.proofs.Running.Holding.{stack_word, data_word, holds_word}
+
+-- what holds a byte is a live section with it in its public part
+holder_from : (live : List Section) (a i : ℕ) → holder live a ≡ i → 0 < i → (u : Section) × Lives live u × (in_public u a ≡ true) × (u.id ≡ i)
+holder_from [] a i e lt = absurd (omega arith)
+holder_from (s ∷ rest) a i e lt = either (in_public s a) refl (holder_from rest a i)
+  where
+    either : (b : Bool) → in_public s a ≡ b → (holder rest a ≡ i → 0 < i → (u : Section) × Lives rest u × (in_public u a ≡ true) × (u.id ≡ i))
+        → (u : Section) × Lives (s ∷ rest) u × (in_public u a ≡ true) × (u.id ≡ i)
+    either true t later = (s, inl refl, t, rw t at e)
+    either false t later = let x = later (rw t at e) lt in (x.0, inr x.1, x.2, x.3)
+
+-- the node right after the module left, by a plain instruction
+abbrev pub exited : Fixed → Regs → Data → Watched
+exited f r d = record {
+  node = record {
+    regs = regs16 f r;
+    mem = d.mem;
+    devices = d.devices;
+    sections = sections_of f;
+    cur = 0;
+    last = f.setup.section.id;
+    caller = f.caller;
+    boot = f.boot;
+    key = f.key;
+    exchange = d.exchange;
+  };
+  marks = d.marks;
+  event = event.Left f.setup.section.id;
+}
+
+module _ (f : Fixed) (st : Stands f) (all : List Mark) (B : Watched → Violation → Type 0) (Q : Watched → Type 0) where
+  -- what is to follow a plain instruction that leaves the text
+  abbrev Out : ℕ → Data → List ℕ → List ℕ → Type 0
+  Out n d regs m = (r2 : Regs) × (regs ≡ regs16 f r2) × (in_public f.setup.section r2.pc ≡ false) × (OutsideKept f m → Runs f all B Q n (exited f r2 (record d { mem = m })))
+
+  not_held : (a : ℕ) → in_public f.setup.section a ≡ false → (holder f.setup.live a == f.setup.section.id) ≡ false
+  not_held a h = elim (cases_eq (holder f.setup.live a) f.setup.section.id) [
+    | inl e ↦
+        let x = holder_from f.setup.live a f.setup.section.id e (own_above f st) in
+        let same : x.0 ≡ f.setup.section = same_Some x.0 f.setup.section (sym (placed_found (sections_of f) x.0 st.placed x.1) ∙ ap (Rattle.sx_rules.specs.Access.section_of f.setup.live) x.3
+        ∙ placed_found (sections_of f) f.setup.section st.placed st.lives) in
+        absurd (true≢false (sym x.2 ∙ ap (λ u. in_public u a) same ∙ h))
+    | inr ne ↦ ne_eqb (holder f.setup.live a) f.setup.section.id ne
+  ]
+
+  from_exit : (n : ℕ) (r : Regs) (d : Data) (o : Outcome) → Safe f all (running f r d) → InText f r.pc → attempt f.setup.mac (running f r d).node ≡ o
+      → Met f (Out n d) (NoTell f st all B Q) (B (running f r d)) (start (running f r d).node) o → Runs f all B Q (suc n) (running f r d)
+  unfolding watch
+  from_exit n r d (Finished regs y) safe here at h =
+      let c = running f r d in
+      let r2 = h.2.0 in
+      let d2 : Data = record d { mem = y.mem } in
+      let o : Outcome = Finished (regs16 f r2) (record (start c.node) { mem = y.mem }) in
+      let is : Finished regs y ≡ o = ap (λ z. Finished regs z) h.0 ∙ ap (λ g. Finished g (record (start c.node) { mem = y.mem })) h.2.1 in
+      let own : own_of c.node ≡ f.setup.section.id = run_holder f st r.pc here.from here.to in
+      let away = not_held r2.pc h.2.2 in
+      let same : (f.setup.section.id == f.setup.section.id) ≡ true = eq-eqb f.setup.section.id f.setup.section.id refl in
+      let ne : (f.setup.section.id == 0) ≡ false = ne_eqb f.setup.section.id 0 (omega (arith, own_above f st)) in
+      let s : watch f.setup.mac c ≡ Goes (exited f r2 d2) = ap (by_outcome f st all B Q c) (at ∙ is)
+      ∙ rw (own, away, same, ne) (ap (λ l. Goes (exited f r2 (record d2 { marks = l }))) (append-nil d.marks)) in
+      Next {k = n} safe s (omega arith) (h.2.3 h.1)
+  from_exit n r d (Violated v) safe here at h = Ends safe (rw at refl) (omega arith) h
+  from_exit n r d (Module regs y t event exchange) safe here at h = absurd h.3
+
+-- the registers at the exit
+abbrev pub exit_regs : Fixed → ℕ → ℕ → ℕ → Regs
+exit_regs f status count back = record { pc = back; sp = f.sp; sr = 0; r4 = 0; r5 = 0; r6 = 0; r7 = 0; r8 = 0; r9 = 0; r10 = 0; r11 = 0; r12 = status; r13 = count; r14 = 0; r15 = 0 }
+
+-- The module left to the return address with this status and number of pieces, with the configuration's data in memory.
+pub record Departed (f : Fixed) (at : ℕ → ℕ) (c : Conf) (status count : ℕ) (w : Watched) : Type 0 where
+  pub rest : Data
+  pub state : w ≡ exited f (exit_regs f status count (saved c 15 - saved c 15 % 2)) rest
+  pub kept : OutsideKept f rest.mem
+  pub sp : ℕ
+  pub holds : MemoryHolds f at c.back c.stack c.priv c.mem sp rest.mem
+  pub devices : rest.devices ≡ c.devices
+  pub marks : rest.marks ≡ c.marks
+
+module _ (f : Fixed) (st : Stands f) (all : List Mark) (B : Watched → Violation → Type 0) (at : ℕ → ℕ) where
+  -- the last instruction: MOV &return, PC
+  return_out : (Q : Watched → Type 0) {P n : ℕ} {ws : List ℕ} (t : Text f P n ws) (k : ℕ) → slice_get ws k ≡ Some 0x4210 → slice_get ws (k + 1) ≡ Some (base_of f + 12) → k + 2 ≤ n
+      → (r : Regs) (d : Data) (back : ℕ) → r.pc ≡ P + 2 * k → Safe f all (running f r d)
+      → cell d.mem (base_of f + 12) ≡ back → in_public f.setup.section (back - back % 2) ≡ false → r.sr ≡ 0 → (OutsideKept f d.mem → Q (exited f (record r { pc = back - back % 2; sr = 0 }) d))
+      → Runs f all B Q 1 (running f r d)
+  return_out Q {P = P} {n = n} t k has has1 fits r d back pc safe is out sr0 after =
+      let low = t.from in
+      let high = t.to in
+      let ev_ = t.is_even in
+      let lim = st.below in
+      let here : f.setup.section.layout.pub_from ≤ r.pc = omega arith in
+      let ends : r.pc + 1 < f.setup.section.layout.pub_to = omega arith in
+      let ev : r.pc % 2 ≡ 0 = omega arith in
+      let next : (r.pc + 2) % 65536 ≡ P + 2 * (k + 1) = onward_to f st all B Q r.pc (P + 2 * (k + 1)) 2 (omega arith) (omega arith) in
+      let x = start (running f r d).node in
+      let ii : ℕ → ℕ → Instr = λ x y. Two op2.Mov false (Absolute x) (Reg 0) in
+      let i0 : cell d.mem r.pc ≡ 0x4210 = text_word f st all B Q d.mem r.pc 0x4210 safe.memory here ends (ap (cell f.entered) pc ∙ t.word k 0x4210 has) in
+      let i1 : cell d.mem (P + 2 * (k + 1)) ≡ base_of f + 12 = text_word f st all B Q d.mem (P + 2 * (k + 1)) (base_of f + 12) safe.memory (omega arith) (omega arith)
+      (t.word (k + 1) (base_of f + 12) has1) in
+      let got = fetched f st all B Q ((r.pc + 2) % 65536) (P + 2 * (k + 1)) (base_of f + 12) x next (omega arith) (omega arith) (omega arith) safe.devices i1 in
+      let at_ = tests_passed f st all B Q event.Quiet r d safe here ends ev ∙ plain_instruction f st all B Q event.Quiet r d 0x4210 here ends ev i0 w.goto_stored.plain
+      ∙ program_two f st all B Q 0x4210 (base_of f + 12) ii (regs16 f r) x w.goto_stored got in
+      let p12 = data_word f st 12 (omega arith) refl (omega (arith, st.room)) in
+      let r2 = record r { pc = back - back % 2; sr = 0 } in
+      let stay : flags_after op2.Mov 0 0 r.sr ≡ 0 = flags_stay r.sr ∙ sr0 in
+      from_exit f st all B Q 0 r d _ safe (record { from = here; to = omega arith }) at_
+      (owes_met f st (Out f st all B Q 0 d) (NoTell f st all B Q) (B (running f r d)) (row (Two op2.Mov false (Absolute (base_of f + 12)) (Reg 0)) (at_pc (regs16 f r) ((r.pc + 2) % 65536))
+      ((r.pc + 4) % 65536)) x safe.devices safe.memory
+      (base_of f + 12, refl, p12, back, is, λ kept. (r2, rw stay refl, out, λ kept2. Here (after kept2))))
+
+  pub leave_run : (c : Conf) (status count : ℕ) (rest : List ℕ) → f.sp % 2 ≡ 0 → in_public f.setup.section (saved c 15 - saved c 15 % 2) ≡ false → 14 ≤ length c.priv → (r : Regs) (d : Data)
+      → Text f (at c.place) 17 (leave_words (base_of f)) → ShowsConfiguration f at (record c { stack = count ∷ status ∷ rest }) r d → Safe f all (running f r d)
+      → Runs f all B (Departed f at (record c { stack = count ∷ status ∷ rest }) status count) 15 (running f r d)
+  leave_run c status count rest sp_even out long r d t sh safe =
+      let Q = Departed f at (record c { stack = count ∷ status ∷ rest }) status count in
+      let h = sh.holds in
+      let top = h.top in
+      let p1 = stack_word f st r.sp (length (count ∷ status ∷ rest)) h.top (omega arith) (omega (arith, h.room)) in
+      let p2 = stack_word f st (r.sp + 2) (length (status ∷ rest)) (omega arith) (omega arith) (omega (arith, h.room)) in
+      let up : (r.sp + 2) % 65536 ≡ r.sp + 2 = omega (arith, p1.high, st.beneath) in
+      let up2 : (r.sp + 2 + 2) % 65536 ≡ r.sp + 4 = omega (arith, p2.high, st.beneath) in
+      let stay = flags_stay r.sr in
+      let i12 : IsData 12 = record { low = omega arith; beside = inl (omega arith) } in
+      let back : cell d.mem (base_of f + 12) ≡ saved c 15 = holds_word f st at c.back (count ∷ status ∷ rest) c.priv c.mem r.sp d.mem 12 h refl i12 long in
+      let p148 = data_word f st 148 (omega arith) refl (omega (arith, st.room)) in
+      let spe : f.sp - f.sp % 2 ≡ f.sp = omega (arith, sp_even) in
+      let r1 = record r { pc = at c.place + 2; sp = r.sp + 2; r13 = count } in
+      let q0 = record r1 { pc = at c.place + 4; sp = r.sp + 4; r12 = status } in
+      let q1 = record q0 { pc = at c.place + 6; r4 = 0 } in
+      let q2 = record q1 { pc = at c.place + 8; r5 = 0 } in
+      let q3 = record q2 { pc = at c.place + 10; r6 = 0 } in
+      let q4 = record q3 { pc = at c.place + 12; r7 = 0 } in
+      let q5 = record q4 { pc = at c.place + 14; r8 = 0 } in
+      let q6 = record q5 { pc = at c.place + 16; r9 = 0 } in
+      let q7 = record q6 { pc = at c.place + 18; r10 = 0 } in
+      let q8 = record q7 { pc = at c.place + 20; r11 = 0 } in
+      let q9 = record q8 { pc = at c.place + 22; r14 = 0 } in
+      let q10 = record q9 { pc = at c.place + 24; r15 = 0 } in
+      let q11 = record q10 { pc = at c.place + 26; sr = 0 } in
+      let q12 = record q11 { pc = at c.place + 30; sp = f.sp } in
+      one f st all B Q t 0 0x413d (λ x y. Two op2.Mov false (Increment 1) (Reg 13)) refl (omega arith) w.pop_13 event.Quiet r d 14 (omega (arith, sh.pc)) safe (
+        r.sp,
+        refl,
+        p1,
+        count,
+        h.words.0,
+        λ kept. (
+          r1,
+          rw (up, stay) refl,
+          inside t 1 (omega arith),
+          λ s1.
+              one f st all B Q t 1 0x413c (λ x y. Two op2.Mov false (Increment 1) (Reg 12)) refl (omega arith) w.pop_12 event.Quiet r1 d 13 refl s1 (
+                r.sp + 2,
+                refl,
+                p2,
+                status,
+                h.words.1.0,
+                λ kept. (
+                  q0,
+                  rw (up2, stay) refl,
+                  inside t 2 (omega arith),
+                  λ z0.
+                      one f st all B Q t 2 0x4304 (λ x y. Two op2.Mov false (Const 0) (Reg 4)) refl (omega arith) w.zero_4 event.Quiet q0 d 12 refl z0
+                      (λ kept. (
+                        q1,
+                        rw stay refl,
+                        inside t 3 (omega arith),
+                        λ z1.
+                            one f st all B Q t 3 0x4305 (λ x y. Two op2.Mov false (Const 0) (Reg 5)) refl (omega arith) w.zero_5 event.Quiet q1 d 11 refl z1
+                            (λ kept. (
+                              q2,
+                              rw stay refl,
+                              inside t 4 (omega arith),
+                              λ z2.
+                                  one f st all B Q t 4 0x4306 (λ x y. Two op2.Mov false (Const 0) (Reg 6)) refl (omega arith) w.zero_6 event.Quiet q2 d 10 refl z2
+                                  (λ kept. (
+                                    q3,
+                                    rw stay refl,
+                                    inside t 5 (omega arith),
+                                    λ z3.
+                                        one f st all B Q t 5 0x4307 (λ x y. Two op2.Mov false (Const 0) (Reg 7)) refl (omega arith) w.zero_7 event.Quiet q3 d 9 refl z3
+                                        (λ kept. (
+                                          q4,
+                                          rw stay refl,
+                                          inside t 6 (omega arith),
+                                          λ z4.
+                                              one f st all B Q t 6 0x4308 (λ x y. Two op2.Mov false (Const 0) (Reg 8)) refl (omega arith) w.zero_8 event.Quiet q4 d 8 refl z4
+                                              (λ kept. (
+                                                q5,
+                                                rw stay refl,
+                                                inside t 7 (omega arith),
+                                                λ z5.
+                                                    one f st all B Q t 7 0x4309 (λ x y. Two op2.Mov false (Const 0) (Reg 9)) refl (omega arith) w.zero_9 event.Quiet q5 d 7 refl z5
+                                                    (λ kept. (
+                                                      q6,
+                                                      rw stay refl,
+                                                      inside t 8 (omega arith),
+                                                      λ z6.
+                                                          one f st all B Q t 8 0x430a (λ x y. Two op2.Mov false (Const 0) (Reg 10)) refl (omega arith) w.zero_10 event.Quiet q6 d 6 refl z6
+                                                          (λ kept. (
+                                                            q7,
+                                                            rw stay refl,
+                                                            inside t 9 (omega arith),
+                                                            λ z7.
+                                                                one f st all B Q t 9 0x430b (λ x y. Two op2.Mov false (Const 0) (Reg 11)) refl (omega arith) w.zero_11 event.Quiet q7 d 5 refl z7
+                                                                (λ kept. (
+                                                                  q8,
+                                                                  rw stay refl,
+                                                                  inside t 10 (omega arith),
+                                                                  λ z8.
+                                                                      one f st all B Q t 10 0x430e (λ x y. Two op2.Mov false (Const 0) (Reg 14)) refl (omega arith) w.zero_14 event.Quiet q8 d 4 refl z8
+                                                                      (λ kept. (
+                                                                        q9,
+                                                                        rw stay refl,
+                                                                        inside t 11 (omega arith),
+                                                                        λ z9.
+                                                                            one f st all B Q t 11 0x430f (λ x y. Two op2.Mov false (Const 0) (Reg 15)) refl
+                                                                            (omega arith) w.zero_15 event.Quiet q9 d 3 refl z9
+                                                                            (λ kept. (
+                                                                              q10,
+                                                                              rw stay refl,
+                                                                              inside t 12 (omega arith),
+                                                                              λ z10.
+                                                                                  one f st all B Q t 12 0x4302 (λ x y. Two op2.Mov false (Const 0) (Reg 2)) refl
+                                                                                  (omega arith) w.clear_status event.Quiet q10 d 2 refl z10
+                                                                                  (λ kept. (
+                                                                                    q11,
+                                                                                    refl,
+                                                                                    inside t 13 (omega arith),
+                                                                                    λ z11.
+                                                                                        two f st all B Q t 13 0x4211 (base_of f + 148) (λ x y. Two op2.Mov false (Absolute x) (Reg 1)) refl refl
+                                                                                        (omega arith) w.get_sp event.Quiet q11 d 1 refl z11 (
+                                                                                          base_of f + 148,
+                                                                                          refl,
+                                                                                          p148,
+                                                                                          f.sp,
+                                                                                          h.entry_sp,
+                                                                                          λ kept. (
+                                                                                            q12,
+                                                                                            rw spe refl,
+                                                                                            inside t 15 (omega arith),
+                                                                                            λ z12.
+                                                                                                return_out Q t 15 refl refl (omega arith) q12 d (saved c 15) refl z12 back out refl
+                                                                                                (λ kept. record {
+                                                                                                  rest = d;
+                                                                                                  state = refl;
+                                                                                                  kept = kept;
+                                                                                                  sp = r.sp;
+                                                                                                  holds = h;
+                                                                                                  devices =
+                                                                                                      sh.devices;
+                                                                                                  marks = sh.marks;
+                                                                                                }),
+                                                                                          ),
+                                                                                        ),
+                                                                                  )),
+                                                                            )),
+                                                                      )),
+                                                                )),
+                                                          )),
+                                                    )),
+                                              )),
+                                        )),
+                                  )),
+                            )),
+                      )),
+                ),
+              ),
+        ),
+      )

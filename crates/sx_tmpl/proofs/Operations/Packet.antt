@@ -1,0 +1,663 @@
+-- The routine of an end's packet.
+use Rattle.sx_tmpl.specs.Template.{routine_words}
+use Rattle.std.proofs.Common.{◌≡◌, ◌≢◌, ℕ, zero, suc, ◌+◌, ◌-◌, ◌*◌, ◌/◌, ◌%◌, ◌<◌, ◌≤◌, ◌⊎◌, inl, inr, Bool, true, false, not, ◌&&◌, List, [], ◌∷◌, ◌++◌}
+use Rattle.std.proofs.Common.{length, Option, Some, None, refl, sym, ◌∙◌, ap, subst, arith, slice_index}
+use Rattle.sx_reach.specs.Reach.{Here}
+use Rattle.sx_isa.specs.declared.instruction.Operand.TheVariants.{Reg, Indexed, Increment, Absolute, Immediate, Const}
+use Rattle.sx_isa.specs.declared.instruction.Op2.TheVariants as op2
+use Rattle.sx_isa.specs.declared.instruction.Instr.TheVariants.{Two, Jump}
+use Rattle.sx_rules.specs.declared.access.Violation.{Violation}
+use Rattle.sx_machine.specs.declared.kinds.Event.{Event}
+use Rattle.sx_machine.specs.declared.kinds.Event.TheVariants as event
+use Rattle.std.specs.Prelude.{Ok, Err}
+use Rattle.sx_invoke.specs.Windows.{write_byte, write_bytes, unless_device, then_}
+use Rattle.sx_tmpl.proofs.Running.MidRun.{PrivateRange, PrivateWord}
+use Rattle.sx_tmpl.proofs.Running.Mem.{cell-put_other, put_word_is, word_is, length-put}
+use Rattle.sx_tmpl.proofs.Running.Holding.{same_word, holds_under, holds_under_bytes}
+use Rattle.sx_tag.specs.Mac.{IsTag}
+use Rattle.sx_tmpl.proofs.Operations.Bytes.{BytesAt, bytes_same, bytes_append, bytes_put, put_bytes_other, pair, six, bytes_agree, cipher_bytes, tag_bytes, length_cipher}
+use Rattle.sx_tmpl.proofs.Operations.Bytes.{length_tag, length-put_bytes, stand_from}
+use Rattle.sx_tmpl.proofs.Operations.CopyLoop.{copy_runs}
+use Rattle.sx_reach.specs.Reach.{Next, Ends}
+use Rattle.sx_machine.specs.declared.kinds.Exchange.{Exchange}
+use Rattle.sx_machine.specs.Memory.{bytes_from, put_bytes}
+use Rattle.sx_tag.specs.Wrap.{wrapped}
+use Rattle.sx_mean.specs.Offsets as offsets
+use Rattle.sx_invoke.specs.ModuleState.{EndState, end_state}
+use Rattle.sx_invoke.specs.Windows as windows
+use Rattle.sx_invoke.specs.Acts.{event_header, event_packet}
+use Rattle.sx_invoke.specs.Marks as mark
+use Rattle.sx_invoke.specs.Marks.{HasPrefix}
+use Rattle.sx_tmpl.specs.Running.{running_after}
+use Rattle.sx_tmpl.proofs.Running.Steps.{three}
+use Rattle.sx_tmpl.proofs.Running.Flags.{flags_stay}
+use Rattle.sx_tmpl.proofs.Operations.Sealing.{KeyIn, Buffers, wrap_as}
+use Rattle.sx_machine.specs.Memory.{word, put_word}
+use Rattle.sx_invoke.specs.Marks.{Mark}
+use Rattle.sx_image.specs.Watched.{Watched}
+use Rattle.sx_tmpl.specs.Running.{Regs, Fixed, Data, running, Safe, cell}
+use Rattle.sx_tmpl.proofs.Running.MidRun.{Stands, Runs, put_cell}
+use Rattle.sx_tmpl.specs.Shows.{base_of, IsData, MemoryHolds}
+use Rattle.sx_tmpl.proofs.Running.Steps.{Text, InText, one, two}
+use Rattle.sx_tmpl.proofs.Running.Flags.{flags_after, equal, unequal}
+use Rattle.std.specs.Prelude.{pos, slice_get, nat_lt, ◌==◌}
+use Rattle.std.proofs.lemmas.Bool.{cases_eq, lt-ltb, le-ltb, eq-eqb, ne_eqb}
+use Rattle.sx_tmpl.proofs.Operations.Plain.{inside}
+use Rattle.sx_tmpl.proofs.Running.Words as w
+use Rattle.sx_tmpl.proofs.Running.Holding.{stack_word, data_word, holds_pop, holds_store, holds_word, cell_below}
+
+-- an end is ready to send
+abbrev pub is_ready : EndState → Bool
+is_ready e = e.is_open && nat_lt e.number 65535
+
+module _ (f : Fixed) (st : Stands f) (all : List Mark) (B : Watched → Violation → Type 0) (at : ℕ → ℕ) (Q : Watched
+    → Type 0) (k A : ℕ) (t : Text f A 56 (routine_words (base_of f) k)) (back : Option ℕ) (priv : List ℕ) (slot : offsets.end_at k + 24 ≤ length priv) where
+  abbrev R : ℕ → Watched → Type 0
+  R n c = Runs f all B Q n c
+
+  more : (n m : ℕ) (c : Watched) → n ≤ m → R n c → R m c
+  more n m c le (Here q) = Here q
+  more n m c le (Next {k = j} p e h r) = Next {k = j} p e (omega arith) r
+  more n m c le (Ends p e h b) = Ends p e (omega arith) b
+
+  abbrev H : List ℕ → List ℕ → ℕ → List ℕ → Type 0
+  H stack outside sp m = MemoryHolds f at back stack priv outside sp m
+
+  -- a word of the end's slot
+  slot_word : (o : ℕ) (stack outside : List ℕ) (sp : ℕ) (m : List ℕ) → o % 2 ≡ 0 → o + 2 ≤ 24 → H stack outside sp m
+      → (cell m (base_of f + (512 + 24 * k + o)) ≡ word priv (512 + 24 * k + o)) × PrivateWord f (base_of f + (512 + 24 * k + o))
+  slot_word o stack outside sp m ev le h =
+      let i : IsData (512 + 24 * k + o) = record { low = omega arith; beside = inr (omega arith) } in
+      (holds_word f st at back stack priv outside sp m (512 + 24 * k + o) h (omega arith) i (omega arith), data_word f st (512 + 24 * k + o) (omega arith) (omega arith) (omega (arith, h.size)))
+
+  -- the two tests
+  pub tests_run : (e : EndState) → end_state priv k ≡ e → (r : Regs) (d : Data) (stack outside : List ℕ) (j : ℕ) → r.pc ≡ A + 2 * 0 → H stack outside r.sp d.mem → Safe f all (running f r d)
+      → (is_ready e ≡ false → (sr : ℕ) → Safe f all (running f (record r { pc = A + 110; sr = sr }) d) → R j (running f (record r { pc = A + 110; sr = sr }) d))
+      → (is_ready e ≡ true → (sr : ℕ) → Safe f all (running f (record r { pc = A + 12; sr = sr }) d) → R j (running f (record r { pc = A + 12; sr = sr }) d))
+      → R (suc (suc (suc (suc j)))) (running f r d)
+  unfolding end_state
+  tests_run e is r d stack outside j pc h safe skip go_on =
+      let open_ = word priv (offsets.end_open_at k) in
+      let number = word priv (offsets.end_number_at k) in
+      let so = slot_word 4 stack outside r.sp d.mem refl (omega arith) h in
+      let sn = slot_word 2 stack outside r.sp d.mem refl (omega arith) h in
+      let lo : open_ < 65536 = subst (λ (n : ℕ). n < 65536) so.0 (cell_below f st d.mem (base_of f + offsets.end_open_at k) safe.memory) in
+      let ln : number < 65536 = subst (λ (n : ℕ). n < 65536) sn.0 (cell_below f st d.mem (base_of f + offsets.end_number_at k) safe.memory) in
+      let sr1 = flags_after op2.Cmp 0 open_ r.sr in
+      let sr3 = flags_after op2.Cmp 65535 number sr1 in
+      let r1 = record r { pc = A + 4; sr = sr1 } in
+      let r2 = record r { pc = A + 6; sr = sr1 } in
+      let r3 = record r { pc = A + 10; sr = sr3 } in
+      let ready : (b : Bool) → (e.is_open ≡ b) → is_ready e ≡ (b && nat_lt e.number 65535) = λ b x. ap (λ b. b && nat_lt e.number 65535) x in
+      two f st all B Q t 0 0x9382 (base_of f + offsets.end_open_at k) (λ x y. Two op2.Cmp false (Const 0) (Absolute x)) refl refl (omega arith) w.test_absolute event.Quiet r d _ pc safe (
+        base_of f + offsets.end_open_at k,
+        refl,
+        so.1,
+        open_,
+        so.0,
+        λ kept. (
+          r1,
+          refl,
+          inside t 2 (omega arith),
+          λ s1.
+              elim (cases_eq open_ 0) [
+                | inl z ↦
+                    let to : (A + 6 + 104) % 65536 ≡ A + 110 = omega (arith, t.to, st.below) in
+                    let no_ : is_ready e ≡ false = ready false (sym (ap (λ (x : EndState). x.is_open) is) ∙ ap not (eq-eqb open_ 0 z)) in
+                    one f st all B Q t 2 0x2434 (λ x y. Jump 1 (pos 52)) refl (omega arith) w.jeq_52 event.Quiet r1 d _ refl s1
+                    (λ kept. (
+                      record r { pc = A + 110; sr = sr1 },
+                      rw (equal 0 open_ r.sr (omega arith) z, to) refl,
+                      inside t 55 (omega arith),
+                      λ s2. more j (suc (suc j)) _ (omega arith)
+                          (skip no_ sr1 s2),
+                    ))
+                | inr nz ↦
+                    let is_open : e.is_open ≡ true = sym (ap (λ (x : EndState). x.is_open) is) ∙ ap not (ne_eqb open_ 0 nz) in
+                    one f st all B Q t 2 0x2434 (λ x y. Jump 1 (pos 52)) refl (omega arith) w.jeq_52 event.Quiet r1 d _ refl s1
+                    (λ kept. (
+                      r2,
+                      rw (unequal 0 open_ r.sr (omega arith) lo nz) refl,
+                      inside t 3 (omega arith),
+                      λ s2.
+                          two f st all B Q t 3 0x93b2 (base_of f + offsets.end_number_at k) (λ x y. Two op2.Cmp false (Const 65535) (Absolute x)) refl refl
+                          (omega arith) w.test_full event.Quiet r2 d _ refl s2 (
+                            base_of f + offsets.end_number_at k,
+                            refl,
+                            sn.1,
+                            number,
+                            sn.0,
+                            λ kept. (
+                              r3,
+                              refl,
+                              inside t 5 (omega arith),
+                              λ s3.
+                                  elim (cases_eq number 65535) [
+                                    | inl z ↦
+                                        let to : (A + 12 + 98) % 65536 ≡ A + 110 = omega (arith, t.to, st.below) in
+                                        let no_ : is_ready e ≡ false = ready true is_open ∙ le-ltb e.number 65535 (omega (arith, ap (λ (x : EndState). x.number) is)) in
+                                        one f st all B Q t 5 0x2431 (λ x y. Jump 1 (pos 49)) refl (omega arith) w.jeq_49 event.Quiet r3 d _ refl s3
+                                        (λ kept. (record r { pc = A + 110; sr = sr3 }, rw (equal 65535 number sr1 (omega arith) z, to) refl, inside t 55 (omega arith), λ s4. skip no_ sr3 s4))
+                                    | inr nz2 ↦
+                                        let yes_ : is_ready e ≡ true = ready true is_open ∙ lt-ltb e.number 65535 (omega (arith, ap (λ (x : EndState). x.number) is)) in
+                                        one f st all B Q t 5 0x2431 (λ x y. Jump 1 (pos 49)) refl (omega arith) w.jeq_49 event.Quiet r3 d _ refl s3
+                                        (λ kept. (record r { pc = A + 12; sr = sr3 }, rw (unequal 65535 number sr1 (omega arith) ln nz2) refl, inside t 6 (omega arith), λ s4. go_on yes_ sr3 s4))
+                                  ],
+                            ),
+                          ),
+                    ))
+              ],
+        ),
+      )
+
+  -- a word that only templates use
+  scratch : (o : ℕ) → 106 ≤ o → o % 2 ≡ 0 → o ≤ 146 → PrivateWord f (base_of f + o)
+  scratch o p ev q = data_word f st o (omega arith) ev (omega (arith, st.room))
+
+  -- writing it leaves what memory holds
+  under : (stack outside : List ℕ) (sp : ℕ) (m : List ℕ) (o v : ℕ) → 106 ≤ o → o % 2 ≡ 0 → o ≤ 146 → H stack outside sp m → H stack outside sp (put_cell m (base_of f + o) v)
+  under stack outside sp m o v p ev q h =
+      holds_under f st at back stack priv outside sp m (base_of f + o) v h (scratch o p ev q) (omega arith) (inl (omega arith)) (let t = h.top in let r = h.room in omega arith)
+
+  -- header and body are made
+  pub header_run : (e : EndState) → end_state priv k ≡ e → (r : Regs) (d : Data) (ret v : ℕ) (rest outside : List ℕ) (j : ℕ) → r.pc ≡ A + 2 * 6 → H (ret ∷ v ∷ rest) outside r.sp d.mem
+      → Safe f all (running f r d)
+      → ((m : List ℕ) → H (ret ∷ v ∷ rest) outside r.sp m → cell m (base_of f + 106) ≡ 3 → cell m (base_of f + 106 + 2) ≡ e.field → cell m (base_of f + 106 + 4) ≡ e.number
+      → cell m (base_of f + 130) ≡ v
+      → Safe f all (running f (record r { pc = A + 36 }) (record d { mem = m })) → R j (running f (record r { pc = A + 36 }) (record d { mem = m })))
+      → R (suc (suc (suc (suc j)))) (running f r d)
+  unfolding end_state
+  header_run e is r d ret v rest outside j pc h safe after =
+      let b = base_of f in
+      let field = word priv (offsets.end_at k) in
+      let number = word priv (offsets.end_number_at k) in
+      let ef : field ≡ e.field = ap (λ (x : EndState). x.field) is in
+      let en : number ≡ e.number = ap (λ (x : EndState). x.number) is in
+      let stay = flags_stay r.sr in
+      let stack = ret ∷ v ∷ rest in
+      let top = h.top in
+      let p106 = scratch 106 (omega arith) refl (omega arith) in
+      let p108 = scratch 108 (omega arith) refl (omega arith) in
+      let p110 = scratch 110 (omega arith) refl (omega arith) in
+      let p130 = scratch 130 (omega arith) refl (omega arith) in
+      let pv = stack_word f st (r.sp + 2) (length (v ∷ rest)) (omega arith) (omega arith) (omega (arith, h.room)) in
+      let up : (r.sp + 2) % 65536 ≡ r.sp + 2 = omega (arith, pv.high, st.beneath) in
+      let m1 = put_cell d.mem (b + 106) 3 in
+      let h1 = under stack outside r.sp d.mem 106 3 (omega arith) refl (omega arith) h in
+      let m2 = put_cell m1 (b + 108) field in
+      let h2 = under stack outside r.sp m1 108 field (omega arith) refl (omega arith) h1 in
+      let m3 = put_cell m2 (b + 110) number in
+      let h3 = under stack outside r.sp m2 110 number (omega arith) refl (omega arith) h2 in
+      let m4 = put_cell m3 (b + 130) v in
+      let h4 = under stack outside r.sp m3 130 v (omega arith) refl (omega arith) h3 in
+      let z0 : b + (512 + 24 * k + 0) ≡ b + offsets.end_at k = omega arith in
+      let f0 : 512 + 24 * k + 0 ≡ offsets.end_at k = omega arith in
+      let sf = slot_word 0 stack outside r.sp m1 refl (omega arith) h1 in
+      let isf : cell m1 (b + offsets.end_at k) ≡ field = ap (cell m1) (sym z0) ∙ sf.0 ∙ ap (word priv) f0 in
+      let pf : PrivateWord f (b + offsets.end_at k) = subst (λ a. PrivateWord f a) z0 sf.1 in
+      let sn = slot_word 2 stack outside r.sp m2 refl (omega arith) h2 in
+      let r1 = record r { pc = A + 18 } in
+      let r2 = record r { pc = A + 24 } in
+      let r3 = record r { pc = A + 30 } in
+      let r4 = record r { pc = A + 36 } in
+      three f st all B Q t 6 0x40b2 3 (b + 106) (λ x y. Two op2.Mov false (Immediate x) (Absolute y)) refl refl refl (omega arith) w.set_word event.Quiet r d _ pc safe (
+        b + 106,
+        refl,
+        p106,
+        3,
+        refl,
+        omega arith,
+        λ kept1. (
+          r1,
+          rw stay refl,
+          inside t 9 (omega arith),
+          λ s1.
+              three f st all B Q t 9 0x4292 (b + offsets.end_at k) (b + 108) (λ x y. Two op2.Mov false (Absolute x) (Absolute y)) refl refl refl (omega arith) w.move_absolute event.Quiet r1
+              (record d { mem = m1 }) _ refl s1 (
+                b + offsets.end_at k,
+                refl,
+                pf,
+                field,
+                isf,
+                (
+                  b + 108,
+                  refl,
+                  p108,
+                  field,
+                  refl,
+                  subst (λ (n : ℕ). n < 65536) isf (cell_below f st m1 (b + offsets.end_at k) kept1),
+                  λ kept2. (
+                    r2,
+                    rw stay refl,
+                    inside t 12 (omega arith),
+                    λ s2.
+                        three f st all B Q t 12 0x4292 (b + offsets.end_number_at k) (b + 110) (λ x y. Two op2.Mov false (Absolute x) (Absolute y)) refl refl refl
+                        (omega arith) w.move_absolute event.Quiet r2 (record d { mem = m2 }) _ refl s2 (
+                          b + offsets.end_number_at k,
+                          refl,
+                          sn.1,
+                          number,
+                          sn.0,
+                          (
+                            b + 110,
+                            refl,
+                            p110,
+                            number,
+                            refl,
+                            subst (λ (n : ℕ). n < 65536) sn.0 (cell_below f st m2 (b + offsets.end_number_at k) kept2),
+                            λ kept3. (
+                              r3,
+                              rw stay refl,
+                              inside t 15 (omega arith),
+                              λ s3.
+                                  three f st all B Q t 15 0x4192 2 (b + 130) (λ x y. Two op2.Mov false (Indexed 1 x) (Absolute y)) refl refl refl (omega arith) w.move_under_top event.Quiet r3
+                                  (record d { mem = m3 }) _ refl s3 (
+                                    r.sp + 2,
+                                    up,
+                                    pv,
+                                    v,
+                                    h3.words.1.0,
+                                    (
+                                      b + 130,
+                                      refl,
+                                      p130,
+                                      v,
+                                      refl,
+                                      subst (λ (n : ℕ). n < 65536) h3.words.1.0 (cell_below f st m3 (r.sp + 2) kept3),
+                                      λ kept4. (
+                                        r4,
+                                        rw stay refl,
+                                        inside t 18 (omega arith),
+                                        after m4 h4
+                                            (cell-put_other m3 (b + 130) v (b + 106) (omega arith) (omega arith) (omega arith)
+                                            ∙ cell-put_other m2 (b + 110) number (b + 106) (omega arith) (omega arith) (omega arith)
+                                            ∙ cell-put_other m1 (b + 108) field (b + 106) (omega arith) (omega arith) (omega arith) ∙ same_word f st d.mem (b + 106) 3 safe.memory p106)
+                                            (ap (cell m4) (omega arith) ∙ cell-put_other m3 (b + 130) v (b + 108) (omega arith) (omega arith) (omega arith)
+                                            ∙ cell-put_other m2 (b + 110) number (b + 108) (omega arith) (omega arith) (omega arith) ∙ same_word f st m1 (b + 108) field kept1 p108 ∙ ef)
+                                            (ap (cell m4) (omega arith) ∙ cell-put_other m3 (b + 130) v (b + 110) (omega arith) (omega arith) (omega arith)
+                                            ∙ same_word f st m2 (b + 110) number kept2 p110 ∙ en)
+                                            (same_word f st m3 (b + 130) v kept3 p130),
+                                      ),
+                                    ),
+                                  ),
+                            ),
+                          ),
+                        ),
+                  ),
+                ),
+              ),
+        ),
+      )
+
+  -- the registers are loaded, and the body is wrapped
+  pub wrap_run : IsTag f.setup.mac → (e : EndState) → end_state priv k ≡ e → (r : Regs) (d : Data) (v : ℕ) (stack outside : List ℕ) (j : ℕ) → r.pc ≡ A + 2 * 18 → H stack outside r.sp d.mem
+      → Safe f all (running f r d)
+      → cell d.mem (base_of f + 106) ≡ 3 → cell d.mem (base_of f + 106 + 2) ≡ e.field → cell d.mem (base_of f + 106 + 4) ≡ e.number → cell d.mem (base_of f + 130) ≡ v
+      → HasPrefix all (d.marks ++ mark.Wrapped (event_header e) (windows.two v) false ∷ [])
+      → ((x : Exchange) (m : List ℕ) (r2 : Regs) → r2.pc ≡ A + 64 → r2.sp ≡ r.sp → H stack outside r.sp m → BytesAt m (base_of f + 106) (event_packet f.setup e v)
+      → let d2 : Data = record d { mem = m; exchange = x; marks = d.marks ++ mark.Wrapped (event_header e) (windows.two v) false ∷ [] } in
+      Safe f all (running_after (event.Wrapped f.setup.section.id) f r2 d2) → R j (running_after (event.Wrapped f.setup.section.id) f r2 d2))
+      → R (suc (suc (suc (suc (suc (suc (suc (suc j)))))))) (running f r d)
+  unfolding end_state
+  wrap_run tag e is r d v stack outside j pc h safe c0 c1 c2 cv marks after =
+      let b = base_of f in
+      let room = st.room in
+      let beneath = st.beneath in
+      let sz = h.size in
+      let top = h.top in
+      let deep = h.room in
+      let stay = flags_stay r.sr in
+      let kx : (b + offsets.end_key_at k) % 65536 ≡ b + offsets.end_key_at k = omega arith in
+      let x106 : (b + 106) % 65536 ≡ b + 106 = omega arith in
+      let x130 : (b + 130) % 65536 ≡ b + 130 = omega arith in
+      let x112 : (b + 112) % 65536 ≡ b + 112 = omega arith in
+      let x114 : (b + 114) % 65536 ≡ b + 114 = omega arith in
+      let r1 = record r { pc = A + 40; r9 = b + offsets.end_key_at k } in
+      let r2 = record r1 { pc = A + 44; r10 = b + 106 } in
+      let r3 = record r2 { pc = A + 48; r11 = 6 } in
+      let r4 = record r3 { pc = A + 52; r12 = b + 130 } in
+      let r5 = record r4 { pc = A + 54; r13 = 2 } in
+      let r6 = record r5 { pc = A + 58; r14 = b + 112 } in
+      let r7 = record r6 { pc = A + 62; r15 = b + 114 } in
+      let bytes = safe.memory.bytes in
+      let ad : bytes_from d.mem (b + 106) 6 ≡ event_header e = six d.mem (b + 106) 3 e.field e.number bytes c0 c1 c2 in
+      let body : bytes_from d.mem (b + 130) 2 ≡ windows.two v = pair d.mem (b + 130) v bytes cv in
+      let key : bytes_from d.mem (b + offsets.end_key_at k) 16 ≡ e.key =
+      bytes_agree d.mem priv b (offsets.end_key_at k) 16 (λ i lt. h.bytes (offsets.end_key_at k + i) (record { low = omega arith; beside = inr (omega arith) }) (omega arith))
+      ∙ ap (λ (x : EndState). x.key) is in
+      let pk : PrivateRange f (b + offsets.end_key_at k) 16 = record { low = omega arith; high = omega arith } in
+      let bs : Buffers f r7 = record {
+        header = record { low = omega arith; high = omega arith };
+        text = record { low = omega arith; high = omega arith };
+        out = record { low = omega arith; high = omega arith };
+        tag = record { low = omega arith; high = omega arith };
+        few = omega arith;
+        short = omega arith;
+      } in
+      let ne : (b + offsets.end_key_at k == 0) ≡ false = ne_eqb (b + offsets.end_key_at k) 0 (omega arith) in
+      let W = wrapped f.setup.mac e.key (event_header e) (windows.two v) in
+      let lc = length_cipher f.setup.mac tag e.key (event_header e) (windows.two v) (omega arith) in
+      let lt = length_tag f.setup.mac tag e.key (event_header e) (windows.two v) in
+      let lv : v < 65536 = subst (λ (n : ℕ). n < 65536) cv (cell_below f st d.mem (b + 130) safe.memory) in
+      let mc = put_bytes d.mem (b + 112) W.cipher in
+      let mt = put_bytes mc (b + 114) W.tag in
+      let hc = holds_under_bytes f st at back W.cipher stack priv outside r.sp d.mem (b + 112) h (omega arith) (omega arith) in
+      let ht = holds_under_bytes f st at back W.tag stack priv outside r.sp mc (b + 114) hc (omega arith) (omega arith) in
+      let size : length d.mem ≡ 65536 = safe.memory.size in
+      let size2 : length mc ≡ 65536 = length-put_bytes W.cipher d.mem (b + 112) ∙ size in
+      let at_header : BytesAt mt (b + 106) (event_header e) =
+      bytes_same d.mem mt (b + 106) (event_header e) (λ c p q. put_bytes_other W.tag mc (b + 114) c (inl (omega arith)) ∙ put_bytes_other W.cipher d.mem (b + 112) c (inl (omega arith)))
+      (subst (λ l. BytesAt d.mem (b + 106) l) ad (stand_from d.mem (b + 106) 6)) in
+      let at_cipher : BytesAt mt (b + 112) W.cipher =
+      bytes_same mc mt (b + 112) W.cipher (λ c p q. put_bytes_other W.tag mc (b + 114) c (inl (omega arith)))
+      (bytes_put W.cipher d.mem (b + 112) (cipher_bytes f.setup.mac tag e.key (event_header e) (windows.two v) (omega arith, (omega arith, tt))) (omega arith)) in
+      let at_tag : BytesAt mt (b + 114) W.tag = bytes_put W.tag mc (b + 114) (tag_bytes f.setup.mac tag e.key (event_header e) (windows.two v)) (omega arith) in
+      let packet : BytesAt mt (b + 106) (event_packet f.setup e v) =
+      bytes_append mt (b + 106) (event_header e) (W.cipher ++ W.tag) at_header
+      (subst (λ a. BytesAt mt a (W.cipher ++ W.tag)) (omega arith) (bytes_append mt (b + 112) W.cipher W.tag at_cipher (subst (λ a. BytesAt mt a W.tag) (omega arith) at_tag))) in
+      two f st all B Q t 18 0x4039 (b + offsets.end_key_at k) (λ x y. Two op2.Mov false (Immediate x) (Reg 9)) refl refl (omega arith) w.load_9 event.Quiet r d _ pc safe
+      (λ kept. (
+        r1,
+        rw (stay, kx) refl,
+        inside t 20 (omega arith),
+        λ s1.
+            two f st all B Q t 20 0x403a (b + 106) (λ x y. Two op2.Mov false (Immediate x) (Reg 10)) refl refl (omega arith) w.load_10 event.Quiet r1 d _ refl s1
+            (λ kept. (
+              r2,
+              rw (stay, x106) refl,
+              inside t 22 (omega arith),
+              λ s2.
+                  two f st all B Q t 22 0x403b 6 (λ x y. Two op2.Mov false (Immediate x) (Reg 11)) refl refl (omega arith) w.load_11 event.Quiet r2 d _ refl s2
+                  (λ kept. (
+                    r3,
+                    rw stay refl,
+                    inside t 24 (omega arith),
+                    λ s3.
+                        two f st all B Q t 24 0x403c (b + 130) (λ x y. Two op2.Mov false (Immediate x) (Reg 12)) refl refl (omega arith) w.load_12 event.Quiet r3 d _ refl s3
+                        (λ kept. (
+                          r4,
+                          rw (stay, x130) refl,
+                          inside t 26 (omega arith),
+                          λ s4.
+                              one f st all B Q t 26 0x432d (λ x y. Two op2.Mov false (Const 2) (Reg 13)) refl (omega arith) w.two_13 event.Quiet r4 d _ refl s4
+                              (λ kept. (
+                                r5,
+                                rw stay refl,
+                                inside t 27 (omega arith),
+                                λ s5.
+                                    two f st all B Q t 27 0x403e (b + 112) (λ x y. Two op2.Mov false (Immediate x) (Reg 14)) refl refl (omega arith) w.load_14 event.Quiet r5 d _ refl s5
+                                    (λ kept. (
+                                      r6,
+                                      rw (stay, x112) refl,
+                                      inside t 29 (omega arith),
+                                      λ s6.
+                                          two f st all B Q t 29 0x403f (b + 114) (λ x y. Two op2.Mov false (Immediate x) (Reg 15)) refl refl (omega arith) w.load_15 event.Quiet r6 d _ refl s6
+                                          (λ kept. (
+                                            r7,
+                                            rw (stay, x114) refl,
+                                            inside t 31 (omega arith),
+                                            λ s7.
+                                                subst (λ own. HasPrefix all (d.marks ++ mark.Wrapped (event_header e) (windows.two v) own ∷ [])
+                                                → ((x : Exchange) → let d2 : Data = record d {
+                                                  mem = mt;
+                                                  exchange = x;
+                                                  marks = d.marks ++ mark.Wrapped (event_header e)
+                                                      (windows.two v) own ∷ [];
+                                                } in
+                                                Safe f all (running_after (event.Wrapped f.setup.section.id) f (record r7 { pc = A + 64; r15 = 1 }) d2)
+                                                → R j (running_after (event.Wrapped f.setup.section.id) f (record r7 { pc = A + 64; r15 = 1 }) d2)) → R (suc j) (running f r7 d)) ne
+                                                (wrap_as f st all B Q t 31 refl (omega arith) event.Quiet r7 d e.key (event_header e) (windows.two v) j refl s7 bs (KeyIn pk key) ad body)
+                                                marks (λ x s. after x mt (record r7 { pc = A + 64; r15 = 1 }) refl refl ht packet s),
+                                          )),
+                                    )),
+                              )),
+                        )),
+                  )),
+            )),
+      ))
+
+  -- R12 doubled
+  double_run : (i : ℕ) → slice_get (routine_words (base_of f) k) i ≡ Some 0x5c0c → i + 1 ≤ 56 → (r : Regs) (d : Data) (x j : ℕ) → x < 32768
+      → Safe f all (running f (record r { pc = A + 2 * i; r12 = x }) d)
+      → ((sr : ℕ) → Safe f all (running f (record r { pc = A + 2 * (i + 1); sr = sr; r12 = 2 * x }) d) → R j (running f (record r { pc = A + 2 * (i + 1); sr = sr; r12 = 2 * x }) d))
+      → R (suc j) (running f (record r { pc = A + 2 * i; r12 = x }) d)
+  double_run i has le r d x j lt safe after =
+      let twice : (x % 65536 + x % 65536 + 0) % 65536 ≡ 2 * x = omega arith in
+      let sr1 = flags_after op2.Add (x % 65536) (x % 65536) r.sr in
+      one f st all B Q t i 0x5c0c (λ x y. Two op2.Add false (Reg 12) (Reg 12)) has le w.double_12 event.Quiet (record r { pc = A + 2 * i; r12 = x }) d j refl safe
+      (λ kept. (record r { pc = A + 2 * (i + 1); sr = sr1; r12 = 2 * x }, rw twice refl, inside t (i + 1) le, after sr1))
+
+  -- a word of the data is read
+  data_read : (o : ℕ) (stack outside : List ℕ) (sp : ℕ) (m : List ℕ) → 2 ≤ o → o + 2 ≤ 104 → o % 2 ≡ 0 → H stack outside sp m → (cell m (base_of f + o) ≡ word priv o) × PrivateWord f (base_of f + o)
+  data_read o stack outside sp m p q ev h = (
+    holds_word f st at back stack priv outside sp m o h ev (record { low = p; beside = inl (omega arith) }) (let z = h.size in let y = st.room in
+        omega arith),
+    data_word f st o p ev (let y = st.room in omega arith),
+  )
+
+  -- the place of the packet in the out-window
+  pub address_run : (e : Event) (r : Regs) (d : Data) (stack outside : List ℕ) (p out j : ℕ) → r.pc ≡ A + 2 * 32 → H stack outside r.sp d.mem → Safe f all (running_after e f r d)
+      → word priv offsets.pieces_at ≡ p → p < 2048 → word priv 10 ≡ out → out + 24 * p < 65536
+      → ((sr : ℕ) (r14 : ℕ) → let r2 = record r { pc = A + 2 * 46; sr = sr; r12 = out + 24 * p; r13 = base_of f + 106; r14 = r14; r15 = 24 } in Safe f all (running f r2 d) → R j (running f r2 d))
+      → R (suc (suc (suc (suc (suc (suc (suc (suc (suc (suc j)))))))))) (running_after e f r d)
+  address_run e r d stack outside p out j pc h safe is lp io lo after =
+      let b = base_of f in
+      let room = st.room in
+      let beneath = st.beneath in
+      let x106 : (b + 106) % 65536 ≡ b + 106 = omega arith in
+      let rp = data_read 4 stack outside r.sp d.mem (omega arith) (omega arith) refl h in
+      let ro = data_read 10 stack outside r.sp d.mem (omega arith) (omega arith) refl h in
+      let r1 = record r { pc = A + 68; r12 = p } in
+      two f st all B Q t 32 0x421c (b + 4) (λ x y. Two op2.Mov false (Absolute x) (Reg 12)) refl refl (omega arith) w.get_12 e r d _ pc safe (
+        b + 4,
+        refl,
+        rp.1,
+        p,
+        rp.0 ∙ is,
+        λ kept. (
+          r1,
+          rw (flags_stay r.sr) refl,
+          inside t 34 (omega arith),
+          λ s1.
+              double_run 34 refl (omega arith) r1 d p _ (omega arith) s1 (λ sr2 s2.
+              double_run 35 refl (omega arith) (record r { sr = sr2 }) d (2 * p) _ (omega arith) s2 (λ sr3 s3.
+              double_run 36 refl (omega arith) (record r { sr = sr3 }) d (2 * (2 * p)) _ (omega arith) s3 (λ sr4 s4.
+              let x = 2 * (2 * (2 * p)) in
+              let cutx : x % 65536 ≡ x = omega arith in
+              let r4 = record r { pc = A + 74; sr = sr4; r12 = x } in
+              let r5 = record r { pc = A + 76; sr = sr4; r12 = x; r14 = x } in
+              one f st all B Q t 37 0x4c0e (λ x y. Two op2.Mov false (Reg 12) (Reg 14)) refl (omega arith) w.move_12_14 event.Quiet r4 d _ refl s4
+              (λ kept. (
+                r5,
+                rw (flags_stay sr4, cutx) refl,
+                inside t 38 (omega arith),
+                λ s5.
+                    double_run 38 refl (omega arith) (record r { sr = sr4; r14 = x }) d x _ (omega arith) s5 (λ sr6 s6.
+                    let y = 2 * x in
+                    let z : (y % 65536 + x % 65536 + 0) % 65536 ≡ 24 * p = omega arith in
+                    let sr7 = flags_after op2.Add (x % 65536) (y % 65536) sr6 in
+                    let r6 = record r { pc = A + 78; sr = sr6; r12 = y; r14 = x } in
+                    let r7 = record r { pc = A + 80; sr = sr7; r12 = 24 * p; r14 = x } in
+                    one f st all B Q t 39 0x5e0c (λ x y. Two op2.Add false (Reg 14) (Reg 12)) refl (omega arith) w.add_14_12 event.Quiet r6 d _ refl s6
+                    (λ kept. (
+                      r7,
+                      rw z refl,
+                      inside t 40 (omega arith),
+                      λ s7.
+                          last sr7 x s7 ro,
+                    ))),
+              ))))),
+        ),
+      )
+    where
+      last : (sr r14 : ℕ) → Safe f all (running f (record r { pc = A + 80; sr = sr; r12 = 24 * p; r14 = r14 }) d) → (cell d.mem (base_of f + 10) ≡ word priv 10) × PrivateWord f (base_of f + 10)
+          → R (suc (suc (suc j))) (running f (record r { pc = A + 80; sr = sr; r12 = 24 * p; r14 = r14 }) d)
+      last sr r14 s7 ro =
+          let b = base_of f in
+          let sum : (24 * p % 65536 + out + 0) % 65536 ≡ out + 24 * p = omega arith in
+          let x106 : (b + 106) % 65536 ≡ b + 106 = omega (arith, st.room, st.beneath) in
+          let sr8 = flags_after op2.Add out (24 * p % 65536) sr in
+          let r7 = record r { pc = A + 80; sr = sr; r12 = 24 * p; r14 = r14 } in
+          let r8 = record r { pc = A + 84; sr = sr8; r12 = out + 24 * p; r14 = r14 } in
+          let r9 = record r8 { pc = A + 88; r13 = b + 106 } in
+          let r10 = record r9 { pc = A + 92; r15 = 24 } in
+          two f st all B Q t 40 0x521c (b + 10) (λ x y. Two op2.Add false (Absolute x) (Reg 12)) refl refl (omega arith) w.add_absolute_12 event.Quiet r7 d _ refl s7 (
+            b + 10,
+            refl,
+            ro.1,
+            out,
+            ro.0 ∙ io,
+            λ kept. (
+              r8,
+              rw sum refl,
+              inside t 42 (omega arith),
+              λ s8.
+                  two f st all B Q t 42 0x403d (b + 106) (λ x y. Two op2.Mov false (Immediate x) (Reg 13)) refl refl (omega arith) w.load_13 event.Quiet r8 d _ refl s8
+                  (λ kept. (
+                    r9,
+                    rw (flags_stay sr8, x106) refl,
+                    inside t 44 (omega arith),
+                    λ s9.
+                        two f st all B Q t 44 0x403f 24 (λ x y. Two op2.Mov false (Immediate x) (Reg 15)) refl refl (omega arith) w.load_15 event.Quiet r9 d _ refl s9
+                        (λ kept. (r10, rw (flags_stay sr8) refl, inside t 46 (omega arith), after sr8 r14)),
+                  )),
+            ),
+          )
+
+  -- back to where the routine was called
+  pub return_run : (r : Regs) (d : Data) (priv2 stack outside : List ℕ) (ret j : ℕ) → r.pc ≡ A + 2 * 55 → MemoryHolds f at back (ret ∷ stack) priv2 outside r.sp d.mem → InText f ret → ret % 2 ≡ 0
+      → Safe f all (running f r d)
+      → (MemoryHolds f at back stack priv2 outside (r.sp + 2) d.mem → Safe f all (running f (record r { pc = ret; sp = r.sp + 2 }) d) → R j (running f (record r { pc = ret; sp = r.sp + 2 }) d))
+      → R (suc j) (running f r d)
+  return_run r d priv2 stack outside ret j pc h to ev safe after =
+      let p1 = stack_word f st r.sp (length (ret ∷ stack)) h.top (omega arith) (omega (arith, h.room)) in
+      let up : (r.sp + 2) % 65536 ≡ r.sp + 2 = omega (arith, p1.high, st.beneath) in
+      let kept_even : ret - ret % 2 ≡ ret = omega arith in
+      one f st all B Q t 55 0x4130 (λ x y. Two op2.Mov false (Increment 1) (Reg 0)) refl (omega arith) w.return_ event.Quiet r d j pc safe (
+        r.sp,
+        refl,
+        p1,
+        ret,
+        h.words.0,
+        λ kept. (
+          record r { pc = ret; sp = r.sp + 2 },
+          rw (up, flags_stay r.sr, kept_even) refl,
+          to,
+          after
+              (holds_pop f st at back ret stack priv2 outside r.sp d.mem h),
+        ),
+      )
+
+  -- number and count of pieces rise
+  pub counts_run : (e : EndState) → end_state priv k ≡ e → (r : Regs) (d : Data) (stack outside : List ℕ) (ret p j : ℕ) → r.pc ≡ A + 2 * 51 → H (ret ∷ stack) outside r.sp d.mem → e.number < 65535
+      → word priv offsets.pieces_at ≡ p → p < 65535 → InText f ret → ret % 2 ≡ 0 → Safe f all (running f r d)
+      → ((sr : ℕ) (m : List ℕ) → MemoryHolds f at back stack (put_word (put_word priv (offsets.end_number_at k) (e.number + 1)) offsets.pieces_at (p + 1)) outside (r.sp + 2) m
+      → Safe f all (running f (record r { pc = ret; sp = r.sp + 2; sr = sr }) (record d { mem = m })) → R j (running f (record r { pc = ret; sp = r.sp + 2; sr = sr }) (record d { mem = m })))
+      → R (suc (suc (suc j))) (running f r d)
+  unfolding end_state
+  counts_run e is r d stack outside ret p j pc h ln ip lp to ev safe after =
+      let b = base_of f in
+      let n = e.number in
+      let o = offsets.end_number_at k in
+      let en : word priv o ≡ n = ap (λ (x : EndState). x.number) is in
+      let sn = slot_word 2 (ret ∷ stack) outside r.sp d.mem refl (omega arith) h in
+      let i_n : IsData o = record { low = omega arith; beside = inr (omega arith) } in
+      let up_n : (n + 1 + 0) % 65536 ≡ n + 1 = omega arith in
+      let m1 = put_cell d.mem (b + o) (n + 1) in
+      let priv1 = put_word priv o (n + 1) in
+      let h1 = holds_store f st at back (ret ∷ stack) priv outside r.sp d.mem o (n + 1) safe.memory h (omega arith) i_n (omega arith) in
+      let same : priv1 ≡ put_cell priv o (n + 1) = put_word_is priv o (n + 1) (omega arith) in
+      let size : length priv1 ≡ length priv = ap (λ (l : List ℕ). length l) same ∙ length-put priv o (n + 1) in
+      let ip1 : word priv1 4 ≡ p = word_is priv1 4 refl ∙ ap (λ l. cell l 4) same ∙ cell-put_other priv o (n + 1) 4 (omega arith) (omega arith) (omega arith) ∙ sym (word_is priv 4 refl) ∙ ip in
+      let i_p : IsData 4 = record { low = omega arith; beside = inl (omega arith) } in
+      let pp = data_word f st 4 (omega arith) refl (omega (arith, st.room)) in
+      let cp : cell m1 (b + 4) ≡ p = holds_word f st at back (ret ∷ stack) priv1 outside r.sp m1 4 h1 refl i_p (omega arith) ∙ ip1 in
+      let up_p : (p + 1 + 0) % 65536 ≡ p + 1 = omega arith in
+      let m2 = put_cell m1 (b + 4) (p + 1) in
+      let sr1 = flags_after op2.Add 1 n r.sr in
+      let sr2 = flags_after op2.Add 1 p sr1 in
+      let r1 = record r { pc = A + 106; sr = sr1 } in
+      let r2 = record r { pc = A + 110; sr = sr2 } in
+      two f st all B Q t 51 0x5392 (b + o) (λ x y. Two op2.Add false (Const 1) (Absolute x)) refl refl (omega arith) w.raise_absolute event.Quiet r d _ pc safe (
+        b + o,
+        refl,
+        sn.1,
+        n,
+        sn.0 ∙ en,
+        (
+          b + o,
+          refl,
+          sn.1,
+          n + 1,
+          up_n,
+          omega arith,
+          λ kept1. (
+            r1,
+            refl,
+            inside t 53 (omega arith),
+            λ s1.
+                two f st all B Q t 53 0x5392 (b + 4) (λ x y. Two op2.Add false (Const 1) (Absolute x)) refl refl (omega arith) w.raise_absolute event.Quiet r1 (record d { mem = m1 }) _ refl s1 (
+                  b + 4,
+                  refl,
+                  pp,
+                  p,
+                  cp,
+                  (
+                    b + 4,
+                    refl,
+                    pp,
+                    p + 1,
+                    up_p,
+                    omega arith,
+                    λ kept2. (
+                      r2,
+                      refl,
+                      inside t 55 (omega arith),
+                      λ s2.
+                          return_run r2 (record d { mem = m2 }) (put_word priv1 4 (p + 1)) stack outside ret _ refl
+                          (holds_store f st at back (ret ∷ stack) priv1 outside r.sp m1 4 (p + 1) kept1 h1 refl i_p (omega arith)) to ev s2
+                          (after sr2 m2),
+                    ),
+                  ),
+                ),
+          ),
+        ),
+      )
+
+  -- where the end is ready: header and body, wrap, copy, counts
+  pub send_run : IsTag f.setup.mac → (e : EndState) → end_state priv k ≡ e → (r : Regs) (d : Data) (ret v : ℕ) (rest outside : List ℕ) (p out j : ℕ) → r.pc ≡ A + 2 * 6
+      → H (ret ∷ v ∷ rest) outside r.sp d.mem → Safe f all (running f r d)
+      → e.number < 65535 → word priv offsets.pieces_at ≡ p → 24 * p + 24 ≤ 384 → word priv 10 ≡ out → out + 384 ≤ 65536 → f.from ≤ out + 24 * p → out + 24 * p + 24 ≤ f.to → InText f ret → ret % 2 ≡ 0
+      → (marks : List Mark) → d.marks ++ mark.Wrapped (event_header e) (windows.two v) false ∷ [] ≡ marks → HasPrefix all marks
+      → ((x : Violation) → write_bytes f.setup d.devices outside (out + 24 * p) (event_packet f.setup e v) ≡ Err x → (c : Watched) → c.marks ≡ marks → B c x)
+      → ((mem : List ℕ) → write_bytes f.setup d.devices outside (out + 24 * p) (event_packet f.setup e v) ≡ Ok mem → (r2 : Regs) (d2 : Data) → r2.pc ≡ ret
+      → MemoryHolds f at back (v ∷ rest) (put_word (put_word priv (offsets.end_number_at k) (e.number + 1)) offsets.pieces_at (p + 1)) mem r2.sp d2.mem → d2.devices ≡ d.devices → d2.marks ≡ marks
+      → Safe f all (running f r2 d2) → R j (running f r2 d2))
+      → R (121 + j) (running f r d)
+  send_run tag e is r d ret v rest outside p out j pc h safe ln ip lp io lo w1 w2 to ev marks em begins stop done =
+      let W = wrapped f.setup.mac e.key (event_header e) (windows.two v) in
+      let bs : List ℕ = 0 ∷ e.field % 256 ∷ e.field / 256 ∷ e.number % 256 ∷ e.number / 256 ∷ (W.cipher ++ W.tag) in
+      let lc = length_cipher f.setup.mac tag e.key (event_header e) (windows.two v) (omega arith) in
+      let lt = length_tag f.setup.mac tag e.key (event_header e) (windows.two v) in
+      let la = Rattle.std.proofs.Common.length-append W.cipher W.tag in
+      let lb : length bs ≡ 23 = omega arith in
+      let count : 24 ≡ suc (length bs) = omega arith in
+      subst (λ n. R n (running f r d)) (omega arith)
+      (header_run e is r d ret v rest outside (108 + suc (suc (suc j)) + 6) pc h safe (λ m h1 c0 c1 c2 cv s1.
+      subst (λ n. R n (running f (record r { pc = A + 36 }) (record d { mem = m }))) (omega arith)
+      (wrap_run tag e is (record r { pc = A + 36 }) (record d { mem = m }) v (ret ∷ v ∷ rest) outside (96 + suc (suc (suc j)) + 10) refl h1 s1 c0 c1 c2 cv
+      (subst (λ l. HasPrefix all l) (sym em) begins) (λ x m2 r2 pc2 sp2 h2 packet s2.
+      let d2 : Data = record { mem = m2; devices = d.devices; exchange = x; marks = d.marks ++ mark.Wrapped (event_header e) (windows.two v) false ∷ [] } in
+      subst (λ n. R n (running_after (event.Wrapped f.setup.section.id) f r2 d2)) (omega arith)
+      (address_run (event.Wrapped f.setup.section.id) r2 d2 (ret ∷ v ∷ rest) outside p out (96 + suc (suc (suc j))) pc2 (subst (λ a. H (ret ∷ v ∷ rest) outside a m2) (sym sp2) h2) s2 ip
+      (omega arith) io (omega arith) (λ sr3 r14 s3.
+      subst (λ n. Safe f all (running f (record r2 { pc = A + 92; sr = sr3; r12 = out + 24 * p; r13 = base_of f + 106; r14 = r14; r15 = n }) d2)
+      → R (96 + suc (suc (suc j))) (running f (record r2 { pc = A + 92; sr = sr3; r12 = out + 24 * p; r13 = base_of f + 106; r14 = r14; r15 = n }) d2)) (sym count)
+      (λ s. subst (λ n. R n (running f (record r2 { pc = A + 92; sr = sr3; r12 = out + 24 * p; r13 = base_of f + 106; r14 = r14; r15 = suc (length bs) }) d2)) (omega arith)
+      (copy_runs f st all B at Q A 56 46 (routine_words (base_of f) k) t (omega arith) refl refl refl refl refl d.devices safe.devices back (ret ∷ v ∷ rest) priv bs 3
+      (record r2 { r14 = r14 }) d2 sr3 (out + 24 * p) (base_of f + 106) (suc (suc (suc j))) outside (omega arith) w1 (omega arith)
+      (record { low = omega arith; high = omega (arith, st.room) }) packet (subst (λ a. H (ret ∷ v ∷ rest) outside a m2) (sym sp2) h2) s
+      (λ x2 bad_ r4 m4. stop x2 bad_ (running f r4 (record d2 { mem = m4 })) em)
+      (λ mem good sr5 a5 a6 m5 h5 s5.
+      counts_run e is (record r2 { pc = A + 102; sr = sr5; r12 = a5; r13 = a6; r14 = r14; r15 = 0 }) (record d2 { mem = m5 }) (v ∷ rest) mem ret p j refl h5 ln ip (omega arith) to ev s5
+      (λ sr6 m6 h6 s6. done mem good (record r2 { pc = ret; sp = r2.sp + 2; sr = sr6; r12 = a5; r13 = a6; r14 = r14; r15 = 0 }) (record d2 { mem = m6 }) refl h6 refl em s6)))) s3))))))

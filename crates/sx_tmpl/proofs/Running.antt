@@ -1,0 +1,10 @@
+-- Steps of a module in mid-run: what memory holds, what an instruction owes, and what it leaves.
+pub mod MidRun
+pub mod Owned
+pub mod Mem
+pub mod Owes
+pub mod Steps
+pub mod Words
+pub mod Flags
+pub mod Holding
+pub mod Outcomes

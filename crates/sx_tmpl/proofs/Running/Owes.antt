@@ -1,0 +1,268 @@
+-- What a plan of the module's own code owes, and that it does what was said: one case for each kind of access.
+use Rattle.std.proofs.Common.{◌≡◌, ◌≢◌, ℕ, zero, suc, ◌+◌, ◌%◌, ◌<◌, ◌≤◌, inl, inr, Bool, true, false, List, [], ◌∷◌, length, Option, Some, None, Ok, Err, refl}
+use Rattle.std.proofs.Common.{sym, ◌∙◌, ap, subst, arith, cond, slice_index, slice_set}
+use Rattle.std.proofs.lemmas.Bool.{and_from, cases_eq, cases_Bool, true≢false}
+use Rattle.std.proofs.lemmas.List.{get_or-set_same, get_or-set_other, length-set}
+use Rattle.std.specs.Prelude.{slice_get}
+use Rattle.std.specs.List.{position_from}
+use Rattle.std.proofs.lemmas.Option.{none-some, same_Some}
+use Rattle.sx_bus.specs.declared.devices.Window.{Window}
+use Rattle.sx_bus.specs.declared.devices.Kind.{Kind}
+use Rattle.sx_bus.specs.declared.devices.Kind.TheVariants.{Sensor, Actuator}
+use Rattle.sx_bus.specs.Devices.{device_at, on_word}
+use Rattle.sx_rules.specs.declared.access.Access.TheVariants.{Read, Write}
+use Rattle.sx_rules.specs.declared.access.Violation.{Violation}
+use Rattle.sx_rules.specs.declared.access.Violation.TheVariants as bad
+use Rattle.sx_rules.specs.Access.{in_public, in_private, may}
+use Rattle.sx_machine.specs.declared.kinds.Event.{Event}
+use Rattle.sx_machine.specs.declared.kinds.Exchange.{Exchange}
+use Rattle.sx_machine.specs.Memory.{bytes_from, put_bytes}
+use Rattle.sx_machine.specs.Plan.{Plan, Done, Tell, Stop, Fetch, Load, Store, Need, Writable, Bytes, Put}
+use Rattle.sx_machine.specs.Run.{Moment, Outcome, Finished, Violated, Module, may_range, may_each, found, read_place, read_device, write_place, write_device}
+use Rattle.sx_machine.specs.Run.{load, store, after_read, after_write, exec}
+use Rattle.sx_tmpl.specs.Running.{sections_of, Fixed, Elsewhere, OutsideKept, cell}
+use Rattle.sx_tmpl.proofs.Running.MidRun.{Stands, refused, device_refusal, PrivateByte, PrivateWord, PrivateRange, put_cell}
+use Rattle.sx_tmpl.proofs.Running.Owned.{in_private_yes, may_read, may_write, written_not_public, public_bounds, public_not_private}
+use Rattle.sx_tmpl.proofs.Running.Mem.{length-put, get-put_other, bytes_put, even_is, word_is, put_word_is}
+
+-- a byte that may be written: in the private section, or in the window outside it
+pub data Place (f : Fixed) (a : ℕ) : Type 0 where
+  Inside : PrivateByte f a → Place f a
+  Outside : f.from ≤ a → a < f.to → Place f a
+
+-- What is owed: of each access its address, and that it is let through or how it is refused; of each read what it
+-- gives; and at the end what is to follow.
+module _ (f : Fixed) (Q : List ℕ → List ℕ → Type 0) (T : List ℕ → Event → Exchange → List ℕ → Type 0) (B : Violation → Type 0) where
+  abbrev pub Owes : Plan → List ℕ → Type 0
+  Owes (Done regs) m = OutsideKept f m → Q regs m
+  Owes (Tell regs event exchange) m = OutsideKept f m → T regs event exchange m
+  Owes (Stop v) m = B v
+  Owes (Fetch at k) m = ⊥
+  Owes (Load true at k) m = (a : ℕ) × (at ≡ a) × PrivateWord f a × (v : ℕ) × (cell m a ≡ v) × Owes (k v) m
+  Owes (Load false at k) m = (a : ℕ) × (at ≡ a) × ((v : Violation) → refused f Read bad.Read a ≡ Some v → B v) × (refused f Read bad.Read a ≡ None → Owes (k (slice_index m a)) m)
+  Owes (Store true at v k) m = (a : ℕ) × (at ≡ a) × PrivateWord f a × (w : ℕ) × (v ≡ w) × (w < 65536) × Owes k (put_cell m a w)
+  Owes (Store false at v k) m = (a : ℕ) × (at ≡ a) × Place f a × ((w : Violation) → refused f Write bad.Write a ≡ Some w → B w) × (refused f Write bad.Write a ≡ None
+      → Owes k (slice_set m a (v % 256)))
+  Owes (Need b v k) m = (b ≡ false → B v) × (b ≡ true → Owes k m)
+  Owes (Writable at n k) m = PrivateRange f at n × Owes k m
+  Owes (Bytes at n k) m = PrivateRange f at n × Owes (k (bytes_from m at n)) m
+  Owes (Put at bs k) m = PrivateRange f at (length bs) × Owes k (put_bytes m at bs)
+
+  -- the end of a plan is what was owed
+  abbrev pub Met : Moment → Outcome → Type 0
+  Met x (Finished regs y) = (y ≡ record x { mem = y.mem }) × OutsideKept f y.mem × Q regs y.mem
+  Met x (Violated v) = B v
+  Met x (Module regs y t event exchange) = (y ≡ record x { mem = y.mem }) × OutsideKept f y.mem × (t ≡ (sections_of f)) × T regs event exchange y.mem
+
+module _ (f : Fixed) (st : Stands f) where
+  apart_outside : (a b : ℕ) → in_private f.setup.section a ≡ true → Elsewhere f b → b ≢ a
+  apart_outside a b h o e = true≢false (sym h ∙ ap (in_private f.setup.section) (sym e) ∙ o.outside)
+
+  -- the text stays
+  pub text_kept : (m : List ℕ) (a : ℕ) → OutsideKept f m → in_public f.setup.section a ≡ true → slice_index m a ≡ slice_index f.entered a
+  text_kept m a k h =
+      let p = public_bounds f.setup.section a h in
+      let shut : may f.setup.live f.setup.section.id Write a ≡ false = elim (cases_Bool (may f.setup.live f.setup.section.id Write a)) [
+        | inl t ↦ absurd (true≢false (sym h ∙ written_not_public f st a t))
+        | inr t ↦ t
+      ] in
+      k.elsewhere a (record { outside = public_not_private f st a p.0 p.1; beside = inr (inr shut) })
+
+  -- a word written into the private section
+  pub kept_word : (m : List ℕ) (a v : ℕ) → OutsideKept f m → PrivateWord f a → v < 65536 → OutsideKept f (put_cell m a v)
+  kept_word m a v k p lt =
+      let inside = in_private_yes f.setup.section a (omega (arith, p.low)) (omega (arith, p.high)) in
+      let inside1 = in_private_yes f.setup.section (a + 1) (omega (arith, p.low)) (omega (arith, p.high)) in
+      record {
+        size = length-put m a v ∙ k.size;
+        bytes = bytes_put m a v lt (let e : length m ≡ 65536 = k.size in omega (arith, p.high, st.beneath)) k.bytes;
+        elsewhere = λ b o. get-put_other m a v b (apart_outside a b inside o) (apart_outside (a + 1) b inside1 o) ∙ k.elsewhere b o;
+      }
+
+  bytes_set : (m : List ℕ) (a v : ℕ) → v < 256 → a < length m → ((b : ℕ) → slice_index m b < 256) → (b : ℕ) → slice_index (slice_set m a v) b < 256
+  bytes_set m a v lt len h b = elim (cases_eq b a) [
+    | inl e ↦ subst (λ (n : ℕ). n < 256) (sym (ap (slice_index (slice_set m a v)) e ∙ get_or-set_same m a v 0 len)) lt
+    | inr ne ↦ subst (λ (n : ℕ). n < 256) (sym (get_or-set_other m a b v 0 ne)) (h b)
+  ]
+
+  -- a byte written into the private section, or into the window where the access table lets it
+  pub kept_byte : (m : List ℕ) (a v : ℕ) → OutsideKept f m → Place f a → may f.setup.live f.setup.section.id Write a ≡ true → OutsideKept f (slice_set m a (v % 256))
+  kept_byte m a v k (Inside p) h =
+      let inside = in_private_yes f.setup.section a (omega (arith, p.low)) p.high in
+      record {
+        size = length-set m a (v % 256) ∙ k.size;
+        bytes = bytes_set m a (v % 256) (omega arith) (let e : length m ≡ 65536 = k.size in omega (arith, p.high, st.beneath)) k.bytes;
+        elsewhere = λ b o. get_or-set_other m a b (v % 256) 0 (apart_outside a b inside o) ∙ k.elsewhere b o;
+      }
+  kept_byte m a v k (Outside lo hi) h =
+      record {
+        size = length-set m a (v % 256) ∙ k.size;
+        bytes = bytes_set m a (v % 256) (omega arith) (let e : length m ≡ 65536 = k.size in omega (arith, st.window)) k.bytes;
+        elsewhere = λ b o. get_or-set_other m a b (v % 256) 0 (beside b o) ∙ k.elsewhere b o;
+      }
+    where
+      beside : (b : ℕ) → Elsewhere f b → b ≢ a
+      beside b o e = elim (o.beside) [ inl q ↦ omega arith | inr q ↦ elim q [ inl p ↦ omega arith | inr shut ↦ true≢false (sym h ∙ ap (may f.setup.live f.setup.section.id Write) (sym e) ∙ shut) ] ]
+
+  pub load_word : (at a : ℕ) (x : Moment) → at ≡ a → PrivateWord f a → ((b : ℕ) → device_at x.devices b ≡ device_at f.devices b) → load f.setup.live f.setup.section.id true at x ≡ Ok (cell x.mem a, x)
+  load_word at a x e p same =
+      let inside = in_private_yes f.setup.section a (omega (arith, p.low)) (omega (arith, p.high)) in
+      let e1 = even_is a p.is_even in
+      let m1 = may_read f st a (omega (arith, p.low)) (omega (arith, p.high)) in
+      let m2 = may_read f st (a + 1) (omega (arith, p.low)) (omega (arith, p.high)) in
+      let d : device_at x.devices a ≡ None = same a ∙ st.private_plain a inside p.low in
+      rw (e, e1, m1, m2, d) (ap (λ v. Ok (v, x)) (word_is x.mem a p.is_even))
+
+  pub store_word : (at a v : ℕ) (x : Moment) → at ≡ a → PrivateWord f a → ((b : ℕ) → device_at x.devices b ≡ device_at f.devices b)
+      → store f.setup.live f.setup.section.id true at v x ≡ Ok (record x { mem = put_cell x.mem a v })
+  store_word at a v x e p same =
+      let inside = in_private_yes f.setup.section a (omega (arith, p.low)) (omega (arith, p.high)) in
+      let e1 = even_is a p.is_even in
+      let m1 = may_write f st a (omega (arith, p.low)) (omega (arith, p.high)) in
+      let m2 = may_write f st (a + 1) (omega (arith, p.low)) (omega (arith, p.high)) in
+      let d : device_at x.devices a ≡ None = same a ∙ st.private_plain a inside p.low in
+      rw (e, e1, m1, m2, d) (ap (λ m. Ok (record x { mem = m })) (put_word_is x.mem a v p.is_even))
+
+  -- a device that holds a byte is one of the list
+  stands_at : (test : Window → Bool) (all xs : List Window) (n i : ℕ) → ((j : ℕ) → slice_get all (n + j) ≡ slice_get xs j) → position_from test n xs ≡ Some i
+      → (w : Window) × (slice_get all i ≡ Some w)
+  stands_at test all [] n i h e = absurd (none-some i e)
+  stands_at test all (x ∷ xs) n i h e =
+      either (test x) refl (stands_at test all xs (n + 1) i (λ j. let z : n + 1 + j ≡ n + suc j = omega arith in ap (slice_get all) z ∙ h (suc j)))
+    where
+      either : (b : Bool) → test x ≡ b → (position_from test (n + 1) xs ≡ Some i → (w : Window) × (slice_get all i ≡ Some w)) → (w : Window) × (slice_get all i ≡ Some w)
+      either true t later =
+          let same : n ≡ i = same_Some n i (subst (λ c. cond c (Some n) (position_from test (n + 1) xs) ≡ Some i) t e) in
+          let z : n + 0 ≡ i = omega arith in
+          (x, ap (slice_get all) (sym z) ∙ h 0)
+      either false t later = later (subst (λ c. cond c (Some n) (position_from test (n + 1) xs) ≡ Some i) t e)
+
+  -- a byte is read, or refused by the access table and then by a device
+  pub load_byte : (a : ℕ) (x : Moment) → ((b : ℕ) → device_at x.devices b ≡ device_at f.devices b) → (r : Option Violation) → refused f Read bad.Read a ≡ r
+      → load f.setup.live f.setup.section.id false a x ≡ elim r [ None ↦ Ok (slice_index x.mem a, x) | Some v ↦ Err v ]
+  load_byte a x same r e = elim (cases_Bool (may f.setup.live f.setup.section.id Read a)) [
+    | inl t ↦ let known : device_refusal (device_at f.devices a) ≡ r = rw t at e in
+        rw t (on_device (device_at x.devices a) refl r (ap device_refusal (same a) ∙ known))
+    | inr t ↦ let known : Some bad.Read ≡ r = rw t at e in
+        rw (t, ← known) refl
+  ]
+    where
+      on_device : (d : Option ℕ) → device_at x.devices a ≡ d → (r : Option Violation) → device_refusal (device_at x.devices a) ≡ r
+          → read_place false a (found x.devices d) x ≡ elim r [ None ↦ Ok (slice_index x.mem a, x) | Some v ↦ Err v ]
+      on_device None ed r er = let known : None ≡ r = rw ed at er in rw (← known) refl
+      on_device (Some i) ed r er =
+          let known : Some bad.Device ≡ r = rw ed at er in
+          let w = stands_at (on_word a) x.devices x.devices 0 i (λ j. ap (slice_get x.devices) (omega arith)) ed in
+          rw (← known, w.1) (kinds i w.0 w.0.kind)
+        where
+          kinds : (i : ℕ) (w : Window) (k : Kind) → read_device false i w k x ≡ Err bad.Device
+          kinds i w Sensor = refl
+          kinds i w Actuator = refl
+
+  pub store_byte : (a v : ℕ) (x : Moment) → ((b : ℕ) → device_at x.devices b ≡ device_at f.devices b) → (r : Option Violation) → refused f Write bad.Write a ≡ r
+      → store f.setup.live f.setup.section.id false a v x ≡ elim r [ None ↦ Ok (record x { mem = slice_set x.mem a (v % 256) }) | Some v ↦ Err v ]
+  store_byte a v x same r e = elim (cases_Bool (may f.setup.live f.setup.section.id Write a)) [
+    | inl t ↦ let known : device_refusal (device_at f.devices a) ≡ r = rw t at e in
+        rw t (on_device (device_at x.devices a) refl r (ap device_refusal (same a) ∙ known))
+    | inr t ↦ let known : Some bad.Write ≡ r = rw t at e in
+        rw (t, ← known) refl
+  ]
+    where
+      on_device : (d : Option ℕ) → device_at x.devices a ≡ d → (r : Option Violation) → device_refusal (device_at x.devices a) ≡ r
+          → write_place false a v (found x.devices d) x ≡ elim r [ None ↦ Ok (record x { mem = slice_set x.mem a (v % 256) }) | Some v ↦ Err v ]
+      on_device None ed r er = let known : None ≡ r = rw ed at er in rw (← known) refl
+      on_device (Some i) ed r er =
+          let known : Some bad.Device ≡ r = rw ed at er in
+          let w = stands_at (on_word a) x.devices x.devices 0 i (λ j. ap (slice_get x.devices) (omega arith)) ed in
+          rw (← known, w.1) (kinds i w.0 w.0.kind)
+        where
+          kinds : (i : ℕ) (w : Window) (k : Kind) → write_device false i v k x ≡ Err bad.Device
+          kinds i w Sensor = refl
+          kinds i w Actuator = refl
+
+  -- what isn't refused is let through by the access table
+  pub let_through : (a : ℕ) → refused f Write bad.Write a ≡ None → may f.setup.live f.setup.section.id Write a ≡ true
+  let_through a e = elim (cases_Bool (may f.setup.live f.setup.section.id Write a)) [
+    | inl t ↦ t
+    | inr t ↦ absurd (none-some bad.Write (sym (rw t at e)))
+  ]
+
+  range_less : (a n : ℕ) → PrivateRange f a (suc n) → PrivateRange f a n
+  range_less a n p = record { low = p.low; high = omega (arith, p.high) }
+
+  pub range_read : (a n : ℕ) → PrivateRange f a n → may_range f.setup.live f.setup.section.id Read a n ≡ true
+  range_read a zero p = refl
+  range_read a (suc n) p = and_from _ _ (may_read f st (a + n) (omega (arith, p.low)) (omega (arith, p.high))) (range_read a n (range_less a n p))
+
+  pub range_write : (a n : ℕ) → PrivateRange f a n → may_range f.setup.live f.setup.section.id Write a n ≡ true
+  range_write a zero p = refl
+  range_write a (suc n) p = and_from _ _ (may_write f st (a + n) (omega (arith, p.low)) (omega (arith, p.high))) (range_write a n (range_less a n p))
+
+  range_next : (a n : ℕ) → PrivateRange f a (suc n) → PrivateRange f (a + 1) n
+  range_next a n p = record { low = omega (arith, p.low); high = omega (arith, p.high) }
+
+  range_each : (bs : List ℕ) (a : ℕ) → PrivateRange f a (length bs) → may_each f.setup.live f.setup.section.id Write a bs ≡ true
+  range_each [] a p = refl
+  range_each (b ∷ bs) a p = and_from _ _ (may_write f st a (omega (arith, p.low)) (omega (arith, p.high))) (range_each bs (a + 1) (range_next a (length bs) p))
+
+  -- bytes written into the private section
+  pub kept_bytes : (bs : List ℕ) (m : List ℕ) (a : ℕ) → OutsideKept f m → PrivateRange f a (length bs) → OutsideKept f (put_bytes m a bs)
+  kept_bytes [] m a k p = k
+  kept_bytes (b ∷ bs) m a k p =
+      kept_bytes bs (slice_set m a (b % 256)) (a + 1)
+      (kept_byte m a b k (Inside (record { low = p.low; high = omega (arith, p.high) })) (may_write f st a (omega (arith, p.low)) (omega (arith, p.high))))
+      (range_next a (length bs) p)
+
+module _ (f : Fixed) (st : Stands f) (Q : List ℕ → List ℕ → Type 0) (T : List ℕ → Event → Exchange → List ℕ → Type 0) (B : Violation → Type 0) where
+  abbrev M : Moment → Outcome → Type 0
+  M x o = Met f Q T B x o
+
+  moved_on : (x : Moment) (m : List ℕ) (o : Outcome) → M (record x { mem = m }) o → M x o
+  moved_on x m (Finished regs y) h = h
+  moved_on x m (Violated v) h = h
+  moved_on x m (Module regs y t event exchange) h = h
+
+  -- a plan does what it owes
+  pub owes_met : (p : Plan) (x : Moment) → ((b : ℕ) → device_at x.devices b ≡ device_at f.devices b) → OutsideKept f x.mem → Owes f Q T B p x.mem → M x (exec (sections_of f) f.setup.section.id p x)
+  owes_met (Done regs) x same k h = (refl, k, h k)
+  owes_met (Tell regs event exchange) x same k h = (refl, k, refl, h k)
+  owes_met (Stop v) x same k h = h
+  owes_met (Fetch at k) x same kept h = absurd h
+  owes_met (Load true at k) x same kept h =
+      subst (λ r. M x (after_read r (λ v y. exec (sections_of f) f.setup.section.id (k v) y))) (sym (load_word f st at h.0 x h.1 h.2 same))
+      (subst (λ (v : ℕ). M x (exec (sections_of f) f.setup.section.id (k v) x)) (sym h.4) (owes_met (k h.3) x same kept h.5))
+  owes_met (Load false at k) x same kept h =
+      subst (λ a. M x (after_read (load f.setup.live f.setup.section.id false a x) (λ v y. exec (sections_of f) f.setup.section.id (k v) y))) (sym h.1)
+      (byte (refused f Read bad.Read h.0) refl (λ e. owes_met (k (slice_index x.mem h.0)) x same kept (h.3 e)))
+    where
+      byte : (r : Option Violation) → refused f Read bad.Read h.0 ≡ r → (refused f Read bad.Read h.0 ≡ None → M x (exec (sections_of f) f.setup.section.id (k (slice_index x.mem h.0)) x))
+          → M x (after_read (load f.setup.live f.setup.section.id false h.0 x) (λ v y. exec (sections_of f) f.setup.section.id (k v) y))
+      byte None e go =
+          subst (λ r. M x (after_read r (λ v y. exec (sections_of f) f.setup.section.id (k v) y))) (sym (load_byte f st h.0 x same None e)) (go e)
+      byte (Some v) e go =
+          subst (λ r. M x (after_read r (λ v y. exec (sections_of f) f.setup.section.id (k v) y))) (sym (load_byte f st h.0 x same (Some v) e)) (h.2 v e)
+  owes_met (Store true at v k) x same kept h =
+      subst (λ r. M x (after_write r (λ y. exec (sections_of f) f.setup.section.id k y))) (sym (store_word f st at h.0 v x h.1 h.2 same))
+      (subst (λ (v : ℕ). M x (exec (sections_of f) f.setup.section.id k (record x { mem = put_cell x.mem h.0 v }))) (sym h.4)
+      (moved_on x (put_cell x.mem h.0 h.3) _ (owes_met k (record x { mem = put_cell x.mem h.0 h.3 }) same (kept_word f st x.mem h.0 h.3 kept h.2 h.5) h.6)))
+  owes_met (Store false at v k) x same kept h =
+      subst (λ a. M x (after_write (store f.setup.live f.setup.section.id false a v x) (λ y. exec (sections_of f) f.setup.section.id k y))) (sym h.1) (byte (refused f Write bad.Write h.0) refl
+      (λ e. moved_on x (slice_set x.mem h.0 (v % 256)) _ (owes_met k (record x { mem = slice_set x.mem h.0 (v % 256) }) same (kept_byte f st x.mem h.0 v kept h.2 (let_through f st h.0 e)) (h.4 e))))
+    where
+      byte : (r : Option Violation) → refused f Write bad.Write h.0 ≡ r
+          → (refused f Write bad.Write h.0 ≡ None → M x (exec (sections_of f) f.setup.section.id k (record x { mem = slice_set x.mem h.0 (v % 256) })))
+          → M x (after_write (store f.setup.live f.setup.section.id false h.0 v x) (λ y. exec (sections_of f) f.setup.section.id k y))
+      byte None e go =
+          subst (λ r. M x (after_write r (λ y. exec (sections_of f) f.setup.section.id k y))) (sym (store_byte f st h.0 v x same None e)) (go e)
+      byte (Some w) e go =
+          subst (λ r. M x (after_write r (λ y. exec (sections_of f) f.setup.section.id k y))) (sym (store_byte f st h.0 v x same (Some w) e)) (h.3 w e)
+  owes_met (Need b v k) x same kept h = need b refl (λ e. owes_met k x same kept (h.1 e))
+    where
+      need : (c : Bool) → b ≡ c → (b ≡ true → M x (exec (sections_of f) f.setup.section.id k x)) → M x (cond b (exec (sections_of f) f.setup.section.id k x) (Violated v))
+      need true e go = rw e (go e)
+      need false e go = rw e (h.0 e)
+  owes_met (Writable at n k) x same kept h = rw (range_write f st at n h.0) (owes_met k x same kept h.1)
+  owes_met (Bytes at n k) x same kept h = rw (range_read f st at n h.0) (owes_met (k (bytes_from x.mem at n)) x same kept h.1)
+  owes_met (Put at bs k) x same kept h =
+      rw (range_each f st bs at h.0)
+      (moved_on x (put_bytes x.mem at bs) _ (owes_met k (record x { mem = put_bytes x.mem at bs }) same (kept_bytes f st bs x.mem at kept h.0) h.1))
