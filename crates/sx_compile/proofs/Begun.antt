@@ -22,7 +22,8 @@ use Rattle.sx_stub.proofs.Slots.{state_same}
 use Rattle.sx_tmpl.specs.Performs.{entry_conf}
 
 -- memory that has the private section's data from 512 on represents its state
-pub state_in_memory : (tree : ModuleTree) (ends : List End) (l : Layout) (mem priv : List ℕ) → length priv ≡ l.priv_to - l.priv_from → ((o : ℕ) → 512 ≤ o → o < length priv → get_or mem (l.priv_from + o) 0 ≡ get_or priv o 0) → state_of tree ends (private_bytes l mem) ≡ state_of tree ends priv
+pub state_in_memory : (tree : ModuleTree) (ends : List End) (l : Layout) (mem priv : List ℕ) → length priv ≡ l.priv_to - l.priv_from
+    → ((o : ℕ) → 512 ≤ o → o < length priv → get_or mem (l.priv_from + o) 0 ≡ get_or priv o 0) → state_of tree ends (private_bytes l mem) ≡ state_of tree ends priv
 state_in_memory tree ends l mem priv size f =
     state_same tree ends priv (private_bytes l mem) (λ i le.
     ⊎_elim (λ (p : i < length priv). bytes_from_get mem l.priv_from (l.priv_to - l.priv_from) i (omega (arith, p, size)) ∙ f i le p)
@@ -31,8 +32,10 @@ state_in_memory tree ends l mem priv size f =
     get_or-eq_default (private_bytes l mem) 0 q ∙ sym (get_or-eq_default priv 0 p))
     (cases_lt i (length priv)))
 
-pub begun_at : (mac : Mac) (tree : ModuleTree) (ends : List End) (image : Image) (section : Section) (n : State) → Enters tree image section n → All (λ b. b < 256) n.mem → IsTag mac → length ends ≤ 16 → All (λ e. e.link < 256) ends
-    → section.layout.priv_to - section.layout.priv_from ≡ module_data_size tree (length ends) → CallBegun (setup_at mac tree ends section n) (call_at n) (progress_at (setup_at mac tree ends section n) n) (entry_conf section.layout n)
+pub begun_at : (mac : Mac) (tree : ModuleTree) (ends : List End) (image : Image) (section : Section) (n : State) → Enters tree image section n → All (λ b. b < 256) n.mem → IsTag mac
+    → length ends ≤ 16 → All (λ e. e.link < 256) ends
+    → section.layout.priv_to - section.layout.priv_from ≡ module_data_size tree (length ends)
+    → CallBegun (setup_at mac tree ends section n) (call_at n) (progress_at (setup_at mac tree ends section n) n) (entry_conf section.layout n)
 begun_at mac tree ends image section n enters bytes tag few links size =
     let p0 = private_bytes section.layout n.mem in
     let p1 = put_word p0 6 (slice_index n.regs 12) in
@@ -56,8 +59,10 @@ begun_at mac tree ends image section n enters bytes tag few links size =
         mem = refl;
         devices = refl;
         marks = refl;
-        entry = word-put_other p3 12 (slice_index n.regs 15) 6 refl refl (omega arith) ∙ word-put_other p2 10 (slice_index n.regs 14) 6 refl refl (omega arith) ∙ word-put_other p1 8 (slice_index n.regs 13) 6 refl refl (omega arith) ∙ word-put_same p0 6 (slice_index n.regs 12) refl (omega (arith, l0, size));
-        input = word-put_other p3 12 (slice_index n.regs 15) 8 refl refl (omega arith) ∙ word-put_other p2 10 (slice_index n.regs 14) 8 refl refl (omega arith) ∙ word-put_same p1 8 (slice_index n.regs 13) refl (omega (arith, l0, l1, size));
+        entry = word-put_other p3 12 (slice_index n.regs 15) 6 refl refl (omega arith) ∙ word-put_other p2 10 (slice_index n.regs 14) 6 refl refl (omega arith)
+            ∙ word-put_other p1 8 (slice_index n.regs 13) 6 refl refl (omega arith) ∙ word-put_same p0 6 (slice_index n.regs 12) refl (omega (arith, l0, size));
+        input = word-put_other p3 12 (slice_index n.regs 15) 8 refl refl (omega arith) ∙ word-put_other p2 10 (slice_index n.regs 14) 8 refl refl (omega arith)
+            ∙ word-put_same p1 8 (slice_index n.regs 13) refl (omega (arith, l0, l1, size));
         output = word-put_other p3 12 (slice_index n.regs 15) 10 refl refl (omega arith) ∙ word-put_same p2 10 (slice_index n.regs 14) refl (omega (arith, l0, l1, l2, size));
         back = word-put_same p3 12 (slice_index n.regs 15) refl (omega (arith, l0, l1, l2, l3, size));
       };

@@ -29,7 +29,8 @@ listed f (x ∷ parts) zero p is = (x, refl, some_same is)
     some_same e = cc
 listed f (x ∷ parts) (suc k) p is = listed f parts k p is
 
-module _ (mac : Mac) (tree : ModuleTree) (ends : List End) (l : Layout) (code : Code) (tag : IsTag mac) (able : IsLowerable tree ends) (low : LowersTo tree ends code) (room : HasSections tree ends l) where
+module _ (mac : Mac) (tree : ModuleTree) (ends : List End) (l : Layout) (code : Code) (tag : IsTag mac) (able : IsLowerable tree ends) (low : LowersTo tree ends code)
+    (room : HasSections tree ends l) where
   -- its offsets are words
   pub body_small : bytes code.ops.items < 65536
   body_small = let fits = body_within tree ends code able low in let public = room.public in let below = room.public_below in omega (arith, fits, public, below)
@@ -52,13 +53,15 @@ module _ (mac : Mac) (tree : ModuleTree) (ends : List End) (l : Layout) (code : 
       let s = setup_at mac tree ends section n in
       subst (λ (l : Layout). DoesHandler s (bytes_of (text_words l code)) p q (handler_cost h) e n) same
       (subst (λ (p : ℕ). DoesHandler s (bytes_of (text_words section.layout code)) p q (handler_cost h) e n) from.2
-      (subst (λ (q : ℕ). DoesHandler s (bytes_of (text_words section.layout code)) (part_start code.ops.items from.0) q (handler_cost h) e n) (ap (part_return code.ops.items) (some_same from.0 to.0 one) ∙ to.2)
+      (subst (λ (q : ℕ). DoesHandler s (bytes_of (text_words section.layout code)) (part_start code.ops.items from.0) q (handler_cost h) e n)
+      (ap (part_return code.ops.items) (some_same from.0 to.0 one) ∙ to.2)
       (λ b. does_handler mac tree ends code tag able low section there n e h k from.0.0 from.0.1 part.is part.handler from.1 b)))
     where
       some_same : (x y : ℕ × ℕ) → ◌≡◌ {A = Option (ℕ × ℕ)} (Some x) (Some y) → x ≡ y
       some_same x y e = cc
 
-  pub body_does : (text from to : List ℕ) → text ≡ bytes_of (text_words l code) → from ≡ map (part_start code.ops.items) code.parts.items → to ≡ map (part_return code.ops.items) code.parts.items → DoHandlers mac tree ends l text from to
+  pub body_does : (text from to : List ℕ) → text ≡ bytes_of (text_words l code) → from ≡ map (part_start code.ops.items) code.parts.items → to ≡ map (part_return code.ops.items) code.parts.items
+      → DoHandlers mac tree ends l text from to
   body_does text from to a b c =
       subst (λ (t : List ℕ). DoHandlers mac tree ends l t from to) (sym a)
       (subst (λ (x : List ℕ). DoHandlers mac tree ends l (bytes_of (text_words l code)) x to) (sym b)

@@ -30,8 +30,8 @@ use Rattle.sx_tmpl.specs.Performs.{HasRoom, IsNarrow, Performs, entry_conf}
 use Rattle.sx_tmpl.specs.Running.{fixed_at}
 use Rattle.sx_tmpl.specs.Shows.{Stood}
 use Rattle.sx_tmpl.specs.Text.{addresses, addresses_of, bytes_of, text_words, text_words_of}
-use Rattle.sx_tmpl.proofs.Performing.{text_does}
-use Rattle.sx_tmpl.proofs.TextBytes.{text_size}
+use Rattle.sx_tmpl.proofs.Texts.Performing.{text_does}
+use Rattle.sx_tmpl.proofs.Texts.TextBytes.{text_size}
 use Rattle.sx_lower.specs.Lowering.{IsLowerable}
 use Rattle.sx_compile.specs.Compiled.{HasSections, IsCompiled, compiled_image, compiled_ops, compiled_parts, compiled_text, padded_to}
 use Rattle.sx_compile.specs.Laws.{CompiledRealizes}
@@ -53,7 +53,8 @@ unfolding compiled_text
 text_parts l tree ends = refl
 
 -- the text of the code in memory
-code_text : (l : Layout) (tree : ModuleTree) (ends : List End) (code : Code) → IsCompiled tree ends code → bytes_of (text_words l code) ≡ bytes_of (text_words_of l (compiled_ops tree ends) (compiled_parts tree ends))
+code_text : (l : Layout) (tree : ModuleTree) (ends : List End) (code : Code) → IsCompiled tree ends code
+    → bytes_of (text_words l code) ≡ bytes_of (text_words_of l (compiled_ops tree ends) (compiled_parts tree ends))
 unfolding text_words
 code_text l tree ends code is =
     ap (λ (ops : List Ir). bytes_of (text_words_of l ops code.parts.items)) is.ops ∙ ap (λ (parts : List (ℕ × ℕ)). bytes_of (text_words_of l (compiled_ops tree ends) parts)) is.parts
@@ -73,7 +74,8 @@ room_of tree ends l room =
       private_below = room.private_below;
     }
 
-pub sound_of : (tree : ModuleTree) (ends : List End) (l : Layout) (code : Code) → IsLowerable tree ends → All (λ e. e.link < 256) ends → HasSections tree ends l → IsCompiled tree ends code → is_sound code.ops.items code.parts.items l ≡ true
+pub sound_of : (tree : ModuleTree) (ends : List End) (l : Layout) (code : Code) → IsLowerable tree ends → All (λ e. e.link < 256) ends → HasSections tree ends l → IsCompiled tree ends code
+    → is_sound code.ops.items code.parts.items l ≡ true
 sound_of tree ends l code able links room is =
     ap (λ (ops : List Ir). is_sound ops code.parts.items l) is.ops ∙ ap (λ (parts : List (ℕ × ℕ)). is_sound (compiled_ops tree ends) parts l) is.parts
     ∙ compiled_sound tree ends able links l room
@@ -129,10 +131,13 @@ module _ (mac : Mac) (tree : ModuleTree) (ends : List End) (l : Layout) (provide
         let run = joined_invokes s (call_at n) (progress_at s n) code.ops.items code.parts.items (entry_conf section.layout n) cost begun refl refl
         (λ i lt. ap (λ (c : List Ir). slice_get c i) is.ops ∙ starts s i lt) parts in
         let sound : list_all (is_sound_op (length (compiled_ops tree ends)) (length (compiled_parts tree ends)) (module_data_size tree (length ends))) code.ops.items ≡ true =
-        ap (λ (ops : List Ir). list_all (is_sound_op (length (compiled_ops tree ends)) (length (compiled_parts tree ends)) (module_data_size tree (length ends))) ops) is.ops ∙ ops_sound tree ends able links in
+        ap (λ (ops : List Ir). list_all (is_sound_op (length (compiled_ops tree ends)) (length (compiled_parts tree ends)) (module_data_size tree (length ends))) ops) is.ops
+        ∙ ops_sound tree ends able links in
         let Sim = Stood (fixed_at s n result) (marks_in result) (addresses l code).at in
-        weaken Watched Violation (watch mac) (λ w. 1) (Underway s result n) (Underway s result n) (Aborted result) (Aborted result) (Exited s result n) (Exited s result n) (6 + (3316 + cost) + 16) (4096 + cost) (begins n) (omega arith) (λ w x. x) (λ w v x. x) (λ w x. x)
-        (does_invocation s code n Sim (length (compiled_ops tree ends)) (length (compiled_parts tree ends)) (module_data_size tree (length ends)) (3316 + cost) performs sound begun run memory.size (few_pieces s (call_at n) (progress_at s n) able refl) data_size)
+        weaken Watched Violation (watch mac) (λ w. 1) (Underway s result n) (Underway s result n) (Aborted result) (Aborted result) (Exited s result n) (Exited s result n) (6 + (3316 + cost) + 16)
+        (4096 + cost) (begins n) (omega arith) (λ w x. x) (λ w v x. x) (λ w x. x)
+        (does_invocation s code n Sim (length (compiled_ops tree ends)) (length (compiled_parts tree ends)) (module_data_size tree (length ends)) (3316 + cost) performs sound begun run memory.size
+        (few_pieces s (call_at n) (progress_at s n) able refl) data_size)
 
 -- The image of a module realizes it.
 pub compiled_realizes : CompiledRealizes
@@ -143,7 +148,8 @@ compiled_realizes mac tree ends l provider code tag able links room is = record 
 }
 
 -- A text of the code, with zeros up to the end of its section, is the module's.
-pub image_is : (tree : ModuleTree) (ends : List End) (l : Layout) (provider : ℕ) (code : Code) (words text : List ℕ) → HasSections tree ends l → IsCompiled tree ends code → words ≡ bytes_of (text_words l code) → text ≡ padded_to (l.pub_to - l.pub_from) words
+pub image_is : (tree : ModuleTree) (ends : List End) (l : Layout) (provider : ℕ) (code : Code) (words text : List ℕ) → HasSections tree ends l → IsCompiled tree ends code
+    → words ≡ bytes_of (text_words l code) → text ≡ padded_to (l.pub_to - l.pub_from) words
     → ◌≡◌ {A = Image} (record { text = text; layout = l; provider = provider }) (compiled_image l provider tree ends)
 unfolding compiled_text
 image_is tree ends l provider code words text room is made filled =

@@ -3,16 +3,15 @@ use Rattle.std.proofs.Common.{◌≡◌, ℕ, ◌+◌, ◌-◌, ◌<◌, ◌≤�
 use Rattle.std.specs.Prelude.{slice_index, nat_lt, nat_le, if◌then◌else◌}
 use Rattle.std.specs.List.{list_all}
 use Rattle.std.proofs.lemmas.List.{append-nil}
-use Rattle.std.proofs.lemmas.Bool.{leb-true, lt-ltb, ltb-true, or_right, true≢false}
 use Rattle.sx_rules.specs.declared.access.Violation.{Violation}
 use Rattle.sx_rules.specs.declared.access.Violation.TheVariants as bad
-use Rattle.sx_rules.specs.Access.{in_private}
 use Rattle.sx_lang.specs.Sizes.{module_data_size}
-use Rattle.sx_machine.specs.Ranges.{meets, passes_end}
 use Rattle.sx_machine.specs.State.{State}
 use Rattle.sx_reach.specs.Reach.{Comes, Stops, Here, Next, Ends}
 use Rattle.sx_reach.proofs.Reaching.{and_then, weaken}
 use Rattle.sx_tag.specs.Mac.{IsTag}
+use Rattle.sx_invoke.specs.Protocol.{no_entry, bad_window}
+use Rattle.sx_invoke.specs.Windows.{in_window_size, out_window_size}
 use Rattle.sx_invoke.specs.Marks.{Mark, HasPrefix}
 use Rattle.sx_invoke.specs.Setup.{Setup, Call}
 use Rattle.sx_invoke.specs.Windows.{is_bad_window}
@@ -28,17 +27,19 @@ use Rattle.sx_ir.specs.Conf as conf
 use Rattle.sx_ir.specs.Meaning.{no_count, op_step, op_count, part_from, OnViolation}
 use Rattle.sx_ir.specs.Sound.{is_sound_op}
 use Rattle.sx_stub.specs.Invokes.{CallBegun, EndsSo, Invokes, LeavesSo, ShowsCall}
-use Rattle.sx_stub.proofs.Mem.{bytes_from_same}
 use Rattle.sx_tmpl.specs.Performs.{IsRegular, LeftFrom, Never, Performs, NodeRuns, With, entry_conf}
 use Rattle.sx_compile.proofs.Begun.{state_in_memory}
 use Rattle.sx_compile.proofs.Regular.{runs_regular}
-use Rattle.sx_compile.proofs.Written.{Written, returns_written}
+use Rattle.sx_tmpl.proofs.Texts.Entering.{outside_window}
+use Rattle.sx_compile.proofs.Written.{Written, returns_written, stand_same}
 
-module _ (s : Setup) (code : Code) (before : State) (result : Invoked) (Sim : Conf → Watched → Type 0) (performs : Performs s code before result Sim) (B : Violation → List Mark → Type 0) (Q : Conf → Type 0)
+module _ (s : Setup) (code : Code) (before : State) (result : Invoked) (Sim : Conf → Watched → Type 0) (performs : Performs s code before result Sim) (B : Violation → List Mark → Type 0) (Q : Conf
+    → Type 0)
     (at_exit : (t : Conf) → Q t → HasPrefix (marks_in result) t.marks) (at_end : (v : Violation) (marks : List Mark) → B v marks → HasPrefix (marks_in result) marks) where
   -- the stack code's run
   abbrev Run : ℕ → Conf → Type 0
-  Run n c = Comes Conf Halt (op_step s (part_from code.parts.items) code.ops.items) (op_count no_count code.ops.items) (IsRegular code.ops.items (call_at before) (marks_in result)) (OnViolation B) Q n c
+  Run n c = Comes Conf Halt (op_step s (part_from code.parts.items) code.ops.items) (op_count no_count code.ops.items) (IsRegular code.ops.items (call_at before) (marks_in result))
+      (OnViolation B) Q n c
 
   -- it has come to a violation, or to an exit
   abbrev Ended : Watched → Violation → Type 0
@@ -57,42 +58,22 @@ module _ (s : Setup) (code : Code) (before : State) (result : Invoked) (Sim : Co
   follows n c w (Here q) x = Here (c, x, q)
   follows n c w (Next {k = k} {t = t} p e le r) x =
       and_then Watched Violation (watch s.mac) (λ w. 1) (Underway s result before) Ended (Sim t) Came (op_count no_count code.ops.items c) k n w le
-      (weaken Watched Violation (watch s.mac) (λ w. 1) (Underway s result before) (Underway s result before) Never Ended (Sim t) (Sim t) (op_count no_count code.ops.items c) (op_count no_count code.ops.items c) w (omega arith) (λ w x. x) (λ w v x. absurd x) (λ w x. x) (performs.goes c t w x p (marks_of_run k t r) e))
+      (weaken Watched Violation (watch s.mac) (λ w. 1) (Underway s result before) (Underway s result before) Never Ended (Sim t) (Sim t) (op_count no_count code.ops.items c)
+      (op_count no_count code.ops.items c) w (omega arith) (λ w x. x) (λ w v x. absurd x) (λ w x. x) (performs.goes c t w x p (marks_of_run k t r) e))
       (λ u y. follows k t u r y)
   follows n c w (Ends {v = v} p e le b) x = ends v e b
     where
       ends : (v : Halt) → op_step s (part_from code.parts.items) code.ops.items c ≡ Stops v → OnViolation B c v → NodeRuns s result before Ended Came n w
       ends (conf.Violates v marks) e b =
-          weaken Watched Violation (watch s.mac) (λ w. 1) (Underway s result before) (Underway s result before) (With v marks) Ended (λ y. ⊥) Came (op_count no_count code.ops.items c) n w le (λ w x. x)
+          weaken Watched Violation (watch s.mac) (λ w. 1) (Underway s result before) (Underway s result before) (With v marks) Ended (λ y. ⊥) Came (op_count no_count code.ops.items c) n w le
+          (λ w x. x)
           (λ y u z. (marks, subst (λ (u : Violation). B u marks) (sym z.0) b, z.1)) (λ y z. absurd z) (performs.stops c v marks w x p (at_end v marks b) e)
       ends conf.Stuck e b = absurd b
 
--- where pieces were made, the out-window doesn't meet the private section
-pub outside_window : (s : Setup) (a k : ℕ) → is_bad_window s a 384 ≡ false → a ≤ k → k < a + 384 → in_private s.section k ≡ false
-outside_window s a k good lo hi =
-    go (nat_le s.section.layout.priv_from k) (nat_lt k s.section.layout.priv_to) refl refl
-  where
-    go : (x y : Bool) → nat_le s.section.layout.priv_from k ≡ x → nat_lt k s.section.layout.priv_to ≡ y → (x && y) ≡ false
-    go false y e f = refl
-    go true false e f = refl
-    go true true e f =
-        let p = leb-true s.section.layout.priv_from k e in
-        let q = ltb-true k s.section.layout.priv_to f in
-        let m : meets a 384 s.section.layout.priv_from s.section.layout.priv_to ≡ true =
-        ap (λ (b : Bool). b && nat_lt s.section.layout.priv_from (a + 384)) (lt-ltb a s.section.layout.priv_to (omega (arith, lo, q))) ∙ lt-ltb s.section.layout.priv_from (a + 384) (omega (arith, p, hi)) in
-        absurd (true≢false (sym (or_right (passes_end a 384) (meets a 384 s.section.layout.priv_from s.section.layout.priv_to) m) ∙ good))
-
-pub stand_same : (m n : List ℕ) (a : ℕ) (ps : List (List ℕ)) → ((k : ℕ) → a ≤ k → k < a + bytes_in ps → slice_index n k ≡ slice_index m k) → Stand m a ps → Stand n a ps
-stand_same m n a [] f h = tt
-stand_same m n a (p ∷ ps) f h = (
-  bytes_from_same m n a a (length p) (λ i lt. f (a + i) (omega arith) (omega (arith, lt))) ∙ h.0,
-  stand_same m n (a + length p) ps (λ k lo hi. f k (omega (arith, lo)) (omega (arith, hi))) h.1,
-)
-
 -- pieces are made only where the window is good
-pieces_or_good : (s : Setup) (call : Call) (p q : Progress) (status : ℕ) → p.pieces ≡ [] → invoke s call p ≡ Returns status q → (q.pieces ≡ []) ⊎ (is_bad_window s call.output 384 ≡ false)
+pieces_or_good : (s : Setup) (call : Call) (p q : Progress) (status : ℕ) → p.pieces ≡ [] → invoke s call p ≡ Returns status q → (q.pieces ≡ []) ⊎ (is_bad_window s call.output out_window_size ≡ false)
 unfolding invoke
-pieces_or_good s call p q status none h = go (returns_inside s call) (is_no_entry s call) (is_bad_window s call.input 40) (is_bad_window s call.output 384) refl h
+pieces_or_good s call p q status none h = go (returns_inside s call) (is_no_entry s call) (is_bad_window s call.input in_window_size) (is_bad_window s call.output out_window_size) refl h
   where
     never : (v : Violation) (x : Progress) (b : ℕ) (y : Progress) → Violates v x ≡ Returns b y → ⊥
     never v x b y h = cc
@@ -103,7 +84,9 @@ pieces_or_good s call p q status none h = go (returns_inside s call) (is_no_entr
     none_in : (a : ℕ) → Returns a p ≡ Returns status q → q.pieces ≡ []
     none_in a h = ap (λ (x : Progress). x.pieces) (sym (same a status p q h)) ∙ none
 
-    go : (a b c d : Bool) → is_bad_window s call.output 384 ≡ d → (if a then Violates bad.Illegal p else if b then Returns 2 p else if c || d then Returns 3 p else entered s call p) ≡ Returns status q → (q.pieces ≡ []) ⊎ (is_bad_window s call.output 384 ≡ false)
+    go : (a b c d : Bool) → is_bad_window s call.output out_window_size ≡ d
+        → (if a then Violates bad.Illegal p else if b then Returns no_entry p else if c || d then Returns bad_window p else entered s call p) ≡ Returns status q
+        → (q.pieces ≡ []) ⊎ (is_bad_window s call.output out_window_size ≡ false)
     go true b c d w h = absurd (never bad.Illegal p status q h)
     go false true c d w h = inl (none_in 2 h)
     go false false true d w h = inl (none_in 3 h)
@@ -118,7 +101,8 @@ returns_out s call p q status h = go (returns_inside s call) h
     never : (v : Violation) (x : Progress) (b : ℕ) (y : Progress) → Violates v x ≡ Returns b y → ⊥
     never v x b y h = cc
 
-    go : (a : Bool) → (if a then Violates bad.Illegal p else if is_no_entry s call then Returns 2 p else if has_bad_windows s call then Returns 3 p else entered s call p) ≡ Returns status q → a ≡ false
+    go : (a : Bool) → (if a then Violates bad.Illegal p else if is_no_entry s call then Returns no_entry p else if has_bad_windows s call then Returns bad_window p else entered s call p) ≡ Returns
+        status q → a ≡ false
     go false h = refl
     go true h = absurd (never bad.Illegal p status q h)
 
@@ -145,14 +129,17 @@ module _ (s : Setup) (code : Code) (before : State) (Sim : Conf → Watched → 
   result = invoke s call (progress_at s before)
 
   -- the pieces that the invocation's memory has stand in the node's, too
-  stands : (status : ℕ) (q : Progress) (t : Conf) (w : Watched) → Written s call before.mem q → (q.pieces ≡ []) ⊎ (is_bad_window s call.output 384 ≡ false) → LeftFrom s before status (length q.pieces) t w → t.mem ≡ q.mem → Stand w.node.mem call.output q.pieces
+  stands : (status : ℕ) (q : Progress) (t : Conf) (w : Watched) → Written s call before.mem q → (q.pieces ≡ []) ⊎ (is_bad_window s call.output out_window_size ≡ false)
+      → LeftFrom s before status (length q.pieces) t w → t.mem ≡ q.mem → Stand w.node.mem call.output q.pieces
   stands status q t w written (inl none) left mem = subst (λ (l : List (List ℕ)). Stand w.node.mem call.output l) (sym none) tt
   stands status q t w written (inr good) left mem =
       let le = written.fits in
-      stand_same q.mem w.node.mem call.output q.pieces (λ k lo hi. left.outside k (outside_window s call.output k good lo (omega (arith, hi, le))) ∙ ap (λ (m : List ℕ). slice_index m k) mem) written.pieces
+      stand_same q.mem w.node.mem call.output q.pieces (λ k lo hi. left.outside k (outside_window s call.output k good lo (omega (arith, hi, le)))
+      ∙ ap (λ (m : List ℕ). slice_index m k) mem) written.pieces
 
   -- the node that has left is as the invocation returns
-  exited : (status : ℕ) (q : Progress) (t : Conf) (w : Watched) → result ≡ Returns status q → IsTag s.mac → length before.mem ≡ 65536 → length q.pieces ≤ 16 → s.section.layout.priv_to - s.section.layout.priv_from ≡ module_data_size s.tree (length s.ends)
+  exited : (status : ℕ) (q : Progress) (t : Conf) (w : Watched) → result ≡ Returns status q → IsTag s.mac → length before.mem ≡ 65536 → length q.pieces ≤ 16
+      → s.section.layout.priv_to - s.section.layout.priv_from ≡ module_data_size s.tree (length s.ends)
       → ShowsCall s call q t → LeftFrom s before status (length q.pieces) t w → Exited s result before w
   exited status q t w e tag size few private shows left =
       let written = returns_written s call (progress_at s before) q status tag refl size e few in
@@ -171,30 +158,36 @@ module _ (s : Setup) (code : Code) (before : State) (Sim : Conf → Watched → 
       }
 
   -- from `Leave` to the exit
-  exits : Performs s code before result Sim → IsTag s.mac → length before.mem ≡ 65536 → length (pieces_in result) ≤ 16 → s.section.layout.priv_to - s.section.layout.priv_from ≡ module_data_size s.tree (length s.ends)
+  exits : Performs s code before result Sim → IsTag s.mac → length before.mem ≡ 65536 → length (pieces_in result) ≤ 16
+      → s.section.layout.priv_to - s.section.layout.priv_from ≡ module_data_size s.tree (length s.ends)
       → (r : Invoked) → result ≡ r → (u : Watched) (t : Conf) → Sim t u → LeavesSo s call code.ops.items r t → NodeRuns s result before (Aborted result) (Exited s result before) 16 u
   exits performs tag size few private (Violates v q) e u t x y = absurd y
   exits performs tag size few private (Returns status q) e u t x y =
       let prefix : HasPrefix (marks_in result) t.marks = subst (λ (r : Invoked). HasPrefix (marks_in r) t.marks) (sym e) (same_prefix t.marks q.marks y.0.marks) in
       let short : length q.pieces ≤ 16 = subst (λ (r : Invoked). length (pieces_in r) ≤ 16) e few in
-      weaken Watched Violation (watch s.mac) (λ w. 1) (Underway s result before) (Underway s result before) Never (Aborted result) (LeftFrom s before status (length q.pieces) t) (Exited s result before) 16 16 u (omega arith) (λ w x. x) (λ w v x. absurd x)
+      weaken Watched Violation (watch s.mac) (λ w. 1) (Underway s result before) (Underway s result before) Never (Aborted result) (LeftFrom s before status (length q.pieces) t)
+      (Exited s result before) 16 16 u (omega arith) (λ w x. x) (λ w v x. absurd x)
       (λ w left. exited status q t w e tag size short private y.0 left)
       (performs.leaves t u status (length q.pieces) x prefix y.1 y.0.back (returns_out s call (progress_at s before) q status e))
 
   -- The node does the invocation that sound code does.
-  pub does_invocation : (n m size cost : ℕ) → Performs s code before result Sim → list_all (is_sound_op n m size) code.ops.items ≡ true → CallBegun s call (progress_at s before) (entry_conf s.section.layout before)
+  pub does_invocation : (n m size cost : ℕ) → Performs s code before result Sim → list_all (is_sound_op n m size) code.ops.items ≡ true
+      → CallBegun s call (progress_at s before) (entry_conf s.section.layout before)
       → Invokes s call (part_from code.parts.items) no_count code.ops.items result cost (entry_conf s.section.layout before)
       → length before.mem ≡ 65536 → length (pieces_in result) ≤ 16 → s.section.layout.priv_to - s.section.layout.priv_from ≡ module_data_size s.tree (length s.ends)
       → NodeRuns s result before (Aborted result) (Exited s result before) (6 + cost + 16) (begins before)
   does_invocation n m size cost performs sound begun run whole few private =
       let first = entry_conf s.section.layout before in
       let After = λ (t : Conf). LeavesSo s call code.ops.items result t in
-      let regular = runs_regular s code.ops.items code.parts.items n m size sound call (marks_in result) (EndsSo result) After (λ t q. exit_prefix s call code.ops.items result t q) (λ v marks e. end_prefix result v marks e) cost first
+      let regular = runs_regular s code.ops.items code.parts.items n m size sound call (marks_in result) (EndsSo result) After (λ t q. exit_prefix s call code.ops.items result t q)
+      (λ v marks e. end_prefix result v marks e) cost first
       begun.shows.output (omega arith) tt begun.samples run in
       and_then Watched Violation (watch s.mac) (λ w. 1) (Underway s result before) (Aborted result) (Sim first) (Exited s result before) 6 (cost + 16) (6 + cost + 16) (begins before) (omega arith)
-      (weaken Watched Violation (watch s.mac) (λ w. 1) (Underway s result before) (Underway s result before) Never (Aborted result) (Sim first) (Sim first) 6 6 (begins before) (omega arith) (λ w x. x) (λ w v x. absurd x) (λ w x. x) performs.enters)
+      (weaken Watched Violation (watch s.mac) (λ w. 1) (Underway s result before) (Underway s result before) Never (Aborted result) (Sim first) (Sim first) 6 6 (begins before) (omega arith)
+      (λ w x. x) (λ w v x. absurd x) (λ w x. x) performs.enters)
       (λ w x.
       and_then Watched Violation (watch s.mac) (λ w. 1) (Underway s result before) (Aborted result) (λ w. (t : Conf) × Sim t w × After t) (Exited s result before) cost 16 (cost + 16) w (omega arith)
-      (weaken Watched Violation (watch s.mac) (λ w. 1) (Underway s result before) (Underway s result before) (λ w v. (marks : List Mark) × EndsSo result v marks × (w.marks ≡ marks)) (Aborted result) (λ w. (t : Conf) × Sim t w × After t) (λ w. (t : Conf) × Sim t w × After t) cost cost w (omega arith) (λ w x. x) (λ w v x. aborts result w v x) (λ w x. x)
+      (weaken Watched Violation (watch s.mac) (λ w. 1) (Underway s result before) (Underway s result before) (λ w v. (marks : List Mark) × EndsSo result v marks × (w.marks ≡ marks)) (Aborted result)
+      (λ w. (t : Conf) × Sim t w × After t) (λ w. (t : Conf) × Sim t w × After t) cost cost w (omega arith) (λ w x. x) (λ w v x. aborts result w v x) (λ w x. x)
       (follows s code before result Sim performs (EndsSo result) After (λ t q. exit_prefix s call code.ops.items result t q) (λ v marks e. end_prefix result v marks e) cost first w regular.1 x))
       (λ u y. exits performs begun.tag whole few private result refl u y.0 y.1 y.2))

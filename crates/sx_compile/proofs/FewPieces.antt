@@ -1,9 +1,9 @@
 -- An invocation makes at most 16 pieces.
-use Rattle.std.proofs.Common.{◌≡◌, ℕ, zero, suc, ◌+◌, ◌*◌, ◌≤◌, max, Bool, true, false, ◌&&◌, ◌||◌, not, ◌==◌, List, [], ◌∷◌, ◌++◌, length, take, drop, Option, Some, None, Result, Ok, Err, refl, sym, ap, ◌∙◌, subst, arith, cond}
+use Rattle.std.proofs.Common.{◌≡◌, ℕ, zero, suc, ◌+◌, ◌*◌, ◌≤◌, max, Bool, true, false, ◌&&◌, ◌==◌, List, [], ◌∷◌, ◌++◌, length, take, Option, Some, None}
+use Rattle.std.proofs.Common.{Result, Ok, Err, refl, sym, ap, ◌∙◌, subst, arith, cond}
 use Rattle.std.specs.Prelude.{if◌then◌else◌, nat_lt, slice_index, find}
 use Rattle.std.proofs.Math.Nat.{suc-mul}
 use Rattle.std.proofs.lemmas.List.{length-append}
-use Rattle.sx_lang.specs.declared.sides.Side.TheVariants.{To}
 use Rattle.sx_lang.specs.declared.tree.Decl.{Decl}
 use Rattle.sx_lang.specs.Tree.{Statement, Defines, Assigns, Stores, Chooses, Repeats, Sends, Emits, Block, Done, Then, HandlerTree, ModuleTree}
 use Rattle.sx_check.specs.Names.{same_input}
@@ -17,19 +17,19 @@ use Rattle.sx_mean.specs.Places.{place, array_length, output_number}
 use Rattle.sx_mean.specs.Meaning.{HandlerState, assign, assign_element, after_statement, after_block, times, forget, value, local_place, define, act}
 use Rattle.sx_mean.specs.React.{react, run, handler_at, value_of, handler_of_name, handler_of_input, input_names, nth}
 use Rattle.sx_rules.specs.declared.access.Violation.{Violation}
-use Rattle.sx_rules.specs.declared.access.Violation.TheVariants as bad
 use Rattle.sx_bus.specs.declared.devices.Window.{Window}
-use Rattle.sx_tag.specs.Wrap.{unwrapped, wrapped}
+use Rattle.sx_tag.specs.Wrap.{wrapped}
 use Rattle.sx_machine.specs.Memory.{word}
 use Rattle.sx_invoke.specs.Setup.{Setup, Call}
 use Rattle.sx_invoke.specs.Marks as mark
-use Rattle.sx_invoke.specs.ModuleState.{EndState, end_of, link_of, epoch_of}
-use Rattle.sx_invoke.specs.Windows.{write_bytes, read_bytes}
-use Rattle.sx_invoke.specs.Progress.{Progress, Invoked, Returns, Violates, Course, Going, Broken, and_on, finished, pieces_in}
+use Rattle.sx_invoke.specs.ModuleState.{EndState, end_of}
+use Rattle.sx_invoke.specs.Windows.{write_bytes}
+use Rattle.sx_invoke.specs.Progress.{Progress, Course, Going, Broken, and_on, finished, pieces_in}
 use Rattle.sx_invoke.specs.Acts.{with_piece, copied_to, with_packet, event_packet, wrap_counted, with_packets, with_act, with_acts, actuated, own_window, handled}
 use Rattle.sx_mean.specs.Ends.{is_sending}
-use Rattle.sx_invoke.specs.Invocation.{invoke, entered, returns_inside, is_no_entry, has_bad_windows}
-use Rattle.sx_invoke.specs.Entries.{received, is_kind, set_key, set_key_at, key_opened, is_keyed, attest, input, input_at, event_numbered, event_opened, sample, sample_of, sample_read, number_taken, field_in, second_in, header_in, end_keyed, end_on, end_found, side_of, with_received}
+use Rattle.sx_invoke.specs.Entries.{attest, sample_read, number_taken, end_keyed}
+use Rattle.sx_invoke.specs.Protocol.{event_size, key_size, value_size, last_number}
+use Rattle.sx_invoke.proofs.ByEntry.{by_entry}
 use Rattle.sx_mean.specs.Ends.{senders}
 use Rattle.sx_lower.proofs.Packets.{senders-cons}
 use Rattle.sx_compile.specs.Laws.{FewPieces}
@@ -56,7 +56,11 @@ module _ (ds : List Decl) (ends : List End) where
   assign_sent : (x : List ℕ) (v : ℕ) (st : HandlerState) → Sent (assign ds x v st) ≡ Sent st
   assign_sent x v st = go (nat_lt (local_place st.locals x) (length st.locals))
     where
-      go : (b : Bool) → Sent (if b then record st { locals = Rattle.std.specs.Prelude.slice_set st.locals (local_place st.locals x) (Rattle.sx_mean.specs.Meaning.new_local x v) } else record st { cells = Rattle.std.specs.Prelude.slice_set st.cells (place ds x) v }) ≡ Sent st
+      go : (b : Bool) → Sent
+          (if b then record st {
+            locals = Rattle.std.specs.Prelude.slice_set st.locals (local_place st.locals x)
+                (Rattle.sx_mean.specs.Meaning.new_local x v);
+          } else record st { cells = Rattle.std.specs.Prelude.slice_set st.cells (place ds x) v }) ≡ Sent st
       go true = refl
       go false = refl
 
@@ -82,7 +86,9 @@ module _ (ds : List Decl) (ends : List End) where
     statement_sent (Stores x i e) st = let a = element_sent x (value ds st i) (value ds st e) st in omega (arith, a)
     statement_sent (Chooses e a b) st = go (value ds st e == 0) (block_sent a st) (block_sent b st)
       where
-        go : (c : Bool) → Sent (after_block ds a st) ≤ Sent st + block_packets (senders ends) ds a → Sent (after_block ds b st) ≤ Sent st + block_packets (senders ends) ds b → Sent (if c then forget (length st.locals) (after_block ds b st) else forget (length st.locals) (after_block ds a st)) ≤ Sent st + max (block_packets (senders ends) ds a) (block_packets (senders ends) ds b)
+        go : (c : Bool) → Sent (after_block ds a st) ≤ Sent st + block_packets (senders ends) ds a → Sent (after_block ds b st) ≤ Sent st + block_packets (senders ends) ds b
+            → Sent (if c then forget (length st.locals) (after_block ds b st) else forget (length st.locals) (after_block ds a st)) ≤ Sent st + max (block_packets (senders ends) ds a)
+            (block_packets (senders ends) ds b)
         go true p q = omega (arith, q)
         go false p q = omega (arith, p)
     statement_sent (Repeats n a) st = times_sent n (block_packets (senders ends) ds a) (λ x. forget (length x.locals) (after_block ds a x)) st (λ x. block_sent a x)
@@ -147,7 +153,7 @@ adds_then n m f g p a b = go (f p) a
     go (Going r) x = let y = b r in omega (arith, x, y)
 
 piece_adds : (s : Setup) (call : Call) (piece : List ℕ) (p : Progress) → Adds 1 (with_piece s call piece) p
-piece_adds s call piece p = go (write_bytes s p.devices p.mem (call.output + 24 * length p.pieces) piece)
+piece_adds s call piece p = go (write_bytes s p.devices p.mem (call.output + event_size * length p.pieces) piece)
   where
     go : (r : Result (List ℕ) Violation) → length (pieces_on (copied_to r (record p { pieces = p.pieces ++ piece ∷ [] }))) ≤ length p.pieces + 1
     go (Err v) = let b = length-append p.pieces (piece ∷ []) in omega (arith, b)
@@ -155,7 +161,7 @@ piece_adds s call piece p = go (write_bytes s p.devices p.mem (call.output + 24 
 
 packet_adds : (s : Setup) (call : Call) (v k : ℕ) (p : Progress) → Adds 1 (with_packet s call v k) p
 unfolding with_packet
-packet_adds s call v k p = go (end_of p.state.ends k) ((end_of p.state.ends k).is_open && nat_lt (end_of p.state.ends k).number 65535)
+packet_adds s call v k p = go (end_of p.state.ends k) ((end_of p.state.ends k).is_open && nat_lt (end_of p.state.ends k).number last_number)
   where
     go : (e : EndState) (b : Bool) → length (pieces_on (if b then with_piece s call (event_packet s e v) (wrap_counted k e v p) else Going p)) ≤ length p.pieces + 1
     go e true = piece_adds s call (event_packet s e v) (wrap_counted k e v p)
@@ -164,10 +170,12 @@ packet_adds s call v k p = go (end_of p.state.ends k) ((end_of p.state.ends k).i
 packets_add : (s : Setup) (call : Call) (output v k : ℕ) (es : List End) (p : Progress) → Adds (senders es output) (with_packets s call output v k es) p
 packets_add s call output v k [] p = omega arith
 packets_add s call output v k (e ∷ es) p =
-    subst (λ (n : ℕ). length (pieces_on (with_packets s call output v k (e ∷ es) p)) ≤ length p.pieces + n) (sym (senders-cons e es output)) (go (is_sending output e.side e.port) (packets_add s call output v (k + 1) es))
+    subst (λ (n : ℕ). length (pieces_on (with_packets s call output v k (e ∷ es) p)) ≤ length p.pieces + n) (sym (senders-cons e es output))
+    (go (is_sending output e.side e.port) (packets_add s call output v (k + 1) es))
   where
     go : (b : Bool) → ((r : Progress) → Adds (senders es output) (with_packets s call output v (k + 1) es) r)
-        → length (pieces_on (if b then and_on (with_packet s call v k p) (with_packets s call output v (k + 1) es) else with_packets s call output v (k + 1) es p)) ≤ length p.pieces + (if b then 1 + senders es output else senders es output)
+        → length (pieces_on (if b then and_on (with_packet s call v k p) (with_packets s call output v (k + 1) es) else with_packets s call output v (k + 1) es p)) ≤ length p.pieces +
+        (if b then 1 + senders es output else senders es output)
     go true rest = adds_then 1 (senders es output) (with_packet s call v k) (with_packets s call output v (k + 1) es) p (packet_adds s call v k p) rest
     go false rest = rest p
 
@@ -192,88 +200,30 @@ handled_few s call e p few none =
     let c = ap length none in
     omega (arith, a, b, c)
 
-module _ (s : Setup) (call : Call) (p : Progress) (few : SendFew (senders s.ends) s.tree s.tree.handlers) (none : p.pieces ≡ []) where
-  abbrev Fine : Invoked → Type 0
-  Fine r = length (pieces_in r) ≤ 16
-
-  refused : (a : ℕ) (r : Progress) → r.pieces ≡ p.pieces → Fine (Returns a r)
-  refused a r e = let y = ap length (e ∙ none) in omega (arith, y)
-
-  finishes : (x : Course) → length (pieces_on x) ≤ 16 → Fine (finished x)
-  finishes (Going r) f = f
-  finishes (Broken v r) f = f
-
-  if_fine : (b : Bool) (x y : Invoked) → Fine x → Fine y → Fine (if b then x else y)
-  if_fine true x y a b = a
-  if_fine false x y a b = b
-
-  violated : (v : Violation) → Fine (Violates v p)
-  violated v = let y = ap length none in omega (arith, y)
-
-  received_fine : (r : Result (List ℕ) Violation) (kind : ℕ) (rest : List ℕ → Invoked) → ((packet : List ℕ) → Fine (rest packet)) → Fine (received r kind rest p)
-  received_fine (Err v) kind rest f = violated v
-  received_fine (Ok packet) kind rest f = if_fine (is_kind kind packet) (rest packet) (Returns 4 p) (f packet) (refused 4 p refl)
-
-  set_key_fine : (packet : List ℕ) → Fine (set_key s packet p)
-  set_key_fine packet = by_end (end_on (link_of (field_in packet)) s.ends (side_of (second_in packet)))
-    where
-      by_tag : (k : ℕ) (u : Option (List ℕ)) → Fine (key_opened k packet u p)
-      by_tag k None = refused 7 p refl
-      by_tag k (Some body) = refused 1 (end_keyed k packet (take 16 body) p) refl
-
-      by_end : (e : Option (ℕ × End)) → Fine (set_key_at s packet e p)
-      by_end None = refused 5 p refl
-      by_end (Some e) =
-          let u = unwrapped s.mac s.section.key (header_in packet) (take 16 (drop 6 packet)) (drop 22 packet) in
-          if_fine (is_keyed (end_of p.state.ends e.0) (field_in packet)) (Returns 5 p) (key_opened e.0 packet u p) (refused 5 p refl) (by_tag e.0 u)
-
-  attest_fine : (ask : List ℕ) → Fine (attest s call ask p)
-  attest_fine ask =
-      let r = record p { marks = p.marks ++ mark.Wrapped ask [] true ∷ [] } in
-      let tg = (wrapped s.mac s.section.key ask []).tag in
-      finishes (with_piece s call tg r) (let a = piece_adds s call tg r in let b = ap length none in omega (arith, a, b))
-
-  input_fine : (packet : List ℕ) → Fine (input s call packet p)
-  input_fine packet = by_end (end_found (link_of (field_in packet)) To 0 s.ends)
-    where
-      by_tag : (e : ℕ × End) (u : Option (List ℕ)) → Fine (event_opened s call e packet u p)
-      by_tag e None = refused 7 p refl
-      by_tag e (Some body) =
-          let r = number_taken e.0 packet (take 2 body) (end_of p.state.ends e.0) p in
-          finishes (handled s call (event.Input e.1.port (word body 0)) r) (handled_few s call (event.Input e.1.port (word body 0)) r few none)
-
-      by_end : (e : Option (ℕ × End)) → Fine (input_at s call packet e p)
-      by_end None = refused 5 p refl
-      by_end (Some e) =
-          let st = end_of p.state.ends e.0 in
-          let u = unwrapped s.mac st.key (header_in packet) (take 2 (drop 6 packet)) (drop 8 packet) in
-          if_fine (not st.is_open || not (epoch_of st.field == epoch_of (field_in packet))) (Returns 5 p) (event_numbered s call e packet st p) (refused 5 p refl)
-          (if_fine (nat_lt (second_in packet) st.number || (second_in packet == 65535)) (Returns 6 p) (event_opened s call e packet u p) (refused 6 p refl) (by_tag e u))
-
-  sample_fine : Fine (sample s call p)
-  sample_fine = by_device (own_window s p.devices)
-    where
-      by_device : (d : Option (ℕ × Window)) → Fine (sample_of s call d p)
-      by_device None = refused 8 p refl
-      by_device (Some d) =
-          let r = sample_read d p in
-          if_fine d.1.fresh (finished (handled s call (event.Sample d.1.value) r)) (Returns 8 p) (finishes (handled s call (event.Sample d.1.value) r) (handled_few s call (event.Sample d.1.value) r few none)) (refused 8 p refl)
-
-  entered_fine : Fine (entered s call p)
-  unfolding entered
-  entered_fine =
-      let r3 = sample s call p in
-      let i2 = with_received s call 24 3 p (λ packet. input s call packet p) in
-      let i1 = with_received s call 18 2 p (λ packet. attest s call packet p) in
-      let i0 = with_received s call 38 1 p (λ packet. set_key s packet p) in
-      if_fine (call.entry == 0) i0 (if call.entry == 1 then i1 else if call.entry == 2 then i2 else r3) (received_fine (read_bytes s p.devices p.mem call.input 38) 1 (λ packet. set_key s packet p) set_key_fine)
-      (if_fine (call.entry == 1) i1 (if call.entry == 2 then i2 else r3) (received_fine (read_bytes s p.devices p.mem call.input 18) 2 (λ packet. attest s call packet p) attest_fine)
-      (if_fine (call.entry == 2) i2 r3 (received_fine (read_bytes s p.devices p.mem call.input 24) 3 (λ packet. input s call packet p) input_fine) sample_fine))
-
 pub few_pieces : FewPieces
-unfolding invoke
 few_pieces s call p able none =
-    let few = able.few_packets in
-    if_fine s call p few none (returns_inside s call) (Violates bad.Illegal p) (if is_no_entry s call then Returns 2 p else if has_bad_windows s call then Returns 3 p else entered s call p) (violated s call p few none bad.Illegal)
-    (if_fine s call p few none (is_no_entry s call) (Returns 2 p) (if has_bad_windows s call then Returns 3 p else entered s call p) (refused s call p few none 2 p refl)
-    (if_fine s call p few none (has_bad_windows s call) (Returns 3 p) (entered s call p) (refused s call p few none 3 p refl) (entered_fine s call p few none)))
+    by_entry s call p (λ r. length (pieces_in r) ≤ 16)
+    (record {
+      refused = λ status. nothing p refl;
+      violated = λ v. nothing p refl;
+      keyed = λ good k packet body. nothing (end_keyed k packet (take key_size body) p) refl;
+      attested = λ good ask. attests ask;
+      taken = λ good e packet body. handles (event.Input e.1.port (word body 0)) (number_taken e.0 packet (take value_size body) (end_of p.state.ends e.0) p) none;
+      sampled = λ good d. handles (event.Sample d.1.value) (sample_read d p) none;
+    })
+  where
+    nothing : (r : Progress) → r.pieces ≡ p.pieces → length r.pieces ≤ 16
+    nothing r e = let y = ap length (e ∙ none) in omega (arith, y)
+
+    finishes : (x : Course) → length (pieces_on x) ≤ 16 → length (pieces_in (finished x)) ≤ 16
+    finishes (Going r) f = f
+    finishes (Broken v r) f = f
+
+    attests : (ask : List ℕ) → length (pieces_in (attest s call ask p)) ≤ 16
+    attests ask =
+        let r = record p { marks = p.marks ++ mark.Wrapped ask [] true ∷ [] } in
+        let piece = (wrapped s.mac s.section.key ask []).tag in
+        finishes (with_piece s call piece r) (let a = piece_adds s call piece r in let b = ap length none in omega (arith, a, b))
+
+    handles : (e : SourceEvent) (r : Progress) → r.pieces ≡ [] → length (pieces_in (finished (handled s call e r))) ≤ 16
+    handles e r h = finishes (handled s call e r) (handled_few s call e r able.few_packets h)

@@ -34,9 +34,9 @@ use Rattle.sx_tmpl.specs.Performs.{IsNarrow, IsRegular, Never, With}
 use Rattle.sx_tmpl.specs.Running.{Fixed, Safe, pieces_end}
 use Rattle.sx_tmpl.specs.Shows.{Stood}
 use Rattle.sx_tmpl.specs.Text.{addresses, bytes_of, text_words}
-use Rattle.sx_tmpl.proofs.Going.{op_breaks, op_goes_on}
-use Rattle.sx_tmpl.proofs.MidRun.{Runs, Stands}
-use Rattle.sx_tmpl.proofs.SoundOps.{AreSound, are_sound}
+use Rattle.sx_tmpl.proofs.Texts.Going.{op_breaks, op_goes_on}
+use Rattle.sx_tmpl.proofs.Running.MidRun.{Runs, Stands}
+use Rattle.sx_tmpl.proofs.Texts.SoundOps.{AreSound, are_sound}
 use Rattle.sx_invoke.specs.Windows.{is_bad_window}
 use Rattle.sx_compile.specs.Body.{BeginsHandler, Handling, HasHandled, course_at, kept_on}
 use Rattle.sx_compile.specs.Compiled.{HasSections}
@@ -45,21 +45,24 @@ use Rattle.std.proofs.lemmas.List.{append-nil}
 use Rattle.std.proofs.lemmas.List.Elements.{All-from_get_or}
 use Rattle.sx_stub.proofs.Mem.{AllBytes-bytes_from, length-bytes_from, word_same}
 use Rattle.sx_stub.proofs.Packets.{bytes_from_get}
-use Rattle.sx_tmpl.proofs.Resuming.{Resumes, begins_at, conf_at, fixed_from, outside_kept, stands}
-use Rattle.sx_tmpl.proofs.TextBytes.{length-bytes}
-use Rattle.sx_tmpl.proofs.TextPlaces.{bytes_within, place_is}
+use Rattle.sx_tmpl.proofs.Texts.Resuming.{Resumes, begins_at, conf_at, fixed_from, outside_kept, stands}
+use Rattle.sx_tmpl.proofs.Texts.TextBytes.{length-bytes}
+use Rattle.sx_tmpl.proofs.Texts.TextPlaces.{bytes_within, place_is}
 use Rattle.sx_compile.proofs.Begun.{state_in_memory}
 use Rattle.sx_compile.proofs.BodyText.{body_narrow, body_sound, part_within}
-use Rattle.sx_compile.proofs.Does.{outside_window, stand_same}
+use Rattle.sx_tmpl.proofs.Texts.Entering.{outside_window}
 use Rattle.sx_compile.proofs.FewPieces.{handled_few, pieces_on}
 use Rattle.sx_compile.proofs.Narrow.{AreBelow, bytes_below, ops_below}
 use Rattle.sx_compile.proofs.CompiledRealizes.{room_of}
 use Rattle.sx_compile.proofs.Regular.{runs_regular}
-use Rattle.sx_compile.proofs.Written.{handled_written}
+use Rattle.sx_compile.proofs.Written.{handled_written, stand_same}
 
-module _ (f : Fixed) (st : Stands f) (all : List Mark) (window : f.to ≡ pieces_end (is_bad_window f.setup f.from 384) f.from (made_bytes all)) (tag : IsTag f.setup.mac) (code : Code) (sound : AreSound code.ops.items code.parts.items f.setup.section.layout)
-    (narrow : (p : ℕ) (i : Ir) → slice_get code.ops.items p ≡ Some i → IsNarrow i) (text : (k : ℕ) → k < 2 * length (text_words f.setup.section.layout code) → slice_index f.entered (f.setup.section.layout.pub_from + k) ≡ slice_index (bytes_of (text_words f.setup.section.layout code)) k)
-    (call : Call) (out : call.output ≡ f.from) (B : Violation → List Mark → Type 0) (Q : Conf → Type 0) (at_exit : (t : Conf) → Q t → HasPrefix all t.marks) (at_end : (v : Violation) (marks : List Mark) → B v marks → HasPrefix all marks) where
+module _ (f : Fixed) (st : Stands f) (all : List Mark) (window : f.to ≡ pieces_end (is_bad_window f.setup f.from 384) f.from (made_bytes all)) (tag : IsTag f.setup.mac) (code : Code)
+    (sound : AreSound code.ops.items code.parts.items f.setup.section.layout)
+    (narrow : (p : ℕ) (i : Ir) → slice_get code.ops.items p ≡ Some i → IsNarrow i) (text : (k : ℕ) → k < 2 * length (text_words f.setup.section.layout code)
+    → slice_index f.entered (f.setup.section.layout.pub_from + k) ≡ slice_index (bytes_of (text_words f.setup.section.layout code)) k)
+    (call : Call) (out : call.output ≡ f.from) (B : Violation → List Mark → Type 0) (Q : Conf → Type 0) (at_exit : (t : Conf) → Q t
+    → HasPrefix all t.marks) (at_end : (v : Violation) (marks : List Mark) → B v marks → HasPrefix all marks) where
   abbrev Sim : Conf → Watched → Type 0
   Sim c w = Stood f all (addresses f.setup.section.layout code).at c w
 
@@ -84,7 +87,8 @@ module _ (f : Fixed) (st : Stands f) (all : List Mark) (window : f.to ≡ pieces
   follows n c w (Here q) x = Here (c, x, q)
   follows n c w (Next {k = k} {t = t} p e le r) x =
       and_then Watched Violation (watch f.setup.mac) (λ w. 1) (Safe f all) Ended (Sim t) Came (op_count no_count code.ops.items c) k n w le
-      (weaken Watched Violation (watch f.setup.mac) (λ w. 1) (Safe f all) (Safe f all) Never Ended (Sim t) (Sim t) (op_count no_count code.ops.items c) (op_count no_count code.ops.items c) w (omega arith) (λ w x. x) (λ w v x. absurd x) (λ w x. x)
+      (weaken Watched Violation (watch f.setup.mac) (λ w. 1) (Safe f all) (Safe f all) Never Ended (Sim t) (Sim t) (op_count no_count code.ops.items c) (op_count no_count code.ops.items c) w
+      (omega arith) (λ w x. x) (λ w v x. absurd x) (λ w x. x)
       (op_goes_on f st all window tag code sound narrow text call c t w out x p (marks_of_run k t r) e))
       (λ u y. follows k t u r y)
   follows n c w (Ends {v = v} p e le b) x = ends v e b
@@ -92,7 +96,8 @@ module _ (f : Fixed) (st : Stands f) (all : List Mark) (window : f.to ≡ pieces
       ends : (v : Halt) → op_step f.setup (part_from code.parts.items) code.ops.items c ≡ Stops v → OnViolation B c v → Runs f all Ended Came n w
       ends (conf.Violates v marks) e b =
           weaken Watched Violation (watch f.setup.mac) (λ w. 1) (Safe f all) (Safe f all) (With v marks) Ended (λ y. ⊥) Came (op_count no_count code.ops.items c) n w le (λ w x. x)
-          (λ y u z. (marks, subst (λ (u : Violation). B u marks) (sym z.0) b, z.1)) (λ y z. absurd z) (op_breaks f st all window tag code sound narrow text call c v marks w out x p (at_end v marks b) e)
+          (λ y u z. (marks, subst (λ (u : Violation). B u marks) (sym z.0) b, z.1)) (λ y z. absurd z) (op_breaks f st all window tag code sound narrow text call c v marks w out x p
+          (at_end v marks b) e)
       ends conf.Stuck e b = absurd b
 
 -- The marks of a course's ends are its own.
@@ -114,14 +119,18 @@ course_tallied (Going q) x = x
 course_tallied (Broken v q) x = x
 
 -- where a private section's word stands in memory
-private_word : (l : Layout) (m priv : List ℕ) (o : ℕ) → o % 2 ≡ 0 → length priv ≡ l.priv_to - l.priv_from → o + 2 ≤ length priv → ((i : ℕ) → o ≤ i → i < o + 2 → slice_index m (l.priv_from + i) ≡ slice_index priv i) → word (private_bytes l m) o ≡ word priv o
+private_word : (l : Layout) (m priv : List ℕ) (o : ℕ) → o % 2 ≡ 0 → length priv ≡ l.priv_to - l.priv_from → o + 2 ≤ length priv
+    → ((i : ℕ) → o ≤ i → i < o + 2 → slice_index m (l.priv_from + i) ≡ slice_index priv i) → word (private_bytes l m) o ≡ word priv o
 private_word l m priv o even size le f =
     let n = l.priv_to - l.priv_from in
-    word_same priv (private_bytes l m) o o even even (bytes_from_get m l.priv_from n o (omega (arith, size, le)) ∙ f o (omega arith) (omega arith)) (bytes_from_get m l.priv_from n (o + 1) (omega (arith, size, le)) ∙ f (o + 1) (omega arith) (omega arith))
+    word_same priv (private_bytes l m) o o even even (bytes_from_get m l.priv_from n o (omega (arith, size, le))
+    ∙ f o (omega arith) (omega arith)) (bytes_from_get m l.priv_from n (o + 1) (omega (arith, size, le)) ∙ f (o + 1) (omega arith) (omega arith))
 
 -- Each part does its handler, wherever the section of its layout stands.
-module _ (mac : Mac) (tree : ModuleTree) (ends : List End) (code : Code) (tag : IsTag mac) (able : IsLowerable tree ends) (low : LowersTo tree ends code) (section : Section) (room : HasSections tree ends section.layout)
-    (n : State) (e : SourceEvent) (h : HandlerTree) (k from to : ℕ) (is : handler_at tree e ≡ Some h) (handler : slice_get tree.handlers k ≡ Some h) (part : slice_get code.parts.items k ≡ Some (from, to)) where
+module _ (mac : Mac) (tree : ModuleTree) (ends : List End) (code : Code) (tag : IsTag mac) (able : IsLowerable tree ends) (low : LowersTo tree ends code) (section : Section)
+    (room : HasSections tree ends section.layout)
+    (n : State) (e : SourceEvent) (h : HandlerTree) (k from to : ℕ) (is : handler_at tree e ≡ Some h) (handler : slice_get tree.handlers k ≡ Some h)
+    (part : slice_get code.parts.items k ≡ Some (from, to)) where
   abbrev s : Setup
   s = setup_at mac tree ends section n
 
@@ -223,7 +232,8 @@ module _ (mac : Mac) (tree : ModuleTree) (ends : List End) (code : Code) (tag : 
     run : DoesCourse s call (part_from parts) no_count ops course AtEnd (handler_cost h) first
     run =
         let listed = ap (λ (l : List (ℕ × ℕ)). slice_get l k) (sym low.is.parts) ∙ part in
-        subst (λ (o : List Ir). DoesCourse s call (part_from parts) no_count o course AtEnd (handler_cost h) first) (sym low.is.ops) (lowered_ends s (part_from parts) no_count e h k from to able is handler listed call (progress_at s n) first refl begins_part)
+        subst (λ (o : List Ir). DoesCourse s call (part_from parts) no_count o course AtEnd (handler_cost h) first) (sym low.is.ops)
+        (lowered_ends s (part_from parts) no_count e h k from to able is handler listed call (progress_at s n) first refl begins_part)
 
     -- the node at the end
     handled_at : (w : Watched) → (t : Conf) × Stood f all at t w × After_ t → HasHandled s call.output course n (offset ops (to - 1)) w
@@ -248,19 +258,23 @@ module _ (mac : Mac) (tree : ModuleTree) (ends : List End) (code : Code) (tag : 
               current = ap (λ (w : Watched). w.node.cur) x.state;
               at = ap (λ (w : Watched). slice_index w.node.regs 0) x.state ∙ x.shows.pc ∙ at_is t.place (omega (arith, place, within)) ∙ ap (λ (p : ℕ). l.pub_from + offset ops p) last;
               stack = ap (λ (w : Watched). slice_index w.node.regs 1) x.state ∙ omega (arith, top, none);
-              state = state_in_memory tree ends l w.node.mem t.priv (represents.size ∙ sym size) (λ o le lt. ap (λ (m : List ℕ). slice_index m (l.priv_from + o)) memory ∙ holds.bytes o (record { low = omega (arith, le); beside = inr le }) lt) ∙ represents.state;
+              state = state_in_memory tree ends l w.node.mem t.priv (represents.size ∙ sym size) (λ o le lt. ap (λ (m : List ℕ). slice_index m (l.priv_from + o)) memory
+                  ∙ holds.bytes o (record { low = omega (arith, le); beside = inr le }) lt) ∙ represents.state;
               count = (let long = represents.size in private_word l w.node.mem t.priv 4 refl (represents.size ∙ sym size) (omega (arith, long))
-                  (λ i lo hi. ap (λ (m : List ℕ). slice_index m (l.priv_from + i)) memory ∙ holds.bytes i (record { low = omega (arith, lo); beside = inl (omega (arith, hi)) }) (omega (arith, hi, long)))) ∙ represents.count;
+                  (λ i lo hi. ap (λ (m : List ℕ). slice_index m (l.priv_from + i)) memory
+                  ∙ holds.bytes i (record { low = omega (arith, lo); beside = inl (omega (arith, hi)) }) (omega (arith, hi, long)))) ∙ represents.count;
               sections = ap (λ (w : Watched). w.node.sections) x.state;
               outside = λ a off not. ap (λ (m : List ℕ). slice_index m a) memory ∙ holds.others a off ∙ ap (λ (m : List ℕ). slice_index m a) represents.mem ∙ written.outside a off not;
-              pieces = stand_same q.mem w.node.mem call.output q.pieces (λ k lo hi. ap (λ (m : List ℕ). slice_index m k) memory ∙ holds.others k (outside_window s call.output k b.window lo (omega (arith, hi, fits))) ∙ ap (λ (m : List ℕ). slice_index m k) represents.mem) written.pieces;
+              pieces = stand_same q.mem w.node.mem call.output q.pieces (λ k lo hi. ap (λ (m : List ℕ). slice_index m k) memory
+                  ∙ holds.others k (outside_window s call.output k b.window lo (omega (arith, hi, fits))) ∙ ap (λ (m : List ℕ). slice_index m k) represents.mem) written.pieces;
               marks = ap (λ (w : Watched). w.marks) x.state ∙ x.shows.marks ∙ represents.marks;
             }
 
     moment : (w : Watched) → Safe f all w → Handling s call.output course n w
     moment w x = record { inside = x.inside; sections = x.sections; outside = outside_kept s n call.output all resumes (pieces_in (finished course)) w tallied x; marks = x.marks }
 
-    pub does_handler : Comes Watched Violation (watch mac) (λ w. 1) (Handling s call.output course n) (Aborted (finished course)) (HasHandled s call.output course n (offset ops (to - 1))) (handler_cost h) (begins n)
+    pub does_handler : Comes Watched Violation (watch mac) (λ w. 1) (Handling s call.output course n) (Aborted (finished course)) (HasHandled s call.output course n (offset ops (to - 1)))
+        (handler_cost h) (begins n)
     does_handler =
         let inside = (part_within tree ends code able low k from to part).0 in
         let place = at_is from (omega (arith, inside)) in
@@ -269,7 +283,9 @@ module _ (mac : Mac) (tree : ModuleTree) (ends : List End) (code : Code) (tag : 
         let stood = begins_at s n call.output all resumes at from (b.at ∙ sym place) (omega (arith, place)) (omega (arith, place, less, fits)) in
         let at_exit = λ (t : Conf) (y : After_ t). course_prefix course (λ q t. Represents s call q t × AtEnd t) t (λ q z. z.0.marks) y in
         let at_end = λ (v : Violation) (marks : List Mark) (y : CourseBreaks course v marks). breaks_prefix course v marks y in
-        let regular = runs_regular s ops parts (length ops) (length parts) (module_data_size tree (length ends)) low.does.fits.sound call all (CourseBreaks course) After_ at_exit at_end (handler_cost h) first refl (omega arith) tt b.node.samples run in
-        weaken Watched Violation (watch mac) (λ w. 1) (Safe f all) (Handling s call.output course n) (λ w v. (marks : List Mark) × CourseBreaks course v marks × (w.marks ≡ marks)) (Aborted (finished course)) (λ w. (t : Conf) × Stood f all at t w × After_ t) (HasHandled s call.output course n (offset ops (to - 1)))
+        let regular = runs_regular s ops parts (length ops) (length parts) (module_data_size tree (length ends)) low.does.fits.sound call all (CourseBreaks course) After_ at_exit at_end
+        (handler_cost h) first refl (omega arith) tt b.node.samples run in
+        weaken Watched Violation (watch mac) (λ w. 1) (Safe f all) (Handling s call.output course n) (λ w v. (marks : List Mark) × CourseBreaks course v marks
+        × (w.marks ≡ marks)) (Aborted (finished course)) (λ w. (t : Conf) × Stood f all at t w × After_ t) (HasHandled s call.output course n (offset ops (to - 1)))
         (handler_cost h) (handler_cost h) (begins n) (omega arith) moment (λ w v y. breaks_aborts course w v y.0 y.1 y.2) handled_at
         (follows f stands_ all refl tag code sound narrow stands_text call refl (CourseBreaks course) After_ at_exit at_end (handler_cost h) first (begins n) regular.1 stood)

@@ -68,7 +68,8 @@ parts_same n k (part ∷ parts) le h =
     ∙ ap (λ (x : ℕ). (k + part.0, x) ∷ map (moved_part k) parts) (place_same k part.1 (omega (arith, le, to)))
     ∙ ap (λ (l : List (ℕ × ℕ)). (k + part.0, k + part.1) ∷ l) (parts_same n k parts le p.1)
 
-module _ (tree : ModuleTree) (ends : List End) (l : Layout) (protocol handlers : Code) (able : IsLowerable tree ends) (links : All (λ e. e.link < 256) ends) (room : HasSections tree ends l) (first : StubsTo tree ends protocol) (second : LowersTo tree ends handlers) where
+module _ (tree : ModuleTree) (ends : List End) (l : Layout) (protocol handlers : Code) (able : IsLowerable tree ends) (links : All (λ e. e.link < 256) ends) (room : HasSections tree ends l)
+    (first : StubsTo tree ends protocol) (second : LowersTo tree ends handlers) where
   abbrev k : ℕ
   k = length (stub_ops tree ends)
 
@@ -93,7 +94,8 @@ module _ (tree : ModuleTree) (ends : List End) (l : Layout) (protocol handlers :
   unfolding compiled_ops
   ops_joined =
       ap (λ (ops : List Ir). joined_ops ops handlers.ops.items) first.is
-      ∙ ap (λ (ops : List Ir). stub_ops tree ends ++ ops) (ops_same (length handlers.ops.items) (length handlers.parts.items) (module_data_size tree (length ends)) k handlers.ops.items within second.does.fits.sound
+      ∙ ap (λ (ops : List Ir). stub_ops tree ends ++ ops)
+      (ops_same (length handlers.ops.items) (length handlers.parts.items) (module_data_size tree (length ends)) k handlers.ops.items within second.does.fits.sound
       ∙ ap (λ (ops : List Ir). map (lowered.moved k) ops) second.is.ops ∙ (lowered_moves tree.decls ends tree.handlers k).0)
 
   parts_joined : map (moved_part (length protocol.ops.items)) handlers.parts.items ≡ compiled_parts tree ends
@@ -103,9 +105,11 @@ module _ (tree : ModuleTree) (ends : List End) (l : Layout) (protocol handlers :
       ∙ parts_same (length handlers.ops.items) k handlers.parts.items within second.does.there
       ∙ ap (λ (parts : List (ℕ × ℕ)). map (lowered.moved_part k) parts) second.is.parts ∙ (lowered_moves tree.decls ends tree.handlers k).1
 
-  pub joins : (code : Code) → code.ops.items ≡ joined_ops protocol.ops.items handlers.ops.items → code.parts.items ≡ map (moved_part (length protocol.ops.items)) handlers.parts.items → IsCompiled tree ends code
+  pub joins : (code : Code) → code.ops.items ≡ joined_ops protocol.ops.items handlers.ops.items → code.parts.items ≡ map (moved_part (length protocol.ops.items)) handlers.parts.items
+      → IsCompiled tree ends code
   joins code ops parts = record { ops = ops ∙ ops_joined; parts = parts ∙ parts_joined }
 
-  pub joined : {E : Type 0} (result : Result Code E) → IfOk result (λ code. code.ops.items ≡ joined_ops protocol.ops.items handlers.ops.items) → IfOk result (λ code. code.parts.items ≡ map (moved_part (length protocol.ops.items)) handlers.parts.items) → IfOk result (λ code. IsCompiled tree ends code)
+  pub joined : {E : Type 0} (result : Result Code E) → IfOk result (λ code. code.ops.items ≡ joined_ops protocol.ops.items handlers.ops.items)
+      → IfOk result (λ code. code.parts.items ≡ map (moved_part (length protocol.ops.items)) handlers.parts.items) → IfOk result (λ code. IsCompiled tree ends code)
   joined (Ok code) ops parts = joins code ops parts
   joined (Err e) ops parts = tt

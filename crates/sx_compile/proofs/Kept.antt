@@ -1,5 +1,6 @@
 -- Each operation keeps what a run keeps.
-use Rattle.std.proofs.Common.{◌≡◌, ◌≢◌, ℕ, zero, suc, ◌+◌, ◌*◌, ◌/◌, ◌%◌, ◌<◌, ◌≤◌, ◌⊎◌, inl, inr, Bool, true, false, ◌&&◌, ◌||◌, ◌==◌, List, [], ◌∷◌, ◌++◌, length, get_or, set, take, Option, Some, None, Result, Ok, Err, refl, sym, ap, ◌∙◌, subst, arith}
+use Rattle.std.proofs.Common.{◌≡◌, ◌≢◌, ℕ, zero, suc, ◌+◌, ◌*◌, ◌/◌, ◌%◌, ◌<◌, ◌≤◌, ◌⊎◌, inl, inr, Bool, true, false, ◌&&◌, ◌||◌, ◌==◌, List, [], ◌∷◌, ◌++◌}
+use Rattle.std.proofs.Common.{length, get_or, set, take, Option, Some, None, Result, Ok, Err, refl, sym, ap, ◌∙◌, subst, arith}
 use Rattle.std.specs.Prelude.{if◌then◌else◌, nat_le, nat_lt}
 use Rattle.std.proofs.lemmas.List.{append-nil, append_assoc, get_or-set_other, length-take}
 use Rattle.std.proofs.lemmas.Bool.{and_parts, leb-true, ltb-true, or_cases}
@@ -74,10 +75,12 @@ word_kept priv o x far = word_same priv (put_word priv o x) 10 10 refl refl (oth
     ne (inr p) k lo hi d lt = omega (arith, p, lo, hi, lt)
 
     other : (k : ℕ) → 10 ≤ k → k ≤ 11 → get_or (put_word priv o x) k 0 ≡ get_or priv k 0
-    other k lo hi = get_or-set_other (set priv (even o) (x % 256)) (even o + 1) k (x / 256) 0 (ne far k lo hi 1 (omega arith)) ∙ get_or-set_other priv (even o) k (x % 256) 0 (λ e. ne far k lo hi 0 (omega arith) (omega (arith, e)))
+    other k lo hi = get_or-set_other (set priv (even o) (x % 256)) (even o + 1) k (x / 256) 0 (ne far k lo hi 1 (omega arith))
+        ∙ get_or-set_other priv (even o) k (x % 256) 0 (λ e. ne far k lo hi 0 (omega arith) (omega (arith, e)))
 
 bytes_kept : (priv : List ℕ) (o : ℕ) (bs : List ℕ) → Beside o (length bs) → word (put_bytes priv o bs) 10 ≡ word priv 10
-bytes_kept priv o bs far = word_same priv (put_bytes priv o bs) 10 10 refl refl (get-put_bytes_other priv o bs 10 (off far 10 (omega arith) (omega arith))) (get-put_bytes_other priv o bs 11 (off far 11 (omega arith) (omega arith)))
+bytes_kept priv o bs far = word_same priv (put_bytes priv o bs) 10 10 refl refl (get-put_bytes_other priv o bs 10 (off far 10 (omega arith) (omega arith)))
+    (get-put_bytes_other priv o bs 11 (off far 11 (omega arith) (omega arith)))
   where
     off : Beside o (length bs) → (k : ℕ) → 10 ≤ k → k < 14 → (k < o) ⊎ (o + length bs ≤ k)
     off (inl p) k lo hi = inr (omega (arith, p, lo))
@@ -125,7 +128,8 @@ module _ (s : Setup) (handle : ℕ → Conf → OperationResult) (handles : (h :
   same : (c : Conf) (place : ℕ) (stack : List ℕ) → Room c stack → Kept c (record c { place = place; stack = stack })
   same c place stack r = record { marks = prefix_same c.marks; window = refl; room = r; back = still c; samples = λ h. h }
 
-  with_priv : (c : Conf) (place : ℕ) (stack priv mem : List ℕ) (devices : List Window) (marks : List Mark) → Room c stack → word priv 10 ≡ word c.priv 10 → HasPrefix marks c.marks → (HaveSamples c.devices → HaveSamples devices)
+  with_priv : (c : Conf) (place : ℕ) (stack priv mem : List ℕ) (devices : List Window) (marks : List Mark) → Room c stack → word priv 10 ≡ word c.priv 10 → HasPrefix marks c.marks
+      → (HaveSamples c.devices → HaveSamples devices)
       → Kept c (record c { place = place; stack = stack; priv = priv; mem = mem; devices = devices; marks = marks })
   with_priv c place stack priv mem devices marks r e b sm = record { marks = b; window = e; room = r; back = still c; samples = sm }
 
@@ -142,10 +146,12 @@ module _ (s : Setup) (handle : ℕ → Conf → OperationResult) (handles : (h :
   if_kept c false x y p q = q
 
   push_kept : (c : Conf) (v : ℕ) → KeptAfter c (pushed c v)
-  push_kept c v = when_kept c (nat_lt (length c.stack) 160) (Goes (next c (v ∷ c.stack))) (λ x. let small = ltb-true (length c.stack) 160 x in same c (c.place + 1) (v ∷ c.stack) (λ r. omega (arith, small)))
+  push_kept c v = when_kept c (nat_lt (length c.stack) 160) (Goes (next c (v ∷ c.stack))) (λ x. let small = ltb-true (length c.stack) 160 x in
+      same c (c.place + 1) (v ∷ c.stack) (λ r. omega (arith, small)))
 
   two_kept : (c : Conf) (f : ℕ → ℕ → ℕ) → KeptAfter c (on_top c.stack (λ y below. on_top below (λ x rest. Goes (next c (f x y ∷ rest)))))
-  two_kept c f = top_kept c c.stack (λ y below. on_top below (λ x rest. Goes (next c (f x y ∷ rest)))) (λ y below e1. top_kept c below (λ x rest. Goes (next c (f x y ∷ rest))) (λ x rest e2. same c (c.place + 1) (f x y ∷ rest) (λ r. omega (arith, e1, e2, r))))
+  two_kept c f = top_kept c c.stack (λ y below. on_top below (λ x rest. Goes (next c (f x y ∷ rest))))
+      (λ y below e1. top_kept c below (λ x rest. Goes (next c (f x y ∷ rest))) (λ x rest e2. same c (c.place + 1) (f x y ∷ rest) (λ r. omega (arith, e1, e2, r))))
 
   one_kept : (c : Conf) (f : ℕ → ℕ) → KeptAfter c (on_top c.stack (λ x rest. Goes (next c (f x ∷ rest))))
   one_kept c f = top_kept c c.stack (λ x rest. Goes (next c (f x ∷ rest))) (λ x rest e. same c (c.place + 1) (f x ∷ rest) (λ r. omega (arith, e, r)))
@@ -176,12 +182,14 @@ module _ (s : Setup) (handle : ℕ → Conf → OperationResult) (handles : (h :
       (when_kept c (m.has_packet_room c) (m.copied_out (write_bytes s c.devices c.mem (saved c 14 + 24 * pieces c) (event_packet s e v)) (m.sealed_event c e v) (m.packed (m.sealed_event c e v) k e))
       (λ le. copied c (m.sealed_event c e v) (m.packed (m.sealed_event c e v) k e) (write_bytes s c.devices c.mem (saved c 14 + 24 * pieces c) (event_packet s e v)) (prefix_more c.marks seal)
       (λ mem. with_priv c (c.place + 1) c.stack (put_word (put_word c.priv (offsets.end_number_at k) (e.number + 1)) 4 (pieces c + 1)) mem c.devices (c.marks ++ seal ∷ []) (λ r. r)
-      (word_kept (put_word c.priv (offsets.end_number_at k) (e.number + 1)) 4 (pieces c + 1) (inl (omega arith)) ∙ word_kept c.priv (offsets.end_number_at k) (e.number + 1) (inr (omega arith))) (prefix_more c.marks seal) (λ h. h))))
+      (word_kept (put_word c.priv (offsets.end_number_at k) (e.number + 1)) 4 (pieces c + 1) (inl (omega arith))
+      ∙ word_kept c.priv (offsets.end_number_at k) (e.number + 1) (inr (omega arith))) (prefix_more c.marks seal) (λ h. h))))
       (same c (c.place + 1) c.stack (λ r. r)))
 
   copy_out_kept : (c : Conf) (n o off : ℕ) (rest : List ℕ) → Room c rest → KeptAfter c (m.copy_out s c n o off rest)
   copy_out_kept c n o off rest r =
-      when_kept c (m.has_out_window s c && m.has_copy_room c off n) (m.copied_out (write_bytes s c.devices c.mem (saved c 14 + off) (bytes_from c.priv o n)) c (λ mem. record (next c rest) { mem = mem }))
+      when_kept c (m.has_out_window s c && m.has_copy_room c off n) (m.copied_out (write_bytes s c.devices c.mem (saved c 14 + off) (bytes_from c.priv o n)) c
+      (λ mem. record (next c rest) { mem = mem }))
       (λ x. copied c c (λ mem. record (next c rest) { mem = mem }) (write_bytes s c.devices c.mem (saved c 14 + off) (bytes_from c.priv o n)) (prefix_same c.marks)
       (λ mem. with_priv c (c.place + 1) rest c.priv mem c.devices c.marks r refl (prefix_same c.marks) (λ h. h)))
 
@@ -193,7 +201,8 @@ module _ (s : Setup) (handle : ℕ → Conf → OperationResult) (handles : (h :
       by_kind kind.Actuator = with_priv c (c.place + 1) rest c.priv c.mem c.devices (c.marks ++ mark.Actuated d.0 x ∷ []) r refl (prefix_more c.marks (mark.Actuated d.0 x)) (λ h. h)
       by_kind kind.Sensor = tt
 
-  push_more : (c : Conf) (v : ℕ) (priv : List ℕ) (devices : List Window) (x : Mark) → word priv 10 ≡ word c.priv 10 → (HaveSamples c.devices → HaveSamples devices) → KeptAfter c (pushed (record c { priv = priv; devices = devices; marks = c.marks ++ x ∷ [] }) v)
+  push_more : (c : Conf) (v : ℕ) (priv : List ℕ) (devices : List Window) (x : Mark) → word priv 10 ≡ word c.priv 10 → (HaveSamples c.devices → HaveSamples devices)
+      → KeptAfter c (pushed (record c { priv = priv; devices = devices; marks = c.marks ++ x ∷ [] }) v)
   push_more c v priv devices x e sm =
       when_kept c (nat_lt (length c.stack) 160) (Goes (record c { place = c.place + 1; stack = v ∷ c.stack; priv = priv; devices = devices; marks = c.marks ++ x ∷ [] }))
       (λ y. let small = ltb-true (length c.stack) 160 y in with_priv c (c.place + 1) (v ∷ c.stack) priv c.mem devices (c.marks ++ x ∷ []) (λ r. omega (arith, small)) e (prefix_more c.marks x) sm)
@@ -209,7 +218,8 @@ module _ (s : Setup) (handle : ℕ → Conf → OperationResult) (handles : (h :
       by_kind kind.Actuator = tt
 
   copy_in_kept : (c : Conf) (n o : ℕ) → Beside o n → KeptAfter c (m.copy_in s c n o)
-  copy_in_kept c n o far = when_kept c (m.has_in_window s c && nat_le n 40) (m.copied_in c o (read_bytes s c.devices c.mem (saved c 13) n)) (λ x. by_read (read_bytes s c.devices c.mem (saved c 13) n) refl)
+  copy_in_kept c n o far = when_kept c (m.has_in_window s c && nat_le n 40) (m.copied_in c o (read_bytes s c.devices c.mem (saved c 13) n))
+      (λ x. by_read (read_bytes s c.devices c.mem (saved c 13) n) refl)
     where
       by_read : (r : Result (List ℕ) Violation) → read_bytes s c.devices c.mem (saved c 13) n ≡ r → KeptAfter c (m.copied_in c o r)
       by_read (Err v) e = prefix_same c.marks
@@ -223,11 +233,13 @@ module _ (s : Setup) (handle : ℕ → Conf → OperationResult) (handles : (h :
       let body = bytes_from c.priv b bn in
       let w = wrapped s.mac (m.key_at s c k) ad body in
       with_priv c (c.place + 1) c.stack (put_bytes (put_bytes c.priv (h + hn) w.cipher) (h + hn + bn) w.tag) c.mem c.devices (c.marks ++ mark.Wrapped ad body (k == 0) ∷ []) (λ r. r)
-      (bytes_kept (put_bytes c.priv (h + hn) w.cipher) (h + hn + bn) w.tag (inr (omega (arith, far))) ∙ bytes_kept c.priv (h + hn) w.cipher (inr (omega (arith, far)))) (prefix_more c.marks (mark.Wrapped ad body (k == 0))) (λ h. h)
+      (bytes_kept (put_bytes c.priv (h + hn) w.cipher) (h + hn + bn) w.tag (inr (omega (arith, far)))
+      ∙ bytes_kept c.priv (h + hn) w.cipher (inr (omega (arith, far)))) (prefix_more c.marks (mark.Wrapped ad body (k == 0))) (λ h. h)
 
   open_kept : (c : Conf) (k b bn : ℕ) (ad : List ℕ) (o : Option (List ℕ)) → Beside b bn → KeptAfter c (m.opened c k ad b bn o)
   open_kept c k b bn ad None far = push_kept c 0
-  open_kept c k b bn ad (Some body) far = push_more c 1 (put_bytes c.priv b (take bn body)) c.devices (mark.Unwrapped ad (take bn body) (k == 0)) (bytes_kept c.priv b (take bn body) (shorter far)) (λ h. h)
+  open_kept c k b bn ad (Some body) far = push_more c 1 (put_bytes c.priv b (take bn body)) c.devices (mark.Unwrapped ad (take bn body) (k == 0)) (bytes_kept c.priv b (take bn body) (shorter far))
+      (λ h. h)
     where
       shorter : Beside b bn → Beside b (length (take bn body))
       shorter (inl p) = let l = length-take bn body in inl (omega (arith, p, l))
@@ -241,7 +253,8 @@ module _ (s : Setup) (handle : ℕ → Conf → OperationResult) (handles : (h :
       let p2 = put_word p1 (offsets.end_number_at k) 0 in
       let p3 = put_word p2 (offsets.end_open_at k) 1 in
       with_priv c (c.place + 1) c.stack (put_bytes p3 (offsets.end_key_at k) key) c.mem c.devices c.marks (λ r. r)
-      (bytes_kept p3 (offsets.end_key_at k) key (inr (omega arith)) ∙ word_kept p2 (offsets.end_open_at k) 1 (inr (omega arith)) ∙ word_kept p1 (offsets.end_number_at k) 0 (inr (omega arith)) ∙ word_kept c.priv (offsets.end_at k) field (inr (omega arith))) (prefix_same c.marks) (λ h. h)
+      (bytes_kept p3 (offsets.end_key_at k) key (inr (omega arith)) ∙ word_kept p2 (offsets.end_open_at k) 1 (inr (omega arith)) ∙ word_kept p1 (offsets.end_number_at k) 0 (inr (omega arith))
+      ∙ word_kept c.priv (offsets.end_at k) field (inr (omega arith))) (prefix_same c.marks) (λ h. h)
 
   stop_kept : (c : Conf) (o : Option ℕ) → KeptAfter c (m.stop c o)
   stop_kept c None = tt
@@ -277,12 +290,14 @@ module _ (s : Setup) (handle : ℕ → Conf → OperationResult) (handles : (h :
   op_kept ops parts size (ir.Load o) c ok = push_kept c (word c.priv o)
   op_kept ops parts size (ir.Store o) c ok =
       top_kept c c.stack (λ x rest. Goes (record (next c rest) { priv = put_word c.priv o x }))
-      (λ x rest e. with_priv c (c.place + 1) rest (put_word c.priv o x) c.mem c.devices c.marks (λ r. omega (arith, e, r)) (word_kept c.priv o x (beside size o 2 (and_parts (is_even o) (may_change size o 2) ok).1)) (prefix_same c.marks) (λ h. h))
+      (λ x rest e. with_priv c (c.place + 1) rest (put_word c.priv o x) c.mem c.devices c.marks (λ r. omega (arith, e, r))
+      (word_kept c.priv o x (beside size o 2 (and_parts (is_even o) (may_change size o 2) ok).1)) (prefix_same c.marks) (λ h. h))
   op_kept ops parts size (ir.LoadAt o n) c ok = one_kept c (m.element c.priv o n)
   op_kept ops parts size (ir.StoreAt o n) c ok =
       top_kept c c.stack (λ v below. on_top below (λ i rest. Goes (record (next c rest) { priv = m.with_element c.priv o n i v })))
       (λ v below e1. top_kept c below (λ i rest. Goes (record (next c rest) { priv = m.with_element c.priv o n i v }))
-      (λ i rest e2. with_priv c (c.place + 1) rest (m.with_element c.priv o n i v) c.mem c.devices c.marks (λ r. omega (arith, e1, e2, r)) (element_kept c.priv o n i v (beside size o (2 * n) (and_parts (is_even o) (may_change size o (2 * n)) ok).1)) (prefix_same c.marks) (λ h. h)))
+      (λ i rest e2. with_priv c (c.place + 1) rest (m.with_element c.priv o n i v) c.mem c.devices c.marks (λ r. omega (arith, e1, e2, r))
+      (element_kept c.priv o n i v (beside size o (2 * n) (and_parts (is_even o) (may_change size o (2 * n)) ok).1)) (prefix_same c.marks) (λ h. h)))
   op_kept ops parts size (ir.Op f) c ok = operator_kept f c
   op_kept ops parts size (ir.Jump p) c ok = same c p c.stack (λ r. r)
   op_kept ops parts size (ir.JumpZero p) c ok = top_kept c c.stack (m.jump_zero c p) (λ x rest e. jump_kept c p x rest (λ r. omega (arith, e, r)))
@@ -291,7 +306,8 @@ module _ (s : Setup) (handle : ℕ → Conf → OperationResult) (handles : (h :
   op_kept ops parts size ir.Emit c ok = top_kept c c.stack (λ x rest. m.emit c x rest (own_window s c.devices)) (λ x rest e. emit_kept c x rest (own_window s c.devices) (λ r. omega (arith, e, r)))
   op_kept ops parts size ir.Stop c ok = stop_kept c c.back
   op_kept ops parts size (ir.Saved r) c ok = when_kept c (m.is_saved r) (pushed c (saved c r)) (λ x. push_kept c (saved c r))
-  op_kept ops parts size ir.Inside c ok = if_kept c (in_public s.section (even (saved c 15))) (Stops (Violates bad.Illegal c.marks)) (Goes (next c c.stack)) (prefix_same c.marks) (same c (c.place + 1) c.stack (λ r. r))
+  op_kept ops parts size ir.Inside c ok = if_kept c (in_public s.section (even (saved c 15))) (Stops (Violates bad.Illegal c.marks)) (Goes (next c c.stack)) (prefix_same c.marks)
+      (same c (c.place + 1) c.stack (λ r. r))
   op_kept ops parts size (ir.Meets r n) c ok = when_kept c (m.is_saved r) (pushed c (truth (is_bad_window s (saved c r) n))) (λ x. push_kept c (truth (is_bad_window s (saved c r) n)))
   op_kept ops parts size (ir.CopyIn n o) c ok = copy_in_kept c n o (beside size o n (and_parts (nat_le 1 n) (may_change size o n) ok).1)
   op_kept ops parts size (ir.CopyOut n o) c ok = top_kept c c.stack (m.copy_out s c n o) (λ off rest e. copy_out_kept c n o off rest (λ r. omega (arith, e, r)))
@@ -301,8 +317,10 @@ module _ (s : Setup) (handle : ℕ → Conf → OperationResult) (handles : (h :
       far (inl p) = absurd (omega (arith, p))
       far (inr p) = p
   op_kept ops parts size (ir.Open k h hn b bn) c ok =
-      open_kept c k b bn (bytes_from c.priv h hn) (unwrapped s.mac (m.key_at s c k) (bytes_from c.priv h hn) (bytes_from c.priv (h + hn) bn) (bytes_from c.priv (h + hn + bn) 16)) (beside size b bn (and_parts (are_sealed size k h hn b bn) (may_change size b bn) ok).1)
+      open_kept c k b bn (bytes_from c.priv h hn) (unwrapped s.mac (m.key_at s c k) (bytes_from c.priv h hn) (bytes_from c.priv (h + hn) bn) (bytes_from c.priv (h + hn + bn) 16))
+      (beside size b bn (and_parts (are_sealed size k h hn b bn) (may_change size b bn) ok).1)
   op_kept ops parts size (ir.SetEnd k) c ok = set_end_kept c k
   op_kept ops parts size ir.Sense c ok = sense_kept c (own_window s c.devices)
-  op_kept ops parts size (ir.Handler h) c ok = through c (put_word c.priv 4 0) (handle h (record c { priv = put_word c.priv 4 0 })) (word_kept c.priv 4 0 (inl (omega arith))) (handles h (record c { priv = put_word c.priv 4 0 }))
+  op_kept ops parts size (ir.Handler h) c ok = through c (put_word c.priv 4 0) (handle h (record c { priv = put_word c.priv 4 0 })) (word_kept c.priv 4 0 (inl (omega arith)))
+      (handles h (record c { priv = put_word c.priv 4 0 }))
   op_kept ops parts size ir.Leave c ok = tt

@@ -23,7 +23,8 @@ abbrev pub Leaves : Link → End → Type 0
 Leaves l e = (output : ℕ) → leaves 0 output l ≡ is_sending output e.side e.port
 
 -- a connection more, and an end less to come
-pub one_more : (links : List Link) (l : Link) (e : End) (es ends : List End) → Leaves l e → ((output : ℕ) → links_from links 0 output + senders (e ∷ es) output ≡ senders ends output) → (output : ℕ) → links_from (links ++ l ∷ []) 0 output + senders es output ≡ senders ends output
+pub one_more : (links : List Link) (l : Link) (e : End) (es ends : List End) → Leaves l e → ((output : ℕ) → links_from links 0 output + senders (e ∷ es) output ≡ senders ends output) → (output : ℕ)
+    → links_from (links ++ l ∷ []) 0 output + senders es output ≡ senders ends output
 one_more links l e es ends same so output =
     let a = sum_by-append (λ l. cond (leaves 0 output l) 1 0) links (l ∷ []) in
     let b = count_by-cons (leaves 0 output) l [] in
@@ -46,7 +47,8 @@ abbrev IsSo : List Link → List End → List End → Type 0
 IsSo links es ends = (output : ℕ) → links_from links 0 output + senders es output ≡ senders ends output
 
 -- one turn, and the end
-pub links_turn : (ends : List End) (i : ℕ) (d : End) (links new : List Link) (l : Link) → i < length ends → Leaves l (get_or ends i d) → new ≡ links ++ l ∷ [] → IsSo links (drop i ends) ends → IsSo new (drop (i + 1) ends) ends
+pub links_turn : (ends : List End) (i : ℕ) (d : End) (links new : List Link) (l : Link) → i < length ends → Leaves l (get_or ends i d) → new ≡ links ++ l ∷ [] → IsSo links (drop i ends) ends
+    → IsSo new (drop (i + 1) ends) ends
 links_turn ends i d links new l lt same is so =
     let front : drop i ends ≡ get_or ends i d ∷ drop (i + 1) ends = drop-cons ends i d lt ∙ ap (λ n. get_or ends i d ∷ drop n ends) (sym (add-one i)) in
     subst (λ (ls : List Link). IsSo ls (drop (i + 1) ends) ends) (sym is) (one_more links l (get_or ends i d) (drop (i + 1) ends) ends same (subst (λ (es : List End). IsSo links es ends) front so))

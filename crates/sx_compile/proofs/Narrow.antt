@@ -18,7 +18,7 @@ use Rattle.sx_stub.specs.Stub.{stub_ops}
 use Rattle.sx_tmpl.specs.Performs.{IsNarrow}
 use Rattle.sx_tmpl.specs.Template.{Addresses, entry_words, template}
 use Rattle.sx_tmpl.specs.Text.{addresses_of, bytes_of, text_words_of, words_of}
-use Rattle.sx_tmpl.proofs.SoundOps.{one_of}
+use Rattle.sx_tmpl.proofs.Texts.SoundOps.{one_of}
 use Rattle.sx_compile.specs.Compiled.{compiled_ops}
 
 -- each is below a bound
@@ -130,7 +130,8 @@ handler_narrow ends (ir.Handler x) few push h = tt
 handler_narrow ends ir.Leave few push h = tt
 
 -- the operands of a module's code are narrow, where its text is made of bytes
-pub all_narrow : (tree : ModuleTree) (ends : List End) (l : Layout) (a : Addresses) → list_all is_plain (stub_ops tree ends) ≡ true → IsLowerable tree ends → AreBelow 65536 (words_of l a 0 (compiled_ops tree ends)) → (p : ℕ) (i : Ir) → slice_get (compiled_ops tree ends) p ≡ Some i → IsNarrow i
+pub all_narrow : (tree : ModuleTree) (ends : List End) (l : Layout) (a : Addresses) → list_all is_plain (stub_ops tree ends) ≡ true → IsLowerable tree ends
+    → AreBelow 65536 (words_of l a 0 (compiled_ops tree ends)) → (p : ℕ) (i : Ir) → slice_get (compiled_ops tree ends) p ≡ Some i → IsNarrow i
 unfolding compiled_ops
 all_narrow tree ends l a plain able below p i e =
     let stub = stub_ops tree ends in
@@ -142,6 +143,7 @@ all_narrow tree ends l a plain able below p i e =
     ]
 
 -- the words of the operations among those of a text
-pub ops_below : (l : Layout) (ops : List Ir) (parts : List (ℕ × ℕ)) (rest : List ℕ) → AreBelow 256 (bytes_of (text_words_of l ops parts) ++ rest) → AreBelow 65536 (words_of l (addresses_of l ops parts) 0 ops)
+pub ops_below : (l : Layout) (ops : List Ir) (parts : List (ℕ × ℕ)) (rest : List ℕ) → AreBelow 256 (bytes_of (text_words_of l ops parts) ++ rest)
+    → AreBelow 65536 (words_of l (addresses_of l ops parts) 0 ops)
 ops_below l ops parts rest h =
     below_front 65536 (words_of l (addresses_of l ops parts) 0 ops) _ (below_back 65536 (entry_words l.priv_from) _ (words_below (text_words_of l ops parts) rest h))

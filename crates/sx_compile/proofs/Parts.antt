@@ -1,8 +1,6 @@
 -- The handlers' parts in a module's whole code.
 use Rattle.std.proofs.Common.{◌≡◌, ℕ, zero, suc, ◌+◌, ◌<◌, ◌≤◌, true, List, [], ◌∷◌, ◌++◌, length, Option, Some, None, refl, ap, ◌∙◌, subst, arith}
 use Rattle.std.specs.Prelude.{nat_le, nat_lt, slice_get}
-use Rattle.std.specs.List.{list_all}
-use Rattle.std.proofs.lemmas.Bool.{and_from, le-leb, lt-ltb}
 use Rattle.std.proofs.lemmas.List.{append-nil, append_assoc, length-append}
 use Rattle.sx_lang.specs.declared.tree.Decl.{Decl}
 use Rattle.sx_lang.specs.Sizes.{handler_cost, handlers_cost, module_cost}
@@ -15,7 +13,6 @@ use Rattle.sx_ir.specs.declared.ir.Ir.{Ir}
 use Rattle.sx_ir.specs.Conf.{Conf, Halt}
 use Rattle.sx_ir.specs.Invoking.{PartDoes}
 use Rattle.sx_ir.specs.Meaning.{no_count, op_count, op_step, part_from}
-use Rattle.sx_ir.specs.Sound.{is_sound_part}
 use Rattle.sx_lower.specs.Lowered.{handler_code, handlers_code, handlers_parts}
 use Rattle.sx_lower.specs.Lowering.{IsLowerable}
 use Rattle.sx_lower.proofs.Reacts.{lowered_reacts}
@@ -31,7 +28,8 @@ front_of (x ∷ xs) ys zero lt = refl
 front_of (x ∷ xs) ys (suc i) lt = front_of xs ys i (omega (arith, lt))
 
 -- each handler's part is listed
-part_listed : (ds : List Decl) (ends : List End) (hs : List HandlerTree) (p k : ℕ) (h : HandlerTree) → slice_get hs k ≡ Some h → (from : ℕ) × (to : ℕ) × (slice_get (handlers_parts ds ends p hs) k ≡ Some (from, to))
+part_listed : (ds : List Decl) (ends : List End) (hs : List HandlerTree) (p k : ℕ) (h : HandlerTree) → slice_get hs k ≡ Some h
+    → (from : ℕ) × (to : ℕ) × (slice_get (handlers_parts ds ends p hs) k ≡ Some (from, to))
 part_listed ds ends [] p k h e = absurd (none_some e)
   where
     none_some : ◌≡◌ {A = Option HandlerTree} None (Some h) → ⊥
@@ -72,20 +70,7 @@ parts_do s able e k n =
       listed.0,
       (listed.1, listed.2),
       λ call p c place begins.
-          weaken Conf Halt (op_step s (part_from parts) (stub ++ bodies)) (op_count no_count (stub ++ bodies)) _ _ _ _ _ _ (handler_cost h.0) (module_cost s.tree) c (cost_within s.tree.handlers k h.0 h.2) (λ t x. x) (λ t v x. x) (λ t x. x)
+          weaken Conf Halt (op_step s (part_from parts) (stub ++ bodies)) (op_count no_count (stub ++ bodies)) _ _ _ _ _ _ (handler_cost h.0) (module_cost s.tree) c
+          (cost_within s.tree.handlers k h.0 h.2) (λ t x. x) (λ t v x. x) (λ t x. x)
           (subst (λ (ops : List Ir). PartDoes s (part_from parts) no_count ops listed.0 e (handler_cost h.0)) (ap (λ (l : List Ir). stub ++ l) (append-nil bodies)) does call p c place begins),
     )
-
--- the places of parts are in the code
-pub parts_there : (ds : List Decl) (ends : List End) (p ops : ℕ) (hs : List HandlerTree) → p + length (handlers_code ds ends p hs) ≤ ops → list_all (is_sound_part ops) (handlers_parts ds ends p hs) ≡ true
-parts_there ds ends p ops [] le = refl
-parts_there ds ends p ops (h ∷ hs) le =
-    let first = handler_code ds ends p h in
-    let rest = handlers_code ds ends (p + length first) hs in
-    let long = length-append first rest in
-    and_from (is_sound_part ops (p, p + length first)) (list_all (is_sound_part ops) (handlers_parts ds ends (p + length first) hs)) (and_from (nat_lt p ops) (nat_le (p + length first) ops) (lt-ltb p ops (omega (arith, le, long))) (le-leb (p + length first) ops (omega (arith, le, long))))
-    (parts_there ds ends (p + length first) ops hs (omega (arith, le, long)))
-
-pub length-parts : (ds : List Decl) (ends : List End) (p : ℕ) (hs : List HandlerTree) → length (handlers_parts ds ends p hs) ≡ length hs
-length-parts ds ends p [] = refl
-length-parts ds ends p (h ∷ hs) = ap suc (length-parts ds ends (p + length (handler_code ds ends p h)) hs)

@@ -12,7 +12,7 @@ use Rattle.sx_ir.specs.Conf.{Conf, Halt, Violates, Stuck}
 use Rattle.sx_ir.specs.Meaning.{OperationResult, saved, do_at, do_op, no_count, op_step, op_count, part_from, CodeReaches, OnViolation}
 use Rattle.sx_ir.specs.Sound.{is_sound_op}
 use Rattle.sx_tmpl.specs.Performs.{IsRegular, ReturnsBehind}
-use Rattle.sx_tmpl.proofs.SoundOps.{one_of}
+use Rattle.sx_tmpl.proofs.Texts.SoundOps.{one_of}
 use Rattle.sx_compile.proofs.Kept.{Kept, KeptAfter, ReturnsFrom, op_kept, prefix_same, prefix_trans}
 
 -- the beginning of a part keeps it
@@ -21,7 +21,8 @@ part_kept [] h c = tt
 part_kept (part ∷ parts) zero c = record { marks = prefix_same c.marks; window = refl; room = λ r. r; back = inr refl; samples = λ h. h }
 part_kept (part ∷ parts) (suc h) c = part_kept parts h c
 
-module _ (s : Setup) (ops : List Ir) (parts : List (ℕ × ℕ)) (n m size : ℕ) (sound : list_all (is_sound_op n m size) ops ≡ true) (call : Call) (all : List Mark) (B : Violation → List Mark → Type 0) (Q : Conf → Type 0)
+module _ (s : Setup) (ops : List Ir) (parts : List (ℕ × ℕ)) (n m size : ℕ) (sound : list_all (is_sound_op n m size) ops ≡ true) (call : Call) (all : List Mark) (B : Violation → List Mark
+    → Type 0) (Q : Conf → Type 0)
     (at_exit : (t : Conf) → Q t → HasPrefix all t.marks) (at_end : (v : Violation) (marks : List Mark) → B v marks → HasPrefix all marks) where
   -- the next place to return to
   next_back : (c : Conf) (o : Option ℕ) → ReturnsFrom c o → (i : Ir) → slice_get ops c.place ≡ Some i → ReturnsBehind ops c.back → ReturnsBehind ops o
@@ -57,7 +58,8 @@ module _ (s : Setup) (ops : List Ir) (parts : List (ℕ × ℕ)) (n m size : ℕ
   abbrev pub RegularRun : ℕ → Conf → Type 0
   RegularRun k c = Comes Conf Halt (op_step s (part_from parts) ops) (op_count no_count ops) (IsRegular ops call all) (OnViolation B) Q k c
 
-  pub runs_regular : (k : ℕ) (c : Conf) → saved c 14 ≡ call.output → length c.stack ≤ 160 → ReturnsBehind ops c.back → HaveSamples c.devices → CodeReaches s (part_from parts) no_count ops B Q k c → HasPrefix all c.marks × RegularRun k c
+  pub runs_regular : (k : ℕ) (c : Conf) → saved c 14 ≡ call.output → length c.stack ≤ 160 → ReturnsBehind ops c.back → HaveSamples c.devices → CodeReaches s (part_from parts) no_count ops B Q k c
+      → HasPrefix all c.marks × RegularRun k c
   runs_regular k c window room back samples (Here q) = (at_exit c q, Here q)
   runs_regular k c window room back samples (Next {k = j} {t = t} u e le r) =
       let kept : Kept c t = subst (KeptAfter c) e (step_kept c) in

@@ -150,13 +150,15 @@ ops_two [] = omega arith
 ops_two (i ∷ ops) = let a = op_two i in let b = ops_two ops in omega (arith, a, b)
 
 -- a packet of the module's code is of a sending end
-pub packets_of_senders : (tree : ModuleTree) (ends : List End) → list_all is_plain (stub_ops tree ends) ≡ true → IsLowerable tree ends → (k : ℕ) → has_routine (compiled_ops tree ends) k ≡ true → IsSender ends k
+pub packets_of_senders : (tree : ModuleTree) (ends : List End) → list_all is_plain (stub_ops tree ends) ≡ true → IsLowerable tree ends → (k : ℕ) → has_routine (compiled_ops tree ends) k ≡ true
+    → IsSender ends k
 unfolding compiled_ops
 packets_of_senders tree ends plain able k e =
     let stub = stub_ops tree ends in
     let bodies = handlers_code tree.decls ends (length stub) tree.handlers in
     let fits = lowered_fits tree ends (length stub) (length stub + length bodies) 0 able (omega arith) in
-    elim (or_cases (has_routine stub k) (has_routine bodies k) (sym (list_any-append (is_packet k) stub bodies) ∙ e)) [ inl x ↦ absurd (none_plain stub k plain x) | inr x ↦ of_senders ends bodies k fits.plain x ]
+    elim (or_cases (has_routine stub k) (has_routine bodies k) (sym (list_any-append (is_packet k) stub bodies)
+    ∙ e)) [ inl x ↦ absurd (none_plain stub k plain x) | inr x ↦ of_senders ends bodies k fits.plain x ]
 
 -- the code's text has no more bytes than the module's weight
 pub within_weight : (tree : ModuleTree) (ends : List End) → list_all is_plain (stub_ops tree ends) ≡ true → IsLowerable tree ends → bytes (compiled_ops tree ends) ≤ module_weight tree (length ends)

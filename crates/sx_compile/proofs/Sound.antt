@@ -17,7 +17,7 @@ use Rattle.sx_stub.specs.Sound.{is_plain}
 use Rattle.sx_stub.specs.Stub.{stub_ops}
 use Rattle.sx_stub.proofs.StubSound.{stub_sound}
 use Rattle.sx_compile.specs.Compiled.{HasSections, compiled_ops, compiled_parts}
-use Rattle.sx_compile.proofs.Parts.{length-parts, parts_there}
+use Rattle.sx_lower.proofs.Reacts.{length-parts, parts_there}
 use Rattle.sx_compile.proofs.Sizes.{ops_two, within_weight}
 
 module _ (tree : ModuleTree) (ends : List End) (able : IsLowerable tree ends) (links : All (λ e. e.link < 256) ends) where

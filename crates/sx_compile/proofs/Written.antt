@@ -1,8 +1,9 @@
 -- What an invocation that returns has written outside.
-use Rattle.std.proofs.Common.{◌≡◌, ℕ, zero, suc, ◌+◌, ◌*◌, ◌<◌, ◌≤◌, ⊎_elim, Bool, true, false, ◌&&◌, ◌||◌, not, ◌==◌, List, [], ◌∷◌, ◌++◌, length, get_or, set, take, drop, Option, Some, None, Result, Ok, Err, refl, sym, ap, ◌∙◌, subst, arith}
+use Rattle.std.proofs.Common.{◌≡◌, ℕ, zero, suc, ◌+◌, ◌*◌, ◌<◌, ◌≤◌, ⊎_elim, Bool, true, false, ◌&&◌, ◌||◌, not, ◌==◌, List, [], ◌∷◌, ◌++◌, length, get_or, set}
+use Rattle.std.proofs.Common.{take, drop, Option, Some, None, Result, Ok, Err, refl, sym, ap, ◌∙◌, subst, arith}
 use Rattle.std.specs.Prelude.{slice_index, if◌then◌else◌, nat_le, nat_lt}
 use Rattle.std.proofs.lemmas.List.{get_or-set_other, get_or-set_same, length-set, length-append, ext_get_or}
-use Rattle.std.proofs.lemmas.Bool.{true≢false, false≢true, lt-ltb, le-leb, le-ltb, cases_lt}
+use Rattle.std.proofs.lemmas.Bool.{true≢false, false≢true, lt-ltb, le-leb, le-ltb, cases_lt, or_parts}
 use Rattle.sx_mean.specs.declared.events.End.{End}
 use Rattle.sx_mean.specs.declared.events.Act.{Act}
 use Rattle.sx_mean.specs.declared.events.Act.TheVariants.{Send, Emit}
@@ -15,26 +16,27 @@ use Rattle.sx_rules.specs.declared.access.Violation.TheVariants as bad
 use Rattle.sx_rules.specs.Access.{may}
 use Rattle.sx_bus.specs.declared.devices.Window.{Window}
 use Rattle.sx_bus.specs.Devices.{device_at}
-use Rattle.sx_tag.specs.Wrap.{unwrapped, wrapped, crypt}
+use Rattle.sx_tag.specs.Wrap.{wrapped, crypt}
 use Rattle.sx_machine.specs.Memory.{word}
 use Rattle.sx_machine.specs.Memory.{bytes_from}
 use Rattle.sx_machine.specs.Ranges.{meets}
 use Rattle.sx_invoke.specs.Setup.{Setup, Call}
 use Rattle.sx_tag.specs.Mac.{IsTag}
 use Rattle.sx_invoke.specs.Marks as mark
-use Rattle.sx_invoke.specs.ModuleState.{EndState, end_of, epoch_of, link_of}
-use Rattle.sx_invoke.specs.Windows.{write_byte, write_bytes, read_bytes, then_, unless_device, is_bad_window}
+use Rattle.sx_invoke.specs.ModuleState.{EndState, end_of}
+use Rattle.sx_invoke.specs.Windows.{write_byte, write_bytes, then_, unless_device, is_bad_window, in_window_size, out_window_size}
 use Rattle.sx_invoke.specs.Progress.{Progress, Invoked, Returns, Violates, Course, Going, Broken, and_on, finished}
 use Rattle.sx_invoke.specs.Acts.{with_piece, copied_to, with_packet, event_packet, wrap_counted, with_packets, with_act, with_acts, actuated, own_window, handled}
 use Rattle.sx_mean.specs.Ends.{is_sending}
-use Rattle.sx_invoke.specs.Invocation.{invoke, entered, returns_inside, is_no_entry}
-use Rattle.sx_invoke.specs.Entries.{received, is_kind, set_key, set_key_at, key_opened, is_keyed, attest, input, input_at, event_numbered, event_opened, sample, sample_of, sample_read, number_taken, field_in, second_in, header_in, end_on, end_found, side_of, end_keyed, with_received}
+use Rattle.sx_invoke.specs.Invocation.{invoke, has_bad_windows}
+use Rattle.sx_invoke.specs.Entries.{attest, sample_read, number_taken, end_keyed}
+use Rattle.sx_invoke.specs.Protocol.{all_done, event_size, key_size, value_size, last_number}
+use Rattle.sx_invoke.proofs.ByEntry.{by_entry}
 use Rattle.sx_image.specs.Realizes.{KeepsOutside, Stand, is_piece_address}
 use Rattle.sx_invoke.specs.Progress.{bytes_in}
 use Rattle.sx_stub.proofs.Mem.{bytes_from_same, length-bytes_from}
 use Rattle.sx_stub.proofs.Packets.{bytes_from_get}
-use Rattle.sx_lang.specs.declared.sides.Side.TheVariants.{To}
-use Rattle.sx_invoke.proofs.PiecesMarked.{packet_length, tag_length}
+use Rattle.sx_invoke.proofs.PiecesMarked.{bytes_more, packet_length, tag_length}
 
 -- only places where pieces go changed, there the pieces stand, and the out-window holds them
 pub record Written (s : Setup) (call : Call) (before : List ℕ) (p : Progress) : Type 0 where
@@ -43,7 +45,8 @@ pub record Written (s : Setup) (call : Call) (before : List ℕ) (p : Progress) 
   pub fits : bytes_in p.pieces ≤ 384
 
 -- bytes that are written lie in their range, and may be written
-outside_byte : (s : Setup) (devices : List Window) (mem new : List ℕ) (a b at : ℕ) → write_byte s devices mem a b ≡ Ok new → (at ≡ a → may s.live s.section.id Write at ≡ false) → slice_index new at ≡ slice_index mem at
+outside_byte : (s : Setup) (devices : List Window) (mem new : List ℕ) (a b at : ℕ) → write_byte s devices mem a b ≡ Ok new → (at ≡ a → may s.live s.section.id Write at ≡ false)
+    → slice_index new at ≡ slice_index mem at
 unfolding write_byte
 outside_byte s devices mem new a b at e out = go (may s.live s.section.id Write a) refl (device_at devices a) e
   where
@@ -60,18 +63,21 @@ outside_byte s devices mem new a b at e out = go (may s.live s.section.id Write 
         sym (ap (λ (x : List ℕ). get_or x at 0) (ok_same (set mem a b) e))
         ∙ get_or-set_other mem a at b 0 (λ same. true≢false (sym f ∙ ap (λ (x : ℕ). may s.live s.section.id Write x) (sym same) ∙ out same))
 
-pub outside_bytes : (s : Setup) (devices : List Window) (mem new : List ℕ) (a : ℕ) (bs : List ℕ) (at : ℕ) → write_bytes s devices mem a bs ≡ Ok new → (a ≤ at → at < a + length bs → may s.live s.section.id Write at ≡ false) → slice_index new at ≡ slice_index mem at
+pub outside_bytes : (s : Setup) (devices : List Window) (mem new : List ℕ) (a : ℕ) (bs : List ℕ) (at : ℕ) → write_bytes s devices mem a bs ≡ Ok new
+    → (a ≤ at → at < a + length bs → may s.live s.section.id Write at ≡ false) → slice_index new at ≡ slice_index mem at
 unfolding write_bytes
 outside_bytes s devices mem new a [] at e out = sym (ap (λ (x : List ℕ). get_or x at 0) (ok_same e))
   where
     ok_same : ◌≡◌ {A = Result (List ℕ) Violation} (Ok mem) (Ok new) → mem ≡ new
     ok_same e = cc
-outside_bytes s devices mem new a (b ∷ bs) at e out = go (write_byte s devices mem a b) refl e (λ x f. outside_bytes s devices x new (a + 1) bs at f (λ lo hi. out (omega (arith, lo)) (omega (arith, hi))))
+outside_bytes s devices mem new a (b ∷ bs) at e out = go (write_byte s devices mem a b) refl e
+    (λ x f. outside_bytes s devices x new (a + 1) bs at f (λ lo hi. out (omega (arith, lo)) (omega (arith, hi))))
   where
     err_ok : (v : Violation) → ◌≡◌ {A = Result (List ℕ) Violation} (Err v) (Ok new) → ⊥
     err_ok v e = cc
 
-    go : (r : Result (List ℕ) Violation) → write_byte s devices mem a b ≡ r → then_ r (λ x. write_bytes s devices x (a + 1) bs) ≡ Ok new → ((x : List ℕ) → write_bytes s devices x (a + 1) bs ≡ Ok new → slice_index new at ≡ slice_index x at) → slice_index new at ≡ slice_index mem at
+    go : (r : Result (List ℕ) Violation) → write_byte s devices mem a b ≡ r → then_ r (λ x. write_bytes s devices x (a + 1) bs) ≡ Ok new
+        → ((x : List ℕ) → write_bytes s devices x (a + 1) bs ≡ Ok new → slice_index new at ≡ slice_index x at) → slice_index new at ≡ slice_index mem at
     go (Err v) f e rest = absurd (err_ok v e)
     go (Ok x) f e rest = rest x e ∙ outside_byte s devices mem x a b at f (λ same. out (omega (arith, same)) (omega (arith, same)))
 
@@ -97,17 +103,20 @@ unfolding write_bytes
 length-write_bytes s devices mem new a [] e = ap length (sym (ok_same mem new e))
 length-write_bytes s devices mem new a (b ∷ bs) e = go (write_byte s devices mem a b) refl e (λ x f. length-write_bytes s devices x new (a + 1) bs f)
   where
-    go : (r : Result (List ℕ) Violation) → write_byte s devices mem a b ≡ r → then_ r (λ x. write_bytes s devices x (a + 1) bs) ≡ Ok new → ((x : List ℕ) → write_bytes s devices x (a + 1) bs ≡ Ok new → length new ≡ length x) → length new ≡ length mem
+    go : (r : Result (List ℕ) Violation) → write_byte s devices mem a b ≡ r → then_ r (λ x. write_bytes s devices x (a + 1) bs) ≡ Ok new
+        → ((x : List ℕ) → write_bytes s devices x (a + 1) bs ≡ Ok new → length new ≡ length x) → length new ≡ length mem
     go (Err v) f e rest = absurd (err_ok v new e)
     go (Ok x) f e rest = rest x e ∙ ap length (byte_written s devices mem x a b f) ∙ length-set mem a b
 
-get-write_bytes : (s : Setup) (devices : List Window) (mem new : List ℕ) (a : ℕ) (bs : List ℕ) (i : ℕ) → write_bytes s devices mem a bs ≡ Ok new → a + length bs ≤ length mem → i < length bs → get_or new (a + i) 0 ≡ get_or bs i 0
+get-write_bytes : (s : Setup) (devices : List Window) (mem new : List ℕ) (a : ℕ) (bs : List ℕ) (i : ℕ) → write_bytes s devices mem a bs ≡ Ok new → a + length bs ≤ length mem → i < length bs
+    → get_or new (a + i) 0 ≡ get_or bs i 0
 unfolding write_bytes
 get-write_bytes s devices mem new a [] i e le lt = absurd (omega (arith, lt))
 get-write_bytes s devices mem new a (b ∷ bs) i e le lt = go (write_byte s devices mem a b) refl e (λ x j f l k. get-write_bytes s devices x new (a + 1) bs j f l k) i lt
   where
     go : (r : Result (List ℕ) Violation) → write_byte s devices mem a b ≡ r → then_ r (λ x. write_bytes s devices x (a + 1) bs) ≡ Ok new
-        → ((x : List ℕ) (j : ℕ) → write_bytes s devices x (a + 1) bs ≡ Ok new → a + 1 + length bs ≤ length x → j < length bs → get_or new (a + 1 + j) 0 ≡ get_or bs j 0) → (i : ℕ) → i < length (b ∷ bs) → get_or new (a + i) 0 ≡ get_or (b ∷ bs) i 0
+        → ((x : List ℕ) (j : ℕ) → write_bytes s devices x (a + 1) bs ≡ Ok new → a + 1 + length bs ≤ length x → j < length bs → get_or new (a + 1 + j) 0 ≡ get_or bs j 0) → (i : ℕ)
+        → i < length (b ∷ bs) → get_or new (a + i) 0 ≡ get_or (b ∷ bs) i 0
     go (Err v) f e rest i lt = absurd (err_ok v new e)
     go (Ok x) f e rest zero lt =
         let same = byte_written s devices mem x a b f in
@@ -119,18 +128,15 @@ get-write_bytes s devices mem new a (b ∷ bs) i e le lt = go (write_byte s devi
         let len = ap length same ∙ length-set mem a b in
         ap (λ (k : ℕ). get_or new k 0) (omega arith) ∙ rest x j e (omega (arith, le, len)) (omega (arith, lt))
 
-pub bytes_written : (s : Setup) (devices : List Window) (mem new : List ℕ) (a : ℕ) (bs : List ℕ) → write_bytes s devices mem a bs ≡ Ok new → a + length bs ≤ length mem → bytes_from new a (length bs) ≡ bs
+pub bytes_written : (s : Setup) (devices : List Window) (mem new : List ℕ) (a : ℕ) (bs : List ℕ) → write_bytes s devices mem a bs ≡ Ok new → a + length bs ≤ length mem
+    → bytes_from new a (length bs) ≡ bs
 bytes_written s devices mem new a bs e le =
     let len = length-bytes_from new a (length bs) in
     ext_get_or 0 (bytes_from new a (length bs)) bs len (λ i lt. bytes_from_get new a (length bs) i (omega (arith, lt, len)) ∙ get-write_bytes s devices mem new a bs i e le (omega (arith, lt, len)))
 
 -- Pieces.
 
-bytes_in-more : (ps : List (List ℕ)) (p : List ℕ) → bytes_in (ps ++ p ∷ []) ≡ bytes_in ps + length p
-bytes_in-more [] p = omega arith
-bytes_in-more (x ∷ ps) p = let e = bytes_in-more ps p in omega (arith, e)
-
-stand_same : (m n : List ℕ) (a : ℕ) (ps : List (List ℕ)) → ((k : ℕ) → a ≤ k → k < a + bytes_in ps → get_or n k 0 ≡ get_or m k 0) → Stand m a ps → Stand n a ps
+pub stand_same : (m n : List ℕ) (a : ℕ) (ps : List (List ℕ)) → ((k : ℕ) → a ≤ k → k < a + bytes_in ps → get_or n k 0 ≡ get_or m k 0) → Stand m a ps → Stand n a ps
 stand_same m n a [] f h = tt
 stand_same m n a (p ∷ ps) f h = (
   bytes_from_same m n a a (length p) (λ i lt. f (a + i) (omega arith) (omega (arith, lt))) ∙ h.0,
@@ -151,15 +157,18 @@ module _ (s : Setup) (call : Call) (tag : IsTag s.mac) (before : List ℕ) (room
 
   address_false : (ps : List (List ℕ)) (at : ℕ) → is_piece_address s call.output ps at ≡ false → call.output ≤ at → at < call.output + bytes_in ps → may s.live s.section.id Write at ≡ false
   address_false ps at e lo hi =
-      sym (ap (λ (b : Bool). b && (nat_lt at (call.output + bytes_in ps) && may s.live s.section.id Write at)) (le-leb call.output at lo) ∙ ap (λ (b : Bool). b && may s.live s.section.id Write at) (lt-ltb at (call.output + bytes_in ps) hi)) ∙ e
+      sym (ap (λ (b : Bool). b && (nat_lt at (call.output + bytes_in ps) && may s.live s.section.id Write at)) (le-leb call.output at lo)
+      ∙ ap (λ (b : Bool). b && may s.live s.section.id Write at) (lt-ltb at (call.output + bytes_in ps) hi)) ∙ e
 
   fewer_false : (ps : List (List ℕ)) (piece : List ℕ) (at : ℕ) → is_piece_address s call.output (ps ++ piece ∷ []) at ≡ false → is_piece_address s call.output ps at ≡ false
   fewer_false ps piece at e =
       ⊎_elim (λ (lo : at < call.output). ap (λ (b : Bool). b && (nat_lt at (call.output + bytes_in ps) && may s.live s.section.id Write at)) (Rattle.std.proofs.lemmas.Bool.lt-leb call.output at lo))
       (λ (lo : call.output ≤ at). ⊎_elim
-      (λ (hi : at < call.output + bytes_in ps). let more = bytes_in-more ps piece in
-      ap (λ (b : Bool). nat_le call.output at && (nat_lt at (call.output + bytes_in ps) && b)) (address_false (ps ++ piece ∷ []) at e lo (omega (arith, hi, more))) ∙ false_twice (nat_le call.output at) (nat_lt at (call.output + bytes_in ps)))
-      (λ (hi : call.output + bytes_in ps ≤ at). ap (λ (b : Bool). nat_le call.output at && (b && may s.live s.section.id Write at)) (le-ltb at (call.output + bytes_in ps) hi) ∙ false_once (nat_le call.output at))
+      (λ (hi : at < call.output + bytes_in ps). let more = bytes_more ps piece in
+      ap (λ (b : Bool). nat_le call.output at && (nat_lt at (call.output + bytes_in ps) && b)) (address_false (ps ++ piece ∷ []) at e lo (omega (arith, hi, more)))
+      ∙ false_twice (nat_le call.output at) (nat_lt at (call.output + bytes_in ps)))
+      (λ (hi : call.output + bytes_in ps ≤ at). ap (λ (b : Bool). nat_le call.output at && (b && may s.live s.section.id Write at)) (le-ltb at (call.output + bytes_in ps) hi)
+      ∙ false_once (nat_le call.output at))
       (cases_lt at (call.output + bytes_in ps)))
       (cases_lt at call.output)
     where
@@ -174,7 +183,7 @@ module _ (s : Setup) (call : Call) (tag : IsTag s.mac) (before : List ℕ) (room
 
   -- a piece more
   piece_more : (piece : List ℕ) (p q : Progress) → with_piece s call piece p ≡ Going q → Whole p → length piece ≡ 24 → length q.pieces ≤ 16 → Whole q
-  piece_more piece p q e w len few = go (write_bytes s p.devices p.mem (call.output + 24 * length p.pieces) piece) refl e
+  piece_more piece p q e w len few = go (write_bytes s p.devices p.mem (call.output + event_size * length p.pieces) piece) refl e
     where
       course_same : (x y : Progress) → Going x ≡ Going y → x ≡ y
       course_same x y h = cc
@@ -182,24 +191,29 @@ module _ (s : Setup) (call : Call) (tag : IsTag s.mac) (before : List ℕ) (room
       broken_going : (v : Violation) (x y : Progress) → Broken v x ≡ Going y → ⊥
       broken_going v x y h = cc
 
-      go : (r : Result (List ℕ) Violation) → write_bytes s p.devices p.mem (call.output + 24 * length p.pieces) piece ≡ r → copied_to r (record p { pieces = p.pieces ++ piece ∷ [] }) ≡ Going q → Whole q
+      go : (r : Result (List ℕ) Violation) → write_bytes s p.devices p.mem (call.output + event_size * length p.pieces) piece ≡ r
+          → copied_to r (record p { pieces = p.pieces ++ piece ∷ [] }) ≡ Going q → Whole q
       go (Err v) f h = absurd (broken_going v (record p { pieces = p.pieces ++ piece ∷ [] }) q h)
       go (Ok mem) f h =
           let new = record p { pieces = p.pieces ++ piece ∷ []; mem = mem } in
           let same = course_same new q h in
           let count = ap (λ (x : Progress). length x.pieces) same in
           let more = length-append p.pieces (piece ∷ []) in
-          let bytes = bytes_in-more p.pieces piece in
-          let size = length-write_bytes s p.devices p.mem mem (call.output + 24 * length p.pieces) piece f in
+          let bytes = bytes_more p.pieces piece in
+          let size = length-write_bytes s p.devices p.mem mem (call.output + event_size * length p.pieces) piece f in
           let full = w.full in
           let old = w.size in
-          let at_end : call.output + bytes_in p.pieces ≡ call.output + 24 * length p.pieces = omega (arith, full) in
+          let at_end : call.output + bytes_in p.pieces ≡ call.output + event_size * length p.pieces = omega (arith, full) in
           subst Whole same (record {
             full = omega (arith, bytes, full, more, len);
             size = size ∙ old;
-            outside = λ at out. outside_bytes s p.devices p.mem mem (call.output + 24 * length p.pieces) piece at f (λ lo hi. address_false (p.pieces ++ piece ∷ []) at out (omega (arith, lo)) (omega (arith, hi, bytes, full))) ∙ w.outside at (fewer_false p.pieces piece at out);
-            pieces = stand_more mem call.output p.pieces piece (stand_same p.mem mem call.output p.pieces (λ k lo hi. outside_bytes s p.devices p.mem mem (call.output + 24 * length p.pieces) piece k f (λ lo2 hi2. absurd (omega (arith, hi, lo2, full)))) w.pieces)
-                (ap (λ (k : ℕ). bytes_from mem k (length piece)) at_end ∙ bytes_written s p.devices p.mem mem (call.output + 24 * length p.pieces) piece f (omega (arith, old, room, count, more, few, len)));
+            outside = λ at out. outside_bytes s p.devices p.mem mem (call.output + event_size * length p.pieces) piece at f
+                (λ lo hi. address_false (p.pieces ++ piece ∷ []) at out (omega (arith, lo)) (omega (arith, hi, bytes, full))) ∙ w.outside at (fewer_false p.pieces piece at out);
+            pieces = stand_more mem call.output p.pieces piece
+                (stand_same p.mem mem call.output p.pieces (λ k lo hi. outside_bytes s p.devices p.mem mem (call.output + event_size * length p.pieces) piece k f
+                (λ lo2 hi2. absurd (omega (arith, hi, lo2, full)))) w.pieces)
+                (ap (λ (k : ℕ). bytes_from mem k (length piece)) at_end
+                ∙ bytes_written s p.devices p.mem mem (call.output + event_size * length p.pieces) piece f (omega (arith, old, room, count, more, few, len)));
           })
 
   -- a part of the course adds pieces, and keeps what is said of them
@@ -241,7 +255,7 @@ module _ (s : Setup) (call : Call) (tag : IsTag s.mac) (before : List ℕ) (room
 
   piece_adds : (piece : List ℕ) (p : Progress) → length piece ≡ 24 → Adds (with_piece s call piece) p
   unfolding Adds
-  piece_adds piece p len q h = (more (write_bytes s p.devices p.mem (call.output + 24 * length p.pieces) piece) h, λ w few. piece_more piece p q h w len few)
+  piece_adds piece p len q h = (more (write_bytes s p.devices p.mem (call.output + event_size * length p.pieces) piece) h, λ w few. piece_more piece p q h w len few)
     where
       more : (r : Result (List ℕ) Violation) → copied_to r (record p { pieces = p.pieces ++ piece ∷ [] }) ≡ Going q → length p.pieces ≤ length q.pieces
       more (Err v) h = absurd (broken_going v (record p { pieces = p.pieces ++ piece ∷ [] }) q h)
@@ -262,12 +276,13 @@ module _ (s : Setup) (call : Call) (tag : IsTag s.mac) (before : List ℕ) (room
 
   packet_adds : (v k : ℕ) (p : Progress) → Adds (with_packet s call v k) p
   unfolding Adds with_packet
-  packet_adds v k p q h = go (end_of p.state.ends k).is_open (nat_lt (end_of p.state.ends k).number 65535) q h
+  packet_adds v k p q h = go (end_of p.state.ends k).is_open (nat_lt (end_of p.state.ends k).number last_number) q h
     where
       e : EndState
       e = end_of p.state.ends k
 
-      go : (a b : Bool) (q : Progress) → (if a && b then with_piece s call (event_packet s (end_of p.state.ends k) v) (wrap_counted k (end_of p.state.ends k) v p) else Going p) ≡ Going q → (length p.pieces ≤ length q.pieces) × (Whole p → length q.pieces ≤ 16 → Whole q)
+      go : (a b : Bool) (q : Progress) → (if a && b then with_piece s call (event_packet s (end_of p.state.ends k) v) (wrap_counted k (end_of p.state.ends k) v p) else Going p) ≡ Going q
+          → (length p.pieces ≤ length q.pieces) × (Whole p → length q.pieces ≤ 16 → Whole q)
       go true true q h =
           let x = piece_adds (event_packet s (end_of p.state.ends k) v) (wrap_counted k (end_of p.state.ends k) v p) (packet_length s (end_of p.state.ends k) v tag) q h in
           (x.0, λ w few. x.1 (record { full = w.full; size = w.size; outside = w.outside; pieces = w.pieces }) few)
@@ -279,7 +294,8 @@ module _ (s : Setup) (call : Call) (tag : IsTag s.mac) (before : List ℕ) (room
   packets_add output v k [] p q h = adds_none p p refl refl q h
   packets_add output v k (e ∷ es) p q h = go (is_sending output e.side e.port) h (packets_add output v (k + 1) es)
     where
-      go : (b : Bool) → (if b then and_on (with_packet s call v k p) (with_packets s call output v (k + 1) es) else with_packets s call output v (k + 1) es p) ≡ Going q → ((r : Progress) → Adds (with_packets s call output v (k + 1) es) r) → (length p.pieces ≤ length q.pieces) × (Whole p → length q.pieces ≤ 16 → Whole q)
+      go : (b : Bool) → (if b then and_on (with_packet s call v k p) (with_packets s call output v (k + 1) es) else with_packets s call output v (k + 1) es p) ≡ Going q
+          → ((r : Progress) → Adds (with_packets s call output v (k + 1) es) r) → (length p.pieces ≤ length q.pieces) × (Whole p → length q.pieces ≤ 16 → Whole q)
       go true h rest = adds_then (with_packet s call v k) (with_packets s call output v (k + 1) es) p (packet_adds v k p) rest q h
       go false h rest = rest p q h
 
@@ -315,20 +331,6 @@ module _ (s : Setup) (call : Call) (tag : IsTag s.mac) (before : List ℕ) (room
   violates_returns : (v : Violation) (x : Progress) (b : ℕ) (y : Progress) → Violates v x ≡ Returns b y → ⊥
   violates_returns v x b y h = cc
 
-  refused : (a : ℕ) (p r : Progress) → p.pieces ≡ [] → p.mem ≡ before → r.pieces ≡ p.pieces → r.mem ≡ p.mem → Ended p (Returns a r)
-  unfolding Ended
-  refused a p r none same e f status q h few =
-      subst (Written s call before) (returns_same a status r q h)
-      (record {
-        outside = λ at out not. ap (λ (l : List ℕ). slice_index l at) (f ∙ same);
-        pieces = subst (λ (l : List (List ℕ)). Stand r.mem call.output l) (sym (e ∙ none)) tt;
-        fits = subst (λ (l : List (List ℕ)). bytes_in l ≤ 384) (sym (e ∙ none)) (omega arith);
-      })
-
-  violated : (v : Violation) (p r : Progress) → Ended p (Violates v r)
-  unfolding Ended
-  violated v p r status q h few = absurd (violates_returns v r status q h)
-
   first_whole : (p : Progress) → p.pieces ≡ [] → p.mem ≡ before → Whole p
   first_whole p none same = record {
     full = ap (λ (l : List (List ℕ)). bytes_in l) none ∙ sym (ap (λ (l : List (List ℕ)). 24 * length l) none);
@@ -350,103 +352,63 @@ module _ (s : Setup) (call : Call) (tag : IsTag s.mac) (before : List ℕ) (room
           let full = w.full in
           subst (Written s call before) eq (record { outside = λ at out not. w.outside at not; pieces = w.pieces; fits = omega (arith, full, short) })
 
-  if_ended : (p : Progress) (b : Bool) (x y : Invoked) → Ended p x → Ended p y → Ended p (if b then x else y)
-  if_ended p true x y a b = a
-  if_ended p false x y a b = b
-
-  received_ended : (p : Progress) (r : Result (List ℕ) Violation) (kind : ℕ) (rest : List ℕ → Invoked) → p.pieces ≡ [] → p.mem ≡ before → ((packet : List ℕ) → Ended p (rest packet)) → Ended p (received r kind rest p)
-  received_ended p (Err v) kind rest none same f = violated v p p
-  received_ended p (Ok packet) kind rest none same f = if_ended p (is_kind kind packet) (rest packet) (Returns 4 p) (f packet) (refused 4 p p none same refl refl)
-
-  set_key_ended : (p : Progress) (packet : List ℕ) → p.pieces ≡ [] → p.mem ≡ before → Ended p (set_key s packet p)
-  set_key_ended p packet none same = by_end (end_on (link_of (field_in packet)) s.ends (side_of (second_in packet)))
-    where
-      by_tag : (k : ℕ) (u : Option (List ℕ)) → Ended p (key_opened k packet u p)
-      by_tag k None = refused 7 p p none same refl refl
-      by_tag k (Some body) = refused 1 p (end_keyed k packet (take 16 body) p) none same refl refl
-
-      by_end : (e : Option (ℕ × End)) → Ended p (set_key_at s packet e p)
-      by_end None = refused 5 p p none same refl refl
-      by_end (Some e) = if_ended p (is_keyed (end_of p.state.ends e.0) (field_in packet)) (Returns 5 p) (key_opened e.0 packet (unwrapped s.mac s.section.key (header_in packet) (take 16 (drop 6 packet)) (drop 22 packet)) p) (refused 5 p p none same refl refl) (by_tag e.0 (unwrapped s.mac s.section.key (header_in packet) (take 16 (drop 6 packet)) (drop 22 packet)))
+  handles_ended : (e : SourceEvent) (p r : Progress) → p.pieces ≡ [] → p.mem ≡ before → r.pieces ≡ p.pieces → r.mem ≡ p.mem → Ended p (finished (handled s call e r))
+  handles_ended e p r none same ep em = finishes (λ x. handled s call e r) p none same (adds_from (handled s call e) p r ep em (handler_adds e r))
 
   attest_ended : (p : Progress) (ask : List ℕ) → p.pieces ≡ [] → p.mem ≡ before → Ended p (attest s call ask p)
   unfolding Ended
-  attest_ended p ask none same status q h few = go (write_bytes s p.devices p.mem (call.output + 24 * length p.pieces) piece) refl h
+  attest_ended p ask none same status q h few = go (write_bytes s p.devices p.mem (call.output + event_size * length p.pieces) piece) refl h
     where
       piece : List ℕ
       piece = (wrapped s.mac s.section.key ask []).tag
 
-      go : (r : Result (List ℕ) Violation) → write_bytes s p.devices p.mem (call.output + 24 * length p.pieces) (wrapped s.mac s.section.key ask []).tag ≡ r → finished (copied_to r (record p { marks = p.marks ++ mark.Wrapped ask [] true ∷ []; pieces = p.pieces ++ (wrapped s.mac s.section.key ask []).tag ∷ [] })) ≡ Returns status q → Written s call before q
+      go : (r : Result (List ℕ) Violation) → write_bytes s p.devices p.mem (call.output + event_size * length p.pieces) (wrapped s.mac s.section.key ask []).tag ≡ r
+          → finished (copied_to r (record p { marks = p.marks ++ mark.Wrapped ask [] true ∷ []; pieces = p.pieces ++ (wrapped s.mac s.section.key ask []).tag ∷ [] })) ≡ Returns status q
+          → Written s call before q
       go (Err v) f h = absurd (violates_returns v (record p { marks = p.marks ++ mark.Wrapped ask [] true ∷ []; pieces = p.pieces ++ (wrapped s.mac s.section.key ask []).tag ∷ [] }) status q h)
       go (Ok mem) f h =
           let tg = (wrapped s.mac s.section.key ask []).tag in
           let new = record p { marks = p.marks ++ mark.Wrapped ask [] true ∷ []; pieces = p.pieces ++ tg ∷ []; mem = mem } in
           let len = tag_length s.mac s.section.key ask (crypt s.mac s.section.key ask []) tag in
           let pieces : p.pieces ++ tg ∷ [] ≡ tg ∷ [] = ap (λ (l : List (List ℕ)). l ++ tg ∷ []) none in
-          let place : call.output + 24 * length p.pieces ≡ call.output = ap (λ (l : List (List ℕ)). call.output + 24 * length l) none ∙ omega arith in
+          let place : call.output + event_size * length p.pieces ≡ call.output = ap (λ (l : List (List ℕ)). call.output + event_size * length l) none ∙ omega arith in
           let f2 : write_bytes s p.devices p.mem call.output tg ≡ Ok mem = ap (λ (k : ℕ). write_bytes s p.devices p.mem k tg) (sym place) ∙ f in
           let size = ap length same in
           subst (Written s call before) (returns_same 1 status new q h)
           (record {
-            outside = λ at out not. outside_bytes s p.devices p.mem mem call.output tg at f2 (λ lo hi. address_false (tg ∷ []) at (ap (λ (l : List (List ℕ)). is_piece_address s call.output l at) (sym pieces) ∙ not) lo (omega (arith, hi, len))) ∙ ap (λ (l : List ℕ). slice_index l at) same;
+            outside = λ at out not. outside_bytes s p.devices p.mem mem call.output tg at f2
+                (λ lo hi. address_false (tg ∷ []) at (ap (λ (l : List (List ℕ)). is_piece_address s call.output l at) (sym pieces) ∙ not) lo (omega (arith, hi, len)))
+                ∙ ap (λ (l : List ℕ). slice_index l at) same;
             pieces = subst (λ (l : List (List ℕ)). Stand mem call.output l) (sym pieces) (bytes_written s p.devices p.mem mem call.output tg f2 (omega (arith, len, size, room)), tt);
             fits = subst (λ (l : List (List ℕ)). bytes_in l ≤ 384) (sym pieces) (omega (arith, len));
           })
 
-  input_ended : (p : Progress) (packet : List ℕ) → p.pieces ≡ [] → p.mem ≡ before → Ended p (input s call packet p)
-  input_ended p packet none same = by_end (end_found (link_of (field_in packet)) To 0 s.ends)
-    where
-      by_tag : (e : ℕ × End) (u : Option (List ℕ)) → Ended p (event_opened s call e packet u p)
-      by_tag e None = refused 7 p p none same refl refl
-      by_tag e (Some body) =
-          let r = number_taken e.0 packet (take 2 body) (end_of p.state.ends e.0) p in
-          finishes (λ x. handled s call (event.Input e.1.port (word body 0)) r) p none same (adds_from (handled s call (event.Input e.1.port (word body 0))) p r refl refl (handler_adds (event.Input e.1.port (word body 0)) r))
-
-      by_end : (e : Option (ℕ × End)) → Ended p (input_at s call packet e p)
-      by_end None = refused 5 p p none same refl refl
-      by_end (Some e) =
-          let st = end_of p.state.ends e.0 in
-          let u = unwrapped s.mac st.key (header_in packet) (take 2 (drop 6 packet)) (drop 8 packet) in
-          if_ended p (not st.is_open || not (epoch_of st.field == epoch_of (field_in packet))) (Returns 5 p) (event_numbered s call e packet st p) (refused 5 p p none same refl refl)
-          (if_ended p (nat_lt (second_in packet) st.number || (second_in packet == 65535)) (Returns 6 p) (event_opened s call e packet u p) (refused 6 p p none same refl refl) (by_tag e u))
-
-  sample_ended : (p : Progress) → p.pieces ≡ [] → p.mem ≡ before → Ended p (sample s call p)
-  sample_ended p none same = by_device (own_window s p.devices)
-    where
-      by_device : (d : Option (ℕ × Window)) → Ended p (sample_of s call d p)
-      by_device None = refused 8 p p none same refl refl
-      by_device (Some d) =
-          if_ended p d.1.fresh (finished (handled s call (event.Sample d.1.value) (sample_read d p))) (Returns 8 p)
-          (finishes (λ x. handled s call (event.Sample d.1.value) (sample_read d p)) p none same (adds_from (handled s call (event.Sample d.1.value)) p (sample_read d p) refl refl (handler_adds (event.Sample d.1.value) (sample_read d p))))
-          (refused 8 p p none same refl refl)
-
-  entered_ended : (p : Progress) → p.pieces ≡ [] → p.mem ≡ before → Ended p (entered s call p)
-  unfolding entered
-  entered_ended p none same =
-      let r3 = sample s call p in
-      let i2 = with_received s call 24 3 p (λ packet. input s call packet p) in
-      let i1 = with_received s call 18 2 p (λ packet. attest s call packet p) in
-      let i0 = with_received s call 38 1 p (λ packet. set_key s packet p) in
-      if_ended p (call.entry == 0) i0 (if call.entry == 1 then i1 else if call.entry == 2 then i2 else r3)
-      (received_ended p (read_bytes s p.devices p.mem call.input 38) 1 (λ packet. set_key s packet p) none same (λ packet. set_key_ended p packet none same))
-      (if_ended p (call.entry == 1) i1 (if call.entry == 2 then i2 else r3)
-      (received_ended p (read_bytes s p.devices p.mem call.input 18) 2 (λ packet. attest s call packet p) none same (λ packet. attest_ended p packet none same))
-      (if_ended p (call.entry == 2) i2 r3
-      (received_ended p (read_bytes s p.devices p.mem call.input 24) 3 (λ packet. input s call packet p) none same (λ packet. input_ended p packet none same))
-      (sample_ended p none same)))
-
--- with nothing done, nothing is written
-nothing_written : (s : Setup) (call : Call) (p : Progress) → p.pieces ≡ [] → Written s call p.mem p
-nothing_written s call p none = record { outside = λ at out not. refl; pieces = subst (λ (l : List (List ℕ)). Stand p.mem call.output l) (sym none) tt; fits = subst (λ (l : List (List ℕ)). bytes_in l ≤ 384) (sym none) (omega arith) }
+-- where neither memory nor pieces changed, nothing is written
+nothing_written : (s : Setup) (call : Call) (p r : Progress) → p.pieces ≡ [] → r.pieces ≡ p.pieces → r.mem ≡ p.mem → Written s call p.mem r
+nothing_written s call p r none e f = record {
+  outside = λ at out not. ap (λ (l : List ℕ). slice_index l at) f;
+  pieces = subst (λ (l : List (List ℕ)). Stand r.mem call.output l) (sym (e ∙ none)) tt;
+  fits = subst (λ (l : List (List ℕ)). bytes_in l ≤ 384) (sym (e ∙ none)) (omega arith);
+}
 
 window_room : (s : Setup) (a : ℕ) → is_bad_window s a 384 ≡ false → a + 384 ≤ 65536
-window_room s a h = ⊎_elim (λ (p : 65536 < a + 384). absurd (true≢false (sym (ap (λ (b : Bool). b || meets a 384 s.section.layout.priv_from s.section.layout.priv_to) (lt-ltb 65536 (a + 384) p)) ∙ h))) (λ (p : a + 384 ≤ 65536). p) (cases_lt 65536 (a + 384))
+window_room s a h = ⊎_elim (λ (p : 65536 < a + 384). absurd (true≢false (sym (ap (λ (b : Bool). b || meets a 384 s.section.layout.priv_from s.section.layout.priv_to) (lt-ltb 65536 (a + 384) p))
+    ∙ h))) (λ (p : a + 384 ≤ 65536). p) (cases_lt 65536 (a + 384))
 
 pub returns_written : (s : Setup) (call : Call) (p q : Progress) (status : ℕ) → IsTag s.mac → p.pieces ≡ [] → length p.mem ≡ 65536
     → invoke s call p ≡ Returns status q → length q.pieces ≤ 16 → Written s call p.mem q
-unfolding invoke Ended
+unfolding Ended
 returns_written s call p q status tag none size h few =
-    inside (returns_inside s call) (is_no_entry s call) (is_bad_window s call.input 40) (is_bad_window s call.output 384) refl h
+    by_entry s call p (λ r. r ≡ Returns status q → Written s call p.mem q)
+    (record {
+      refused = λ a. nothing a p refl refl;
+      violated = λ v e. absurd (never v p status q e);
+      keyed = λ good k packet body. nothing all_done (end_keyed k packet (take key_size body) p) refl refl;
+      attested = λ good ask e. attest_ended s call tag p.mem (room good) p ask none refl status q e few;
+      taken = λ good o packet body. handles good (event.Input o.1.port (word body 0)) (number_taken o.0 packet (take value_size body) (end_of p.state.ends o.0) p) refl refl;
+      sampled = λ good d. handles good (event.Sample d.1.value) (sample_read d p) refl refl;
+    })
+    h
   where
     same_of : (a b : ℕ) (x y : Progress) → Returns a x ≡ Returns b y → x ≡ y
     same_of a b x y h = cc
@@ -454,18 +416,18 @@ returns_written s call p q status tag none size h few =
     never : (v : Violation) (x : Progress) (b : ℕ) (y : Progress) → Violates v x ≡ Returns b y → ⊥
     never v x b y h = cc
 
-    refused_at : (a : ℕ) → Returns a p ≡ Returns status q → Written s call p.mem q
-    refused_at a h = subst (Written s call p.mem) (same_of a status p q h) (nothing_written s call p none)
+    nothing : (a : ℕ) (r : Progress) → r.pieces ≡ p.pieces → r.mem ≡ p.mem → Returns a r ≡ Returns status q → Written s call p.mem q
+    nothing a r e f g = subst (Written s call p.mem) (same_of a status r q g) (nothing_written s call p r none e f)
 
-    inside : (a b c d : Bool) → is_bad_window s call.output 384 ≡ d → (if a then Violates bad.Illegal p else if b then Returns 2 p else if c || d then Returns 3 p else entered s call p) ≡ Returns status q → Written s call p.mem q
-    inside true b c d w h = absurd (never bad.Illegal p status q h)
-    inside false true c d w h = refused_at 2 h
-    inside false false true d w h = refused_at 3 h
-    inside false false false true w h = refused_at 3 h
-    inside false false false false w h = entered_ended s call tag p.mem (let r = window_room s call.output w in omega (arith, r, size)) p none refl status q h few
+    room : has_bad_windows s call ≡ false → call.output + 384 ≤ length p.mem
+    room good = let r = window_room s call.output (or_parts (is_bad_window s call.input in_window_size) (is_bad_window s call.output out_window_size) good).1 in omega (arith, r, size)
+
+    handles : has_bad_windows s call ≡ false → (e : SourceEvent) (r : Progress) → r.pieces ≡ p.pieces → r.mem ≡ p.mem → finished (handled s call e r) ≡ Returns status q → Written s call p.mem q
+    handles good e r ep em g = handles_ended s call tag p.mem (room good) e p r none refl ep em status q g few
 
 -- a handler's course that goes on has written its pieces
-pub handled_written : (s : Setup) (call : Call) (e : SourceEvent) (p q : Progress) → IsTag s.mac → p.pieces ≡ [] → length p.mem ≡ 65536 → is_bad_window s call.output 384 ≡ false → handled s call e p ≡ Going q → length q.pieces ≤ 16 → Written s call p.mem q
+pub handled_written : (s : Setup) (call : Call) (e : SourceEvent) (p q : Progress) → IsTag s.mac → p.pieces ≡ [] → length p.mem ≡ 65536 → is_bad_window s call.output out_window_size ≡ false
+    → handled s call e p ≡ Going q → length q.pieces ≤ 16 → Written s call p.mem q
 unfolding Ended
 handled_written s call e p q tag none size window goes few =
     let r = window_room s call.output window in

@@ -65,5 +65,6 @@ cells_small (d ∷ ds) h = both_small (first_cells d) (initial_cells ds) (first_
 pub zeros_initial : ZerosInitial
 unfolding state_of
 zeros_initial tree ends n words =
-    ap (λ (x : List ℕ). Rattle.sx_stub.proofs.Slots.module_state x (end_states (replicate n 0) 0 ends)) (zero_cells n (cell_at (length ends) 0) (initial_cells tree.decls) (cells_small tree.decls words.decls))
+    ap (λ (x : List ℕ). Rattle.sx_stub.proofs.Slots.module_state x (end_states (replicate n 0) 0 ends))
+    (zero_cells n (cell_at (length ends) 0) (initial_cells tree.decls) (cells_small tree.decls words.decls))
     ∙ ap (λ (x : List EndState). Rattle.sx_stub.proofs.Slots.module_state (initial_cells tree.decls) x) (zero_ends n 0 ends)

@@ -1,5 +1,5 @@
 use Rattle.std.proofs.Common.{arith}
-use Rattle.sx_tmpl.proofs.TextPlaces.{bytes_within}
+use Rattle.sx_tmpl.proofs.Texts.TextPlaces.{bytes_within}
 use Rattle.sx_compile.proofs.bodies.place_offset.Goals as goal
 
 pub overflow_cast-result : goal.overflow_cast-result
