@@ -33,17 +33,27 @@ fn logic_stub(alloc: Global) -> Result<Code, Fail> {
     stub_of(alloc, &m, [end(0, Side::To), end(1, Side::From)].as_slice())
 }
 
+/// These operations stand at these places.
+fn has_operations(rt: &impl Abort, code: &Code, rows: &[(usize, Ir)]) -> Result<(), Fail> {
+    for row in rows {
+        assert!(rt; code.ops.get(row.0) == Some(&row.1));
+    }
+    Ok(())
+}
+
 fn takes_an_input(rt: &impl Abort, code: &Code) -> Result<(), Fail> {
     // 39 before the entries, 16 + 24 + 14 + 15 in them, 2 * 7 + 3 for the search, 3 after it, 41 +
     // 21 for the packet, 29 + 2 * 9 for the key, and 3
     assert_eq!(rt; code.ops.len(), 240);
-    assert_eq!(rt; code.ops[108], Ir::Load(72));
-    assert_eq!(rt; code.ops[109], Ir::Push(256));
-    assert_eq!(rt; code.ops[116], Ir::Push(1));
-    assert_eq!(rt; code.ops[174], Ir::Open(520, 16, 6, 56, 2));
-    assert_eq!(rt; code.ops[186], Ir::Handler(0));
     assert!(rt; code.parts.is_empty());
-    Ok(())
+    let rows = [
+        (108, Ir::Load(72)),
+        (109, Ir::Push(256)),
+        (116, Ir::Push(1)),
+        (174, Ir::Open(520, 16, 6, 56, 2)),
+        (186, Ir::Handler(0)),
+    ];
+    has_operations(rt, code, rows.as_slice())
 }
 
 #[test]
@@ -61,10 +71,8 @@ fn reads_a_sample(rt: &impl Abort, code: &Code) -> Result<(), Fail> {
     // as above, with 17 operations of a sample, 7 + 3 for the search, 41 for the packet and 29 + 9
     // for the key
     assert_eq!(rt; code.ops.len(), 204);
-    assert_eq!(rt; code.ops[11], Ir::Push(0));
-    assert_eq!(rt; code.ops[39], Ir::Sense);
-    assert_eq!(rt; code.ops[52], Ir::Handler(0));
-    Ok(())
+    let rows = [(11, Ir::Push(0)), (39, Ir::Sense), (52, Ir::Handler(0))];
+    has_operations(rt, code, rows.as_slice())
 }
 
 #[test]
