@@ -63,3 +63,4 @@ pub mod Readying
 pub mod Continuing
 pub mod Sited
 pub mod SwitchedOn
+mod NodeAt

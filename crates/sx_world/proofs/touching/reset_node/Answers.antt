@@ -1,0 +1,10 @@
+use Rattle.std.proofs.Common.{get_or}
+use Rattle.sx_machine.specs.State.{State}
+use Rattle.sx_machine.specs.State as state
+use Rattle.sx_world.proofs.NodeAt.{slot_is, set_as}
+use Rattle.sx_world.proofs.touching.reset_node.Goals as goal
+
+pub returns : goal.returns
+returns g c = λ s e.
+    set_as c.args.nodes.now c.args.n c.from.result (get_or c.args.nodes.now c.from.result c.index-nodes-from.result) s c.reset.new.self (λ (x : State). state.reset x) c.from.ensures
+    (slot_is c.args.nodes.now c.args.n c.from.result s c.index-nodes-from.result e c.from.ensures) c.reset.ensures.state
