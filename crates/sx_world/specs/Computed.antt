@@ -13,7 +13,7 @@ use Rattle.sx_machine.specs.declared.kinds.Event.{Event}
 use Rattle.sx_machine.specs.declared.kinds.Event.TheVariants as event
 use Rattle.sx_machine.specs.declared.kinds.Seen.{Seen}
 use Rattle.sx_machine.specs.State.{State}
-use Rattle.sx_world.specs.Setting.{Site, module_of}
+use Rattle.sx_run.specs.Setting.{Site, module_of}
 
 -- a device shows it
 abbrev pub is_touch : Touch → Bool

@@ -4,10 +4,10 @@ use Rattle.sx_trace.specs.declared.items.Item.{Item}
 use Rattle.sx_sched.specs.Lines.{Line}
 use Rattle.sx_model.specs.Legal.{Legal, before}
 use Rattle.sx_model.specs.Consequences.{TellsReader}
-use Rattle.sx_world.specs.Setting.{Setting}
-use Rattle.sx_world.specs.State.{World, Acted, switched_on}
-use Rattle.sx_world.specs.Run.{after_line, line_counted, run}
-use Rattle.sx_world.specs.Law.{LinesInForm}
+use Rattle.sx_run.specs.Setting.{Setting}
+use Rattle.sx_run.specs.State.{World, Acted, switched_on}
+use Rattle.sx_run.specs.Run.{after_line, line_counted, run}
+use Rattle.sx_run.specs.Law.{LinesInForm}
 use Rattle.sx_world.specs.Held.{Held, IsFront}
 use Rattle.sx_world.specs.Standing.{Stands}
 

@@ -3,7 +3,6 @@ use Rattle.std.specs.Prelude.{◌≡◌, ◌↔◌, ℕ, ◌+◌, ◌≤◌, Boo
 use Rattle.std.specs.Prelude.{take, slice_get, Some, Result, Ok, Err}
 use Rattle.std.specs.List.{Contains}
 use Rattle.sx_rules.specs.Placed.{Placed}
-use Rattle.sx_tag.specs.Mac.{Mac}
 use Rattle.sx_tag.specs.Keys.{identity}
 use Rattle.sx_mean.specs.Ends.{ends_of}
 use Rattle.sx_trace.specs.declared.items.Item.{Item}
@@ -11,12 +10,12 @@ use Rattle.sx_ledger.specs.declared.entry.Entry.{Entry}
 use Rattle.sx_ledger.specs.Made.{entry_of}
 use Rattle.sx_machine.specs.State.{State}
 use Rattle.sx_deployer.specs.Keeping.{Keeping, Known}
-use Rattle.sx_deploy.specs.Deployment.{Deployed}
-use Rattle.sx_world.specs.Setting.{Site, Setting}
-use Rattle.sx_world.specs.Ledger.{Made, is_made}
-use Rattle.sx_world.specs.Deployer.{DeployerState, list_at}
-use Rattle.sx_world.specs.Observation.{Observed}
-use Rattle.sx_world.specs.State.{World, Acted}
+use Rattle.sx_run.specs.Setting.{Site, Setting}
+use Rattle.sx_run.specs.Ledger.{is_made}
+use Rattle.sx_ledger.specs.Made.{Made}
+use Rattle.sx_run.specs.Deployer.{DeployerState, list_at}
+use Rattle.sx_run.specs.Observation.{Observed}
+use Rattle.sx_run.specs.State.{World, Acted}
 
 -- what the program keeps of a run but its sites; the ledger is a set
 pub record Running : Type 0 where
@@ -47,18 +46,6 @@ Records entries ledger =
 -- the items are a prefix of those that are due
 abbrev pub IsFront : List Item → List Item → Type 0
 IsFront items due = (rest : List Item) × (items ++ rest ≡ due)
-
--- the setting of a run: a deployment's, with its modules at these sites
-abbrev pub setting : Mac → Deployed → List Site → Setting
-setting mac d sites = record {
-  mac = mac;
-  app = d.app;
-  sites = sites;
-  secret = d.secret;
-  keys =
-      d.keys;
-  places = d.places;
-}
 
 -- the items and the ledger are those that are due, whatever was made before
 abbrev pub Observes : List Entry → List Entry → List Item → List Item → (List Made → Observed)

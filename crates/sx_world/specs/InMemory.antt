@@ -4,9 +4,10 @@ use Rattle.sx_tag.specs.Mac.{Mac}
 use Rattle.sx_deploy.specs.SeenDeployment.{deployed_as}
 use Rattle.sx_deploy.specs.declared.deployment.Deployment.{Deployment}
 use Rattle.sx_image.specs.declared.image.Image.{Image}
-use Rattle.sx_world.specs.Setting.{Setting}
-use Rattle.sx_world.specs.Accepted.{setting_of}
-use Rattle.sx_world.specs.Held.{Held, setting}
+use Rattle.sx_run.specs.Setting.{Setting}
+use Rattle.sx_run.specs.Accepted.{setting_of}
+use Rattle.sx_world.specs.Held.{Held}
+use Rattle.sx_run.specs.Accepted.{setting}
 
 -- the texts of images
 abbrev pub texts_of : List Image → List (List ℕ)

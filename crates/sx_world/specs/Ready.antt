@@ -3,7 +3,7 @@ use Rattle.std.specs.Prelude.{◌≡◌, ℕ, ◌+◌, ◌<◌, ◌≤◌, List,
 use Rattle.sx_machine.specs.State.{State}
 use Rattle.sx_machine.specs.Node.{shapes}
 use Rattle.sx_deploy.specs.Deployment.{Deployed}
-use Rattle.sx_world.specs.Setting.{Site, windows_at}
+use Rattle.sx_run.specs.Setting.{Site, windows_at}
 use Rattle.sx_world.specs.Held.{Running}
 
 -- Nodes, modules and devices are those of the deployment, whose texts lie in memory, and no counter

@@ -2,10 +2,11 @@
 
 ghost use Rattle.std.specs.Prelude.{◌≡◌, ◌+◌, ◌*◌, ◌<◌, ◌≤◌, List, length, map, slice_get, OnOk};
 ghost use Rattle.sx_deploy.specs.SeenDeployment.{deployed_as};
-ghost use Rattle.sx_world.specs.Acts.{after_answer, ask};
+ghost use Rattle.sx_run.specs.Acts.{after_answer, ask};
 ghost use Rattle.sx_world.specs.Granted.{accepted_ask, confirmed, judged_by};
-ghost use Rattle.sx_world.specs.Held.{DoesAct, setting};
-ghost use Rattle.sx_world.specs.Setting.{Setting, Site};
+ghost use Rattle.sx_world.specs.Held.{DoesAct};
+ghost use Rattle.sx_run.specs.Accepted.{setting};
+ghost use Rattle.sx_run.specs.Setting.{Setting, Site};
 
 use crate::grants::granted;
 use crate::headers::challenge_in;

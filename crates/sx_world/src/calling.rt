@@ -3,11 +3,13 @@
 ghost use Rattle.std.specs.Prelude.{◌≡◌, ℕ, ◌+◌, ◌<◌, ◌≤◌, length, slice_get, Some};
 ghost use Rattle.sx_deploy.specs.SeenDeployment.{deployed_as};
 ghost use Rattle.sx_machine.specs.State.{State};
-ghost use Rattle.sx_world.specs.Acts.{then_};
-ghost use Rattle.sx_world.specs.Held.{DoesAct, setting};
-ghost use Rattle.sx_world.specs.Loading.{AreSettable, call_registers};
-ghost use Rattle.sx_world.specs.Run as run;
-ghost use Rattle.sx_world.specs.Setting.{Site as Placed};
+ghost use Rattle.sx_run.specs.Acts.{then_};
+ghost use Rattle.sx_world.specs.Held.{DoesAct};
+ghost use Rattle.sx_run.specs.Accepted.{setting};
+ghost use Rattle.sx_world.specs.Loading.{AreSettable};
+ghost use Rattle.sx_run.specs.Run.{call_registers};
+ghost use Rattle.sx_run.specs.Run as run;
+ghost use Rattle.sx_run.specs.Setting.{Site as Placed};
 
 use crate::recording::add;
 use crate::registers::Register;

@@ -3,11 +3,11 @@
 ghost use Rattle.std.specs.Prelude.{◌≡◌, ◌==◌, ◌<◌, ◌≤◌, length, slice_get, slice_index, Some};
 ghost use Rattle.std.specs.List.{position_from};
 ghost use Rattle.sx_mean.specs.declared.apps.AppDevice.{AppDevice as Device};
-ghost use Rattle.sx_world.specs.Run.{or_else};
+ghost use Rattle.sx_run.specs.Run.{or_else};
 ghost use Rattle.sx_mean.specs.View.{app_as};
 ghost use Rattle.sx_model.specs.Step.{drives};
-ghost use Rattle.sx_world.specs.Setting.{device_of, devices_at};
-ghost use Rattle.sx_world.specs.Observation.{is_driver};
+ghost use Rattle.sx_run.specs.Setting.{device_of, devices_at};
+ghost use Rattle.sx_run.specs.Observation.{is_driver};
 
 use sx_mean::apps::{App, AppDevice};
 

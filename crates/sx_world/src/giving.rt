@@ -4,9 +4,10 @@ ghost use Rattle.std.specs.Prelude.{◌≡◌, ◌+◌, ◌<◌, ◌≤◌, List
 ghost use Rattle.sx_deploy.specs.SeenDeployment.{deployed_as};
 ghost use Rattle.sx_deployer.specs.Granting as granting;
 ghost use Rattle.sx_wire.specs.Packets.{field};
-ghost use Rattle.sx_world.specs.Acts.{key_given, keys_given};
-ghost use Rattle.sx_world.specs.Held.{DoesAct, setting};
-ghost use Rattle.sx_world.specs.Setting.{Site};
+ghost use Rattle.sx_run.specs.Acts.{key_given, keys_given};
+ghost use Rattle.sx_world.specs.Held.{DoesAct};
+ghost use Rattle.sx_run.specs.Accepted.{setting};
+ghost use Rattle.sx_run.specs.Setting.{Site};
 
 use crate::grants::Grant;
 use crate::recording::record;

@@ -3,7 +3,7 @@
 ghost use Rattle.std.specs.Prelude.{◌≡◌, ◌+◌, ◌*◌, ◌<◌, ◌≤◌, ◌++◌, length, slice_index, IfOk, OnOk};
 ghost use Rattle.std.specs.Option.{option_to_list};
 ghost use Rattle.sx_mean.specs.Ends as ends;
-ghost use Rattle.sx_world.specs.Deployer.{grant, grants_of};
+ghost use Rattle.sx_run.specs.Deployer.{grant, grants_of};
 ghost use Rattle.sx_world.specs.Granted.{across_at, across_from, boot_in, grant_if_any, granted};
 ghost use Rattle.sx_world.specs.Granted.{own_at, own_from};
 
@@ -25,7 +25,7 @@ pub(crate) struct Grant {
 }
 
 impl Model for Grant {
-    ghost use Rattle.sx_world.specs.Deployer.{Grant as Given};
+    ghost use Rattle.sx_run.specs.Deployer.{Grant as Given};
 
     ghost Value = { Given };
 

@@ -1,9 +1,9 @@
 //! The fields of headers and bodies.
 
 ghost use Rattle.std.specs.Prelude.{◌≡◌, ◌+◌, ◌*◌, ◌≤◌, drop, length, slice_index};
-ghost use Rattle.sx_world.specs.Wire.{begins, challenge_in, epoch_in, is_ask, is_event_header};
-ghost use Rattle.sx_world.specs.Wire.{is_set_key_header, last_in, link_in, number_in, value_in};
-ghost use Rattle.sx_world.specs.Observation.{side_in};
+ghost use Rattle.sx_run.specs.Wire.{begins, challenge_in, epoch_in, is_ask, is_event_header};
+ghost use Rattle.sx_run.specs.Wire.{is_set_key_header, last_in, link_in, number_in, value_in};
+ghost use Rattle.sx_run.specs.Observation.{side_in};
 
 use byteorder::{ByteOrder, LittleEndian};
 use sx_lang::sides::Side;

@@ -1,18 +1,14 @@
-//! The run of a deployment: all nodes, the network, the deployer and the ledger.
+//! The run of a deployment, in code: all nodes, the network, the deployer and the ledger.
 //!
-//! A run is a fold from the lines of a schedule to items and a world (`specs/Run.antt`), over a
-//! setting: the application, where its modules, keys and devices are, and the texts of its images.
-//! Up to the first item that is forged it is a legal run of the source's handlers
-//! (`laws::runs_legal`), for every tag function, every image that realizes its module and every
-//! schedule.
-//!
-//! `specs/Setting.antt` has what a run is given, `State.antt` a world, `Acts.antt` the acts that
-//! lines are made of, `Observation.antt` the items of a step, `Ledger.antt` and `Wire.antt` who
-//! made which header, `Deployer.antt` the deployer, and `Law.antt` the theorem with its premises.
-//!
-//! The code does what the definitions say. `running` keeps the nodes, the packets, the deployer and
+//! What a run is, and that it is legal, are definitions and laws of `sx_run`; the code does what
+//! they say. `world` has the public calls. `running` keeps the nodes, the packets, the deployer and
 //! the ledger, and its calls are acts: each says what it leaves and which items it adds, of every
 //! world of a run that it shows (`specs/Held.antt`).
+//!
+//! A line goes from `World::act` to `lines`, which hands each kind to its file: `stepping` for
+//! instructions and interrupts, `touching` for what is done from outside, `packets`, `sensors`,
+//! `loading`, `calling` and `attesting`. What a step shows is `observation`, with `recording` for
+//! what modules wrap and unwrap.
 #![tactic(auto)]
 
 mod attesting;
@@ -21,7 +17,6 @@ mod devices;
 mod giving;
 mod grants;
 mod headers;
-pub mod laws;
 mod lines;
 mod loading;
 mod observation;

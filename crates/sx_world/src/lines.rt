@@ -3,9 +3,10 @@
 ghost use Rattle.sx_deploy.specs.Law.{IsSoundDeployment};
 ghost use Rattle.sx_deploy.specs.SeenDeployment.{deployed_as};
 ghost use Rattle.sx_sched.specs.Lines.{IsLine, line_of};
-ghost use Rattle.sx_world.specs.Held.{DoesAct, setting};
+ghost use Rattle.sx_world.specs.Held.{DoesAct};
+ghost use Rattle.sx_run.specs.Accepted.{setting};
 ghost use Rattle.sx_world.specs.Ready.{IsReady};
-ghost use Rattle.sx_world.specs.Run.{after_line};
+ghost use Rattle.sx_run.specs.Run.{after_line};
 
 use crate::running::Running;
 use crate::sites::Site;

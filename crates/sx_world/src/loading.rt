@@ -3,10 +3,12 @@
 ghost use Rattle.std.specs.Prelude.{◌≡◌, ℕ, ◌+◌, ◌/◌, ◌<◌, ◌≤◌, length, slice_get, Some};
 ghost use Rattle.sx_deploy.specs.SeenDeployment.{deployed_as};
 ghost use Rattle.sx_machine.specs.State.{State};
-ghost use Rattle.sx_world.specs.Held.{DoesAct, boots_of, setting};
-ghost use Rattle.sx_world.specs.Loading.{after_loading, protect_registers};
-ghost use Rattle.sx_world.specs.Run as run;
-ghost use Rattle.sx_world.specs.Setting.{Setting, Site as Placed};
+ghost use Rattle.sx_world.specs.Held.{DoesAct, boots_of};
+ghost use Rattle.sx_run.specs.Accepted.{setting};
+ghost use Rattle.sx_world.specs.Loading.{after_loading};
+ghost use Rattle.sx_run.specs.Run.{protect_registers};
+ghost use Rattle.sx_run.specs.Run as run;
+ghost use Rattle.sx_run.specs.Setting.{Setting, Site as Placed};
 
 use crate::recording::add;
 use crate::registers::Register;

@@ -7,9 +7,10 @@ ghost use Rattle.sx_trace.specs.declared.items.Item.TheVariants.{Done};
 ghost use Rattle.sx_mean.specs.View.{app_as};
 ghost use Rattle.sx_ledger.specs.Made.{Made};
 ghost use Rattle.sx_deploy.specs.SeenDeployment.{deployed_as};
-ghost use Rattle.sx_world.specs.Held.{IsFront, Observes, ObservesFront, setting};
-ghost use Rattle.sx_world.specs.Observation.{cause_of, event_seen, observed, protect_item};
-ghost use Rattle.sx_world.specs.Observation.{read_item, touch_items, write_item};
+ghost use Rattle.sx_world.specs.Held.{IsFront, Observes, ObservesFront};
+ghost use Rattle.sx_run.specs.Accepted.{setting};
+ghost use Rattle.sx_run.specs.Observation.{cause_of, event_seen, observed, protect_item};
+ghost use Rattle.sx_run.specs.Observation.{read_item, touch_items, write_item};
 ghost use Rattle.sx_world.specs.Computed.{author, is_own, is_touch, runner_of, tells};
 
 use crate::devices::{device_number, is_driver};

@@ -4,10 +4,10 @@ ghost use Rattle.std.specs.Prelude.{◌≡◌, ◌<◌, ◌≤◌, length, slice
 ghost use Rattle.std.specs.Prelude.{OnOk, OnErr};
 ghost use Rattle.sx_machine.specs.State.{State};
 ghost use Rattle.sx_machine.specs.Acts as acts;
-ghost use Rattle.sx_world.specs.Acts.{at_node, after_take, with_packet};
+ghost use Rattle.sx_run.specs.Acts.{at_node, after_take, with_packet};
 ghost use Rattle.sx_world.specs.Held.{Did, Wanted};
-ghost use Rattle.sx_world.specs.Run.{give};
-ghost use Rattle.sx_world.specs.Setting.{Setting};
+ghost use Rattle.sx_run.specs.Run.{give};
+ghost use Rattle.sx_run.specs.Setting.{Setting};
 
 use crate::recording::add;
 use crate::running::Running;

@@ -7,10 +7,10 @@ ghost use Rattle.sx_trace.specs.declared.items.Item.TheVariants.{Open, Take};
 ghost use Rattle.sx_ledger.specs.Made.{Made, made};
 ghost use Rattle.sx_mean.specs.View.{app_as};
 ghost use Rattle.sx_world.specs.Held.{Records, IsFront, Observes, ObservesFront};
-ghost use Rattle.sx_world.specs.Ledger.{body_of, header_of, is_made};
-ghost use Rattle.sx_world.specs.Observation.{has_end, has_unwrapped, has_wrapped, sender_of};
-ghost use Rattle.sx_world.specs.Observation.{side_in, unless_made};
-ghost use Rattle.sx_world.specs.Wire.{epoch_in, last_in, link_in, value_in};
+ghost use Rattle.sx_run.specs.Ledger.{body_of, header_of, is_made};
+ghost use Rattle.sx_run.specs.Observation.{has_end, has_unwrapped, has_wrapped, sender_of};
+ghost use Rattle.sx_run.specs.Observation.{side_in, unless_made};
+ghost use Rattle.sx_run.specs.Wire.{epoch_in, last_in, link_in, value_in};
 
 use crate::headers::{
     challenge_in, epoch_in, is_ask, is_event_header, is_set_key_header, last_in, link_in, side_in,

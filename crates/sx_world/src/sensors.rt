@@ -5,9 +5,10 @@ ghost use Rattle.sx_deploy.specs.Law.{IsSoundDeployment};
 ghost use Rattle.sx_deploy.specs.SeenDeployment.{deployed_as};
 ghost use Rattle.sx_machine.specs.Node.{shapes};
 ghost use Rattle.sx_machine.specs.State.{State};
-ghost use Rattle.sx_world.specs.Held.{DoesAct, setting};
-ghost use Rattle.sx_world.specs.Run.{sense_at};
-ghost use Rattle.sx_world.specs.Setting.{Site, windows_at};
+ghost use Rattle.sx_world.specs.Held.{DoesAct};
+ghost use Rattle.sx_run.specs.Accepted.{setting};
+ghost use Rattle.sx_run.specs.Run.{sense_at};
+ghost use Rattle.sx_run.specs.Setting.{Site, windows_at};
 
 use crate::devices::place_at;
 use crate::running::Running;

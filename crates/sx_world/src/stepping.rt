@@ -7,13 +7,14 @@ ghost use Rattle.sx_deploy.specs.SeenDeployment.{deployed_as};
 ghost use Rattle.sx_machine.specs.State.{State};
 ghost use Rattle.sx_machine.specs.Step.{step};
 ghost use Rattle.sx_machine.specs.Acts.{irq};
-ghost use Rattle.sx_world.specs.Acts.{at_node, after_interrupt};
-ghost use Rattle.sx_world.specs.Held.{Did, DoesAct, Observes, ObservesFront, Wanted, setting};
+ghost use Rattle.sx_run.specs.Acts.{at_node, after_interrupt};
+ghost use Rattle.sx_world.specs.Held.{Did, DoesAct, Observes, ObservesFront, Wanted};
+ghost use Rattle.sx_run.specs.Accepted.{setting};
 ghost use Rattle.sx_world.specs.Computed.{runner_of};
-ghost use Rattle.sx_world.specs.Observation.{observed};
+ghost use Rattle.sx_run.specs.Observation.{observed};
 ghost use Rattle.sx_world.specs.Passing.{after_steps, stepped, taken, AreQuiet, EndsWith};
-ghost use Rattle.sx_world.specs.Run as run;
-ghost use Rattle.sx_world.specs.Run.{FINISH_STEPS, is_reset, steps_of};
+ghost use Rattle.sx_run.specs.Run as run;
+ghost use Rattle.sx_run.specs.Run.{FINISH_STEPS, is_reset, steps_of};
 
 use crate::observation::{add_seen, runner_of};
 use crate::quiet::{QuietSteps, quiet_steps};
@@ -35,7 +36,7 @@ fn is_reset(event: Event) -> bool
 }
 
 /// How many steps of a node `finish` takes at most.
-#[tactic(auto, unfolding(crate::specs::Run::FINISH_STEPS))]
+#[tactic(auto, unfolding(sx_run::specs::Run::FINISH_STEPS))]
 fn finish_steps() -> u32
     ensures { result ≡ FINISH_STEPS }
 {

@@ -5,8 +5,9 @@ ghost use Rattle.sx_deploy.specs.SeenDeployment.{deployed_as};
 ghost use Rattle.sx_deployer.specs.Keeping.{known};
 ghost use Rattle.sx_tag.specs.Keys.{identity};
 ghost use Rattle.sx_tag.specs.Mac.{Mac};
-ghost use Rattle.sx_world.specs.Held.{setting, targets_from};
-ghost use Rattle.sx_world.specs.Setting.{Site as Placed};
+ghost use Rattle.sx_world.specs.Held.{targets_from};
+ghost use Rattle.sx_run.specs.Accepted.{setting};
+ghost use Rattle.sx_run.specs.Setting.{Site as Placed};
 
 use crate::sites::Site;
 use std::alloc::{AllocError, Global};

@@ -9,10 +9,10 @@ ghost use Rattle.sx_machine.specs.State as state;
 ghost use Rattle.sx_machine.specs.Acts as acts;
 ghost use Rattle.sx_trace.specs.declared.items.Item.TheVariants.{Reset, Sense};
 ghost use Rattle.sx_trace.specs.declared.items.Cause.TheVariants.{Asked};
-ghost use Rattle.sx_world.specs.Acts.{at_node, done_on, or_refused, refused_item, with_node};
+ghost use Rattle.sx_run.specs.Acts.{at_node, done_on, or_refused, refused_item, with_node};
 ghost use Rattle.sx_world.specs.Held.{Did, Wanted, boots_of};
-ghost use Rattle.sx_world.specs.Run as run;
-ghost use Rattle.sx_world.specs.Setting.{Setting};
+ghost use Rattle.sx_run.specs.Run as run;
+ghost use Rattle.sx_run.specs.Setting.{Setting};
 
 use crate::recording::add;
 use crate::running::Running;

@@ -7,9 +7,9 @@ ghost use Rattle.sx_deploy.specs.SeenDeployment.{deployed_as};
 ghost use Rattle.sx_sched.specs.Lines.{IsLine, line_of};
 ghost use Rattle.sx_world.specs.Continued.{Acts, ActsInPart, StaysLegal};
 ghost use Rattle.sx_world.specs.InMemory.{image_setting, world_setting};
-ghost use Rattle.sx_world.specs.Law.{IsSoundSetting};
+ghost use Rattle.sx_run.specs.Law.{IsSoundSetting};
 ghost use Rattle.sx_world.specs.Standing.{IsGoing, Stands};
-ghost use Rattle.sx_world.specs.State.{nodes_from, switched_on};
+ghost use Rattle.sx_run.specs.State.{nodes_from, switched_on};
 
 use crate::running::Running;
 use crate::sites::{Site, sites_of};

@@ -1,5 +1,5 @@
 use Rattle.std.proofs.Common.{arith}
-use Rattle.sx_world.proofs.Placing.{counted_all}
+use Rattle.sx_world.proofs.doing.Placing.{counted_all}
 use Rattle.sx_world.proofs.devices.place_at.Goals as goal
 
 pub returns : goal.returns

@@ -1,8 +1,8 @@
 use Rattle.std.proofs.Common.{Some, sym, ap}
 use Rattle.sx_deploy.specs.SeenDeployment.{deployed_as}
-use Rattle.sx_world.specs.Held.{setting}
-use Rattle.sx_world.specs.Observation.{event_seen}
-use Rattle.sx_world.proofs.Fronts.{due_same}
+use Rattle.sx_run.specs.Accepted.{setting}
+use Rattle.sx_run.specs.Observation.{event_seen}
+use Rattle.sx_world.proofs.showing.Fronts.{due_same}
 use Rattle.sx_world.proofs.observation.add_event.Goals as goal
 
 pub returns-in-Some-clause-front : goal.returns-in-Some-clause-front

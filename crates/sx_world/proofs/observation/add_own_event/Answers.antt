@@ -1,10 +1,10 @@
 use Rattle.std.proofs.Common.{Some}
 use Rattle.sx_mean.specs.View.{app_as}
 use Rattle.sx_deploy.specs.SeenDeployment.{deployed_as}
-use Rattle.sx_world.specs.Held.{setting}
-use Rattle.sx_world.specs.Ledger.{header_of, body_of}
-use Rattle.sx_world.specs.Observation.{event_seen, has_wrapped, has_unwrapped}
-use Rattle.sx_world.proofs.Fronts.{due_same, due_items, wrapped_seen, unwrapped_seen}
+use Rattle.sx_run.specs.Accepted.{setting}
+use Rattle.sx_run.specs.Ledger.{header_of, body_of}
+use Rattle.sx_run.specs.Observation.{event_seen, has_wrapped, has_unwrapped}
+use Rattle.sx_world.proofs.showing.Fronts.{due_same, due_items, wrapped_seen, unwrapped_seen}
 use Rattle.sx_world.proofs.observation.add_own_event.Goals as goal
 
 pub returns-in-Wrapped-clause-front : goal.returns-in-Wrapped-clause-front

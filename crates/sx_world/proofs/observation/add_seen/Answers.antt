@@ -1,8 +1,8 @@
 use Rattle.sx_mean.specs.View.{app_as}
 use Rattle.sx_deploy.specs.SeenDeployment.{deployed_as}
-use Rattle.sx_world.specs.Held.{setting}
-use Rattle.sx_world.specs.Observation.{event_seen, touch_items}
-use Rattle.sx_world.proofs.Fronts.{err_any, front_more, due_next}
+use Rattle.sx_run.specs.Accepted.{setting}
+use Rattle.sx_run.specs.Observation.{event_seen, touch_items}
+use Rattle.sx_world.proofs.showing.Fronts.{err_any, front_more, due_next}
 use Rattle.sx_world.proofs.observation.add_seen.Goals as goal
 
 pub returns-in_err-add_touches-clause-front : goal.returns-in_err-add_touches-clause-front

@@ -1,6 +1,6 @@
 use Rattle.std.proofs.Common.{◌<◌, sym, subst, ap, ◌∙◌}
 use Rattle.sx_machine.specs.State.{State}
-use Rattle.sx_world.proofs.Passed.{quiet_boot}
+use Rattle.sx_world.proofs.passing.Passed.{quiet_boot}
 use Rattle.sx_world.proofs.quiet.quiet_steps.Goals as goal
 
 pub step-seen-requires : goal.step-seen-requires

@@ -1,7 +1,7 @@
 use Rattle.std.proofs.Common.{sym, ap, ◌∙◌}
 use Rattle.std.specs.Prelude.{slice_get}
 use Rattle.sx_world.specs.Computed.{is_held}
-use Rattle.sx_world.proofs.HeldEnds.{held_at}
+use Rattle.sx_world.proofs.showing.HeldEnds.{held_at}
 use Rattle.sx_world.proofs.recording.has_end.Goals as goal
 
 pub returns : goal.returns

@@ -1,5 +1,5 @@
 use Rattle.sx_ledger.specs.Made.{made}
-use Rattle.sx_world.proofs.Recorded.{recorded_ok}
+use Rattle.sx_world.proofs.showing.Recorded.{recorded_ok}
 use Rattle.sx_world.proofs.recording.record.Goals as goal
 
 pub returns : goal.returns

@@ -1,6 +1,6 @@
 use Rattle.std.proofs.Common.{◌+◌, ap, ◌∙◌, arith}
 use Rattle.std.specs.Prelude.{slice_index}
-use Rattle.sx_world.proofs.SameBytes.{differ, all_same}
+use Rattle.sx_world.proofs.showing.SameBytes.{differ, all_same}
 use Rattle.sx_world.proofs.sites.has_bytes.Goals as goal
 
 pub returns-then-byte-bytes : goal.returns-then-byte-bytes

@@ -1,5 +1,5 @@
 use Rattle.std.proofs.Common.{◌-◌, ◌∙◌}
-use Rattle.sx_world.proofs.SameBytes.{unlike}
+use Rattle.sx_world.proofs.showing.SameBytes.{unlike}
 use Rattle.sx_world.proofs.sites.has_text.Goals as goal
 
 pub returns-else-from-text : goal.returns-else-from-text

@@ -6,7 +6,7 @@ use Rattle.std.proofs.lemmas.Option.{slice_get-map, slice_get_read}
 use Rattle.sx_deploy.specs.SeenDeployment.{deployed_as}
 use Rattle.sx_image.specs.declared.image.Image.{Image}
 use Rattle.sx_mean.specs.View.{part_as}
-use Rattle.sx_world.proofs.SwitchedOn.{layouts_long, providers_long, site_is}
+use Rattle.sx_world.proofs.standing.SwitchedOn.{layouts_long, providers_long, site_is}
 use Rattle.sx_world.proofs.sites.site_at.Goals as goal
 
 -- src/sites.rt:121:17

@@ -3,9 +3,9 @@ use Rattle.std.proofs.lemmas.List.{length-map}
 use Rattle.sx_deploy.specs.SeenDeployment.{deployed_as}
 use Rattle.sx_image.specs.declared.image.Image.{Image}
 use Rattle.sx_mean.specs.View.{part_as}
-use Rattle.sx_world.specs.Accepted.{sites_of}
-use Rattle.sx_world.specs.Setting.{Site}
-use Rattle.sx_world.proofs.SwitchedOn.{all_sited, take_next, take_whole}
+use Rattle.sx_run.specs.Accepted.{sites_of}
+use Rattle.sx_run.specs.Setting.{Site}
+use Rattle.sx_world.proofs.standing.SwitchedOn.{all_sited, take_next, take_whole}
 use Rattle.sx_world.proofs.sites.sites_of.Goals as goal
 
 -- src/sites.rt:139:5

@@ -1,6 +1,6 @@
 use Rattle.std.proofs.Common.{◌≡◌, map, take}
 use Rattle.sx_deploy.specs.SeenDeployment.{deployed_as}
-use Rattle.sx_world.specs.Accepted.{sites_of}
+use Rattle.sx_run.specs.Accepted.{sites_of}
 use Rattle.sx_world.proofs.sites.sites_of.Given as goal
 
 abbrev pub invariant-loop-m : goal.invariant-loop-m

@@ -1,7 +1,7 @@
 use Rattle.std.proofs.Common.{get_or, sym, ap, ◌∙◌}
 use Rattle.sx_machine.specs.State.{State}
 use Rattle.sx_machine.specs.Acts as acts
-use Rattle.sx_world.proofs.NodeAt.{slot_is, set_as}
+use Rattle.sx_world.proofs.doing.NodeAt.{slot_is, set_as}
 use Rattle.sx_world.proofs.stepping.irq_node.Goals as goal
 
 pub returns-clause-nodes : goal.returns-clause-nodes

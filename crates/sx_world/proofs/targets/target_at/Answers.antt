@@ -2,8 +2,8 @@ use Rattle.std.proofs.Common.{◌≡◌, length, Some, refl, subst, ap, ◌∙�
 use Rattle.std.specs.Prelude.{slice_get}
 use Rattle.std.proofs.lemmas.Option.{slice_get_read}
 use Rattle.sx_deploy.specs.SeenDeployment.{deployed_as}
-use Rattle.sx_world.specs.Setting.{Site}
-use Rattle.sx_world.proofs.SwitchedOn.{target_is}
+use Rattle.sx_run.specs.Setting.{Site}
+use Rattle.sx_world.proofs.standing.SwitchedOn.{target_is}
 use Rattle.sx_world.proofs.targets.target_at.Goals as goal
 
 -- src/targets.rt:30:1

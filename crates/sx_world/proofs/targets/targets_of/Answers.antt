@@ -3,9 +3,10 @@ use Rattle.std.proofs.lemmas.List.{map-append}
 use Rattle.sx_deploy.specs.SeenDeployment.{deployed_as}
 use Rattle.sx_deployer.specs.Keeping.{Known, known}
 use Rattle.sx_deployer.specs.declared.target.Target.{Target}
-use Rattle.sx_world.specs.Held.{setting, targets_from}
-use Rattle.sx_world.proofs.Readying.{targets_long}
-use Rattle.sx_world.proofs.SwitchedOn.{take_next, take_whole}
+use Rattle.sx_world.specs.Held.{targets_from}
+use Rattle.sx_run.specs.Accepted.{setting}
+use Rattle.sx_world.proofs.standing.Readying.{targets_long}
+use Rattle.sx_world.proofs.standing.SwitchedOn.{take_next, take_whole}
 use Rattle.sx_world.proofs.targets.targets_of.Goals as goal
 
 -- src/targets.rt:63:5

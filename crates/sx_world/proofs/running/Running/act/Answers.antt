@@ -2,11 +2,12 @@ use Rattle.std.proofs.Common.{[], false, subst}
 use Rattle.sx_sched.specs.declared.lines.Line.TheVariants as read
 use Rattle.sx_sched.specs.Lines.{Take, Give, Irq, Reset}
 use Rattle.sx_deploy.specs.SeenDeployment.{deployed_as}
-use Rattle.sx_world.specs.Acts.{with_packet}
-use Rattle.sx_world.specs.Held.{DoesAct, setting}
-use Rattle.sx_world.specs.Run.{after_line, put_on, set_on, steps_of}
-use Rattle.sx_world.proofs.Composed.{does_any, does_both}
-use Rattle.sx_world.proofs.Prepared.{counts_finish, line_does}
+use Rattle.sx_run.specs.Acts.{with_packet}
+use Rattle.sx_world.specs.Held.{DoesAct}
+use Rattle.sx_run.specs.Accepted.{setting}
+use Rattle.sx_run.specs.Run.{after_line, put_on, set_on, steps_of}
+use Rattle.sx_world.proofs.doing.Composed.{does_any, does_both}
+use Rattle.sx_world.proofs.doing.Prepared.{counts_finish, line_does}
 use Rattle.sx_world.proofs.running.Running.act.Goals as goal
 
 pub finish-requires-clause-steps : goal.finish-requires-clause-steps

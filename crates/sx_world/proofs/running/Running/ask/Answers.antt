@@ -1,9 +1,9 @@
 use Rattle.std.proofs.Common.{◌<◌, map, sym, subst}
 use Rattle.std.proofs.lemmas.List.{length-map}
-use Rattle.sx_world.specs.Acts.{ask}
-use Rattle.sx_world.specs.Setting.{Setting}
+use Rattle.sx_run.specs.Acts.{ask}
+use Rattle.sx_run.specs.Setting.{Setting}
 use Rattle.sx_world.specs.Held.{Running, DoesAct}
-use Rattle.sx_world.proofs.Sent.{ask_does}
+use Rattle.sx_world.proofs.granting.Sent.{ask_does}
 use Rattle.sx_world.proofs.running.Running.ask.Goals as goal
 
 -- src/attesting.rt:19:5

@@ -2,12 +2,13 @@ use Rattle.std.proofs.Common.{◌*◌, ◌≤◌, List, length, arith, sym, subs
 use Rattle.std.proofs.lemmas.List.{length-map}
 use Rattle.sx_deploy.specs.SeenDeployment.{deployed_as}
 use Rattle.sx_mean.specs.View.{part_as}
-use Rattle.sx_world.specs.Deployer.{Grant}
+use Rattle.sx_run.specs.Deployer.{Grant}
 use Rattle.sx_world.specs.Granted.{confirmed, granted}
-use Rattle.sx_world.specs.Held.{Running, Records, setting}
-use Rattle.sx_world.proofs.Confirming.{confirm_does, confirm_wanted, whole_front, more_ok}
-use Rattle.sx_world.proofs.Given.{does_err}
-use Rattle.sx_world.proofs.SameGrants.{few_grants}
+use Rattle.sx_world.specs.Held.{Running, Records}
+use Rattle.sx_run.specs.Accepted.{setting}
+use Rattle.sx_world.proofs.granting.Confirming.{confirm_does, confirm_wanted, whole_front, more_ok}
+use Rattle.sx_world.proofs.granting.Given.{does_err}
+use Rattle.sx_world.proofs.granting.SameGrants.{few_grants}
 use Rattle.sx_world.proofs.running.Running.confirm.Goals as goal
 
 -- src/attesting.rt:77:9

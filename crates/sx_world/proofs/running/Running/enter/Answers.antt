@@ -1,13 +1,14 @@
 use Rattle.std.proofs.Common.{◌≡◌, Some, subst}
 use Rattle.std.specs.Prelude.{slice_get}
 use Rattle.sx_deploy.specs.SeenDeployment.{deployed_as}
-use Rattle.sx_world.specs.Setting.{Site}
-use Rattle.sx_world.specs.Acts.{then_}
-use Rattle.sx_world.specs.Held.{DoesAct, setting}
-use Rattle.sx_world.specs.Run.{finish, set_all}
-use Rattle.sx_world.proofs.Composed.{first_wanted, then_does}
-use Rattle.sx_world.proofs.Given.{does_err}
-use Rattle.sx_world.proofs.Loaded.{still_few}
+use Rattle.sx_run.specs.Setting.{Site}
+use Rattle.sx_run.specs.Acts.{then_}
+use Rattle.sx_world.specs.Held.{DoesAct}
+use Rattle.sx_run.specs.Accepted.{setting}
+use Rattle.sx_run.specs.Run.{finish, set_all}
+use Rattle.sx_world.proofs.doing.Composed.{first_wanted, then_does}
+use Rattle.sx_world.proofs.granting.Given.{does_err}
+use Rattle.sx_world.proofs.doing.Loaded.{still_few}
 use Rattle.sx_world.proofs.running.Running.enter.Goals as goal
 
 pub returns-in_err-set_all : goal.returns-in_err-set_all

@@ -1,9 +1,10 @@
 use Rattle.std.proofs.Common.{[], ◌∷◌, ◌==◌, subst}
 use Rattle.sx_trace.specs.declared.items.Item.TheVariants.{Budget}
 use Rattle.sx_deploy.specs.SeenDeployment.{deployed_as}
-use Rattle.sx_world.specs.Held.{DoesAct, setting}
-use Rattle.sx_world.specs.Run.{steps_of}
-use Rattle.sx_world.proofs.Composed.{does_both}
+use Rattle.sx_world.specs.Held.{DoesAct}
+use Rattle.sx_run.specs.Accepted.{setting}
+use Rattle.sx_run.specs.Run.{steps_of}
+use Rattle.sx_world.proofs.doing.Composed.{does_both}
 use Rattle.sx_world.proofs.running.Running.finish.Goals as goal
 
 pub returns : goal.returns

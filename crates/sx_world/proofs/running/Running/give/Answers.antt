@@ -4,8 +4,8 @@ use Rattle.std.proofs.lemmas.List.{with_items_is}
 use Rattle.sx_machine.specs.State.{State}
 use Rattle.sx_machine.specs.Acts.{put, put_refusal}
 use Rattle.sx_world.specs.Held.{Running}
-use Rattle.sx_world.proofs.Doing.{done_did, as_kept, lent_set, lent_long, unless_kept}
-use Rattle.sx_world.proofs.KeptPackets.{packet_found, packet_none, give_did, give_none}
+use Rattle.sx_world.proofs.doing.Doing.{done_did, as_kept, lent_set, lent_long, unless_kept}
+use Rattle.sx_world.proofs.doing.KeptPackets.{packet_found, packet_none, give_did, give_none}
 use Rattle.sx_world.proofs.running.Running.give.Goals as goal
 
 pub returns-in-Some-clause-done : goal.returns-in-Some-clause-done

@@ -2,11 +2,12 @@ use Rattle.std.proofs.Common.{rules, map, List, sym, subst, ◌∙◌}
 use Rattle.std.specs.Prelude.{slice_get}
 use Rattle.std.proofs.lemmas.List.{length-map}
 use Rattle.sx_deploy.specs.SeenDeployment.{deployed_as}
-use Rattle.sx_world.specs.Acts.{key_given}
-use Rattle.sx_world.specs.Deployer.{Grant}
-use Rattle.sx_world.specs.Held.{Running, DoesAct, Did, setting}
-use Rattle.sx_world.specs.Setting.{Site}
-use Rattle.sx_world.proofs.Given.{given_some, given_none}
+use Rattle.sx_run.specs.Acts.{key_given}
+use Rattle.sx_run.specs.Deployer.{Grant}
+use Rattle.sx_world.specs.Held.{Running, DoesAct, Did}
+use Rattle.sx_run.specs.Accepted.{setting}
+use Rattle.sx_run.specs.Setting.{Site}
+use Rattle.sx_world.proofs.granting.Given.{given_some, given_none}
 use Rattle.sx_world.proofs.running.Running.give_key.Goals as goal
 
 -- src/giving.rt:32:5

@@ -1,8 +1,8 @@
 use Rattle.std.proofs.Common.{◌+◌, ◌≤◌, length, drop, List}
 use Rattle.sx_deploy.specs.SeenDeployment.{deployed_as}
-use Rattle.sx_world.specs.Held.{setting}
-use Rattle.sx_world.specs.Setting.{Site}
-use Rattle.sx_world.proofs.Given.{Giving}
+use Rattle.sx_run.specs.Accepted.{setting}
+use Rattle.sx_run.specs.Setting.{Site}
+use Rattle.sx_world.proofs.granting.Given.{Giving}
 use Rattle.sx_world.proofs.running.Running.give_keys.Given as goal
 
 abbrev pub invariant-loop-g : goal.invariant-loop-g

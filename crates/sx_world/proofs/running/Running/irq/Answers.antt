@@ -4,11 +4,12 @@ use Rattle.std.proofs.lemmas.List.{with_items_is}
 use Rattle.sx_machine.specs.State.{State}
 use Rattle.sx_machine.specs.Acts.{irq}
 use Rattle.sx_deploy.specs.SeenDeployment.{deployed_as}
-use Rattle.sx_world.specs.Acts.{refused_item}
-use Rattle.sx_world.specs.Held.{Running, setting}
-use Rattle.sx_world.proofs.Lists.{get_some}
-use Rattle.sx_world.proofs.Doing.{lent_set, lent_long, as_kept}
-use Rattle.sx_world.proofs.Stepped.{node_behind, irq_did, irq_wanted, irq_refused, as_interrupted, refused_ok}
+use Rattle.sx_run.specs.Acts.{refused_item}
+use Rattle.sx_world.specs.Held.{Running}
+use Rattle.sx_run.specs.Accepted.{setting}
+use Rattle.sx_run.proofs.tie.Lists.{get_some}
+use Rattle.sx_world.proofs.doing.Doing.{lent_set, lent_long, as_kept}
+use Rattle.sx_world.proofs.passing.Stepped.{node_behind, irq_did, irq_wanted, irq_refused, as_interrupted, refused_ok}
 use Rattle.sx_world.proofs.running.Running.irq.Goals as goal
 
 pub returns-in-Ok-clause-done : goal.returns-in-Ok-clause-done

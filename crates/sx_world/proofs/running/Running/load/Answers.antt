@@ -2,11 +2,12 @@ use Rattle.std.proofs.Common.{◌≡◌, [], ◌∷◌, ◌++◌, Option, Some, 
 use Rattle.std.specs.Prelude.{slice_get}
 use Rattle.sx_trace.specs.declared.items.Item.TheVariants.{Busy}
 use Rattle.sx_deploy.specs.SeenDeployment.{deployed_as}
-use Rattle.sx_world.specs.Setting.{Site}
-use Rattle.sx_world.specs.Held.{DoesAct, setting}
+use Rattle.sx_run.specs.Setting.{Site}
+use Rattle.sx_world.specs.Held.{DoesAct}
+use Rattle.sx_run.specs.Accepted.{setting}
 use Rattle.sx_world.specs.Loading.{after_loading}
-use Rattle.sx_world.specs.Run.{load, unless_busy}
-use Rattle.sx_world.proofs.Loaded.{idle_does, busy_does, element_at}
+use Rattle.sx_run.specs.Run.{load, unless_busy}
+use Rattle.sx_world.proofs.doing.Loaded.{idle_does, busy_does, element_at}
 use Rattle.sx_world.proofs.running.Running.load.Goals as goal
 
 pub returns-then-is_idle : goal.returns-then-is_idle

@@ -1,7 +1,7 @@
 use Rattle.std.proofs.Common.{◌≡◌, [], ◌∷◌, ◌++◌, length, map, ap, ◌∙◌, rules}
 use Rattle.std.specs.Vec.{vec_len}
 use Rattle.sx_world.specs.Held.{Running}
-use Rattle.sx_world.proofs.KeptPackets.{bytes_in, packet_did, map_push, map_long}
+use Rattle.sx_world.proofs.doing.KeptPackets.{bytes_in, packet_did, map_push, map_long}
 use Rattle.sx_world.proofs.running.Running.new_packet.Goals as goal
 
 pub returns-clause-done : goal.returns-clause-done

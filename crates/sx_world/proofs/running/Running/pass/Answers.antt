@@ -4,9 +4,9 @@ use Rattle.std.proofs.lemmas.List.{with_items_is}
 use Rattle.sx_machine.specs.State.{State}
 use Rattle.sx_world.specs.Held.{Running}
 use Rattle.sx_world.specs.Passing.{after_steps, taken}
-use Rattle.sx_world.proofs.Lists.{get_some}
-use Rattle.sx_world.proofs.Doing.{lent_set, lent_long}
-use Rattle.sx_world.proofs.Passed.{taken_most, as_passed}
+use Rattle.sx_run.proofs.tie.Lists.{get_some}
+use Rattle.sx_world.proofs.doing.Doing.{lent_set, lent_long}
+use Rattle.sx_world.proofs.passing.Passed.{taken_most, as_passed}
 use Rattle.sx_world.proofs.running.Running.pass.Goals as goal
 
 pub overflow_add-self : goal.overflow_add-self

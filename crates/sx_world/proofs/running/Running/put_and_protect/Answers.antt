@@ -1,13 +1,15 @@
 use Rattle.std.proofs.Common.{◌≡◌, ◌+◌, ◌/◌, false, [], length, Some, sym, subst, ap, ◌∙◌}
 use Rattle.std.specs.Prelude.{slice_get}
 use Rattle.sx_deploy.specs.SeenDeployment.{deployed_as}
-use Rattle.sx_world.specs.Setting.{Site}
-use Rattle.sx_world.specs.Held.{Did, DoesAct, Wanted, setting}
-use Rattle.sx_world.specs.Loading.{after_loading, protect_registers}
-use Rattle.sx_world.specs.Run.{put_pieces, set_all, steps_of}
-use Rattle.sx_world.proofs.Composed.{does_both}
-use Rattle.sx_world.proofs.Given.{does_err}
-use Rattle.sx_world.proofs.Loaded.{still_few, image_wanted, code_wanted, given_wanted, loaded_does}
+use Rattle.sx_run.specs.Setting.{Site}
+use Rattle.sx_world.specs.Held.{Did, DoesAct, Wanted}
+use Rattle.sx_run.specs.Accepted.{setting}
+use Rattle.sx_world.specs.Loading.{after_loading}
+use Rattle.sx_run.specs.Run.{protect_registers}
+use Rattle.sx_run.specs.Run.{put_pieces, set_all, steps_of}
+use Rattle.sx_world.proofs.doing.Composed.{does_both}
+use Rattle.sx_world.proofs.granting.Given.{does_err}
+use Rattle.sx_world.proofs.doing.Loaded.{still_few, image_wanted, code_wanted, given_wanted, loaded_does}
 use Rattle.sx_world.proofs.running.Running.put_and_protect.Goals as goal
 
 pub returns-in_err-put_pieces : goal.returns-in_err-put_pieces

@@ -1,9 +1,9 @@
 use Rattle.std.proofs.Common.{◌+◌, ◌-◌, ◌*◌, ◌/◌, ◌<◌, ◌≤◌, length, take, drop, subst, ap, ◌∙◌}
 use Rattle.std.specs.Int.{div_ceil}
-use Rattle.sx_world.specs.Run.{put_on, put_pieces}
-use Rattle.sx_world.proofs.Composed.{remains_on, remains_wanted, remains_none}
-use Rattle.sx_world.proofs.Given.{does_err}
-use Rattle.sx_world.proofs.Loaded.{pieces_from, piece_within, next_piece, no_piece}
+use Rattle.sx_run.specs.Run.{put_on, put_pieces}
+use Rattle.sx_world.proofs.doing.Composed.{remains_on, remains_wanted, remains_none}
+use Rattle.sx_world.proofs.granting.Given.{does_err}
+use Rattle.sx_world.proofs.doing.Loaded.{pieces_from, piece_within, next_piece, no_piece}
 use Rattle.sx_world.proofs.running.Running.put_pieces.Goals as goal
 
 pub returns-in_err-put_on-clause-does : goal.returns-in_err-put_on-clause-does

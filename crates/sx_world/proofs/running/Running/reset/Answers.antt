@@ -4,7 +4,7 @@ use Rattle.sx_trace.specs.declared.items.Item.TheVariants.{Reset}
 use Rattle.sx_trace.specs.declared.items.Cause.TheVariants.{Asked}
 use Rattle.sx_machine.specs.State.{reset}
 use Rattle.sx_world.specs.Held.{Running}
-use Rattle.sx_world.proofs.Doing.{reset_did, as_kept, lent_set, lent_long}
+use Rattle.sx_world.proofs.doing.Doing.{reset_did, as_kept, lent_set, lent_long}
 use Rattle.sx_world.proofs.running.Running.reset.Goals as goal
 
 pub returns-clause-done : goal.returns-clause-done

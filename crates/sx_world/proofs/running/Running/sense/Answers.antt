@@ -4,13 +4,14 @@ use Rattle.std.specs.List.{position_from}
 use Rattle.std.specs.Vec.{vec_len}
 use Rattle.sx_mean.specs.declared.apps.AppDevice.{AppDevice}
 use Rattle.sx_deploy.specs.SeenDeployment.{deployed_as}
-use Rattle.sx_world.specs.Setting.{devices_at}
-use Rattle.sx_world.specs.Held.{Running, setting}
-use Rattle.sx_world.specs.Run.{or_else, place_at}
-use Rattle.sx_world.proofs.Lists.{some_inj}
-use Rattle.sx_world.proofs.Composed.{does_any}
-use Rattle.sx_world.proofs.Loaded.{element_at}
-use Rattle.sx_world.proofs.Sampled.{sensor_there, sense_does, sense_past}
+use Rattle.sx_run.specs.Setting.{devices_at}
+use Rattle.sx_world.specs.Held.{Running}
+use Rattle.sx_run.specs.Accepted.{setting}
+use Rattle.sx_run.specs.Run.{or_else, place_at}
+use Rattle.sx_run.proofs.tie.Lists.{some_inj}
+use Rattle.sx_world.proofs.doing.Composed.{does_any}
+use Rattle.sx_world.proofs.doing.Loaded.{element_at}
+use Rattle.sx_world.proofs.doing.Sampled.{sensor_there, sense_does, sense_past}
 use Rattle.sx_world.proofs.running.Running.sense.Goals as goal
 
 pub returns-then-from-len : goal.returns-then-from-len

@@ -5,7 +5,7 @@ use Rattle.sx_trace.specs.declared.items.Item.TheVariants.{Sense}
 use Rattle.sx_machine.specs.State.{State}
 use Rattle.sx_machine.specs.Acts.{busy, sense}
 use Rattle.sx_world.specs.Held.{Running}
-use Rattle.sx_world.proofs.Doing.{done_did, as_kept, lent_set, lent_long, unless_kept}
+use Rattle.sx_world.proofs.doing.Doing.{done_did, as_kept, lent_set, lent_long, unless_kept}
 use Rattle.sx_world.proofs.running.Running.sense_at.Goals as goal
 
 pub returns-clause-done : goal.returns-clause-done

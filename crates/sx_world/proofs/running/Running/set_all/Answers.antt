@@ -1,8 +1,8 @@
 use Rattle.std.proofs.Common.{◌+◌, drop, arith, ◌∙◌}
-use Rattle.sx_world.specs.Run.{Register, set_on, set_all}
-use Rattle.sx_world.proofs.Composed.{remains_on, remains_wanted, remains_none}
-use Rattle.sx_world.proofs.Given.{does_err}
-use Rattle.sx_world.proofs.Loaded.{next_register, no_register, settable}
+use Rattle.sx_run.specs.Run.{Register, set_on, set_all}
+use Rattle.sx_world.proofs.doing.Composed.{remains_on, remains_wanted, remains_none}
+use Rattle.sx_world.proofs.granting.Given.{does_err}
+use Rattle.sx_world.proofs.doing.Loaded.{next_register, no_register, settable}
 use Rattle.sx_world.proofs.running.Running.set_all.Goals as goal
 
 pub returns-in_err-set_on-clause-does : goal.returns-in_err-set_on-clause-does

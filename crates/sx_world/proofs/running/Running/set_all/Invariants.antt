@@ -1,9 +1,9 @@
 use Rattle.std.proofs.Common.{◌≡◌, drop}
-use Rattle.sx_world.specs.Setting.{Setting}
+use Rattle.sx_run.specs.Setting.{Setting}
 use Rattle.sx_world.specs.Held.{boots_of}
-use Rattle.sx_world.specs.Run.{set_all}
+use Rattle.sx_run.specs.Run.{set_all}
 use Rattle.sx_world.specs.Loading.{AreSettable}
-use Rattle.sx_world.proofs.Composed.{Remains}
+use Rattle.sx_world.proofs.doing.Composed.{Remains}
 use Rattle.sx_world.proofs.running.Running.set_all.Given as goal
 
 abbrev pub invariant-loop-register : goal.invariant-loop-register

@@ -4,7 +4,8 @@ use Rattle.std.proofs.lemmas.List.{with_items_is}
 use Rattle.sx_machine.specs.State.{State}
 use Rattle.sx_machine.specs.Acts.{set, busy}
 use Rattle.sx_world.specs.Held.{Running}
-use Rattle.sx_world.proofs.Doing.{done_did, as_kept, lent_set, lent_long, unless_kept, boots_kept, unless_boot}
+use Rattle.sx_world.proofs.doing.Doing.{done_did, as_kept, lent_set, lent_long, unless_kept, boots_kept}
+use Rattle.sx_run.proofs.acts.Bounds.{unless_boot}
 use Rattle.sx_world.proofs.running.Running.set_on.Goals as goal
 
 pub returns-clause-done : goal.returns-clause-done

@@ -1,7 +1,8 @@
 use Rattle.std.proofs.Common.{ap}
 use Rattle.sx_deploy.specs.SeenDeployment.{deployed_as}
-use Rattle.sx_world.specs.Held.{Running, setting}
-use Rattle.sx_world.proofs.Passed.{node_there, shown_did, shown_front}
+use Rattle.sx_world.specs.Held.{Running}
+use Rattle.sx_run.specs.Accepted.{setting}
+use Rattle.sx_world.proofs.passing.Passed.{node_there, shown_did, shown_front}
 use Rattle.sx_world.proofs.running.Running.show.Goals as goal
 
 pub returns-clause-done : goal.returns-clause-done

@@ -1,11 +1,11 @@
 use Rattle.std.proofs.Common.{◌+◌, ◌-◌, ◌==◌, ◌&&◌, refl, ◌∙◌, arith}
 use Rattle.std.specs.Option.{option_to_list}
 use Rattle.sx_deploy.specs.SeenDeployment.{deployed_as}
-use Rattle.sx_world.specs.Held.{setting}
+use Rattle.sx_run.specs.Accepted.{setting}
 use Rattle.sx_world.specs.Passing.{after_steps, stepped}
-use Rattle.sx_world.proofs.Fronts.{err_any}
-use Rattle.sx_world.proofs.Going.{going_on, going_over, going_front, going_end, going_none, going_done, went_on}
-use Rattle.sx_world.proofs.Passed.{passage, passed_going, passed_did, passed_front, passed_ends, passed_small, passed_within, passed_steps, shown_within, all_passed, stepped_there, one_less}
+use Rattle.sx_world.proofs.showing.Fronts.{err_any}
+use Rattle.sx_world.proofs.passing.Going.{going_on, going_over, going_front, going_end, going_none, going_done, went_on}
+use Rattle.sx_world.proofs.passing.Passed.{passage, passed_going, passed_did, passed_front, passed_ends, passed_small, passed_within, passed_steps, shown_within, all_passed, stepped_there, one_less}
 use Rattle.sx_world.proofs.running.Running.steps_of.Goals as goal
 
 pub show-requires-clause-node : goal.show-requires-clause-node

@@ -3,8 +3,8 @@ use Rattle.std.specs.Prelude.{slice_get}
 use Rattle.std.specs.Option.{option_to_list}
 use Rattle.sx_machine.specs.State.{State}
 use Rattle.sx_deploy.specs.SeenDeployment.{deployed_as}
-use Rattle.sx_world.specs.Held.{setting}
-use Rattle.sx_world.proofs.Going.{Going}
+use Rattle.sx_run.specs.Accepted.{setting}
+use Rattle.sx_world.proofs.passing.Going.{Going}
 use Rattle.sx_world.proofs.running.Running.steps_of.Given as goal
 
 abbrev pub invariant-stretches : goal.invariant-stretches

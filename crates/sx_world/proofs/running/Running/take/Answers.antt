@@ -3,11 +3,11 @@ use Rattle.std.specs.Prelude.{slice_get}
 use Rattle.sx_machine.specs.declared.kinds.Refused.{Refused}
 use Rattle.sx_machine.specs.State.{State}
 use Rattle.sx_machine.specs.Acts.{take}
-use Rattle.sx_world.specs.Acts.{refused_item}
+use Rattle.sx_run.specs.Acts.{refused_item}
 use Rattle.sx_world.specs.Held.{Running}
-use Rattle.sx_world.proofs.Lists.{get_some}
-use Rattle.sx_world.proofs.Stepped.{refused_ok}
-use Rattle.sx_world.proofs.KeptPackets.{took_did, took_wanted, took_refused}
+use Rattle.sx_run.proofs.tie.Lists.{get_some}
+use Rattle.sx_world.proofs.passing.Stepped.{refused_ok}
+use Rattle.sx_world.proofs.doing.KeptPackets.{took_did, took_wanted, took_refused}
 use Rattle.sx_world.proofs.running.Running.take.Goals as goal
 
 pub returns-in-Ok-clause-front : goal.returns-in-Ok-clause-front

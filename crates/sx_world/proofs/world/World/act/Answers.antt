@@ -3,9 +3,9 @@ use Rattle.sx_deploy.specs.SeenDeployment.{deployed_as}
 use Rattle.sx_sched.specs.Lines.{line_of}
 use Rattle.sx_world.specs.Held.{Held, Running}
 use Rattle.sx_world.specs.Ready.{IsReady}
-use Rattle.sx_world.specs.Setting.{Site}
-use Rattle.sx_world.proofs.Continuing.{goes_on}
-use Rattle.sx_world.proofs.Readying.{stands_ready, act_did, act_wanted}
+use Rattle.sx_run.specs.Setting.{Site}
+use Rattle.sx_world.proofs.standing.Continuing.{goes_on}
+use Rattle.sx_world.proofs.standing.Readying.{stands_ready, act_did, act_wanted}
 use Rattle.sx_world.proofs.world.World.act.Goals as goal
 
 -- src/world.rt:106:15

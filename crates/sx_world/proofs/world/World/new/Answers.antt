@@ -5,11 +5,12 @@ use Rattle.sx_deploy.specs.SeenDeployment.{deployed_as}
 use Rattle.sx_deployer.specs.Keeping.{known}
 use Rattle.sx_image.specs.declared.image.Image.{Image}
 use Rattle.sx_mean.specs.View.{part_as}
-use Rattle.sx_world.specs.Accepted.{setting_of}
-use Rattle.sx_world.specs.Held.{setting, targets_from}
-use Rattle.sx_world.specs.Setting.{Site}
-use Rattle.sx_world.proofs.Readying.{targets_long}
-use Rattle.sx_world.proofs.SwitchedOn.{all_sited, keyed, stands_first}
+use Rattle.sx_run.specs.Accepted.{setting_of}
+use Rattle.sx_world.specs.Held.{targets_from}
+use Rattle.sx_run.specs.Accepted.{setting}
+use Rattle.sx_run.specs.Setting.{Site}
+use Rattle.sx_world.proofs.standing.Readying.{targets_long}
+use Rattle.sx_world.proofs.standing.SwitchedOn.{all_sited, keyed, stands_first}
 use Rattle.sx_world.proofs.world.World.new.Goals as goal
 
 -- src/world.rt:67:23

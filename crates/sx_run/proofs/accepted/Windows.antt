@@ -1,0 +1,98 @@
+-- A node's windows: each device of the node is one, and is found at its place.
+use Rattle.std.proofs.Common.{◌≡◌, ℕ, zero, suc, ◌+◌, ◌%◌, ◌<◌, ◌≤◌, ◌==◌, ◌&&◌, inl, inr, nat_lt, nat_le, Bool, true, false, if◌then◌else◌, List, [], ◌∷◌, length, map, get_or, Option, Some, None, refl, sym, ◌∙◌, ap, subst, arith}
+use Rattle.std.specs.Prelude.{slice_get, slice_index_or}
+use Rattle.std.proofs.lemmas.Bool.{and_parts, eq-eqb, cases_lt}
+use Rattle.std.proofs.lemmas.Bool.Decides.{nat_tests}
+use Rattle.std.proofs.lemmas.List.{length-map}
+use Rattle.std.proofs.lemmas.Option.{get_or_from_slice_get, slice_get-map}
+use Rattle.sx_mean.specs.declared.apps.AppDevice.{AppDevice}
+use Rattle.sx_bus.specs.declared.devices.Kind.{Kind}
+use Rattle.sx_bus.specs.declared.devices.Window.{Window}
+use Rattle.sx_bus.specs.Devices.{ArePlaces, places_of, on_word, device_at}
+use Rattle.sx_machine.specs.Run.{device_of, found}
+use Rattle.sx_run.specs.Setting.{devices_at, windows_at, kind_of}
+use Rattle.sx_run.proofs.tie.Lists.{some_inj, get_within}
+use Rattle.sx_run.proofs.tie.Tied.{shapes}
+use Rattle.sx_run.proofs.steps.Foreign.{position_some}
+use Rattle.sx_run.proofs.steps.Steps.{position_is}
+
+-- Windows at even places of their own.
+pub record AreSpaced (ws : List Window) : Type 0 where
+  pub even : (k : ℕ) (w : Window) → slice_get ws k ≡ Some w → w.at % 2 ≡ 0
+  pub apart : (j k : ℕ) (v w : Window) → slice_get ws j ≡ Some v → slice_get ws k ≡ Some w → v.at ≡ w.at → j ≡ k
+
+place_at : (ws : List Window) (k : ℕ) (w : Window) → slice_get ws k ≡ Some w → get_or (places_of ws) k 0 ≡ w.at
+place_at ws k w e = get_or_from_slice_get (places_of ws) k w.at 0 (slice_get-map (λ (w : Window). w.at) ws k ∙ ap (λ o. Rattle.std.specs.Prelude.option_map (λ (w : Window). w.at) o) e)
+
+pub are_spaced : (ws : List Window) → ArePlaces (places_of ws) → AreSpaced ws
+are_spaced ws h = record {
+  even = λ k w e. subst (λ p. p % 2 ≡ 0) (place_at ws k w e) (h.even k 0 (within k w e));
+  apart = λ j k v w ej ek same. elim (cases_lt j k) [
+    | inl lt ↦ absurd (h.distinct j k 0 lt (within k w ek) (place_at ws j v ej ∙ same ∙ sym (place_at ws k w ek)))
+    | inr ge ↦ elim (cases_lt k j) [
+      | inl lt ↦ absurd (h.distinct k j 0 lt (within j v ej) (place_at ws k w ek ∙ sym same ∙ sym (place_at ws j v ej)))
+      | inr ge2 ↦ omega (arith, ge, ge2)
+    ]
+  ];
+}
+  where
+    within : (k : ℕ) (w : Window) → slice_get ws k ≡ Some w → k < length (places_of ws)
+    within k w e = omega (arith, get_within ws k w e, length-map ws (λ (w : Window). w.at))
+
+on_own : (at : ℕ) (w : Window) → w.at ≡ at → on_word at w ≡ true
+on_own at w e = subst (λ p. (nat_le w.at p && nat_lt p (w.at + 2)) ≡ true) e (self w.at)
+  where
+    self : (p : ℕ) → (nat_le p p && nat_lt p (p + 2)) ≡ true
+    self p = grind (arith, nat_tests)
+
+on_even : (at : ℕ) (w : Window) → at % 2 ≡ 0 → w.at % 2 ≡ 0 → on_word at w ≡ true → w.at ≡ at
+on_even at w a b h = by_place w.at b h
+  where
+    by_place : (p : ℕ) → p % 2 ≡ 0 → (nat_le p at && nat_lt at (p + 2)) ≡ true → p ≡ at
+    by_place p b h =
+        let parts = and_parts (nat_le p at) (nat_lt at (p + 2)) h in
+        let le : p ≤ at = grind (arith, nat_tests, parts.0) in
+        let lt : at < p + 2 = grind (arith, nat_tests, parts.1) in
+        omega (arith, a, b, le, lt)
+
+-- a window is found at its place
+pub found_at : (ws : List Window) (k at : ℕ) (w : Window) → AreSpaced ws → slice_get ws k ≡ Some w → w.at ≡ at → device_of ws at ≡ Some (k, w)
+found_at ws k at w sp e same = by_case (device_at ws at) refl
+  where
+    by_case : (o : Option ℕ) → device_at ws at ≡ o → device_of ws at ≡ Some (k, w)
+    by_case None q = absurd (position_some (on_word at) 0 ws k w e (on_own at w same) q)
+    by_case (Some j) q =
+        let p = position_is (on_word at) 0 ws j q in
+        let even : at % 2 ≡ 0 = subst (λ p. p % 2 ≡ 0) same (sp.even k w e) in
+        let one : p.0 ≡ k = sp.apart p.0 k p.1 w p.3 e (on_even at p.1 even (sp.even p.0 p.1 p.3) p.4 ∙ sym same) in
+        let here : j ≡ k = (let e0 = p.2 in omega (arith, e0, one)) in
+        ap (found ws) (q ∙ ap (λ i. Some i) here) ∙ ap (λ o. Rattle.sx_machine.specs.Run.with_window k o) e
+
+-- a device of the node is one of its windows, by the same number
+pub own_device : (n i d : ℕ) (ds : List AppDevice) (ats : List ℕ) (x : AppDevice) (at : ℕ) → slice_get ds d ≡ Some x → x.node ≡ n → slice_get ats d ≡ Some at
+    → (k : ℕ) × (slice_get (devices_at n i ds) k ≡ Some (i + d)) × (slice_get (windows_at n ds ats) k ≡ Some (at, kind_of x.kind))
+own_device n i d [] ats x at e node a = absurd cc
+own_device n i d (y ∷ ds) [] x at e node a = absurd cc
+own_device n i zero (y ∷ ds) (b ∷ ats) x at e node a =
+    let same : y ≡ x = some_inj y x e in
+    let here : (y.node == n) ≡ true = eq-eqb y.node n (ap (λ (z : AppDevice). z.node) same ∙ node) in (
+      0,
+      ap (λ t. slice_get (if t then i ∷ devices_at n (i + 1) ds else devices_at n (i + 1) ds) 0) here ∙ ap (λ j. Some j) (omega arith),
+      ap (λ t. slice_get (if t then (b, kind_of y.kind) ∷ windows_at n ds ats else windows_at n ds ats) 0) here ∙ ap (λ (z : AppDevice). Some (b, kind_of z.kind)) same ∙ ap (λ c. Some (c, kind_of x.kind)) (some_inj b at a),
+    )
+own_device n i (suc d) (y ∷ ds) (b ∷ ats) x at e node a = head (y.node == n) (own_device n (i + 1) d ds ats x at e node a)
+  where
+    head : (t : Bool) → (k : ℕ) × (slice_get (devices_at n (i + 1) ds) k ≡ Some ((i + 1) + d)) × (slice_get (windows_at n ds ats) k ≡ Some (at, kind_of x.kind))
+        → (k : ℕ) × (slice_get (if t then i ∷ devices_at n (i + 1) ds else devices_at n (i + 1) ds) k ≡ Some (i + suc d))
+        × (slice_get (if t then (b, kind_of y.kind) ∷ windows_at n ds ats else windows_at n ds ats) k ≡ Some (at, kind_of x.kind))
+    head true r = (suc r.0, r.1 ∙ ap (λ j. Some j) (omega arith), r.2)
+    head false r = (r.0, r.1 ∙ ap (λ j. Some j) (omega arith), r.2)
+
+pub shape_window : (ws : List Window) (k : ℕ) (p : ℕ × Kind) → slice_get (shapes ws) k ≡ Some p → (w : Window) × (slice_get ws k ≡ Some w) × (w.at ≡ p.0) × (w.kind ≡ p.1)
+shape_window [] k p e = absurd cc
+shape_window (w ∷ ws) zero p e = (w, refl, ap (λ (p : ℕ × Kind). p.0) (some_inj (w.at, w.kind) p e), ap (λ (p : ℕ × Kind). p.1) (some_inj (w.at, w.kind) p e))
+shape_window (w ∷ ws) (suc k) p e = shape_window ws k p e
+
+pub places_shapes : (ws : List Window) → places_of ws ≡ map (λ (p : ℕ × Kind). p.0) (shapes ws)
+places_shapes [] = refl
+places_shapes (w ∷ ws) = ap (λ r. w.at ∷ r) (places_shapes ws)

@@ -1,0 +1,64 @@
+-- The runs of an accepted deployment are legal, from its text on.
+use Rattle.std.specs.Prelude.{◌≡◌, ℕ, ◌≤◌, List, [], ◌∷◌, length, slice_get, Some, Ok}
+use Rattle.sx_rules.specs.declared.section.Layout.{Layout}
+use Rattle.sx_tag.specs.Mac.{Mac, IsTag}
+use Rattle.sx_mean.specs.Application.{PartTree}
+use Rattle.sx_mean.specs.Ends.{ends_of}
+use Rattle.sx_trace.specs.Names.{NameLists}
+use Rattle.sx_sched.specs.Lines.{Line, IsLine}
+use Rattle.sx_deploy.specs.Deployment.{Deployed, IsRead}
+use Rattle.sx_image.specs.Realizes.{Realizes}
+use Rattle.sx_model.specs.Legal.{Legal, before}
+use Rattle.sx_run.specs.Setting.{Site, Setting}
+use Rattle.sx_run.specs.State.{switched_on}
+use Rattle.sx_run.specs.Run.{run}
+
+-- where each module stands, with the text of its image
+abbrev pub sites_of : List PartTree → List Layout → List ℕ → List (List ℕ) → List Site
+sites_of (q ∷ qs) (l ∷ ls) (p ∷ ps) (t ∷ ts) =
+    record { node = q.node; layout = l; provider = p; text = t } ∷ sites_of qs ls ps ts
+sites_of _ _ _ _ = []
+
+-- the setting of a run: a deployment's, with its modules at these sites
+abbrev pub setting : Mac → Deployed → List Site → Setting
+setting mac d sites = record {
+  mac = mac;
+  app = d.app;
+  sites = sites;
+  secret = d.secret;
+  keys = d.keys;
+  places = d.places;
+}
+
+-- with the texts of its modules' images, where they stand
+abbrev pub setting_of : Mac → Deployed → List (List ℕ) → Setting
+setting_of mac d texts = setting mac d (sites_of d.app.parts d.layouts d.providers texts)
+
+-- each text, where its module stands, realizes the module with its ends
+pub record AreImages (mac : Mac) (d : Deployed) (texts : List (List ℕ)) : Type 0 where
+  pub as_many : length texts ≡ length d.app.parts
+  pub realize : (p : ℕ) (q : PartTree) (layout : Layout) (provider : ℕ) (text : List ℕ)
+      → slice_get d.app.parts p ≡ Some q
+      → slice_get d.layouts p ≡ Some layout → slice_get d.providers p ≡ Some provider
+      → slice_get texts p ≡ Some text
+      → Realizes mac q.tree (ends_of d.app p) (record {
+        text = text;
+        layout = layout;
+        provider =
+            provider;
+      })
+
+-- lines that are in form for the deployment's names
+abbrev pub AreLines : NameLists → List Line → Type 0
+AreLines names [] = Unit {0}
+AreLines names (line ∷ lines) = IsLine names line × AreLines names lines
+
+-- From text to trace: for every text that is accepted, every lawful tag, all images that realize
+-- its modules and every schedule of at most 65,536 lines, the items before the first forged one are
+-- a legal run of the source.
+abbrev pub AcceptedRunsLegal : Type 0
+AcceptedRunsLegal = (text : List ℕ) (d : Deployed) → IsRead text (Ok d)
+    → (mac : Mac) (texts : List (List ℕ)) → IsTag mac → AreImages mac d texts
+    → (lines : List Line) → length lines ≤ 65536 → AreLines d.names lines
+    → Legal d.app (before (run (setting_of mac d texts) (switched_on (setting_of mac d texts))
+    lines).items)

@@ -1,0 +1,10 @@
+pub mod Setting
+pub mod Wire
+pub mod Ledger
+pub mod Deployer
+pub mod State
+pub mod Observation
+pub mod Acts
+pub mod Run
+pub mod Law
+pub mod Accepted

@@ -1,0 +1,121 @@
+-- What an act on one node leaves of the world that the program shows.
+use Rattle.std.proofs.Common.{◌≡◌, ℕ, zero, suc, inl, inr, ◌<◌, List, [], ◌∷◌, ◌++◌, length, Option, Some, None, Result, Ok, Err, OnOk, OnErr, refl, sym, subst, ap, ◌∙◌}
+use Rattle.std.specs.Prelude.{slice_get, slice_set}
+use Rattle.std.proofs.lemmas.Bool.{cases_eq}
+use Rattle.sx_rules.specs.Placed.{Placed}
+use Rattle.sx_rules.specs.Access.{Sections}
+use Rattle.sx_trace.specs.declared.items.Item.{Item}
+use Rattle.sx_ledger.specs.declared.entry.Entry.{Entry}
+use Rattle.sx_machine.specs.declared.kinds.Refused.{Refused}
+use Rattle.sx_machine.specs.State.{State, reset}
+use Rattle.sx_machine.specs.Guard.{Restart}
+use Rattle.sx_machine.proofs.Sections.{acted_placed}
+use Rattle.sx_machine.specs.Acts.{unless}
+use Rattle.sx_machine.specs.Step as machine
+use Rattle.sx_run.specs.Setting.{Setting}
+use Rattle.sx_ledger.specs.Made.{Made}
+use Rattle.sx_run.specs.State.{World, Acted}
+use Rattle.sx_run.specs.Acts.{at_node, with_node, done_on, or_refused}
+use Rattle.sx_world.specs.Held.{Running, Records, Shows, Did, Wanted, ArePlaced, boots_of}
+use Rattle.sx_world.proofs.showing.Fronts.{front_same}
+use Rattle.sx_run.proofs.tie.Lists.{get_same, get_other, get_some, some_inj, length_set}
+
+-- what is kept, with other nodes, another ledger, and another count of steps
+abbrev pub with_nodes : Running → List State → List Entry → ℕ → Running
+with_nodes h nodes ledger steps = record { nodes = nodes; packets = h.packets; deployer = h.deployer; ledger = ledger; steps = steps }
+
+set_placed : (nodes : List State) (n : ℕ) (s t : State) → slice_get nodes n ≡ Some s → ArePlaced nodes → Placed t.sections → ArePlaced (slice_set nodes n t)
+set_placed nodes n s t here all placed k u e = elim (cases_eq k n) [
+  | inl same ↦
+      let found = sym (get_same nodes n t s here) ∙ ap (λ (i : ℕ). slice_get (slice_set nodes n t) i) (sym same) ∙ e in
+      subst (λ (v : State). Placed v.sections) (some_inj t u found) placed
+  | inr other ↦ all k u (sym (get_other nodes n k t other) ∙ e)
+]
+
+-- one node changed
+pub node_shown : (set : Setting) (old : Running) (w : World) (n : ℕ) (s t : State) (entries : List Entry) (ledger : List Made) (steps : ℕ)
+    → Shows set old w → slice_get w.nodes n ≡ Some s → Placed t.sections → Records entries ledger
+    → Shows set (with_nodes old (slice_set old.nodes n t) entries steps) (with_node w n t ledger steps)
+node_shown set old w n s t entries ledger steps h here placed records = record {
+  nodes = ap (λ ns. slice_set ns n t) h.nodes;
+  packets = h.packets;
+  deployer = h.deployer;
+  ledger = records;
+  steps = refl;
+  placed = set_placed w.nodes n s t here h.placed placed;
+}
+
+-- an act that answers nothing was done on a node or refused
+pub done_did : {T E : Type 0} (r : Result T E) (old new : Running) (before after : List Item) (n : ℕ) (items : List Item)
+    (act : State → machine.Shown (Result (Unit {0}) Refused)) (answer : Result (Unit {0}) Refused) → n < length old.nodes
+    → ((s : State) → slice_get old.nodes n ≡ Some s → new ≡ with_nodes old (slice_set old.nodes n (act s).state) old.ledger old.steps)
+    → ((s : State) → slice_get old.nodes n ≡ Some s → answer ≡ (act s).shown)
+    → ((s : State) → (act s).state.sections ≡ s.sections)
+    → OnOk r (after ≡ before ++ or_refused n items answer)
+    → OnOk r ((set : Setting) → Did set old new before after (λ w. at_node w (λ s. done_on w n items (act s)) (slice_get w.nodes n)))
+done_did (Ok x) old new before after n items act answer lt left said kept ok = λ set w h.
+    let found = get_some old.nodes n lt in
+    let s = found.0 in
+    let here : slice_get w.nodes n ≡ Some s = ap (λ ns. slice_get ns n) (sym h.nodes) ∙ found.1 in
+    let f : State → Acted = λ s. done_on w n items (act s) in
+    let placed : Placed (act s).state.sections = subst (λ (x : Sections). Placed x) (sym (kept s)) (h.placed n s here) in
+    let steps : Shows set (with_nodes old (slice_set old.nodes n (act s).state) old.ledger old.steps) (with_node w n (act s).state w.ledger w.steps) =
+    subst (λ k. Shows set (with_nodes old (slice_set old.nodes n (act s).state) old.ledger k) (with_node w n (act s).state w.ledger w.steps)) (sym h.steps)
+    (node_shown set old w n s (act s).state old.ledger w.ledger w.steps h here placed h.ledger) in
+    subst (λ o. Shows set new (at_node w f o).world × (after ≡ before ++ (at_node w f o).items)) (sym here)
+    (subst (λ x. Shows set x (with_node w n (act s).state w.ledger w.steps)) (sym (left s found.1)) steps, ok ∙ ap (λ a. before ++ or_refused n items a) (said s found.1))
+done_did (Err e) old new before after n items act answer lt left said kept ok = tt
+
+-- memory ran out before an item was added
+pub wanted_same : {T E : Type 0} (r : Result T E) (old : Running) (before after : List Item) (act : World → Acted) → OnErr r (after ≡ before) → OnErr r ((set : Setting) → Wanted set old before after act)
+wanted_same (Ok x) old before after act err = tt
+wanted_same (Err e) old before after act err = λ set w h. front_same after before (act w).items err
+
+-- a refused act leaves the node
+pub unless_kept : {T : Type 0} (why : Option Refused) (s : State) (done : machine.Shown T) → done.state.sections ≡ s.sections → (unless why s done).state.sections ≡ s.sections
+unless_kept None s done e = e
+unless_kept (Some why) s done e = refl
+
+-- a node was reset
+pub reset_did : {T E : Type 0} (r : Result T E) (old new : Running) (before after : List Item) (n : ℕ) (items : List Item) → n < length old.nodes
+    → ((s : State) → slice_get old.nodes n ≡ Some s → new ≡ with_nodes old (slice_set old.nodes n (reset s)) old.ledger old.steps)
+    → OnOk r (after ≡ before ++ items)
+    → OnOk r ((set : Setting) → Did set old new before after (λ w. at_node w (λ s. record { world = with_node w n (reset s) w.ledger w.steps; items = items }) (slice_get w.nodes n)))
+reset_did (Ok x) old new before after n items lt left ok = λ set w h.
+    let found = get_some old.nodes n lt in
+    let s = found.0 in
+    let here : slice_get w.nodes n ≡ Some s = ap (λ ns. slice_get ns n) (sym h.nodes) ∙ found.1 in
+    let f : State → Acted = λ s. record { world = with_node w n (reset s) w.ledger w.steps; items = items } in
+    let steps : Shows set (with_nodes old (slice_set old.nodes n (reset s)) old.ledger old.steps) (with_node w n (reset s) w.ledger w.steps) =
+    subst (λ k. Shows set (with_nodes old (slice_set old.nodes n (reset s)) old.ledger k) (with_node w n (reset s) w.ledger w.steps)) (sym h.steps)
+    (node_shown set old w n s (reset s) old.ledger w.ledger w.steps h here (acted_placed set.mac Restart s (h.placed n s here)) h.ledger) in
+    subst (λ o. Shows set new (at_node w f o).world × (after ≡ before ++ (at_node w f o).items)) (sym here)
+    (subst (λ x. Shows set x (with_node w n (reset s) w.ledger w.steps)) (sym (left s found.1)) steps, ok)
+reset_did (Err e) old new before after n items lt left ok = tt
+
+set_boots : (nodes : List State) (n : ℕ) (s t : State) → slice_get nodes n ≡ Some s → t.boot ≡ s.boot → boots_of (slice_set nodes n t) ≡ boots_of nodes
+set_boots [] n s t here e = refl
+set_boots (x ∷ nodes) zero s t here e = ap (λ b. b ∷ boots_of nodes) (e ∙ sym (ap (λ (u : State). u.boot) (some_inj x s here)))
+set_boots (x ∷ nodes) (suc n) s t here e = ap (λ r. x.boot ∷ r) (set_boots nodes n s t here e)
+
+-- an act on a node that keeps its boot keeps all boots
+pub boots_kept : (old new : List State) (n : ℕ) (act : State → State) → n < length old → ((s : State) → slice_get old n ≡ Some s → new ≡ slice_set old n (act s))
+    → ((s : State) → (act s).boot ≡ s.boot) → boots_of new ≡ boots_of old
+boots_kept old new n act lt left kept =
+    let found = get_some old n lt in
+    ap boots_of (left found.0 found.1) ∙ set_boots old n found.0 (act found.0) found.1 (kept found.0)
+
+-- what is kept of a struct whose view it is, with another list of nodes
+pub as_kept : (old view : Running) (nodes : List State) (n : ℕ) (t : State) → view ≡ old → nodes ≡ slice_set old.nodes n t
+    → with_nodes view nodes view.ledger view.steps ≡ with_nodes old (slice_set old.nodes n t) old.ledger old.steps
+as_kept old view nodes n t v e = ap (λ ns. with_nodes view ns view.ledger view.steps) e ∙ ap (λ k. with_nodes k (slice_set old.nodes n t) k.ledger k.steps) v
+
+-- a list that was lent, with another element
+pub lent_set : (lent old new : List State) (n : ℕ) (s : State) (act : State → State) → lent ≡ old → slice_get old n ≡ Some s
+    → ((s : State) → slice_get lent n ≡ Some s → new ≡ slice_set lent n (act s)) → new ≡ slice_set old n (act s)
+lent_set lent old new n s act e there f = f s (ap (λ ns. slice_get ns n) e ∙ there) ∙ ap (λ ns. slice_set ns n (act s)) e
+
+-- it stays as long
+pub lent_long : (lent old new : List State) (n : ℕ) (s : State) (act : State → State) → lent ≡ old → slice_get old n ≡ Some s
+    → ((s : State) → slice_get lent n ≡ Some s → new ≡ slice_set lent n (act s)) → length new ≡ length lent
+lent_long lent old new n s act e there f = ap length (f s (ap (λ ns. slice_get ns n) e ∙ there)) ∙ length_set lent n (act s)

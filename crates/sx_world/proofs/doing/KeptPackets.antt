@@ -1,0 +1,109 @@
+-- Packets that are kept, and what is given of them.
+use Rattle.std.proofs.Common.{◌≡◌, ℕ, suc, ◌<◌, ◌≤◌, List, [], ◌∷◌, ◌++◌, length, map, get_or, Vec, Global, Some, None, Result, Ok, Err, OnOk, OnErr, refl, sym, subst, ap, ◌∙◌}
+use Rattle.std.specs.Prelude.{slice_get}
+use Rattle.std.proofs.lemmas.Option.{slice_get-map, slice_get-get_or, slice_get_past, get_or_from_slice_get}
+use Rattle.std.specs.Option.{option_map}
+use Rattle.sx_trace.specs.declared.items.Item.{Item}
+use Rattle.sx_trace.specs.declared.items.Item.TheVariants.{Packet, Skip}
+use Rattle.sx_run.specs.Setting.{Setting}
+use Rattle.sx_machine.specs.declared.kinds.Refused.{Refused}
+use Rattle.sx_machine.specs.State.{State}
+use Rattle.sx_machine.specs.Acts.{take}
+use Rattle.sx_run.specs.Acts.{at_node, refused_item, after_take, with_packet}
+use Rattle.sx_run.specs.Run.{give, put_on}
+use Rattle.sx_world.specs.Held.{Running, Shows, Did, Wanted}
+
+-- the bytes of a packet in memory
+abbrev pub bytes_in : Vec ℕ Global → List ℕ
+bytes_in p = p.items
+
+-- what is kept, with other packets
+abbrev pub with_packets : Running → List (List ℕ) → Running
+with_packets h packets = record { nodes = h.nodes; packets = packets; deployer = h.deployer; ledger = h.ledger; steps = h.steps }
+
+pub packet_found : (xs lent : List (Vec ℕ Global)) (packets : List (List ℕ)) (k : ℕ) (v : Vec ℕ Global) → map bytes_in xs ≡ packets → lent ≡ xs → k < length lent → v ≡ get_or lent k v
+    → slice_get packets k ≡ Some v.items
+packet_found xs lent packets k v e same lt here =
+    ap (λ ps. slice_get ps k) (sym e) ∙ slice_get-map bytes_in xs k
+    ∙ ap (option_map bytes_in) (ap (λ l. slice_get l k) (sym same) ∙ slice_get-get_or lent k v lt ∙ ap (λ x. Some x) (sym here))
+
+pub packet_none : (xs lent : List (Vec ℕ Global)) (packets : List (List ℕ)) (k : ℕ) → map bytes_in xs ≡ packets → lent ≡ xs → length lent ≤ k → slice_get packets k ≡ None
+packet_none xs lent packets k e same le =
+    ap (λ ps. slice_get ps k) (sym e) ∙ slice_get-map bytes_in xs k ∙ ap (option_map bytes_in) (ap (λ l. slice_get l k) (sym same) ∙ slice_get_past lent k le)
+
+-- a packet that is there is put
+pub give_did : {T E : Type 0} (r : Result T E) (old new : Running) (before after : List Item) (n at k : ℕ) (bytes : List ℕ) → slice_get old.packets k ≡ Some bytes
+    → OnOk r ((set : Setting) → Did set old new before after (put_on n at bytes)) → OnOk r ((set : Setting) → Did set old new before after (λ w. give w n at (slice_get w.packets k)))
+give_did (Ok x) old new before after n at k bytes found f = λ set w h.
+    subst (λ o. Shows set new (give w n at o).world × (after ≡ before ++ (give w n at o).items)) (sym (ap (λ ps. slice_get ps k) (sym h.packets) ∙ found)) (f set w h)
+give_did (Err x) old new before after n at k bytes found f = tt
+
+pub give_wanted : {T E : Type 0} (r : Result T E) (old : Running) (before after : List Item) (n at k : ℕ) (bytes : List ℕ) → slice_get old.packets k ≡ Some bytes
+    → OnErr r ((set : Setting) → Wanted set old before after (put_on n at bytes)) → OnErr r ((set : Setting) → Wanted set old before after (λ w. give w n at (slice_get w.packets k)))
+give_wanted (Ok x) old before after n at k bytes found f = tt
+give_wanted (Err x) old before after n at k bytes found f = λ set w h.
+    subst (λ o. Rattle.sx_world.specs.Held.IsFront after (before ++ (give w n at o).items)) (sym (ap (λ ps. slice_get ps k) (sym h.packets) ∙ found)) (f set w h)
+
+-- no packet is there
+pub give_none : {T E : Type 0} (r : Result T E) (old : Running) (before after : List Item) (n at k : ℕ) → slice_get old.packets k ≡ None
+    → OnOk r (after ≡ before ++ Skip n ∷ []) → OnOk r ((set : Setting) → Did set old old before after (λ w. give w n at (slice_get w.packets k)))
+give_none (Ok x) old before after n at k found e = λ set w h.
+    subst (λ o. Shows set old (give w n at o).world × (after ≡ before ++ (give w n at o).items)) (sym (ap (λ ps. slice_get ps k) (sym h.packets) ∙ found)) (h, e)
+give_none (Err x) old before after n at k found e = tt
+
+-- a new packet is kept
+pub packet_did : {T E : Type 0} (r : Result T E) (old view : Running) (packets : List (List ℕ)) (before after : List Item) (bytes : List ℕ) (number : ℕ) → view ≡ old
+    → packets ≡ old.packets ++ bytes ∷ [] → number ≡ length old.packets → OnOk r (after ≡ before ++ Packet number (length bytes) ∷ [])
+    → OnOk r ((set : Setting) → Did set old (with_packets view packets) before after (λ w. with_packet w bytes))
+packet_did (Ok x) old view packets before after bytes number v e count added = λ set w h. (
+  subst (λ (k : Running). Shows set (with_packets k packets) (with_packet w bytes).world) (sym v)
+      (record {
+        nodes = h.nodes;
+        packets = e ∙ ap (λ ps. ps ++ bytes ∷ []) h.packets;
+        deployer = h.deployer;
+        ledger = h.ledger;
+        steps = h.steps;
+        placed = h.placed;
+      }),
+  added ∙ ap (λ k. before ++ Packet k (length bytes) ∷ []) (count ∙ ap length h.packets),
+)
+packet_did (Err x) old view packets before after bytes number v e count added = tt
+
+pub map_push : (xs : List (Vec ℕ Global)) (p : Vec ℕ Global) → map bytes_in (xs ++ p ∷ []) ≡ map bytes_in xs ++ p.items ∷ []
+map_push [] p = refl
+map_push (x ∷ xs) p = ap (λ r. x.items ∷ r) (map_push xs p)
+
+pub map_long : (xs : List (Vec ℕ Global)) → length xs ≡ length (map bytes_in xs)
+map_long [] = refl
+map_long (x ∷ xs) = ap suc (map_long xs)
+
+-- bytes that were taken are a new packet
+pub took_wanted : {T E : Type 0} (r : Result T E) (old : Running) (before after : List Item) (n at len : ℕ) (bytes : List ℕ) (s : State) → slice_get old.nodes n ≡ Some s → (take s at len).shown ≡ Ok bytes
+    → OnErr r ((set : Setting) → Wanted set old before after (λ w. with_packet w bytes))
+    → OnErr r ((set : Setting) → Wanted set old before after (λ w. at_node w (λ s. after_take w n (take s at len).shown) (slice_get w.nodes n)))
+took_wanted (Ok x) old before after n at len bytes s here shown f = tt
+took_wanted (Err x) old before after n at len bytes s here shown f = λ set w h.
+    subst (λ o. Rattle.sx_world.specs.Held.IsFront after (before ++ (at_node w (λ s. after_take w n (take s at len).shown) o).items)) (sym (ap (λ ns. slice_get ns n) (sym h.nodes) ∙ here))
+    (subst (λ o. Rattle.sx_world.specs.Held.IsFront after (before ++ (after_take w n o).items)) (sym shown) (f set w h))
+
+pub took_did : {T E : Type 0} (r : Result T E) (old new : Running) (before after : List Item) (n at len : ℕ) (bytes : List ℕ) (s : State) → slice_get old.nodes n ≡ Some s → (take s at len).shown ≡ Ok bytes
+    → OnOk r ((set : Setting) → Did set old new before after (λ w. with_packet w bytes))
+    → OnOk r ((set : Setting) → Did set old new before after (λ w. at_node w (λ s. after_take w n (take s at len).shown) (slice_get w.nodes n)))
+took_did (Ok x) old new before after n at len bytes s here shown f = λ set w h.
+    subst (λ o. Shows set new (at_node w (λ s. after_take w n (take s at len).shown) o).world × (after ≡ before ++ (at_node w (λ s. after_take w n (take s at len).shown) o).items))
+    (sym (ap (λ ns. slice_get ns n) (sym h.nodes) ∙ here))
+    (subst (λ o. Shows set new (after_take w n o).world × (after ≡ before ++ (after_take w n o).items)) (sym shown) (f set w h))
+took_did (Err x) old new before after n at len bytes s here shown f = tt
+
+pub took_refused : {T E : Type 0} (r : Result T E) (old : Running) (before after : List Item) (n at len : ℕ) (why : Refused) (s : State) → slice_get old.nodes n ≡ Some s → (take s at len).shown ≡ Err why
+    → OnOk r (after ≡ before ++ refused_item n why ∷ [])
+    → OnOk r ((set : Setting) → Did set old old before after (λ w. at_node w (λ s. after_take w n (take s at len).shown) (slice_get w.nodes n)))
+took_refused (Ok x) old before after n at len why s here shown e = λ set w h.
+    subst (λ o. Shows set old (at_node w (λ s. after_take w n (take s at len).shown) o).world × (after ≡ before ++ (at_node w (λ s. after_take w n (take s at len).shown) o).items))
+    (sym (ap (λ ns. slice_get ns n) (sym h.nodes) ∙ here))
+    (subst (λ o. Shows set old (after_take w n o).world × (after ≡ before ++ (after_take w n o).items)) (sym shown) (h, e))
+took_refused (Err x) old before after n at len why s here shown e = tt
+
+-- the node at a place
+pub node_at : (nodes : List State) (n i : ℕ) (s node : State) → slice_get nodes n ≡ Some s → i ≡ n → node ≡ get_or nodes i node → node ≡ s
+node_at nodes n i s node here same e = e ∙ ap (λ k. get_or nodes k node) same ∙ get_or_from_slice_get nodes n s node here

@@ -1,0 +1,47 @@
+-- The place of a device among those of its node, counted over the devices before it.
+use Rattle.std.proofs.Common.{◌≡◌, ℕ, zero, suc, ◌+◌, ◌<◌, ◌==◌, cond, Bool, false, List, [], ◌∷◌, length, drop, Some, refl, sym, ap, ◌∙◌, arith}
+use Rattle.std.specs.Prelude.{slice_get, if◌then◌else◌}
+use Rattle.std.specs.List.{position_from}
+use Rattle.std.proofs.lemmas.Bool.{eq-eqb}
+use Rattle.std.proofs.lemmas.Bool.Decides.{nat_tests}
+use Rattle.sx_mean.specs.declared.apps.AppDevice.{AppDevice}
+use Rattle.sx_run.specs.Setting.{devices_at}
+use Rattle.sx_run.specs.Run.{or_else}
+use Rattle.sx_run.proofs.tie.Lists.{get_some, some_inj}
+
+other : (n k : ℕ) → (n ≡ k → ⊥) → (n == k) ≡ false
+other n k h = grind (arith, nat_tests)
+
+-- a device of the node, before the d-th
+pub one_before : (ds : List AppDevice) (n d i c : ℕ) (x : AppDevice) → i < d → x.node ≡ n
+    → position_from (λ k. k == d) c (devices_at n i (x ∷ ds)) ≡ position_from (λ k. k == d) (c + 1) (devices_at n (i + 1) ds)
+one_before ds n d i c x lt here =
+    ap (λ (b : Bool). position_from (λ k. k == d) c (if b then i ∷ devices_at n (i + 1) ds else devices_at n (i + 1) ds)) (eq-eqb x.node n here)
+    ∙ ap (λ (b : Bool). cond b (Some c) (position_from (λ k. k == d) (c + 1) (devices_at n (i + 1) ds))) (other i d (λ e. absurd (omega (arith, e, lt))))
+
+-- a device of another node
+pub none_before : (ds : List AppDevice) (n d i c : ℕ) (x : AppDevice) → (x.node ≡ n → ⊥)
+    → position_from (λ k. k == d) c (devices_at n i (x ∷ ds)) ≡ position_from (λ k. k == d) c (devices_at n (i + 1) ds)
+none_before ds n d i c x h = ap (λ (b : Bool). position_from (λ k. k == d) c (if b then i ∷ devices_at n (i + 1) ds else devices_at n (i + 1) ds)) (other x.node n h)
+
+-- the d-th device itself
+pub found : (ds : List AppDevice) (n d c : ℕ) (x : AppDevice) → x.node ≡ n → position_from (λ k. k == d) c (devices_at n d (x ∷ ds)) ≡ Some c
+found ds n d c x here =
+    ap (λ (b : Bool). position_from (λ k. k == d) c (if b then d ∷ devices_at n (d + 1) ds else devices_at n (d + 1) ds)) (eq-eqb x.node n here)
+    ∙ ap (λ (b : Bool). cond b (Some c) (position_from (λ k. k == d) (c + 1) (devices_at n (d + 1) ds))) (eq-eqb d d refl)
+
+drop_at : (ds : List AppDevice) (d : ℕ) (x : AppDevice) → slice_get ds d ≡ Some x → drop d ds ≡ x ∷ drop (suc d) ds
+drop_at [] d x e = absurd cc
+drop_at (y ∷ ds) zero x e = ap (λ z. z ∷ ds) (some_inj y x e)
+drop_at (y ∷ ds) (suc d) x e = drop_at ds d x e
+
+-- all devices before the d-th are counted
+pub counted_all : (ds : List AppDevice) (n d i c : ℕ) → ((x : AppDevice) → slice_get ds d ≡ Some x → x.node ≡ n) → d < length ds → i ≡ d
+    → position_from (λ k. k == d) c (devices_at n i (drop i ds)) ≡ position_from (λ k. k == d) 0 (devices_at n 0 ds)
+    → c ≡ or_else (position_from (λ k. k == d) 0 (devices_at n 0 ds))
+counted_all ds n d i c node lt same e =
+    let f = get_some ds d lt in
+    let there : position_from (λ k. k == d) c (devices_at n i (drop i ds)) ≡ Some c =
+    ap (λ j. position_from (λ k. k == d) c (devices_at n j (drop j ds))) same
+    ∙ ap (λ xs. position_from (λ k. k == d) c (devices_at n d xs)) (drop_at ds d f.0 f.1) ∙ found (drop (suc d) ds) n d c f.0 (node f.0 f.1) in
+    ap or_else (sym there ∙ e)

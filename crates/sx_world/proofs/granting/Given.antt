@@ -1,0 +1,173 @@
+-- Connection keys that are given: the packet and the entry of each grant.
+use Rattle.std.proofs.Common.{◌≡◌, ℕ, ◌+◌, ◌*◌, ◌<◌, List, [], ◌∷◌, ◌++◌, length, take, drop, drop-cons, add-one, get_or, IsErr, Option, Some, None, option_map, Result, Ok, Err, OnOk, OnErr, refl, sym, subst, ap, ◌∙◌, arith}
+use Rattle.std.specs.Prelude.{slice_get}
+use Rattle.std.proofs.lemmas.List.{append_assoc, append-nil}
+use Rattle.sx_lang.specs.declared.sides.Side.{Side}
+use Rattle.sx_lang.specs.declared.sides.Side.TheVariants.{From, To}
+use Rattle.sx_trace.specs.declared.items.Item.{Item}
+use Rattle.sx_trace.specs.declared.items.Item.TheVariants.{Packet}
+use Rattle.sx_ledger.specs.declared.entry.Entry.{Entry}
+use Rattle.sx_ledger.specs.declared.entry.Maker.TheVariants as maker
+use Rattle.sx_ledger.specs.Made.{Made, made}
+use Rattle.sx_tag.specs.Keys.{kdf}
+use Rattle.sx_tag.specs.Wrap.{wrapped}
+use Rattle.sx_wire.specs.Packets.{field}
+use Rattle.sx_wire.specs.Packets as wire
+use Rattle.sx_wire.proofs.Fields.{set_key_header_bytes}
+use Rattle.sx_deployer.specs.Keeping.{Keeping}
+use Rattle.sx_deployer.specs.Granting as granting
+use Rattle.sx_run.specs.Setting.{Site, Setting}
+use Rattle.sx_run.specs.Deployer.{DeployerState, Grant, key_of, side_number, connection_key, grant_header, set_key, set_key_entry}
+use Rattle.sx_run.specs.State.{World, Acted}
+use Rattle.sx_run.specs.Acts.{then_, with_deployer, key_given, keys_given}
+use Rattle.sx_world.specs.Held.{Running, IsKept, Records, IsFront, Shows, Did, Wanted, DoesAct}
+use Rattle.sx_world.proofs.showing.Fronts.{front_more, front_same}
+use Rattle.sx_world.proofs.granting.SameKeys.{low_bytes, known_as, known_site, unknown_site}
+use Rattle.sx_world.proofs.granting.Sent.{sent, deployer_shown, packet_shown, packet_item}
+
+same_side : (s : Side) → granting.side_number s ≡ side_number s
+same_side From = refl
+same_side To = refl
+
+small_side : (s : Side) → side_number s < 256
+small_side From = omega arith
+small_side To = omega arith
+
+same_header : (g : Grant) → g.«end».link < 256 → g.epoch < 256
+    → wire.set_key_header (field g.«end».link g.epoch) (granting.side_number g.«end».side) ≡ grant_header g
+same_header g hl he =
+    ap (λ n. wire.set_key_header (field g.«end».link g.epoch) n) (same_side g.«end».side)
+    ∙ set_key_header_bytes g.«end».link g.epoch (side_number g.«end».side) hl he (small_side g.«end».side)
+
+same_key : (set : Setting) (link epoch : ℕ) → granting.connection_key set.mac set.secret (field link epoch) ≡ connection_key set link epoch
+same_key set link epoch = ap (λ p. kdf set.mac set.secret p) (sym (low_bytes 2 (link + 256 * epoch)))
+
+-- the set-key packet that the program's deployer makes
+pub same_set_key : (set : Setting) (k : Keeping) (d : DeployerState) (m : ℕ) (site : Site) (g : Grant) → IsKept set k d → g.«end».link < 256 → g.epoch < 256
+    → granting.set_key set.mac k.secret (known_as set m site) g.boot g.«end» g.epoch ≡ set_key set site g
+same_set_key set k d m site g h hl he =
+    let packet : List ℕ → List ℕ → List ℕ = λ header body.
+    header ++ (wrapped set.mac (key_of set site g.boot) header body).cipher ++ (wrapped set.mac (key_of set site g.boot) header body).tag in
+    let link = field g.«end».link g.epoch in
+    let header = wire.set_key_header link (granting.side_number g.«end».side) in
+    ap (λ (s : List ℕ). packet header (granting.connection_key set.mac s link)) h.secret
+    ∙ ap (λ (x : List ℕ). packet x (granting.connection_key set.mac set.secret link)) (same_header g hl he)
+    ∙ ap (λ (x : List ℕ). packet (grant_header g) x) (same_key set g.«end».link g.epoch)
+
+-- the packet of a grant, where there is the holder
+same_answer : (set : Setting) (k : Keeping) (d : DeployerState) (g : Grant) (o : Option Site) → IsKept set k d → g.«end».link < 256 → g.epoch < 256 → slice_get set.sites g.holder ≡ o
+    → option_map (λ t. granting.set_key set.mac k.secret t g.boot g.«end» g.epoch) (slice_get k.targets g.holder) ≡ option_map (λ site. set_key set site g) o
+same_answer set k d g None h hl he e =
+    ap (option_map (λ t. granting.set_key set.mac k.secret t g.boot g.«end» g.epoch)) (unknown_site set k d g.holder h e)
+same_answer set k d g (Some site) h hl he e =
+    ap (option_map (λ t. granting.set_key set.mac k.secret t g.boot g.«end» g.epoch)) (known_site set k d g.holder site h e)
+    ∙ ap (λ (p : List ℕ). Some p) (same_set_key set k d g.holder site g h hl he)
+
+some_bytes : (x y : List ℕ) → ◌≡◌ {A = Option (List ℕ)} (Some x) (Some y) → x ≡ y
+some_bytes x y e = cc
+
+-- a key was given
+pub given_some : {X E : Type 0} (set : Setting) (r : Result X E) (old : Running) (entries : List Entry) (packets : List (List ℕ)) (before after : List Item) (g : Grant)
+    (count : ℕ) (packet key : List ℕ) → g.«end».link < 256 → g.epoch < 256
+    → Some packet ≡ option_map (λ t. granting.set_key set.mac old.deployer.secret t g.boot g.«end» g.epoch) (slice_get old.deployer.targets g.holder)
+    → key ≡ granting.connection_key set.mac set.secret (field g.«end».link g.epoch)
+    → ((list : List Made) → Records old.ledger list → Records entries (list ++ made maker.Deployer g.holder g.boot (take 6 packet) key ∷ []))
+    → count ≡ length old.packets
+    → OnOk r (packets ≡ old.packets ++ packet ∷ []) → OnOk r (after ≡ before ++ Packet count (length packet) ∷ []) → OnErr r (after ≡ before)
+    → DoesAct set r old (sent old packets old.deployer entries) before after (λ w. key_given set w g (slice_get set.sites g.holder))
+given_some set (Err e) old entries packets before after g count packet key hl he made_by key_is records n more added none = λ w h. front_same after before _ none
+given_some set (Ok x) old entries packets before after g count packet key hl he made_by key_is records n more added none = λ w h. did w h (slice_get set.sites g.holder) refl
+  where
+    did : (w : World) → Shows set old w → (o : Option Site) → slice_get set.sites g.holder ≡ o
+        → Shows set (sent old packets old.deployer entries) (key_given set w g o).world × (after ≡ before ++ (key_given set w g o).items)
+    did w h None e = absurd (no_packet (made_by ∙ same_answer set old.deployer w.deployer g None h.deployer hl he e))
+      where
+        no_packet : ◌≡◌ {A = Option (List ℕ)} (Some packet) None → ⊥
+        no_packet e = cc
+    did w h (Some site) e =
+        let same : packet ≡ set_key set site g = some_bytes packet (set_key set site g) (made_by ∙ same_answer set old.deployer w.deployer g (Some site) h.deployer hl he e) in
+        let entry : made maker.Deployer g.holder g.boot (take 6 packet) key ≡ set_key_entry set g =
+        ap (λ (p : List ℕ). made maker.Deployer g.holder g.boot (take 6 p) key) same
+        ∙ ap (λ (p : List ℕ). made maker.Deployer g.holder g.boot (grant_header g) p) (key_is ∙ same_key set g.«end».link g.epoch) in
+        let ledger = w.ledger ++ set_key_entry set g ∷ [] in
+        let kept : Records entries ledger = subst (λ (m : Made). Records entries (w.ledger ++ m ∷ [])) entry (records w.ledger h.ledger) in (
+          packet_shown set (sent old old.packets old.deployer entries) (with_deployer w w.deployer ledger) packets packet (set_key set site g)
+              (deployer_shown set old w old.deployer w.deployer entries ledger h h.deployer kept) more same,
+          added ∙ ap (λ i. before ++ i ∷ []) (packet_item old.packets w.packets count packet (set_key set site g) h.packets n same),
+        )
+
+-- no such holder
+pub given_none : (set : Setting) (old : Running) (before : List Item) (g : Grant)
+    → None ≡ option_map (λ t. granting.set_key set.mac old.deployer.secret t g.boot g.«end» g.epoch) (slice_get old.deployer.targets g.holder)
+    → Did set old old before before (λ w. key_given set w g (slice_get set.sites g.holder))
+given_none set old before g made_by = λ w h. did w h (slice_get set.sites g.holder) refl
+  where
+    did : (w : World) → Shows set old w → (o : Option Site) → slice_get set.sites g.holder ≡ o
+        → Shows set old (key_given set w g o).world × (before ≡ before ++ (key_given set w g o).items)
+    did w h None e = (h, sym (append-nil before))
+    did w h (Some site) e =
+        absurd (no_packet (made_by ∙ ap (option_map (λ t. granting.set_key set.mac old.deployer.secret t g.boot g.«end» g.epoch))
+        (known_site set old.deployer w.deployer g.holder site h.deployer e)))
+      where
+        no_packet : {p : List ℕ} → ◌≡◌ {A = Option (List ℕ)} None (Some p) → ⊥
+        no_packet e = cc
+
+-- of all grants these are left, and these items have come
+pub record Giving (set : Setting) (all left : List Grant) (old now : Running) (before came : List Item) : Type 0 where
+  pub goes : (w : World) → Shows set old w → (v : World) × Shows set now v
+      × ((keys_given set left v).world ≡ (keys_given set all w).world)
+      × (came ++ (keys_given set left v).items ≡ before ++ (keys_given set all w).items)
+
+pub giving_first : (set : Setting) (all : List Grant) (old : Running) (before : List Item) → Giving set all all old old before before
+giving_first set all old before = record { goes = λ w h. (w, h, refl, refl) }
+
+-- one more key was given
+pub giving_on : (set : Setting) (all left rest : List Grant) (g : Grant) (old now new : Running) (before came after : List Item)
+    → Giving set all left old now before came → left ≡ g ∷ rest → Did set now new came after (λ w. key_given set w g (slice_get set.sites g.holder))
+    → Giving set all rest old new before after
+giving_on set all left rest g old now new before came after giving e did = record {
+  goes = λ w h.
+      let a = giving.goes w h in
+      let v = a.0 in
+      let one = key_given set v g (slice_get set.sites g.holder) in
+      let d = did v a.1 in
+      let whole : keys_given set left v ≡ then_ one (keys_given set rest) = ap (λ gs. keys_given set gs v) e in
+      let more = (keys_given set rest one.world).items in (
+        one.world,
+        d.0,
+        ap (λ x. x.world) (sym whole) ∙ a.2,
+        ap (λ x. x ++ more) d.1 ∙ append_assoc came one.items more ∙ ap (λ x. came ++ x.items) (sym whole) ∙ a.3,
+      );
+}
+
+-- all keys were given
+pub giving_all : (set : Setting) (all left : List Grant) (old now : Running) (before came : List Item) → Giving set all left old now before came → left ≡ []
+    → Did set old now before came (keys_given set all)
+giving_all set all left old now before came giving e = λ w h.
+    let a = giving.goes w h in
+    let none : keys_given set left a.0 ≡ keys_given set [] a.0 = ap (λ gs. keys_given set gs a.0) e in (
+      subst (λ x. Shows set now x) (ap (λ x. x.world) (sym none) ∙ a.2) a.1,
+      sym (append-nil came) ∙ ap (λ x. came ++ x.items) (sym none) ∙ a.3,
+    )
+
+-- a key for which memory ran out
+pub giving_front : (set : Setting) (all left rest : List Grant) (g : Grant) (old now : Running) (before came after : List Item)
+    → Giving set all left old now before came → left ≡ g ∷ rest → Wanted set now came after (λ w. key_given set w g (slice_get set.sites g.holder))
+    → Wanted set old before after (keys_given set all)
+giving_front set all left rest g old now before came after giving e wanted = λ w h.
+    let a = giving.goes w h in
+    let v = a.0 in
+    let one = key_given set v g (slice_get set.sites g.holder) in
+    let whole : keys_given set left v ≡ then_ one (keys_given set rest) = ap (λ gs. keys_given set gs v) e in
+    subst (λ x. IsFront after x) (ap (λ x. came ++ x.items) (sym whole) ∙ a.3)
+    (front_more after came one.items (keys_given set rest one.world).items (wanted v a.1))
+
+pub next_grant : (gs : List Grant) (i : ℕ) (g : Grant) → i < length gs → g ≡ get_or gs i g → drop i gs ≡ g ∷ drop (i + 1) gs
+next_grant gs i g h e =
+    drop-cons gs i g h ∙ ap (λ (n : ℕ). get_or gs i g ∷ drop n gs) (sym (add-one i)) ∙ ap (λ (x : Grant). x ∷ drop (i + 1) gs) (sym e)
+
+-- a lack of memory
+pub does_err : {X E : Type 0} (set : Setting) (r : Result X E) (old new : Running) (before after : List Item) (act : World → Acted) → IsErr r
+    → Wanted set old before after act → DoesAct set r old new before after act
+does_err set (Ok x) old new before after act e wanted = absurd cc
+does_err set (Err x) old new before after act e wanted = wanted

@@ -1,0 +1,4 @@
+-- Steps of a node: one by one (Going, Stepped), and those that show nothing in one go (Passed).
+pub mod Going
+pub mod Stepped
+pub mod Passed

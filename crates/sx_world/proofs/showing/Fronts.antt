@@ -1,0 +1,70 @@
+-- Fronts of the items that are due.
+use Rattle.std.proofs.Common.{◌≡◌, ℕ, Some, Result, Ok, Err, OnErr, List, ◌++◌, refl, sym, subst, ap, ◌∙◌}
+use Rattle.std.proofs.lemmas.List.{append_assoc}
+use Rattle.sx_trace.specs.declared.items.Item.{Item}
+use Rattle.sx_ledger.specs.declared.entry.Entry.{Entry}
+use Rattle.sx_ledger.specs.Made.{Made}
+use Rattle.sx_machine.specs.declared.kinds.Event.{Event}
+use Rattle.sx_machine.specs.declared.kinds.Event.TheVariants.{Wrapped, Unwrapped}
+use Rattle.sx_machine.specs.declared.kinds.Exchange.{Exchange}
+use Rattle.sx_machine.specs.State.{State}
+use Rattle.sx_run.specs.Setting.{Setting}
+use Rattle.sx_run.specs.Ledger.{header_of, body_of}
+use Rattle.sx_run.specs.Observation.{Observed, event_seen, has_wrapped, has_unwrapped}
+use Rattle.sx_world.specs.Held.{IsFront, Records, ObservesFront}
+
+-- nothing was added
+pub front_none : (old due : List Item) → IsFront old (old ++ due)
+front_none old due = (due, refl)
+
+pub front_same : (new old due : List Item) → new ≡ old → IsFront new (old ++ due)
+front_same new old due e = (due, ap (λ x. x ++ due) e)
+
+-- a prefix of the first part
+pub front_more : (new old a b : List Item) → IsFront new (old ++ a) → IsFront new (old ++ (a ++ b))
+front_more new old a b f = (f.0 ++ b, sym (append_assoc new f.0 b) ∙ ap (λ x. x ++ b) f.1 ∙ append_assoc old a b)
+
+-- the first part and a prefix of the second
+pub front_next : (new mid old a b : List Item) → mid ≡ old ++ a → IsFront new (mid ++ b) → IsFront new (old ++ (a ++ b))
+front_next new mid old a b e f = (f.0, f.1 ∙ ap (λ x. x ++ b) e ∙ append_assoc old a b)
+
+-- both parts
+pub whole_next : (new mid old a b : List Item) → mid ≡ old ++ a → new ≡ mid ++ b → new ≡ old ++ (a ++ b)
+whole_next new mid old a b e f = f ∙ ap (λ x. x ++ b) e ∙ append_assoc old a b
+
+-- a fact that holds of every answer holds of a lack of memory
+pub err_any : {T E : Type 0} (r : Result T E) {A : Type 0} → A → OnErr r A
+err_any (Ok x) a = tt
+err_any (Err e) a = a
+
+-- a prefix of what is due, said otherwise
+pub due_same : {T E : Type 0} (r : Result T E) (old : List Entry) (before after : List Item) (due said : List Made → Observed) → ((list : List Made) → due list ≡ said list)
+    → OnErr r (ObservesFront old before after due) → OnErr r (ObservesFront old before after said)
+due_same (Ok x) old before after due said same f = tt
+due_same (Err e) old before after due said same f = λ list h. subst (λ (o : Observed). IsFront after (before ++ o.items)) (same list) (f list h)
+
+-- a prefix of items alone
+pub due_items : {T E : Type 0} (r : Result T E) (old : List Entry) (before after : List Item) (due : List Made → List Item) (said : List Made → Observed)
+    → ((list : List Made) → due list ≡ (said list).items)
+    → OnErr r ((list : List Made) → Records old list → IsFront after (before ++ due list)) → OnErr r (ObservesFront old before after said)
+due_items (Ok x) old before after due said same f = tt
+due_items (Err e) old before after due said same f = λ list h. subst (λ xs. IsFront after (before ++ xs)) (same list) (f list h)
+
+-- items came before
+pub due_next : {T E : Type 0} (r : Result T E) (old : List Entry) (before mid after ts : List Item) (due : List Made → Observed) → mid ≡ before ++ ts
+    → OnErr r (ObservesFront old mid after due) → OnErr r (ObservesFront old before after (λ list. record { items = ts ++ (due list).items; ledger = (due list).ledger }))
+due_next (Ok x) old before mid after ts due e f = tt
+due_next (Err w) old before mid after ts due e f = λ list h. front_next after mid before ts (due list).items e (f list h)
+
+-- what an exchange of a deployed module shows
+pub wrapped_seen : (set : Setting) (n m : ℕ) (s : State) (event : Event) (id boot : ℕ) (x : Exchange) (list : List Made) → event ≡ Wrapped id → boot ≡ s.boot → x ≡ s.exchange
+    → has_wrapped m boot (header_of x) (body_of x) x.own_key list ≡ event_seen set n (Some m) s list event
+wrapped_seen set n m s event id boot x list e b y =
+    ap (λ k. has_wrapped m k (header_of x) (body_of x) x.own_key list) b ∙ ap (λ (z : Exchange). has_wrapped m s.boot (header_of z) (body_of z) z.own_key list) y
+    ∙ sym (ap (event_seen set n (Some m) s list) e)
+
+pub unwrapped_seen : (set : Setting) (n m : ℕ) (s : State) (event : Event) (id boot : ℕ) (x : Exchange) (list : List Made) → event ≡ Unwrapped id → boot ≡ s.boot → x ≡ s.exchange
+    → has_unwrapped set.app m boot (header_of x) (body_of x) list ≡ (event_seen set n (Some m) s list event).items
+unwrapped_seen set n m s event id boot x list e b y =
+    ap (λ k. has_unwrapped set.app m k (header_of x) (body_of x) list) b ∙ ap (λ (z : Exchange). has_unwrapped set.app m s.boot (header_of z) (body_of z) list) y
+    ∙ sym (ap (λ v. (event_seen set n (Some m) s list v).items) e)
