@@ -1,45 +1,201 @@
 #!/usr/bin/env python3
-"""Prints the definitions of the headline in reading order, with the lines of each (no comments, no imports)."""
+"""Prints the definitions that a reader of the headline must believe, by what it reaches, with the lines of each file.
 
+    tools/believed.py [CRATE.FILE.NAME..]      from these definitions on, where some are named
+
+A definition is reached where its name stands in one that is reached. Its lines count without comments and imports;
+the kit's own definitions don't count. Two tiers: the core is about runs, for every sound setting and every list of
+lines in form; the rest is what leads there from the text that is read, and to the text that is written.
+"""
+
+import re
+import sys
+from collections import defaultdict
 from pathlib import Path
 
 CRATES = Path(__file__).resolve().parent.parent / "crates"
 
-GROUPS = [
-    ("The source", [
-        ("sx_mean", "Application Ends Places Meaning React"),
-        ("sx_model", "State Reaction Renewal Step Legal"),
-    ]),
-    ("What a reader may take", [("sx_model", "Consequences"), ("sx_trace", "Items")]),
-    ("What is written", [
-        ("sx_top", "Promises Runs Run Schedule WellFormed Histories Faults Check Commands Output"),
-        ("sx_sched", "Lines Words Reading"),
-        ("sx_told", "Told Reads Further"),
-        ("sx_io", "Streams Reading Numbers Counts Prefixes"),
-        ("sx_head", "Head"),
-    ]),
-    ("The run", [
-        ("sx_world", "Setting State Acts Observation Ledger Wire Deployer Run Accepted"),
-    ]),
+SOURCE = ["sx_model.Legal.Legal", "sx_model.Legal.before"]
+CORE = SOURCE + [
+    "sx_run.Law.RunsLegal",
+    "sx_guard.Guarded.GuardedRun",
+    "sx_model.Consequences.TellsReader",
+    "sx_trace.Items.item_words", "sx_trace.Items.spaced_words",
+    "sx_tag.Mac.hmac_sha256",
 ]
+# The record of the command `run`, and what the whole program promises.
+HEADLINE = ["*.Runs.RunSays"]
+PROGRAM = ["*.Promises.ProgramTold"]
+
+WORD = re.compile(r"[^\s(){}\[\],;:.=→λ∷×⊎≡≤<+*/%&|?!«»]+")
+HEAD = re.compile(r"^(?:(?:abbrev|unfoldable|pub|record|data|opaque)\s+)*(\S+)")
+IMPORT = re.compile(r"(?:pub )?use Rattle\.([\w.]+?)(?:\.\{([^}]*)\}| as (\w+))?$")
 
 
-def is_definition(line):
-    text = line.strip()
-    return text and not text.startswith(("--", "use "))
+class Definition:
+    def __init__(self, place, name):
+        self.place, self.name, self.lines, self.text = place, name, 0, []
 
 
-def lines(crate, name):
-    text = (CRATES / crate / "specs" / f"{name}.antt").read_text()
-    return sum(1 for line in text.splitlines() if is_definition(line))
+def is_text(line):
+    return line.strip() and not line.strip().startswith("--")
+
+
+def parts(lines):
+    """The definitions of a file, each with the names that stand for it: its own, its constructors', its fields'."""
+    name, rows = None, []
+    for line in filter(is_text, lines):
+        if line.startswith(("use ", "pub use ", "module ", "pub mod", "mod ")):
+            continue
+        if not line[0].isspace():
+            head = HEAD.match(line).group(1)
+            if head != name:
+                if name:
+                    yield name, rows
+                name, rows = head, []
+        rows.append(line)
+    if name:
+        yield name, rows
+
+
+def constructors(rows):
+    if re.match(r"(pub )?data\b", rows[0]):
+        for row in rows[1:]:
+            yield row.split(":")[0].split()[0] if ":" in row else row.split()[0]
+
+
+def rust_types(crate):
+    """The types of a crate's source that definitions name: path, name, lines."""
+    for path in (CRATES / crate / "src").rglob("*.rt"):
+        text = path.read_text()
+        for m in re.finditer(r"^pub (?:enum|struct) (\w+)[^{;]*(?:\{(.*?)^\}|;)", text, re.M | re.S):
+            body = [r for r in m.group(0).splitlines() if r.strip() and not r.strip().startswith(("//", "#["))]
+            yield f"{crate}/src/{path.name}", m.group(1), len(body)
+
+
+class Repository:
+    def __init__(self):
+        self.definitions = {}
+        self.names = defaultdict(dict)
+        self.imports = defaultdict(dict)
+        self.modules = {}
+        for crate in sorted(it.name for it in CRATES.iterdir() if (it / "specs").is_dir()):
+            self.read(crate)
+
+    def add(self, key, definition, names):
+        self.definitions[key] = definition
+        for name in names:
+            self.names[key[0]].setdefault(name, key)
+
+    def read(self, crate):
+        for place, name, lines in rust_types(crate):
+            it = Definition(place, name)
+            it.lines = lines
+            self.add((f"{crate}.declared", name), it, [name])
+        for path in (CRATES / crate / "specs").rglob("*.antt"):
+            module = ".".join([crate, *path.relative_to(CRATES / crate / "specs").with_suffix("").parts])
+            lines = path.read_text().splitlines()
+            for name, rows in parts(lines):
+                it = Definition(f"{crate}/specs/{path.name}", name)
+                it.lines, it.text = len(rows), rows
+                self.add((module, name), it, [name, *constructors(rows)])
+            for line in lines:
+                self.add_import(module, line)
+
+    def add_import(self, module, line):
+        m = IMPORT.match(line.strip().rstrip(";"))
+        if not m:
+            return
+        path, names, alias = m.groups()
+        target = self.target(path)
+        if target is None:
+            return
+        if names is None:
+            self.modules[module, alias or path.split(".")[-1]] = target
+            return
+        for name in names.split(","):
+            old, _, new = name.strip().partition(" as ")
+            self.imports[module][new or old] = (target, old)
+
+    @staticmethod
+    def target(path):
+        """The module that a path names; of a type of the source the crate and the type."""
+        words = path.split(".")
+        if len(words) > 2 and words[1] == "specs" and words[0].startswith("sx_"):
+            if words[2] == "declared":
+                return (f"{words[0]}.declared", words[4])
+            return ".".join([words[0], *words[2:]])
+        return None
+
+    def find(self, target, name):
+        if isinstance(target, tuple):
+            return target if target in self.definitions else None
+        key = self.names[target].get(name)
+        if key is None and name in self.imports[target]:
+            return self.find(*self.imports[target][name])
+        return key
+
+    def named(self, key):
+        module = key[0]
+        for row in self.definitions[key].text:
+            code = row.split(" -- ")[0]
+            for m in re.finditer(r"Rattle\.([\w.]+)\.(\w+)", code):
+                target = self.target(m.group(1))
+                if target:
+                    yield self.find(target, m.group(2))
+            for m in re.finditer(r"\b(\w+)\.(\w+)", code):
+                if (module, m.group(1)) in self.modules:
+                    yield self.find(self.modules[module, m.group(1)], m.group(2))
+            for word in WORD.findall(code):
+                if word in self.names[module]:
+                    yield self.names[module][word]
+                elif word in self.imports[module]:
+                    yield self.find(*self.imports[module][word])
+
+    def roots(self, names):
+        for name in names:
+            crate, rest = name.split(".", 1)
+            module, _, own = rest.rpartition(".")
+            found = [k for k in self.definitions if k[1] == own and k[0].endswith("." + module)
+                     and crate in ("*", k[0].split(".")[0])]
+            if not found:
+                sys.exit(f"no definition {name}")
+            yield from found
+
+    def reached(self, names):
+        seen, left = set(), list(self.roots(names))
+        while left:
+            key = left.pop()
+            if key is not None and key not in seen:
+                seen.add(key)
+                left += self.named(key)
+        return seen
+
+    def lines(self, keys):
+        return sum(self.definitions[key].lines for key in keys)
+
+    def show(self, title, keys):
+        print(f"{title}: {self.lines(keys)} lines")
+        files = defaultdict(int)
+        for key in keys:
+            files[self.definitions[key].place] += self.definitions[key].lines
+        for place in sorted(files):
+            print(f"  {files[place]:4} {place}")
 
 
 def main():
-    for title, crates in GROUPS:
-        rows = [(crate, name, lines(crate, name)) for crate, names in crates for name in names.split()]
-        print(f"{title}: {sum(count for _, _, count in rows)} lines")
-        for crate, name, count in rows:
-            print(f"  {count:4} {crate}/specs/{name}.antt")
+    repository = Repository()
+    if sys.argv[1:]:
+        return repository.show("reached", repository.reached(sys.argv[1:]))
+    source = repository.reached(SOURCE)
+    core = repository.reached(CORE)
+    headline = repository.reached(CORE + HEADLINE)
+    program = repository.reached(CORE + HEADLINE + PROGRAM)
+    repository.show("The source: application, model, legal run and items", source)
+    repository.show("The core, beside it", core - source)
+    repository.show("From the text on", headline - core)
+    repository.show("The other commands", program - headline)
+    print(f"core {repository.lines(core)}, headline {repository.lines(headline)}, program {repository.lines(program)} lines")
 
 
 main()

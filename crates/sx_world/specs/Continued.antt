@@ -8,7 +8,7 @@ use Rattle.sx_run.specs.Setting.{Setting}
 use Rattle.sx_run.specs.State.{World, Acted, switched_on}
 use Rattle.sx_run.specs.Run.{after_line, line_counted, run}
 use Rattle.sx_run.specs.Law.{LinesInForm}
-use Rattle.sx_world.specs.Held.{Held, IsFront}
+use Rattle.sx_world.specs.Held.{Held, AddsFront}
 use Rattle.sx_world.specs.Standing.{Stands}
 
 -- the next line, counted, in a world
@@ -22,10 +22,10 @@ Acts set line held left old new =
     (w : World) → Stands set held w
     → Stands set left (next set w line).world × (new ≡ old ++ (next set w line).items)
 
--- Memory ran out: a prefix of the line's items was appended.
+-- Memory ran out: the items that stood before stay, and a prefix of the line's was appended.
 abbrev pub ActsInPart : Setting → Line → Held → List Item → List Item → Type 0
 ActsInPart set line held old new =
-    (w : World) → Stands set held w → IsFront new (old ++ (next set w line).items)
+    (w : World) → Stands set held w → AddsFront old new (next set w line).items
 
 -- the run of a schedule, from power-on
 abbrev pub whole_run : Setting → List Line → Acted

@@ -47,16 +47,21 @@ Records entries ledger =
 abbrev pub IsFront : List Item → List Item → Type 0
 IsFront items due = (rest : List Item) × (items ++ rest ≡ due)
 
+-- the items that stood before stay, and a prefix of those that are due was added
+abbrev pub AddsFront : List Item → List Item → List Item → Type 0
+AddsFront before after due =
+    (front : List Item) × (after ≡ before ++ front) × IsFront front due
+
 -- the items and the ledger are those that are due, whatever was made before
 abbrev pub Observes : List Entry → List Entry → List Item → List Item → (List Made → Observed)
     → Type 0
 Observes old new before after due = (ledger : List Made) → Records old ledger
     → (after ≡ before ++ (due ledger).items) × Records new (due ledger).ledger
 
--- memory ran out before all items that are due were added
+-- memory ran out before all items that are due were added; those that stood before stay
 abbrev pub ObservesFront : List Entry → List Item → List Item → (List Made → Observed) → Type 0
 ObservesFront old before after due =
-    (ledger : List Made) → Records old ledger → IsFront after (before ++ (due ledger).items)
+    (ledger : List Made) → Records old ledger → AddsFront before after (due ledger).items
 
 -- the modules from the m-th on, as the deployer knows them
 abbrev pub targets_from : Setting → ℕ → List Site → List Known
@@ -102,10 +107,10 @@ abbrev pub Did : Setting → Running → Running → List Item → List Item →
 Did set old new before after act =
     (w : World) → Shows set old w → Shows set new (act w).world × (after ≡ before ++ (act w).items)
 
--- Memory ran out: a prefix of the act's items was added.
+-- Memory ran out: the items that stood before stay, and a prefix of the act's items was added.
 abbrev pub Wanted : Setting → Running → List Item → List Item → (World → Acted) → Type 0
 Wanted set old before after act =
-    (w : World) → Shows set old w → IsFront after (before ++ (act w).items)
+    (w : World) → Shows set old w → AddsFront before after (act w).items
 
 -- a call did this act, or ran out of memory
 abbrev pub DoesAct : {X E : Type 0} → Setting → Result X E → Running → Running → List Item

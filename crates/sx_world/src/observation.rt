@@ -7,7 +7,7 @@ ghost use Rattle.sx_trace.specs.declared.items.Item.TheVariants.{Done};
 ghost use Rattle.sx_mean.specs.View.{app_as};
 ghost use Rattle.sx_ledger.specs.Made.{Made};
 ghost use Rattle.sx_deploy.specs.SeenDeployment.{deployed_as};
-ghost use Rattle.sx_world.specs.Held.{IsFront, Observes, ObservesFront};
+ghost use Rattle.sx_world.specs.Held.{AddsFront, Observes, ObservesFront};
 ghost use Rattle.sx_run.specs.Accepted.{setting};
 ghost use Rattle.sx_run.specs.Observation.{cause_of, event_seen, observed, protect_item};
 ghost use Rattle.sx_run.specs.Observation.{read_item, touch_items, write_item};
@@ -161,8 +161,8 @@ fn add_touches(
     requires { length app.now.devices.items ≤ 256 }
     ensures ok { OnOk result (items.new.items ≡ items.old.items
         ++ touch_items (app_as app.now) n runner touches.now) }
-    ensures front { OnErr result (IsFront items.new.items
-        (items.old.items ++ touch_items (app_as app.now) n runner touches.now)) }
+    ensures front { OnErr result (AddsFront items.old.items items.new.items
+        (touch_items (app_as app.now) n runner touches.now)) }
 {
     for touch in touches {
         add_touch(app, n, runner, *touch, items)?;

@@ -6,7 +6,7 @@ ghost use Rattle.sx_world.specs.Computed.{at_side, is_held};
 ghost use Rattle.sx_trace.specs.declared.items.Item.TheVariants.{Open, Take};
 ghost use Rattle.sx_ledger.specs.Made.{Made, made};
 ghost use Rattle.sx_mean.specs.View.{app_as};
-ghost use Rattle.sx_world.specs.Held.{Records, IsFront, Observes, ObservesFront};
+ghost use Rattle.sx_world.specs.Held.{AddsFront, Records, Observes, ObservesFront};
 ghost use Rattle.sx_run.specs.Ledger.{body_of, header_of, is_made};
 ghost use Rattle.sx_run.specs.Observation.{has_end, has_unwrapped, has_wrapped, sender_of};
 ghost use Rattle.sx_run.specs.Observation.{side_in, unless_made};
@@ -124,8 +124,8 @@ pub(crate) fn add_unless_made(
     item: Item,
 ) -> Result<(), AllocError>
     ensures ok { OnOk result (items.new.items ≡ items.old.items ++ unless_made who made item) }
-    ensures front { OnErr result (IsFront items.new.items
-        (items.old.items ++ unless_made who made item)) }
+    ensures front { OnErr result (AddsFront items.old.items items.new.items
+        (unless_made who made item)) }
 {
     if made {
         return add(items, item);
@@ -185,8 +185,8 @@ pub(crate) fn add_unwrapped(
         → items.new.items ≡ items.old.items ++ has_unwrapped (app_as app.now) m boot
         (header_of x.now) (body_of x.now) list) }
     ensures front { OnErr result ((list : List Made) → Records ledger.now list
-        → IsFront items.new.items (items.old.items
-        ++ has_unwrapped (app_as app.now) m boot (header_of x.now) (body_of x.now) list)) }
+        → AddsFront items.old.items items.new.items
+        (has_unwrapped (app_as app.now) m boot (header_of x.now) (body_of x.now) list)) }
 {
     let header = header_of(x);
     let body = body_of(x);

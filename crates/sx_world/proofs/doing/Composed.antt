@@ -1,12 +1,12 @@
 -- Acts that the program does one after the other.
-use Rattle.std.proofs.Common.{◌≡◌, List, [], ◌++◌, Result, Ok, Err, OnOk, OnErr, sym, subst, ap, ◌∙◌}
+use Rattle.std.proofs.Common.{◌≡◌, List, [], ◌++◌, Result, Ok, Err, OnOk, OnErr, refl, sym, subst, ap, ◌∙◌}
 use Rattle.std.proofs.lemmas.List.{append_assoc, append-nil}
 use Rattle.sx_trace.specs.declared.items.Item.{Item}
 use Rattle.sx_run.specs.Setting.{Setting}
 use Rattle.sx_run.specs.State.{World, Acted}
 use Rattle.sx_run.specs.Acts.{only, then_}
-use Rattle.sx_world.specs.Held.{Running, IsFront, Shows, Did, Wanted, DoesAct}
-use Rattle.sx_world.proofs.showing.Fronts.{front_more, front_next}
+use Rattle.sx_world.specs.Held.{Running, AddsFront, Shows, Did, Wanted, DoesAct}
+use Rattle.sx_world.proofs.showing.Fronts.{front_more, front_next, Comes, comes_first, comes_on, comes_all, comes_front}
 
 -- an act that was done, and then what follows
 pub then_did : (set : Setting) (old mid new : Running) (before among after : List Item) (a b : World → Acted)
@@ -48,11 +48,15 @@ does_any set (Err e) old new before after act done front = front set
 pub does_same : {X E : Type 0} (set : Setting) (r : Result X E) (old new : Running) (before after : List Item) (act said : World → Acted)
     → ((w : World) → Shows set old w → act w ≡ said w) → DoesAct set r old new before after act → DoesAct set r old new before after said
 does_same set (Ok x) old new before after act said same does = λ w h. subst (λ (a : Acted). Shows set new a.world × (after ≡ before ++ a.items)) (same w h) (does w h)
-does_same set (Err e) old new before after act said same does = λ w h. subst (λ (a : Acted). IsFront after (before ++ a.items)) (same w h) (does w h)
+does_same set (Err e) old new before after act said same does = λ w h. subst (λ (a : Acted). AddsFront before after a.items) (same w h) (does w h)
 
 -- Of an act this much is left, and these items have come.
 pub record Remains (set : Setting) (act rest : World → Acted) (old now : Running) (before came : List Item) : Type 0 where
-  pub goes : (w : World) → Shows set old w → (v : World) × Shows set now v × ((rest v).world ≡ (act w).world) × (came ++ (rest v).items ≡ before ++ (act w).items)
+  pub goes : (w : World) → Shows set old w → (v : World) × Shows set now v × ((rest v).world ≡ (act w).world) × Comes before came (rest v).items (act w).items
+
+-- nothing was done yet
+pub remains_first : (set : Setting) (act : World → Acted) (old : Running) (before : List Item) → Remains set act act old old before before
+remains_first set act old before = record { goes = λ w h. (w, h, refl, comes_first before (act w).items) }
 
 -- one more part was done
 pub remains_on : (set : Setting) (act left part rest : World → Acted) (old now new : Running) (before came after : List Item)
@@ -68,7 +72,7 @@ remains_on set act left part rest old now new before came after remains e did = 
         (part v).world,
         d.0,
         ap (λ (a : Acted). a.world) (sym whole) ∙ g.2,
-        ap (λ x. x ++ more) d.1 ∙ append_assoc came (part v).items more ∙ ap (λ (a : Acted). came ++ a.items) (sym whole) ∙ g.3,
+        comes_on before came after (part v).items more (left v).items (act w).items g.3 d.1 (ap (λ (a : Acted). a.items) whole),
       );
 }
 
@@ -79,8 +83,8 @@ remains_wanted set act left part rest old now before came after remains e wanted
     let g = remains.goes w h in
     let v = g.0 in
     let whole : left v ≡ then_ (part v) rest = ap (λ (f : World → Acted). f v) e in
-    subst (λ x. IsFront after x) (ap (λ (a : Acted). came ++ a.items) (sym whole) ∙ g.3)
-    (front_more after came (part v).items (rest (part v).world).items (wanted v g.1))
+    comes_front before came after (left v).items (act w).items g.3
+    (subst (λ (a : Acted). AddsFront came after a.items) (sym whole) (front_more after came (part v).items (rest (part v).world).items (wanted v g.1)))
 
 -- nothing is left
 pub remains_none : (set : Setting) (act left : World → Acted) (old now : Running) (before came : List Item)
@@ -89,5 +93,5 @@ remains_none set act left old now before came remains e = λ w h.
     let g = remains.goes w h in
     let none : left g.0 ≡ only g.0 [] = ap (λ (f : World → Acted). f g.0) e in (
       subst (λ x. Shows set now x) (sym (ap (λ (a : Acted). a.world) none) ∙ g.2) g.1,
-      sym (append-nil came) ∙ ap (λ (a : Acted). came ++ a.items) (sym none) ∙ g.3,
+      comes_all before came came (left g.0).items (act w).items g.3 (sym (append-nil came) ∙ ap (λ (a : Acted). came ++ a.items) (sym none)),
     )

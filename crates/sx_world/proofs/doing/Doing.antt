@@ -71,6 +71,11 @@ pub wanted_same : {T E : Type 0} (r : Result T E) (old : Running) (before after 
 wanted_same (Ok x) old before after act err = tt
 wanted_same (Err e) old before after act err = λ set w h. front_same after before (act w).items err
 
+-- so for one setting
+pub wanted_here : {T E : Type 0} (r : Result T E) (set : Setting) (old : Running) (before after : List Item) (act : World → Acted) → OnErr r (after ≡ before) → OnErr r (Wanted set old before after act)
+wanted_here (Ok x) set old before after act err = tt
+wanted_here (Err e) set old before after act err = λ w h. front_same after before (act w).items err
+
 -- a refused act leaves the node
 pub unless_kept : {T : Type 0} (why : Option Refused) (s : State) (done : machine.Shown T) → done.state.sections ≡ s.sections → (unless why s done).state.sections ≡ s.sections
 unless_kept None s done e = e

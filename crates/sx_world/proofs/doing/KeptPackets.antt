@@ -11,7 +11,7 @@ use Rattle.sx_machine.specs.State.{State}
 use Rattle.sx_machine.specs.Acts.{take}
 use Rattle.sx_run.specs.Acts.{at_node, refused_item, after_take, with_packet}
 use Rattle.sx_run.specs.Run.{give, put_on}
-use Rattle.sx_world.specs.Held.{Running, Shows, Did, Wanted}
+use Rattle.sx_world.specs.Held.{AddsFront, Running, Shows, Did, Wanted}
 
 -- the bytes of a packet in memory
 abbrev pub bytes_in : Vec ℕ Global → List ℕ
@@ -42,7 +42,7 @@ pub give_wanted : {T E : Type 0} (r : Result T E) (old : Running) (before after 
     → OnErr r ((set : Setting) → Wanted set old before after (put_on n at bytes)) → OnErr r ((set : Setting) → Wanted set old before after (λ w. give w n at (slice_get w.packets k)))
 give_wanted (Ok x) old before after n at k bytes found f = tt
 give_wanted (Err x) old before after n at k bytes found f = λ set w h.
-    subst (λ o. Rattle.sx_world.specs.Held.IsFront after (before ++ (give w n at o).items)) (sym (ap (λ ps. slice_get ps k) (sym h.packets) ∙ found)) (f set w h)
+    subst (λ o. AddsFront before after (give w n at o).items) (sym (ap (λ ps. slice_get ps k) (sym h.packets) ∙ found)) (f set w h)
 
 -- no packet is there
 pub give_none : {T E : Type 0} (r : Result T E) (old : Running) (before after : List Item) (n at k : ℕ) → slice_get old.packets k ≡ None
@@ -83,8 +83,8 @@ pub took_wanted : {T E : Type 0} (r : Result T E) (old : Running) (before after 
     → OnErr r ((set : Setting) → Wanted set old before after (λ w. at_node w (λ s. after_take w n (take s at len).shown) (slice_get w.nodes n)))
 took_wanted (Ok x) old before after n at len bytes s here shown f = tt
 took_wanted (Err x) old before after n at len bytes s here shown f = λ set w h.
-    subst (λ o. Rattle.sx_world.specs.Held.IsFront after (before ++ (at_node w (λ s. after_take w n (take s at len).shown) o).items)) (sym (ap (λ ns. slice_get ns n) (sym h.nodes) ∙ here))
-    (subst (λ o. Rattle.sx_world.specs.Held.IsFront after (before ++ (after_take w n o).items)) (sym shown) (f set w h))
+    subst (λ o. AddsFront before after (at_node w (λ s. after_take w n (take s at len).shown) o).items) (sym (ap (λ ns. slice_get ns n) (sym h.nodes) ∙ here))
+    (subst (λ o. AddsFront before after (after_take w n o).items) (sym shown) (f set w h))
 
 pub took_did : {T E : Type 0} (r : Result T E) (old new : Running) (before after : List Item) (n at len : ℕ) (bytes : List ℕ) (s : State) → slice_get old.nodes n ≡ Some s → (take s at len).shown ≡ Ok bytes
     → OnOk r ((set : Setting) → Did set old new before after (λ w. with_packet w bytes))

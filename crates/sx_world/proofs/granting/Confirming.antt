@@ -16,7 +16,7 @@ use Rattle.sx_run.specs.State.{World, Acted}
 use Rattle.sx_run.specs.Observation.{unless_made}
 use Rattle.sx_run.specs.Acts.{keys_given, with_deployer, attested, attested_at, open_ask, after_denial, after_verdict, after_answer}
 use Rattle.sx_world.specs.Granted.{granted, accepted_ask, judged_by, confirmed}
-use Rattle.sx_world.specs.Held.{Running, IsKept, Records, IsFront, Shows, Wanted, DoesAct}
+use Rattle.sx_world.specs.Held.{Running, IsKept, Records, AddsFront, Shows, Wanted, DoesAct}
 use Rattle.sx_world.proofs.showing.Fronts.{front_more, front_next, front_same}
 use Rattle.sx_run.proofs.tie.Lists.{get_some}
 use Rattle.sx_world.proofs.granting.SameKeys.{same_ask, same_boot, unknown_site, accepted_kept, same_accepts}
@@ -55,19 +55,16 @@ confirm_does set r old new before mid after m boot P ask last b gs says began p 
         )
     go (Err x) does = λ w h.
         let head = told m boot (vouched m boot ask w.ledger) in
-        subst (λ (a : Acted). IsFront after (before ++ (head ++ a.items))) (same w h)
+        subst (λ (a : Acted). AddsFront before after (head ++ a.items)) (same w h)
         (front_next after mid before head (keys_given set gs w).items (first w h) (does w h))
 
 -- memory ran out before the keys
 pub confirm_wanted : (set : Setting) (old : Running) (before after : List Item) (m boot : ℕ) (ask : List ℕ) (last : Option ℕ) (b : Bool)
     → ((list : List Made) → Records old.ledger list → b ≡ is_made list (made_entry (maker.Module m) NO_TARGET boot ask []))
-    → IsFront after (before ++ unless_made None b (Attested m boot)) → Wanted set old before after (confirmed set m boot ask last)
+    → AddsFront before after (unless_made None b (Attested m boot)) → Wanted set old before after (confirmed set m boot ask last)
 confirm_wanted set old before after m boot ask last b says f = λ w h.
     front_more after before (told m boot (vouched m boot ask w.ledger)) (keys_given set (grants_after set.app w.deployer m boot last) w).items
-    (subst (λ t. IsFront after (before ++ told m boot t)) (says w.ledger h.ledger) f)
-
-pub whole_front : (after due : List Item) → after ≡ due → IsFront after due
-whole_front after due e = ([], append-nil after ∙ e)
+    (subst (λ t. AddsFront before after (told m boot t)) (says w.ledger h.ledger) f)
 
 pub more_ok : {X E : Type 0} (r : Result X E) (a b n : ℕ) → n ≤ 192 → OnOk r (a ≤ b + n) → OnOk r (a ≤ b + 192)
 more_ok (Ok x) a b n h e = omega (arith, h, e)
@@ -182,7 +179,7 @@ answer_does set (Ok x) old new k before after m boot n ask last lt known el kj a
     (subst (λ (a : Acted). Shows set new a.world) same d.0, d.1 ∙ ap (λ (a : Acted). before ++ a.items) same)
 answer_does set (Err x) old new k before after m boot n ask last lt known el kj aa does = λ w h.
     let s = seen set old k m boot n ask lt known kj aa w h in
-    subst (λ (a : Acted). IsFront after (before ++ a.items)) (ap (λ (l : Option ℕ). confirmed set m boot ask l s.0) el ∙ s.2) (does s.0 s.1)
+    subst (λ (a : Acted). AddsFront before after a.items) (ap (λ (l : Option ℕ). confirmed set m boot ask l s.0) el ∙ s.2) (does s.0 s.1)
 
 -- and to one that was denied
 pub denied_does : {X E : Type 0} (set : Setting) (r : Result X E) (old : Running) (k : Keeping) (before after : List Item) (m boot n : ℕ)

@@ -20,8 +20,8 @@ use Rattle.sx_run.specs.Setting.{Site, Setting}
 use Rattle.sx_run.specs.Deployer.{DeployerState, Grant, key_of, side_number, connection_key, grant_header, set_key, set_key_entry}
 use Rattle.sx_run.specs.State.{World, Acted}
 use Rattle.sx_run.specs.Acts.{then_, with_deployer, key_given, keys_given}
-use Rattle.sx_world.specs.Held.{Running, IsKept, Records, IsFront, Shows, Did, Wanted, DoesAct}
-use Rattle.sx_world.proofs.showing.Fronts.{front_more, front_same}
+use Rattle.sx_world.specs.Held.{Running, IsKept, Records, AddsFront, Shows, Did, Wanted, DoesAct}
+use Rattle.sx_world.proofs.showing.Fronts.{front_more, front_same, Comes, comes_first, comes_on, comes_all, comes_front}
 use Rattle.sx_world.proofs.granting.SameKeys.{low_bytes, known_as, known_site, unknown_site}
 use Rattle.sx_world.proofs.granting.Sent.{sent, deployer_shown, packet_shown, packet_item}
 
@@ -116,10 +116,10 @@ given_none set old before g made_by = λ w h. did w h (slice_get set.sites g.hol
 pub record Giving (set : Setting) (all left : List Grant) (old now : Running) (before came : List Item) : Type 0 where
   pub goes : (w : World) → Shows set old w → (v : World) × Shows set now v
       × ((keys_given set left v).world ≡ (keys_given set all w).world)
-      × (came ++ (keys_given set left v).items ≡ before ++ (keys_given set all w).items)
+      × Comes before came (keys_given set left v).items (keys_given set all w).items
 
 pub giving_first : (set : Setting) (all : List Grant) (old : Running) (before : List Item) → Giving set all all old old before before
-giving_first set all old before = record { goes = λ w h. (w, h, refl, refl) }
+giving_first set all old before = record { goes = λ w h. (w, h, refl, comes_first before (keys_given set all w).items) }
 
 -- one more key was given
 pub giving_on : (set : Setting) (all left rest : List Grant) (g : Grant) (old now new : Running) (before came after : List Item)
@@ -136,7 +136,7 @@ giving_on set all left rest g old now new before came after giving e did = recor
         one.world,
         d.0,
         ap (λ x. x.world) (sym whole) ∙ a.2,
-        ap (λ x. x ++ more) d.1 ∙ append_assoc came one.items more ∙ ap (λ x. came ++ x.items) (sym whole) ∙ a.3,
+        comes_on before came after one.items more (keys_given set left v).items (keys_given set all w).items a.3 d.1 (ap (λ x. x.items) whole),
       );
 }
 
@@ -147,7 +147,7 @@ giving_all set all left old now before came giving e = λ w h.
     let a = giving.goes w h in
     let none : keys_given set left a.0 ≡ keys_given set [] a.0 = ap (λ gs. keys_given set gs a.0) e in (
       subst (λ x. Shows set now x) (ap (λ x. x.world) (sym none) ∙ a.2) a.1,
-      sym (append-nil came) ∙ ap (λ x. came ++ x.items) (sym none) ∙ a.3,
+      comes_all before came came (keys_given set left a.0).items (keys_given set all w).items a.3 (sym (append-nil came) ∙ ap (λ x. came ++ x.items) (sym none)),
     )
 
 -- a key for which memory ran out
@@ -159,8 +159,8 @@ giving_front set all left rest g old now before came after giving e wanted = λ 
     let v = a.0 in
     let one = key_given set v g (slice_get set.sites g.holder) in
     let whole : keys_given set left v ≡ then_ one (keys_given set rest) = ap (λ gs. keys_given set gs v) e in
-    subst (λ x. IsFront after x) (ap (λ x. came ++ x.items) (sym whole) ∙ a.3)
-    (front_more after came one.items (keys_given set rest one.world).items (wanted v a.1))
+    comes_front before came after (keys_given set left v).items (keys_given set all w).items a.3
+    (subst (λ x. AddsFront came after x.items) (sym whole) (front_more after came one.items (keys_given set rest one.world).items (wanted v a.1)))
 
 pub next_grant : (gs : List Grant) (i : ℕ) (g : Grant) → i < length gs → g ≡ get_or gs i g → drop i gs ≡ g ∷ drop (i + 1) gs
 next_grant gs i g h e =

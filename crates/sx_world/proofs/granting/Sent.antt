@@ -78,4 +78,4 @@ ask_does set r old k before mid after m count challenge bytes packets small kept
         )
     go (Err e) more added none = λ w h.
         let p = Packet (length w.packets) (length (ask_packet w.deployer.asks)) in
-        (p ∷ [], ap (λ (i : List Item). i ++ p ∷ []) (none ∙ front w h) ∙ append_assoc before (Ask m w.deployer.asks ∷ []) (p ∷ []))
+        (Ask m w.deployer.asks ∷ [], none ∙ front w h, (p ∷ [], refl))

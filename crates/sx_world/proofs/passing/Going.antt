@@ -13,17 +13,17 @@ use Rattle.sx_run.specs.Setting.{Setting}
 use Rattle.sx_run.specs.State.{World, Acted}
 use Rattle.sx_run.specs.Acts.{at_node, after_step, then_, only}
 use Rattle.sx_run.specs.Run.{is_reset, steps_of}
-use Rattle.sx_world.specs.Held.{Running, IsFront, Shows, Did, Wanted}
-use Rattle.sx_world.proofs.showing.Fronts.{front_more, front_same}
+use Rattle.sx_world.specs.Held.{Running, AddsFront, Shows, Did, Wanted}
+use Rattle.sx_world.proofs.showing.Fronts.{front_more, front_same, Comes, comes_first, comes_on, comes_all, comes_front}
 
 -- of all the steps that are due, this many are left, and these items have come
 pub record Going (set : Setting) (stops : State → Bool) (ends : List Item) (n all left : ℕ) (old now : Running) (before came : List Item) : Type 0 where
   pub goes : (w : World) → Shows set old w → (v : World) × Shows set now v
       × ((steps_of set stops ends n left v).world ≡ (steps_of set stops ends n all w).world)
-      × (came ++ (steps_of set stops ends n left v).items ≡ before ++ (steps_of set stops ends n all w).items)
+      × Comes before came (steps_of set stops ends n left v).items (steps_of set stops ends n all w).items
 
 pub going_first : (set : Setting) (stops : State → Bool) (ends : List Item) (n all : ℕ) (old : Running) (before : List Item) → Going set stops ends n all all old old before before
-going_first set stops ends n all old before = record { goes = λ w h. (w, h, refl, refl) }
+going_first set stops ends n all old before = record { goes = λ w h. (w, h, refl, comes_first before (steps_of set stops ends n all w).items) }
 
 -- the step is the last one
 abbrev pub is_last : Setting → (State → Bool) → State → Bool
@@ -68,7 +68,7 @@ going_on set stops ends n all left k old now new before came after s going e the
         u,
         d.0,
         sym (ap (λ (a : Acted). a.world) whole) ∙ g.2,
-        ap (λ x. x ++ rest) d.1 ∙ append_assoc came (after_step set v n s).items rest ∙ sym (ap (λ (a : Acted). came ++ a.items) whole) ∙ g.3,
+        comes_on before came after (after_step set v n s).items rest (steps_of set stops ends n left v).items (steps_of set stops ends n all w).items g.3 d.1 (ap (λ (a : Acted). a.items) whole),
       );
 }
 
@@ -85,27 +85,28 @@ going_over set stops ends n all left k old now new before came after s going e t
     let whole : steps_of set stops ends n left v ≡ after_step set v n s =
     first_of set stops ends n left k v s e here ∙ choose _ true (after_step set v n s) (then_ (after_step set v n s) (steps_of set stops ends n k)) last in (
       subst (λ x. Shows set new x) (sym (ap (λ (a : Acted). a.world) whole) ∙ g.2) d.0,
-      d.1 ∙ sym (ap (λ (a : Acted). came ++ a.items) whole) ∙ g.3,
+      comes_all before came after (steps_of set stops ends n left v).items (steps_of set stops ends n all w).items g.3 (d.1 ∙ sym (ap (λ (a : Acted). came ++ a.items) whole)),
     )
 
 starts : (set : Setting) (stops : State → Bool) (ends : List Item) (n k : ℕ) (v : World) (s : State) (b : Bool) (after came : List Item)
-    → IsFront after (came ++ (after_step set v n s).items)
-    → IsFront after (came ++ (if b then after_step set v n s else then_ (after_step set v n s) (steps_of set stops ends n k)).items)
+    → AddsFront came after (after_step set v n s).items
+    → AddsFront came after (if b then after_step set v n s else then_ (after_step set v n s) (steps_of set stops ends n k)).items
 starts set stops ends n k v s true after came f = f
 starts set stops ends n k v s false after came f = front_more after came (after_step set v n s).items _ f
 
 -- a step in which memory ran out
 pub going_front : (set : Setting) (stops : State → Bool) (ends : List Item) (n all left k : ℕ) (old now : Running) (before came after : List Item) (s : State)
     → Going set stops ends n all left old now before came → left ≡ suc k → slice_get now.nodes n ≡ Some s
-    → ((v : World) → Shows set now v → IsFront after (came ++ (next set n v).items))
-    → (w : World) → Shows set old w → IsFront after (before ++ (steps_of set stops ends n all w).items)
+    → ((v : World) → Shows set now v → AddsFront came after (next set n v).items)
+    → (w : World) → Shows set old w → AddsFront before after (steps_of set stops ends n all w).items
 going_front set stops ends n all left k old now before came after s going e there front = λ w h.
     let g = going.goes w h in
     let v = g.0 in
     let here : slice_get v.nodes n ≡ Some s = ap (λ ns. slice_get ns n) (sym g.1.nodes) ∙ there in
-    let f : IsFront after (came ++ (after_step set v n s).items) = subst (λ o. IsFront after (came ++ (at_node v (after_step set v n) o).items)) here (front v g.1) in
+    let f : AddsFront came after (after_step set v n s).items = subst (λ o. AddsFront came after (at_node v (after_step set v n) o).items) here (front v g.1) in
     let all_of = starts set stops ends n k v s (is_last set stops s) after came f in
-    subst (λ x. IsFront after x) (sym (ap (λ (a : Acted). came ++ a.items) (first_of set stops ends n left k v s e here)) ∙ g.3) all_of
+    comes_front before came after (steps_of set stops ends n left v).items (steps_of set stops ends n all w).items g.3
+    (subst (λ (a : Acted). AddsFront came after a.items) (sym (first_of set stops ends n left k v s e here)) all_of)
 
 -- all steps were taken, and the items after them were added
 pub going_end : {T E : Type 0} (set : Setting) (stops : State → Bool) (ends : List Item) (n all left : ℕ) (old now : Running) (before came after : List Item) (r : Result T E)
@@ -114,7 +115,7 @@ going_end set stops ends n all left old now before came after (Ok x) going e h =
     let g = going.goes w shown in
     let none : steps_of set stops ends n left g.0 ≡ only g.0 ends = ap (λ i. steps_of set stops ends n i g.0) e in (
       subst (λ x. Shows set now x) (sym (ap (λ (a : Acted). a.world) none) ∙ g.2) g.1,
-      h ∙ sym (ap (λ (a : Acted). came ++ a.items) none) ∙ g.3,
+      comes_all before came after (steps_of set stops ends n left g.0).items (steps_of set stops ends n all w).items g.3 (h ∙ sym (ap (λ (a : Acted). came ++ a.items) none)),
     )
 going_end set stops ends n all left old now before came after (Err x) going e h = tt
 
@@ -123,7 +124,7 @@ pub going_none : {T E : Type 0} (set : Setting) (stops : State → Bool) (ends :
 going_none set stops ends n all left old now before came after (Ok x) going h = tt
 going_none set stops ends n all left old now before came after (Err x) going h = λ w shown.
     let g = going.goes w shown in
-    subst (λ x. IsFront after x) g.3 (front_same after came (steps_of set stops ends n left g.0).items h)
+    comes_front before came after (steps_of set stops ends n left g.0).items (steps_of set stops ends n all w).items g.3 (front_same after came (steps_of set stops ends n left g.0).items h)
 
 -- all steps were taken, and no item is due after them
 pub going_done : (set : Setting) (stops : State → Bool) (end : Option Item) (n all left : ℕ) (old now : Running) (before came : List Item)
@@ -132,7 +133,8 @@ going_done set stops end n all left old now before came going e h = λ w shown.
     let g = going.goes w shown in
     let none : steps_of set stops (option_to_list end) n left g.0 ≡ only g.0 (option_to_list end) = ap (λ i. steps_of set stops (option_to_list end) n i g.0) e in (
       subst (λ x. Shows set now x) (sym (ap (λ (a : Acted). a.world) none) ∙ g.2) g.1,
-      sym (ap (λ o. came ++ option_to_list o) h ∙ append-nil came) ∙ sym (ap (λ (a : Acted). came ++ a.items) none) ∙ g.3,
+      comes_all before came came (steps_of set stops (option_to_list end) n left g.0).items (steps_of set stops (option_to_list end) n all w).items g.3
+          (sym (ap (λ o. came ++ option_to_list o) h ∙ append-nil came) ∙ sym (ap (λ (a : Acted). came ++ a.items) none)),
     )
 
 -- the last item

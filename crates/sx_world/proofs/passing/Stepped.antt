@@ -21,7 +21,7 @@ use Rattle.sx_run.specs.State.{World, Acted}
 use Rattle.sx_run.specs.Acts.{at_node, after_step, with_node, after_interrupt, refused_item}
 use Rattle.sx_run.specs.Observation.{Observed, observed}
 use Rattle.sx_world.specs.Computed.{runner_of}
-use Rattle.sx_world.specs.Held.{Running, Records, IsFront, Observes, ObservesFront, Shows, Did, Wanted}
+use Rattle.sx_world.specs.Held.{Running, Records, AddsFront, Observes, ObservesFront, Shows, Did, Wanted}
 use Rattle.sx_run.specs.Accepted.{setting}
 use Rattle.sx_world.proofs.doing.Doing.{with_nodes, node_shown}
 use Rattle.sx_run.proofs.tie.Lists.{get_same}
@@ -53,14 +53,14 @@ step_does mac d sites old new before after n s entries there left saw = λ w h.
 
 pub step_front : (mac : Mac) (d : Deployed) (sites : List Site) (old : Running) (before after : List Item) (n : ℕ) (s : State)
     → slice_get old.nodes n ≡ Some s → ObservesFront old.ledger before after (seen_behind (setting mac d sites) n s)
-    → (w : World) → Shows (setting mac d sites) old w → IsFront after (before ++ (next (setting mac d sites) n w).items)
+    → (w : World) → Shows (setting mac d sites) old w → AddsFront before after (next (setting mac d sites) n w).items
 step_front mac d sites old before after n s there saw = λ w h.
     let set = setting mac d sites in
     let here : slice_get w.nodes n ≡ Some s = ap (λ ns. slice_get ns n) (sym h.nodes) ∙ there in
     let o = saw w.ledger h.ledger in
     let same : seen_behind set n s w.ledger ≡ seen_of set n s w.ledger = observed_behind set n s w.ledger (h.placed n s here) in
-    subst (λ o. IsFront after (before ++ (at_node w (after_step set w n) o).items)) (sym here)
-    (subst (λ (x : Observed). IsFront after (before ++ x.items)) same o)
+    subst (λ o. AddsFront before after (at_node w (after_step set w n) o).items) (sym here)
+    (subst (λ (x : Observed). AddsFront before after x.items) same o)
 
 -- the node after a step, read at its place
 pub node_behind : (news old : List State) (n i : ℕ) (s t node : State) → news ≡ slice_set old n t → slice_get old n ≡ Some s → i ≡ n → node ≡ get_or news i node → node ≡ t
@@ -90,7 +90,7 @@ pub program_wanted : (mac : Mac) (d : Deployed) (sites : List Site) (old : Runni
 program_wanted mac d sites old before after n s node runner seen entries here left shown found kept saw =
     let set = setting mac d sites in
     step_front mac d sites old before after n s here (λ list h.
-    subst (λ (o : Observed). IsFront after (before ++ o.items)) (saw_behind set n s node runner seen list left shown found)
+    subst (λ (o : Observed). AddsFront before after o.items) (saw_behind set n s node runner seen list left shown found)
     (saw list (subst (λ l. Records l list) (sym kept) h)))
 
 -- An interrupt. One that is refused leaves the node.
@@ -127,9 +127,9 @@ irq_wanted (Err x) mac d sites old before after n line s node seen entries there
     let set = setting mac d sites in
     let here : slice_get w.nodes n ≡ Some s = ap (λ ns. slice_get ns n) (sym h.nodes) ∙ there in
     let t = (irq s line).state in
-    let o = subst (λ (x : State). IsFront after (before ++ (observed set n None x seen w.ledger).items)) left (saw w.ledger (subst (λ l. Records l w.ledger) (sym kept) h.ledger)) in
-    subst (λ q. IsFront after (before ++ (at_node w (λ s. after_interrupt set w n (irq s line).state (irq s line).shown) q).items)) (sym here)
-    (subst (λ q. IsFront after (before ++ (after_interrupt set w n t q).items)) (sym shown) o)
+    let o = subst (λ (x : State). AddsFront before after (observed set n None x seen w.ledger).items) left (saw w.ledger (subst (λ l. Records l w.ledger) (sym kept) h.ledger)) in
+    subst (λ q. AddsFront before after (at_node w (λ s. after_interrupt set w n (irq s line).state (irq s line).shown) q).items) (sym here)
+    (subst (λ q. AddsFront before after (after_interrupt set w n t q).items) (sym shown) o)
 
 pub irq_refused : {T E : Type 0} (r : Result T E) (set : Setting) (old new : Running) (before after : List Item) (n line : ℕ) (s : State) (why : Refused)
     → slice_get old.nodes n ≡ Some s → (irq s line).shown ≡ Err why → new ≡ with_nodes old (slice_set old.nodes n (irq s line).state) old.ledger old.steps

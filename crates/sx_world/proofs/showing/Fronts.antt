@@ -1,6 +1,6 @@
 -- Fronts of the items that are due.
-use Rattle.std.proofs.Common.{◌≡◌, ℕ, Some, Result, Ok, Err, OnErr, List, ◌++◌, refl, sym, subst, ap, ◌∙◌}
-use Rattle.std.proofs.lemmas.List.{append_assoc}
+use Rattle.std.proofs.Common.{◌≡◌, ℕ, Some, Result, Ok, Err, OnErr, List, [], ◌++◌, refl, sym, subst, ap, ◌∙◌}
+use Rattle.std.proofs.lemmas.List.{append_assoc, append-nil}
 use Rattle.sx_trace.specs.declared.items.Item.{Item}
 use Rattle.sx_ledger.specs.declared.entry.Entry.{Entry}
 use Rattle.sx_ledger.specs.Made.{Made}
@@ -11,22 +11,67 @@ use Rattle.sx_machine.specs.State.{State}
 use Rattle.sx_run.specs.Setting.{Setting}
 use Rattle.sx_run.specs.Ledger.{header_of, body_of}
 use Rattle.sx_run.specs.Observation.{Observed, event_seen, has_wrapped, has_unwrapped}
-use Rattle.sx_world.specs.Held.{IsFront, Records, ObservesFront}
+use Rattle.sx_world.specs.Held.{IsFront, AddsFront, Records, ObservesFront}
 
 -- nothing was added
-pub front_none : (old due : List Item) → IsFront old (old ++ due)
-front_none old due = (due, refl)
+pub front_none : (old due : List Item) → AddsFront old old due
+front_none old due = ([], sym (append-nil old), (due, refl))
 
-pub front_same : (new old due : List Item) → new ≡ old → IsFront new (old ++ due)
-front_same new old due e = (due, ap (λ x. x ++ due) e)
+pub front_same : (new old due : List Item) → new ≡ old → AddsFront old new due
+front_same new old due e = ([], e ∙ sym (append-nil old), (due, refl))
+
+pub err_same : {T E : Type 0} (r : Result T E) (new old due : List Item) → OnErr r (new ≡ old) → OnErr r (AddsFront old new due)
+err_same (Ok x) new old due e = tt
+err_same (Err w) new old due e = front_same new old due e
+
+-- and so whatever the ledger is
+pub due_none : {T E : Type 0} (r : Result T E) (old : List Entry) (before after : List Item) (due : List Made → Observed) → OnErr r (after ≡ before)
+    → OnErr r (ObservesFront old before after due)
+due_none (Ok x) old before after due e = tt
+due_none (Err w) old before after due e = λ list h. front_same after before (due list).items e
+
+-- all that is due was added
+pub front_all : (new old due : List Item) → new ≡ old ++ due → AddsFront old new due
+front_all new old due e = (due, e, ([], append-nil due))
 
 -- a prefix of the first part
-pub front_more : (new old a b : List Item) → IsFront new (old ++ a) → IsFront new (old ++ (a ++ b))
-front_more new old a b f = (f.0 ++ b, sym (append_assoc new f.0 b) ∙ ap (λ x. x ++ b) f.1 ∙ append_assoc old a b)
+pub front_more : (new old a b : List Item) → AddsFront old new a → AddsFront old new (a ++ b)
+front_more new old a b f = (f.0, f.1, (f.2.0 ++ b, sym (append_assoc f.0 f.2.0 b) ∙ ap (λ x. x ++ b) f.2.1))
 
 -- the first part and a prefix of the second
-pub front_next : (new mid old a b : List Item) → mid ≡ old ++ a → IsFront new (mid ++ b) → IsFront new (old ++ (a ++ b))
-front_next new mid old a b e f = (f.0, f.1 ∙ ap (λ x. x ++ b) e ∙ append_assoc old a b)
+pub front_next : (new mid old a b : List Item) → mid ≡ old ++ a → AddsFront mid new b → AddsFront old new (a ++ b)
+front_next new mid old a b e f = (a ++ f.0, f.1 ∙ ap (λ x. x ++ f.0) e ∙ append_assoc old a f.0, (f.2.0, append_assoc a f.0 f.2.0 ∙ ap (λ x. a ++ x) f.2.1))
+
+-- all items that stand are a prefix of those before with those that are due
+pub as_front : (new old due : List Item) → AddsFront old new due → IsFront new (old ++ due)
+as_front new old due f = (f.2.0, ap (λ x. x ++ f.2.0) f.1 ∙ append_assoc old f.0 f.2.0 ∙ ap (λ x. old ++ x) f.2.1)
+
+-- To the items before these came, of those that are due, and the others are left.
+abbrev pub Comes : List Item → List Item → List Item → List Item → Type 0
+Comes before came left due = (front : List Item) × (came ≡ before ++ front) × (front ++ left ≡ due)
+
+pub comes_first : (before due : List Item) → Comes before before due due
+comes_first before due = ([], sym (append-nil before), refl)
+
+-- one part more
+pub comes_on : (before came after xs more left due : List Item) → Comes before came left due → after ≡ came ++ xs → left ≡ xs ++ more → Comes before after more due
+comes_on before came after xs more left due c e part = (
+  c.0 ++ xs,
+  e ∙ ap (λ x. x ++ xs) c.1 ∙ append_assoc before c.0 xs,
+  append_assoc c.0 xs more ∙ ap (λ x. c.0 ++ x) (sym part) ∙ c.2,
+)
+
+-- all that was left
+pub comes_all : (before came after left due : List Item) → Comes before came left due → after ≡ came ++ left → after ≡ before ++ due
+comes_all before came after left due c e = e ∙ ap (λ x. x ++ left) c.1 ∙ append_assoc before c.0 left ∙ ap (λ x. before ++ x) c.2
+
+-- a prefix of what was left
+pub comes_front : (before came after left due : List Item) → Comes before came left due → AddsFront came after left → AddsFront before after due
+comes_front before came after left due c f = (
+  c.0 ++ f.0,
+  f.1 ∙ ap (λ x. x ++ f.0) c.1 ∙ append_assoc before c.0 f.0,
+  (f.2.0, append_assoc c.0 f.0 f.2.0 ∙ ap (λ x. c.0 ++ x) f.2.1 ∙ c.2),
+)
 
 -- both parts
 pub whole_next : (new mid old a b : List Item) → mid ≡ old ++ a → new ≡ mid ++ b → new ≡ old ++ (a ++ b)
@@ -41,14 +86,14 @@ err_any (Err e) a = a
 pub due_same : {T E : Type 0} (r : Result T E) (old : List Entry) (before after : List Item) (due said : List Made → Observed) → ((list : List Made) → due list ≡ said list)
     → OnErr r (ObservesFront old before after due) → OnErr r (ObservesFront old before after said)
 due_same (Ok x) old before after due said same f = tt
-due_same (Err e) old before after due said same f = λ list h. subst (λ (o : Observed). IsFront after (before ++ o.items)) (same list) (f list h)
+due_same (Err e) old before after due said same f = λ list h. subst (λ (o : Observed). AddsFront before after o.items) (same list) (f list h)
 
 -- a prefix of items alone
 pub due_items : {T E : Type 0} (r : Result T E) (old : List Entry) (before after : List Item) (due : List Made → List Item) (said : List Made → Observed)
     → ((list : List Made) → due list ≡ (said list).items)
-    → OnErr r ((list : List Made) → Records old list → IsFront after (before ++ due list)) → OnErr r (ObservesFront old before after said)
+    → OnErr r ((list : List Made) → Records old list → AddsFront before after (due list)) → OnErr r (ObservesFront old before after said)
 due_items (Ok x) old before after due said same f = tt
-due_items (Err e) old before after due said same f = λ list h. subst (λ xs. IsFront after (before ++ xs)) (same list) (f list h)
+due_items (Err e) old before after due said same f = λ list h. subst (λ xs. AddsFront before after xs) (same list) (f list h)
 
 -- items came before
 pub due_next : {T E : Type 0} (r : Result T E) (old : List Entry) (before mid after ts : List Item) (due : List Made → Observed) → mid ≡ before ++ ts

@@ -11,7 +11,7 @@ use Rattle.sx_run.specs.Setting.{Site, Setting}
 use Rattle.sx_run.specs.State.{World, switched_on}
 use Rattle.sx_run.specs.Run.{after_line, line_counted, run}
 use Rattle.sx_run.specs.Law.{IsSoundSetting, LineInForm, LinesInForm}
-use Rattle.sx_world.specs.Held.{Held, Running, IsFront, Shows, Did, Wanted, targets_from}
+use Rattle.sx_world.specs.Held.{Held, Running, AddsFront, Shows, Did, Wanted, targets_from}
 use Rattle.sx_run.specs.Accepted.{setting}
 use Rattle.sx_world.specs.Standing.{Stands}
 use Rattle.sx_world.specs.Ready.{IsReady}
@@ -126,7 +126,7 @@ module _ (mac : Mac) (d : Deployed) (sites : List Site) (acc : deployment.IsSoun
   -- and one in which memory ran out has added a prefix of its items
   pub act_wanted : (old : Held) (kept : Running) (lent : List Site) (before after : List Item) (line : Line) → lent ≡ sites → kept ≡ old.running
       → Wanted (setting mac d lent) kept before after (λ w. after_line (setting mac d lent) w line)
-      → (w : World) → Stands set old w → IsFront after (before ++ (after_line set (line_counted w) line).items)
+      → (w : World) → Stands set old w → AddsFront before after (after_line set (line_counted w) line).items
   act_wanted old kept lent before after line el ek front w s =
       let here = subst (λ (xs : List Site). Wanted (setting mac d xs) kept before after (λ w. after_line (setting mac d xs) w line)) el front in
       let shown = subst (λ (k : Running). Shows set k w) (sym ek) s.shows in

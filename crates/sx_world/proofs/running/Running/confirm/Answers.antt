@@ -6,7 +6,8 @@ use Rattle.sx_run.specs.Deployer.{Grant}
 use Rattle.sx_world.specs.Granted.{confirmed, granted}
 use Rattle.sx_world.specs.Held.{Running, Records}
 use Rattle.sx_run.specs.Accepted.{setting}
-use Rattle.sx_world.proofs.granting.Confirming.{confirm_does, confirm_wanted, whole_front, more_ok}
+use Rattle.sx_world.proofs.showing.Fronts.{front_all}
+use Rattle.sx_world.proofs.granting.Confirming.{confirm_does, confirm_wanted, more_ok}
 use Rattle.sx_world.proofs.granting.Given.{does_err}
 use Rattle.sx_world.proofs.granting.SameGrants.{few_grants}
 use Rattle.sx_world.proofs.running.Running.confirm.Goals as goal
@@ -28,7 +29,7 @@ returns-in_err-grants-clause-does g c = λ sites.
     (confirmed set c.args.m c.args.boot c.args.ask.now c.args.last) c.from_residual-in_err-grants.ensures.0
     (confirm_wanted set c.args.self.now c.args.items.now.items c.add_unless_made.new.items.items c.args.m c.args.boot c.args.ask.now c.args.last c.is_made-made.result
     (λ list h. c.is_made-made.ensures list (subst (λ (o : Running). Records o.ledger list) (sym c.self.view_is) h))
-    (whole_front c.add_unless_made.new.items.items _ c.in_ok-add_unless_made.ensures.ok))
+    (front_all c.add_unless_made.new.items.items c.args.items.now.items _ c.in_ok-add_unless_made.ensures.ok))
 
 -- src/attesting.rt:79:9
 pub give_keys-requires : goal.give_keys-requires

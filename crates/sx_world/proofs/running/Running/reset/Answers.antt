@@ -1,10 +1,12 @@
 use Rattle.std.proofs.Common.{◌≡◌, [], ◌∷◌, ap, ◌∙◌}
+use Rattle.std.specs.Prelude.{slice_get}
 use Rattle.std.proofs.lemmas.List.{with_items_is}
 use Rattle.sx_trace.specs.declared.items.Item.TheVariants.{Reset}
 use Rattle.sx_trace.specs.declared.items.Cause.TheVariants.{Asked}
 use Rattle.sx_machine.specs.State.{reset}
 use Rattle.sx_world.specs.Held.{Running}
-use Rattle.sx_world.proofs.doing.Doing.{reset_did, as_kept, lent_set, lent_long}
+use Rattle.sx_world.proofs.doing.Doing.{reset_did, as_kept, lent_set, lent_long, wanted_same}
+use Rattle.sx_run.specs.Acts.{at_node, with_node}
 use Rattle.sx_world.proofs.running.Running.reset.Goals as goal
 
 pub returns-clause-done : goal.returns-clause-done
@@ -15,3 +17,8 @@ returns-clause-done g c =
     (with_items_is c.self.inside.nodes c.reset_node.new.nodes (lent_long c.deref_mut.result.now c.args.self.now.nodes c.reset_node.new.nodes c.args.n s reset same e c.reset_node.ensures ∙ c.deref_mut.ensures.len)
     ∙ lent_set c.deref_mut.result.now c.args.self.now.nodes c.reset_node.new.nodes c.args.n s reset same e c.reset_node.ensures))
     c.add.ensures.ok
+
+pub returns-clause-front : goal.returns-clause-front
+returns-clause-front g c =
+    wanted_same c.add.result c.args.self.now c.args.items.now.items c.add.new.items.items
+    (λ w. at_node w (λ s. record { world = with_node w c.args.n (reset s) w.ledger w.steps; items = Reset c.args.n Asked ∷ [] }) (slice_get w.nodes c.args.n)) c.add.ensures.err

@@ -5,7 +5,8 @@ use Rattle.sx_trace.specs.declared.items.Item.TheVariants.{Sense}
 use Rattle.sx_machine.specs.State.{State}
 use Rattle.sx_machine.specs.Acts.{busy, sense}
 use Rattle.sx_world.specs.Held.{Running}
-use Rattle.sx_world.proofs.doing.Doing.{done_did, as_kept, lent_set, lent_long, unless_kept}
+use Rattle.sx_world.proofs.doing.Doing.{done_did, as_kept, lent_set, lent_long, unless_kept, wanted_same}
+use Rattle.sx_run.specs.Acts.{at_node, done_on}
 use Rattle.sx_world.proofs.running.Running.sense_at.Goals as goal
 
 pub returns-clause-done : goal.returns-clause-done
@@ -19,3 +20,8 @@ returns-clause-done g c =
     (λ s e. c.sense_node-answer.ensures.answer s (ap (λ ns. slice_get ns c.args.n) same ∙ e))
     (λ s. unless_kept (busy s) s _ refl)
     c.add_answer.ensures.ok
+
+pub returns-clause-front : goal.returns-clause-front
+returns-clause-front g c =
+    wanted_same c.add_answer.result c.args.self.now c.args.items.now.items c.add_answer.new.items.items
+    (λ w. at_node w (λ s. done_on w c.args.n (Sense c.args.d c.args.value ∷ []) (sense s c.args.k c.args.value)) (slice_get w.nodes c.args.n)) c.add_answer.ensures.err

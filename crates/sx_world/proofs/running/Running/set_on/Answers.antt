@@ -4,8 +4,9 @@ use Rattle.std.proofs.lemmas.List.{with_items_is}
 use Rattle.sx_machine.specs.State.{State}
 use Rattle.sx_machine.specs.Acts.{set, busy}
 use Rattle.sx_world.specs.Held.{Running}
-use Rattle.sx_world.proofs.doing.Doing.{done_did, as_kept, lent_set, lent_long, unless_kept, boots_kept}
+use Rattle.sx_world.proofs.doing.Doing.{done_did, as_kept, lent_set, lent_long, unless_kept, boots_kept, wanted_same}
 use Rattle.sx_run.proofs.acts.Bounds.{unless_boot}
+use Rattle.sx_run.specs.Run.{set_on}
 use Rattle.sx_world.proofs.running.Running.set_on.Goals as goal
 
 pub returns-clause-done : goal.returns-clause-done
@@ -29,3 +30,7 @@ returns-clause-boots g c =
     with_items_is c.self.inside.nodes c.set_node-answer.new.nodes (lent_long c.deref_mut.result.now c.args.self.now.nodes c.set_node-answer.new.nodes c.args.n s act same e c.set_node-answer.ensures.nodes ∙ c.deref_mut.ensures.len)
     ∙ lent_set c.deref_mut.result.now c.args.self.now.nodes c.set_node-answer.new.nodes c.args.n s act same e c.set_node-answer.ensures.nodes)
     (λ s. unless_boot (busy s) s _ refl)
+
+pub returns-clause-front : goal.returns-clause-front
+returns-clause-front g c =
+    wanted_same c.add_answer.result c.args.self.now c.args.items.now.items c.add_answer.new.items.items (set_on c.args.n c.args.reg c.args.value) c.add_answer.ensures.err
