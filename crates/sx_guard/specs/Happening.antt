@@ -7,9 +7,9 @@ use Rattle.sx_run.specs.State.{World, Acted}
 use Rattle.sx_run.specs.Acts.{only, at_node, after_step}
 use Rattle.sx_run.specs.Run.{line_counted, after_line}
 
--- One thing that happens: a line of the schedule begins; a node does one instruction; something else
--- is done to a node; a packet is forged; the deployer asks, or judges an answer; or an item is shown
--- and nothing is done.
+-- One thing that happens: a line of the schedule begins; a node does one instruction; something
+-- else is done to a node; a packet is forged; the deployer asks, or judges an answer; or an item is
+-- shown and nothing is done.
 pub data Happening : Type 0 where
   Begin : Happening
   Step : (node : ℕ) → Happening

@@ -6,8 +6,7 @@ use Rattle.sx_trace.specs.declared.items.Item.TheVariants as item
 use Rattle.sx_sched.specs.Lines as line
 use Rattle.sx_sched.specs.Lines.{Line}
 use Rattle.sx_run.specs.Setting.{Site, Setting}
-use Rattle.sx_run.specs.Run.{FINISH_STEPS, Register}
-use Rattle.sx_run.specs.Run.{protect_registers, call_registers}
+use Rattle.sx_run.specs.Run.{FINISH_STEPS, Register, protect_registers, call_registers}
 use Rattle.sx_guard.specs.Happening.{Happening, Begin, Step, Put, Set, Take, Give, Forge, Sense, Irq}
 use Rattle.sx_guard.specs.Happening.{Reset, Ask, Answer, Show}
 use Rattle.sx_guard.specs.Script.{Look, Script, End, Do}

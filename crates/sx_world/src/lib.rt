@@ -6,29 +6,29 @@
 //! world of a run that it shows (`specs/Held.antt`).
 //!
 //! A line goes from `World::act` to `lines`, which hands each kind to its file: `stepping` for
-//! instructions and interrupts, `touching` for what is done from outside, `packets`, `sensors`,
-//! `loading`, `calling` and `attesting`. What a step shows is `observation`, with `recording` for
+//! instructions and interrupts, `nodes` for what is done from outside, `packets`, `sensors`,
+//! `loading`, `calls` and `deployer`. What a step shows is `observation`, with `recording` for
 //! what modules wrap and unwrap.
 #![tactic(auto)]
 
-mod attesting;
-mod calling;
+mod calls;
+mod deployer;
 mod devices;
-mod giving;
 mod grants;
 mod headers;
+mod keys;
 mod lines;
 mod loading;
+mod network;
+mod nodes;
 mod observation;
 mod packets;
 mod quiet;
 mod recording;
 mod registers;
 mod running;
-mod sending;
 mod sensors;
 pub mod sites;
 mod stepping;
 mod targets;
-mod touching;
 pub mod world;

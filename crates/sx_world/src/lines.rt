@@ -4,7 +4,7 @@ ghost use Rattle.sx_deploy.specs.Law.{IsSoundDeployment};
 ghost use Rattle.sx_deploy.specs.SeenDeployment.{deployed_as};
 ghost use Rattle.sx_sched.specs.Lines.{IsLine, line_of};
 ghost use Rattle.sx_world.specs.Held.{DoesAct};
-ghost use Rattle.sx_run.specs.Accepted.{setting};
+ghost use Rattle.sx_world.specs.InMemory.{setting_at};
 ghost use Rattle.sx_world.specs.Ready.{IsReady};
 ghost use Rattle.sx_run.specs.Run.{after_line};
 
@@ -21,46 +21,54 @@ impl<B: Copied, T: Tag> Running<B, T> {
     /// Performs a line.
     pub(crate) fn act(
         &mut self,
-        plan: &Deployment,
+        deployment: &Deployment,
         sites: &[Site],
         line: &Line,
         items: &mut Vec<Item>,
     ) -> Result<(), AllocError>
-        requires sound { IsSoundDeployment (deployed_as plan.now) }
-        requires ready { IsReady (deployed_as plan.now) sites.now self.old }
-        requires form { IsLine (deployed_as plan.now).names (line_of line.now) }
-        ensures { DoesAct (setting T.mac (deployed_as plan.now) sites.now) result self.old self.new
+        requires sound { IsSoundDeployment (deployed_as deployment.now) }
+        requires ready { IsReady (deployed_as deployment.now) sites.now self.old }
+        requires form { IsLine (deployed_as deployment.now).names (line_of line.now) }
+        ensures { DoesAct (setting_at T.mac deployment.now sites.now) result self.old self.new
             items.old.items items.new.items
-            (λ w. after_line (setting T.mac (deployed_as plan.now) sites.now) w
+            (λ w. after_line (setting_at T.mac deployment.now sites.now) w
             (line_of line.now)) }
     {
         match line {
             Line::Blank => Ok(()),
             Line::Run { node, steps } => {
-                self.steps_of(plan, sites, *node, u32::from(*steps), false, None, items)
+                self.steps_of(
+                    deployment,
+                    sites,
+                    *node,
+                    u32::from(*steps),
+                    false,
+                    None,
+                    items,
+                )
             }
-            Line::Finish { node } => self.finish(plan, sites, *node, items),
+            Line::Finish { node } => self.finish(deployment, sites, *node, items),
             Line::Put { node, at, bytes } => self.put_on(*node, *at, bytes, items),
             Line::Set { node, reg, value } => self.set_on(*node, *reg, *value, items),
             Line::Take { node, at, len } => self.take(*node, *at, *len, items),
             Line::Give { packet, node, at } => self.give(*packet, *node, *at, items),
             Line::Forge { bytes } => self.new_packet(bytes, items),
-            Line::Sense { device, value } => self.sense(plan, *device, *value, items),
-            Line::Irq { node, line } => self.irq(plan, sites, *node, *line, items),
+            Line::Sense { device, value } => self.sense(deployment, *device, *value, items),
+            Line::Irq { node, line } => self.irq(deployment, sites, *node, *line, items),
             Line::Reset { node } => self.reset(*node, items),
             Line::Ask { module } => self.ask(*module, items),
             Line::Answer {
                 module,
                 boot,
                 packet,
-            } => self.answer(plan, *module, *boot, *packet, items),
-            Line::Load { module } => self.load(plan, sites, *module, items),
+            } => self.answer(deployment, *module, *boot, *packet, items),
+            Line::Load { module } => self.load(deployment, sites, *module, items),
             Line::Call {
                 module,
                 entry,
                 input,
                 output,
-            } => self.call(plan, sites, *module, *entry, *input, *output, items),
+            } => self.call(deployment, sites, *module, *entry, *input, *output, items),
         }
     }
 }

@@ -1,10 +1,9 @@
 //! The line `load`: a deployed image is put into memory and protected.
 
 ghost use Rattle.std.specs.Prelude.{◌≡◌, ℕ, ◌+◌, ◌/◌, ◌<◌, ◌≤◌, length, slice_get, Some};
-ghost use Rattle.sx_deploy.specs.SeenDeployment.{deployed_as};
 ghost use Rattle.sx_machine.specs.State.{State};
 ghost use Rattle.sx_world.specs.Held.{DoesAct, boots_of};
-ghost use Rattle.sx_run.specs.Accepted.{setting};
+ghost use Rattle.sx_world.specs.InMemory.{setting_at};
 ghost use Rattle.sx_world.specs.Loading.{after_loading};
 ghost use Rattle.sx_run.specs.Run.{protect_registers};
 ghost use Rattle.sx_run.specs.Run as run;
@@ -70,7 +69,7 @@ impl<B: Copied, T: Tag> Running<B, T> {
     /// An image is put, and protected by an instruction at address 0.
     fn put_and_protect(
         &mut self,
-        plan: &Deployment,
+        deployment: &Deployment,
         sites: &[Site],
         site: &Site,
         items: &mut Vec<Item>,
@@ -81,22 +80,22 @@ impl<B: Copied, T: Tag> Running<B, T> {
         requires steps { self.old.steps < 18446744073709551615 }
         requires text { site.now.layout.pub_from + length site.now.text ≤ 65536 }
         requires sites { length sites.now ≤ 256 }
-        requires devices { length plan.now.app.devices.items ≤ 256 }
-        ensures { DoesAct (setting T.mac (deployed_as plan.now) sites.now) result
+        requires devices { length deployment.now.app.devices.items ≤ 256 }
+        ensures { DoesAct (setting_at T.mac deployment.now sites.now) result
             self.old self.new items.old.items items.new.items
-            (after_loading (setting T.mac (deployed_as plan.now) sites.now) site.now) }
+            (after_loading (setting_at T.mac deployment.now sites.now) site.now) }
     {
         let n = site.node;
         self.put_pieces(n, site.layout.pub_from, &site.text, items)?;
         self.put_on(n, 0, &PROTECT, items)?;
         self.set_all(n, &protect_registers(site), items)?;
-        self.steps_of(plan, sites, n, 1, false, None, items)
+        self.steps_of(deployment, sites, n, 1, false, None, items)
     }
 
     /// A module's image is put and protected, unless a module of its node runs.
     pub(crate) fn load(
         &mut self,
-        plan: &Deployment,
+        deployment: &Deployment,
         sites: &[Site],
         m: u8,
         items: &mut Vec<Item>,
@@ -110,15 +109,15 @@ impl<B: Copied, T: Tag> Running<B, T> {
         requires text { (site : Placed) → slice_get sites.now m ≡ Some site
             → site.layout.pub_from + length site.text ≤ 65536 }
         requires sites { length sites.now ≤ 256 }
-        requires devices { length plan.now.app.devices.items ≤ 256 }
-        ensures { DoesAct (setting T.mac (deployed_as plan.now) sites.now) result
+        requires devices { length deployment.now.app.devices.items ≤ 256 }
+        ensures { DoesAct (setting_at T.mac deployment.now sites.now) result
             self.old self.new items.old.items items.new.items
-            (λ w. run.load (setting T.mac (deployed_as plan.now) sites.now) w
+            (λ w. run.load (setting_at T.mac deployment.now sites.now) w
             (slice_get sites.now m)) }
     {
         let site = &sites[usize::from(m)];
         if self.is_idle(site.node) {
-            self.put_and_protect(plan, sites, site, items)
+            self.put_and_protect(deployment, sites, site, items)
         } else {
             add(items, Item::Busy { node: site.node })
         }

@@ -6,9 +6,8 @@ ghost use Rattle.std.specs.List.{list_any};
 ghost use Rattle.sx_trace.specs.declared.items.Item.TheVariants.{Done};
 ghost use Rattle.sx_mean.specs.View.{app_as};
 ghost use Rattle.sx_ledger.specs.Made.{Made};
-ghost use Rattle.sx_deploy.specs.SeenDeployment.{deployed_as};
 ghost use Rattle.sx_world.specs.Held.{AddsFront, Observes, ObservesFront};
-ghost use Rattle.sx_run.specs.Accepted.{setting};
+ghost use Rattle.sx_world.specs.InMemory.{setting_at};
 ghost use Rattle.sx_run.specs.Observation.{cause_of, event_seen, observed, protect_item};
 ghost use Rattle.sx_run.specs.Observation.{read_item, touch_items, write_item};
 ghost use Rattle.sx_world.specs.Computed.{author, is_own, is_touch, runner_of, tells};
@@ -171,14 +170,14 @@ fn add_touches(
 }
 
 fn protect_item<B: Copied, T: Tag>(
-    plan: &Deployment,
+    deployment: &Deployment,
     sites: &[Site],
     n: u8,
     node: &Node<B, T>,
     id: u16,
 ) -> Item
     requires { length sites.now ≤ 256 }
-    ensures { result ≡ protect_item (setting T.mac (deployed_as plan.now) sites.now) n node.now id }
+    ensures { result ≡ protect_item (setting_at T.mac deployment.now sites.now) n node.now id }
 {
     Item::Protect {
         node: n,
@@ -198,7 +197,7 @@ fn done_item<B: Copied, T: Tag>(m: u8, node: &Node<B, T>) -> Item
 
 /// What the event of a deployed module's step shows, and the ledger after it.
 fn add_own_event<B: Copied, T: Tag>(
-    plan: &Deployment,
+    deployment: &Deployment,
     sites: &[Site],
     n: u8,
     m: u8,
@@ -209,16 +208,16 @@ fn add_own_event<B: Copied, T: Tag>(
 ) -> Result<(), AllocError>
     requires { is_own event ≡ true }
     ensures done { OnOk result (Observes ledger.old ledger.new items.old.items items.new.items
-        (λ list. event_seen (setting T.mac (deployed_as plan.now) sites.now) n (Some m) node.now
+        (λ list. event_seen (setting_at T.mac deployment.now sites.now) n (Some m) node.now
         list event)) }
     ensures front { OnErr result (ObservesFront ledger.old items.old.items items.new.items
-        (λ list. event_seen (setting T.mac (deployed_as plan.now) sites.now) n (Some m) node.now
+        (λ list. event_seen (setting_at T.mac deployment.now sites.now) n (Some m) node.now
         list event)) }
 {
     match event {
         Event::Wrapped(_) => add_wrapped(m, node.boot(), node.exchange(), items, ledger),
         Event::Unwrapped(_) => add_unwrapped(
-            &plan.app,
+            &deployment.app,
             m,
             node.boot(),
             node.exchange(),
@@ -232,7 +231,7 @@ fn add_own_event<B: Copied, T: Tag>(
 
 /// What the event of a step shows, whose code left the node so, and the ledger after it.
 fn add_event<B: Copied, T: Tag>(
-    plan: &Deployment,
+    deployment: &Deployment,
     sites: &[Site],
     n: u8,
     runner: Option<u8>,
@@ -243,10 +242,10 @@ fn add_event<B: Copied, T: Tag>(
 ) -> Result<(), AllocError>
     requires { length sites.now ≤ 256 }
     ensures done { OnOk result (Observes ledger.old ledger.new items.old.items items.new.items
-        (λ list. event_seen (setting T.mac (deployed_as plan.now) sites.now) n runner node.now list
+        (λ list. event_seen (setting_at T.mac deployment.now sites.now) n runner node.now list
         event)) }
     ensures front { OnErr result (ObservesFront ledger.old items.old.items items.new.items
-        (λ list. event_seen (setting T.mac (deployed_as plan.now) sites.now) n runner node.now list
+        (λ list. event_seen (setting_at T.mac deployment.now sites.now) n runner node.now list
         event)) }
 {
     match event {
@@ -258,9 +257,9 @@ fn add_event<B: Copied, T: Tag>(
                 cause: cause_of(violation),
             },
         ),
-        Event::Protected(id) => add(items, protect_item(plan, sites, n, node, id)),
+        Event::Protected(id) => add(items, protect_item(deployment, sites, n, node, id)),
         Event::Wrapped(_) | Event::Unwrapped(_) | Event::Left(_) => match runner {
-            Some(m) => add_own_event(plan, sites, n, m, node, event, items, ledger),
+            Some(m) => add_own_event(deployment, sites, n, m, node, event, items, ledger),
             None => Ok(()),
         },
     }
@@ -268,7 +267,7 @@ fn add_event<B: Copied, T: Tag>(
 
 /// What is seen of code of this module, which left the node so: its items, and the ledger after it.
 pub(crate) fn add_seen<B: Copied, T: Tag>(
-    plan: &Deployment,
+    deployment: &Deployment,
     sites: &[Site],
     n: u8,
     runner: Option<u8>,
@@ -278,12 +277,14 @@ pub(crate) fn add_seen<B: Copied, T: Tag>(
     ledger: &mut Ledger,
 ) -> Result<(), AllocError>
     requires sites { length sites.now ≤ 256 }
-    requires devices { length plan.now.app.devices.items ≤ 256 }
+    requires devices { length deployment.now.app.devices.items ≤ 256 }
     ensures done { OnOk result (Observes ledger.old ledger.new items.old.items items.new.items
-        (observed (setting T.mac (deployed_as plan.now) sites.now) n runner node.now seen.now)) }
+        (observed (setting_at T.mac deployment.now sites.now) n runner node.now seen.now)) }
     ensures front { OnErr result (ObservesFront ledger.old items.old.items items.new.items
-        (observed (setting T.mac (deployed_as plan.now) sites.now) n runner node.now seen.now)) }
+        (observed (setting_at T.mac deployment.now sites.now) n runner node.now seen.now)) }
 {
-    add_touches(&plan.app, n, runner, &seen.touch, items)?;
-    add_event(plan, sites, n, runner, node, seen.event, items, ledger)
+    add_touches(&deployment.app, n, runner, &seen.touch, items)?;
+    add_event(
+        deployment, sites, n, runner, node, seen.event, items, ledger,
+    )
 }

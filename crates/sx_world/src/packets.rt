@@ -9,9 +9,9 @@ ghost use Rattle.sx_world.specs.Held.{Did, Wanted};
 ghost use Rattle.sx_run.specs.Run.{give};
 ghost use Rattle.sx_run.specs.Setting.{Setting};
 
+use crate::nodes::{add_answer, put_node, refused_item};
 use crate::recording::add;
 use crate::running::Running;
-use crate::touching::{add_answer, put_node, refused_item};
 use std::alloc::{AllocError, Global};
 use sx_bus::{Bus, Copied};
 use sx_node::{Node, Refused};

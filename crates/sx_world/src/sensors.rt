@@ -6,7 +6,7 @@ ghost use Rattle.sx_deploy.specs.SeenDeployment.{deployed_as};
 ghost use Rattle.sx_machine.specs.Node.{shapes};
 ghost use Rattle.sx_machine.specs.State.{State};
 ghost use Rattle.sx_world.specs.Held.{DoesAct};
-ghost use Rattle.sx_run.specs.Accepted.{setting};
+ghost use Rattle.sx_world.specs.InMemory.{setting_at};
 ghost use Rattle.sx_run.specs.Run.{sense_at};
 ghost use Rattle.sx_run.specs.Setting.{Site, windows_at};
 
@@ -23,27 +23,28 @@ impl<B: Copied, T: Tag> Running<B, T> {
     /// run's.
     pub(crate) fn sense(
         &mut self,
-        plan: &Deployment,
+        deployment: &Deployment,
         d: u8,
         value: u16,
         items: &mut Vec<Item>,
     ) -> Result<(), AllocError>
-        requires sound { IsSoundDeployment (deployed_as plan.now) }
+        requires sound { IsSoundDeployment (deployed_as deployment.now) }
         requires windows { (n : ℕ) (s : State) → slice_get self.old.nodes n ≡ Some s
-            → shapes s.devices ≡ windows_at n plan.now.app.devices.items plan.now.places.items }
-        requires device { d < length plan.now.app.devices.items }
-        requires sensor { slice_get (deployed_as plan.now).names.sensors d ≡ Some true }
+            → shapes s.devices ≡ windows_at n deployment.now.app.devices.items
+            deployment.now.places.items }
+        requires device { d < length deployment.now.app.devices.items }
+        requires sensor { slice_get (deployed_as deployment.now).names.sensors d ≡ Some true }
         requires value { value < 32768 }
-        ensures { (sites : List Site) → DoesAct (setting T.mac (deployed_as plan.now) sites) result
+        ensures { (sites : List Site) → DoesAct (setting_at T.mac deployment.now sites) result
             self.old self.new items.old.items items.new.items
-            (λ w. sense_at (setting T.mac (deployed_as plan.now) sites) w d value
-            (slice_get plan.now.app.devices.items d)) }
+            (λ w. sense_at (setting_at T.mac deployment.now sites) w d value
+            (slice_get deployment.now.app.devices.items d)) }
     {
-        let n = plan.app.devices[usize::from(d)].node;
+        let n = deployment.app.devices[usize::from(d)].node;
         if usize::from(n) >= self.nodes.len() {
             return Ok(());
         }
-        let k = place_at(&plan.app.devices, n, d);
+        let k = place_at(&deployment.app.devices, n, d);
         self.sense_at(n, k, d, value, items)
     }
 }

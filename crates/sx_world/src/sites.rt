@@ -116,18 +116,24 @@ pub(crate) fn module_of<B: Copied, T: Tag>(
 }
 
 /// The site of the m-th module, with the text of its image.
-fn site_at(alloc: Global, plan: &Deployment, images: &[Image], m: usize) -> Result<Site, AllocError>
-    requires sound { IsSoundDeployment (deployed_as plan.now) }
-    requires images { length images.now ≡ length plan.now.app.parts.items }
+fn site_at(
+    alloc: Global,
+    deployment: &Deployment,
+    images: &[Image],
+    m: usize,
+) -> Result<Site, AllocError>
+    requires sound { IsSoundDeployment (deployed_as deployment.now) }
+    requires images { length images.now ≡ length deployment.now.app.parts.items }
     requires part { m < length images.now }
-    ensures { IfOk result (λ site. slice_get (sites_of (deployed_as plan.now).app.parts
-        (deployed_as plan.now).layouts
-        (deployed_as plan.now).providers (map (λ i. i.text.items) images.now)) m ≡ Some site) }
+    ensures { IfOk result (λ site. slice_get (sites_of (deployed_as deployment.now).app.parts
+        (deployed_as deployment.now).layouts
+        (deployed_as deployment.now).providers (map (λ i. i.text.items) images.now)) m
+        ≡ Some site) }
 {
     Ok(Site {
-        node: plan.app.parts[m].node,
-        layout: plan.layouts[m],
-        provider: plan.providers[m],
+        node: deployment.app.parts[m].node,
+        layout: deployment.layouts[m],
+        provider: deployment.providers[m],
         text: images[m].text.to_vec(alloc)?,
     })
 }
@@ -135,18 +141,18 @@ fn site_at(alloc: Global, plan: &Deployment, images: &[Image], m: usize) -> Resu
 /// The sites of a deployment's modules, with the texts of their images.
 pub(crate) fn sites_of(
     alloc: Global,
-    plan: &Deployment,
+    deployment: &Deployment,
     images: &[Image],
 ) -> Result<Vec<Site>, AllocError>
-    requires sound { IsSoundDeployment (deployed_as plan.now) }
-    requires images { length images.now ≡ length plan.now.app.parts.items }
-    ensures { IfOk result (λ sites. sites.items ≡ sites_of (deployed_as plan.now).app.parts
-        (deployed_as plan.now).layouts
-        (deployed_as plan.now).providers (map (λ i. i.text.items) images.now)) }
+    requires sound { IsSoundDeployment (deployed_as deployment.now) }
+    requires images { length images.now ≡ length deployment.now.app.parts.items }
+    ensures { IfOk result (λ sites. sites.items ≡ sites_of (deployed_as deployment.now).app.parts
+        (deployed_as deployment.now).layouts
+        (deployed_as deployment.now).providers (map (λ i. i.text.items) images.now)) }
 {
     let mut sites = Vec::new(alloc);
     for m in 0..images.len() {
-        sites.push(site_at(alloc, plan, images, m)?)?;
+        sites.push(site_at(alloc, deployment, images, m)?)?;
     }
     Ok(sites)
 }

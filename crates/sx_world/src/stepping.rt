@@ -3,25 +3,24 @@
 ghost use Rattle.std.specs.Prelude.{◌≡◌, ◌==◌, ◌&&◌, ◌||◌, ◌+◌, ◌<◌, ◌≤◌, length, slice_get};
 ghost use Rattle.std.specs.Prelude.{slice_set, Some, OnOk, OnErr};
 ghost use Rattle.std.specs.Option.{option_to_list};
-ghost use Rattle.sx_deploy.specs.SeenDeployment.{deployed_as};
 ghost use Rattle.sx_machine.specs.State.{State};
 ghost use Rattle.sx_machine.specs.Step.{step};
 ghost use Rattle.sx_machine.specs.Acts.{irq};
 ghost use Rattle.sx_run.specs.Acts.{at_node, after_interrupt};
 ghost use Rattle.sx_world.specs.Held.{Did, DoesAct, Observes, ObservesFront, Wanted};
-ghost use Rattle.sx_run.specs.Accepted.{setting};
+ghost use Rattle.sx_world.specs.InMemory.{setting_at};
 ghost use Rattle.sx_world.specs.Computed.{runner_of};
 ghost use Rattle.sx_run.specs.Observation.{observed};
 ghost use Rattle.sx_world.specs.Passing.{after_steps, stepped, taken, AreQuiet, EndsWith};
 ghost use Rattle.sx_run.specs.Run as run;
 ghost use Rattle.sx_run.specs.Run.{FINISH_STEPS, is_reset, steps_of};
 
+use crate::nodes::refused_item;
 use crate::observation::{add_seen, runner_of};
 use crate::quiet::{QuietSteps, quiet_steps};
 use crate::recording::add;
 use crate::running::Running;
 use crate::sites::Site;
-use crate::touching::refused_item;
 use std::alloc::AllocError;
 use sx_bus::{Bus, Copied};
 use sx_deploy::deployment::Deployment;
@@ -71,7 +70,7 @@ impl<B: Copied, T: Tag> Running<B, T> {
     /// An interrupt of a node, which runs as code outside every module.
     pub(crate) fn irq(
         &mut self,
-        plan: &Deployment,
+        deployment: &Deployment,
         sites: &[Site],
         n: u8,
         line: u8,
@@ -81,20 +80,29 @@ impl<B: Copied, T: Tag> Running<B, T> {
         requires line { line ≤ 14 }
         requires boot { (s : State) → slice_get self.old.nodes n ≡ Some s → s.boot < 4294967295 }
         requires sites { length sites.now ≤ 256 }
-        requires devices { length plan.now.app.devices.items ≤ 256 }
-        ensures done { OnOk result (Did (setting T.mac (deployed_as plan.now) sites.now) self.old
+        requires devices { length deployment.now.app.devices.items ≤ 256 }
+        ensures done { OnOk result (Did (setting_at T.mac deployment.now sites.now) self.old
             self.new items.old.items items.new.items
-            (λ w. at_node w (λ s. after_interrupt (setting T.mac (deployed_as plan.now) sites.now) w
+            (λ w. at_node w (λ s. after_interrupt (setting_at T.mac deployment.now sites.now) w
             n (irq s line).state (irq s line).shown) (slice_get w.nodes n))) }
-        ensures front { OnErr result (Wanted (setting T.mac (deployed_as plan.now) sites.now)
+        ensures front { OnErr result (Wanted (setting_at T.mac deployment.now sites.now)
             self.old items.old.items items.new.items
-            (λ w. at_node w (λ s. after_interrupt (setting T.mac (deployed_as plan.now) sites.now) w
+            (λ w. at_node w (λ s. after_interrupt (setting_at T.mac deployment.now sites.now) w
             n (irq s line).state (irq s line).shown) (slice_get w.nodes n))) }
     {
         match irq_node(&mut self.nodes, n, line) {
             Ok(seen) => {
                 let node = &self.nodes[usize::from(n)];
-                add_seen(plan, sites, n, None, node, &seen, items, &mut self.ledger)
+                add_seen(
+                    deployment,
+                    sites,
+                    n,
+                    None,
+                    node,
+                    &seen,
+                    items,
+                    &mut self.ledger,
+                )
             }
             Err(why) => add(items, refused_item(n, why)),
         }
@@ -121,7 +129,7 @@ impl<B: Copied, T: Tag> Running<B, T> {
     /// What is seen of an instruction that left the node so: its items, and the ledger after it.
     fn show(
         &mut self,
-        plan: &Deployment,
+        deployment: &Deployment,
         sites: &[Site],
         n: u8,
         seen: &Seen,
@@ -129,20 +137,29 @@ impl<B: Copied, T: Tag> Running<B, T> {
     ) -> Result<(), AllocError>
         requires node { n < length self.old.nodes }
         requires sites { length sites.now ≤ 256 }
-        requires devices { length plan.now.app.devices.items ≤ 256 }
+        requires devices { length deployment.now.app.devices.items ≤ 256 }
         ensures done { OnOk result ((s : State) → slice_get self.old.nodes n ≡ Some s
             → Observes self.old.ledger self.new.ledger items.old.items items.new.items
-            (observed (setting T.mac (deployed_as plan.now) sites.now) n
+            (observed (setting_at T.mac deployment.now sites.now) n
             (runner_of sites.now n s seen.now) s seen.now)) }
         ensures front { OnErr result ((s : State) → slice_get self.old.nodes n ≡ Some s
             → ObservesFront self.old.ledger items.old.items items.new.items
-            (observed (setting T.mac (deployed_as plan.now) sites.now) n
+            (observed (setting_at T.mac deployment.now sites.now) n
             (runner_of sites.now n s seen.now) s seen.now)) }
         ensures kept { self.new ≡ record self.old { ledger = self.new.ledger } }
     {
         let node = &self.nodes[usize::from(n)];
         let runner = runner_of(sites, n, node, seen);
-        add_seen(plan, sites, n, runner, node, seen, items, &mut self.ledger)
+        add_seen(
+            deployment,
+            sites,
+            n,
+            runner,
+            node,
+            seen,
+            items,
+            &mut self.ledger,
+        )
     }
 
     /// Whether no further step follows one that showed this event.
@@ -166,7 +183,7 @@ impl<B: Copied, T: Tag> Running<B, T> {
     /// leaves no module running; and this item where all were taken.
     pub(crate) fn steps_of(
         &mut self,
-        plan: &Deployment,
+        deployment: &Deployment,
         sites: &[Site],
         n: u8,
         count: u32,
@@ -178,21 +195,21 @@ impl<B: Copied, T: Tag> Running<B, T> {
         requires boot { (s : State) → slice_get self.old.nodes n ≡ Some s → s.boot < 4294967295 }
         requires steps { self.old.steps + count ≤ 18446744073709551615 }
         requires sites { length sites.now ≤ 256 }
-        requires devices { length plan.now.app.devices.items ≤ 256 }
-        ensures done { OnOk result (Did (setting T.mac (deployed_as plan.now) sites.now) self.old
+        requires devices { length deployment.now.app.devices.items ≤ 256 }
+        ensures done { OnOk result (Did (setting_at T.mac deployment.now sites.now) self.old
             self.new items.old.items items.new.items
-            (steps_of (setting T.mac (deployed_as plan.now) sites.now)
+            (steps_of (setting_at T.mac deployment.now sites.now)
             (λ s. idle && (s.cur == 0)) (option_to_list end) n count)) }
-        ensures front { OnErr result (Wanted (setting T.mac (deployed_as plan.now) sites.now)
+        ensures front { OnErr result (Wanted (setting_at T.mac deployment.now sites.now)
             self.old items.old.items items.new.items
-            (steps_of (setting T.mac (deployed_as plan.now) sites.now)
+            (steps_of (setting_at T.mac deployment.now sites.now)
             (λ s. idle && (s.cur == 0)) (option_to_list end) n count)) }
     {
         let mut left = count;
         'stretches: loop {
             let quiet = self.pass(n, left, idle);
             let Some(seen) = quiet.last else { break };
-            self.show(plan, sites, n, &seen, items)?;
+            self.show(deployment, sites, n, &seen, items)?;
             if self.ends(n, idle, seen.event) {
                 return Ok(());
             }
@@ -207,7 +224,7 @@ impl<B: Copied, T: Tag> Running<B, T> {
     /// A step of a node, and further ones while a module runs, at most a million.
     pub(crate) fn finish(
         &mut self,
-        plan: &Deployment,
+        deployment: &Deployment,
         sites: &[Site],
         n: u8,
         items: &mut Vec<Item>,
@@ -216,12 +233,20 @@ impl<B: Copied, T: Tag> Running<B, T> {
         requires boot { (s : State) → slice_get self.old.nodes n ≡ Some s → s.boot < 4294967295 }
         requires steps { self.old.steps + FINISH_STEPS ≤ 18446744073709551615 }
         requires sites { length sites.now ≤ 256 }
-        requires devices { length plan.now.app.devices.items ≤ 256 }
-        ensures { DoesAct (setting T.mac (deployed_as plan.now) sites.now) result self.old self.new
+        requires devices { length deployment.now.app.devices.items ≤ 256 }
+        ensures { DoesAct (setting_at T.mac deployment.now sites.now) result self.old self.new
             items.old.items items.new.items
-            (run.finish (setting T.mac (deployed_as plan.now) sites.now) n) }
+            (run.finish (setting_at T.mac deployment.now sites.now) n) }
     {
         let budget = Item::Budget { node: n };
-        self.steps_of(plan, sites, n, finish_steps(), true, Some(budget), items)
+        self.steps_of(
+            deployment,
+            sites,
+            n,
+            finish_steps(),
+            true,
+            Some(budget),
+            items,
+        )
     }
 }

@@ -1,12 +1,11 @@
 //! The deployed modules as the deployer knows them.
 
 ghost use Rattle.std.specs.Prelude.{◌≡◌, ℕ, ◌<◌, ◌≤◌, length, map, slice_get, Some, IfOk};
-ghost use Rattle.sx_deploy.specs.SeenDeployment.{deployed_as};
 ghost use Rattle.sx_deployer.specs.Keeping.{known};
 ghost use Rattle.sx_tag.specs.Keys.{identity};
 ghost use Rattle.sx_tag.specs.Mac.{Mac};
 ghost use Rattle.sx_world.specs.Held.{targets_from};
-ghost use Rattle.sx_run.specs.Accepted.{setting};
+ghost use Rattle.sx_world.specs.InMemory.{setting_at};
 ghost use Rattle.sx_run.specs.Setting.{Site as Placed};
 
 use crate::sites::Site;
@@ -31,45 +30,45 @@ fn identity(alloc: Global, site: &Site) -> Result<Vec<u8>, AllocError>
 /// The module at the m-th site.
 fn target_at(
     alloc: Global,
-    plan: &Deployment,
+    deployment: &Deployment,
     sites: &[Site],
     m: usize,
 ) -> Result<Target, AllocError>
-    requires links { length plan.now.app.links.items ≤ 256 }
+    requires links { length deployment.now.app.links.items ≤ 256 }
     requires few { length sites.now ≤ 256 }
     requires nodes { (k : ℕ) (site : Placed) → slice_get sites.now k ≡ Some site
-        → site.node < length plan.now.keys.items }
+        → site.node < length deployment.now.keys.items }
     requires site { m < length sites.now }
     ensures { IfOk result (λ t. (mac : Mac) → slice_get
-        (targets_from (setting mac (deployed_as plan.now) sites.now) 0 sites.now) m
+        (targets_from (setting_at mac deployment.now sites.now) 0 sites.now) m
         ≡ Some (known t)) }
 {
     let site = &sites[m];
     Ok(Target {
-        node_key: plan.keys[usize::from(site.node)],
+        node_key: deployment.keys[usize::from(site.node)],
         provider: site.provider,
         identity: identity(alloc, site)?,
-        ends: plan.ends(alloc, m as u8)?,
+        ends: deployment.ends(alloc, m as u8)?,
     })
 }
 
 /// The modules at these sites.
 pub(crate) fn targets_of(
     alloc: Global,
-    plan: &Deployment,
+    deployment: &Deployment,
     sites: &[Site],
 ) -> Result<Vec<Target>, AllocError>
-    requires links { length plan.now.app.links.items ≤ 256 }
+    requires links { length deployment.now.app.links.items ≤ 256 }
     requires few { length sites.now ≤ 256 }
     requires nodes { (k : ℕ) (site : Placed) → slice_get sites.now k ≡ Some site
-        → site.node < length plan.now.keys.items }
+        → site.node < length deployment.now.keys.items }
     ensures { IfOk result (λ targets. (mac : Mac)
-        → map known targets.items ≡ targets_from (setting mac (deployed_as plan.now) sites.now) 0
+        → map known targets.items ≡ targets_from (setting_at mac deployment.now sites.now) 0
         sites.now) }
 {
     let mut targets = Vec::new(alloc);
     for m in 0..sites.len() {
-        targets.push(target_at(alloc, plan, sites, m)?)?;
+        targets.push(target_at(alloc, deployment, sites, m)?)?;
     }
     Ok(targets)
 }

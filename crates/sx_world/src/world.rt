@@ -2,7 +2,7 @@
 
 ghost use Rattle.std.specs.Prelude.{◌≡◌, ◌≢◌, ℕ, ◌+◌, ◌<◌, false, true, length, slice_get, IfOk};
 ghost use Rattle.std.specs.Prelude.{IsErr, OnOk, OnErr, IfSome, Option, option_map};
-ghost use Rattle.sx_deploy.specs.Law as deployment;
+ghost use Rattle.sx_deploy.specs.Law.{IsSoundDeployment};
 ghost use Rattle.sx_deploy.specs.SeenDeployment.{deployed_as};
 ghost use Rattle.sx_sched.specs.Lines.{IsLine, line_of};
 ghost use Rattle.sx_world.specs.Continued.{Acts, ActsInPart, StaysLegal};
@@ -57,25 +57,26 @@ impl<B: Copied, T: Tag> World<B, T> {
     pub fn new(
         alloc: Global,
         tag: T,
-        plan: &Deployment,
+        deployment: &Deployment,
         images: &[Image],
         nodes: Vec<Node<B, T>>,
     ) -> Result<World<B, T>, AllocError>
-        requires sound { deployment.IsSoundDeployment (deployed_as plan.now) }
-        requires images { length images.now ≡ length plan.now.app.parts.items }
+        requires sound { IsSoundDeployment (deployed_as deployment.now) }
+        requires images { length images.now ≡ length deployment.now.app.parts.items }
         requires nodes { nodes.items
-            ≡ nodes_from (image_setting T.mac plan.now images.now) 0 (deployed_as plan.now).keys }
+            ≡ nodes_from (image_setting T.mac deployment.now images.now) 0
+            (deployed_as deployment.now).keys }
         ensures sites { IfOk result (λ world.
-            world.sites ≡ (image_setting T.mac plan.now images.now).sites) }
+            world.sites ≡ (image_setting T.mac deployment.now images.now).sites) }
         ensures stands { IfOk result (λ world.
-            Stands (image_setting T.mac plan.now images.now) world
-            (switched_on (image_setting T.mac plan.now images.now))) }
+            Stands (image_setting T.mac deployment.now images.now) world
+            (switched_on (image_setting T.mac deployment.now images.now))) }
         ensures lines { IfOk result (λ world. world.lines ≡ 0) }
         ensures memory { IfOk result (λ world. world.wanted ≡ false) }
     {
-        let sites = sites_of(alloc, plan, images)?;
-        let targets = targets_of(alloc, plan, &sites)?;
-        let deployer = Deployer::new(plan.secret, targets);
+        let sites = sites_of(alloc, deployment, images)?;
+        let targets = targets_of(alloc, deployment, &sites)?;
+        let deployer = Deployer::new(deployment.secret, targets);
         Ok(World {
             sites,
             running: Running::new(alloc, tag, nodes, deployer),
@@ -90,20 +91,20 @@ impl<B: Copied, T: Tag> World<B, T> {
     /// those that were due, and no further line is performed.
     pub fn act(
         &mut self,
-        plan: &Deployment,
+        deployment: &Deployment,
         line: &Line,
         items: &mut Vec<Item>,
     ) -> Result<(), AllocError>
-        requires sound { deployment.IsSoundDeployment (deployed_as plan.now) }
-        requires images { IsSoundSetting (world_setting T.mac plan.now self.old) }
-        requires going { IsGoing (world_setting T.mac plan.now self.old) self.old }
+        requires sound { IsSoundDeployment (deployed_as deployment.now) }
+        requires images { IsSoundSetting (world_setting T.mac deployment.now self.old) }
+        requires going { IsGoing (world_setting T.mac deployment.now self.old) self.old }
         requires few { self.old.lines < 65536 }
-        requires form { IsLine (deployed_as plan.now).names (line_of line.now) }
-        ensures acted { OnOk result (Acts (world_setting T.mac plan.now self.old)
+        requires form { IsLine (deployed_as deployment.now).names (line_of line.now) }
+        ensures acted { OnOk result (Acts (world_setting T.mac deployment.now self.old)
             (line_of line.now) self.old self.new items.old.items items.new.items) }
-        ensures legal { OnOk result (StaysLegal (world_setting T.mac plan.now self.old)
+        ensures legal { OnOk result (StaysLegal (world_setting T.mac deployment.now self.old)
             (line_of line.now) self.old self.new items.old.items items.new.items) }
-        ensures front { OnErr result (ActsInPart (world_setting T.mac plan.now self.old)
+        ensures front { OnErr result (ActsInPart (world_setting T.mac deployment.now self.old)
             (line_of line.now) self.old items.old.items items.new.items) }
         ensures wanted { OnErr result (self.new.wanted ≡ true) }
         ensures goes_on { OnOk result (self.new.wanted ≡ false) }
@@ -116,7 +117,7 @@ impl<B: Copied, T: Tag> World<B, T> {
         if self.wanted {
             return Err(AllocError);
         }
-        match self.running.act(plan, &self.sites, line, items) {
+        match self.running.act(deployment, &self.sites, line, items) {
             Ok(()) => {
                 self.lines += 1;
                 self.made = items.len();

@@ -5,7 +5,6 @@ use Rattle.sx_machine.specs.Acts.{take}
 use Rattle.sx_world.proofs.doing.KeptPackets.{node_at}
 use Rattle.sx_world.proofs.packets.taken.Goals as goal
 
--- src/packets.rt:21:1
 pub returns-in-Ok-clause-bytes : goal.returns-in-Ok-clause-bytes
 returns-in-Ok-clause-bytes g c = λ s e.
     let node = node_at c.args.nodes.now c.args.n c.from-2.result s c.index-nodes-from.result e c.from-2.ensures c.index-nodes-from.is in
@@ -13,7 +12,6 @@ returns-in-Ok-clause-bytes g c = λ s e.
     ap (λ k. (take s c.args.at k).shown) (sym count) ∙ ap (λ (x : State). (take x c.args.at (length c.deref_mut.result.now)).shown) (sym node)
     ∙ c.in-Ok.ensures.taken ∙ ap (λ bytes. Ok bytes) (sym (with_items_is c.resize.new.self c.take.new.into (c.take.auto.into ∙ c.deref_mut.ensures.len)))
 
--- src/packets.rt:21:1
 pub returns-in-Err-clause-refused : goal.returns-in-Err-clause-refused
 returns-in-Err-clause-refused g c = λ s e.
     let node = node_at c.args.nodes.now c.args.n c.from-2.result s c.index-nodes-from.result e c.from-2.ensures c.index-nodes-from.is in

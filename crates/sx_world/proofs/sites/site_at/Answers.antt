@@ -9,17 +9,15 @@ use Rattle.sx_mean.specs.View.{part_as}
 use Rattle.sx_world.proofs.standing.SwitchedOn.{layouts_long, providers_long, site_is}
 use Rattle.sx_world.proofs.sites.site_at.Goals as goal
 
--- src/sites.rt:121:17
 pub index-requires-2 : goal.index-requires-2
 index-requires-2 c =
-    let a = layouts_long (deployed_as c.args.plan.now) c.requires.sound in
-    let b = length-map c.args.plan.now.app.parts.items part_as in
+    let a = layouts_long (deployed_as c.args.deployment.now) c.requires.sound in
+    let b = length-map c.args.deployment.now.app.parts.items part_as in
     omega (arith, a, b, c.requires.images, c.requires.part)
 
--- src/sites.rt:107:1
 pub returns : goal.returns
 returns c =
-    let plan = c.args.plan.now in
+    let plan = c.args.deployment.now in
     let d = deployed_as plan in
     let m = c.args.m in
     let parts = plan.app.parts.items in

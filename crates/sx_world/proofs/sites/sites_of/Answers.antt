@@ -8,19 +8,17 @@ use Rattle.sx_run.specs.Setting.{Site}
 use Rattle.sx_world.proofs.standing.SwitchedOn.{all_sited, take_next, take_whole}
 use Rattle.sx_world.proofs.sites.sites_of.Goals as goal
 
--- src/sites.rt:139:5
 pub loop-m-preserved : goal.loop-m-preserved
 loop-m-preserved c =
-    let d = deployed_as c.args.plan.now in
+    let d = deployed_as c.args.deployment.now in
     let all = sites_of d.app.parts d.layouts d.providers (map (λ (i : Image). i.text.items) c.args.images.now) in
     c.in_ok-push.ensures.items ∙ ap (λ (xs : List Site). xs ++ c.in_ok-site_at.field-0 ∷ []) c.loop-m.invariant ∙ sym (take_next all c.loop-m.m c.in_ok-site_at.field-0 c.in_ok-site_at.ensures)
 
--- src/sites.rt:128:1
 pub returns : goal.returns
 returns c =
-    let d = deployed_as c.args.plan.now in
+    let d = deployed_as c.args.deployment.now in
     let texts = map (λ (i : Image). i.text.items) c.args.images.now in
     let many = length-map c.args.images.now (λ (i : Image). i.text.items) in
-    let parts = length-map c.args.plan.now.app.parts.items part_as in
+    let parts = length-map c.args.deployment.now.app.parts.items part_as in
     let long = all_sited d c.requires.sound texts (omega (arith, many, parts, c.requires.images)) in
     c.loop-m.invariant ∙ take_whole (sites_of d.app.parts d.layouts d.providers texts) c.loop-m.m (omega (arith, long, parts, c.requires.images, c.loop-m-test.false))

@@ -6,10 +6,9 @@ use Rattle.sx_run.specs.Setting.{Site}
 use Rattle.sx_world.proofs.standing.SwitchedOn.{target_is}
 use Rattle.sx_world.proofs.targets.target_at.Goals as goal
 
--- src/targets.rt:30:1
 pub returns : goal.returns
 returns c = λ mac.
-    let plan = c.args.plan.now in
+    let plan = c.args.deployment.now in
     let site = c.index-sites-m.result in
     let keys = plan.keys.items in
     let here = slice_get_read c.args.sites.now (length c.args.sites.now) c.args.m site refl c.requires.site c.index-sites-m.is in

@@ -9,17 +9,15 @@ use Rattle.sx_world.proofs.standing.Readying.{targets_long}
 use Rattle.sx_world.proofs.standing.SwitchedOn.{take_next, take_whole}
 use Rattle.sx_world.proofs.targets.targets_of.Goals as goal
 
--- src/targets.rt:63:5
 pub loop-m-preserved : goal.loop-m-preserved
 loop-m-preserved c = λ mac.
     let t = c.in_ok-target_at.field-0 in
     ap (λ (xs : List Target). map known xs) c.in_ok-push.ensures.items ∙ map-append known c.loop-m.targets.items (t ∷ [])
     ∙ ap (λ (xs : List Known). xs ++ known t ∷ []) (c.loop-m.invariant mac)
-    ∙ sym (take_next (targets_from (setting mac (deployed_as c.args.plan.now) c.args.sites.now) 0 c.args.sites.now) c.loop-m.m (known t) (c.in_ok-target_at.ensures mac))
+    ∙ sym (take_next (targets_from (setting mac (deployed_as c.args.deployment.now) c.args.sites.now) 0 c.args.sites.now) c.loop-m.m (known t) (c.in_ok-target_at.ensures mac))
 
--- src/targets.rt:52:1
 pub returns : goal.returns
 returns c = λ mac.
-    let set = setting mac (deployed_as c.args.plan.now) c.args.sites.now in
+    let set = setting mac (deployed_as c.args.deployment.now) c.args.sites.now in
     let long = targets_long set 0 c.args.sites.now in
     c.loop-m.invariant mac ∙ take_whole (targets_from set 0 c.args.sites.now) c.loop-m.m (omega (arith, long, c.loop-m-test.false))

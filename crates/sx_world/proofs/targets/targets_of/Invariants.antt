@@ -7,4 +7,4 @@ use Rattle.sx_run.specs.Accepted.{setting}
 use Rattle.sx_world.proofs.targets.targets_of.Given as goal
 
 abbrev pub invariant-loop-m : goal.invariant-loop-m
-invariant-loop-m l = (mac : Mac) → map known l.targets.items ≡ take l.m (targets_from (setting mac (deployed_as l.plan) l.sites) 0 l.sites)
+invariant-loop-m l = (mac : Mac) → map known l.targets.items ≡ take l.m (targets_from (setting mac (deployed_as l.deployment) l.sites) 0 l.sites)

@@ -4,9 +4,10 @@ use Rattle.sx_run.specs.Acts.{ask}
 use Rattle.sx_run.specs.Setting.{Setting}
 use Rattle.sx_world.specs.Held.{Running, DoesAct}
 use Rattle.sx_world.proofs.granting.Sent.{ask_does}
+use Rattle.sx_world.proofs.showing.Fronts.{front_same}
+use Rattle.sx_world.proofs.granting.Given.{does_err}
 use Rattle.sx_world.proofs.running.Running.ask.Goals as goal
 
--- src/attesting.rt:19:5
 pub returns-clause-does : goal.returns-clause-does
 returns-clause-does g c =
     let packets = map (λ p. p.items) c.add_packet.new.packets.items in
@@ -16,3 +17,8 @@ returns-clause-does g c =
     (λ set. ask_does set c.add_packet.result _ c.ask-packet.new.self c.args.items.now.items c.add.new.items.items c.add_packet.new.items.items c.args.m _ _ c.ask-packet.result
     packets asks c.ask-packet.ensures.state c.ask-packet.ensures.packet c.challenge_in.ensures c.in_ok-add.ensures.ok
     (sym (length-map c.self.inside.packets.items (λ p. p.items))) c.add_packet.ensures.packet c.add_packet.ensures.ok c.add_packet.ensures.err)
+
+pub returns-in_err-add-clause-does : goal.returns-in_err-add-clause-does
+returns-in_err-add-clause-does g c = λ set.
+    does_err set c.from_residual.result c.args.self.now _ c.args.items.now.items c.add.new.items.items (λ w. ask w c.args.m) c.from_residual.ensures.0
+    (λ w h. front_same c.add.new.items.items c.args.items.now.items _ c.in_err-add.ensures.err)

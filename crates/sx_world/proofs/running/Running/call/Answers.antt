@@ -13,7 +13,7 @@ use Rattle.sx_world.proofs.running.Running.call.Goals as goal
 
 pub returns-then-is_idle : goal.returns-then-is_idle
 returns-then-is_idle g c =
-    let set = setting g.T.Tag.mac (deployed_as c.args.plan.now) c.args.sites.now in
+    let set = setting g.T.Tag.mac (deployed_as c.args.deployment.now) c.args.sites.now in
     let site = c.index-sites-from.result in
     let found = element_at c.args.sites.now c.args.m c.from.result site c.requires.known c.from.ensures c.index-sites-from.is in
     subst (λ (o : Option Site). DoesAct set c.enter.result c.args.self.now c.enter.new.self c.args.items.now.items c.enter.new.items.items (λ w. call set w c.args.entry c.args.input c.args.output o)) (sym found)
@@ -24,7 +24,7 @@ returns-then-is_idle g c =
 
 pub returns-else-is_idle : goal.returns-else-is_idle
 returns-else-is_idle g c =
-    let set = setting g.T.Tag.mac (deployed_as c.args.plan.now) c.args.sites.now in
+    let set = setting g.T.Tag.mac (deployed_as c.args.deployment.now) c.args.sites.now in
     let site = c.index-sites-from.result in
     let found = element_at c.args.sites.now c.args.m c.from.result site c.requires.known c.from.ensures c.index-sites-from.is in
     subst (λ (o : Option Site). DoesAct set c.add.result c.args.self.now c.args.self.now c.args.items.now.items c.add.new.items.items (λ w. call set w c.args.entry c.args.input c.args.output o)) (sym found)

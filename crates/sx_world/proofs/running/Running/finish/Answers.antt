@@ -9,7 +9,7 @@ use Rattle.sx_world.proofs.running.Running.finish.Goals as goal
 
 pub returns : goal.returns
 returns g c =
-    let set = setting g.T.Tag.mac (deployed_as c.args.plan.now) c.args.sites.now in
+    let set = setting g.T.Tag.mac (deployed_as c.args.deployment.now) c.args.sites.now in
     subst (λ k. DoesAct set c.steps_of.result c.args.self.now c.steps_of.new.self c.args.items.now.items c.steps_of.new.items.items (steps_of set (λ s. s.cur == 0) (Budget c.args.n ∷ []) c.args.n k))
     c.finish_steps.ensures
     (does_both set c.steps_of.result c.args.self.now c.steps_of.new.self c.args.items.now.items c.steps_of.new.items.items

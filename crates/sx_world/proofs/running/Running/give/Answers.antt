@@ -4,8 +4,9 @@ use Rattle.std.proofs.lemmas.List.{with_items_is}
 use Rattle.sx_machine.specs.State.{State}
 use Rattle.sx_machine.specs.Acts.{put, put_refusal}
 use Rattle.sx_world.specs.Held.{Running}
-use Rattle.sx_world.proofs.doing.Doing.{done_did, as_kept, lent_set, lent_long, unless_kept}
+use Rattle.sx_world.proofs.doing.Doing.{done_did, as_kept, lent_set, lent_long, unless_kept, wanted_same}
 use Rattle.sx_world.proofs.doing.KeptPackets.{packet_found, packet_none, give_did, give_none}
+use Rattle.sx_run.specs.Run.{give}
 use Rattle.sx_world.proofs.running.Running.give.Goals as goal
 
 pub returns-in-Some-clause-done : goal.returns-in-Some-clause-done
@@ -30,3 +31,11 @@ returns-in-None-clause-done g c =
     give_none c.add.result c.args.self.now c.args.items.now.items c.add.new.items.items c.args.n c.args.at c.args.k
     (packet_none c.self.inside.packets.items c.deref.result.now c.args.self.now.packets c.args.k (ap (λ (k : Running). k.packets) c.self.view_is) c.deref.ensures.value c.in-None.ensures.lookup.3)
     c.add.ensures.ok
+
+pub returns-in-Some-clause-front : goal.returns-in-Some-clause-front
+returns-in-Some-clause-front g c =
+    wanted_same c.add_answer.result c.args.self.now c.args.items.now.items c.add_answer.new.items.items (λ w. give w c.args.n c.args.at (slice_get w.packets c.args.k)) c.add_answer.ensures.err
+
+pub returns-in-None-clause-front : goal.returns-in-None-clause-front
+returns-in-None-clause-front g c =
+    wanted_same c.add.result c.args.self.now c.args.items.now.items c.add.new.items.items (λ w. give w c.args.n c.args.at (slice_get w.packets c.args.k)) c.add.ensures.err

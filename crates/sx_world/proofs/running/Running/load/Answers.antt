@@ -12,7 +12,7 @@ use Rattle.sx_world.proofs.running.Running.load.Goals as goal
 
 pub returns-then-is_idle : goal.returns-then-is_idle
 returns-then-is_idle g c =
-    let set = setting g.T.Tag.mac (deployed_as c.args.plan.now) c.args.sites.now in
+    let set = setting g.T.Tag.mac (deployed_as c.args.deployment.now) c.args.sites.now in
     let site = c.index-sites-from.result in
     let found = element_at c.args.sites.now c.args.m c.from.result site c.requires.known c.from.ensures c.index-sites-from.is in
     subst (λ (o : Option Site). DoesAct set c.put_and_protect.result c.args.self.now c.put_and_protect.new.self c.args.items.now.items c.put_and_protect.new.items.items (λ w. load set w o)) (sym found)
@@ -22,7 +22,7 @@ returns-then-is_idle g c =
 
 pub returns-else-is_idle : goal.returns-else-is_idle
 returns-else-is_idle g c =
-    let set = setting g.T.Tag.mac (deployed_as c.args.plan.now) c.args.sites.now in
+    let set = setting g.T.Tag.mac (deployed_as c.args.deployment.now) c.args.sites.now in
     let site = c.index-sites-from.result in
     let found = element_at c.args.sites.now c.args.m c.from.result site c.requires.known c.from.ensures c.index-sites-from.is in
     subst (λ (o : Option Site). DoesAct set c.add.result c.args.self.now c.args.self.now c.args.items.now.items c.add.new.items.items (λ w. load set w o)) (sym found)

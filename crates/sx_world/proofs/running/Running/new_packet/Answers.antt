@@ -1,7 +1,10 @@
-use Rattle.std.proofs.Common.{◌≡◌, [], ◌∷◌, ◌++◌, length, map, ap, ◌∙◌, rules}
+use Rattle.std.proofs.Common.{◌≡◌, [], ◌∷◌, ◌++◌, length, map, refl, ap, ◌∙◌, rules}
 use Rattle.std.specs.Vec.{vec_len}
 use Rattle.sx_world.specs.Held.{Running}
 use Rattle.sx_world.proofs.doing.KeptPackets.{bytes_in, packet_did, map_push, map_long}
+use Rattle.sx_run.specs.Acts.{with_packet}
+use Rattle.sx_world.proofs.showing.Fronts.{err_any, front_same}
+use Rattle.sx_world.proofs.doing.Doing.{wanted_same}
 use Rattle.sx_world.proofs.running.Running.new_packet.Goals as goal
 
 pub returns-clause-done : goal.returns-clause-done
@@ -14,3 +17,12 @@ returns-clause-done g c =
     let long : vec_len c.self.inside.packets ≡ length c.self.inside.packets.items = search rules in
     packet_did c.add.result c.args.self.now _ _ c.args.items.now.items c.add.new.items.items c.args.bytes.now c.len-number.result c.self.view_is pushed
     (c.len-number.ensures ∙ long ∙ map_long c.self.inside.packets.items ∙ ap length packets) c.add.ensures.ok
+
+pub returns-in_err-packet-clause-front : goal.returns-in_err-packet-clause-front
+returns-in_err-packet-clause-front g c = err_any c.from_residual.result (λ set w h. front_same c.args.items.now.items c.args.items.now.items _ refl)
+
+pub returns-in_err-push-clause-front : goal.returns-in_err-push-clause-front
+returns-in_err-push-clause-front g c = err_any c.from_residual-in_err-push.result (λ set w h. front_same c.args.items.now.items c.args.items.now.items _ refl)
+
+pub returns-clause-front : goal.returns-clause-front
+returns-clause-front g c = wanted_same c.add.result c.args.self.now c.args.items.now.items c.add.new.items.items (λ w. with_packet w c.args.bytes.now) c.add.ensures.err

@@ -14,7 +14,7 @@ use Rattle.sx_world.proofs.running.Running.put_and_protect.Goals as goal
 
 pub returns-in_err-put_pieces : goal.returns-in_err-put_pieces
 returns-in_err-put_pieces g c =
-    let set = setting g.T.Tag.mac (deployed_as c.args.plan.now) c.args.sites.now in
+    let set = setting g.T.Tag.mac (deployed_as c.args.deployment.now) c.args.sites.now in
     let site : Site = record { node = c.site.inside.node; layout = c.site.inside.layout; provider = c.site.inside.provider; text = c.site.inside.text.items } in
     subst (λ (s : Site). DoesAct set c.from_residual.result c.args.self.now c.put_pieces.new.self c.args.items.now.items c.put_pieces.new.items.items (after_loading set s)) c.site.view_is
     (does_err set c.from_residual.result c.args.self.now c.put_pieces.new.self c.args.items.now.items c.put_pieces.new.items.items (after_loading set site) c.from_residual.ensures.0
@@ -24,7 +24,7 @@ returns-in_err-put_pieces g c =
 
 pub returns-in_err-put_on : goal.returns-in_err-put_on
 returns-in_err-put_on g c =
-    let set = setting g.T.Tag.mac (deployed_as c.args.plan.now) c.args.sites.now in
+    let set = setting g.T.Tag.mac (deployed_as c.args.deployment.now) c.args.sites.now in
     let site : Site = record { node = c.site.inside.node; layout = c.site.inside.layout; provider = c.site.inside.provider; text = c.site.inside.text.items } in
     subst (λ (s : Site). DoesAct set c.from_residual-in_err-put_on.result c.args.self.now c.put_on.new.self c.args.items.now.items c.put_on.new.items.items (after_loading set s)) c.site.view_is
     (does_err set c.from_residual-in_err-put_on.result c.args.self.now c.put_on.new.self c.args.items.now.items c.put_on.new.items.items (after_loading set site) c.from_residual-in_err-put_on.ensures.0
@@ -35,7 +35,7 @@ returns-in_err-put_on g c =
 
 pub returns-in_err-set_all : goal.returns-in_err-set_all
 returns-in_err-set_all g c =
-    let set = setting g.T.Tag.mac (deployed_as c.args.plan.now) c.args.sites.now in
+    let set = setting g.T.Tag.mac (deployed_as c.args.deployment.now) c.args.sites.now in
     let site : Site = record { node = c.site.inside.node; layout = c.site.inside.layout; provider = c.site.inside.provider; text = c.site.inside.text.items } in
     subst (λ (s : Site). DoesAct set c.from_residual-in_err-set_all.result c.args.self.now c.set_all.new.self c.args.items.now.items c.set_all.new.items.items (after_loading set s)) c.site.view_is
     (does_err set c.from_residual-in_err-set_all.result c.args.self.now c.set_all.new.self c.args.items.now.items c.set_all.new.items.items (after_loading set site) c.from_residual-in_err-set_all.ensures.0
@@ -53,7 +53,7 @@ steps_of-requires-clause-boot g c =
 
 pub returns : goal.returns
 returns g c =
-    let set = setting g.T.Tag.mac (deployed_as c.args.plan.now) c.args.sites.now in
+    let set = setting g.T.Tag.mac (deployed_as c.args.deployment.now) c.args.sites.now in
     let site : Site = record { node = c.site.inside.node; layout = c.site.inside.layout; provider = c.site.inside.provider; text = c.site.inside.text.items } in
     subst (λ (s : Site). DoesAct set c.steps_of.result c.args.self.now c.steps_of.new.self c.args.items.now.items c.steps_of.new.items.items (after_loading set s)) c.site.view_is
     (loaded_does set site c.steps_of.result c.args.self.now c.put_pieces.new.self c.put_on.new.self c.set_all.new.self c.steps_of.new.self

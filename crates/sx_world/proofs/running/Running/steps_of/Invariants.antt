@@ -9,7 +9,7 @@ use Rattle.sx_world.proofs.running.Running.steps_of.Given as goal
 
 abbrev pub invariant-stretches : goal.invariant-stretches
 invariant-stretches g l = record {
-  going : Going (setting g.T.Tag.mac (deployed_as l.plan) l.sites) (λ s. l.idle && (s.cur == 0)) (option_to_list l.end) l.n l.count l.left l.fn.self l.self l.fn.items.items l.items.items;
+  going : Going (setting g.T.Tag.mac (deployed_as l.deployment) l.sites) (λ s. l.idle && (s.cur == 0)) (option_to_list l.end) l.n l.count l.left l.fn.self l.self l.fn.items.items l.items.items;
   within : l.n < length l.self.nodes;
   boot : (s : State) → slice_get l.self.nodes l.n ≡ Some s → s.boot < 4294967295;
   steps : l.self.steps + l.left ≤ 18446744073709551615;

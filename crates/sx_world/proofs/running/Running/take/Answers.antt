@@ -1,4 +1,4 @@
-use Rattle.std.proofs.Common.{◌≡◌, ℕ, Vec, Global, Some, Result, Ok, Err, IfOk, IfErr, sym, subst, ap, ◌∙◌}
+use Rattle.std.proofs.Common.{◌≡◌, ℕ, Vec, Global, Some, Result, Ok, Err, IfOk, IfErr, refl, sym, subst, ap, ◌∙◌}
 use Rattle.std.specs.Prelude.{slice_get}
 use Rattle.sx_machine.specs.declared.kinds.Refused.{Refused}
 use Rattle.sx_machine.specs.State.{State}
@@ -8,6 +8,9 @@ use Rattle.sx_world.specs.Held.{Running}
 use Rattle.sx_run.proofs.tie.Lists.{get_some}
 use Rattle.sx_world.proofs.passing.Stepped.{refused_ok}
 use Rattle.sx_world.proofs.doing.KeptPackets.{took_did, took_wanted, took_refused}
+use Rattle.sx_run.specs.Acts.{at_node, after_take}
+use Rattle.sx_world.proofs.showing.Fronts.{err_any, front_same}
+use Rattle.sx_world.proofs.doing.Doing.{wanted_same}
 use Rattle.sx_world.proofs.running.Running.take.Goals as goal
 
 pub returns-in-Ok-clause-front : goal.returns-in-Ok-clause-front
@@ -37,3 +40,11 @@ returns-in-Err-clause-done g c =
     let shown : (take found.0 c.args.at c.args.len).shown ≡ Err c.in-Err.why = taken found.0 (ap (λ ns. slice_get ns c.args.n) nodes ∙ found.1) in
     took_refused c.add.result c.args.self.now c.args.items.now.items c.add.new.items.items c.args.n c.args.at c.args.len c.in-Err.why found.0 found.1 shown
     (refused_ok c.add.result c.args.items.now.items c.add.new.items.items c.refused_item.result (refused_item c.args.n c.in-Err.why) c.refused_item.ensures c.add.ensures.ok)
+
+pub returns-in_err-bytes-clause-front : goal.returns-in_err-bytes-clause-front
+returns-in_err-bytes-clause-front g c = err_any c.from_residual.result (λ set w h. front_same c.args.items.now.items c.args.items.now.items _ refl)
+
+pub returns-in-Err-clause-front : goal.returns-in-Err-clause-front
+returns-in-Err-clause-front g c =
+    wanted_same c.add.result c.args.self.now c.args.items.now.items c.add.new.items.items
+    (λ w. at_node w (λ s. after_take w c.args.n (take s c.args.at c.args.len).shown) (slice_get w.nodes c.args.n)) c.add.ensures.err

@@ -8,10 +8,9 @@ use Rattle.sx_world.proofs.standing.Continuing.{goes_on}
 use Rattle.sx_world.proofs.standing.Readying.{stands_ready, act_did, act_wanted}
 use Rattle.sx_world.proofs.world.World.act.Goals as goal
 
--- src/world.rt:106:15
 pub act-requires-clause-ready : goal.act-requires-clause-ready
 act-requires-clause-ready g c =
-    let d = deployed_as c.args.plan.now in
+    let d = deployed_as c.args.deployment.now in
     let held = c.args.self.now in
     let view = c.self.view_is in
     let going = c.requires.going (sym (ap (λ (h : Held). h.wanted) view) ∙ c.if-self.false) in
@@ -19,30 +18,27 @@ act-requires-clause-ready g c =
     subst (λ (s : List Site). IsReady d s c.self.inside.running) (sym (c.deref.ensures.value ∙ ap (λ (h : Held). h.sites) view))
     (subst (λ (k : Running). IsReady d held.sites k) (sym (ap (λ (h : Held). h.running) view)) ready)
 
--- src/world.rt:79:5
 pub returns-in-Ok-clause-acted : goal.returns-in-Ok-clause-acted
 returns-in-Ok-clause-acted g c =
     let held = c.args.self.now in
     let view = c.self.view_is in
-    act_did g.T.Tag.mac (deployed_as c.args.plan.now) held.sites c.requires.sound c.requires.images held _ c.self.inside.running c.deref.result.now
+    act_did g.T.Tag.mac (deployed_as c.args.deployment.now) held.sites c.requires.sound c.requires.images held _ c.self.inside.running c.deref.result.now
     c.args.items.now.items c.act.new.items.items (line_of c.args.line.now) c.requires.form (ap (λ (h : Held). h.lines + 1) view)
     (c.deref.ensures.value ∙ ap (λ (h : Held). h.sites) view) (ap (λ (h : Held). h.running) view) c.in-Ok.ensures
 
--- src/world.rt:79:5
 pub returns-in-Err-clause-front : goal.returns-in-Err-clause-front
 returns-in-Err-clause-front g c =
     let held = c.args.self.now in
     let view = c.self.view_is in
-    act_wanted g.T.Tag.mac (deployed_as c.args.plan.now) held.sites c.requires.sound c.requires.images held c.self.inside.running c.deref.result.now
+    act_wanted g.T.Tag.mac (deployed_as c.args.deployment.now) held.sites c.requires.sound c.requires.images held c.self.inside.running c.deref.result.now
     c.args.items.now.items c.act.new.items.items (line_of c.args.line.now)
     (c.deref.ensures.value ∙ ap (λ (h : Held). h.sites) view) (ap (λ (h : Held). h.running) view) c.in-Err.ensures
 
--- src/world.rt:79:5
 pub returns-in-Ok-clause-legal : goal.returns-in-Ok-clause-legal
 returns-in-Ok-clause-legal g c =
     let held = c.args.self.now in
     let view = c.self.view_is in
-    let d = deployed_as c.args.plan.now in
+    let d = deployed_as c.args.deployment.now in
     goes_on g.T.Tag.mac d held.sites c.requires.sound c.requires.images held _ (line_of c.args.line.now) c.args.items.now.items c.act.new.items.items
     c.requires.form c.requires.few
     (act_did g.T.Tag.mac d held.sites c.requires.sound c.requires.images held _ c.self.inside.running c.deref.result.now

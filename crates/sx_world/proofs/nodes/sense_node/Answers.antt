@@ -2,7 +2,7 @@ use Rattle.std.proofs.Common.{get_or, ap, ◌∙◌}
 use Rattle.sx_machine.specs.State.{State}
 use Rattle.sx_machine.specs.Acts as acts
 use Rattle.sx_world.proofs.doing.NodeAt.{slot_is, set_as}
-use Rattle.sx_world.proofs.touching.sense_node.Goals as goal
+use Rattle.sx_world.proofs.nodes.sense_node.Goals as goal
 
 pub returns-clause-nodes : goal.returns-clause-nodes
 returns-clause-nodes g c = λ s e.

@@ -2,7 +2,7 @@ use Rattle.std.proofs.Common.{get_or}
 use Rattle.sx_machine.specs.State.{State}
 use Rattle.sx_machine.specs.State as state
 use Rattle.sx_world.proofs.doing.NodeAt.{slot_is, set_as}
-use Rattle.sx_world.proofs.touching.reset_node.Goals as goal
+use Rattle.sx_world.proofs.nodes.reset_node.Goals as goal
 
 pub returns : goal.returns
 returns g c = λ s e.

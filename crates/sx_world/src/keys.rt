@@ -1,18 +1,17 @@
 //! Connection keys are given: a set-key packet for each grant, and its entry of the ledger.
 
 ghost use Rattle.std.specs.Prelude.{◌≡◌, ◌+◌, ◌<◌, ◌≤◌, List, length, option_map, slice_get, OnOk};
-ghost use Rattle.sx_deploy.specs.SeenDeployment.{deployed_as};
 ghost use Rattle.sx_deployer.specs.Granting as granting;
 ghost use Rattle.sx_wire.specs.Packets.{field};
 ghost use Rattle.sx_run.specs.Acts.{key_given, keys_given};
 ghost use Rattle.sx_world.specs.Held.{DoesAct};
-ghost use Rattle.sx_run.specs.Accepted.{setting};
+ghost use Rattle.sx_world.specs.InMemory.{setting_at};
 ghost use Rattle.sx_run.specs.Setting.{Site};
 
 use crate::grants::Grant;
+use crate::network::add_packet;
 use crate::recording::record;
 use crate::running::Running;
-use crate::sending::add_packet;
 use std::alloc::AllocError;
 use sx_bus::Copied;
 use sx_deploy::deployment::Deployment;
@@ -32,14 +31,14 @@ impl<B: Copied, T: Tag> Running<B, T> {
     /// The set-key packet of a grant, and its entry.
     fn give_key(
         &mut self,
-        plan: &Deployment,
+        deployment: &Deployment,
         g: &Grant,
         items: &mut Vec<Item>,
     ) -> Result<(), AllocError>
         requires { length self.old.packets < 4294967295 }
-        ensures does { (sites : List Site) → DoesAct (setting T.mac (deployed_as plan.now) sites)
+        ensures does { (sites : List Site) → DoesAct (setting_at T.mac deployment.now sites)
             result self.old self.new items.old.items items.new.items
-            (λ w. key_given (setting T.mac (deployed_as plan.now) sites) w g.now
+            (λ w. key_given (setting_at T.mac deployment.now sites) w g.now
             (slice_get sites g.now.holder)) }
         ensures count { OnOk result (length self.new.packets ≤ length self.old.packets + 1) }
     {
@@ -48,7 +47,7 @@ impl<B: Copied, T: Tag> Running<B, T> {
             .packet(&self.tag, g.holder, g.boot, g.end, g.epoch)
         {
             Some(packet) => {
-                let key = connection_key(&self.tag, &plan.secret, g.end.link, g.epoch);
+                let key = connection_key(&self.tag, &deployment.secret, g.end.link, g.epoch);
                 record(
                     &mut self.ledger,
                     Maker::Deployer,
@@ -66,19 +65,19 @@ impl<B: Copied, T: Tag> Running<B, T> {
     /// The set-key packets of these grants, and their entries.
     pub(crate) fn give_keys(
         &mut self,
-        plan: &Deployment,
+        deployment: &Deployment,
         grants: &[Grant],
         items: &mut Vec<Item>,
     ) -> Result<(), AllocError>
         requires { length self.old.packets + length grants.now ≤ 4294967295 }
-        ensures does { (sites : List Site) → DoesAct (setting T.mac (deployed_as plan.now) sites)
+        ensures does { (sites : List Site) → DoesAct (setting_at T.mac deployment.now sites)
             result self.old self.new items.old.items items.new.items
-            (keys_given (setting T.mac (deployed_as plan.now) sites) grants.now) }
+            (keys_given (setting_at T.mac deployment.now sites) grants.now) }
         ensures count { OnOk result (length self.new.packets ≤ length self.old.packets
             + length grants.now) }
     {
         for g in grants {
-            self.give_key(plan, g, items)?;
+            self.give_key(deployment, g, items)?;
         }
         Ok(())
     }

@@ -1,11 +1,10 @@
 //! The line `call`: a deployed module is called.
 
 ghost use Rattle.std.specs.Prelude.{◌≡◌, ℕ, ◌+◌, ◌<◌, ◌≤◌, length, slice_get, Some};
-ghost use Rattle.sx_deploy.specs.SeenDeployment.{deployed_as};
 ghost use Rattle.sx_machine.specs.State.{State};
 ghost use Rattle.sx_run.specs.Acts.{then_};
 ghost use Rattle.sx_world.specs.Held.{DoesAct};
-ghost use Rattle.sx_run.specs.Accepted.{setting};
+ghost use Rattle.sx_world.specs.InMemory.{setting_at};
 ghost use Rattle.sx_world.specs.Loading.{AreSettable};
 ghost use Rattle.sx_run.specs.Run.{call_registers};
 ghost use Rattle.sx_run.specs.Run as run;
@@ -39,7 +38,7 @@ impl<B: Copied, T: Tag> Running<B, T> {
     /// A module runs from its entry on, until none of its node runs or the budget is over.
     fn enter(
         &mut self,
-        plan: &Deployment,
+        deployment: &Deployment,
         sites: &[Site],
         site: &Site,
         registers: &[Register],
@@ -51,20 +50,20 @@ impl<B: Copied, T: Tag> Running<B, T> {
         requires steps { self.old.steps + run.FINISH_STEPS ≤ 18446744073709551615 }
         requires settable { AreSettable registers.now }
         requires sites { length sites.now ≤ 256 }
-        requires devices { length plan.now.app.devices.items ≤ 256 }
-        ensures { DoesAct (setting T.mac (deployed_as plan.now) sites.now) result
+        requires devices { length deployment.now.app.devices.items ≤ 256 }
+        ensures { DoesAct (setting_at T.mac deployment.now sites.now) result
             self.old self.new items.old.items items.new.items
             (λ w. then_ (run.set_all site.now.node registers.now w)
-            (run.finish (setting T.mac (deployed_as plan.now) sites.now) site.now.node)) }
+            (run.finish (setting_at T.mac deployment.now sites.now) site.now.node)) }
     {
         self.set_all(site.node, registers, items)?;
-        self.finish(plan, sites, site.node, items)
+        self.finish(deployment, sites, site.node, items)
     }
 
     /// A module is called at an entry with two windows, unless a module of its node runs.
     pub(crate) fn call(
         &mut self,
-        plan: &Deployment,
+        deployment: &Deployment,
         sites: &[Site],
         m: u8,
         entry: u16,
@@ -79,16 +78,16 @@ impl<B: Copied, T: Tag> Running<B, T> {
             → s.boot < 4294967295 }
         requires steps { self.old.steps + run.FINISH_STEPS ≤ 18446744073709551615 }
         requires sites { length sites.now ≤ 256 }
-        requires devices { length plan.now.app.devices.items ≤ 256 }
-        ensures { DoesAct (setting T.mac (deployed_as plan.now) sites.now) result
+        requires devices { length deployment.now.app.devices.items ≤ 256 }
+        ensures { DoesAct (setting_at T.mac deployment.now sites.now) result
             self.old self.new items.old.items items.new.items
-            (λ w. run.call (setting T.mac (deployed_as plan.now) sites.now) w entry input output
+            (λ w. run.call (setting_at T.mac deployment.now sites.now) w entry input output
             (slice_get sites.now m)) }
     {
         let site = &sites[usize::from(m)];
         if self.is_idle(site.node) {
             let registers = call_registers(site, entry, input, output);
-            self.enter(plan, sites, site, &registers, items)
+            self.enter(deployment, sites, site, &registers, items)
         } else {
             add(items, Item::Busy { node: site.node })
         }

@@ -1,18 +1,17 @@
 //! Attestation: the deployer asks a module, and judges what is given to it as the answer.
 
 ghost use Rattle.std.specs.Prelude.{◌≡◌, ◌+◌, ◌*◌, ◌<◌, ◌≤◌, List, length, map, slice_get, OnOk};
-ghost use Rattle.sx_deploy.specs.SeenDeployment.{deployed_as};
 ghost use Rattle.sx_run.specs.Acts.{after_answer, ask};
 ghost use Rattle.sx_world.specs.Granted.{accepted_ask, confirmed, judged_by};
 ghost use Rattle.sx_world.specs.Held.{DoesAct};
-ghost use Rattle.sx_run.specs.Accepted.{setting};
+ghost use Rattle.sx_world.specs.InMemory.{setting_at};
 ghost use Rattle.sx_run.specs.Setting.{Setting, Site};
 
 use crate::grants::granted;
 use crate::headers::challenge_in;
+use crate::network::add_packet;
 use crate::recording::{NO_TARGET, add, add_unless_made, is_made};
 use crate::running::Running;
-use crate::sending::add_packet;
 use std::alloc::AllocError;
 use sx_bus::Copied;
 use sx_deploy::deployment::Deployment;
@@ -72,49 +71,49 @@ impl<B: Copied, T: Tag> Running<B, T> {
     /// any.
     fn confirm(
         &mut self,
-        plan: &Deployment,
+        deployment: &Deployment,
         m: u8,
         boot: u32,
         ask: &[u8; 18],
         last: Option<u32>,
         items: &mut Vec<Item>,
     ) -> Result<(), AllocError>
-        requires parts { length plan.now.app.parts.items ≤ length self.old.deployer.targets }
-        requires links { length plan.now.app.links.items ≤ 64 }
+        requires parts { length deployment.now.app.parts.items ≤ length self.old.deployer.targets }
+        requires links { length deployment.now.app.links.items ≤ 64 }
         requires packets { length self.old.packets ≤ 4294967000 }
-        ensures does { (sites : List Site) → DoesAct (setting T.mac (deployed_as plan.now) sites)
+        ensures does { (sites : List Site) → DoesAct (setting_at T.mac deployment.now sites)
             result self.old self.new items.old.items items.new.items
-            (confirmed (setting T.mac (deployed_as plan.now) sites) m boot ask.now last) }
+            (confirmed (setting_at T.mac deployment.now sites) m boot ask.now last) }
         ensures count { OnOk result (length self.new.packets ≤ length self.old.packets + 192) }
     {
         let made = is_made(&self.ledger, Maker::Module(m), NO_TARGET, boot, ask, &[]);
         add_unless_made(items, None, made, Item::Attested { module: m, boot })?;
-        let grants = granted(self.alloc, &self.deployer, &plan.app, m, boot, last)?;
-        self.give_keys(plan, &grants, items)
+        let grants = granted(self.alloc, &self.deployer, &deployment.app, m, boot, last)?;
+        self.give_keys(deployment, &grants, items)
     }
 
     /// The deployer judges a packet as a module's answer at a boot of its node.
     pub(crate) fn answer(
         &mut self,
-        plan: &Deployment,
+        deployment: &Deployment,
         m: u8,
         boot: u32,
         k: u32,
         items: &mut Vec<Item>,
     ) -> Result<(), AllocError>
-        requires known { m < length plan.now.app.parts.items }
-        requires parts { length plan.now.app.parts.items ≤ length self.old.deployer.targets }
-        requires links { length plan.now.app.links.items ≤ 64 }
+        requires known { m < length deployment.now.app.parts.items }
+        requires parts { length deployment.now.app.parts.items ≤ length self.old.deployer.targets }
+        requires links { length deployment.now.app.links.items ≤ 64 }
         requires packets { length self.old.packets ≤ 4294967000 }
-        ensures does { (sites : List Site) → DoesAct (setting T.mac (deployed_as plan.now) sites)
+        ensures does { (sites : List Site) → DoesAct (setting_at T.mac deployment.now sites)
             result self.old self.new items.old.items items.new.items
-            (λ w. after_answer (setting T.mac (deployed_as plan.now) sites) w m boot
+            (λ w. after_answer (setting_at T.mac deployment.now sites) w m boot
             (slice_get sites m) (slice_get w.packets k)) }
         ensures count { OnOk result (length self.new.packets ≤ length self.old.packets + 192) }
     {
         let last = self.deployer.attested(m);
         match judge(&self.tag, &mut self.deployer, &self.packets, m, boot, k) {
-            Some(ask) => self.confirm(plan, m, boot, &ask, last, items),
+            Some(ask) => self.confirm(deployment, m, boot, &ask, last, items),
             None => add(items, Item::Denied { module: m }),
         }
     }
