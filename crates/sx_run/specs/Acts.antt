@@ -6,7 +6,7 @@ use Rattle.sx_trace.specs.declared.items.Item.{Item}
 use Rattle.sx_trace.specs.declared.items.Item.TheVariants as item
 use Rattle.sx_ledger.specs.declared.entry.Maker.TheVariants as maker
 use Rattle.sx_machine.specs.declared.kinds.Refused.{Refused}
-use Rattle.sx_machine.specs.declared.kinds.Refused.TheVariants.{Busy, Guarded, Masked}
+use Rattle.sx_machine.specs.declared.kinds.Refused.TheVariants.{Busy}
 use Rattle.sx_machine.specs.declared.kinds.Seen.{Seen}
 use Rattle.sx_machine.specs.State.{State}
 use Rattle.sx_machine.specs.Step.{Shown, own_of, step}
@@ -53,8 +53,7 @@ after_step set w n s =
 -- the item of an act that a node refuses
 abbrev pub refused_item : ℕ → Refused → Item
 refused_item n Busy = item.Busy n
-refused_item n Guarded = item.Skip n
-refused_item n Masked = item.Skip n
+refused_item n _ = item.Skip n
 
 -- an act on a node that answers nothing: its item where it is done, and where it is refused
 abbrev pub or_refused : ℕ → List Item → Result (Unit {0}) Refused → List Item

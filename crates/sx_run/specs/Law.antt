@@ -9,8 +9,7 @@ use Rattle.sx_rules.specs.declared.section.Layout.{Layout}
 use Rattle.sx_rules.specs.Admission.{good_bounds, parts_apart, apart}
 use Rattle.sx_bus.specs.declared.devices.Window.{Window}
 use Rattle.sx_bus.specs.Devices.{ArePlaces, powered_on, places_of, device_at}
-use Rattle.sx_sched.specs.Lines.{Line, Blank, Run, Finish, Put, Set, Take, Give, Forge, Sense, Irq}
-use Rattle.sx_sched.specs.Lines.{Reset, Ask, Answer, Load, Call}
+use Rattle.sx_sched.specs.Lines.{Line, Put, Set, Give, Sense, Irq, Ask, Call}
 use Rattle.sx_tag.specs.Mac.{IsTag}
 use Rattle.sx_image.specs.Image.{Image}
 use Rattle.sx_image.specs.Realizes.{Realizes}
@@ -84,21 +83,14 @@ pub record IsSoundSetting (set : Setting) : Type 0 where
 
 -- A line is in form: its numbers are in range, and `sense` is of a sensor.
 abbrev pub LineInForm : Setting → Line → Type 0
-LineInForm set Blank = Unit {0}
-LineInForm set (Run n k) = Unit {0}
-LineInForm set (Finish n) = Unit {0}
 LineInForm set (Put n at bytes) = at < 65536
 LineInForm set (Set n r v) = (r < 16) × (v < 65536)
-LineInForm set (Take n at len) = Unit {0}
 LineInForm set (Give k n at) = at < 65536
-LineInForm set (Forge bytes) = Unit {0}
 LineInForm set (Sense d v) = (kind_is is_sensor (slice_get set.app.devices d) ≡ true) × (v < 32768)
 LineInForm set (Irq n line) = line < 15
-LineInForm set (Reset n) = Unit {0}
 LineInForm set (Ask m) = m < length set.app.parts
-LineInForm set (Answer m boot k) = Unit {0}
-LineInForm set (Load m) = Unit {0}
 LineInForm set (Call m e input output) = (e < 65536) × (input < 65536) × (output < 65536)
+LineInForm set _ = Unit {0}
 
 -- each line is in form
 abbrev pub LinesInForm : Setting → List Line → Type 0

@@ -14,9 +14,8 @@ made_entry maker target boot header body =
 -- the makers are the same
 abbrev pub same_maker : Maker → Maker → Bool
 same_maker Deployer Deployer = true
-same_maker Deployer (Module m) = false
-same_maker (Module m) Deployer = false
 same_maker (Module m) (Module k) = m == k
+same_maker _ _ = false
 
 -- the entries are the same
 abbrev pub same_entry : Made → Made → Bool

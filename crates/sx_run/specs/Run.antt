@@ -20,13 +20,8 @@ use Rattle.sx_run.specs.Acts.{after_take, after_interrupt, ask, after_answer}
 
 -- the step's event is a reset
 abbrev pub is_reset : Event → Bool
-is_reset event.Quiet = false
 is_reset (event.Reset v) = true
-is_reset (event.Protected id) = false
-is_reset (event.Removed id) = false
-is_reset (event.Wrapped id) = false
-is_reset (event.Unwrapped id) = false
-is_reset (event.Left id) = false
+is_reset _ = false
 
 -- at most this many steps of a node, ending after a reset, or where `stops` says so of the node
 abbrev pub steps_of : Setting → (State → Bool) → List Item → ℕ → ℕ → World → Acted
