@@ -58,6 +58,9 @@ pub record Remains (set : Setting) (act rest : World → Acted) (old now : Runni
 pub remains_first : (set : Setting) (act : World → Acted) (old : Running) (before : List Item) → Remains set act act old old before before
 remains_first set act old before = record { goes = λ w h. (w, h, refl, comes_first before (act w).items) }
 
+pub remains_start : (set : Setting) (act rest : World → Acted) (old : Running) (before : List Item) → act ≡ rest → Remains set act rest old old before before
+remains_start set act rest old before same = subst (λ (r : World → Acted). Remains set act r old old before before) same (remains_first set act old before)
+
 -- one more part was done
 pub remains_on : (set : Setting) (act left part rest : World → Acted) (old now new : Running) (before came after : List Item)
     → Remains set act left old now before came → left ≡ (λ w. then_ (part w) rest) → Did set now new came after part

@@ -2,7 +2,7 @@
 use Rattle.std.proofs.Common.{◌≡◌, ◌≢◌, ℕ, suc, ◌+◌, ◌-◌, ◌*◌, ◌/◌, ◌<◌, ◌≤◌, ◌==◌, Bool, true, false, if◌then◌else◌, List, [], ◌∷◌, ◌++◌, length, length-drop, take, drop, drop-cons, add-one, get_or, min, Option, Some, None, option_map, Result, Ok, Err, OnOk, OnErr, refl, sym, subst, ap, ◌∙◌, arith}
 use Rattle.std.specs.Prelude.{slice_get, slice_range}
 use Rattle.std.specs.Int.{div_ceil}
-use Rattle.std.proofs.lemmas.List.{take_min}
+use Rattle.std.proofs.lemmas.List.{length-map, take_min}
 use Rattle.std.proofs.lemmas.Option.{slice_get-map, slice_get-get_or}
 use Rattle.std.proofs.Math.ListN.{drop_of_length-le}
 use Rattle.std.proofs.Math.Seq.{drop-drop}
@@ -37,9 +37,20 @@ still_few old new n same few s here = by (slice_get old n) refl
         no e = cc
     by (Some t) e = subst (λ b. b < 4294967295) (some_inj t.boot s.boot (sym (ap (option_map (λ (s : State). s.boot)) e) ∙ boot)) (few t e)
 
+-- they are as many nodes
+pub long_by_boots : (old new : List State) (n : ℕ) → boots_of new ≡ boots_of old → n < length old → n < length new
+long_by_boots old new n same lt =
+    subst (λ k. n < k) (sym (length-map old (λ (s : State). s.boot)) ∙ ap length (sym same) ∙ length-map new (λ (s : State). s.boot)) lt
+
 -- The pieces of an image from the i-th of this many on.
 abbrev pub pieces_from : ℕ → ℕ → List ℕ → ℕ → ℕ → World → Acted
 pieces_from n at bytes count i = put_pieces n (count - i) (at + i * 1024) (drop (i * 1024) bytes)
+
+pub same_count : (len : ℕ) → (len + 1023) / 1024 ≡ div_ceil len 1024
+same_count len = omega arith
+
+pub pieces_first : (n at : ℕ) (bytes : List ℕ) (k count : ℕ) → k ≡ count → put_pieces n k at bytes ≡ pieces_from n at bytes count 0
+pieces_first n at bytes k count same = ap (λ (j : ℕ). put_pieces n j at bytes) same
 
 -- a piece that is due begins within the image
 pub piece_within : (len i : ℕ) → i < div_ceil len 1024 → i * 1024 < len

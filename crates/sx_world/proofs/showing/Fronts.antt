@@ -1,7 +1,11 @@
 -- Fronts of the items that are due.
-use Rattle.std.proofs.Common.{◌≡◌, ℕ, Some, Result, Ok, Err, OnErr, List, [], ◌++◌, refl, sym, subst, ap, ◌∙◌}
+use Rattle.std.proofs.Common.{◌≡◌, ℕ, ◌+◌, ◌<◌, Bool, false, Option, Some, Result, Ok, Err, OnErr, List, [], ◌∷◌, ◌++◌, length, drop, drop-cons, add-one, get_or, refl, sym, subst, ap, ◌∙◌}
 use Rattle.std.proofs.lemmas.List.{append_assoc, append-nil}
 use Rattle.sx_trace.specs.declared.items.Item.{Item}
+use Rattle.sx_trace.specs.declared.items.Item.TheVariants.{Forged}
+use Rattle.sx_mean.specs.Application.{AppTree}
+use Rattle.sx_machine.specs.declared.kinds.Touch.{Touch}
+use Rattle.sx_machine.specs.declared.kinds.Touch.TheVariants as touch
 use Rattle.sx_ledger.specs.declared.entry.Entry.{Entry}
 use Rattle.sx_ledger.specs.Made.{Made}
 use Rattle.sx_machine.specs.declared.kinds.Event.{Event}
@@ -10,7 +14,7 @@ use Rattle.sx_machine.specs.declared.kinds.Exchange.{Exchange}
 use Rattle.sx_machine.specs.State.{State}
 use Rattle.sx_run.specs.Setting.{Setting}
 use Rattle.sx_run.specs.Ledger.{header_of, body_of}
-use Rattle.sx_run.specs.Observation.{Observed, event_seen, has_wrapped, has_unwrapped}
+use Rattle.sx_run.specs.Observation.{Observed, event_seen, has_wrapped, has_unwrapped, touch_items, unless_made}
 use Rattle.sx_world.specs.Held.{IsFront, AddsFront, Records, ObservesFront}
 
 -- nothing was added
@@ -29,6 +33,12 @@ pub due_none : {T E : Type 0} (r : Result T E) (old : List Entry) (before after 
     → OnErr r (ObservesFront old before after due)
 due_none (Ok x) old before after due e = tt
 due_none (Err w) old before after due e = λ list h. front_same after before (due list).items e
+
+-- nobody made it, which was told, and memory ran out before the item
+pub told_front : {T E : Type 0} (r : Result T E) (old mid new : List Item) (who : Option ℕ) (made : Bool) (i : Item) → made ≡ false → mid ≡ old ++ Forged who ∷ [] → OnErr r (new ≡ mid)
+    → OnErr r (AddsFront old new (unless_made who made i))
+told_front (Ok x) old mid new who made i is told e = tt
+told_front (Err w) old mid new who made i is told e = subst (λ b. AddsFront old new (unless_made who b i)) (sym is) (Forged who ∷ [], e ∙ told, (i ∷ [], refl))
 
 -- all that is due was added
 pub front_all : (new old due : List Item) → new ≡ old ++ due → AddsFront old new due
@@ -113,3 +123,17 @@ pub unwrapped_seen : (set : Setting) (n m : ℕ) (s : State) (event : Event) (id
 unwrapped_seen set n m s event id boot x list e b y =
     ap (λ k. has_unwrapped set.app m k (header_of x) (body_of x) list) b ∙ ap (λ (z : Exchange). has_unwrapped set.app m s.boot (header_of z) (body_of z) list) y
     ∙ sym (ap (λ v. (event_seen set n (Some m) s list v).items) e)
+
+-- the touches one by one
+touch_first : (app : AppTree) (n : ℕ) (runner : Option ℕ) (t : Touch) (ts : List Touch) → touch_items app n runner (t ∷ ts) ≡ touch_items app n runner (t ∷ []) ++ touch_items app n runner ts
+touch_first app n runner touch.Quiet ts = refl
+touch_first app n runner (touch.DeviceRead k v) ts = refl
+touch_first app n runner (touch.DeviceWrite k v) ts = refl
+
+pub touches_on : (app : AppTree) (n : ℕ) (runner : Option ℕ) (ts : List Touch) (i : ℕ) (t : Touch) (before came after due : List Item) → i < length ts → t ≡ get_or ts i t
+    → Comes before came (touch_items app n runner (drop i ts)) due → after ≡ came ++ touch_items app n runner (t ∷ []) → Comes before after (touch_items app n runner (drop (i + 1) ts)) due
+touches_on app n runner ts i t before came after due lt is comes e =
+    let next : drop i ts ≡ t ∷ drop (i + 1) ts =
+    drop-cons ts i t lt ∙ ap (λ (k : ℕ). get_or ts i t ∷ drop k ts) (sym (add-one i)) ∙ ap (λ (x : Touch). x ∷ drop (i + 1) ts) (sym is) in
+    comes_on before came after (touch_items app n runner (t ∷ [])) (touch_items app n runner (drop (i + 1) ts)) (touch_items app n runner (drop i ts)) due comes e
+    (ap (λ xs. touch_items app n runner xs) next ∙ touch_first app n runner t (drop (i + 1) ts))

@@ -4,6 +4,7 @@ use Rattle.sx_sched.specs.Lines.{line_of}
 use Rattle.sx_world.specs.Held.{Held, Running}
 use Rattle.sx_world.specs.Ready.{IsReady}
 use Rattle.sx_run.specs.Setting.{Site}
+use Rattle.sx_world.proofs.showing.Fronts.{front_none}
 use Rattle.sx_world.proofs.standing.Continuing.{goes_on}
 use Rattle.sx_world.proofs.standing.Readying.{stands_ready, act_did, act_wanted}
 use Rattle.sx_world.proofs.world.World.act.Goals as goal
@@ -44,3 +45,6 @@ returns-in-Ok-clause-legal g c =
     (act_did g.T.Tag.mac d held.sites c.requires.sound c.requires.images held _ c.self.inside.running c.deref.result.now
     c.args.items.now.items c.act.new.items.items (line_of c.args.line.now) c.requires.form (ap (λ (h : Held). h.lines + 1) view)
     (c.deref.ensures.value ∙ ap (λ (h : Held). h.sites) view) (ap (λ (h : Held). h.running) view) c.in-Ok.ensures)
+
+pub returns-then-self-clause-front : goal.returns-then-self-clause-front
+returns-then-self-clause-front g c = λ w s. front_none c.args.items.now.items _
