@@ -50,7 +50,10 @@ pub same_count : (len : ℕ) → (len + 1023) / 1024 ≡ div_ceil len 1024
 same_count len = omega arith
 
 pub pieces_first : (n at : ℕ) (bytes : List ℕ) (k count : ℕ) → k ≡ count → put_pieces n k at bytes ≡ pieces_from n at bytes count 0
-pieces_first n at bytes k count same = ap (λ (j : ℕ). put_pieces n j at bytes) same
+pieces_first n at bytes k count same =
+    let all : count ≡ count - 0 = omega arith in
+    let start : at ≡ at + 0 * 1024 = omega arith in
+    ap (λ (j : ℕ). put_pieces n j at bytes) (same ∙ all) ∙ ap (λ (p : ℕ). put_pieces n (count - 0) p bytes) start
 
 -- a piece that is due begins within the image
 pub piece_within : (len i : ℕ) → i < div_ceil len 1024 → i * 1024 < len

@@ -130,10 +130,10 @@ touch_first app n runner touch.Quiet ts = refl
 touch_first app n runner (touch.DeviceRead k v) ts = refl
 touch_first app n runner (touch.DeviceWrite k v) ts = refl
 
-pub touches_on : (app : AppTree) (n : ℕ) (runner : Option ℕ) (ts : List Touch) (i : ℕ) (t : Touch) (before came after due : List Item) → i < length ts → t ≡ get_or ts i t
+pub touches_on : (app : AppTree) (n : ℕ) (runner : Option ℕ) (ts : List Touch) (i : ℕ) (t d : Touch) (before came after due : List Item) → i < length ts → t ≡ get_or ts i d
     → Comes before came (touch_items app n runner (drop i ts)) due → after ≡ came ++ touch_items app n runner (t ∷ []) → Comes before after (touch_items app n runner (drop (i + 1) ts)) due
-touches_on app n runner ts i t before came after due lt is comes e =
+touches_on app n runner ts i t d before came after due lt is comes e =
     let next : drop i ts ≡ t ∷ drop (i + 1) ts =
-    drop-cons ts i t lt ∙ ap (λ (k : ℕ). get_or ts i t ∷ drop k ts) (sym (add-one i)) ∙ ap (λ (x : Touch). x ∷ drop (i + 1) ts) (sym is) in
+    drop-cons ts i d lt ∙ ap (λ (k : ℕ). get_or ts i d ∷ drop k ts) (sym (add-one i)) ∙ ap (λ (x : Touch). x ∷ drop (i + 1) ts) (sym is) in
     comes_on before came after (touch_items app n runner (t ∷ [])) (touch_items app n runner (drop (i + 1) ts)) (touch_items app n runner (drop i ts)) due comes e
     (ap (λ xs. touch_items app n runner xs) next ∙ touch_first app n runner t (drop (i + 1) ts))

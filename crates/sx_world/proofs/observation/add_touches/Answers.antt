@@ -1,7 +1,8 @@
-use Rattle.std.proofs.Common.{◌++◌, drop, arith, sym, ap, ◌∙◌}
+use Rattle.std.proofs.Common.{◌++◌, drop, get_or, arith, refl, sym, ap, ◌∙◌}
 use Rattle.std.proofs.Math.ListN.{drop_of_length-le}
 use Rattle.std.proofs.lemmas.List.{append-nil}
 use Rattle.sx_mean.specs.View.{app_as}
+use Rattle.sx_machine.specs.declared.kinds.Touch.TheVariants.{Quiet}
 use Rattle.sx_run.specs.Observation.{touch_items}
 use Rattle.sx_world.proofs.showing.Fronts.{comes_all, comes_front, err_any, front_same, touches_on}
 use Rattle.sx_world.proofs.observation.add_touches.Goals as goal
@@ -9,8 +10,10 @@ use Rattle.sx_world.proofs.observation.add_touches.Goals as goal
 pub loop-touch-preserved : goal.loop-touch-preserved
 loop-touch-preserved c =
     let app = app_as c.args.app.now in
-    touches_on app c.args.n c.args.runner c.args.touches.now c.loop-touch.touch-index _ c.args.items.now.items c.loop-touch.items.items c.add_touch.new.items.items
-    (touch_items app c.args.n c.args.runner c.args.touches.now) (omega (arith, c.loop-touch-test.true, c.loop-touch.auto.touch-index-end)) ? c.loop-touch.invariant c.in_ok-add_touch.ensures.ok
+    let ts = c.args.touches.now in
+    let i = c.loop-touch.touch-index in
+    touches_on app c.args.n c.args.runner ts i (get_or ts i Quiet) Quiet c.args.items.now.items c.loop-touch.items.items c.add_touch.new.items.items
+    (touch_items app c.args.n c.args.runner ts) (omega (arith, c.loop-touch-test.true, c.loop-touch.auto.touch-index-end)) refl c.loop-touch.invariant c.in_ok-add_touch.ensures.ok
 
 pub returns-in_err-add_touch-clause-front : goal.returns-in_err-add_touch-clause-front
 returns-in_err-add_touch-clause-front c =
