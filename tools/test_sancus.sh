@@ -21,7 +21,9 @@ fresh() {
   rm -rf -- "${work:?}/repository" "${work:?}/bin"
   mkdir -p -- "$crate/src" "$repository/crates/sx_top/specs"
   touch -d '1 hour ago' "$crate/src/main.rt" "$repository/crates.txt" "$repository/crates/sx_top/specs/Top.antt"
+  mkdir -p -- "$repository/tools"
   cp -- "$top/sancus" "$repository/sancus"
+  cp -- "$top/tools/faults.py" "$top/tools/deployment.py" "$repository/tools"
   program "$work/bin/rt" "$1"
 }
 
@@ -60,9 +62,70 @@ cd / || exit 1
 run "$work/second" check
 expect "symlinks and other folders" 3 $'ran check\nin' "the proved build"
 
+# Words are judged before anything is built or started.
+fresh 'echo "rt was called" >&2; exit 1'
+for words in "" --help -h help "run a b" "gen 0" "gen 8001" "gen" "asm 0x10000" "asm 1x" "dis" "check a b" "drive" "build 3"; do
+  # shellcheck disable=SC2086
+  run "$repository/sancus" $words
+  expect "words that are no command: $words" 2 "fault usage" "usage: sancus run [FILE]"
+  if [[ "$told" == *"rt was called"* ]]; then
+    failed=$((failed + 1))
+    echo "FAILED: $words started a build"
+  fi
+done
+
+for words in "gen 1" "gen 0x1F40" "asm 65535" "dis 0x0" "asm 00000000000000065535"; do
+  built
+  # shellcheck disable=SC2086
+  run "$repository/sancus" $words
+  expect "words that are a command: $words" 3 "ran $words"$'\nin' "the proved build"
+done
+
 built
-run "$repository/sancus"
-expect "no words: the program's answer, and a hint" 3 $'ran \nin' "usage: sancus run < FILE"
+run "$repository/sancus" explain
+expect "a word that the script doesn't know goes to a proved build" 3 $'ran explain\nin' ""
+
+# FILE, in place of the standard input.
+printf 'of a file\n' >"$work/file"
+built
+run "$repository/sancus" run "$work/file"
+expect "FILE is read" 3 $'ran run\nof a file' "the proved build"
+run "$repository/sancus" asm 7 "$work/file"
+expect "FILE behind an address" 3 $'ran asm 7\nof a file' "the proved build"
+run "$repository/sancus" check -
+expect "- is the standard input" 3 $'ran check\nin' "the proved build"
+run "$repository/sancus" run "$work/none"
+expect "a FILE that isn't there" 125 "" "none is no file that can be read"
+run "$repository/sancus" run "$work"
+expect "a folder as FILE" 125 "" "is no file that can be read"
+fresh 'cat; echo "run=ended status=0 runners=1 proved=no" >&2'
+run "$repository/sancus" run "$work/file"
+expect "FILE is read where no build stands" 0 "of a file" "isn't proved"
+
+# Faults in words, and warnings.
+printf 'secret = 3\n%%%%\n' >"$work/file"
+fresh ''
+program "$crate/out/sancus_run" 'cat >/dev/null; echo "fault deployment D4 top"; exit 1'
+run "$repository/sancus" check "$work/file"
+expect "a fault in words" 1 "fault deployment D4 top" "secret\` must be 32 hexadecimal digits"
+output="$("$repository/sancus" check <"$work/file" 2>"$work/told")"
+status=$?
+told="$(cat -- "$work/told")"
+expect "a fault in words, of a file as standard input" 1 "fault deployment D4 top" "must be 32 hexadecimal digits"
+run "$repository/sancus" check
+expect "a pipe can't be read twice" 1 "fault deployment D4 top" "the proved build"
+fresh 'cat >/dev/null; echo "fault deployment D4 top"; echo "run=ended status=1 runners=1 proved=no" >&2; exit 1'
+run "$repository/sancus" check "$work/file"
+expect "a fault in words where no build stands" 1 "fault deployment D4 top" "must be 32 hexadecimal digits"
+
+printf 'node = [ { name = "a", key = "%s" }, { name = "b", key = "%s" } ]\n%%%%\n' \
+  000102030405060708090a0b0c0d0e0f 000102030405060708090A0B0C0D0E0F >"$work/file"
+built
+run "$repository/sancus" run "$work/file"
+expect "two nodes with one key" 3 "$(printf 'ran run\n'; cat -- "$work/file")" "warning: nodes a and b have one key"
+printf 'connection = [ { name = "c", from = "a.o", to = "b.i" } ]\n%%%%\n' >"$work/file"
+run "$repository/sancus" run "$work/file"
+expect "connections without secret" 3 "$(printf 'ran run\n'; cat -- "$work/file")" "no \`secret\`"
 
 fresh 'cat; echo "run=ended status=3 runners=1 proved=no" >&2; exit 3'
 run "$repository/sancus" run
@@ -103,6 +166,20 @@ program "$work/bin/rt" 'exit 0'
 run "$repository/sancus" build
 run "$repository/sancus" run
 expect "a build that changed nothing counts" 3 $'ran run\nin' "the proved build"
+
+# A build of two libraries, the second of which stands on the first.
+fresh 'work=../../crates/sx_low/out/rlib; mkdir -p $work; sleep 0.5; touch $work/stamp
+work=../../crates/sx_top/out/rlib; mkdir -p $work; sleep 0.5; touch $work/stamp; sleep 0.5
+mkdir -p out; printf "#!/bin/bash\necho built\n" >out/sancus_run; chmod +x out/sancus_run'
+printf 'sx_low: hex\nsx_other:\nsx_top: sx_low hex\nsancus_run: sx_top\n' >"$repository/crates.txt"
+run env SANCUS_LOOK=0.1 "$repository/sancus" build
+expect "build says how many crates are proved" 0 "" "0 of 2 crates below the program are proved, after 0 seconds; at work: sx_low"
+expect "build says when they all are" 0 "" "2 of 2 crates below the program are proved"
+
+fresh 'if [[ "$1" == all ]]; then echo "$PWD: $*"; exit; fi
+mkdir -p out; printf "#!/bin/bash\necho built\n" >out/sancus_run; chmod +x out/sancus_run'
+run "$repository/sancus" build --jobs 4
+expect "build of libraries side by side" 0 "" "$repository/crates: all check --jobs 4"
 
 fresh 'echo "fn sancus_run::main: not proved"; exit 1'
 run "$repository/sancus" build
