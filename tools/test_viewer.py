@@ -1,0 +1,286 @@
+#!/usr/bin/env python3
+"""Tests tools/viewer.html by what it shows in a headless Chromium, and tools/view.py. Not a part of the gate.
+
+It is left out where there is no Chromium; what needs the program (./sancus after a build, or PROGRAM in the environment) is
+left out where there is none. With SHOTS=FOLDER it also writes pictures to look at.
+"""
+
+import base64
+import json
+import os
+import shutil
+import subprocess
+import sys
+import tempfile
+import time
+import unittest
+from pathlib import Path
+
+TOP = Path(__file__).resolve().parent.parent
+sys.path.insert(0, str(TOP / "tools"))
+from marked import marked  # noqa: E402
+from deployment import Input  # noqa: E402
+from view import page_of, without_lines  # noqa: E402
+
+BUILT = TOP / "crates" / "sancus_run" / "out" / "sancus_run"
+PROGRAM = os.environ.get("PROGRAM") or (str(BUILT) if BUILT.is_file() else "")
+BROWSER = next((found for name in ("chromium", "chromium-browser", "google-chrome") if (found := shutil.which(name))), "")
+LIGHTING = (TOP / "examples" / "lighting.txt").read_text()
+DEPLOYMENT = LIGHTING.partition("%%\n")[0] + "%%\n"
+PATIENCE = 60
+
+
+class Browser:
+    """A headless Chromium, driven by a pair of pipes."""
+
+    def __init__(self):
+        to_read, self.write = os.pipe()
+        self.read, to_write = os.pipe()
+        self.room = tempfile.mkdtemp()
+        flags = "--headless --no-sandbox --disable-gpu --remote-debugging-pipe --window-size=1400,900 --force-color-profile=srgb"
+        command = f'exec "$0" {flags} --user-data-dir="$1" 3<&{to_read} 4>&{to_write}'
+        self.process = subprocess.Popen(
+            ["bash", "-c", command, BROWSER, self.room], pass_fds=(to_read, to_write), stdout=subprocess.DEVNULL, stderr=subprocess.DEVNULL
+        )
+        os.close(to_read)
+        os.close(to_write)
+        self.number, self.kept, self.session = 0, b"", None
+        target = self.call("Target.createTarget", url="about:blank")["targetId"]
+        self.session = self.call("Target.attachToTarget", targetId=target, flatten=True)["sessionId"]
+
+    def message(self):
+        while b"\0" not in self.kept:
+            self.kept += os.read(self.read, 1 << 20)
+        first, _, self.kept = self.kept.partition(b"\0")
+        return json.loads(first)
+
+    def call(self, method, **given):
+        self.number += 1
+        words = {"id": self.number, "method": method, "params": given} | ({"sessionId": self.session} if self.session else {})
+        os.write(self.write, json.dumps(words).encode() + b"\0")
+        while True:
+            answer = self.message()
+            if answer.get("id") == self.number:
+                if "error" in answer:
+                    raise RuntimeError(answer["error"])
+                return answer["result"]
+
+    def value(self, code):
+        answer = self.call("Runtime.evaluate", expression=code, returnByValue=True, awaitPromise=True)
+        if "exceptionDetails" in answer:
+            raise RuntimeError(answer["exceptionDetails"]["exception"].get("description"))
+        return answer["result"].get("value")
+
+    def open(self, file, part=""):
+        self.call("Page.navigate", url="about:blank")
+        self.call("Page.navigate", url=f"file://{file}{part}")
+        end = time.monotonic() + PATIENCE
+        while self.value('document.readyState + typeof page') != "completeobject":
+            if time.monotonic() > end:
+                raise RuntimeError("the page doesn't open")
+            time.sleep(0.05)
+
+    def press(self, key):
+        self.value(f'byId("scroll").dispatchEvent(new KeyboardEvent("keydown", {{key: {json.dumps(key)}, bubbles: true}}))')
+
+    def shoot(self, name):
+        if not os.environ.get("SHOTS"):
+            return
+        picture = self.call("Page.captureScreenshot", format="png")["data"]
+        Path(os.environ["SHOTS"], f"{name}.png").write_bytes(base64.b64decode(picture))
+
+    def close(self):
+        self.process.kill()
+        self.process.wait()
+        os.close(self.read)
+        os.close(self.write)
+        shutil.rmtree(self.room, ignore_errors=True)
+
+
+# What the lines behind the keys give, for one reading: lines and their items.
+READING = """sense light {value}
+ sense light {value}
+call eye 3 0x300 0x400
+ read eye {value}
+ done eye 1 1
+take a 0x400 24
+ packet {first} 24
+give {first} a 0x300
+call logic 2 0x300 0x400
+ take logic up {number} {value}
+ done logic 1 1
+take a 0x400 24
+ packet {second} 24
+give {second} b 0x300
+call lamp 2 0x300 0x400
+ take lamp down {number} {lit}
+ out lamp {lit}
+ done lamp 1 0
+"""
+
+
+def readings(count):
+    """The lines and the items of this many readings, on modules that have their keys."""
+    lines, items = [], []
+    for number in range(count):
+        value = 37 * number % 200
+        text = READING.format(value=value, first=2 * number, second=2 * number + 1, number=number, lit=int(value > 100))
+        for line in text.splitlines():
+            (items if line.startswith(" ") else lines).append(line.strip())
+    return lines, items
+
+
+def run_of(lines, items, last="end"):
+    return {"input": (DEPLOYMENT + "\n".join(lines) + "\n").encode(), "output": ("trace\n" + "".join(f"{it}\n" for it in items) + f"{last}\n").encode()}
+
+
+@unittest.skipUnless(BROWSER, "there is no Chromium here")
+class Viewer(unittest.TestCase):
+    @classmethod
+    def setUpClass(cls):
+        cls.browser = Browser()
+        cls.room = Path(tempfile.mkdtemp())
+
+    @classmethod
+    def tearDownClass(cls):
+        cls.browser.close()
+        shutil.rmtree(cls.room)
+
+    def show(self, texts, part=""):
+        (self.room / "run.html").write_text(page_of(texts))
+        self.browser.open(self.room / "run.html", part)
+
+    def texts(self, selector):
+        return self.browser.value(f'[...document.querySelectorAll({json.dumps(selector)})].map(it => it.textContent)')
+
+    def test_one_reading(self):
+        self.show(run_of(*readings(1)) | {"name": b"reading.txt"})
+        self.assertEqual(self.texts("#title"), ["reading.txt"])
+        self.assertEqual(self.texts("#notes div"), [])
+        rows = self.texts(".row .cell")
+        self.assertEqual(rows[0].replace("▾", ""), "1sense light 0" + "1sense light 0")
+        self.assertEqual(rows[1], "2call eye 3 0x300 0x400")
+        self.assertEqual(rows[-2:], ["9out lamp 0", "10done lamp 1 0"])
+        heads = self.texts("#heads text")
+        for name in ("deployer", "network", "node a", "node b", "▣ eye", "◉ light", "▣ logic", "▣ lamp", "■ bulb"):
+            self.assertIn(name, heads)
+        drawn = self.texts("svg.drawing text")
+        for text in ("sample", "#0 · 24 B", "#0", "up 0 = 0", "down 0 = 0", "1 piece"):
+            self.assertIn(text, drawn)
+
+    def test_trouble_and_forged_stand_out(self):
+        lines = ["call eye 3 0x300 0x400", "reset a", "put a 0x4000 00", "give 7 b 0x300", "call lamp 2 0x300 0x400", "run a 9"]
+        items = ["done eye 8 0", "reset a asked", "skip b", "forged lamp", "take lamp down 0 1", "out lamp 1", "done lamp 1 0", "reset a read"]
+        self.show(run_of(lines, items))
+        self.browser.shoot("forged")
+        drawn = self.texts("svg.drawing text")
+        for text in ("✗ 8: no new sample", "RESET: asked · now boot 1", "✗ refused: skip", "FORGED for lamp", "RESET: read · now boot 2"):
+            self.assertIn(text, drawn)
+        self.assertEqual(self.texts(".row.forged .text"), ["forged lamp"])
+        self.assertEqual(len(self.texts(".row.after")), 5)
+        self.assertEqual(len(self.texts("rect.beyond")), 1)
+        self.assertEqual(self.texts("#about"), ["8 items · 1 out · 2 reset · 1 FORGED"])
+        self.browser.press("x")
+        self.assertIn("the sensor has no new sample", self.texts("#more")[0])
+        for _ in range(3):
+            self.browser.press("x")
+        self.assertIn("Item 8: reset a read", self.texts("#more")[0])
+        self.assertIn("nothing is promised", self.texts("#more")[0])
+
+    def test_causes(self):
+        causes = b"because 2 1\nbecause 5 2\nbecause 8 5\nbecause 9 8\nlegal\n"
+        self.show(run_of(*readings(1)) | {"causes": causes}, "#item=9")
+        self.browser.shoot("causes")
+        self.assertIn("Because: 9 out lamp 0 ← 8 take lamp down 0 0 ← 5 take logic up 0 0 ← 2 read eye 0 ← 1 sense light 0", self.texts("#more")[0])
+        self.assertEqual(len(self.texts("path.cause")), 4)
+        self.browser.press("c")
+        self.assertIn("Item 8: take lamp", self.texts("#more")[0])
+
+    def test_two_thousand_readings(self):
+        lines, items = readings(2000)
+        self.show(run_of(lines, items))
+        self.browser.shoot("many-folded")
+        self.assertEqual(self.texts("#about"), ["20000 items · 2000 out · 0 reset"])
+        self.assertEqual(self.texts("#notes div.bad"), [])
+        first = self.texts(".row.group .cell")[1]
+        self.assertIn("sense light 37", first)
+        self.assertIn("⇒ lamp 0", first)
+        for _ in range(3):
+            self.browser.press("o")
+        self.assertIn("Item 29: out lamp 0", self.texts("#more")[0])
+        self.browser.press("z")
+        self.browser.press("z")
+        took = self.browser.value('(() => { const begun = performance.now(); page.select(20000); return performance.now() - begun; })()')
+        self.browser.shoot("many-open")
+        self.assertLess(took, 2000)
+        self.assertLess(self.browser.value("document.getElementsByTagName('*').length"), 3000)
+        self.assertIn("out lamp", self.texts("#more")[0] + "".join(self.texts(".row")))
+
+    def test_find_and_fold(self):
+        self.show(run_of(*readings(3)))
+        self.browser.value('page.find("packet 3")')
+        self.assertEqual(self.texts("#count"), ["1 found"])
+        self.browser.press("n")
+        self.assertIn("Packet #3: taken from memory at line 14", self.texts("#more")[0])
+        self.browser.press("ArrowLeft")
+        self.assertEqual(len(self.texts(".row.group")), 1)
+        self.browser.press("ArrowRight")
+        self.assertEqual(len(self.texts(".row.group")), 0)
+
+    def test_texts_that_do_not_fit(self):
+        lines, items = readings(1)
+        self.show(run_of(lines, items[:3] + ["out lamp 1"] + items[3:]))
+        self.assertIn("The output isn't this schedule's", self.texts("#notes div.bad")[0])
+        self.show(run_of(lines[:3] + ["load ear"], items[:4], "fault schedule S4 4"))
+        self.assertEqual(self.texts("#notes div.bad"), ["fault schedule S4 4"])
+        self.assertEqual(self.texts(".row.fault .text"), ["load ear", "  fault schedule S4 4"])
+        self.show({"output": b"trace\nsense light 3\nread eye 3\n"})
+        self.assertEqual(self.texts("#notes div"), ["The output has no last line: it is cut."])
+        self.show({"input": b"node = [\n%%\nload eye\n", "output": b"trace\nprotect a eye\nend\n"})
+        self.assertIn("The deployment isn't read", self.texts("#notes div.bad")[0])
+
+    def test_hostile_texts_stay_texts(self):
+        text = '# </script><img src=x onerror="window.bad=1">'
+        self.show(run_of([text, *readings(1)[0]], readings(1)[1]))
+        self.assertIn(text[2:], self.texts(".row.note .text"))
+        self.assertEqual(self.browser.value("document.images.length + (window.bad ?? 0)"), 0)
+
+    def test_no_outside_resources(self):
+        page = (TOP / "tools" / "viewer.html").read_text()
+        self.assertIn("default-src 'none'", page)
+        for word in ("src=", "@import", "fetch(", "XMLHttpRequest", "url(http"):
+            self.assertNotIn(word, page)
+
+    @unittest.skipUnless(PROGRAM, "there is no program to run")
+    def test_examples(self):
+        """The items of each line that the page finds are those of a marked run, or it says that it isn't sure."""
+        for file in sorted((TOP / "examples").glob("*.txt")):
+            with self.subTest(file.name):
+                text = file.read_bytes()
+                plain = subprocess.run([PROGRAM, "run"], input=text, capture_output=True).stdout
+                lines = b"".join(it + b"\n" for it in marked(Input(text), PROGRAM))
+                self.assertEqual(without_lines(lines), plain)
+                split = "page.run.rows.filter(row => row.kind === 'act').map(row => [row.line.text.trim(), row.line.isUnsure ? null : row.line.items.map(item => item.text)])"
+                self.show({"input": text, "output": plain})
+                found = self.browser.value(split)
+                self.show({"input": text, "output": (b"\n" + lines).partition(b"\n%%\n")[2]})
+                self.browser.shoot(file.stem)
+                for one, other in zip(found, self.browser.value(split), strict=True):
+                    self.assertEqual(one[0], other[0])
+                    self.assertIn(one[1], (None, other[1]))
+
+    def test_dark_and_folded(self):
+        self.show(run_of(*readings(3)), "#dark&fold")
+        self.browser.shoot("dark-folded")
+        self.assertEqual(self.browser.value("document.documentElement.dataset.theme"), "dark")
+        self.assertEqual(len(self.texts(".row.group")), 3)
+
+
+class Page(unittest.TestCase):
+    def test_the_page_is_what_its_parts_give(self):
+        ran = subprocess.run([sys.executable, TOP / "tools" / "viewer" / "join.py", "--check"], capture_output=True, text=True)
+        self.assertEqual((ran.returncode, ran.stderr), (0, ""))
+
+
+if __name__ == "__main__":
+    unittest.main()
