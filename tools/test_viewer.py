@@ -209,7 +209,6 @@ class Viewer(unittest.TestCase):
             self.browser.press("o")
         self.assertIn("Item 29: out lamp 0", self.texts("#more")[0])
         self.browser.press("z")
-        self.browser.press("z")
         took = self.browser.value('(() => { const begun = performance.now(); page.select(20000); return performance.now() - begun; })()')
         self.browser.shoot("many-open")
         self.assertLess(took, 2000)
