@@ -50,7 +50,9 @@ class Plan:
         self.connections = tables(toml, "connection")
 
     def entries(self, kind):
-        return {"node": self.nodes, "device": self.devices, "module": self.modules, "connection": self.connections}[kind]
+        return {"node": self.nodes, "device": self.devices, "module": self.modules, "connection": self.connections}[
+            kind
+        ]
 
     def named(self, kind, name):
         return next((it for it in self.entries(kind) if it.get("name") == name), None)

@@ -134,7 +134,11 @@ def entry_line(data, kind, index, plan):
     name = plan.entries(kind)[index].get("name") if plan and index < len(plan.entries(kind)) else None
     before = [it.get("name") for it in plan.entries(kind)[:index]].count(name) if plan else 0
     begun = next((at for at, it in enumerate(lines) if re.match(rf"\s*{kind}\s*=", it)), 0)
-    named = [at for at, it in enumerate(lines, 1) if at > begun and re.search(rf'name\s*=\s*["\']{re.escape(str(name))}["\']', it)]
+    named = [
+        at
+        for at, it in enumerate(lines, 1)
+        if at > begun and re.search(rf'name\s*=\s*["\']{re.escape(str(name))}["\']', it)
+    ]
     return named[before] if before < len(named) else None
 
 
@@ -255,7 +259,9 @@ def ties(kind, index, plan):
     ends = len(plan.ends(entry["name"]))
     if ends > 16:
         lines.append(f"it has {ends} ends of connections, and at most 16 may be there")
-    return lines or ["a handler of it can make more than 16 packets: its sends, each once for each connection from that output"]
+    return lines or [
+        "a handler of it can make more than 16 packets: its sends, each once for each connection from that output"
+    ]
 
 
 def overlap(one, other):
@@ -284,7 +290,12 @@ def section_places(plan, index):
             lines.append(f"{told(what, it)} begins below 0x0200")
         if it[1] > 0xFFE0:
             lines.append(f"{told(what, it)} ends {it[1] - 0xFFE0} bytes above 0xffe0")
-    others = [it for other in plan.modules[:index] if other.get("node") == module.get("node") for it in sections(plan, other)]
+    others = [
+        it
+        for other in plan.modules[:index]
+        if other.get("node") == module.get("node")
+        for it in sections(plan, other)
+    ]
     pairs = [(one, other) for one in own for other in others] + [tuple(own)] * (len(own) == 2)
     for (what, it), (other, that) in pairs:
         if overlap(it, that):
@@ -314,7 +325,9 @@ def places(kind, index, plan):
 def counts(plan):
     """Which of the entries are too many, a line each."""
     most = {"node": 16, "device": 32, "module": 32, "connection": 64}
-    lines = [f"{len(plan.entries(it))} {it}s, and at most {most[it]}" for it in KINDS if len(plan.entries(it)) > most[it]]
+    lines = [
+        f"{len(plan.entries(it))} {it}s, and at most {most[it]}" for it in KINDS if len(plan.entries(it)) > most[it]
+    ]
     for node in plan.names("node"):
         there = sum(it.get("node") == node for it in plan.modules)
         lines += [f"{there} modules on node {node}, and at most 8"] if there > 8 else []

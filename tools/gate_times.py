@@ -145,7 +145,9 @@ def table(times):
     lines.append("")
     lines.append(
         f"Times are hours and minutes since the start, then minutes of a processor. In all {times['seconds'] / 60:.0f} minutes, "
-        f"and {sum(used.values()):.0f} of a processor: " + ", ".join(f"{part} {it:.0f}" for part, it in used.items()) + "."
+        f"and {sum(used.values()):.0f} of a processor: "
+        + ", ".join(f"{part} {it:.0f}" for part, it in used.items())
+        + "."
     )
     return lines
 

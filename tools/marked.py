@@ -47,8 +47,13 @@ def with_module(data, plan):
         return data.head, plan.modules[0]["name"]
     taken = plan.names("node")
     name = next(it for it in ("mark", "marks", "marked") if it not in taken)
-    nodes = ", ".join(f'{{ name = "{it["name"]}", key = "{it["key"]}" }}' for it in [*plan.nodes, {"name": name, "key": "00" * 16}])
-    devices = ", ".join(f'{{ name = "{it["name"]}", node = "{it["node"]}", kind = "{it["kind"]}", at = {it["at"]} }}' for it in plan.devices)
+    nodes = ", ".join(
+        f'{{ name = "{it["name"]}", key = "{it["key"]}" }}' for it in [*plan.nodes, {"name": name, "key": "00" * 16}]
+    )
+    devices = ", ".join(
+        f'{{ name = "{it["name"]}", node = "{it["node"]}", kind = "{it["kind"]}", at = {it["at"]} }}'
+        for it in plan.devices
+    )
     return f"node = [ {nodes} ]\ndevice = [ {devices} ]\n{MARK_MODULE.format(name=name)}".encode(), name
 
 
@@ -60,7 +65,9 @@ def items_by_line(output, acts, mark):
         # (an `answer` of this module may be denied itself: its own item comes first)
         if first_word(act) == b"answer" and output[at : at + 1] == [mark] and act.split()[1] == mark.split()[1]:
             items, at = [mark], at + 1
-        while at < len(output) and output[at] != mark and output[at] != b"end" and not output[at].startswith(b"fault "):
+        while (
+            at < len(output) and output[at] != mark and output[at] != b"end" and not output[at].startswith(b"fault ")
+        ):
             items.append(output[at])
             at += 1
         if at >= len(output) or output[at] != mark:
@@ -88,7 +95,15 @@ def marked(data, program):
     start = output.index(b"trace")
     given, rest, last = items_by_line(output[start + 1 :], acts, b"denied " + module.encode())
     images = [it for it in output[:start] if plan.modules]
-    return [*data.head.split(b"\n")[:-1], b"%%", *images, b"trace", *shown(data.schedule, given), *rest, *end_line(last, data.schedule)]
+    return [
+        *data.head.split(b"\n")[:-1],
+        b"%%",
+        *images,
+        b"trace",
+        *shown(data.schedule, given),
+        *rest,
+        *end_line(last, data.schedule),
+    ]
 
 
 def shown(schedule, given):

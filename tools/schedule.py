@@ -117,7 +117,9 @@ class Writer:
                 # (a module that was attested at an earlier boot of its node is gone, and so is its end)
                 if self.attested[holder] == self.boot(holder):
                     self.hand(packet, holder, SET_KEY)
-            self.put(f"# {name} is deployed, at boot {self.boot(name)} of its node: packets {first} to {self.packets - 1}")
+            self.put(
+                f"# {name} is deployed, at boot {self.boot(name)} of its node: packets {first} to {self.packets - 1}"
+            )
 
     def sample(self, name, value):
         device = self.module(name).get("device")

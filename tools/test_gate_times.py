@@ -39,7 +39,9 @@ class GateTimes(unittest.TestCase):
             self.assertIn("1 passed, 0 failed\n", ran.stderr)
             row = ran.stdout.splitlines()[2]
             self.assertRegex(row, r"^\| sx_a \| 0:00 to 0:00, 0\.\d \| 0:00 to 0:00, 0\.\d \| .*, 1 tried \|$")
-            again = subprocess.run([sys.executable, TOOL, "table", "times.json"], cwd=room, capture_output=True, text=True)
+            again = subprocess.run(
+                [sys.executable, TOOL, "table", "times.json"], cwd=room, capture_output=True, text=True
+            )
             self.assertEqual(again.stdout, ran.stdout)
 
     def test_no_such_process(self):

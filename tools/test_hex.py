@@ -18,9 +18,10 @@ TOOL = TOP / "tools" / "hex.py"
 LIGHTING = TOP / "examples" / "lighting.txt"
 BUILT = TOP / "crates" / "sancus_run" / "out" / "sancus_run"
 PROGRAM = os.environ.get("PROGRAM") or (str(BUILT) if BUILT.is_file() else "")
-CLANG = all(shutil.which(it) for it in ("clang", "ld.lld", "llvm-nm")) and "msp430" in subprocess.run(
-    ["clang", "--print-targets"], capture_output=True, text=True
-).stdout
+CLANG = (
+    all(shutil.which(it) for it in ("clang", "ld.lld", "llvm-nm"))
+    and "msp430" in subprocess.run(["clang", "--print-targets"], capture_output=True, text=True).stdout
+)
 
 TI_TXT = "@8000\n" + "31 40 00 0C B0 12 12 80 FF 3F 43 43 92 53 08 06\n" + "00 13\n" + "@FFFE\n00 80\nq\n"
 INTEL_HEX = ":108000003140000CB0121280FF3F434392530806E8\n:0280100000135B\n:02FFFE00008081\n:040000050000800077\n:00000001FF\n"
@@ -100,9 +101,25 @@ class Hex(unittest.TestCase):
                 subprocess.run(words, check=True, capture_output=True, env={**os.environ, "LEVEL": level})
                 text = (self.room / "input.txt").read_bytes()
                 items = subprocess.run([PROGRAM, "run"], input=text, capture_output=True).stdout.decode().splitlines()
-                shown = [it for it in items if it.split()[0] in ("raw", "read", "take", "out", "reset", "drain", "skip")]
-                first = ["read eye 120", "raw port 257", "take logic up 0 120", "raw port 513", "raw port 2001", "raw port 772"]
-                first += ["raw port 13333", "drain knob", "raw port 5", "take lamp down 0 1", "out lamp 1", "read eye 50"]
+                shown = [
+                    it for it in items if it.split()[0] in ("raw", "read", "take", "out", "reset", "drain", "skip")
+                ]
+                first = [
+                    "read eye 120",
+                    "raw port 257",
+                    "take logic up 0 120",
+                    "raw port 513",
+                    "raw port 2001",
+                    "raw port 772",
+                ]
+                first += [
+                    "raw port 13333",
+                    "drain knob",
+                    "raw port 5",
+                    "take lamp down 0 1",
+                    "out lamp 1",
+                    "read eye 50",
+                ]
                 self.assertEqual(shown[: len(first)], first)
                 self.assertEqual(shown[-2:], ["raw port 7", "reset a read"])
 

@@ -45,13 +45,20 @@ class Schedule(unittest.TestCase):
         self.assertEqual(acts("%%\n" + written("\n".join(lines) + "\n", "--lines").stdout), lines)
 
     def test_what_is_counted_is_said(self):
-        ran = written("deploy logic\npackets 20\nforge 0011 as bad\ngive bad b\nwindows 0x500 0x600\ncall logic 2\n", "--lines")
+        ran = written(
+            "deploy logic\npackets 20\nforge 0011 as bad\ngive bad b\nwindows 0x500 0x600\ncall logic 2\n", "--lines"
+        )
         self.assertIn("# logic is deployed, at boot 0 of its node: packets 0 to 3\n", ran.stdout)
-        self.assertIn("forge 0011\n# bad is packet 20\ngive 20 b 0x300\ncall logic 2 0x500 0x600\n", ran.stdout.replace("# windows 0x500 0x600\n", ""))
+        self.assertIn(
+            "forge 0011\n# bad is packet 20\ngive 20 b 0x300\ncall logic 2 0x500 0x600\n",
+            ran.stdout.replace("# windows 0x500 0x600\n", ""),
+        )
         self.assertTrue(ran.stdout.endswith("# in all 21 packets, if nothing is refused\n"))
 
     def test_names(self):
-        ran = written("deploy eye\ngive key.eye.up.from b 0x500\nask eye as who\ngive who a\nanswer eye answer.eye\n", "--lines")
+        ran = written(
+            "deploy eye\ngive key.eye.up.from b 0x500\nask eye as who\ngive who a\nanswer eye answer.eye\n", "--lines"
+        )
         self.assertIn("give 2 b 0x500\nask eye\n# who is packet 3\ngive 3 a 0x300\nanswer eye 0 1\n", ran.stdout)
 
     def test_mistakes(self):
@@ -71,7 +78,17 @@ class Schedule(unittest.TestCase):
     @unittest.skipUnless(PROGRAM, "there is no program to run")
     def test_a_renewed_run(self):
         items = trace(written(RENEWED).stdout)
-        self.assertEqual([it for it in items if it.startswith(("attested", "out"))], ["attested eye 0", "attested logic 0", "attested lamp 0", "attested eye 1", "attested logic 1", "out lamp 1"])
+        self.assertEqual(
+            [it for it in items if it.startswith(("attested", "out"))],
+            [
+                "attested eye 0",
+                "attested logic 0",
+                "attested lamp 0",
+                "attested eye 1",
+                "attested logic 1",
+                "out lamp 1",
+            ],
+        )
         self.assertFalse([it for it in items if it.startswith(("skip", "busy", "denied"))])
 
     @unittest.skipUnless(PROGRAM, "there is no program to run")

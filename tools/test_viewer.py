@@ -24,7 +24,9 @@ from view import page_of, without_lines  # noqa: E402
 
 BUILT = TOP / "crates" / "sancus_run" / "out" / "sancus_run"
 PROGRAM = os.environ.get("PROGRAM") or (str(BUILT) if BUILT.is_file() else "")
-BROWSER = next((found for name in ("chromium", "chromium-browser", "google-chrome") if (found := shutil.which(name))), "")
+BROWSER = next(
+    (found for name in ("chromium", "chromium-browser", "google-chrome") if (found := shutil.which(name))), ""
+)
 LIGHTING = (TOP / "examples" / "lighting.txt").read_text()
 DEPLOYMENT = LIGHTING.partition("%%\n")[0] + "%%\n"
 PATIENCE = 60
@@ -40,7 +42,10 @@ class Browser:
         flags = "--headless --no-sandbox --disable-gpu --remote-debugging-pipe --window-size=1400,900 --force-color-profile=srgb"
         command = f'exec "$0" {flags} --user-data-dir="$1" 3<&{to_read} 4>&{to_write}'
         self.process = subprocess.Popen(
-            ["bash", "-c", command, BROWSER, self.room], pass_fds=(to_read, to_write), stdout=subprocess.DEVNULL, stderr=subprocess.DEVNULL
+            ["bash", "-c", command, BROWSER, self.room],
+            pass_fds=(to_read, to_write),
+            stdout=subprocess.DEVNULL,
+            stderr=subprocess.DEVNULL,
         )
         os.close(to_read)
         os.close(to_write)
@@ -56,7 +61,9 @@ class Browser:
 
     def call(self, method, **given):
         self.number += 1
-        words = {"id": self.number, "method": method, "params": given} | ({"sessionId": self.session} if self.session else {})
+        words = {"id": self.number, "method": method, "params": given} | (
+            {"sessionId": self.session} if self.session else {}
+        )
         os.write(self.write, json.dumps(words).encode() + b"\0")
         while True:
             answer = self.message()
@@ -75,13 +82,15 @@ class Browser:
         self.call("Page.navigate", url="about:blank")
         self.call("Page.navigate", url=f"file://{file}{part}")
         end = time.monotonic() + PATIENCE
-        while self.value('document.readyState + typeof page') != "completeobject":
+        while self.value("document.readyState + typeof page") != "completeobject":
             if time.monotonic() > end:
                 raise RuntimeError("the page doesn't open")
             time.sleep(0.05)
 
     def press(self, key):
-        self.value(f'byId("scroll").dispatchEvent(new KeyboardEvent("keydown", {{key: {json.dumps(key)}, bubbles: true}}))')
+        self.value(
+            f'byId("scroll").dispatchEvent(new KeyboardEvent("keydown", {{key: {json.dumps(key)}, bubbles: true}}))'
+        )
 
     def shoot(self, name):
         if not os.environ.get("SHOTS"):
@@ -124,14 +133,19 @@ def readings(count):
     lines, items = [], []
     for number in range(count):
         value = 37 * number % 200
-        text = READING.format(value=value, first=2 * number, second=2 * number + 1, number=number, lit=int(value > 100))
+        text = READING.format(
+            value=value, first=2 * number, second=2 * number + 1, number=number, lit=int(value > 100)
+        )
         for line in text.splitlines():
             (items if line.startswith(" ") else lines).append(line.strip())
     return lines, items
 
 
 def run_of(lines, items, last="end"):
-    return {"input": (DEPLOYMENT + "\n".join(lines) + "\n").encode(), "output": ("trace\n" + "".join(f"{it}\n" for it in items) + f"{last}\n").encode()}
+    return {
+        "input": (DEPLOYMENT + "\n".join(lines) + "\n").encode(),
+        "output": ("trace\n" + "".join(f"{it}\n" for it in items) + f"{last}\n").encode(),
+    }
 
 
 @unittest.skipUnless(BROWSER, "there is no Chromium here")
@@ -151,7 +165,7 @@ class Viewer(unittest.TestCase):
         self.browser.open(self.room / "run.html", part)
 
     def texts(self, selector):
-        return self.browser.value(f'[...document.querySelectorAll({json.dumps(selector)})].map(it => it.textContent)')
+        return self.browser.value(f"[...document.querySelectorAll({json.dumps(selector)})].map(it => it.textContent)")
 
     def test_one_reading(self):
         self.show(run_of(*readings(1)) | {"name": b"reading.txt"})
@@ -169,12 +183,34 @@ class Viewer(unittest.TestCase):
             self.assertIn(text, drawn)
 
     def test_trouble_and_forged_stand_out(self):
-        lines = ["call eye 3 0x300 0x400", "reset a", "put a 0x4000 00", "give 7 b 0x300", "call lamp 2 0x300 0x400", "run a 9"]
-        items = ["done eye 8 0", "reset a asked", "skip b", "forged lamp", "take lamp down 0 1", "out lamp 1", "done lamp 1 0", "reset a read"]
+        lines = [
+            "call eye 3 0x300 0x400",
+            "reset a",
+            "put a 0x4000 00",
+            "give 7 b 0x300",
+            "call lamp 2 0x300 0x400",
+            "run a 9",
+        ]
+        items = [
+            "done eye 8 0",
+            "reset a asked",
+            "skip b",
+            "forged lamp",
+            "take lamp down 0 1",
+            "out lamp 1",
+            "done lamp 1 0",
+            "reset a read",
+        ]
         self.show(run_of(lines, items))
         self.browser.shoot("forged")
         drawn = self.texts("svg.drawing text")
-        for text in ("✗ 8: no new sample", "RESET: asked · now boot 1", "✗ refused: skip", "FORGED for lamp", "RESET: read · now boot 2"):
+        for text in (
+            "✗ 8: no new sample",
+            "RESET: asked · now boot 1",
+            "✗ refused: skip",
+            "FORGED for lamp",
+            "RESET: read · now boot 2",
+        ):
             self.assertIn(text, drawn)
         self.assertEqual(self.texts(".row.forged .text"), ["forged lamp"])
         self.assertEqual(len(self.texts(".row.after")), 5)
@@ -191,7 +227,10 @@ class Viewer(unittest.TestCase):
         causes = b"because 2 1\nbecause 5 2\nbecause 8 5\nbecause 9 8\nlegal\n"
         self.show(run_of(*readings(1)) | {"causes": causes}, "#item=9")
         self.browser.shoot("causes")
-        self.assertIn("Because: 9 out lamp 0 ← 8 take lamp down 0 0 ← 5 take logic up 0 0 ← 2 read eye 0 ← 1 sense light 0", self.texts("#more")[0])
+        self.assertIn(
+            "Because: 9 out lamp 0 ← 8 take lamp down 0 0 ← 5 take logic up 0 0 ← 2 read eye 0 ← 1 sense light 0",
+            self.texts("#more")[0],
+        )
         self.assertEqual(len(self.texts("path.cause")), 4)
         self.browser.press("c")
         self.assertIn("Item 8: take lamp", self.texts("#more")[0])
@@ -209,7 +248,9 @@ class Viewer(unittest.TestCase):
             self.browser.press("o")
         self.assertIn("Item 29: out lamp 0", self.texts("#more")[0])
         self.browser.press("z")
-        took = self.browser.value('(() => { const begun = performance.now(); page.select(20000); return performance.now() - begun; })()')
+        took = self.browser.value(
+            "(() => { const begun = performance.now(); page.select(20000); return performance.now() - begun; })()"
+        )
         self.browser.shoot("many-open")
         self.assertLess(took, 2000)
         self.assertLess(self.browser.value("document.getElementsByTagName('*').length"), 3000)
@@ -277,7 +318,9 @@ class Viewer(unittest.TestCase):
 
 class Page(unittest.TestCase):
     def test_the_page_is_what_its_parts_give(self):
-        ran = subprocess.run([sys.executable, TOP / "tools" / "viewer" / "join.py", "--check"], capture_output=True, text=True)
+        ran = subprocess.run(
+            [sys.executable, TOP / "tools" / "viewer" / "join.py", "--check"], capture_output=True, text=True
+        )
         self.assertEqual((ran.returncode, ran.stderr), (0, ""))
 
 

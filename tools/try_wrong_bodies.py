@@ -107,7 +107,9 @@ def try_all(edits, processors):
 def words():
     parser = argparse.ArgumentParser(description=__doc__, formatter_class=argparse.RawDescriptionHelpFormatter)
     parser.add_argument("names", nargs="*", metavar="NAME", help="CRATE or CRATE/EDIT")
-    parser.add_argument("--changed-since", metavar="REV", help="leave out crates without a change since this revision")
+    parser.add_argument(
+        "--changed-since", metavar="REV", help="leave out crates without a change since this revision"
+    )
     parser.add_argument("--jobs", type=int, metavar="N", help="how many processors rt may use")
     parser.add_argument("--list", action="store_true", help="say what would be tried")
     return parser.parse_args()

@@ -23,7 +23,9 @@ SLOT = '<script type="text/plain" id="data">'
 
 
 def run(program, command, text):
-    return subprocess.run([*shlex.split(program), command], input=text, stdout=subprocess.PIPE, stderr=subprocess.DEVNULL)
+    return subprocess.run(
+        [*shlex.split(program), command], input=text, stdout=subprocess.PIPE, stderr=subprocess.DEVNULL
+    )
 
 
 def without_lines(text):
@@ -56,7 +58,9 @@ def page_of(texts):
 def main():
     parser = argparse.ArgumentParser(description=__doc__, formatter_class=argparse.RawDescriptionHelpFormatter)
     parser.add_argument("input")
-    parser.add_argument("texts", nargs="*", metavar="OUTPUT", help="what `run` wrote, and perhaps what `explain` wrote")
+    parser.add_argument(
+        "texts", nargs="*", metavar="OUTPUT", help="what `run` wrote, and perhaps what `explain` wrote"
+    )
     parser.add_argument("--page", help="by default INPUT with the ending .html")
     parser.add_argument("--program", default=str(TOP / "sancus"))
     given = parser.parse_args()

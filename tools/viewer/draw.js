@@ -1,4 +1,5 @@
-// Draws the rows that are in sight: one lifeline for the deployer, the network, and each node's memory, modules and devices.
+// Draws the rows that are in sight: one lifeline for the deployer, the network, and each node's memory,
+// modules and devices.
 
 const HEIGHT = 22;
 const SVG = "http://www.w3.org/2000/svg";
@@ -41,7 +42,8 @@ class Columns {
     const from = this.width, wide = (name, least) => Math.max(least, 7.2 * name.length + 22);
     this.add(`memory ${node}`, "memory", 108);
     const devices = [...plan.devices.values()].filter(device => device.node === node);
-    const addDevice = device => this.add(`device ${device.name}`, device.name, wide(device.name, 62), device.kind);
+    const addDevice = device =>
+        this.add(`device ${device.name}`, device.name, wide(device.name, 62), device.kind);
     for (const module of plan.modules.values()) {
       if (module.node !== node) continue;
       this.add(`module ${module.name}`, module.name, wide(module.name, 108), "module");
@@ -75,21 +77,24 @@ class Picture {
   arrow(from, to, y, className, text, textClass = "") {
     if (!from || !to) return;
     const way = from.x < to.x ? 1 : -1;
-    if (from === to) this.into.append(svg("circle", {cx: from.x, cy: y, r: 3, class: "dot"}));
-    else this.into.append(svg("line", {x1: from.x + 5 * way, x2: to.x - 6 * way, y1: y, y2: y, class: `arrow ${className}`}));
+    if (from === to)
+      this.into.append(svg("circle", {cx: from.x, cy: y, r: 3, class: "dot"}));
+    else
+      this.into.append(
+          svg("line", {x1: from.x + 5 * way, x2: to.x - 6 * way, y1: y, y2: y, class: `arrow ${className}`}));
     if (!text) return;
     const fits = text.length * 6.4 + 26 < Math.abs(from.x - to.x);
-    if (fits) this.text((from.x + to.x) / 2, y, text, `middle over ${textClass}`);
-    else this.text(Math.max(from.x, to.x) + 9, y, text, textClass);
+    if (fits)
+      this.text((from.x + to.x) / 2, y, text, `middle over ${textClass}`);
+    else
+      this.text(Math.max(from.x, to.x) + 9, y, text, textClass);
   }
 
   square(column, y) {
     this.into.append(svg("rect", {x: column.x - 4.5, y: y - 4.5, width: 9, height: 9, class: "fill-out"}));
   }
 
-  circle(column, y) {
-    this.into.append(svg("circle", {cx: column.x, cy: y, r: 4.5, class: "fill-event"}));
-  }
+  circle(column, y) { this.into.append(svg("circle", {cx: column.x, cy: y, r: 4.5, class: "fill-event"})); }
 
   beside(column, y, text, className = "") {
     if (column) this.text(column.x + 9, y, text, className);
@@ -106,7 +111,14 @@ class Picture {
     protect([, node, name], y) {
       const column = this.module(name);
       if (name === "-" || !column) return this.beside(this.memory(node), y, "▣ another section", "bold");
-      this.into.append(svg("rect", {x: column.x - column.width / 2 + 8, y: y - 9, width: column.width - 16, height: 18, rx: 4, class: "protect"}));
+      this.into.append(svg("rect", {
+        x: column.x - column.width / 2 + 8,
+        y: y - 9,
+        width: column.width - 16,
+        height: 18,
+        rx: 4,
+        class: "protect"
+      }));
       this.text(column.x, y, `▣ ${name}`, "middle bold event");
     },
     reset([, node, cause], y, {row}) {
@@ -114,26 +126,36 @@ class Picture {
       let path = `M${box.from + 2} ${y}`;
       for (let x = box.from + 8, k = 0; x < box.to; x += 6, k++) path += `L${x} ${y + (k % 2 ? 5 : -5)}`;
       this.into.append(svg("path", {d: path, class: "zigzag"}));
-      this.text((box.from + box.to) / 2, y, `RESET: ${cause} · now boot ${row.boot}`, "middle bold over trouble");
+      this.text(
+          (box.from + box.to) / 2, y, `RESET: ${cause} · now boot ${row.boot}`, "middle bold over trouble");
     },
     ask([, module], y) { this.text(this.deployer.x, y, `asks ${module}`); },
     packet([, number, length], y, {line}) {
       const text = `#${number} · ${length} B`;
-      if (line.kind === "take") this.arrow(this.memory(line.words[1]), this.network, y, "", text);
-      else if (line.kind === "forge") this.text(this.network.x, y, `✎ ${text}`, "middle bold trouble");
-      else if (line.kind === "all") this.text(this.network.x, y, text);
-      else this.arrow(this.deployer, this.network, y, "", text);
+      if (line.kind === "take")
+        this.arrow(this.memory(line.words[1]), this.network, y, "", text);
+      else if (line.kind === "forge")
+        this.text(this.network.x, y, `✎ ${text}`, "middle bold trouble");
+      else if (line.kind === "all")
+        this.text(this.network.x, y, text);
+      else
+        this.arrow(this.deployer, this.network, y, "", text);
     },
     vouch([, module, challenge], y) { this.beside(this.module(module), y, `vouches ✓ ${challenge}`, "dim"); },
-    attested([, module, boot], y) { this.text(this.deployer.x, y, `✓ ${module}, boot ${boot}`, "middle bold event"); },
+    attested(
+        [, module, boot],
+        y) { this.text(this.deployer.x, y, `✓ ${module}, boot ${boot}`, "middle bold event"); },
     denied([, module], y) { this.text(this.deployer.x, y, `✗ denied ${module}`, "middle bold trouble"); },
     open([, module, connection, side, epoch], y) {
-      this.beside(this.module(module), y, `opens ${connection} ${side === "from" ? "→" : "←"}${epoch ? ` epoch ${epoch}` : ""}`, "key");
+      this.beside(
+          this.module(module), y,
+          `opens ${connection} ${side === "from" ? "→" : "←"}${epoch ? ` epoch ${epoch}` : ""}`, "key");
     },
     take([, module, connection, number, value], y) {
       const epoch = Math.floor(number / 65536);
-      this.arrow(this.memory(this.plan.nodeOf(module)), this.module(module), y, "event",
-        `${connection} ${epoch ? `${epoch}:` : ""}${number % 65536} = ${value}`, "event");
+      this.arrow(
+          this.memory(this.plan.nodeOf(module)), this.module(module), y, "event",
+          `${connection} ${epoch ? `${epoch}:` : ""}${number % 65536} = ${value}`, "event");
     },
     sense([, device, value], y) {
       this.circle(this.device(device), y);
@@ -141,12 +163,16 @@ class Picture {
     },
     read([, module, value], y) {
       const device = this.deviceOf(module);
-      if (device) this.arrow(device, this.module(module), y, "event", value, "event");
-      else this.beside(this.module(module), y, `reads ${value}`, "event");
+      if (device)
+        this.arrow(device, this.module(module), y, "event", value, "event");
+      else
+        this.beside(this.module(module), y, `reads ${value}`, "event");
     },
     drain([, device], y, {isTrouble}) {
       const text = isTrouble ? "drained by other code" : "";
-      this.arrow(this.device(device), this.memory(this.plan.devices.get(device).node), y, isTrouble ? "wild" : "", text, "trouble");
+      this.arrow(
+          this.device(device), this.memory(this.plan.devices.get(device).node), y, isTrouble ? "wild" : "",
+          text, "trouble");
     },
     out([, module, value], y) {
       const device = this.deviceOf(module);
@@ -156,12 +182,18 @@ class Picture {
       this.beside(device, y, value, "bold out");
     },
     raw([, device, value], y, {isTrouble}) {
-      this.arrow(this.memory(this.plan.devices.get(device).node), this.device(device), y, isTrouble ? "wild" : "", isTrouble ? "raw" : "", "trouble");
+      this.arrow(
+          this.memory(this.plan.devices.get(device).node), this.device(device), y, isTrouble ? "wild" : "",
+          isTrouble ? "raw" : "", "trouble");
       this.beside(this.device(device), y, value, isTrouble ? "bold trouble" : "bold");
     },
     done([, module, status, pieces], y, {isTrouble}) {
-      const text = isTrouble ? `✗ ${status}: ${STATUSES[status]?.[0] ?? "?"}` : pieces === "0" ? "" : `${pieces} piece${pieces === "1" ? "" : "s"}`;
-      this.arrow(this.module(module), this.memory(this.plan.nodeOf(module)), y, "back", text, isTrouble ? "bold trouble" : "dim");
+      const text = isTrouble ? `✗ ${status}: ${STATUSES[status]?.[0] ?? "?"}` :
+          pieces === "0" ? "" :
+                           `${pieces} piece${pieces === "1" ? "" : "s"}`;
+      this.arrow(
+          this.module(module), this.memory(this.plan.nodeOf(module)), y, "back", text,
+          isTrouble ? "bold trouble" : "dim");
     },
     forged([, who], y) {
       this.into.append(svg("rect", {x: 0, y: y - 10, width: this.columns.width, height: 20, class: "band"}));
@@ -171,11 +203,13 @@ class Picture {
     },
     busy([, node], y) { this.beside(this.memory(node), y, "✗ refused: a module runs", "trouble"); },
     skip([, node], y) { this.beside(this.memory(node), y, "✗ refused: skip", "trouble"); },
-    budget([, node], y) { this.beside(this.memory(node), y, "✗ still runs after 1,000,000 steps", "trouble"); },
+    budget(
+        [, node], y) { this.beside(this.memory(node), y, "✗ still runs after 1,000,000 steps", "trouble"); },
   };
 
   octagon(x, y) {
-    this.into.append(svg("path", {d: `M${x - 2.5} ${y - 6}h5l3.5 3.5v5l-3.5 3.5h-5l-3.5 -3.5v-5z`, class: "fill-forged"}));
+    this.into.append(
+        svg("path", {d: `M${x - 2.5} ${y - 6}h5l3.5 3.5v5l-3.5 3.5h-5l-3.5 -3.5v-5z`, class: "fill-forged"}));
   }
 
   // --- lines of the schedule ---
@@ -191,7 +225,10 @@ class Picture {
     const memory = this.memory(words[1]);
     switch (kind) {
       case "give": return this.arrow(this.network, this.memory(words[2]), y, "", `#${numberOf(words[1])}`);
-      case "call": return this.arrow(this.memory(this.plan.nodeOf(words[1])), this.module(words[1]), y, "", ENTRIES[numberOf(words[2])] ?? `entry ${words[2]}`);
+      case "call":
+        return this.arrow(
+            this.memory(this.plan.nodeOf(words[1])), this.module(words[1]), y, "",
+            ENTRIES[numberOf(words[2])] ?? `entry ${words[2]}`);
       case "answer": return this.arrow(this.network, this.deployer, y, "", `#${numberOf(words[3])}`);
       case "load": return mark(this.module(words[1]), "load", "trouble");
       case "put": return mark(memory, `put ${words[2]} (${(words[3] ?? "").length / 2} B)`);
@@ -209,16 +246,22 @@ class Picture {
     for (const {item} of row.group.rows) {
       if (!item) continue;
       const words = item.words;
-      if (item.kind === "sense") senses === 1 ? this.item({item}, y) : this.circle(this.device(words[1]), y);
+      if (item.kind === "sense")
+        senses === 1 ? this.item({item}, y) : this.circle(this.device(words[1]), y);
       else if (item.kind === "out") {
         const column = this.deviceOf(words[1]) ?? this.module(words[1]);
         this.square(column, y);
         if (row.group.outs.length === 1) this.beside(column, y, words[2], "bold out");
-      } else if (item.kind === "attested") this.text(this.deployer.x, y, "✓", "middle bold event");
-      else if (item.kind === "denied") this.text(this.deployer.x, y, "✗", "middle bold trouble");
-      else if (item.kind === "reset") this.text(this.memory(words[1]).x, y, "RESET", "middle bold trouble");
-      else if (item.kind === "done" && words[2] !== "1") this.text(this.module(words[1]).x, y, `✗${words[2]}`, "middle bold trouble");
-      else if (item.kind === "forged") Picture.ITEMS.forged.call(this, words, y);
+      } else if (item.kind === "attested")
+        this.text(this.deployer.x, y, "✓", "middle bold event");
+      else if (item.kind === "denied")
+        this.text(this.deployer.x, y, "✗", "middle bold trouble");
+      else if (item.kind === "reset")
+        this.text(this.memory(words[1]).x, y, "RESET", "middle bold trouble");
+      else if (item.kind === "done" && words[2] !== "1")
+        this.text(this.module(words[1]).x, y, `✗${words[2]}`, "middle bold trouble");
+      else if (item.kind === "forged")
+        Picture.ITEMS.forged.call(this, words, y);
     }
   }
 
@@ -227,24 +270,41 @@ class Picture {
   // Lifelines, sections and turns between two places; top is the first place that is drawn.
   back(from, to) {
     const y = place => (place - from) * HEIGHT, bottom = y(to);
-    for (const box of this.columns.boxes) this.into.append(svg("rect", {x: box.from, y: 0, width: box.to - box.from, height: bottom, class: "node"}));
-    for (const column of this.columns.list) this.into.append(svg("line", {x1: column.x, x2: column.x, y1: 0, y2: bottom, class: column.kind === "module" ? "life" : "line"}));
+    for (const box of this.columns.boxes)
+      this.into.append(
+          svg("rect", {x: box.from, y: 0, width: box.to - box.from, height: bottom, class: "node"}));
+    for (const column of this.columns.list)
+      this.into.append(svg("line", {
+        x1: column.x,
+        x2: column.x,
+        y1: 0,
+        y2: bottom,
+        class: column.kind === "module" ? "life" : "line"
+      }));
     const end = this.run.shown.length;
     const spans = (map, draw) => {
       for (const [name, list] of map) {
         const column = this.module(name);
         for (const span of column ? list : []) {
-          const first = this.run.rows[span.from].place + 0.5, last = span.to === null ? end : this.run.rows[span.to].place + 0.5;
+          const first = this.run.rows[span.from].place + 0.5,
+                last = span.to === null ? end : this.run.rows[span.to].place + 0.5;
           if (last > from && first < to) draw(column, Math.max(0, y(first)), Math.min(bottom, y(last)));
         }
       }
     };
-    spans(this.run.sections, (column, top, below) => this.into.append(svg("line", {x1: column.x, x2: column.x, y1: top, y2: below, class: "section"})));
-    spans(this.run.turns, (column, top, below) => this.into.append(svg("rect", {x: column.x - 4, y: top, width: 8, height: Math.max(2, below - top), class: "turn"})));
+    spans(
+        this.run.sections,
+        (column, top, below) => this.into.append(
+            svg("line", {x1: column.x, x2: column.x, y1: top, y2: below, class: "section"})));
+    spans(
+        this.run.turns,
+        (column, top, below) => this.into.append(svg(
+            "rect", {x: column.x - 4, y: top, width: 8, height: Math.max(2, below - top), class: "turn"})));
     const first = this.run.firstForged?.row;
     if (first && first.place + 1 < to) {
       const top = Math.max(0, y(first.place + 1));
-      this.into.append(svg("rect", {x: 0, y: top, width: this.columns.width, height: bottom - top, class: "beyond"}));
+      this.into.append(
+          svg("rect", {x: 0, y: top, width: this.columns.width, height: bottom - top, class: "beyond"}));
     }
   }
 
@@ -260,7 +320,8 @@ class Picture {
       const [x1, x2] = [this.anchor(cause).x, this.anchor(effect).x];
       const [y1, y2] = [cause, effect].map(item => (item.row.place - from + 0.5) * HEIGHT);
       const middle = (y1 + y2) / 2;
-      this.into.append(svg("path", {d: `M${x1} ${y1 + 6}C${x1} ${middle} ${x2} ${middle} ${x2} ${y2 - 7}`, class: "cause"}));
+      this.into.append(svg(
+          "path", {d: `M${x1} ${y1 + 6}C${x1} ${middle} ${x2} ${middle} ${x2} ${y2 - 7}`, class: "cause"}));
     }
   }
 

@@ -21,5 +21,7 @@ def joined():
 
 if __name__ == "__main__":
     if sys.argv[1:] == ["--check"]:
-        sys.exit(0 if PAGE.read_text() == joined() else f"{PAGE} isn't what its parts give: run {Path(__file__).name}")
+        sys.exit(
+            0 if PAGE.read_text() == joined() else f"{PAGE} isn't what its parts give: run {Path(__file__).name}"
+        )
     PAGE.write_text(joined())

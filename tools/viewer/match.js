@@ -1,6 +1,6 @@
-// Which items belong to which line of the schedule. The output doesn't say it: each kind of line has a small grammar of
-// items. A pass forward keeps every place where a line could begin, with its best score; a pass backward takes the best
-// way and tells where another one fits too.
+// Which items belong to which line of the schedule. The output doesn't say it: each kind of line has a small
+// grammar of items. A pass forward keeps every place where a line could begin, with its best score; a pass
+// backward takes the best way and tells where another one fits too.
 
 class Matcher {
   // More places than this aren't followed.
@@ -44,11 +44,12 @@ class Matcher {
     return count;
   }
 
-  // Where the items of steps on a node that begin here can end, with a score: fewer steps, and for a call the whole of it.
+  // Where the items of steps on a node that begin here can end, with a score: fewer steps, and for a call the
+  // whole of it.
   steps(node, from, most, isWhole) {
     const ends = isWhole ? [] : [[from, 0]];
     let steps = 0, room = 0, score = 0;
-    for (let at = from; at < this.items.length && this.isCode(this.items[at], node); ) {
+    for (let at = from; at < this.items.length && this.isCode(this.items[at], node);) {
       const {kind} = this.items[at++];
       if (kind === "forged") continue;
       // a step touches at most two words of devices before its event
@@ -75,7 +76,7 @@ class Matcher {
 
   isCode(item, node) {
     return this.plan.nodeOfItem(item) === node && !["sense", "busy", "skip"].includes(item.kind) &&
-      !(item.kind === "reset" && item.words[2] === "asked");
+        !(item.kind === "reset" && item.words[2] === "asked");
   }
 
   // One item of these, or none where the line shows nothing.
@@ -89,23 +90,32 @@ class Matcher {
     const one = fits => fits ? [[at + 1, 1]] : [];
     const node = this.plan.nodeOf(words[1]);
     switch (kind) {
-      case "put": case "asm": return this.refused(words[1], at, ["busy", "skip"], true);
+      case "put":
+      case "asm": return this.refused(words[1], at, ["busy", "skip"], true);
       case "set": return this.refused(words[1], at, ["busy"], true);
       case "give": return this.refused(words[2], at, ["busy", "skip"], numberOf(words[1]) < this.packets[at]);
       case "take": {
         const made = this.is(at, "packet") && Number(this.items[at].words[2]) === numberOf(words[3]);
         return [...one(made), ...this.refused(words[1], at, ["busy", "skip"], false)];
       }
-      case "forge": return one(this.is(at, "packet") && Number(this.items[at].words[2]) === words[1].length / 2);
-      case "sense": return one(this.is(at, "sense", words[1], numberOf(words[2])) || this.is(at, "busy", this.plan.devices.get(words[1])?.node));
+      case "forge":
+        return one(this.is(at, "packet") && Number(this.items[at].words[2]) === words[1].length / 2);
+      case "sense":
+        return one(
+            this.is(at, "sense", words[1], numberOf(words[2])) ||
+            this.is(at, "busy", this.plan.devices.get(words[1])?.node));
       case "reset": return one(this.is(at, "reset", words[1], "asked"));
       case "ask": return this.is(at, "ask", words[1]) && this.is(at + 1, "packet") ? [[at + 2, 1]] : [];
       case "answer": return this.answerEnds(words, at);
       case "load": return this.loadEnds(node, at);
-      case "irq": return [...this.refused(words[1], at, ["busy", "skip"], false), ...this.steps(words[1], at, 1, false)];
+      case "irq":
+        return [
+          ...this.refused(words[1], at, ["busy", "skip"], false), ...this.steps(words[1], at, 1, false)
+        ];
       case "run": return this.steps(words[1], at, numberOf(words[2]), false);
       case "finish": return this.steps(words[1], at, Infinity, true);
-      case "call": return [...this.refused(node, at, ["busy"], false), ...this.steps(node, at, Infinity, true)];
+      case "call":
+        return [...this.refused(node, at, ["busy"], false), ...this.steps(node, at, Infinity, true)];
     }
     return [[at, 0]];
   }
@@ -125,7 +135,8 @@ class Matcher {
   loadEnds(node, at) {
     const ends = [...this.refused(node, at, ["busy"], true)];
     if (this.is(at, "protect", node)) ends.push([at + 1, 2]);
-    for (let end = at + 1; this.is(end - 1, "skip", node); end++) ends.push(...this.steps(node, end, 1, false));
+    for (let end = at + 1; this.is(end - 1, "skip", node); end++)
+      ends.push(...this.steps(node, end, 1, false));
     return ends;
   }
 
@@ -140,17 +151,22 @@ class Matcher {
       if (this.last === null && next.size === 1 && next.has(this.items.length)) break;
     }
     if (!layers.at(-1).has(this.items.length)) {
-      return {error: this.isCut ? Matcher.TOO_MANY : `The output isn't this schedule's: it has ${this.items.length} items, ` +
-        `and the lines account for ${Math.max(...layers.at(-1).keys())}.`};
+      return {
+        error: this.isCut ? Matcher.TOO_MANY :
+                            `The output isn't this schedule's: it has ${this.items.length} items, ` +
+                `and the lines account for ${Math.max(...layers.at(-1).keys())}.`
+      };
     }
     return {unsure: this.takeBest(layers)};
   }
 
-  static TOO_MANY = "The items fit these lines in more ways than are tried; a marked run (tools/view.py) tells.";
+  static TOO_MANY =
+      "The items fit these lines in more ways than are tried; a marked run (tools/view.py) tells.";
 
   misfit(line, at) {
     if (this.isCut) return Matcher.TOO_MANY;
-    const item = this.items[at] ? `item ${at + 1}, "${this.items[at].text}"` : "an item, since there are no more";
+    const item =
+        this.items[at] ? `item ${at + 1}, "${this.items[at].text}"` : "an item, since there are no more";
     return `The output isn't this schedule's: line ${line.number}, "${line.text}", can't have given ${item}.`;
   }
 

@@ -31,7 +31,8 @@ class Page {
     this.at = 0;
     byId("drop").hidden = true;
     byId("main").hidden = byId("more").hidden = false;
-    byId("notes").replaceChildren(...this.run.notes.map(({text, isBad}) => html("div", isBad ? "bad" : "", text)));
+    byId("notes").replaceChildren(
+        ...this.run.notes.map(({text, isBad}) => html("div", isBad ? "bad" : "", text)));
     byId("heads").replaceChildren(html("div", "corner", "schedule and items"), this.picture.heads());
     if (this.texts.name) byId("title").textContent = document.title = this.texts.name;
     this.tellCounts();
@@ -40,9 +41,11 @@ class Page {
   }
 
   tellCounts() {
-    const items = this.run.output?.items ?? [], count = kind => items.filter(item => item.kind === kind).length;
+    const items = this.run.output?.items ?? [],
+          count = kind => items.filter(item => item.kind === kind).length;
     const forged = count("forged");
-    byId("about").textContent = `${items.length} items · ${count("out")} out · ${count("reset")} reset${forged ? ` · ${forged} FORGED` : ""}`;
+    byId("about").textContent = `${items.length} items · ${count("out")} out · ${count("reset")} reset${
+        forged ? ` · ${forged} FORGED` : ""}`;
     byId("about").className = forged ? "forged" : "";
   }
 
@@ -62,7 +65,8 @@ class Page {
     const scroll = byId("scroll"), shown = this.run.shown;
     const from = Math.max(0, Math.floor(scroll.scrollTop / HEIGHT) - MARGIN);
     const to = Math.min(shown.length, Math.ceil((scroll.scrollTop + scroll.clientHeight) / HEIGHT) + MARGIN);
-    const drawing = svg("svg", {width: this.picture.columns.width, height: (to - from) * HEIGHT, class: "drawing"});
+    const drawing =
+        svg("svg", {width: this.picture.columns.width, height: (to - from) * HEIGHT, class: "drawing"});
     drawing.style.top = `${from * HEIGHT}px`;
     drawing.append(byId("marks").content.cloneNode(true));
     this.picture.into = drawing;
@@ -71,9 +75,12 @@ class Page {
     for (let place = from; place < to; place++) {
       const row = shown[place], y = (place - from + 0.5) * HEIGHT;
       cells.push(this.rowCell(row, place, inChain));
-      if (row.kind === "group") this.picture.folded(row, y);
-      else if (row.kind === "act") this.picture.act(row, y);
-      else if (row.kind === "item") this.picture.item(row, y);
+      if (row.kind === "group")
+        this.picture.folded(row, y);
+      else if (row.kind === "act")
+        this.picture.act(row, y);
+      else if (row.kind === "item")
+        this.picture.item(row, y);
     }
     this.picture.chain(chain, from);
     byId("space").replaceChildren(drawing, ...cells);
@@ -95,9 +102,17 @@ class Page {
     const fold = html("span", "fold", isFirst && group.rows.length > 1 ? (group.isFolded ? "▸" : "▾") : "");
     if (isFirst) fold.onclick = () => this.fold(group);
     cell.append(fold, ...this.rowText(row));
-    const classes = {selected: place === this.at, after: row.isAfter, chain: inChain.has(row), hit: this.hits.has(row), fault: row.fault};
-    classes.forged = row.item?.kind === "forged" || row.kind === "group" && group.troubles.some(item => item.kind === "forged");
-    for (const name in classes) if (classes[name]) made.classList.add(name);
+    const classes = {
+      selected: place === this.at,
+      after: row.isAfter,
+      chain: inChain.has(row),
+      hit: this.hits.has(row),
+      fault: row.fault
+    };
+    classes.forged = row.item?.kind === "forged" ||
+        row.kind === "group" && group.troubles.some(item => item.kind === "forged");
+    for (const name in classes)
+      if (classes[name]) made.classList.add(name);
     made.append(cell);
     return made;
   }
@@ -107,22 +122,29 @@ class Page {
     if (row.kind === "group") return this.groupText(row.group);
     const parts = [];
     if (row.kind === "act") {
-      parts.push(html("span", "number", `${row.line.isUnsure ? "≈" : ""}${row.line.number ?? ""}`), html("span", "text", row.line.text.trim()));
+      parts.push(
+          html("span", "number", `${row.line.isUnsure ? "≈" : ""}${row.line.number ?? ""}`),
+          html("span", "text", row.line.text.trim()));
       if (row.fault) parts.push(html("span", "text trouble", `  ${row.fault}`));
     }
     if (row.item) {
       const isTrouble = this.run.plan.isTrouble(row.item);
-      parts.push(html("span", "item-number", String(row.item.number)), html("span", `text ${isTrouble ? "trouble" : `is-${row.item.kind}`}`, row.item.text));
+      parts.push(
+          html("span", "item-number", String(row.item.number)),
+          html("span", `text ${isTrouble ? "trouble" : `is-${row.item.kind}`}`, row.item.text));
     }
     return parts;
   }
 
   groupText(group) {
-    const outs = group.outs.length > 3 ? `${group.outs.length} outs` : group.outs.map(item => item.text.slice(4)).join(", ");
-    const parts = [html("span", "number", String(group.rows[0].line?.number ?? "")), html("span", "text", group.title)];
+    const outs = group.outs.length > 3 ? `${group.outs.length} outs` :
+                                         group.outs.map(item => item.text.slice(4)).join(", ");
+    const parts =
+        [html("span", "number", String(group.rows[0].line?.number ?? "")), html("span", "text", group.title)];
     parts.push(html("span", "text dim", outs ? `  ⇒ ${outs}` : `  (${group.items} items)`));
     const troubles = group.troubles.length;
-    if (troubles) parts.push(html("span", "text trouble", `  ✗ ${troubles > 1 ? troubles : group.troubles[0].text}`));
+    if (troubles)
+      parts.push(html("span", "text trouble", `  ✗ ${troubles > 1 ? troubles : group.troubles[0].text}`));
     return parts;
   }
 
@@ -131,11 +153,14 @@ class Page {
     const strip = byId("strip"), marks = [];
     strip.setAttribute("viewBox", `0 0 18 ${Math.max(1, this.run.shown.length)}`);
     const height = Math.max(1, this.run.shown.length / 300);
-    const add = (row, x, width, className) => marks.push(svg("rect", {x, y: row.place, width, height, class: className}));
+    const add = (row, x, width, className) =>
+        marks.push(svg("rect", {x, y: row.place, width, height, class: className}));
     const items = this.run.output?.items ?? [];
-    const rows = kind => new Map(items.filter(kind).map(item => [Math.round(item.row.place / height), item.row])).values();
+    const rows = kind =>
+        new Map(items.filter(kind).map(item => [Math.round(item.row.place / height), item.row])).values();
     for (const row of rows(item => item.kind === "out")) add(row, 2, 5, "fill-out");
-    for (const row of rows(item => this.run.plan.isTrouble(item) && item.kind !== "forged")) add(row, 8, 5, "fill-trouble");
+    for (const row of rows(item => this.run.plan.isTrouble(item) && item.kind !== "forged"))
+      add(row, 8, 5, "fill-trouble");
     for (const row of rows(item => item.kind === "forged")) add(row, 0, 18, "fill-forged");
     strip.replaceChildren(...marks);
   }
@@ -147,22 +172,35 @@ class Page {
     more.replaceChildren();
     if (!row) return;
     const say = (...parts) => more.appendChild(html("div")).append(...parts);
-    if (row.kind === "group") say(html("code", "", row.group.title), `: ${row.group.rows.length} rows, ${row.group.items} items. Enter unfolds.`);
+    if (row.kind === "group")
+      say(html("code", "", row.group.title),
+          `: ${row.group.rows.length} rows, ${row.group.items} items. Enter unfolds.`);
     if (row.kind === "note") say(row.text);
     if (row.kind === "act" || row.kind === "item") this.tellLine(row, say);
     const packet = row.line ? this.run.packetOf(row) : null, acts = this.run.packets.get(packet) ?? [];
-    if (acts.length) say(`Packet #${packet}: `, ...acts.flatMap(it => [this.link(`${it.what} at line ${it.row.line.number ?? "?"}`, it.row), " "]));
+    if (acts.length)
+      say(`Packet #${packet}: `,
+          ...acts.flatMap(it => [this.link(`${it.what} at line ${it.row.line.number ?? "?"}`, it.row), " "]));
     const chain = this.chainHere();
-    if (chain.length > 1) say("Because: ", ...chain.flatMap((item, k) => [k ? " ← " : "", this.link(`${item.number} ${item.text}`, item.row)]));
-    else if (row.item?.kind === "out" && !this.run.causes) say("The causes of an out are shown where what `explain` wrote is opened too.");
+    if (chain.length > 1)
+      say("Because: ",
+          ...chain.flatMap(
+              (item, k) => [k ? " ← " : "", this.link(`${item.number} ${item.text}`, item.row)]));
+    else if (row.item?.kind === "out" && !this.run.causes)
+      say("The causes of an out are shown where what `explain` wrote is opened too.");
     if (row.isAfter) say("This stands behind the first `forged`: nothing is promised of it.");
   }
 
   tellLine(row, say) {
-    if (row.line.number) say(`Line ${row.line.number}: `, html("code", "", row.line.text.trim()), row.line.isUnsure ? "  ≈ the items fit the lines in more than one way" : "");
+    if (row.line.number)
+      say(`Line ${row.line.number}: `, html("code", "", row.line.text.trim()),
+          row.line.isUnsure ? "  ≈ the items fit the lines in more than one way" : "");
     if (row.fault) say(row.fault);
-    if (row.item) say(`Item ${row.item.number}: `, html("code", "", row.item.text), `  ${sayItem(row.item, this.run.plan)}`);
-    else if (!row.line.items.length) say("It gave no items.");
+    if (row.item)
+      say(`Item ${row.item.number}: `, html("code", "", row.item.text),
+          `  ${sayItem(row.item, this.run.plan)}`);
+    else if (!row.line.items.length)
+      say("It gave no items.");
   }
 
   link(text, row) {
@@ -179,7 +217,8 @@ class Page {
     this.at = Math.max(0, Math.min(this.run.shown.length - 1, place));
     const scroll = byId("scroll"), heads = byId("heads").offsetHeight, y = this.at * HEIGHT;
     if (y < scroll.scrollTop) scroll.scrollTop = y;
-    if (y > scroll.scrollTop + scroll.clientHeight - heads - 2 * HEIGHT) scroll.scrollTop = y - scroll.clientHeight + heads + 2 * HEIGHT;
+    if (y > scroll.scrollTop + scroll.clientHeight - heads - 2 * HEIGHT)
+      scroll.scrollTop = y - scroll.clientHeight + heads + 2 * HEIGHT;
     this.aside(this.run.shown[this.at]);
     this.paint();
   }
@@ -189,8 +228,10 @@ class Page {
     if (!row?.item) return;
     const scroll = byId("scroll"), {x} = this.picture.anchor(row.item);
     const room = scroll.clientWidth - document.querySelector(".corner").offsetWidth;
-    if (x + 130 > scroll.scrollLeft + room) scroll.scrollLeft = x + 130 - room;
-    else if (x - 110 < scroll.scrollLeft) scroll.scrollLeft = Math.max(0, x - 110);
+    if (x + 130 > scroll.scrollLeft + room)
+      scroll.scrollLeft = x + 130 - room;
+    else if (x - 110 < scroll.scrollLeft)
+      scroll.scrollLeft = Math.max(0, x - 110);
   }
 
   go(row) {
@@ -199,14 +240,16 @@ class Page {
       this.layOut();
     }
     const scroll = byId("scroll"), y = row.place * HEIGHT;
-    if (y < scroll.scrollTop || y > scroll.scrollTop + scroll.clientHeight - 120) scroll.scrollTop = y - scroll.clientHeight / 3;
+    if (y < scroll.scrollTop || y > scroll.scrollTop + scroll.clientHeight - 120)
+      scroll.scrollTop = y - scroll.clientHeight / 3;
     this.select(row.place);
   }
 
   hunt(way, wanted) {
     const rows = this.run.rows, here = this.run.shown[this.at];
     const start = here.kind === "group" && way > 0 ? here.index - 1 : here.index;
-    for (let k = start + way; k >= 0 && k < rows.length; k += way) if (wanted(rows[k])) return this.go(rows[k]);
+    for (let k = start + way; k >= 0 && k < rows.length; k += way)
+      if (wanted(rows[k])) return this.go(rows[k]);
   }
 
   fold(group, isFolded = !group.isFolded) {
@@ -229,14 +272,17 @@ class Page {
 
   find(text) {
     const inText = part => part?.includes(text);
-    const isHit = row => row.kind === "note" ? inText(row.text) : row.kind === "act" && inText(row.line.text) || inText(row.item?.text);
+    const isHit = row => row.kind === "note" ?
+        inText(row.text) :
+        row.kind === "act" && inText(row.line.text) || inText(row.item?.text);
     this.hits = new Set(text ? this.run.rows.filter(isHit) : []);
     byId("count").textContent = text ? `${this.hits.size} found` : "";
     this.paint();
   }
 
   nextOfPacket() {
-    const row = this.run.shown[this.at], acts = row.line ? this.run.packets.get(this.run.packetOf(row)) ?? [] : [];
+    const row = this.run.shown[this.at],
+          acts = row.line ? this.run.packets.get(this.run.packetOf(row)) ?? [] : [];
     const next = acts[(acts.findIndex(it => it.row === row) + 1) % acts.length];
     if (next) this.go(next.row);
   }
@@ -244,18 +290,32 @@ class Page {
   // --- keys, clicks and files ---
 
   keys() {
-    const page = () => Math.floor((byId("scroll").clientHeight - 60) / HEIGHT), move = by => this.select(this.at + by);
-    const isOut = row => row.item?.kind === "out", isTrouble = row => row.item && this.run.plan.isTrouble(row.item);
+    const page = () => Math.floor((byId("scroll").clientHeight - 60) / HEIGHT),
+          move = by => this.select(this.at + by);
+    const isOut = row => row.item?.kind === "out",
+          isTrouble = row => row.item && this.run.plan.isTrouble(row.item);
     const group = () => this.run.shown[this.at].group;
     return {
-      ArrowDown: () => move(1), ArrowUp: () => move(-1), PageDown: () => move(page()), PageUp: () => move(-page()),
-      Home: () => this.select(0), End: () => this.select(this.run.shown.length - 1),
-      ArrowLeft: () => this.fold(group(), true), ArrowRight: () => this.fold(group(), false), Enter: () => this.fold(group()),
-      z: () => this.foldAll(), p: () => this.nextOfPacket(),
-      o: () => this.hunt(1, isOut), O: () => this.hunt(-1, isOut), x: () => this.hunt(1, isTrouble), X: () => this.hunt(-1, isTrouble),
+      ArrowDown: () => move(1),
+      ArrowUp: () => move(-1),
+      PageDown: () => move(page()),
+      PageUp: () => move(-page()),
+      Home: () => this.select(0),
+      End: () => this.select(this.run.shown.length - 1),
+      ArrowLeft: () => this.fold(group(), true),
+      ArrowRight: () => this.fold(group(), false),
+      Enter: () => this.fold(group()),
+      z: () => this.foldAll(),
+      p: () => this.nextOfPacket(),
+      o: () => this.hunt(1, isOut),
+      O: () => this.hunt(-1, isOut),
+      x: () => this.hunt(1, isTrouble),
+      X: () => this.hunt(-1, isTrouble),
       c: () => this.chainHere()[1] && this.go(this.chainHere()[1].row),
-      n: () => this.hunt(1, row => this.hits.has(row)), N: () => this.hunt(-1, row => this.hits.has(row)),
-      "/": () => byId("find").focus(), "?": () => byId("keys").showModal(),
+      n: () => this.hunt(1, row => this.hits.has(row)),
+      N: () => this.hunt(-1, row => this.hits.has(row)),
+      "/": () => byId("find").focus(),
+      "?": () => byId("keys").showModal(),
     };
   }
 
@@ -276,7 +336,9 @@ class Page {
     addEventListener("resize", () => this.paint());
     byId("space").addEventListener("click", event => {
       if (event.target.closest(".fold, a") || String(getSelection())) return;
-      this.at = Math.min(this.run.shown.length - 1, Math.floor((event.clientY - byId("space").getBoundingClientRect().top) / HEIGHT));
+      this.at = Math.min(
+          this.run.shown.length - 1,
+          Math.floor((event.clientY - byId("space").getBoundingClientRect().top) / HEIGHT));
       this.paint();
     });
     byId("strip").addEventListener("click", event => {
@@ -310,16 +372,19 @@ class Page {
     });
     byId("save").onclick = () => this.save();
     byId("theme").onclick = () => {
-      const isDark = (document.documentElement.dataset.theme ?? (matchMedia("(prefers-color-scheme: dark)").matches ? "dark" : "")) === "dark";
+      const isDark = (document.documentElement.dataset.theme ??
+                      (matchMedia("(prefers-color-scheme: dark)").matches ? "dark" : "")) === "dark";
       document.documentElement.dataset.theme = isDark ? "light" : "dark";
     };
   }
 
   // Saves a page that holds its run: the texts in base64, so that no text can end the script element.
   save() {
-    const encode = text => btoa(Array.from(new TextEncoder().encode(text), byte => String.fromCharCode(byte)).join(""));
+    const encode = text =>
+        btoa(Array.from(new TextEncoder().encode(text), byte => String.fromCharCode(byte)).join(""));
     const held = Object.entries(this.texts).map(([name, text]) => `${name} ${encode(text)}`).join("\n");
-    const page = BARE_PAGE.replace(/(<script type="text\/plain" id="data">)[^<]*/, (_, begin) => begin + held);
+    const page =
+        BARE_PAGE.replace(/(<script type="text\/plain" id="data">)[^<]*/, (_, begin) => begin + held);
     const link = html("a");
     link.href = URL.createObjectURL(new Blob([page], {type: "text/html"}));
     link.download = "run.html";
@@ -327,7 +392,8 @@ class Page {
   }
 
   openHeld() {
-    const decode = text => new TextDecoder().decode(Uint8Array.from(atob(text), letter => letter.charCodeAt(0)));
+    const decode = text =>
+        new TextDecoder().decode(Uint8Array.from(atob(text), letter => letter.charCodeAt(0)));
     const held = byId("data").textContent.trim();
     if (!held) return;
     for (const line of held.split("\n")) {
@@ -340,8 +406,10 @@ class Page {
   // Follows the address: #item=7, #line=12, #fold and #dark, joined by &.
   followAddress() {
     for (const part of location.hash.slice(1).split("&")) {
-      const [name, value] = part.split("="), row = name === "item" ? this.run?.output?.items[value - 1]?.row :
-        name === "line" ? this.run?.rows.find(it => it.line?.number === Number(value)) : null;
+      const [name, value] = part.split("="),
+                   row = name === "item" ? this.run?.output?.items[value - 1]?.row :
+          name === "line"                ? this.run?.rows.find(it => it.line?.number === Number(value)) :
+                                           null;
       if (row) this.go(row);
       if (name === "fold" && this.run) this.foldAll();
       if (name === "dark") document.documentElement.dataset.theme = "dark";

@@ -41,9 +41,11 @@ class Plan {
   }
 
   addConnection({name, from, to}) {
-    const connection = {name, from: String(from).split(".")[0], to: String(to).split(".")[0], text: `${from} → ${to}`};
+    const connection =
+        {name, from: String(from).split(".")[0], to: String(to).split(".")[0], text: `${from} → ${to}`};
     this.connections.set(name, connection);
-    for (const end of [connection.from, connection.to]) if (this.modules.has(end)) this.modules.get(end).ends++;
+    for (const end of [connection.from, connection.to])
+      if (this.modules.has(end)) this.modules.get(end).ends++;
   }
 
   // Takes names from an item that no deployment gave.
@@ -53,26 +55,26 @@ class Plan {
       if (!this.nodes.length) this.addNode("?");
       return this.nodes[0];
     };
-    if (kind === "protect" && words[2] !== "-" && !this.modules.has(words[2])) this.addModule({name: words[2], node: words[1]});
-    if (["read", "out", "vouch", "open", "take", "done", "attested", "ask"].includes(kind) && !this.modules.has(words[1]))
+    if (kind === "protect" && words[2] !== "-" && !this.modules.has(words[2]))
+      this.addModule({name: words[2], node: words[1]});
+    if (["read", "out", "vouch", "open", "take", "done", "attested", "ask"].includes(kind) &&
+        !this.modules.has(words[1]))
       this.addModule({name: words[1], node: first()});
     if (["sense", "drain", "raw"].includes(kind) && !this.devices.has(words[1]))
       this.addDevice({name: words[1], node: first(), kind: kind === "raw" ? "actuator" : "sensor"});
   }
 
-  nodeOf(module) {
-    return this.modules.get(module)?.node;
-  }
+  nodeOf(module) { return this.modules.get(module)?.node; }
 
-  deviceOf(module) {
-    return [...this.devices.values()].find(device => device.driver === module);
-  }
+  deviceOf(module) { return [...this.devices.values()].find(device => device.driver === module); }
 
-  // The node on which code made the item, or which the item names; none for items of the deployer and the network.
+  // The node on which code made the item, or which the item names; none for items of the deployer and the
+  // network.
   nodeOfItem({kind, words}) {
     if (["protect", "budget", "reset", "busy", "skip"].includes(kind)) return words[1];
     if (["drain", "raw", "sense"].includes(kind)) return this.devices.get(words[1])?.node;
-    if (["vouch", "open", "take", "read", "out", "done", "forged"].includes(kind)) return this.nodeOf(words[1]);
+    if (["vouch", "open", "take", "read", "out", "done", "forged"].includes(kind))
+      return this.nodeOf(words[1]);
     return undefined;
   }
 

@@ -23,9 +23,7 @@ class Run {
     this.place();
   }
 
-  note(text, isBad) {
-    this.notes.push({text, isBad});
-  }
+  note(text, isBad) { this.notes.push({text, isBad}); }
 
   // The lines of the schedule, each with its items, or one line of all items where they can't be told apart.
   lines() {
@@ -41,30 +39,35 @@ class Run {
       this.note(`${error} The items are shown by themselves.`, true);
       return [this.wholeRun()];
     }
-    if (unsure) this.note(`The output doesn't say which line an item belongs to: ${unsure} of the lines fit in more than one ` +
-      "way, and the likeliest is shown (≈). A marked run, as tools/view.py makes it, is exact.", false);
+    if (unsure)
+      this.note(
+          `The output doesn't say which line an item belongs to: ${
+              unsure} of the lines fit in more than one ` +
+              "way, and the likeliest is shown (≈). A marked run, as tools/view.py makes it, is exact.",
+          false);
     return input.lines;
   }
 
-  wholeRun() {
-    return {number: null, text: "", words: [], kind: "all", items: this.output?.items ?? []};
-  }
+  wholeRun() { return {number: null, text: "", words: [], kind: "all", items: this.output?.items ?? []}; }
 
   // Gives lines of a marked run the numbers that they have in the input.
   numbered(lines) {
     const own = (this.input?.lines ?? []).filter(line => line.kind);
-    if (lines.every((line, k) => line.text.trim() === own[k]?.text.trim())) lines.forEach((line, k) => line.number = own[k].number);
+    if (lines.every((line, k) => line.text.trim() === own[k]?.text.trim()))
+      lines.forEach((line, k) => line.number = own[k].number);
     return lines;
   }
 
   say() {
     const {plan, output, causes} = this;
-    if (plan.error) this.note(`The deployment isn't read (${plan.error}): names are taken from the trace.`, true);
+    if (plan.error)
+      this.note(`The deployment isn't read (${plan.error}): names are taken from the trace.`, true);
     if (output && !output.last) this.note("The output has no last line: it is cut.", true);
     if (output?.last?.startsWith("fault")) this.note(output.last, true);
     if (output?.odd.length) this.note(`${output.odd.length} lines are no items: ${output.odd[0]}`, true);
     if (causes?.illegal) this.note(`explain: item ${causes.illegal} is illegal.`, true);
-    const others = [...causes?.because ?? []].some(([item, cause]) => item > (output?.items.length ?? 0) || cause >= item);
+    const others = [...causes?.because ?? []].some(
+        ([item, cause]) => item > (output?.items.length ?? 0) || cause >= item);
     if (others) this.note("The causes aren't those of this output.", true);
   }
 
@@ -85,8 +88,10 @@ class Run {
     let before = "";
     for (const line of lines) {
       if (this.fault && line.number > Number(this.fault[1])) break;
-      if (line.kind === "#") this.addNote(line, before);
-      else if (line.kind) this.addLine(line, before);
+      if (line.kind === "#")
+        this.addNote(line, before);
+      else if (line.kind)
+        this.addLine(line, before);
       before = line.kind;
     }
   }
@@ -105,12 +110,13 @@ class Run {
     if (kind === "load") this.group.title += ` ${words[1]}`;
     // an item that is all that the line does stands in the line's own row
     const isOne = ["take", "forge", "sense", "reset", "ask", "load"].includes(kind) && items.length > 0 &&
-      !["forged", "busy"].includes(items[0].kind);
+        !["forged", "busy"].includes(items[0].kind);
     const act = kind === "all" ? null : this.add({kind: "act", line, item: isOne ? items[0] : null});
     if (act && this.fault && line.number === Number(this.fault[1])) act.fault = this.output.last;
     if (kind === "give") this.keepPacket(numberOf(words[1]), act, "given");
     if (kind === "answer") this.keepPacket(numberOf(words[3]), act, "taken by the deployer");
-    items.forEach((item, k) => this.addItem(line, item, isOne && k === 0 ? act : this.add({kind: "item", line, item})));
+    items.forEach(
+        (item, k) => this.addItem(line, item, isOne && k === 0 ? act : this.add({kind: "item", line, item})));
   }
 
   addItem(line, item, row) {
@@ -155,7 +161,8 @@ class Run {
     };
     for (const {kind, line, item, index} of this.rows) {
       const called = this.rows[index + 1];
-      if (kind === "act" && line.kind === "call" && called?.line === line && called.item?.kind !== "busy") open(this.turns, line.words[1], index);
+      if (kind === "act" && line.kind === "call" && called?.line === line && called.item?.kind !== "busy")
+        open(this.turns, line.words[1], index);
       if (item?.kind === "protect" && item.words[2] !== "-") open(this.sections, item.words[2], index);
       if (item?.kind === "done") close(this.turns, item.words[1], index);
       if (item?.kind !== "reset") continue;
@@ -172,8 +179,11 @@ class Run {
     this.shown = [];
     for (const group of this.groups) {
       const first = this.shown.length;
-      if (group.isFolded) this.shown.push({kind: "group", group, index: group.rows[0].index, line: null, isAfter: group.rows[0].isAfter});
-      else this.shown.push(...group.rows);
+      if (group.isFolded)
+        this.shown.push(
+            {kind: "group", group, index: group.rows[0].index, line: null, isAfter: group.rows[0].isAfter});
+      else
+        this.shown.push(...group.rows);
       group.rows.forEach((row, k) => row.place = group.isFolded ? first : first + k);
       if (group.isFolded) this.shown.at(-1).place = first;
     }
@@ -182,7 +192,9 @@ class Run {
   // The row's item and its causes back to a `sense`, as `explain` has them.
   chain(row) {
     const items = [];
-    for (let item = row.item; item; item = this.output.items[(this.causes?.because.get(item.number) ?? 0) - 1]) items.push(item);
+    for (let item = row.item; item;
+         item = this.output.items[(this.causes?.because.get(item.number) ?? 0) - 1])
+      items.push(item);
     return items;
   }
 }

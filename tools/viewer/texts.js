@@ -1,7 +1,9 @@
 // The texts that the page opens: an input of the program, what `run` wrote, and what `explain` wrote.
 
-const ITEMS = new Set(("reset protect sense read drain ask attested denied vouch open take out raw done packet forged " +
-  "busy skip budget").split(" "));
+const ITEMS = new Set(
+    ("reset protect sense read drain ask attested denied vouch open take out raw done packet forged " +
+     "busy skip budget")
+        .split(" "));
 
 function splitLines(text) {
   const lines = text.split("\n");
@@ -19,7 +21,8 @@ function numberOf(word) {
 function sortText(text) {
   text = text.replace(/^\uFEFF/, "");
   const lines = splitLines(text), mark = lines.indexOf("%%");
-  if (/^(because|legal|illegal|forged) |^fault trace /.test(lines.find(line => line.trim()) ?? "")) return {causes: text};
+  if (/^(because|legal|illegal|forged) |^fault trace /.test(lines.find(line => line.trim()) ?? ""))
+    return {causes: text};
   if (mark < 0) return {output: text};
   if (!/^(image |trace$|> |fault )/.test(lines[mark + 1] ?? "")) return {input: text};
   return {head: lines.slice(0, mark).join("\n"), output: lines.slice(mark + 1).join("\n")};
@@ -28,12 +31,23 @@ function sortText(text) {
 // A line of a schedule; its kind is its first word, "#" for a comment, and empty for a blank line.
 function scheduleLine(text, number) {
   const words = wordsOf(text);
-  return {number, text, words, kind: words.length === 0 ? "" : words[0][0] === "#" ? "#" : words[0], items: []};
+  return {
+    number,
+    text,
+    words,
+    kind: words.length === 0 ? "" :
+        words[0][0] === "#"  ? "#" :
+                               words[0],
+    items: []
+  };
 }
 
 function readInput(text) {
   const lines = splitLines(text), mark = lines.indexOf("%%");
-  return {head: lines.slice(0, mark).join("\n"), lines: lines.slice(mark + 1).map((line, at) => scheduleLine(line, at + 1))};
+  return {
+    head: lines.slice(0, mark).join("\n"),
+    lines: lines.slice(mark + 1).map((line, at) => scheduleLine(line, at + 1))
+  };
 }
 
 // The items of a run. Where each line of the schedule stands before its items, as `> LINE`, lines has them.
@@ -42,16 +56,19 @@ function readOutput(text) {
   let line = null;
   for (const shown of splitLines(text)) {
     const words = shown.split(" ");
-    if (words[0] === "image") output.images.set(words[1], words[2] ?? "");
+    if (words[0] === "image")
+      output.images.set(words[1], words[2] ?? "");
     else if (words[0] === ">") {
       line = scheduleLine(shown.slice(2), (output.lines ??= []).length + 1);
       output.lines.push(line);
-    } else if (shown === "end" || words[0] === "fault") output.last = shown;
+    } else if (shown === "end" || words[0] === "fault")
+      output.last = shown;
     else if (ITEMS.has(words[0])) {
       const item = {number: output.items.length + 1, text: shown, words, kind: words[0]};
       output.items.push(item);
       line?.items.push(item);
-    } else if (shown !== "trace" && words[0] !== "steps") output.odd.push(shown);
+    } else if (shown !== "trace" && words[0] !== "steps")
+      output.odd.push(shown);
   }
   return output;
 }
@@ -61,8 +78,10 @@ function readCauses(text) {
   const causes = {because: new Map(), illegal: null, forged: null};
   for (const line of splitLines(text)) {
     const words = line.split(" ");
-    if (words[0] === "because") causes.because.set(Number(words[1]), Number(words[2]));
-    else if (words[0] in causes) causes[words[0]] = Number(words[1]);
+    if (words[0] === "because")
+      causes.because.set(Number(words[1]), Number(words[2]));
+    else if (words[0] in causes)
+      causes[words[0]] = Number(words[1]);
   }
   return causes;
 }

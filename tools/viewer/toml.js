@@ -7,9 +7,7 @@ class Toml {
     this.at = 0;
   }
 
-  static read(text) {
-    return new Toml(text).document();
-  }
+  static read(text) { return new Toml(text).document(); }
 
   fail(what) {
     const line = this.text.slice(0, this.at).split("\n").length;
@@ -24,9 +22,7 @@ class Toml {
     return found ? found[0] : null;
   }
 
-  skip(acrossLines) {
-    this.take(acrossLines ? /(?:[ \t\r\n]|#[^\n]*)*/y : /[ \t]*/y);
-  }
+  skip(acrossLines) { this.take(acrossLines ? /(?:[ \t\r\n]|#[^\n]*)*/y : /[ \t]*/y); }
 
   skips(token) {
     if (!this.text.startsWith(token, this.at)) return false;
@@ -42,9 +38,12 @@ class Toml {
     const root = {};
     let table = root;
     for (this.skip(true); this.at < this.text.length; this.skip(true)) {
-      if (this.skips("[[")) table = this.header(root, "]]");
-      else if (this.skips("[")) table = this.header(root, "]");
-      else this.pair(table);
+      if (this.skips("[["))
+        table = this.header(root, "]]");
+      else if (this.skips("["))
+        table = this.header(root, "]");
+      else
+        this.pair(table);
     }
     return root;
   }
@@ -53,8 +52,10 @@ class Toml {
     const keys = this.keys(), made = {};
     this.expect(closing);
     const holder = Toml.inner(root, keys.slice(0, -1)), last = keys.at(-1);
-    if (closing === "]]") (holder[last] ??= []).push(made);
-    else holder[last] = made;
+    if (closing === "]]")
+      (holder[last] ??= []).push(made);
+    else
+      holder[last] = made;
     return made;
   }
 
@@ -67,7 +68,9 @@ class Toml {
     const keys = [];
     do {
       this.skip(false);
-      keys.push(/["']/.test(this.text[this.at]) ? this.string() : this.take(/[A-Za-z0-9_-]+/y) ?? this.fail("no key"));
+      keys.push(
+          /["']/.test(this.text[this.at]) ? this.string() :
+                                            this.take(/[A-Za-z0-9_-]+/y) ?? this.fail("no key"));
       this.skip(false);
     } while (this.skips("."));
     return keys;
@@ -98,14 +101,17 @@ class Toml {
   }
 
   string() {
-    const quote = this.text[this.at], closing = this.text.startsWith(quote.repeat(3), this.at) ? quote.repeat(3) : quote;
+    const quote = this.text[this.at],
+          closing = this.text.startsWith(quote.repeat(3), this.at) ? quote.repeat(3) : quote;
     this.at += closing.length;
     if (closing.length === 3) this.take(/\r?\n/y);
     let text = "";
     while (!this.skips(closing)) {
       if (this.at >= this.text.length) this.fail("a string isn't closed");
-      if (quote === '"' && this.skips("\\")) text += this.escaped();
-      else text += this.text[this.at++];
+      if (quote === "\"" && this.skips("\\"))
+        text += this.escaped();
+      else
+        text += this.text[this.at++];
     }
     return text;
   }
@@ -113,7 +119,7 @@ class Toml {
   escaped() {
     if (this.take(/[ \t]*\r?\n\s*/y) !== null) return "";
     const letter = this.text[this.at++];
-    const plain = {b: "\b", t: "\t", n: "\n", f: "\f", r: "\r", e: "\x1b", '"': '"', "\\": "\\"};
+    const plain = {b: "\b", t: "\t", n: "\n", f: "\f", r: "\r", e: "\x1b", "\"": "\"", "\\": "\\"};
     if (letter in plain) return plain[letter];
     const digits = {x: 2, u: 4, U: 8}[letter] ?? this.fail("an unknown escape");
     this.at += digits;

@@ -13,7 +13,8 @@ const STATUSES = {
 };
 const CAUSES = {
   order: "a module was entered elsewhere than at its first word",
-  fetch: "a word of a private section was run, or further words of an instruction lie in a section that isn't its own",
+  fetch:
+      "a word of a private section was run, or further words of an instruction lie in a section that isn't its own",
   read: "another module's private section was read",
   write: "another module's private section, or a public section, was written",
   device: "a device's word was accessed in a way that it doesn't allow",
@@ -28,14 +29,23 @@ function sayItem({kind, words}, plan) {
   switch (kind) {
     case "done": return `status ${words[2]}: ${STATUSES[words[2]]?.[1] ?? "?"}; ${words[3]} pieces`;
     case "reset": return `${CAUSES[words[2]] ?? "?"}; memory and sections of node ${words[1]} are gone`;
-    case "take": return `event ${Number(words[3]) % 65536} of ${connection(words[2])}${epoch ? `, epoch ${epoch}` : ""}, value ${words[4]}`;
-    case "open": return `${words[1]} can ${words[3] === "from" ? "send on" : "take from"} ${connection(words[2])}`;
-    case "raw": case "drain": return plan.isTrouble({kind, words}) ? "not by the device's driver" : "the device has no driver: any code may use it";
-    case "forged": return "a tag was accepted that none of those whose key it is under had made; up to here the trace is a legal run";
-    case "skip": return "refused: it meets a section, a device or the end of memory, interrupts are disabled, or there is no such packet";
+    case "take":
+      return `event ${Number(words[3]) % 65536} of ${connection(words[2])}${
+          epoch ? `, epoch ${epoch}` : ""}, value ${words[4]}`;
+    case "open":
+      return `${words[1]} can ${words[3] === "from" ? "send on" : "take from"} ${connection(words[2])}`;
+    case "raw":
+    case "drain":
+      return plan.isTrouble({kind, words}) ? "not by the device's driver" :
+                                             "the device has no driver: any code may use it";
+    case "forged":
+      return "a tag was accepted that none of those whose key it is under had made; up to here the trace is a legal run";
+    case "skip":
+      return "refused: it meets a section, a device or the end of memory, interrupts are disabled, or there is no such packet";
     case "busy": return "refused, since a module runs";
     case "budget": return "1,000,000 steps were taken, and a module still runs";
-    case "protect": return words[2] === "-" ? "a section of other code" : "the deployed module's section stands";
+    case "protect":
+      return words[2] === "-" ? "a section of other code" : "the deployed module's section stands";
     case "vouch": return "the module made its answer to this challenge";
     case "attested": return `the deployer accepted the answer, for boot ${words[2]}`;
     case "denied": return "the deployer didn't accept the answer";
