@@ -1,0 +1,201 @@
+#!/usr/bin/env python3
+"""Runs what the documents show, and compares. Not a part of the gate.
+
+    tools/test_documents.py [--program FILE] [--jobs N] [DOCUMENT..]     README.md and docs/*.md, where none is named
+
+Each document is tried in a folder of its own, where the script, the examples and the tools stand as in the repository.
+The proved build is taken where it stands; without one each run of ./sancus takes a minute, and --program FILE takes this
+build of the program in place of the script. The words after the three backquotes say what a fenced block is:
+
+    console              a line `$ COMMAND` is run by bash; what it writes on standard output is the lines up to the
+                         next one. A line `...` stands for any number of lines, and a line that ends in `..` for any
+                         line that begins so
+    console needs=NAME   the same, where the command NAME is installed; it is passed over elsewhere
+    LANGUAGE file=NAME   the block is written to this file
+    LANGUAGE add=NAME    it is appended to this file
+    text beside=NAME     a line of this schedule, at least two spaces, and an item: both stand in this order in the schedule
+                         and in what its run writes; further words are a remark
+
+What else a block holds isn't looked at.
+"""
+
+import argparse
+import os
+import re
+import shutil
+import subprocess
+import sys
+import tempfile
+from concurrent.futures import ThreadPoolExecutor
+from pathlib import Path
+
+TOP = Path(__file__).resolve().parent.parent
+# The script's own status where it gets no answer from the program, and bash's where there is no such command.
+NO_ANSWER = (125, 126, 127)
+
+
+def blocks(text):
+    """The fenced blocks of a document: number of the first line, words after the backquotes, lines."""
+    found, start, info, lines = [], 0, "", []
+    for number, line in enumerate(text.splitlines(), 1):
+        if line.startswith("```") and not start:
+            start, info, lines = number, line[3:], []
+        elif line.startswith("```"):
+            found.append((start, info.split(), lines))
+            start = 0
+        elif start:
+            lines.append(line)
+    if start:
+        raise SystemExit(f"the block that begins at line {start} has no end")
+    return found
+
+
+def option(words, name):
+    """The value of a word `name=VALUE`, or none."""
+    return next((word.partition("=")[2] for word in words if word.startswith(name + "=")), None)
+
+
+def commands(lines):
+    """The commands of a console block, each with the lines that it must write."""
+    found = []
+    for line in lines:
+        if line.startswith("$ "):
+            found.append((line[2:], []))
+        elif found and found[-1][0].endswith("\\"):
+            found[-1] = (found[-1][0] + "\n" + line, [])
+        elif found:
+            found[-1][1].append(line)
+    return found
+
+
+def line_fits(wanted, line):
+    return line.startswith(wanted[:-2]) if wanted.endswith("..") else line == wanted
+
+
+def fits(wanted, lines):
+    """Whether these lines are those that are wanted, where `...` is any number of lines."""
+    if not wanted:
+        return not lines
+    if wanted[0] == "...":
+        return any(fits(wanted[1:], lines[start:]) for start in range(len(lines) + 1))
+    return bool(lines) and line_fits(wanted[0], lines[0]) and fits(wanted[1:], lines[1:])
+
+
+def bash(command, room):
+    return subprocess.run(["bash", "-c", command], cwd=room, capture_output=True, text=True, stdin=subprocess.DEVNULL)
+
+
+def try_command(command, wanted, room):
+    """What is wrong with a command, or none."""
+    ran = bash(command, room)
+    lines = ran.stdout.splitlines()
+    if ran.returncode in NO_ANSWER:
+        return f"status {ran.returncode}: {ran.stderr}"
+    if not fits(wanted, lines):
+        return "it writes\n    " + "\n    ".join(lines)
+    return None
+
+
+def stand_in_order(wanted, lines):
+    """The first of these that isn't found in the lines after the one before it, or none."""
+    at = 0
+    for one in wanted:
+        while at < len(lines) and lines[at] != one:
+            at += 1
+        if at == len(lines):
+            return one
+        at += 1
+    return None
+
+
+def try_beside(schedule, lines, room):
+    """What is wrong with a table of a schedule's lines and its items, or none."""
+    rows = [re.split(r" {2,}", line + "  ") for line in lines]
+    rows = [row for row in rows if row[:2] != ["...", "..."]]
+    said = (room / schedule).read_text().splitlines()
+    missing = stand_in_order([row[0] for row in rows if row[0]], said)
+    if missing:
+        return f"{schedule} has no line '{missing}' there"
+    ran = bash(f"./sancus run {schedule}", room)
+    missing = stand_in_order([row[1] for row in rows if row[1]], ran.stdout.splitlines())
+    return f"the run writes no item '{missing}' there" if missing else None
+
+
+def try_console(words, lines, room, say):
+    needed = option(words, "needs")
+    if needed and not shutil.which(needed):
+        say(f"passed over: {needed} isn't installed")
+        return 0
+    failed = 0
+    for command, wanted in commands(lines):
+        wrong = try_command(command, wanted, room)
+        say(f"FAILED: {command}\n  {wrong}" if wrong else f"ok: {command}")
+        failed += bool(wrong)
+    return failed
+
+
+def try_block(words, lines, room, say):
+    """Does what a block is for, and counts what failed."""
+    if words[:1] == ["console"]:
+        return try_console(words, lines, room, say)
+    for name, how in (("file", "w"), ("add", "a")):
+        file = option(words, name)
+        if file:
+            with open(room / file, how) as it:
+                it.write("\n".join(lines) + "\n")
+    schedule = option(words, "beside")
+    if not schedule:
+        return 0
+    wrong = try_beside(schedule, lines, room)
+    say(f"FAILED: {wrong}" if wrong else f"ok: beside {schedule}")
+    return bool(wrong)
+
+
+def make_room(room, program):
+    """A folder in which the document's commands find what they name."""
+    for name in ("examples", "tools", "docs", "bench", "crates", "crates.txt"):
+        (room / name).symlink_to(TOP / name)
+    script = room / "sancus"
+    if not program:
+        script.symlink_to(TOP / "sancus")
+        return
+    # The second of the words after `run` or `check` is the input's file.
+    script.write_text(
+        "#!/bin/bash\n"
+        'case "$1 $2" in "asm "*|"dis "*) file="$3"; set -- "$1" "$2" ;; *) file="$2"; [[ "$1" == gen ]] || set -- "$1" ;; esac\n'
+        f'[[ -z "$file" || "$file" == - || "$1" == gen ]] && exec {program} "$@"\n'
+        f'exec {program} "$@" <"$file"\n'
+    )
+    script.chmod(0o755)
+
+
+def try_document(document, program):
+    """What trying a document says, and how many of its commands failed."""
+    said = []
+    failed = 0
+    with tempfile.TemporaryDirectory() as folder:
+        room = Path(folder)
+        make_room(room, program)
+        for start, words, lines in blocks(document.read_text()):
+            failed += try_block(words, lines, room, lambda what: said.append(f"{document.name}:{start}: {what}"))
+    return said, failed
+
+
+def main():
+    words = argparse.ArgumentParser(description="Runs what the documents show, and compares.")
+    words.add_argument("--program", help="a build of the program, in place of ./sancus")
+    words.add_argument("--jobs", type=int, default=os.cpu_count())
+    words.add_argument("documents", nargs="*", type=Path)
+    given = words.parse_args()
+    program = given.program and Path(given.program).resolve()
+    documents = given.documents or [TOP / "README.md", *sorted((TOP / "docs").glob("*.md"))]
+    failed = 0
+    with ThreadPoolExecutor(given.jobs) as pool:
+        for said, wrong in pool.map(lambda it: try_document(it, program), documents):
+            print("\n".join(said), flush=True) if said else None
+            failed += wrong
+    print(f"{failed} failed")
+    sys.exit(failed > 0)
+
+
+main()
