@@ -13,8 +13,8 @@ build of the program in place of the script. The words after the three backquote
     console needs=NAME   the same, where the command NAME is installed; it is passed over elsewhere
     LANGUAGE file=NAME   the block is written to this file
     LANGUAGE add=NAME    it is appended to this file
-    text beside=NAME     a line of this schedule, at least two spaces, and an item: both stand in this order in the schedule
-                         and in what its run writes; further words are a remark
+    text beside=NAME     three columns, that begin where those of the first row do: a line of this schedule, an item of
+                         its run, a remark. Lines and items stand in this order in the schedule and in what is written
 
 What else a block holds isn't looked at.
 """
@@ -110,8 +110,9 @@ def stand_in_order(wanted, lines):
 
 def try_beside(schedule, lines, room):
     """What is wrong with a table of a schedule's lines and its items, or none."""
-    rows = [re.split(r" {2,}", line + "  ") for line in lines]
-    rows = [row for row in rows if row[:2] != ["...", "..."]]
+    second, third = (match.start() for match in list(re.finditer(r"(?<=  )[^ ]", lines[0]))[:2])
+    rows = [(line[:second].strip(), line[second:third].strip()) for line in lines]
+    rows = [row for row in rows if row != ("...", "...")]
     said = (room / schedule).read_text().splitlines()
     missing = stand_in_order([row[0] for row in rows if row[0]], said)
     if missing:
