@@ -154,7 +154,7 @@ def try_block(words, lines, room, say):
 
 def make_room(room, program):
     """A folder in which the document's commands find what they name."""
-    for name in ("examples", "tools", "docs", "bench", "crates", "crates.txt"):
+    for name in ("examples", "tools", "docs", "bench", "crates", "crates.txt", "wrong-bodies"):
         (room / name).symlink_to(TOP / name)
     script = room / "sancus"
     if not program:
