@@ -16,7 +16,7 @@ build of the program in place of the script. The words after the three backquote
     text beside=NAME     three columns, that begin where those of the first row do: a line of this schedule, an item of
                          its run, a remark. Lines and items stand in this order in the schedule and in what is written
 
-What else a block holds isn't looked at.
+What else a block holds isn't looked at. Each link to a file of the repository, or to a heading of one, must lead there.
 """
 
 import argparse
@@ -79,6 +79,30 @@ def fits(wanted, lines):
     if wanted[0] == "...":
         return any(fits(wanted[1:], lines[start:]) for start in range(len(lines) + 1))
     return bool(lines) and line_fits(wanted[0], lines[0]) and fits(wanted[1:], lines[1:])
+
+
+def anchors(text):
+    """The names that GitHub gives the headings, a number after one that stands before."""
+    found = []
+    for heading in re.findall(r"^#+ (.*)$", text, re.MULTILINE):
+        name = re.sub(r"[^\w\- ]", "", heading.lower()).replace(" ", "-")
+        before = sum(1 for other in found if re.fullmatch(re.escape(name) + r"(-\d+)?", other))
+        found.append(f"{name}-{before}" if before else name)
+    return found
+
+
+def bad_links(document):
+    """The links of a document that lead nowhere."""
+    text = re.sub(r"^```.*?^```", "", document.read_text(), flags=re.MULTILINE | re.DOTALL)
+    found = []
+    for link in re.findall(r"\]\(([^)]+)\)", text):
+        name, _, anchor = link.partition("#")
+        file = document.parent / name if name else document
+        if "://" in link:
+            continue
+        if not file.exists() or (anchor and anchor not in anchors(file.read_text())):
+            found.append(link)
+    return found
 
 
 def bash(command, room):
@@ -172,8 +196,8 @@ def make_room(room, program):
 
 def try_document(document, program):
     """What trying a document says, and how many of its commands failed."""
-    said = []
-    failed = 0
+    said = [f"{document.name}: FAILED: the link {link} leads nowhere" for link in bad_links(document)]
+    failed = len(said)
     with tempfile.TemporaryDirectory() as folder:
         room = Path(folder)
         make_room(room, program)
