@@ -154,7 +154,8 @@ def try_console(words, lines, room, say):
     failed = 0
     for command, wanted in commands(lines):
         wrong = try_command(command, wanted, room)
-        say(f"FAILED: {command}\n  {wrong}" if wrong else f"ok: {command}")
+        first = command.splitlines()[0]
+        say(f"FAILED: {command}\n  {wrong}" if wrong else f"ok: {first}")
         failed += bool(wrong)
     return failed
 
