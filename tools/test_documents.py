@@ -16,6 +16,8 @@ build of the program in place of the script. The words after the three backquote
     text beside=NAME     three columns, that begin where those of the first row do: a line of this schedule, an item of
                          its run, a remark. Lines and items stand in this order in the schedule and in what is written
 
+    LANGUAGE in=NAME     the block stands in this file, whatever the spaces
+
 What else a block holds isn't looked at. Each link to a file of the repository, or to a heading of one, must lead there.
 """
 
@@ -169,11 +171,14 @@ def try_block(words, lines, room, say):
         if file:
             with open(room / file, how) as it:
                 it.write("\n".join(lines) + "\n")
-    schedule = option(words, "beside")
-    if not schedule:
-        return 0
-    wrong = try_beside(schedule, lines, room)
-    say(f"FAILED: {wrong}" if wrong else f"ok: beside {schedule}")
+    file, schedule = option(words, "in"), option(words, "beside")
+    wrong = None
+    if file and " ".join(" ".join(lines).split()) not in " ".join((room / file).read_text().split()):
+        wrong = f"{file} has no such lines"
+    if schedule:
+        wrong = try_beside(schedule, lines, room)
+    if wrong or file or schedule:
+        say(f"FAILED: {wrong}" if wrong else f"ok: {words[-1]}")
     return bool(wrong)
 
 
