@@ -1,7 +1,7 @@
 #!/usr/bin/env python3
 """Runs what the documents show, and compares. Not a part of the gate.
 
-    tools/test_documents.py [--program FILE] [--jobs N] [DOCUMENT..]     README.md and docs/*.md, where none is named
+    tools/test_documents.py [--program FILE] [--jobs N] [FILE..]     the documents and the examples, where none is named
 
 Each document is tried in a folder of its own, where the script, the examples and the tools stand as in the repository.
 The proved build is taken where it stands; without one each run of ./sancus takes a minute, and --program FILE takes this
@@ -19,9 +19,12 @@ build of the program in place of the script. The words after the three backquote
     LANGUAGE in=NAME     the block stands in this file, whatever the spaces
 
 What else a block holds isn't looked at. Each link to a file of the repository, or to a heading of one, must lead there.
+
+Of an example the run must end well, and show each item that its first lines name between backquotes.
 """
 
 import argparse
+import itertools
 import os
 import re
 import shutil
@@ -34,6 +37,10 @@ from pathlib import Path
 TOP = Path(__file__).resolve().parent.parent
 # The script's own status where it gets no answer from the program, and bash's where there is no such command.
 NO_ANSWER = (125, 126, 127)
+# The first words of items.
+ITEMS = set(
+    "protect reset ask vouch attested denied open take sense read drain out raw done packet forged busy skip budget".split()
+)
 
 
 def blocks(text):
@@ -182,6 +189,23 @@ def try_block(words, lines, room, say):
     return bool(wrong)
 
 
+def named_items(text):
+    """The items that the first lines of an example name."""
+    lines = itertools.takewhile(lambda line: line.startswith("# "), text.splitlines())
+    names = re.findall(r"`([^`]+)`", " ".join(line[2:] for line in lines))
+    return [name for name in names if name.split()[0] in ITEMS]
+
+
+def try_example(file, room):
+    """What is wrong with an example, or none."""
+    ran = bash(f"./sancus run {file}", room)
+    lines = ran.stdout.splitlines()
+    if ran.returncode != 0:
+        return f"status {ran.returncode}: {lines[-1:]} {ran.stderr}"
+    missing = [name for name in named_items(file.read_text()) if not any(line.startswith(name) for line in lines)]
+    return f"no item {missing} is written" if missing else None
+
+
 def make_room(room, program):
     """A folder in which the document's commands find what they name."""
     for name in ("examples", "tools", "docs", "bench", "crates", "crates.txt", "wrong-bodies"):
@@ -202,11 +226,15 @@ def make_room(room, program):
 
 def try_document(document, program):
     """What trying a document says, and how many of its commands failed."""
-    said = [f"{document.name}: FAILED: the link {link} leads nowhere" for link in bad_links(document)]
+    links = bad_links(document) if document.suffix == ".md" else []
+    said = [f"{document.name}: FAILED: the link {link} leads nowhere" for link in links]
     failed = len(said)
     with tempfile.TemporaryDirectory() as folder:
         room = Path(folder)
         make_room(room, program)
+        if document.suffix == ".txt":
+            wrong = try_example(document.resolve(), room)
+            return [f"{document.name}: " + (f"FAILED: {wrong}" if wrong else "ok")], bool(wrong)
         for start, words, lines in blocks(document.read_text()):
             failed += try_block(words, lines, room, lambda what: said.append(f"{document.name}:{start}: {what}"))
     return said, failed
@@ -219,7 +247,8 @@ def main():
     words.add_argument("documents", nargs="*", type=Path)
     given = words.parse_args()
     program = given.program and Path(given.program).resolve()
-    documents = given.documents or [TOP / "README.md", *sorted((TOP / "docs").glob("*.md"))]
+    examples = [*sorted((TOP / "examples").glob("*.txt")), *sorted((TOP / "examples/attacks").glob("*.txt"))]
+    documents = given.documents or [TOP / "README.md", *sorted((TOP / "docs").glob("*.md")), *examples]
     failed = 0
     with ThreadPoolExecutor(given.jobs) as pool:
         for said, wrong in pool.map(lambda it: try_document(it, program), documents):
