@@ -155,6 +155,14 @@ def try_beside(schedule, lines, room):
     return f"the run writes no item '{missing}' there" if missing else None
 
 
+def try_quoted(file, lines):
+    """What is wrong with lines that a file is said to have, or none."""
+    if not file.exists():
+        return f"there is no {file.name}"
+    said = " ".join(file.read_text().split())
+    return None if " ".join(" ".join(lines).split()) in said else f"{file.name} has no such lines"
+
+
 def try_console(words, lines, room, say):
     needed = option(words, "needs")
     if needed and not shutil.which(needed):
@@ -179,9 +187,7 @@ def try_block(words, lines, room, say):
             with open(room / file, how) as it:
                 it.write("\n".join(lines) + "\n")
     file, schedule = option(words, "in"), option(words, "beside")
-    wrong = None
-    if file and " ".join(" ".join(lines).split()) not in " ".join((room / file).read_text().split()):
-        wrong = f"{file} has no such lines"
+    wrong = try_quoted(room / file, lines) if file else None
     if schedule:
         wrong = try_beside(schedule, lines, room)
     if wrong or file or schedule:
