@@ -6,8 +6,11 @@ ghost use Rattle.sx_io.specs.Reading.{newline, longest, IsPlain};
 ghost use Rattle.sx_io.specs.Streams.{SourceAt, NoReadFault, OneReadFault, OneEnd};
 ghost use Rattle.sx_io.specs.Next.{Next, TakesLine};
 ghost use Rattle.sx_io.specs.Parts.{Moves, TurnAnswers, TurnFaults, AskedInTurn};
+ghost use Rattle.sx_io.specs.Passing.{FrontOf, IsBegun, IsWithin, PassedHeld, PassedPart};
+ghost use Rattle.sx_io.specs.Passing.{PassedTurn, Passes, TakesPassed, as_read, as_turn};
+ghost use Rattle.sx_io.specs.Passing.{longest_passed};
 
-use crate::line_parts::{Part, move_chunk};
+use crate::line_parts::{Part, PassPart, Passed, move_chunk, pass_chunk};
 use crate::outside::Source;
 use std::marker::Model;
 
@@ -25,6 +28,34 @@ pub enum LineRead {
     TooLong,
     /// A read failed; the line that was begun isn't given.
     Failed,
+}
+
+/// The most bytes that a line has before its newline where it is passed.
+pub const LONGEST_PASSED: usize = 131_072;
+
+/// The answer to a call that passes the next line.
+#[derive(Clone, Copy, Debug, PartialEq, Eq)]
+pub enum PassRead {
+    /// A line's text has this many bytes.
+    Text(u32),
+    /// The end of the input.
+    End,
+    /// More than 131,072 bytes stand without a newline.
+    TooLong,
+    /// A read failed; the line that was begun isn't given.
+    Failed,
+}
+
+fn pass_read(answer: LineRead) -> PassRead
+    requires { IsWithin longest_passed answer }
+    ensures { as_read result ≡ answer }
+{
+    match answer {
+        LineRead::Text(count) => PassRead::Text(count as u32),
+        LineRead::End => PassRead::End,
+        LineRead::TooLong => PassRead::TooLong,
+        LineRead::Failed => PassRead::Failed,
+    }
 }
 
 /// What a reader of lines may still give: more lines, or only the last answer again.
@@ -45,6 +76,13 @@ pub enum ReaderState {
 enum Turn {
     Done(LineRead),
     More(usize),
+}
+
+/// What one turn makes of a line that is passed.
+#[derive(Clone, Copy)]
+enum PassTurn {
+    Done(LineRead),
+    More(Passed),
 }
 
 /// How a read went: bytes are held, or the input is at its end, or the read failed.
@@ -249,6 +287,125 @@ impl Lines {
         ensures room { length into.new ≡ length into.old }
     {
         let (part, used) = move_chunk(into, filled, &self.held[self.from..self.to]);
+        self.from += used;
+        part
+    }
+
+    /// Passes the next line: its length, and its first bytes in `front`. It answers what `next`
+    /// would, had a line 131,072 bytes of room.
+    pub fn pass<S: Source>(&mut self, source: &mut S, front: &mut [u8; 8]) -> PassRead
+        ensures passes { Passes S.tells (S.at source.old) (S.at source.new) self.old self.new
+            front.new result }
+        ensures unread { Contains self.old.held newline → source.new ≡ source.old }
+        ensures untouched { (self.old.state ≡ ReaderState.Open → ⊥) → source.new ≡ source.old }
+    {
+        match self.state() {
+            ReaderState::Open => pass_read(self.pass_open(source, front)),
+            ReaderState::AtEnd => PassRead::End,
+            ReaderState::TooLong => PassRead::TooLong,
+            ReaderState::Failed => PassRead::Failed,
+        }
+    }
+
+    /// Passes the next line, where no last answer was given.
+    fn pass_open<S: Source>(&mut self, source: &mut S, front: &mut [u8]) -> LineRead
+        requires open { self.old.state ≡ ReaderState.Open }
+        requires room { length front.old ≡ 8 }
+        ensures takes { TakesPassed S.tells (S.at source.old) (S.at source.new) self.old self.new
+            front.new result }
+        ensures unread { Contains self.old.held newline → source.new ≡ source.old }
+        ensures within { IsWithin longest_passed result }
+    {
+        let mut passed = Passed {
+            count: 0,
+            ends_in_return: false,
+        };
+        'turns: loop {
+            match self.pass_turn(source, front, passed) {
+                PassTurn::Done(answer) => {
+                    let _ = &self.from;
+                    return answer;
+                }
+                PassTurn::More(more) => passed = more,
+            }
+        }
+    }
+
+    /// One turn: reads where nothing is held, and passes a part of the line.
+    fn pass_turn<S: Source>(&mut self, source: &mut S, front: &mut [u8], passed: Passed) -> PassTurn
+        requires open { self.old.state ≡ ReaderState.Open }
+        requires few { passed.count ≤ longest_passed }
+        requires room { length front.old ≡ 8 }
+        ensures turns { (begun : List ℕ) → IsBegun front.old passed begun
+            → PassedTurn longest_passed S.tells (S.at source.old) (S.at source.new) begun
+            self.old.held passed.count result self.new front.new }
+        ensures unread { 0 < length self.old.held → source.new ≡ source.old }
+        ensures end { self.new.state ≡ ReaderState.AtEnd → IsTrue S.tells
+            → OneEnd (S.at source.old) (S.at source.new) }
+        ensures no_end { (self.new.state ≡ ReaderState.AtEnd → ⊥) → IsTrue S.tells
+            → (S.at source.new).ends ≡ (S.at source.old).ends }
+        ensures asked { IsTrue S.tells → AskedInTurn self.old.held (S.at source.old)
+            (S.at source.new) }
+        ensures faults { TurnFaults (as_turn result) (S.at source.old) (S.at source.new) }
+        ensures held { length self.new.held ≤ longest }
+        ensures room { length front.new ≡ 8 }
+    {
+        if !self.is_empty() {
+            return self.pass_held(front, passed);
+        }
+        match self.fill(source) {
+            Filled::AtEnd => {
+                if passed.count == 0 {
+                    return PassTurn::Done(LineRead::End);
+                }
+                PassTurn::Done(LineRead::Text(passed.count))
+            }
+            Filled::Failed => PassTurn::Done(LineRead::Failed),
+            Filled::Some => self.pass_held(front, passed),
+        }
+    }
+
+    /// One turn over what is held.
+    fn pass_held(&mut self, front: &mut [u8], passed: Passed) -> PassTurn
+        requires open { self.old.state ≡ ReaderState.Open }
+        requires some { 0 < length self.old.held }
+        requires few { passed.count ≤ longest_passed }
+        requires room { length front.old ≡ 8 }
+        ensures turns { (begun : List ℕ) → IsBegun front.old passed begun
+            → PassedHeld longest_passed begun self.old.held passed.count result self.new
+            front.new }
+        ensures not_at_end { self.new.state ≡ ReaderState.AtEnd → ⊥ }
+        ensures faults { (s0 s1 : SourceAt) → NoReadFault s0 s1
+            → TurnFaults (as_turn result) s0 s1 }
+        ensures held { length self.new.held ≤ longest }
+        ensures room { length front.new ≡ 8 }
+    {
+        match self.pass_part(front, passed) {
+            PassPart::Whole(count) => PassTurn::Done(LineRead::Text(count)),
+            PassPart::More(more) => PassTurn::More(more),
+            PassPart::TooLong => {
+                self.set_too_long();
+                PassTurn::Done(LineRead::TooLong)
+            }
+        }
+    }
+
+    /// Passes what is held of the line after the bytes that have come of it.
+    fn pass_part(&mut self, front: &mut [u8], passed: Passed) -> PassPart
+        requires few { passed.count ≤ longest_passed }
+        requires room { length front.old ≡ 8 }
+        ensures passes { (begun : List ℕ) → IsBegun front.old passed begun
+            → PassedPart longest_passed begun self.old.held result front.new self.new.held }
+        ensures state { self.new.state ≡ self.old.state }
+        ensures few { (length self.old.held ≤ longest) × (length self.new.held ≤ longest) }
+        ensures room { length front.new ≡ 8 }
+    {
+        let (part, used) = pass_chunk(
+            front,
+            passed,
+            LONGEST_PASSED,
+            &self.held[self.from..self.to],
+        );
         self.from += used;
         part
     }
