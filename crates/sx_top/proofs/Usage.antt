@@ -1,47 +1,10 @@
--- What the program says is what its command says, and no command ends with the status for other words.
-use Rattle.std.proofs.Common.{◌≡◌, ◌+◌, ◌∙◌, ℕ, Bool, List, length, sym, subst, arith, Option, None, Result, Ok, Err}
+-- What the program says is what its command says.
+use Rattle.std.proofs.Common.{◌≡◌, ◌∙◌, ℕ, Bool, List, sym, subst, Option, None}
 use Rattle.sx_tag.specs.Mac.{Mac}
-use Rattle.sx_told.specs.Told.{CommandAt, Output}
-use Rattle.sx_told.proofs.Laws.{told-some}
-use Rattle.sx_told.proofs.Endings.{pick}
-use Rattle.sx_asm.specs.declared.error.AsmError.{AsmError}
-use Rattle.sx_asm.specs.declared.error.AsmError.TheVariants as error
-use Rattle.sx_top.specs.Assembling.{Input, code_at, told_code, asm_input, input, AsmTold}
-use Rattle.sx_top.specs.Assembling as asm
-use Rattle.sx_top.specs.Disassembling.{HexInput, Bytes, BadLine, dis_given, hex_input, is_listed, unlisted, DisTold}
-use Rattle.sx_top.specs.Disassembling as dis
-use Rattle.sx_top.specs.Listing.{listing}
-use Rattle.sx_top.specs.Output.{end_line}
+use Rattle.sx_told.specs.Told.{CommandAt}
 use Rattle.sx_top.specs.declared.words.Command.{Command}
 use Rattle.sx_top.specs.Commands.{command_of}
 use Rattle.sx_top.specs.Promises.{CommandTold, ProgramTold}
-use Rattle.std.specs.Prelude.{◌++◌}
-
-code_not_two : (at : ℕ) (r : Result (List ℕ) AsmError) → (told_code at r).status ≡ 2 → ⊥
-code_not_two at (Ok code) e = omega (arith, e)
-code_not_two at (Err (error.Fault rule number)) e = omega (arith, e)
-code_not_two at (Err error.OutOfMemory) e = omega (arith, e)
-
-text_not_two : (at : ℕ) (i : Input) → (asm_input at i).status ≡ 2 → ⊥
-text_not_two at (asm.Whole g) e = code_not_two at (code_at at g) e
-text_not_two at asm.Unread e = omega (arith, e)
-
-pub asm_not_two : {tells to_tell : Bool} {m0 m1 : CommandAt} {status : ℕ} (at : ℕ) → AsmTold at tells to_tell m0 m1 status → status ≡ 2 → ⊥
-asm_not_two at a two =
-    let w = told-some a.told in
-    text_not_two at (input w.0) (sym (w.1.0.whole (λ five. omega (arith, two, five)) (λ six. omega (arith, two, six))).0 ∙ two)
-
-bytes_not_two : (at : ℕ) (g : HexInput) → (dis_given at g).status ≡ 2 → ⊥
-bytes_not_two at (Bytes bytes) e =
-    pick (is_listed at (length bytes)) (record { text = listing at bytes ++ end_line; status = 0 }) unlisted
-    (λ (o : Output). o.status ≡ 2 → ⊥) (λ x. omega (arith, x)) (λ x. omega (arith, x)) e
-bytes_not_two at (BadLine number) e = omega (arith, e)
-bytes_not_two at dis.Unread e = omega (arith, e)
-
-pub dis_not_two : {tells to_tell : Bool} {m0 m1 : CommandAt} {status : ℕ} (at : ℕ) → DisTold at tells to_tell m0 m1 status → status ≡ 2 → ⊥
-dis_not_two at d two =
-    let w = told-some d.told in
-    bytes_not_two at (hex_input 1 w.0) (sym (w.1.0.whole (λ five. omega (arith, two, five)) (λ six. omega (arith, two, six))).0 ∙ two)
 
 pub program : {tells to_tell : Bool} {m0 m1 : CommandAt} {status : ℕ} (mac : Mac) (words : List (List ℕ)) (command : Option Command)
     → command_of words ≡ command → CommandTold mac command tells to_tell m0 m1 status → (status ≡ 2 → command ≡ None)

@@ -1,14 +1,10 @@
--- The commands that words name, and the inputs that the commands take to their end.
+-- The commands that words name.
 use Rattle.std.specs.Prelude.{ℕ, ◌≤◌, ◌==◌, if◌then◌else◌, List, [], ◌∷◌, codes, Option, Some, None}
-use Rattle.std.specs.Prelude.{option_map, Result, Ok, Err}
+use Rattle.std.specs.Prelude.{option_map}
 use Rattle.std.specs.Str.{bytes_eq}
 use Rattle.sx_io.specs.Numbers.{number_of}
-use Rattle.sx_stage.specs.declared.fault.DeployFault.{DeployFault}
-use Rattle.sx_head.specs.Head.{Head, Found, TooLong, NoMark, Unread}
-use Rattle.sx_deploy.specs.Deployment.{Deployed}
 use Rattle.sx_top.specs.declared.words.Command.{Command}
 use Rattle.sx_top.specs.declared.words.Command.TheVariants.{Run, Check, Gen, Asm, Dis}
-use Rattle.sx_top.specs.Check.{Meaning}
 
 -- the commands without a number
 abbrev pub plain_command : List ℕ → Option Command
@@ -53,15 +49,3 @@ CarriesFew (Some Check) = Unit {0}
 CarriesFew (Some (Gen n)) = n ≤ 8000
 CarriesFew (Some (Asm at)) = Unit {0}
 CarriesFew (Some (Dis at)) = Unit {0}
-
--- the text means a deployment
-abbrev pub IsAcceptedDeployment : Result Deployed DeployFault → Type 0
-IsAcceptedDeployment (Ok d) = Unit {0}
-IsAcceptedDeployment (Err f) = ⊥
-
--- a deployment that keeps the rules stands before a line `%%`
-abbrev pub IsGoodHead : Meaning → Head → Type 0
-IsGoodHead meaning (Found text more) = IsAcceptedDeployment (meaning text)
-IsGoodHead meaning TooLong = ⊥
-IsGoodHead meaning NoMark = ⊥
-IsGoodHead meaning Unread = ⊥

@@ -6,13 +6,12 @@ ghost use Rattle.sx_tag.specs.Mac.{hmac_sha256};
 ghost use Rattle.sx_top.specs.Commands.{command_of};
 ghost use Rattle.sx_top.specs.Promises.{LeavesInput, ProgramTold};
 
-use crate::assembling::asm_over;
-use crate::check::check_over;
-use crate::disassembling::dis_over;
-use crate::run::run_over;
 use crate::words::{Command, command_of};
-use crate::workload::gen_over;
 use std::alloc::Global;
+use sx_command_asm::{asm_over, dis_over};
+use sx_command_check::check_over;
+use sx_command_gen::gen_over;
+use sx_command_run::run_over;
 use sx_io::{Sink, Source};
 use sx_tag::Hmac;
 use sx_told::finish;
@@ -44,7 +43,7 @@ const MISUSED: u8 = 2;
 /// | 10 | `fault asm Ak line`, `fault hex Bk line` | rule Ak or Bk is broken; `-` is no line |
 ///
 /// Every line, a fault's too, goes to `output` and ends with a newline.
-#[tactic(auto, unfolding(crate::specs::Output::usage_line))]
+#[tactic(auto, unfolding(sx_command::specs::Output::usage_line))]
 pub fn top<S: Source, K: Sink>(alloc: Global, words: &[String], input: &mut S, output: &mut K) -> u8
     // What is written, and the status, are what is defined for the words and for the bytes that
     // were taken, and no more was taken than must be.

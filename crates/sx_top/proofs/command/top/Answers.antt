@@ -4,10 +4,12 @@ use Rattle.sx_tag.specs.Mac.{hmac_sha256}
 use Rattle.sx_top.specs.declared.words.Command.{Command}
 use Rattle.sx_top.specs.declared.words.Command.TheVariants.{Run, Check, Gen, Asm, Dis}
 use Rattle.sx_top.specs.Commands.{CarriesFew}
-use Rattle.sx_top.specs.Output.{usage_line}
-use Rattle.sx_top.proofs.Promised.{says_not_two, check_not_two}
-use Rattle.sx_top.proofs.Generated.{gen_not_two}
-use Rattle.sx_top.proofs.Usage.{asm_not_two, dis_not_two, program}
+use Rattle.sx_command.specs.Output.{usage_line}
+use Rattle.sx_command_run.proofs.Said.{says_not_two}
+use Rattle.sx_command_check.proofs.Promised.{check_not_two}
+use Rattle.sx_command_gen.proofs.Generated.{gen_not_two}
+use Rattle.sx_command_asm.proofs.Statused.{asm_not_two, dis_not_two}
+use Rattle.sx_top.proofs.Usage.{program}
 use Rattle.sx_top.proofs.command.top.Goals as goal
 
 pub returns-in-Some-Run-clause-told : goal.returns-in-Some-Run-clause-told

@@ -1,0 +1,5 @@
+pub mod Assembling
+pub mod Disassembling
+pub mod Gathering
+pub mod Kept
+pub mod Listing

@@ -1,0 +1,4 @@
+pub mod Heads
+pub mod ModuleLines
+pub mod Promised
+pub mod Statuses

@@ -1,0 +1,9 @@
+//! The command `check`: where the modules of a deployment stand, or which rule it breaks.
+//!
+//! What it promises is `CheckTold` of specs/Promise.antt: what is written, and the exit status, are
+//! `check_all` (specs/Check.antt) of the input's head.
+#![tactic(auto)]
+
+mod check;
+
+pub use check::check_over;

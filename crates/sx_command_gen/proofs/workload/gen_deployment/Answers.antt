@@ -1,0 +1,38 @@
+use Rattle.std.proofs.Common.{◌≡◌, inl, inr, ap, List, map, refl, subst, sym, Ok}
+use Rattle.sx_told.proofs.Laws.{ends-same}
+use Rattle.sx_deploy.specs.Deployment.{Deployed, IsRead}
+use Rattle.sx_deploy.specs.SeenDeployment.{deployed_as}
+use Rattle.sx_deploy.proofs.Meanings.{one_meaning}
+use Rattle.sx_image.specs.declared.image.Image.{Image}
+use Rattle.sx_run.specs.Accepted.{AreImages}
+use Rattle.sx_bulk.specs.Bulk as bulk
+use Rattle.sx_command_gen.specs.Workload.{gen_found}
+use Rattle.sx_command_world.proofs.Building.{are_deployed_images}
+use Rattle.sx_command_gen.proofs.workload.gen_deployment.Goals as goal
+
+-- a text is of one deployment
+deployed_same : (d other : Deployed) → IsRead bulk.head (Ok d) → IsRead bulk.head (Ok other) → d ≡ other
+deployed_same d other read again = cc (one_meaning bulk.head (Ok d) (Ok other) read again)
+
+pub gen_images-requires-clause-images : goal.gen_images-requires-clause-images
+gen_images-requires-clause-images g c =
+    let Q : List Image → Type 0 = λ images. AreImages g.T.Tag.mac (deployed_as c.args.plan.now) (map (λ (i : Image). i.text.items) images) in
+    subst Q (sym c.deref.ensures.value) (are_deployed_images g.T.Tag.mac c.args.plan.now c.in-Ok.images.items c.in-Ok.ensures.all c.in-Ok.ensures.built)
+
+pub returns-in-Ok : goal.returns-in-Ok
+returns-in-Ok g c =
+    let mac = g.T.Tag.mac in
+    let d = deployed_as c.args.plan.now in
+    let texts = map (λ (i : Image). i.text.items) c.deref.result.now in
+    let Q : List Image → Type 0 = λ images. AreImages mac d (map (λ (i : Image). i.text.items) images) in
+    let are : AreImages mac d texts = subst Q (sym c.deref.ensures.value) (are_deployed_images mac c.args.plan.now c.in-Ok.images.items c.in-Ok.ensures.all c.in-Ok.ensures.built) in
+    let P : Deployed → Type 0 = λ d. AreImages mac d texts in
+    inr (record {
+      texts = texts;
+      realize = λ other again. subst P (deployed_same d other c.requires.read again) are;
+      ends = λ meaning is.
+          ends-same _ _ _ _ _ _ (ap (gen_found mac texts c.args.samples) (one_meaning bulk.head (meaning bulk.head) (Ok d) (is bulk.head) c.requires.read)) c.gen_images.ensures;
+    })
+
+pub returns-in-Err : goal.returns-in-Err
+returns-in-Err g c = inl (record { six = refl; same = refl })

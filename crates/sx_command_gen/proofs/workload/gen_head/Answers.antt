@@ -1,0 +1,16 @@
+use Rattle.std.proofs.Common.{ℕ, List, subst, Ok, Err}
+use Rattle.sx_stage.specs.Fault.{GivesOne}
+use Rattle.sx_deploy.specs.Deployment.{IsRead}
+use Rattle.sx_deploy.specs.SeenDeployment.{deployed_as}
+use Rattle.sx_deploy.specs.declared.deployment.Deployment.{Deployment}
+use Rattle.sx_command_gen.proofs.Generated.{gen_refused}
+use Rattle.sx_command_gen.proofs.workload.gen_head.Goals as goal
+
+pub gen_deployment-requires-clause-read : goal.gen_deployment-requires-clause-read
+gen_deployment-requires-clause-read g c =
+    let P : List ℕ → Type 0 = λ text. IsRead text (Ok (deployed_as c.in-Ok.plan)) in subst P c.head.ensures c.in-Ok.ensures.read
+
+pub returns-in-Err : goal.returns-in-Err
+returns-in-Err g c =
+    let Q : List ℕ → Type 0 = λ t. GivesOne {T = Deployment} deployed_as (Err c.in-Err.error) (IsRead t) in
+    gen_refused g.T.Tag.mac c.args.samples c.in-Err.error (subst Q c.head.ensures c.in-Err.ensures.read) c.refuse.ensures

@@ -1,0 +1,177 @@
+//! The command `gen`: it makes the images of the workload's modules, runs its lines, and tells what
+//! it counted.
+
+ghost use Rattle.std.specs.Prelude.{◌≡◌, ℕ, ◌≤◌, IfOk, IsTrue, List, Ok, length};
+ghost use Rattle.sx_io.specs.Reading.{Answer};
+ghost use Rattle.sx_told.specs.Told.{DoesPart, CommandEnds, Output, behind};
+ghost use Rattle.sx_trace.specs.Names.{are_valid};
+ghost use Rattle.sx_deploy.specs.Deployment.{IsRead};
+ghost use Rattle.sx_deploy.specs.Law as deployment;
+ghost use Rattle.sx_deploy.specs.SeenDeployment.{deployed_as};
+ghost use Rattle.sx_run.specs.Accepted.{AreImages};
+ghost use Rattle.sx_world.specs.InMemory.{image_setting, texts_of, world_setting};
+ghost use Rattle.sx_run.specs.Law.{IsSoundSetting};
+ghost use Rattle.sx_world.specs.Standing.{Stands};
+ghost use Rattle.sx_run.specs.State.{switched_on};
+ghost use Rattle.sx_bulk.specs.Bulk as bulk;
+ghost use Rattle.sx_command_gen.specs.Counts.{summary};
+ghost use Rattle.sx_command_world.specs.Images.{images_text};
+ghost use Rattle.sx_command_gen.specs.Workload.{GenTold, GenWrote, gen_deployed, gen_run};
+
+use crate::counting::{Stopped, run_workload};
+use crate::counts::{Counts, summary};
+use std::alloc::Global;
+use sx_bulk::{MOST_SAMPLES, head, lines};
+use sx_bus::Copied;
+use sx_command_head::refusing::refuse;
+use sx_command_world::compiling::compile_all;
+use sx_command_world::images::image_lines;
+use sx_command_world::judging::break_off;
+use sx_command_world::worlds::new_world;
+use sx_deploy::deployment::{Deployment, read_deployment};
+use sx_image::Image;
+use sx_io::Sink;
+use sx_tag::Tag;
+use sx_told::{OUT_OF_MEMORY, Turned, finish, put_text};
+use sx_trace::names::Names;
+use sx_world::world::World;
+
+/// Ends the command with what was counted.
+fn tell<K: Sink>(alloc: Global, samples: u32, counts: &Counts, steps: u64, output: &mut K) -> u8
+    requires { samples ≤ MOST_SAMPLES }
+    ensures { CommandEnds K.tells (K.at output.old) (K.at output.new) result
+        (record { text = summary (bulk.lines samples) counts.now steps; status = 0 }) }
+{
+    match summary(alloc, lines(samples), counts, steps) {
+        Ok(text) => finish(output, &text, 0),
+        Err(_) => OUT_OF_MEMORY,
+    }
+}
+
+/// Runs the workload in a world where all was just switched on, and tells how it ended.
+fn tell_run<K: Sink, B: Copied, T: Tag>(
+    alloc: Global,
+    samples: u32,
+    plan: &Deployment,
+    world: &mut World<B, T>,
+    output: &mut K,
+) -> u8
+    requires few { samples ≤ MOST_SAMPLES }
+    requires sound { deployment.IsSoundDeployment (deployed_as plan.now) }
+    requires images { IsSoundSetting (world_setting T.mac plan.now world.old) }
+    requires names { IsTrue (are_valid (deployed_as plan.now).names) }
+    requires new { world.old.lines ≡ 0 }
+    requires stands { Stands (world_setting T.mac plan.now world.old) world.old
+        (switched_on (world_setting T.mac plan.now world.old)) }
+    ensures { CommandEnds K.tells (K.at output.old) (K.at output.new) result
+        (gen_run samples (deployed_as plan.now).names (world_setting T.mac plan.now world.old)) }
+{
+    match run_workload(alloc, samples, plan, world) {
+        Ok(counts) => tell(alloc, samples, &counts, world.steps(), output),
+        Err(Stopped::Broken { rule, number }) => break_off(output, rule, number),
+        Err(Stopped::OutOfMemory) => OUT_OF_MEMORY,
+    }
+}
+
+/// Writes the lines of all images.
+fn put_images<K: Sink>(alloc: Global, names: &Names, images: &[Image], output: &mut K) -> Turned
+    ensures { (left : List Answer → Output) → DoesPart K.tells (K.at output.old) (K.at output.new)
+        (λ more. behind (images_text names.now.modules (texts_of images.now)) (left more))
+        result left }
+{
+    match image_lines(alloc, &names.modules, images) {
+        Ok(text) => put_text(output, &text),
+        Err(_) => Turned::Stop(OUT_OF_MEMORY),
+    }
+}
+
+/// The images' lines, and the run in a world where all was just switched on.
+fn gen_built<K: Sink, B: Copied, T: Tag>(
+    alloc: Global,
+    samples: u32,
+    plan: &Deployment,
+    images: &[Image],
+    world: &mut World<B, T>,
+    output: &mut K,
+) -> u8
+    requires few { samples ≤ MOST_SAMPLES }
+    requires sound { deployment.IsSoundDeployment (deployed_as plan.now) }
+    requires images { IsSoundSetting (world_setting T.mac plan.now world.old) }
+    requires names { IsTrue (are_valid (deployed_as plan.now).names) }
+    requires new { world.old.lines ≡ 0 }
+    requires sites { world.old.sites ≡ (image_setting T.mac plan.now images.now).sites }
+    requires stands { Stands (world_setting T.mac plan.now world.old) world.old
+        (switched_on (world_setting T.mac plan.now world.old)) }
+    ensures { CommandEnds K.tells (K.at output.old) (K.at output.new) result
+        (gen_deployed T.mac (texts_of images.now) samples (deployed_as plan.now)) }
+{
+    match put_images(alloc, &plan.names, images, output) {
+        Turned::Stop(status) => status,
+        Turned::On => tell_run(alloc, samples, plan, world, output),
+    }
+}
+
+/// Runs the workload with these images of its modules.
+fn gen_images<K: Sink, T: Tag + Copy>(
+    alloc: Global,
+    tag: T,
+    samples: u32,
+    plan: &Deployment,
+    images: &[Image],
+    output: &mut K,
+) -> u8
+    requires few { samples ≤ MOST_SAMPLES }
+    requires sound { deployment.IsSoundDeployment (deployed_as plan.now) }
+    requires names { IsTrue (are_valid (deployed_as plan.now).names) }
+    requires many { length images.now ≡ length plan.now.app.parts.items }
+    requires images { AreImages T.mac (deployed_as plan.now) (texts_of images.now) }
+    ensures { CommandEnds K.tells (K.at output.old) (K.at output.new) result
+        (gen_deployed T.mac (texts_of images.now) samples (deployed_as plan.now)) }
+{
+    match new_world(alloc, tag, plan, images) {
+        Ok(mut world) => gen_built(alloc, samples, plan, images, &mut world, output),
+        Err(_) => OUT_OF_MEMORY,
+    }
+}
+
+/// Makes the images of the workload's modules, and runs it.
+fn gen_deployment<K: Sink, T: Tag + Copy>(
+    alloc: Global,
+    tag: T,
+    samples: u32,
+    plan: &Deployment,
+    output: &mut K,
+) -> u8
+    requires few { samples ≤ MOST_SAMPLES }
+    requires sound { deployment.IsSoundDeployment (deployed_as plan.now) }
+    requires names { IsTrue (are_valid (deployed_as plan.now).names) }
+    requires read { IsRead bulk.head (Ok (deployed_as plan.now)) }
+    ensures { GenWrote T.mac samples K.tells (K.at output.old) (K.at output.new) result }
+{
+    match compile_all(alloc, &tag, plan) {
+        Ok(images) => gen_images(alloc, tag, samples, plan, &images, output),
+        Err(_) => OUT_OF_MEMORY,
+    }
+}
+
+/// Reads the workload's deployment, and runs the workload.
+fn gen_head<K: Sink, T: Tag + Copy>(alloc: Global, tag: T, samples: u32, output: &mut K) -> u8
+    requires { samples ≤ MOST_SAMPLES }
+    ensures { GenWrote T.mac samples K.tells (K.at output.old) (K.at output.new) result }
+{
+    match read_deployment(alloc, head()) {
+        Ok(plan) => gen_deployment(alloc, tag, samples, &plan, output),
+        Err(error) => refuse(error, output),
+    }
+}
+
+/// The command `gen` over any tag: it reads nothing, writes the images of the workload's modules,
+/// runs as many of its lines as carry this many samples, and writes how many lines, items, outputs,
+/// outputs of the value 1 and node steps there were. No line is kept. Gives the exit status, as
+/// `top` does for this command.
+pub fn gen_over<K: Sink, T: Tag + Copy>(alloc: Global, tag: T, samples: u32, output: &mut K) -> u8
+    requires { samples ≤ MOST_SAMPLES }
+    ensures { GenTold T.mac samples K.tells (K.at output.old) (K.at output.new) result }
+{
+    gen_head(alloc, tag, samples, output)
+}

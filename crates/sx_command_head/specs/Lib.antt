@@ -1,0 +1,3 @@
+pub mod Headless
+pub mod Meanings
+pub mod Refused

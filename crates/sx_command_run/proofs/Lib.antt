@@ -1,0 +1,7 @@
+pub mod Batches
+pub mod Behind
+pub mod Between
+pub mod Legality
+pub mod Owing
+pub mod Said
+pub mod Written

@@ -1,0 +1,97 @@
+use Rattle.std.proofs.Common.{◌∙◌, ◌+◌, ◌∷◌, ℕ, List, take, arith, ap, refl, subst, sym}
+use Rattle.sx_io.specs.Reading.{Line}
+use Rattle.sx_told.specs.Told.{read_line}
+use Rattle.sx_told.specs.declared.turned.Turned.TheVariants.{On, Stop}
+use Rattle.sx_told.proofs.Laws.{begun-line, begun-put, ends-same, told-stop, told-end, told-too-long, told-failed}
+use Rattle.sx_deploy.specs.SeenDeployment.{deployed_as}
+use Rattle.sx_run.specs.Accepted.{setting}
+use Rattle.sx_run.specs.Law.{IsSoundSetting}
+use Rattle.sx_run.specs.Setting.{Site}
+use Rattle.sx_world.specs.Standing.{Stands}
+use Rattle.sx_run.specs.State.{World, switched_on}
+use Rattle.sx_command.specs.Output.{end_line}
+use Rattle.sx_command_run.specs.Run.{run_from}
+use Rattle.sx_command_run.specs.Turns.{TurnsLine}
+use Rattle.sx_command_run.proofs.Written.{run_ended, run_too_long, run_unread}
+use Rattle.sx_command_run.proofs.schedule.run_lines.Goals as goal
+
+pub lines-init : goal.lines-init
+lines-init g c =
+    let set = setting g.T.Tag.mac (deployed_as c.args.plan.now) c.args.world.now.sites in record {
+      few = omega arith;
+      counted = ap (λ (k : ℕ). k + 1) c.requires.new;
+      sites = refl;
+      between = record { world = switched_on set; stands = c.requires.stands; begun = λ limit m0 defined aside noted b. b };
+    }
+
+pub returns-in-End : goal.returns-in-End
+unfolding end_line
+returns-in-End g c = λ limit m0 defined aside noted b.
+    let d = deployed_as c.args.plan.now in
+    let set = setting g.T.Tag.mac d c.args.world.now.sites in
+    let st = c.lines.invariant.between in
+    told-end {f = run_from d.names set st.world c.lines.number} (run_unread d.names set st.world c.lines.number) (st.begun limit m0 defined aside noted b) c.in-End.ensures.next
+    (ends-same _ _ _ _ _ _ (run_ended d.names set st.world c.lines.number) c.finish.ensures.ends)
+
+pub returns-in-TooLong : goal.returns-in-TooLong
+returns-in-TooLong g c = λ limit m0 defined aside noted b.
+    let d = deployed_as c.args.plan.now in
+    let set = setting g.T.Tag.mac d c.args.world.now.sites in
+    let st = c.lines.invariant.between in
+    told-too-long {f = run_from d.names set st.world c.lines.number} (run_unread d.names set st.world c.lines.number) (st.begun limit m0 defined aside noted b)
+    c.in-TooLong.ensures.next (ends-same _ _ _ _ _ _ (run_too_long d.names set st.world c.lines.number) c.break_off.ensures.ends)
+
+pub returns-in-Failed : goal.returns-in-Failed
+unfolding read_line
+returns-in-Failed g c = λ limit m0 defined aside noted b.
+    let d = deployed_as c.args.plan.now in
+    let set = setting g.T.Tag.mac d c.args.world.now.sites in
+    let st = c.lines.invariant.between in
+    told-failed {f = run_from d.names set st.world c.lines.number} (run_unread d.names set st.world c.lines.number) (st.begun limit m0 defined aside noted b)
+    c.in-Failed.ensures.next (ends-same _ _ _ _ _ _ (run_unread d.names set st.world c.lines.number) c.finish-in-Failed.ensures.ends)
+
+pub turn-requires-clause-images : goal.turn-requires-clause-images
+turn-requires-clause-images g c =
+    let P : List Site → Type 0 = λ sites. IsSoundSetting (setting g.T.Tag.mac (deployed_as c.args.plan.now) sites) in
+    subst P (sym c.lines.invariant.sites) c.requires.images
+
+pub turn-requires-clause-going : goal.turn-requires-clause-going
+turn-requires-clause-going g c = λ goes.
+    let st = c.lines.invariant.between in
+    let P : List Site → Type 0 = λ sites. Stands (setting g.T.Tag.mac (deployed_as c.args.plan.now) sites) c.lines.world st.world in
+    (st.world, subst P (sym c.lines.invariant.sites) st.stands)
+
+pub returns-in-Stop : goal.returns-in-Stop
+returns-in-Stop g c = λ limit m0 defined aside noted b.
+    let d = deployed_as c.args.plan.now in
+    let set = setting g.T.Tag.mac d c.args.world.now.sites in
+    let st = c.lines.invariant.between in
+    let text = take c.in-Text.n c.next.new.into in
+    let P : List Site → Type 0 = λ sites. (w : World) → Stands (setting g.T.Tag.mac d sites) c.lines.world w
+    → TurnsLine g.K.Sink.tells (g.K.Sink.at c.lines.output) (g.K.Sink.at c.turn.new.output) d.names (setting g.T.Tag.mac d sites)
+    c.turn.new.world c.lines.number text (Stop c.in-Stop.status) w in
+    told-stop (begun-line (run_from d.names set st.world c.lines.number) (run_unread d.names set st.world c.lines.number) (st.begun limit m0 defined aside noted b) c.in-Text.ensures.next)
+    (subst P c.lines.invariant.sites c.in-Stop.ensures.turns st.world st.stands).does
+
+pub lines-preserved : goal.lines-preserved
+lines-preserved g c =
+    let d = deployed_as c.args.plan.now in
+    let set = setting g.T.Tag.mac d c.args.world.now.sites in
+    let st = c.lines.invariant.between in
+    let text = take c.in-Text.n c.next.new.into in
+    let P : List Site → Type 0 = λ sites. (w : World) → Stands (setting g.T.Tag.mac d sites) c.lines.world w
+    → TurnsLine g.K.Sink.tells (g.K.Sink.at c.lines.output) (g.K.Sink.at c.turn.new.output) d.names (setting g.T.Tag.mac d sites)
+    c.turn.new.world c.lines.number text On w in
+    let t = subst P c.lines.invariant.sites c.in-On.ensures.turns st.world st.stands in record {
+      few = omega (arith, c.in-On.ensures.few refl);
+      counted = ap (λ (k : ℕ). k + 1) (c.in-On.ensures.counts refl);
+      sites = c.in-On.ensures.sites ∙ c.lines.invariant.sites;
+      between = record {
+        world = t.next;
+        stands = t.stands refl;
+        begun = λ limit m0 defined aside noted b.
+            begun-put (λ more. run_from d.names set st.world c.lines.number (Line text ∷ more)) (run_from d.names set t.next (c.lines.number + 1))
+            (begun-line (run_from d.names set st.world c.lines.number) (run_unread d.names set st.world c.lines.number) (st.begun limit m0 defined aside noted b) c.in-Text.ensures.next)
+            t.does;
+      };
+    }

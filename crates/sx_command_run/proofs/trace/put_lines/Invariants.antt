@@ -1,0 +1,11 @@
+use Rattle.std.specs.Prelude.{◌++◌, drop}
+use Rattle.sx_command_run.specs.Batch.{WritesUpTo}
+use Rattle.sx_command_run.specs.Run.{items_text}
+use Rattle.sx_command_run.proofs.trace.put_lines.Given as goal
+
+-- All was written but the batch and the lines of the items that are left.
+abbrev pub invariant-loop-item : goal.invariant-loop-item
+invariant-loop-item g l = record {
+  writes : WritesUpTo g.K.Sink.tells (g.K.Sink.at l.fn.output) (g.K.Sink.at l.output) (items_text l.fn.names l.items)
+      (l.batch.items ++ items_text l.fn.names (drop l.item-index l.items));
+}

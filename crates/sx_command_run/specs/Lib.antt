@@ -1,0 +1,4 @@
+pub mod Batch
+pub mod Run
+pub mod Runs
+pub mod Turns

@@ -1,0 +1,87 @@
+-- What the command `run` writes, and its exit status: a function of what texts of deployments mean,
+-- of the texts of the modules' images, and of the answers that the lines of its input give.
+use Rattle.std.specs.Prelude.{ℕ, List, ◌++◌, flat_map, Result, Ok, Err}
+use Rattle.sx_io.specs.Reading.{Answer}
+use Rattle.sx_told.specs.Told.{Output, behind, unread_output}
+use Rattle.sx_tag.specs.Mac.{Mac}
+use Rattle.sx_stage.specs.declared.fault.Place.TheVariants.{Nowhere}
+use Rattle.sx_stage.specs.declared.fault.DeployFault.{DeployFault}
+use Rattle.sx_stage.specs.Fault.{fault}
+use Rattle.sx_head.specs.Head.{Head, Found, TooLong, NoMark, Unread, head}
+use Rattle.sx_trace.specs.declared.items.Item.{Item}
+use Rattle.sx_trace.specs.Names.{NameLists}
+use Rattle.sx_trace.specs.Items.{item_text}
+use Rattle.sx_deploy.specs.Deployment.{Deployed}
+use Rattle.sx_run.specs.Setting.{Setting}
+use Rattle.sx_run.specs.State.{World, Acted, switched_on}
+use Rattle.sx_run.specs.Accepted.{setting_of}
+use Rattle.sx_run.specs.Run.{run}
+use Rattle.sx_command.specs.Output.{line, trace_line, end_line}
+use Rattle.sx_command_head.specs.Meanings.{Meaning}
+use Rattle.sx_command_head.specs.Refused.{fault_output}
+use Rattle.sx_command_world.specs.Schedule.{Stop, AtEnd, Breaks, Schedule, schedule}
+use Rattle.sx_command_world.specs.Schedule as sched
+use Rattle.sx_command_world.specs.Images.{images_text}
+use Rattle.sx_command_world.specs.Turning.{broken_output}
+
+-- the line of an item
+unfoldable pub item_line : NameLists → Item → List ℕ
+item_line names i = line (item_text names i)
+
+-- the lines of items
+abbrev pub items_text : NameLists → List Item → List ℕ
+items_text names items = flat_map (item_line names) items
+
+-- the last line, and the status
+abbrev pub stop_output : Stop → Output
+stop_output AtEnd = record { text = end_line; status = 0 }
+stop_output sched.Unread = unread_output
+stop_output (Breaks rule number) = broken_output rule number
+
+-- what a schedule writes: the items of the run of its lines, and how it ended
+abbrev pub schedule_output : NameLists → Setting → World → Schedule → Output
+schedule_output names set w x =
+    behind (items_text names (run set w x.lines).items) (stop_output x.stop)
+
+-- a line's items, and what follows from the world that it leaves
+abbrev pub told_by : NameLists → Acted → (World → Output) → Output
+told_by names a more = behind (items_text names a.items) (more a.world)
+
+-- what the schedule from the line with this number on writes
+unfoldable pub run_from : NameLists → Setting → World → ℕ → List Answer → Output
+run_from names set w number answers = schedule_output names set w (schedule names number answers)
+
+-- what a schedule writes where all is switched on
+abbrev pub run_at_start : NameLists → Setting → List Answer → Output
+run_at_start names set more = run_from names set (switched_on set) 1 more
+
+-- what the schedule of a deployment writes
+abbrev pub run_schedule : Mac → Deployed → List (List ℕ) → List Answer → Output
+run_schedule mac d texts more = run_at_start d.names (setting_of mac d texts) more
+
+-- the images, `trace`, and what the schedule writes
+abbrev pub run_deployed : Mac → Deployed → List (List ℕ) → List Answer → Output
+run_deployed mac d texts more =
+    behind (images_text d.names.modules texts ++ trace_line) (run_schedule mac d texts more)
+
+-- the run of a deployment, or the rule that it breaks
+abbrev pub run_found : Mac → List (List ℕ) → Result Deployed DeployFault → List Answer → Output
+run_found mac texts (Ok d) more = run_deployed mac d texts more
+run_found mac texts (Err f) more = fault_output f
+
+-- what `run` writes of an input's head
+abbrev pub run_head : Mac → Meaning → List (List ℕ) → Head → Output
+run_head mac meaning texts (Found text more) = run_found mac texts (meaning text) more
+run_head mac meaning texts TooLong = fault_output (fault 1 Nowhere)
+run_head mac meaning texts NoMark = fault_output (fault 2 Nowhere)
+run_head mac meaning texts Unread = unread_output
+
+-- the command `run`
+abbrev pub run_all : Mac → Meaning → List (List ℕ) → List Answer → Output
+run_all mac meaning texts answers = run_head mac meaning texts (head answers)
+
+-- the items of the run of a schedule that these answers are
+abbrev pub items_of : Mac → Deployed → List (List ℕ) → List Answer → List Item
+items_of mac d texts more =
+    let set = setting_of mac d texts in
+    (run set (switched_on set) (schedule d.names 1 more).lines).items

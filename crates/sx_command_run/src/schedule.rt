@@ -1,0 +1,171 @@
+//! The lines of a schedule. Each is judged and performed, and its items are written, before the
+//! next is read.
+
+ghost use Rattle.std.specs.Prelude.{◌≡◌, ◌+◌, ◌<◌, ◌≤◌, [], IsTrue};
+ghost use Rattle.sx_trace.specs.Names.{are_valid};
+ghost use Rattle.sx_sched.specs.Lines.{line_of, IsLine};
+ghost use Rattle.sx_told.specs.Told.{Rest, command_at, out_of_memory};
+ghost use Rattle.sx_head.specs.Head.{head_lines};
+ghost use Rattle.sx_deploy.specs.SeenDeployment.{deployed_as};
+ghost use Rattle.sx_deploy.specs.Law as deployment;
+ghost use Rattle.sx_world.specs.InMemory.{image_setting, texts_of, world_setting};
+ghost use Rattle.sx_run.specs.Law.{IsSoundSetting};
+ghost use Rattle.sx_world.specs.Standing.{IsGoing, Stands};
+ghost use Rattle.sx_run.specs.State.{switched_on};
+ghost use Rattle.sx_command_run.specs.Run.{run_at_start, run_deployed};
+ghost use Rattle.sx_command_world.specs.Schedule.{judged_line};
+ghost use Rattle.sx_command_run.specs.Turns.{Advances, TellsLine, TellsMade, TurnsFrom};
+ghost use Rattle.sx_command_world.specs.Turning.{MayRunOut};
+
+use crate::trace::put_items;
+use std::alloc::Global;
+use sx_bus::Copied;
+use sx_command_world::images::put_images;
+use sx_command_world::judging::{TOO_LONG, break_off, judge};
+use sx_deploy::deployment::Deployment;
+use sx_image::Image;
+use sx_io::{LineRead, Lines, Sink, Source};
+use sx_sched::lines::{Line, LineError};
+use sx_tag::Tag;
+use sx_told::{OUT_OF_MEMORY, READ_FAILED, Turned, finish};
+use sx_trace::items::Item;
+use sx_world::world::World;
+
+/// Performs a line, and writes its items; where memory runs out, those that were made before.
+fn tell<K: Sink, B: Copied, T: Tag>(
+    output: &mut K,
+    world: &mut World<B, T>,
+    plan: &Deployment,
+    items: &mut Vec<Item>,
+    line: &Line,
+) -> Turned
+    requires sound { deployment.IsSoundDeployment (deployed_as plan.now) }
+    requires images { IsSoundSetting (world_setting T.mac plan.now world.old) }
+    requires going { IsGoing (world_setting T.mac plan.now world.old) world.old }
+    requires form { IsLine (deployed_as plan.now).names (line_of line.now) }
+    requires few { world.old.lines < 65536 }
+    requires none { items.old.items ≡ [] }
+    ensures does { TellsLine K.tells (K.at output.old) (K.at output.new)
+        (deployed_as plan.now).names (world_setting T.mac plan.now world.old)
+        (line_of line.now) world.old result }
+    ensures made { TellsMade K.tells (K.at output.old) (K.at output.new)
+        (deployed_as plan.now).names world.old world.new items.new.items result }
+    ensures stands { result ≡ Turned.On
+        → Advances (world_setting T.mac plan.now world.old) (line_of line.now) world.old world.new }
+    ensures sites { world.new.sites ≡ world.old.sites }
+    ensures counts { result ≡ Turned.On → world.new.lines ≡ world.old.lines + 1 }
+{
+    match world.act(plan, line, items) {
+        Ok(()) => put_items(output, &plan.names, items),
+        Err(_) => match put_items(output, &plan.names, items) {
+            Turned::On => Turned::Stop(OUT_OF_MEMORY),
+            Turned::Stop(status) => Turned::Stop(status),
+        },
+    }
+}
+
+/// Does what a line says, and writes its items.
+fn turn<K: Sink, B: Copied, T: Tag>(
+    alloc: Global,
+    output: &mut K,
+    world: &mut World<B, T>,
+    plan: &Deployment,
+    items: &mut Vec<Item>,
+    said: &[u8],
+    number: u32,
+) -> Turned
+    requires sound { deployment.IsSoundDeployment (deployed_as plan.now) }
+    requires images { IsSoundSetting (world_setting T.mac plan.now world.old) }
+    requires going { IsGoing (world_setting T.mac plan.now world.old) world.old }
+    requires names { IsTrue (are_valid (deployed_as plan.now).names) }
+    requires counted { world.old.lines + 1 ≡ number }
+    ensures turns { TurnsFrom K.tells (K.at output.old) (K.at output.new)
+        (deployed_as plan.now).names (world_setting T.mac plan.now world.old) world.old world.new
+        number said.now result }
+    ensures memory { result ≡ Turned.Stop out_of_memory
+        → MayRunOut (judged_line (deployed_as plan.now).names number said.now) }
+    ensures made { TellsMade K.tells (K.at output.old) (K.at output.new)
+        (deployed_as plan.now).names world.old world.new items.new.items result }
+    ensures few { result ≡ Turned.On → number ≤ 65536 }
+    ensures sites { world.new.sites ≡ world.old.sites }
+    ensures counts { result ≡ Turned.On → world.new.lines ≡ number }
+{
+    items.clear();
+    match judge(alloc, &plan.names, said, number) {
+        Ok(line) => tell(output, world, plan, items, &line),
+        Err(LineError::Fault(rule)) => Turned::Stop(break_off(output, rule, number)),
+        Err(LineError::OutOfMemory) => Turned::Stop(OUT_OF_MEMORY),
+    }
+}
+
+/// Runs the lines of a schedule in a world where all was just switched on.
+pub(crate) fn run_lines<S: Source, K: Sink, B: Copied, T: Tag>(
+    alloc: Global,
+    lines: &mut Lines,
+    input: &mut S,
+    output: &mut K,
+    plan: &Deployment,
+    world: &mut World<B, T>,
+) -> u8
+    requires sound { deployment.IsSoundDeployment (deployed_as plan.now) }
+    requires images { IsSoundSetting (world_setting T.mac plan.now world.old) }
+    requires names { IsTrue (are_valid (deployed_as plan.now).names) }
+    requires new { world.old.lines ≡ 0 }
+    requires stands { Stands (world_setting T.mac plan.now world.old) world.old
+        (switched_on (world_setting T.mac plan.now world.old)) }
+    ensures { Rest S.tells K.tells head_lines lines.old
+        (command_at (S.at input.old) (K.at output.old))
+        (command_at (S.at input.new) (K.at output.new)) result
+        (run_at_start (deployed_as plan.now).names (world_setting T.mac plan.now world.old)) }
+{
+    let mut into = [0; 4096];
+    let mut items = Vec::new(alloc);
+    let mut number: u32 = 1;
+    'lines: loop {
+        match lines.next(input, &mut into) {
+            LineRead::End => return finish(output, b"end\n", 0),
+            LineRead::TooLong => return break_off(output, TOO_LONG, number),
+            LineRead::Failed => return finish(output, b"fault read\n", READ_FAILED),
+            LineRead::Text(n) => match turn(
+                alloc,
+                output,
+                world,
+                plan,
+                &mut items,
+                &into[..n],
+                number,
+            ) {
+                Turned::On => number += 1,
+                Turned::Stop(status) => return status,
+            },
+        }
+    }
+}
+
+/// The images' lines, `trace`, and the schedule, in a world where all was just switched on.
+pub(crate) fn run_built<S: Source, K: Sink, B: Copied, T: Tag>(
+    alloc: Global,
+    lines: &mut Lines,
+    input: &mut S,
+    output: &mut K,
+    plan: &Deployment,
+    images: &[Image],
+    world: &mut World<B, T>,
+) -> u8
+    requires sound { deployment.IsSoundDeployment (deployed_as plan.now) }
+    requires images { IsSoundSetting (world_setting T.mac plan.now world.old) }
+    requires names { IsTrue (are_valid (deployed_as plan.now).names) }
+    requires new { world.old.lines ≡ 0 }
+    requires sites { world.old.sites ≡ (image_setting T.mac plan.now images.now).sites }
+    requires stands { Stands (world_setting T.mac plan.now world.old) world.old
+        (switched_on (world_setting T.mac plan.now world.old)) }
+    ensures { Rest S.tells K.tells head_lines lines.old
+        (command_at (S.at input.old) (K.at output.old))
+        (command_at (S.at input.new) (K.at output.new)) result
+        (run_deployed T.mac (deployed_as plan.now) (texts_of images.now)) }
+{
+    match put_images(alloc, &plan.names, images, output) {
+        Turned::Stop(status) => status,
+        Turned::On => run_lines(alloc, lines, input, output, plan, world),
+    }
+}

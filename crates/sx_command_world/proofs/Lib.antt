@@ -1,0 +1,4 @@
+pub mod Building
+pub mod ImageLines
+pub mod Powering
+pub mod Stops

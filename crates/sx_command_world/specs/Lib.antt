@@ -1,0 +1,5 @@
+pub mod Built
+pub mod Images
+pub mod Schedule
+pub mod Turning
+pub mod WellFormed

@@ -1,0 +1,71 @@
+//! The images of a deployment's modules.
+
+ghost use Rattle.std.specs.Prelude.{◌≡◌, ◌<◌, ◌≤◌, IfOk, OnOk, length, map, slice_get, Some};
+ghost use Rattle.sx_lower.specs.Lowering.{SendFew};
+ghost use Rattle.sx_check.specs.Source.{source_tree};
+ghost use Rattle.sx_mean.specs.Ends.{ends_of, senders};
+ghost use Rattle.sx_deploy.specs.Law.{IsSoundDeployment};
+ghost use Rattle.sx_deploy.specs.SeenDeployment.{deployed_as};
+ghost use Rattle.sx_image.specs.Image.{plain};
+ghost use Rattle.sx_compile.specs.Compiled.{HasSections};
+ghost use Rattle.sx_command_world.specs.Built.{BuiltAt, AreBuilt};
+
+use std::alloc::{AllocError, Global};
+use sx_compile::compile;
+use sx_deploy::deployment::Deployment;
+use sx_image::Image;
+use sx_mean::apps::Part;
+use sx_mean::events::End;
+use sx_rules::Layout;
+use sx_tag::Tag;
+
+/// What the compiler asks of a module holds of one of an accepted deployment.
+fn can_be_compiled(plan: &Deployment, number: u8, part: &Part, ends: &[End], layout: &Layout)
+    requires sound { IsSoundDeployment (deployed_as plan.now) }
+    requires part { slice_get plan.now.app.parts.items number ≡ Some part.now }
+    requires layout { slice_get plan.now.layouts.items number ≡ Some layout.now }
+    requires ends { ends.now ≡ ends_of (deployed_as plan.now).app number }
+    ensures few { length ends.now ≤ 16 }
+    ensures packets { let tree = source_tree part.now.code in
+        SendFew (senders ends.now) tree tree.handlers }
+    ensures room { HasSections (source_tree part.now.code) ends.now layout.now }
+{}
+
+/// The image of the module of this number.
+fn compile_part<T: Tag>(
+    alloc: Global,
+    tag: &T,
+    plan: &Deployment,
+    number: u8,
+) -> Result<Image, AllocError>
+    requires sound { IsSoundDeployment (deployed_as plan.now) }
+    requires within { number < length plan.now.app.parts.items }
+    ensures { IfOk result (λ image. BuiltAt T.mac (deployed_as plan.now) number (plain image)) }
+{
+    let place = usize::from(number);
+    let ends = plan.ends(alloc, number)?;
+    let part = &plan.app.parts[place];
+    let layout = &plan.layouts[place];
+    can_be_compiled(plan, number, part, &ends, layout);
+    compile(alloc, tag, &part.code, &ends, layout, plan.providers[place])
+}
+
+/// The images of all modules, in order.
+pub fn compile_all<T: Tag>(
+    alloc: Global,
+    tag: &T,
+    plan: &Deployment,
+) -> Result<Vec<Image>, AllocError>
+    requires { IsSoundDeployment (deployed_as plan.now) }
+    ensures all { IfOk result (λ images. length images.items ≡ length plan.now.app.parts.items) }
+    ensures built { IfOk result (λ images.
+        AreBuilt T.mac (deployed_as plan.now) (map plain images.items)) }
+{
+    let mut images = Vec::new(alloc);
+    let mut number: u8 = 0;
+    'modules: while usize::from(number) < plan.app.parts.len() {
+        images.push(compile_part(alloc, tag, plan, number)?)?;
+        number += 1;
+    }
+    Ok(images)
+}

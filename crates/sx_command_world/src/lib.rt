@@ -1,0 +1,11 @@
+//! What the commands that run a deployment share: the images of its modules with their lines, its
+//! nodes and its world, and the lines of a schedule by their numbers.
+//!
+//! The images that are made realize their modules (specs/Built.antt).
+#![tactic(auto)]
+
+pub mod compiling;
+pub mod images;
+pub mod judging;
+pub mod nodes;
+pub mod worlds;

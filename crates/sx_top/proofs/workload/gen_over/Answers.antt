@@ -1,5 +1,0 @@
-use Rattle.sx_top.proofs.Generated.{wrote_told}
-use Rattle.sx_top.proofs.workload.gen_over.Goals as goal
-
-pub returns : goal.returns
-returns g c = wrote_told c.requires c.gen_head.ensures
