@@ -1,13 +1,21 @@
 //! The program, in the process that runs it: it hands the command line's words, standard input and
 //! standard output to `sx_top::top`, and ends with its status.
 //!
-//! A library, so that the gate runs it as several programs, each with words, an input, an output
-//! and a status that are stored beside it.
+//! A library, so that the program itself has nothing left to say. No clause says that the words are
+//! those of the command line, nor that the two streams are those of the process.
 #![tactic(auto)]
 
+ghost use Rattle.std.specs.Prelude.{map, string_bytes};
+ghost use Rattle.std.specs.Process.{exit_status};
+ghost use Rattle.sx_told.specs.Told.{command_at};
+ghost use Rattle.sx_tag.specs.Mac.{hmac_sha256};
+ghost use Rattle.sx_top.specs.Promises.{ProgramTold};
+
+use std::alloc::Global;
+use std::io::{Read, Write};
 use std::process::ExitCode;
 use std::{env, io};
-use sx_io::{StdSink, StdSource};
+use sx_io::{Sink, Source, StdSink, StdSource};
 use sx_top::top;
 
 /// The exit status where there is no memory for the words.
@@ -22,6 +30,24 @@ fn words(rt: &HostRuntime) -> io::Result<Vec<String>> {
     Ok(words)
 }
 
+/// Does what the words say, over these streams, and gives the exit status.
+pub fn run_over_streams<R: Read + Drop, W: Write + Drop>(
+    alloc: Global,
+    words: &[String],
+    input: &mut StdSource<R>,
+    output: &mut StdSink<W>,
+) -> ExitCode
+    ensures told { ProgramTold hmac_sha256 (map string_bytes words.now)
+        ⟦<StdSource<R> as Source>⟧.tells ⟦<StdSink<W> as Sink>⟧.tells
+        (command_at (⟦<StdSource<R> as Source>⟧.at input.old)
+        (⟦<StdSink<W> as Sink>⟧.at output.old))
+        (command_at (⟦<StdSource<R> as Source>⟧.at input.new)
+        (⟦<StdSink<W> as Sink>⟧.at output.new))
+        (exit_status result) }
+{
+    ExitCode::from(top(alloc, words, input, output))
+}
+
 /// Runs the command that the words name, over the standard streams, and gives the exit status.
 pub fn run_process(rt: HostRuntime) -> ExitCode {
     let words = match words(&rt) {
@@ -34,5 +60,5 @@ pub fn run_process(rt: HostRuntime) -> ExitCode {
     };
     let mut input = StdSource::new(rt.stdin());
     let mut output = StdSink::new(rt.stdout());
-    ExitCode::from(top(rt.alloc(), &words, &mut input, &mut output))
+    run_over_streams(rt.alloc(), &words, &mut input, &mut output)
 }
