@@ -1,11 +1,19 @@
 //! What an attacker tries beside the lighting's modules, and what a trace shows of it. Each
 //! schedule stands in examples/attacks under the name that is given here.
 
-use crate::inputs::{SAMPLE, SAMPLED, is_told, joined, lighting, sink, source, words};
+use crate::inputs::{SAMPLE, SAMPLED, is_told, joined, lighting, run, sink, source};
 use std::alloc::Global;
 use std::process::Abort;
 use std::test::Fail;
-use sx_top::top;
+
+/// Whether the run of the lighting with this schedule tells this.
+fn tells(rt: &impl Abort, alloc: Global, schedule: &[u8], text: &[u8]) -> Result<(), Fail> {
+    let mut input = source(alloc, &lighting(alloc, schedule)?, 4096, 0)?;
+    let mut output = sink(alloc, 20_000, 0)?;
+    assert_eq!(rt; run(alloc, &mut input, &mut output)?, 0);
+    is_told(rt, &output, text);
+    Ok(())
+}
 
 /// Whether what is tried after a schedule's first lines gives these items after those of the lines.
 fn gives(
@@ -18,11 +26,21 @@ fn gives(
 ) -> Result<(), Fail> {
     let schedule = joined(alloc, &[first, tried])?;
     let text = joined(alloc, &[b"trace\n", first_items, items, b"end\n"])?;
-    let mut input = source(alloc, &lighting(alloc, &schedule)?, 4096, 0)?;
-    let mut output = sink(alloc, 20_000, 0)?;
-    let answer = top(alloc, &words(alloc, "run")?, &mut input, &mut output);
-    assert_eq!(rt; answer, 0);
-    is_told(rt, &output, &text);
+    tells(rt, alloc, &schedule, &text)
+}
+
+/// Whether each attempt gives the items beside it where the module between is loaded.
+fn all_give(rt: &impl Abort, alloc: Global, rows: &[(&[u8], &[u8])]) -> Result<(), Fail> {
+    for (tried, items) in rows {
+        gives(
+            rt,
+            alloc,
+            b"load logic\n",
+            b"protect a logic\n",
+            tried,
+            items,
+        )?;
+    }
     Ok(())
 }
 
@@ -45,17 +63,7 @@ fn jumps(rt: HostRuntime) -> Result<(), Fail> {
             b"reset a fetch\n",
         ),
     ];
-    for (tried, items) in rows {
-        gives(
-            &rt,
-            rt.alloc(),
-            b"load logic\n",
-            b"protect a logic\n",
-            tried,
-            items,
-        )?;
-    }
-    Ok(())
+    all_give(&rt, rt.alloc(), &rows)
 }
 
 /// Reads and writes of code outside, and bytes put and taken from outside the chip.
@@ -103,17 +111,7 @@ fn memory(rt: HostRuntime) -> Result<(), Fail> {
             b"skip a\nskip a\nskip a\nskip a\n",
         ),
     ];
-    for (tried, items) in rows {
-        gives(
-            &rt,
-            rt.alloc(),
-            b"load logic\n",
-            b"protect a logic\n",
-            tried,
-            items,
-        )?;
-    }
-    Ok(())
+    all_give(&rt, rt.alloc(), &rows)
 }
 
 /// Stacks in a private section, of code outside and of an interrupt.
@@ -146,17 +144,7 @@ fn stacks(rt: HostRuntime) -> Result<(), Fail> {
             b"reset a write\n",
         ),
     ];
-    for (tried, items) in rows {
-        gives(
-            &rt,
-            rt.alloc(),
-            b"load logic\n",
-            b"protect a logic\n",
-            tried,
-            items,
-        )?;
-    }
-    Ok(())
+    all_give(&rt, rt.alloc(), &rows)
 }
 
 /// Sections that are protected over a module, and beside one.
@@ -174,17 +162,7 @@ fn sections_beside_a_module(rt: HostRuntime) -> Result<(), Fail> {
             b"protect a -\n",
         ),
     ];
-    for (tried, items) in rows {
-        gives(
-            &rt,
-            rt.alloc(),
-            b"load logic\n",
-            b"protect a logic\n",
-            tried,
-            items,
-        )?;
-    }
-    Ok(())
+    all_give(&rt, rt.alloc(), &rows)
 }
 
 /// Returns, entries and windows of a call.
@@ -230,17 +208,7 @@ fn calls(rt: HostRuntime) -> Result<(), Fail> {
             b"ask logic 0\npacket 0 18\nvouch logic 0\nreset a write\n",
         ),
     ];
-    for (tried, items) in rows {
-        gives(
-            &rt,
-            rt.alloc(),
-            b"load logic\n",
-            b"protect a logic\n",
-            tried,
-            items,
-        )?;
-    }
-    Ok(())
+    all_give(&rt, rt.alloc(), &rows)
 }
 
 /// Packets that are no answer are given to the deployer.
@@ -253,17 +221,7 @@ fn answers(rt: HostRuntime) -> Result<(), Fail> {
             b"ask logic 0\npacket 0 18\ndenied logic\ndenied logic\n",
         ),
     ];
-    for (tried, items) in rows {
-        gives(
-            &rt,
-            rt.alloc(),
-            b"load logic\n",
-            b"protect a logic\n",
-            tried,
-            items,
-        )?;
-    }
-    Ok(())
+    all_give(&rt, rt.alloc(), &rows)
 }
 
 /// What an attacker does where no module is loaded yet.
@@ -286,7 +244,7 @@ fn before_a_module_is_loaded(rt: HostRuntime) -> Result<(), Fail> {
             b"sense light 7\nreset a asked\nprotect a eye\ndone eye 8 0\n",
         ),
     ];
-    for (tried, items) in rows {
+    for (tried, items) in rows.as_slice() {
         gives(&rt, rt.alloc(), b"", b"", tried, items)?;
     }
     Ok(())
@@ -317,7 +275,7 @@ fn packets(rt: HostRuntime) -> Result<(), Fail> {
             b"done lamp 7 0\ndone lamp 6 0\n",
         ),
     ];
-    for (tried, items) in rows {
+    for (tried, items) in rows.as_slice() {
         gives(&rt, rt.alloc(), SAMPLE, SAMPLED, tried, items)?;
     }
     Ok(())

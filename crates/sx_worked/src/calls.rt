@@ -232,6 +232,22 @@ pub(crate) fn given<T: Tag>(
     called(rt, alloc, node, module, &entry(number))
 }
 
+/// Whether the event of a packet ends so, with this seen at devices.
+pub(crate) fn shows<T: Tag>(
+    rt: &impl Abort,
+    alloc: Global,
+    node: &mut Node<FlatBus, T>,
+    module: &Loaded,
+    packet: &[u8],
+    outcome: Outcome,
+    touches: &[Touch],
+) -> Result<(), Fail> {
+    let ended = given(rt, alloc, node, module, 2, packet)?;
+    assert_eq!(rt; ended.outcome, outcome);
+    assert_eq!(rt; ended.touches.as_slice(), touches);
+    Ok(())
+}
+
 /// The set-key packet for an end, whose connection field is the connection's number and its epoch.
 pub(crate) fn set_key_packet<T: Tag>(
     tag: &T,

@@ -1,12 +1,14 @@
 //! Inputs and lines worked by hand from the rules.
 
-use crate::inputs::{SAMPLE, SAMPLED, is_told, joined, lighting, sink, source, two_words, words};
+use crate::inputs::{
+    SAMPLE, SAMPLED, done, is_told, joined, lighting, run, says, sink, source, two_words, words,
+};
 use std::alloc::Global;
 use std::process::Abort;
 use std::test::Fail;
-use sx_io::MemSink;
+use sx_io::{MemSink, MemSource};
 use sx_tag::Weak;
-use sx_top::{run_over, top};
+use sx_top::run_over;
 
 /// Whether the command writes this text for the input, and ends with this status.
 fn writes(
@@ -17,11 +19,19 @@ fn writes(
     status: u8,
     text: &[u8],
 ) -> Result<(), Fail> {
-    let mut input = source(alloc, input, 4096, 0)?;
-    let mut output = sink(alloc, 400, 0)?;
-    let answer = top(alloc, &words(alloc, word)?, &mut input, &mut output);
-    assert_eq!(rt; answer, status);
-    assert_eq!(rt; output.written(), text);
+    says(rt, alloc, &words(alloc, word)?, input, status, text)
+}
+
+/// Each input gives the status and the text beside it.
+fn all_write(
+    rt: &impl Abort,
+    alloc: Global,
+    word: &str,
+    rows: &[(&[u8], u8, &[u8])],
+) -> Result<(), Fail> {
+    for (input, status, text) in rows {
+        writes(rt, alloc, word, input, *status, text)?;
+    }
     Ok(())
 }
 
@@ -78,10 +88,7 @@ fn runs_on_one_node(rt: HostRuntime) -> Result<(), Fail> {
             b"trace\nprotect n -\nprotect n -\nend\n",
         ),
     ];
-    for (input, status, text) in rows {
-        writes(&rt, rt.alloc(), "run", input, status, text)?;
-    }
-    Ok(())
+    all_write(&rt, rt.alloc(), "run", &rows)
 }
 
 #[test]
@@ -98,33 +105,43 @@ fn schedules_that_break_a_rule(rt: HostRuntime) -> Result<(), Fail> {
             b"trace\nreset n asked\nfault schedule S7 2\n",
         ),
     ];
-    for (input, text) in rows {
+    for (input, text) in rows.as_slice() {
         writes(&rt, rt.alloc(), "run", input, 3, text)?;
     }
     Ok(())
 }
 
+/// A first line, a piece so many times, and a last line.
+fn framed(
+    alloc: Global,
+    first: &[u8],
+    count: usize,
+    piece: &[u8],
+    last: &[u8],
+) -> Result<Vec<u8>, Fail> {
+    let mut text = joined(alloc, &[first])?;
+    for _ in 0..count {
+        text.extend_from_slice(piece)?;
+    }
+    text.extend_from_slice(last)?;
+    Ok(text)
+}
+
 #[test]
 fn lines_up_to_the_limit(rt: HostRuntime) -> Result<(), Fail> {
     let alloc = rt.alloc();
-    let mut input = Vec::new(alloc);
-    input.extend_from_slice(b"%%\n")?;
-    for _ in 0..65_536 {
-        input.push(b'\n')?;
-    }
-    writes(&rt, alloc, "run", &input, 0, b"trace\nend\n")?;
-    input.push(b'\n')?;
+    let most = framed(alloc, b"%%\n", 65_536, b"\n", b"")?;
+    writes(&rt, alloc, "run", &most, 0, b"trace\nend\n")?;
+    let more = framed(alloc, b"%%\n", 65_537, b"\n", b"")?;
     writes(
         &rt,
         alloc,
         "run",
-        &input,
+        &more,
         3,
         b"trace\nfault schedule S2 65537\n",
     )?;
-    let mut long = Vec::new(alloc);
-    long.extend_from_slice(b"%%\n\n")?;
-    long.extend_from_slice(&[b'#'; 4097])?;
+    let long = joined(alloc, &[b"%%\n\n", &[b'#'; 4097]])?;
     writes(&rt, alloc, "run", &long, 3, b"trace\nfault schedule S1 2\n")
 }
 
@@ -160,13 +177,9 @@ fn checks(rt: HostRuntime) -> Result<(), Fail> {
             b"fault deployment D8 module 0 2\n",
         ),
     ];
-    for (input, status, text) in rows {
-        writes(&rt, alloc, "check", input, status, text)?;
-        if status == 1 {
-            writes(&rt, alloc, "run", input, status, text)?;
-        }
-    }
-    Ok(())
+    all_write(&rt, alloc, "check", &rows)?;
+    // a deployment that is refused isn't run
+    all_write(&rt, alloc, "run", &rows[2..])
 }
 
 /// Whether the lighting does what this schedule says.
@@ -179,8 +192,7 @@ fn lights(
 ) -> Result<(), Fail> {
     let mut input = source(alloc, &lighting(alloc, schedule)?, 4096, 0)?;
     let mut output = sink(alloc, 20_000, 0)?;
-    let answer = top(alloc, &words(alloc, "run")?, &mut input, &mut output);
-    assert_eq!(rt; answer, status);
+    assert_eq!(rt; run(alloc, &mut input, &mut output)?, status);
     is_told(rt, &output, text);
     Ok(())
 }
@@ -199,8 +211,8 @@ fn runs_of_the_lighting(rt: HostRuntime) -> Result<(), Fail> {
         ),
         (b"sense bulb 1\n", 3, b"trace\nfault schedule S4 1\n"),
     ];
-    for (schedule, status, text) in rows {
-        lights(&rt, alloc, schedule, status, text)?;
+    for (schedule, status, text) in rows.as_slice() {
+        lights(&rt, alloc, schedule, *status, text)?;
     }
     Ok(())
 }
@@ -224,16 +236,25 @@ done lamp 1 0
 reset a write
 "#;
 
+fn run_weak(alloc: Global, input: &mut MemSource, output: &mut MemSink) -> u8 {
+    run_over(alloc, Weak, input, output)
+}
+
+/// Whether the lighting tells this of the schedule where tags are weak.
+fn tells_weak(rt: &impl Abort, alloc: Global, schedule: &[u8], text: &[u8]) -> Result<(), Fail> {
+    let mut input = source(alloc, &lighting(alloc, schedule)?, 4096, 0)?;
+    let mut output = sink(alloc, 20_000, 0)?;
+    assert_eq!(rt; run_weak(alloc, &mut input, &mut output), 0);
+    is_told(rt, &output, text);
+    Ok(())
+}
+
 #[test]
 fn forged_packet(rt: HostRuntime) -> Result<(), Fail> {
     let alloc = rt.alloc();
     let schedule = joined(alloc, &[SAMPLE, FORGE])?;
-    let mut input = source(alloc, &lighting(alloc, &schedule)?, 4096, 0)?;
-    let mut output = sink(alloc, 20_000, 0)?;
-    assert_eq!(rt; run_over(alloc, Weak, &mut input, &mut output), 0);
     let text = joined(alloc, &[b"trace\n", SAMPLED, FORGED, b"end\n"])?;
-    is_told(&rt, &output, &text);
-    Ok(())
+    tells_weak(&rt, alloc, &schedule, &text)
 }
 
 #[test]
@@ -260,13 +281,34 @@ fn words_with_an_address(rt: HostRuntime) -> Result<(), Fail> {
         ("dis", "65536", b"2645\n", 2, b"fault usage\n"),
         ("run", "0", b"%%\n", 2, b"fault usage\n"),
     ];
-    for (word, at, text, status, told) in rows {
-        let mut input = source(alloc, text, 4096, 0)?;
-        let mut output = sink(alloc, 400, 0)?;
-        let answer = top(alloc, &two_words(alloc, word, at)?, &mut input, &mut output);
-        assert_eq!(rt; answer, status);
-        assert_eq!(rt; output.written(), told);
+    for (word, at, text, status, told) in rows.as_slice() {
+        says(
+            &rt,
+            alloc,
+            &two_words(alloc, word, at)?,
+            text,
+            *status,
+            told,
+        )?;
     }
+    Ok(())
+}
+
+/// Words that are no command.
+fn misuse(
+    rt: &impl Abort,
+    alloc: Global,
+    input: &mut MemSource,
+    output: &mut MemSink,
+) -> Result<(), Fail> {
+    assert_eq!(rt; done(alloc, &words(alloc, "fly")?, input, output), 2);
+    assert_eq!(rt; done(alloc, &[], input, output), 2);
+    assert_eq!(rt; done(alloc, &words(alloc, "gen")?, input, output), 2);
+    assert_eq!(rt; done(alloc, &words(alloc, "--help")?, input, output), 2);
+    assert_eq!(rt;
+        done(alloc, &two_words(alloc, "check", "x")?, input, output),
+        2
+    );
     Ok(())
 }
 
@@ -275,22 +317,21 @@ fn other_words(rt: HostRuntime) -> Result<(), Fail> {
     let alloc = rt.alloc();
     let mut input = source(alloc, b"%%\n", 1, 0)?;
     let mut output = sink(alloc, 100, 0)?;
-    assert_eq!(rt;
-        top(alloc, &words(alloc, "fly")?, &mut input, &mut output),
-        2
-    );
-    assert_eq!(rt; top(alloc, &[], &mut input, &mut output), 2);
-    assert_eq!(rt;
-        top(alloc, &words(alloc, "gen")?, &mut input, &mut output),
-        2
-    );
-    let more = two_words(alloc, "check", "x")?;
-    assert_eq!(rt; top(alloc, &more, &mut input, &mut output), 2);
+    misuse(&rt, alloc, &mut input, &mut output)?;
     assert_eq!(rt;
         output.written(),
-        b"fault usage\nfault usage\nfault usage\nfault usage\n".as_slice()
+        b"fault usage\nfault usage\nfault usage\nfault usage\nfault usage\n".as_slice()
     );
     assert_eq!(rt; input.left(), 3);
+    Ok(())
+}
+
+/// Whether the run of an input writes this text.
+fn runs(rt: &impl Abort, alloc: Global, input: &[u8], text: &[u8]) -> Result<(), Fail> {
+    let mut input = source(alloc, input, 4096, 0)?;
+    let mut output = sink(alloc, 300_000, 0)?;
+    assert_eq!(rt; run(alloc, &mut input, &mut output)?, 0);
+    assert_eq!(rt; output.written(), text);
     Ok(())
 }
 
@@ -298,17 +339,7 @@ fn other_words(rt: HostRuntime) -> Result<(), Fail> {
 #[test]
 fn resets(rt: HostRuntime) -> Result<(), Fail> {
     let alloc = rt.alloc();
-    let mut input = joined(alloc, &[b"%%\n"])?;
-    let mut text = joined(alloc, &[b"trace\n"])?;
-    for _ in 0..20_000 {
-        input.extend_from_slice(b"put n 0x4000 2645\nreset n\n")?;
-        text.extend_from_slice(b"reset n asked\n")?;
-    }
-    text.extend_from_slice(b"end\n")?;
-    let mut input = source(alloc, &input, 4096, 0)?;
-    let mut output = sink(alloc, 300_000, 0)?;
-    let answer = top(alloc, &words(alloc, "run")?, &mut input, &mut output);
-    assert_eq!(rt; answer, 0);
-    assert_eq!(rt; output.written(), text.as_slice());
-    Ok(())
+    let input = framed(alloc, b"%%\n", 20_000, b"put n 0x4000 2645\nreset n\n", b"")?;
+    let text = framed(alloc, b"trace\n", 20_000, b"reset n asked\n", b"end\n")?;
+    runs(&rt, alloc, &input, &text)
 }

@@ -4,8 +4,10 @@ ghost use Rattle.std.specs.Prelude.{◌≤◌};
 
 use std::alloc::{AllocError, Global};
 use std::process::Abort;
+use std::test::Fail;
 use sx_bulk::HEAD;
 use sx_io::{MemSink, MemSource};
+use sx_top::top;
 
 pub(crate) fn words(alloc: Global, word: &str) -> Result<Vec<String>, AllocError> {
     let mut words = Vec::new(alloc);
@@ -16,13 +18,6 @@ pub(crate) fn words(alloc: Global, word: &str) -> Result<Vec<String>, AllocError
 pub(crate) fn two_words(alloc: Global, word: &str, next: &str) -> Result<Vec<String>, AllocError> {
     let mut words = words(alloc, word)?;
     words.push(format!(in alloc; "{next}")?)?;
-    Ok(words)
-}
-
-/// A command of an address.
-pub(crate) fn at_address(alloc: Global, command: &str, at: u16) -> Result<Vec<String>, AllocError> {
-    let mut words = words(alloc, command)?;
-    words.push(format!(in alloc; "{at}")?)?;
     Ok(words)
 }
 
@@ -47,6 +42,41 @@ pub(crate) fn sink(alloc: Global, capacity: usize, failing: u64) -> Result<MemSi
     let mut calls = Vec::new(alloc);
     calls.push(failing)?;
     MemSink::new(alloc, capacity, calls)
+}
+
+/// Does a command, and gives its status.
+pub(crate) fn done(
+    alloc: Global,
+    words: &[String],
+    input: &mut MemSource,
+    output: &mut MemSink,
+) -> u8 {
+    top(alloc, words, input, output)
+}
+
+/// Does the command `run`, and gives its status.
+pub(crate) fn run(
+    alloc: Global,
+    input: &mut MemSource,
+    output: &mut MemSink,
+) -> Result<u8, AllocError> {
+    Ok(top(alloc, &words(alloc, "run")?, input, output))
+}
+
+/// Whether the command does its input, given in one piece, with this status and this output.
+pub(crate) fn says(
+    rt: &impl Abort,
+    alloc: Global,
+    words: &[String],
+    input: &[u8],
+    status: u8,
+    text: &[u8],
+) -> Result<(), Fail> {
+    let mut input = source(alloc, input, 4096, 0)?;
+    let mut output = sink(alloc, 400, 0)?;
+    assert_eq!(rt; done(alloc, words, &mut input, &mut output), status);
+    assert_eq!(rt; output.written(), text);
+    Ok(())
 }
 
 /// The texts one after the other.
@@ -152,4 +182,18 @@ pub(crate) fn lighting(alloc: Global, schedule: &[u8]) -> Result<Vec<u8>, AllocE
 /// Whether this is what follows the images.
 pub(crate) fn is_told(rt: &impl Abort, output: &MemSink, text: &[u8]) {
     assert_eq!(rt; output.written().get(IMAGES..), Some(text));
+}
+
+/// The first lines of a text.
+pub(crate) fn first_lines(text: &[u8], count: usize) -> &[u8] {
+    let mut left = count;
+    for (i, byte) in text.iter().enumerate() {
+        if left == 0 {
+            return &text[..i];
+        }
+        if *byte == b'\n' {
+            left -= 1;
+        }
+    }
+    text
 }

@@ -9,15 +9,11 @@
 #![tactic(auto)]
 
 #[cfg(test)]
-mod asm;
-#[cfg(test)]
 mod attacks;
 #[cfg(test)]
 mod calls;
 #[cfg(test)]
 mod commands;
-#[cfg(test)]
-mod dis;
 #[cfg(test)]
 mod inputs;
 #[cfg(test)]
@@ -26,6 +22,8 @@ mod meanings;
 mod modules;
 #[cfg(test)]
 mod protocol;
+#[cfg(test)]
+mod rows;
 #[cfg(test)]
 mod runs;
 #[cfg(test)]

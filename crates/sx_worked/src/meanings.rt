@@ -4,7 +4,7 @@ ghost use Rattle.std.specs.Prelude.{◌≤◌, length};
 
 use crate::calls::{
     Compiled, DOWN, Ended, FROM, Loaded, OUT, Outcome, PROTOCOL, TO, UP, called, entry,
-    event_packet, given, holds, load, node, open, sensing, write_of,
+    event_packet, given, holds, load, node, open, sensing, shows, write_of,
 };
 use crate::modules::{NotMade, checked, end, eye, image_of, lamp, logic};
 use std::alloc::{AllocError, Global};
@@ -185,6 +185,20 @@ impl Called {
         true
     }
 
+    /// The module on the node has these effects at an event.
+    fn shows(
+        &mut self,
+        rt: &impl Abort,
+        alloc: Global,
+        event: SourceEvent,
+        wanted: &Effects,
+    ) -> Result<(), AllocError> {
+        let ended = self.call(rt, alloc, event)?;
+        assert_eq!(rt; ended.outcome, Outcome::Done(1, wanted.sent));
+        assert_eq!(rt; ended.touches.as_slice(), wanted.touches.as_slice());
+        Ok(())
+    }
+
     /// The acts of the source at an event, which the module on the node does too.
     fn react(
         &mut self,
@@ -195,9 +209,7 @@ impl Called {
         let acts = react(alloc, &self.code, &mut self.store, event)?;
         let wanted = effects_of(alloc, event, &acts, self.packets)?;
         self.packets = self.packets.wrapping_add(wanted.sent);
-        let ended = self.call(rt, alloc, event)?;
-        assert_eq!(rt; ended.outcome, Outcome::Done(1, wanted.sent));
-        assert_eq!(rt; ended.touches.as_slice(), wanted.touches.as_slice());
+        self.shows(rt, alloc, event, &wanted)?;
         assert!(rt; holds(&self.node, OUT, &wanted.packets));
         assert!(rt; self.holds_cells());
         Ok(acts)
@@ -205,14 +217,47 @@ impl Called {
 }
 
 /// The module of the tables whose handler has this body.
-fn handling(rt: &impl Abort, alloc: Global, body: &str) -> Result<Called, Fail> {
+fn code_with(alloc: Global, body: &str) -> Result<Checked, Fail> {
     let mut text = String::from_str(alloc, HEAD)?;
     text.push_str(body)?;
     text.push_str(" }")?;
-    let code = checked(parse(alloc, text.as_str())?)?;
+    Ok(checked(parse(alloc, text.as_str())?)?)
+}
+
+/// That module on a node.
+fn handling(rt: &impl Abort, alloc: Global, body: &str) -> Result<Called, Fail> {
+    let code = code_with(alloc, body)?;
     let node = node(alloc, Weak, Kind::Actuator)?;
     let ends = [end(0, Side::To), end(1, Side::From)];
     Called::new(rt, alloc, code, ends.as_slice(), node)
+}
+
+/// Whether the module of this name does these acts at an event with this value.
+fn acts(
+    rt: &impl Abort,
+    alloc: Global,
+    module: &mut Called,
+    name: &str,
+    value: u16,
+    want: &[Act],
+) -> Result<(), Fail> {
+    let acts = module.react(rt, alloc, SourceEvent::Input(0, value))?;
+    assert_eq!(rt; acts.as_slice(), want, "{name}");
+    Ok(())
+}
+
+/// Whether a handler with this body does these acts.
+fn means(rt: &impl Abort, alloc: Global, body: &str, value: u16, want: &[Act]) -> Result<(), Fail> {
+    let mut module = handling(rt, alloc, body)?;
+    acts(rt, alloc, &mut module, body, value, want)
+}
+
+/// Each body writes the value beside it to the actuator.
+fn all_emit(rt: &impl Abort, alloc: Global, rows: &[(&str, u16, u16)]) -> Result<(), Fail> {
+    for (body, value, want) in rows {
+        means(rt, alloc, body, *value, &[Act::Emit(*want)])?;
+    }
+    Ok(())
 }
 
 #[test]
@@ -235,10 +280,19 @@ fn operators(rt: HostRuntime) -> Result<(), Fail> {
         ("emit !v;", 256, 0),
         ("emit (x - v) * -(v + ~x);", 2, 12),
     ];
-    for (body, value, want) in rows.as_slice() {
-        let mut module = handling(&rt, alloc, body)?;
-        let acts = module.react(&rt, alloc, SourceEvent::Input(0, *value))?;
-        assert_eq!(rt; acts.as_slice(), [Act::Emit(*want)].as_slice(), "{body}");
+    all_emit(&rt, alloc, &rows)
+}
+
+/// What the module of a body does at these values.
+fn compares(
+    rt: &impl Abort,
+    alloc: Global,
+    module: &mut Called,
+    body: &str,
+    wants: &[u16],
+) -> Result<(), Fail> {
+    for (value, want) in [6, 7, 8, 65535].iter().zip(wants.iter()) {
+        acts(rt, alloc, module, body, *value, &[Act::Emit(*want)])?;
     }
     Ok(())
 }
@@ -257,10 +311,7 @@ fn comparisons(rt: HostRuntime) -> Result<(), Fail> {
     ];
     for (body, wants) in rows.as_slice() {
         let mut module = handling(&rt, alloc, body)?;
-        for (value, want) in [6, 7, 8, 65535].iter().zip(wants.iter()) {
-            let acts = module.react(&rt, alloc, SourceEvent::Input(0, *value))?;
-            assert_eq!(rt; acts.as_slice(), [Act::Emit(*want)].as_slice(), "{body}");
-        }
+        compares(&rt, alloc, &mut module, body, wants)?;
     }
     Ok(())
 }
@@ -299,9 +350,7 @@ fn statements(rt: HostRuntime) -> Result<(), Fail> {
         ),
     ];
     for (body, value, want) in rows.as_slice() {
-        let mut module = handling(&rt, alloc, body)?;
-        let acts = module.react(&rt, alloc, SourceEvent::Input(0, *value))?;
-        assert_eq!(rt; acts.as_slice(), *want, "{body}");
+        means(&rt, alloc, body, *value, want)?;
     }
     Ok(())
 }
@@ -320,10 +369,20 @@ fn elements(rt: HostRuntime) -> Result<(), Fail> {
         ("xs[0] = 7; emit xs[v];", 32768, 0),
         ("xs[0] = 2; xs[xs[0]] = v; emit xs[xs[0]];", 9, 9),
     ];
-    for (body, value, want) in rows.as_slice() {
-        let mut module = handling(&rt, alloc, body)?;
-        let acts = module.react(&rt, alloc, SourceEvent::Input(0, *value))?;
-        assert_eq!(rt; acts.as_slice(), [Act::Emit(*want)].as_slice(), "{body}");
+    all_emit(&rt, alloc, &rows)
+}
+
+/// The last act at each of these values, after sixteen packets.
+fn keeps(
+    rt: &impl Abort,
+    alloc: Global,
+    module: &mut Called,
+    rows: &[(u16, u16)],
+) -> Result<(), Fail> {
+    for (value, want) in rows {
+        let acts = module.react(rt, alloc, SourceEvent::Input(0, *value))?;
+        assert_eq!(rt; acts.len(), 17);
+        assert_eq!(rt; acts.last(), Some(&Act::Emit(*want)));
     }
     Ok(())
 }
@@ -334,21 +393,20 @@ fn events_follow_one_another(rt: HostRuntime) -> Result<(), Fail> {
     let alloc = rt.alloc();
     let body = "let y = x; x = x + v; xs[v] = x; repeat 16 { send b(y); y = y + 1; } emit xs[0];";
     let mut module = handling(&rt, alloc, body)?;
-    for (value, want) in [(0, 5), (2, 5), (65530, 5), (0, 1), (7, 1)] {
-        let acts = module.react(&rt, alloc, SourceEvent::Input(0, value))?;
-        assert_eq!(rt; acts.len(), 17);
-        assert_eq!(rt; acts.last(), Some(&Act::Emit(want)));
-    }
-    Ok(())
+    let rows = [(0, 5), (2, 5), (65530, 5), (0, 1), (7, 1)];
+    keeps(&rt, alloc, &mut module, &rows)
 }
 
-/// Two handlers that don't stand in the order of their inputs, and an output with two ends.
-#[test]
-fn each_input_has_its_handler_and_each_end_its_packet(rt: HostRuntime) -> Result<(), Fail> {
-    let alloc = rt.alloc();
-    let text = "actuator; input a; input c; output b; output d; \
-        on c(v) { emit v + 1; send d(v); send b(7); } on a(v) { emit v; }";
-    let code = checked(parse(alloc, text)?)?;
+/// The source of two handlers that don't stand in the order of their inputs.
+const TWO_HANDLERS: &str = "actuator; input a; input c; output b; output d; \
+    on c(v) { emit v + 1; send d(v); send b(7); } on a(v) { emit v; }";
+
+fn load_two_handlers(
+    rt: &impl Abort,
+    alloc: Global,
+    node: &mut Node<FlatBus, Weak>,
+) -> Result<Loaded, Fail> {
+    let code = checked(parse(alloc, TWO_HANDLERS)?)?;
     let second = |end| End { port: 1, ..end };
     let ends = [
         end(0, Side::To),
@@ -357,41 +415,111 @@ fn each_input_has_its_handler_and_each_end_its_packet(rt: HostRuntime) -> Result
         second(end(3, Side::From)),
         second(end(4, Side::From)),
     ];
-    let mut node = node(alloc, Weak, Kind::Actuator)?;
-    let module = load_open(&rt, alloc, &code, ends.as_slice(), &mut node)?;
+    load_open(rt, alloc, &code, ends.as_slice(), node)
+}
+
+/// The packets of the second input's event, of which two leave by one output.
+fn holds_packets(rt: &impl Abort, node: &Node<FlatBus, Weak>) {
+    assert!(rt; holds(node, OUT, &event_packet(&Weak, &DOWN, 3, 0, 9)));
+    assert!(rt; holds(node, OUT + 24, &event_packet(&Weak, &DOWN, 4, 0, 9)));
+    assert!(rt; holds(node, OUT + 48, &event_packet(&Weak, &DOWN, 1, 0, 7)));
+}
+
+fn handle_two(rt: &impl Abort, alloc: Global, node: &mut Node<FlatBus, Weak>) -> Result<(), Fail> {
+    let module = load_two_handlers(rt, alloc, node)?;
     let packet = event_packet(&Weak, &UP, 2, 0, 9);
-    let ended = given(&rt, alloc, &mut node, &module, 2, &packet)?;
-    assert_eq!(rt; ended.outcome, Outcome::Done(1, 3));
-    assert_eq!(rt; ended.touches.as_slice(), [write_of(10)].as_slice());
-    assert!(rt; holds(&node, OUT, &event_packet(&Weak, &DOWN, 3, 0, 9)));
-    assert!(rt; holds(&node, OUT + 24, &event_packet(&Weak, &DOWN, 4, 0, 9)));
-    assert!(rt; holds(&node, OUT + 48, &event_packet(&Weak, &DOWN, 1, 0, 7)));
+    shows(
+        rt,
+        alloc,
+        node,
+        &module,
+        &packet,
+        Outcome::Done(1, 3),
+        &[write_of(10)],
+    )?;
+    holds_packets(rt, node);
     let packet = event_packet(&Weak, &UP, 0, 0, 9);
-    let ended = given(&rt, alloc, &mut node, &module, 2, &packet)?;
-    assert_eq!(rt; ended.outcome, Outcome::Done(1, 0));
-    assert_eq!(rt; ended.touches.as_slice(), [write_of(9)].as_slice());
+    shows(
+        rt,
+        alloc,
+        node,
+        &module,
+        &packet,
+        Outcome::Done(1, 0),
+        &[write_of(9)],
+    )
+}
+
+/// Two handlers that don't stand in the order of their inputs, and an output with two ends.
+#[test]
+fn each_input_has_its_handler_and_each_end_its_packet(rt: HostRuntime) -> Result<(), Fail> {
+    let alloc = rt.alloc();
+    let mut node = node(alloc, Weak, Kind::Actuator)?;
+    handle_two(&rt, alloc, &mut node)
+}
+
+fn logic_called(rt: &impl Abort, alloc: Global) -> Result<Called, Fail> {
+    let ends = [end(0, Side::To), end(1, Side::From)];
+    let sensor = node(alloc, Weak, Kind::Sensor)?;
+    Called::new(rt, alloc, logic(alloc)?, ends.as_slice(), sensor)
+}
+
+fn lamp_called(rt: &impl Abort, alloc: Global) -> Result<Called, Fail> {
+    let actuator = node(alloc, Weak, Kind::Actuator)?;
+    Called::new(
+        rt,
+        alloc,
+        lamp(alloc)?,
+        [end(0, Side::To)].as_slice(),
+        actuator,
+    )
+}
+
+fn eye_called(rt: &impl Abort, alloc: Global) -> Result<Called, Fail> {
+    let sensor = sensing(rt, alloc, 32767)?;
+    Called::new(
+        rt,
+        alloc,
+        eye(alloc)?,
+        [end(1, Side::From)].as_slice(),
+        sensor,
+    )
+}
+
+fn logic_compares(rt: &impl Abort, alloc: Global) -> Result<(), Fail> {
+    let mut module = logic_called(rt, alloc)?;
+    for (value, want) in [(0, 0), (100, 0), (101, 1), (65535, 1)].as_slice() {
+        acts(
+            rt,
+            alloc,
+            &mut module,
+            "logic",
+            *value,
+            &[Act::Send(0, *want)],
+        )?;
+    }
+    Ok(())
+}
+
+fn lamp_emits(rt: &impl Abort, alloc: Global) -> Result<(), Fail> {
+    let mut module = lamp_called(rt, alloc)?;
+    for value in [0, 9, 65535].as_slice() {
+        acts(rt, alloc, &mut module, "lamp", *value, &[Act::Emit(*value)])?;
+    }
+    Ok(())
+}
+
+fn eye_sends(rt: &impl Abort, alloc: Global) -> Result<(), Fail> {
+    let mut module = eye_called(rt, alloc)?;
+    let acts = module.react(rt, alloc, SourceEvent::Sample(32767))?;
+    assert_eq!(rt; acts.as_slice(), [Act::Send(0, 32767)].as_slice());
     Ok(())
 }
 
 #[test]
 fn examples(rt: HostRuntime) -> Result<(), Fail> {
     let alloc = rt.alloc();
-    let ends = [end(0, Side::To), end(1, Side::From)];
-    let sensor = node(alloc, Weak, Kind::Sensor)?;
-    let mut logic = Called::new(&rt, alloc, logic(alloc)?, ends.as_slice(), sensor)?;
-    for (value, want) in [(0, 0), (100, 0), (101, 1), (65535, 1)] {
-        let acts = logic.react(&rt, alloc, SourceEvent::Input(0, value))?;
-        assert_eq!(rt; acts.as_slice(), [Act::Send(0, want)].as_slice());
-    }
-    let actuator = node(alloc, Weak, Kind::Actuator)?;
-    let mut lamp = Called::new(&rt, alloc, lamp(alloc)?, &ends[..1], actuator)?;
-    for value in [0, 9, 65535] {
-        let acts = lamp.react(&rt, alloc, SourceEvent::Input(0, value))?;
-        assert_eq!(rt; acts.as_slice(), [Act::Emit(value)].as_slice());
-    }
-    let sensor = sensing(&rt, alloc, 32767)?;
-    let mut eye = Called::new(&rt, alloc, eye(alloc)?, &ends[1..], sensor)?;
-    let acts = eye.react(&rt, alloc, SourceEvent::Sample(32767))?;
-    assert_eq!(rt; acts.as_slice(), [Act::Send(0, 32767)].as_slice());
-    Ok(())
+    logic_compares(&rt, alloc)?;
+    lamp_emits(&rt, alloc)?;
+    eye_sends(&rt, alloc)
 }

@@ -8,6 +8,7 @@ ghost use Rattle.sx_lower.specs.Lowering.{SendFew};
 ghost use Rattle.sx_compile.specs.Compiled.{HasSections};
 
 use std::alloc::{AllocError, Global};
+use std::process::Abort;
 use std::test::Fail;
 use sx_check::checked::Checked;
 use sx_check::checks::check;
@@ -179,25 +180,28 @@ pub(crate) const LARGE: Layout = Layout {
     priv_to: 0x2232,
 };
 
+/// How many bytes the text of a module's image has.
+fn text_len(alloc: Global, m: &Checked, ends: &[End], layout: &Layout) -> Result<usize, Fail>
+    requires { length ends.now ≤ 16 }
+{
+    let image = image_of(alloc, m, ends, layout)?;
+    Ok(image.text.len())
+}
+
 #[test]
 fn images_have_the_weight_of_their_modules(rt: HostRuntime) -> Result<(), Fail> {
     let alloc = rt.alloc();
-    let eye = image_of(alloc, &eye(alloc)?, [end(0, Side::From)].as_slice(), &SMALL)?;
-    assert_eq!(rt; eye.text.len(), 2432);
+    let eye = text_len(alloc, &eye(alloc)?, [end(0, Side::From)].as_slice(), &SMALL)?;
+    assert_eq!(rt; eye, 2432);
     let logic_ends = [end(0, Side::To), end(1, Side::From)];
-    let logic = image_of(alloc, &logic(alloc)?, logic_ends.as_slice(), &LARGE)?;
-    assert_eq!(rt; logic.text.len(), 3072);
-    let lamp = image_of(alloc, &lamp(alloc)?, [end(1, Side::To)].as_slice(), &SMALL)?;
-    assert_eq!(rt; lamp.text.len(), 2432);
+    let logic = text_len(alloc, &logic(alloc)?, logic_ends.as_slice(), &LARGE)?;
+    assert_eq!(rt; logic, 3072);
+    let lamp = text_len(alloc, &lamp(alloc)?, [end(1, Side::To)].as_slice(), &SMALL)?;
+    assert_eq!(rt; lamp, 2432);
     Ok(())
 }
 
-/// MOV SP, &0x1094; MOV R12, &0x1006; ..: the entry keeps the caller's SP and R12 to R15. After the
-/// code stand zeros.
-#[test]
-fn an_image_begins_with_the_entry_and_ends_with_zeros(rt: HostRuntime) -> Result<(), Fail> {
-    let alloc = rt.alloc();
-    let image = image_of(alloc, &lamp(alloc)?, [end(1, Side::To)].as_slice(), &SMALL)?;
+fn begins_with_entry(rt: &impl Abort, image: &Image) {
     assert_eq!(rt; image.provider, 7);
     assert!(rt; image.layout == SMALL);
     assert!(rt;
@@ -206,5 +210,14 @@ fn an_image_begins_with_the_entry_and_ends_with_zeros(rt: HostRuntime) -> Result
             .starts_with(&[0x82, 0x41, 0x94, 0x10, 0x82, 0x4c, 0x06, 0x10])
     );
     assert!(rt; image.text.ends_with(&[0, 0]));
+}
+
+/// MOV SP, &0x1094; MOV R12, &0x1006; ..: the entry keeps the caller's SP and R12 to R15. After the
+/// code stand zeros.
+#[test]
+fn an_image_begins_with_the_entry_and_ends_with_zeros(rt: HostRuntime) -> Result<(), Fail> {
+    let alloc = rt.alloc();
+    let image = image_of(alloc, &lamp(alloc)?, [end(1, Side::To)].as_slice(), &SMALL)?;
+    begins_with_entry(&rt, &image);
     Ok(())
 }

@@ -1,8 +1,9 @@
 //! The worked modules on nodes keep the entry protocol.
 
 use crate::calls::{
-    Call, Compiled, DOWN, FROM, IN, OUT, Outcome, PROTOCOL, TO, UP, called, entry, event_packet,
-    given, holds, load, node, open, put, sensing, set, set_key_packet, stepped, through, write_of,
+    Call, Compiled, DOWN, FROM, IN, Loaded, OUT, Outcome, PROTOCOL, TO, UP, called, entry,
+    event_packet, given, holds, load, node, open, put, sensing, set, set_key_packet, shows,
+    stepped, through, write_of,
 };
 use crate::modules::{LARGE, SMALL, end, eye, image_of, lamp, logic};
 use std::alloc::Global;
@@ -13,7 +14,7 @@ use sx_lang::sides::Side;
 use sx_machine::{Event, Touch};
 use sx_node::Node;
 use sx_rules::Violation;
-use sx_tag::{Hmac, Weak, wrap};
+use sx_tag::{Hmac, Tag, Weak, wrap};
 
 /// An ask with a challenge of zeros.
 const ASK: [u8; 18] = [2, 0, 0, 0, 0, 0, 0, 0, 0, 0, 0, 0, 0, 0, 0, 0, 0, 0];
@@ -43,10 +44,72 @@ fn compiled_lamp(alloc: Global) -> Result<Compiled, Fail> {
     })
 }
 
+fn load_logic(
+    rt: &impl Abort,
+    alloc: Global,
+    node: &mut Node<FlatBus, Weak>,
+) -> Result<Loaded, Fail> {
+    Ok(load(rt, node, &compiled_logic(alloc)?))
+}
+
+fn load_lamp<T: Tag>(
+    rt: &impl Abort,
+    alloc: Global,
+    node: &mut Node<FlatBus, T>,
+) -> Result<Loaded, Fail> {
+    Ok(load(rt, node, &compiled_lamp(alloc)?))
+}
+
+/// Each packet that is given to an entry, one after the other, ends its call with this status.
+fn all_end(
+    rt: &impl Abort,
+    alloc: Global,
+    node: &mut Node<FlatBus, Weak>,
+    module: &Loaded,
+    rows: &[(u16, &[u8], u16)],
+) -> Result<(), Fail> {
+    for (number, packet, status) in rows {
+        let ended = given(rt, alloc, node, module, *number, packet)?;
+        assert_eq!(rt; ended.outcome, Outcome::Done(*status, 0));
+    }
+    Ok(())
+}
+
+/// How a call of the module between them ends, with an ask at the in-window.
+fn ask_on(
+    rt: &impl Abort,
+    alloc: Global,
+    node: &mut Node<FlatBus, Weak>,
+    image: &Compiled,
+    call: &Call,
+) -> Result<Outcome, Fail> {
+    let module = load(rt, node, image);
+    put(rt, node, IN, &ASK);
+    set(rt, node, 1, 0x2100);
+    let ended = called(rt, alloc, node, &module, call)?;
+    Ok(ended.outcome)
+}
+
+fn ask(rt: &impl Abort, alloc: Global, image: &Compiled, call: &Call) -> Result<Outcome, Fail> {
+    let mut node = node(alloc, Weak, Kind::Sensor)?;
+    ask_on(rt, alloc, &mut node, image, call)
+}
+
+fn all_ask(
+    rt: &impl Abort,
+    alloc: Global,
+    image: &Compiled,
+    rows: &[(Call, Outcome)],
+) -> Result<(), Fail> {
+    for (call, outcome) in rows {
+        assert_eq!(rt; ask(rt, alloc, image, call)?, *outcome);
+    }
+    Ok(())
+}
+
 #[test]
 fn calls_with_an_ask(rt: HostRuntime) -> Result<(), Fail> {
     let alloc = rt.alloc();
-    let image = compiled_logic(alloc)?;
     let inside = Call {
         back: 0x6004,
         ..entry(1)
@@ -63,68 +126,109 @@ fn calls_with_an_ask(rt: HostRuntime) -> Result<(), Fail> {
         (through(1, 0xFEF, OUT), Outcome::Reset(Violation::Device)),
         (through(1, 0xFEE, OUT), Outcome::Done(4, 0)),
     ];
-    for (call, outcome) in rows.as_slice() {
-        let mut node = node(alloc, Weak, Kind::Sensor)?;
-        let module = load(&rt, &mut node, &image);
-        put(&rt, &mut node, IN, &ASK);
-        set(&rt, &mut node, 1, 0x2100);
-        let ended = called(&rt, alloc, &mut node, &module, call)?;
-        assert_eq!(rt; ended.outcome, *outcome);
-    }
-    Ok(())
+    all_ask(&rt, alloc, &compiled_logic(alloc)?, &rows)
+}
+
+fn enter_behind_the_start(
+    rt: &impl Abort,
+    alloc: Global,
+    node: &mut Node<FlatBus, Weak>,
+) -> Result<Event, Fail> {
+    load_logic(rt, alloc, node)?;
+    set(rt, node, 0, 0x6002);
+    Ok(stepped(rt, node).event)
 }
 
 #[test]
 fn a_module_is_entered_at_its_start_alone(rt: HostRuntime) -> Result<(), Fail> {
     let alloc = rt.alloc();
     let mut node = node(alloc, Weak, Kind::Sensor)?;
-    load(&rt, &mut node, &compiled_logic(alloc)?);
-    set(&rt, &mut node, 0, 0x6002);
-    assert_eq!(rt;
-        stepped(&rt, &mut node).event,
-        Event::Reset(Violation::Order)
-    );
+    let event = enter_behind_the_start(&rt, alloc, &mut node)?;
+    assert_eq!(rt; event, Event::Reset(Violation::Order));
     Ok(())
+}
+
+fn answer_ask(
+    rt: &impl Abort,
+    alloc: Global,
+    node: &mut Node<FlatBus, Hmac>,
+    ask: &[u8; 18],
+) -> Result<Loaded, Fail> {
+    let module = load_lamp(rt, alloc, node)?;
+    let ended = given(rt, alloc, node, &module, 1, ask)?;
+    assert_eq!(rt; ended.outcome, Outcome::Done(1, 1));
+    Ok(module)
+}
+
+fn is_answered(rt: &impl Abort, node: &Node<FlatBus, Hmac>, module: &Loaded, ask: &[u8; 18]) {
+    let answer = wrap(&Hmac, &module.key, ask, &[], &mut [0; 32]);
+    assert!(rt; holds(node, OUT, &answer));
+    assert!(rt; holds(node, OUT + 16, &[0; 8]));
 }
 
 /// The answer is the tag over the ask and no body, under the module's key.
 #[test]
 fn an_ask_is_answered_under_the_module_key(rt: HostRuntime) -> Result<(), Fail> {
     let alloc = rt.alloc();
-    let mut node = node(alloc, Hmac, Kind::Actuator)?;
-    let module = load(&rt, &mut node, &compiled_lamp(alloc)?);
     let mut ask = ASK;
     ask[2] = 0x5A;
-    let ended = given(&rt, alloc, &mut node, &module, 1, &ask)?;
-    assert_eq!(rt; ended.outcome, Outcome::Done(1, 1));
-    let answer = wrap(&Hmac, &module.key, &ask, &[], &mut [0; 32]);
-    assert!(rt; holds(&node, OUT, &answer));
-    assert!(rt; holds(&node, OUT + 16, &[0; 8]));
+    let mut node = node(alloc, Hmac, Kind::Actuator)?;
+    let module = answer_ask(&rt, alloc, &mut node, &ask)?;
+    is_answered(&rt, &node, &module, &ask);
     Ok(())
+}
+
+/// A call with an ask, with something in all the caller's registers.
+fn call_with_registers(
+    rt: &impl Abort,
+    alloc: Global,
+    node: &mut Node<FlatBus, Weak>,
+) -> Result<Outcome, Fail> {
+    let module = load_logic(rt, alloc, node)?;
+    put(rt, node, IN, &ASK);
+    for reg in 4..12 {
+        set(rt, node, reg, 0xFFFF);
+    }
+    set(rt, node, 2, 0x1FF);
+    set(rt, node, 1, 0xFFFE);
+    let call = Call {
+        back: 0x801,
+        ..entry(1)
+    };
+    let ended = called(rt, alloc, node, &module, &call)?;
+    Ok(ended.outcome)
+}
+
+fn is_cleared(rt: &impl Abort, node: &Node<FlatBus, Weak>) {
+    for reg in 4..12 {
+        assert_eq!(rt; node.reg(reg), 0);
+    }
+    assert_eq!(rt; [node.reg(2), node.reg(14), node.reg(15)], [0; 3]);
+    assert_eq!(rt; [node.reg(0), node.reg(1)], [0x800, 0xFFFE]);
 }
 
 #[test]
 fn nothing_of_the_caller_stays(rt: HostRuntime) -> Result<(), Fail> {
     let alloc = rt.alloc();
     let mut node = node(alloc, Weak, Kind::Sensor)?;
-    let module = load(&rt, &mut node, &compiled_logic(alloc)?);
-    put(&rt, &mut node, IN, &ASK);
-    for reg in 4..12 {
-        set(&rt, &mut node, reg, 0xFFFF);
+    let outcome = call_with_registers(&rt, alloc, &mut node)?;
+    assert_eq!(rt; outcome, Outcome::Done(1, 1));
+    is_cleared(&rt, &node);
+    Ok(())
+}
+
+fn set_keys(
+    rt: &impl Abort,
+    alloc: Global,
+    node: &mut Node<FlatBus, Weak>,
+    rows: &[(u8, u16)],
+) -> Result<(), Fail> {
+    let module = load_logic(rt, alloc, node)?;
+    for (epoch, status) in rows {
+        let packet = set_key_packet(&Weak, &module, [1, *epoch], FROM, &DOWN);
+        let ended = given(rt, alloc, node, &module, 0, &packet)?;
+        assert_eq!(rt; ended.outcome, Outcome::Done(*status, 0));
     }
-    set(&rt, &mut node, 2, 0x1FF);
-    set(&rt, &mut node, 1, 0xFFFE);
-    let call = Call {
-        back: 0x801,
-        ..entry(1)
-    };
-    let ended = called(&rt, alloc, &mut node, &module, &call)?;
-    assert_eq!(rt; ended.outcome, Outcome::Done(1, 1));
-    for reg in 4..12 {
-        assert_eq!(rt; node.reg(reg), 0);
-    }
-    assert_eq!(rt; [node.reg(2), node.reg(14), node.reg(15)], [0; 3]);
-    assert_eq!(rt; [node.reg(0), node.reg(1)], [0x800, 0xFFFE]);
     Ok(())
 }
 
@@ -133,29 +237,44 @@ fn nothing_of_the_caller_stays(rt: HostRuntime) -> Result<(), Fail> {
 fn a_key_is_set_once_an_epoch(rt: HostRuntime) -> Result<(), Fail> {
     let alloc = rt.alloc();
     let mut node = node(alloc, Weak, Kind::Sensor)?;
-    let module = load(&rt, &mut node, &compiled_logic(alloc)?);
-    for (epoch, status) in [(0, 1), (0, 5), (2, 1), (2, 5), (1, 5)].as_slice() {
-        let packet = set_key_packet(&Weak, &module, [1, *epoch], FROM, &DOWN);
-        let ended = given(&rt, alloc, &mut node, &module, 0, &packet)?;
-        assert_eq!(rt; ended.outcome, Outcome::Done(*status, 0));
-    }
-    Ok(())
+    let rows = [(0, 1), (0, 5), (2, 1), (2, 5), (1, 5)];
+    set_keys(&rt, alloc, &mut node, &rows)
+}
+
+fn open_lamp(
+    rt: &impl Abort,
+    alloc: Global,
+    node: &mut Node<FlatBus, Weak>,
+) -> Result<Loaded, Fail> {
+    let module = load_lamp(rt, alloc, node)?;
+    open(rt, alloc, node, &module, 1, TO, &DOWN)?;
+    Ok(module)
+}
+
+fn write_once(
+    rt: &impl Abort,
+    alloc: Global,
+    node: &mut Node<FlatBus, Weak>,
+    packet: &[u8],
+) -> Result<(), Fail> {
+    let module = open_lamp(rt, alloc, node)?;
+    shows(
+        rt,
+        alloc,
+        node,
+        &module,
+        packet,
+        Outcome::Done(1, 0),
+        &[write_of(9)],
+    )?;
+    shows(rt, alloc, node, &module, packet, Outcome::Done(6, 0), &[])
 }
 
 #[test]
 fn the_lamp_writes_an_event_once(rt: HostRuntime) -> Result<(), Fail> {
     let alloc = rt.alloc();
     let mut node = node(alloc, Weak, Kind::Actuator)?;
-    let module = load(&rt, &mut node, &compiled_lamp(alloc)?);
-    open(&rt, alloc, &mut node, &module, 1, TO, &DOWN)?;
-    let packet = event_packet(&Weak, &DOWN, 1, 0, 9);
-    let ended = given(&rt, alloc, &mut node, &module, 2, &packet)?;
-    assert_eq!(rt; ended.outcome, Outcome::Done(1, 0));
-    assert_eq!(rt; ended.touches.as_slice(), [write_of(9)].as_slice());
-    let ended = given(&rt, alloc, &mut node, &module, 2, &packet)?;
-    assert_eq!(rt; ended.outcome, Outcome::Done(6, 0));
-    assert!(rt; ended.touches.is_empty());
-    Ok(())
+    write_once(&rt, alloc, &mut node, &event_packet(&Weak, &DOWN, 1, 0, 9))
 }
 
 /// The bytes of an event packet: its header, its cipher and sixteen times the tag's byte.
@@ -173,30 +292,63 @@ fn taken(rt: &impl Abort, node: &Node<FlatBus, Weak>) -> [u8; 24] {
     packet
 }
 
-/// The packet that the eye makes of a sample of 120.
-fn sampled(rt: &impl Abort, alloc: Global) -> Result<[u8; 24], Fail> {
-    let mut node = sensing(rt, alloc, 120)?;
-    let module = load(rt, &mut node, &compiled_eye(alloc)?);
-    open(rt, alloc, &mut node, &module, 0, FROM, &UP)?;
-    let ended = called(rt, alloc, &mut node, &module, &entry(3))?;
+fn sample(rt: &impl Abort, alloc: Global, node: &mut Node<FlatBus, Weak>) -> Result<(), Fail> {
+    let module = load(rt, node, &compiled_eye(alloc)?);
+    open(rt, alloc, node, &module, 0, FROM, &UP)?;
+    let ended = called(rt, alloc, node, &module, &entry(3))?;
     assert_eq!(rt; ended.outcome, Outcome::Done(1, 1));
     let read = Touch::DeviceRead {
         device: 0,
         value: 120,
     };
     assert_eq!(rt; ended.touches.as_slice(), [read].as_slice());
+    Ok(())
+}
+
+/// The packet that the eye makes of a sample of 120.
+fn sampled(rt: &impl Abort, alloc: Global) -> Result<[u8; 24], Fail> {
+    let mut node = sensing(rt, alloc, 120)?;
+    sample(rt, alloc, &mut node)?;
     Ok(taken(rt, &node))
+}
+
+fn judge(
+    rt: &impl Abort,
+    alloc: Global,
+    node: &mut Node<FlatBus, Weak>,
+    packet: &[u8; 24],
+) -> Result<(), Fail> {
+    let module = load_logic(rt, alloc, node)?;
+    open(rt, alloc, node, &module, 0, TO, &UP)?;
+    open(rt, alloc, node, &module, 1, FROM, &DOWN)?;
+    let ended = given(rt, alloc, node, &module, 2, packet)?;
+    assert_eq!(rt; ended.outcome, Outcome::Done(1, 1));
+    Ok(())
 }
 
 /// The packet that the module between them makes of an event.
 fn judged(rt: &impl Abort, alloc: Global, packet: &[u8; 24]) -> Result<[u8; 24], Fail> {
     let mut node = node(alloc, Weak, Kind::Sensor)?;
-    let module = load(rt, &mut node, &compiled_logic(alloc)?);
-    open(rt, alloc, &mut node, &module, 0, TO, &UP)?;
-    open(rt, alloc, &mut node, &module, 1, FROM, &DOWN)?;
-    let ended = given(rt, alloc, &mut node, &module, 2, packet)?;
-    assert_eq!(rt; ended.outcome, Outcome::Done(1, 1));
+    judge(rt, alloc, &mut node, packet)?;
     Ok(taken(rt, &node))
+}
+
+fn light(
+    rt: &impl Abort,
+    alloc: Global,
+    node: &mut Node<FlatBus, Weak>,
+    packet: &[u8],
+) -> Result<(), Fail> {
+    let module = open_lamp(rt, alloc, node)?;
+    shows(
+        rt,
+        alloc,
+        node,
+        &module,
+        packet,
+        Outcome::Done(1, 0),
+        &[write_of(1)],
+    )
 }
 
 /// A sample goes from the eye through the module to the lamp. The packets are worked by hand: a
@@ -210,11 +362,21 @@ fn a_sample_reaches_the_lamp(rt: HostRuntime) -> Result<(), Fail> {
     assert_eq!(rt; sampled(&rt, alloc)?, up);
     assert_eq!(rt; judged(&rt, alloc, &up)?, down);
     let mut node = node(alloc, Weak, Kind::Actuator)?;
-    let module = load(&rt, &mut node, &compiled_lamp(alloc)?);
-    open(&rt, alloc, &mut node, &module, 1, TO, &DOWN)?;
-    let ended = given(&rt, alloc, &mut node, &module, 2, &down)?;
-    assert_eq!(rt; ended.outcome, Outcome::Done(1, 0));
-    assert_eq!(rt; ended.touches.as_slice(), [write_of(1)].as_slice());
+    light(&rt, alloc, &mut node, &down)
+}
+
+/// Each call, one after the other, ends with this status.
+fn call_each(
+    rt: &impl Abort,
+    alloc: Global,
+    node: &mut Node<FlatBus, Weak>,
+    rows: &[(Call, u16)],
+) -> Result<(), Fail> {
+    let module = load_logic(rt, alloc, node)?;
+    for (call, status) in rows {
+        let ended = called(rt, alloc, node, &module, call)?;
+        assert_eq!(rt; ended.outcome, Outcome::Done(*status, 0));
+    }
     Ok(())
 }
 
@@ -222,8 +384,6 @@ fn a_sample_reaches_the_lamp(rt: HostRuntime) -> Result<(), Fail> {
 #[test]
 fn windows_have_their_bounds(rt: HostRuntime) -> Result<(), Fail> {
     let alloc = rt.alloc();
-    let mut node = node(alloc, Weak, Kind::Sensor)?;
-    let module = load(&rt, &mut node, &compiled_logic(alloc)?);
     let rows = [
         (through(1, 0xFFD8, OUT), 4),
         (through(1, 0xFFD9, OUT), 3),
@@ -235,20 +395,16 @@ fn windows_have_their_bounds(rt: HostRuntime) -> Result<(), Fail> {
         (through(1, 0x2232, OUT), 4),
         (through(4, 0xFFD9, OUT), 2),
     ];
-    for (call, status) in rows.as_slice() {
-        let ended = called(&rt, alloc, &mut node, &module, call)?;
-        assert_eq!(rt; ended.outcome, Outcome::Done(*status, 0));
-    }
-    Ok(())
+    let mut node = node(alloc, Weak, Kind::Sensor)?;
+    call_each(&rt, alloc, &mut node, &rows)
 }
 
-/// Packets of another kind, for ends that the module doesn't have or that aren't open, and of the
-/// last number.
-#[test]
-fn packets_are_refused(rt: HostRuntime) -> Result<(), Fail> {
-    let alloc = rt.alloc();
-    let mut node = node(alloc, Weak, Kind::Sensor)?;
-    let module = load(&rt, &mut node, &compiled_logic(alloc)?);
+fn refuse_packets(
+    rt: &impl Abort,
+    alloc: Global,
+    node: &mut Node<FlatBus, Weak>,
+) -> Result<(), Fail> {
+    let module = load_logic(rt, alloc, node)?;
     let other = set_key_packet(&Weak, &module, [2, 0], TO, &UP);
     let side = set_key_packet(&Weak, &module, [1, 0], TO, &UP);
     let event = event_packet(&Weak, &UP, 0, 0, 9);
@@ -260,19 +416,20 @@ fn packets_are_refused(rt: HostRuntime) -> Result<(), Fail> {
         (0, &side, 5),
         (2, &event, 5),
     ];
-    for (number, packet, status) in rows.as_slice() {
-        let ended = given(&rt, alloc, &mut node, &module, *number, packet)?;
-        assert_eq!(rt; ended.outcome, Outcome::Done(*status, 0));
-    }
-    Ok(())
+    all_end(rt, alloc, node, &module, &rows)
 }
 
-/// A packet under another key leaves an end closed, and an open one as it was.
+/// Packets of another kind, for ends that the module doesn't have or that aren't open, and of the
+/// last number.
 #[test]
-fn wrong_tags_are_refused(rt: HostRuntime) -> Result<(), Fail> {
+fn packets_are_refused(rt: HostRuntime) -> Result<(), Fail> {
     let alloc = rt.alloc();
     let mut node = node(alloc, Weak, Kind::Sensor)?;
-    let module = load(&rt, &mut node, &compiled_logic(alloc)?);
+    refuse_packets(&rt, alloc, &mut node)
+}
+
+fn refuse_tags(rt: &impl Abort, alloc: Global, node: &mut Node<FlatBus, Weak>) -> Result<(), Fail> {
+    let module = load_logic(rt, alloc, node)?;
     let mut forged = set_key_packet(&Weak, &module, [0, 0], TO, &UP);
     forged[37] ^= 1;
     let key = set_key_packet(&Weak, &module, [0, 0], TO, &UP);
@@ -287,9 +444,27 @@ fn wrong_tags_are_refused(rt: HostRuntime) -> Result<(), Fail> {
         (2, &last, 6),
         (2, &event, 1),
     ];
-    for (number, packet, status) in rows.as_slice() {
-        let ended = given(&rt, alloc, &mut node, &module, *number, packet)?;
-        assert_eq!(rt; ended.outcome, Outcome::Done(*status, 0));
+    all_end(rt, alloc, node, &module, &rows)
+}
+
+/// A packet under another key leaves an end closed, and an open one as it was.
+#[test]
+fn wrong_tags_are_refused(rt: HostRuntime) -> Result<(), Fail> {
+    let alloc = rt.alloc();
+    let mut node = node(alloc, Weak, Kind::Sensor)?;
+    refuse_tags(&rt, alloc, &mut node)
+}
+
+fn read_once(
+    rt: &impl Abort,
+    alloc: Global,
+    node: &mut Node<FlatBus, Weak>,
+    outcomes: &[Outcome],
+) -> Result<(), Fail> {
+    let module = load(rt, node, &compiled_eye(alloc)?);
+    for outcome in outcomes {
+        let ended = called(rt, alloc, node, &module, &entry(3))?;
+        assert_eq!(rt; ended.outcome, *outcome);
     }
     Ok(())
 }
@@ -299,20 +474,32 @@ fn wrong_tags_are_refused(rt: HostRuntime) -> Result<(), Fail> {
 fn the_eye_reads_a_sample_once(rt: HostRuntime) -> Result<(), Fail> {
     let alloc = rt.alloc();
     let mut node = sensing(&rt, alloc, 7)?;
-    let module = load(&rt, &mut node, &compiled_eye(alloc)?);
-    let ended = called(&rt, alloc, &mut node, &module, &entry(3))?;
-    assert_eq!(rt; ended.outcome, Outcome::Done(1, 0));
-    let ended = called(&rt, alloc, &mut node, &module, &entry(3))?;
-    assert_eq!(rt; ended.outcome, Outcome::Done(8, 0));
-    Ok(())
+    let outcomes = [Outcome::Done(1, 0), Outcome::Done(8, 0)];
+    read_once(&rt, alloc, &mut node, &outcomes)
+}
+
+/// How a call of a module ends beside another one.
+fn ask_beside(
+    rt: &impl Abort,
+    alloc: Global,
+    node: &mut Node<FlatBus, Weak>,
+    call: &Call,
+) -> Result<Outcome, Fail> {
+    let module = load_logic(rt, alloc, node)?;
+    load(rt, node, &compiled_eye(alloc)?);
+    put(rt, node, IN, &ASK);
+    let ended = called(rt, alloc, node, &module, call)?;
+    Ok(ended.outcome)
+}
+
+fn guarded(rt: &impl Abort, alloc: Global, call: &Call) -> Result<Outcome, Fail> {
+    let mut node = node(alloc, Weak, Kind::Sensor)?;
+    ask_beside(rt, alloc, &mut node, call)
 }
 
 /// Windows that meet a private section of another module, its text, or the module's own.
 #[test]
 fn windows_are_guarded(rt: HostRuntime) -> Result<(), Fail> {
-    let alloc = rt.alloc();
-    let image = compiled_logic(alloc)?;
-    let beside = compiled_eye(alloc)?;
     let rows = [
         (through(1, 0x1100, OUT), Outcome::Reset(Violation::Read)),
         (through(1, IN, 0x1100), Outcome::Reset(Violation::Write)),
@@ -321,12 +508,7 @@ fn windows_are_guarded(rt: HostRuntime) -> Result<(), Fail> {
         (through(1, 0x4100, OUT), Outcome::Done(4, 0)),
     ];
     for (call, outcome) in rows.as_slice() {
-        let mut node = node(alloc, Weak, Kind::Sensor)?;
-        let module = load(&rt, &mut node, &image);
-        load(&rt, &mut node, &beside);
-        put(&rt, &mut node, IN, &ASK);
-        let ended = called(&rt, alloc, &mut node, &module, call)?;
-        assert_eq!(rt; ended.outcome, *outcome);
+        assert_eq!(rt; guarded(&rt, rt.alloc(), call)?, *outcome);
     }
     Ok(())
 }

@@ -6,6 +6,7 @@ ghost use Rattle.sx_machine.specs.Modules.{is_code};
 
 use crate::modules::{LARGE, NotMade, SMALL, end, has_sections, lamp, links_of, logic, sends_few};
 use std::alloc::Global;
+use std::process::Abort;
 use std::test::Fail;
 use sx_bus::{Bus, FlatBus, Kind, Windows};
 use sx_check::checked::Checked;
@@ -186,28 +187,48 @@ fn module_code(word: u16) -> Option<u8>
     }
 }
 
-/// 65,535 is above the limit 100: a signed comparison would send 0. The end is open with the key of
-/// sixteen C4; over `Weak` the stream's bytes are 40 + 53 + 6 + 4 and the tag's 40 + 54 + 6 + 4 +
-/// 9C + 9D.
+/// Steps the handler that sends, whose end is open with the key of sixteen C4.
+fn send(rt: &impl Abort, body: &Body, node: &mut Node) {
+    node.put(LARGE.priv_from + 536, &[1, 0, 0, 0, 1, 0, 0, 0]);
+    node.put(LARGE.priv_from + 544, &[0xC4; 16]);
+    assert!(rt; node.run(body, &LARGE, 8448) == Ok(true));
+}
+
+/// Over `Weak` the stream's bytes are 40 + 53 + 6 + 4 and the tag's 40 + 54 + 6 + 4 + 9C + 9D.
+fn has_packet(rt: &impl Abort, node: &Node) {
+    assert!(rt; node.holds(OUT, &[3, 0, 1, 0, 0, 0, 0x9C, 0x9D]));
+    assert!(rt; node.holds(OUT + 8, &[0xD7; 16]));
+    assert!(rt; node.holds(OUT + 24, &[0; 8]));
+}
+
+fn has_sent(rt: &impl Abort, node: &Node) {
+    assert!(rt; node.holds(LARGE.priv_from + 4, &[1, 0]));
+    assert!(rt; node.exchange.ad_len == 6 && node.exchange.body_len == 2);
+    assert_eq!(rt; [node.exchange.body[0], node.exchange.body[1]], [1, 0]);
+    assert!(rt; node.holds(LARGE.priv_from + 536, &[1, 0, 1, 0, 1, 0]));
+    assert_eq!(rt; node.executor.register(SP), LARGE.priv_from + 512);
+    assert_eq!(rt; node.writes, 0);
+}
+
+/// 65,535 is above the limit 100: a signed comparison would send 0.
 #[test]
 fn logic_sends_one(rt: HostRuntime) -> Result<(), Fail> {
     let alloc = rt.alloc();
     let ends = [end(0, Side::To), end(1, Side::From)];
     let body = body_of(alloc, &logic(alloc)?, ends.as_slice(), &LARGE)?;
     let mut node = Node::at_handler(alloc, &body, &LARGE, &[], 65535)?;
-    node.put(LARGE.priv_from + 536, &[1, 0, 0, 0, 1, 0, 0, 0]);
-    node.put(LARGE.priv_from + 544, &[0xC4; 16]);
-    assert!(rt; node.run(&body, &LARGE, 8448) == Ok(true));
-    assert!(rt; node.holds(LARGE.priv_from + 4, &[1, 0]));
-    assert!(rt; node.exchange.ad_len == 6 && node.exchange.body_len == 2);
-    assert_eq!(rt; [node.exchange.body[0], node.exchange.body[1]], [1, 0]);
-    assert!(rt; node.holds(OUT, &[3, 0, 1, 0, 0, 0, 0x9C, 0x9D]));
-    assert!(rt; node.holds(OUT + 8, &[0xD7; 16]));
-    assert!(rt; node.holds(OUT + 24, &[0; 8]));
-    assert!(rt; node.holds(LARGE.priv_from + 536, &[1, 0, 1, 0, 1, 0]));
-    assert_eq!(rt; node.executor.register(SP), LARGE.priv_from + 512);
-    assert_eq!(rt; node.writes, 0);
+    send(&rt, &body, &mut node);
+    has_packet(&rt, &node);
+    has_sent(&rt, &node);
     Ok(())
+}
+
+fn write(rt: &impl Abort, body: &Body, node: &mut Node) {
+    assert!(rt; node.run(body, &SMALL, 160) == Ok(true));
+    assert_eq!(rt; node.writes, 1);
+    assert_eq!(rt; node.written[0], 9);
+    assert!(rt; node.holds(SMALL.priv_from + 4, &[0, 0]));
+    assert_eq!(rt; node.exchange, NO_EXCHANGE);
 }
 
 #[test]
@@ -216,10 +237,6 @@ fn lamp_writes_its_value(rt: HostRuntime) -> Result<(), Fail> {
     let body = body_of(alloc, &lamp(alloc)?, [end(1, Side::To)].as_slice(), &SMALL)?;
     let devices = [(0x1000, Kind::Actuator)];
     let mut node = Node::at_handler(alloc, &body, &SMALL, devices.as_slice(), 9)?;
-    assert!(rt; node.run(&body, &SMALL, 160) == Ok(true));
-    assert_eq!(rt; node.writes, 1);
-    assert_eq!(rt; node.written[0], 9);
-    assert!(rt; node.holds(SMALL.priv_from + 4, &[0, 0]));
-    assert_eq!(rt; node.exchange, NO_EXCHANGE);
+    write(&rt, &body, &mut node);
     Ok(())
 }

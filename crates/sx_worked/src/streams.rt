@@ -1,12 +1,14 @@
 //! Inputs that are cut, and streams that fail, at every place of one run.
 
-use crate::inputs::{IMAGES, SAMPLE, SAMPLED, joined, lighting, sink, source, words};
+use crate::inputs::{
+    IMAGES, SAMPLE, SAMPLED, first_lines, joined, lighting, run, sink, source, words,
+};
 use std::alloc::Global;
 use std::io::{self, ErrorKind, Read, Write};
 use std::process::Abort;
 use std::test::Fail;
 use sx_bulk::HEAD;
-use sx_io::{StdSink, StdSource};
+use sx_io::{MemSink, MemSource, StdSink, StdSource};
 use sx_top::top;
 
 /// How many items the first lines of the sample have, by the number of lines.
@@ -20,20 +22,6 @@ fn lines_of(text: &[u8]) -> usize {
     text.iter().filter(|byte| **byte == b'\n').count()
 }
 
-/// The first lines of a text.
-fn first_lines(text: &[u8], count: usize) -> &[u8] {
-    let mut left = count;
-    for (i, byte) in text.iter().enumerate() {
-        if left == 0 {
-            return &text[..i];
-        }
-        if *byte == b'\n' {
-            left -= 1;
-        }
-    }
-    text
-}
-
 /// The items of the whole lines of a prefix of the sample.
 fn items_of(rt: &impl Abort, prefix: &[u8]) -> &'static [u8] {
     let items = ITEMS_AFTER.get(lines_of(prefix));
@@ -41,25 +29,54 @@ fn items_of(rt: &impl Abort, prefix: &[u8]) -> &'static [u8] {
     first_lines(SAMPLED, items.copied().unwrap_or(0))
 }
 
+/// What the run of an input writes.
+fn output_of(alloc: Global, input: &[u8]) -> Result<Vec<u8>, Fail> {
+    let mut input = source(alloc, input, 4096, 0)?;
+    let mut output = sink(alloc, 20_000, 0)?;
+    run(alloc, &mut input, &mut output)?;
+    Ok(joined(alloc, &[output.written()])?)
+}
+
 /// The output of the sample: the lines of the images, `trace`, the items, and `end`.
 fn output_of_sample(alloc: Global) -> Result<Vec<u8>, Fail> {
-    let mut input = source(alloc, &lighting(alloc, SAMPLE)?, 4096, 0)?;
-    let mut output = sink(alloc, 20_000, 0)?;
-    let _ = top(alloc, &words(alloc, "run")?, &mut input, &mut output);
-    let images = output.written().get(..IMAGES).unwrap_or(b"");
+    let told = output_of(alloc, &lighting(alloc, SAMPLE)?)?;
+    let images = told.get(..IMAGES).unwrap_or(b"");
     Ok(joined(alloc, &[images, b"trace\n", SAMPLED, b"end\n"])?)
+}
+
+/// Whether the run of these streams ends with this status, with this text written.
+fn ends(
+    rt: &impl Abort,
+    alloc: Global,
+    input: &mut MemSource,
+    output: &mut MemSink,
+    status: u8,
+    text: &[u8],
+) -> Result<(), Fail> {
+    assert_eq!(rt; run(alloc, input, output)?, status);
+    assert_eq!(rt; output.written(), text);
+    Ok(())
+}
+
+/// Whether the run of an input ends so.
+fn writes(
+    rt: &impl Abort,
+    alloc: Global,
+    input: &[u8],
+    status: u8,
+    text: &[u8],
+) -> Result<(), Fail> {
+    let mut input = source(alloc, input, 4096, 0)?;
+    let mut output = sink(alloc, 100, 0)?;
+    ends(rt, alloc, &mut input, &mut output, status, text)
 }
 
 #[test]
 fn inputs_cut_before_the_mark(rt: HostRuntime) -> Result<(), Fail> {
     let alloc = rt.alloc();
-    let run = words(alloc, "run")?;
     let text = joined(alloc, &[HEAD.as_bytes(), b"%"])?;
     for count in 0..=text.len() {
-        let mut input = source(alloc, &text[..count], 4096, 0)?;
-        let mut output = sink(alloc, 100, 0)?;
-        assert_eq!(rt; top(alloc, &run, &mut input, &mut output), 1);
-        assert_eq!(rt; output.written(), b"fault deployment D2 -\n".as_slice());
+        writes(&rt, alloc, &text[..count], 1, b"fault deployment D2 -\n")?;
     }
     Ok(())
 }
@@ -87,25 +104,73 @@ fn is_end(
     Ok(())
 }
 
+/// Whether a run of the sample's prefix told its items, and ended so.
+fn told_prefix(
+    rt: &impl Abort,
+    alloc: Global,
+    status: u8,
+    prefix: &[u8],
+    told: &[u8],
+) -> Result<(), Fail> {
+    let whole = joined(alloc, &[b"trace\n", items_of(rt, prefix)])?;
+    assert_eq!(rt; told.get(..whole.len()), Some(whole.as_slice()));
+    let rest = told.get(whole.len()..).unwrap_or(b"");
+    is_end(rt, alloc, status, prefix, rest)
+}
+
+fn cuts(rt: &impl Abort, alloc: Global, prefix: &[u8]) -> Result<(), Fail> {
+    let mut input = source(alloc, &lighting(alloc, prefix)?, 4096, 0)?;
+    let mut output = sink(alloc, 20_000, 0)?;
+    let status = run(alloc, &mut input, &mut output)?;
+    let told = output.written().get(IMAGES..).unwrap_or(b"");
+    told_prefix(rt, alloc, status, prefix, told)
+}
+
 #[test]
 fn inputs_cut_behind_the_mark(rt: HostRuntime) -> Result<(), Fail> {
-    let alloc = rt.alloc();
-    let run = words(alloc, "run")?;
     for count in 0..=SAMPLE.len() {
-        let prefix = &SAMPLE[..count];
-        let mut input = source(alloc, &lighting(alloc, prefix)?, 4096, 0)?;
-        let mut output = sink(alloc, 20_000, 0)?;
-        let status = top(alloc, &run, &mut input, &mut output);
-        let told = output.written().get(IMAGES..).unwrap_or(b"");
-        let whole = joined(alloc, &[b"trace\n", items_of(&rt, prefix)])?;
-        assert_eq!(rt; told.get(..whole.len()), Some(whole.as_slice()));
-        is_end(
-            &rt,
-            alloc,
-            status,
-            prefix,
-            told.get(whole.len()..).unwrap_or(b""),
-        )?;
+        cuts(&rt, rt.alloc(), &SAMPLE[..count])?;
+    }
+    Ok(())
+}
+
+/// The output where a read fails after this much of the lighting and the sample, whose own part
+/// is the prefix.
+fn told_before(
+    rt: &impl Abort,
+    alloc: Global,
+    whole: &[u8],
+    prefix: Option<&[u8]>,
+) -> Result<Vec<u8>, Fail> {
+    let mut told = Vec::new(alloc);
+    if let Some(prefix) = prefix {
+        told.extend_from_slice(first_lines(whole, 4))?;
+        told.extend_from_slice(items_of(rt, prefix))?;
+    }
+    told.extend_from_slice(b"fault read\n")?;
+    Ok(told)
+}
+
+/// Whether the run of pieces of 97 bytes of a text writes this where this read fails.
+fn stops(rt: &impl Abort, alloc: Global, text: &[u8], call: u64, told: &[u8]) -> Result<(), Fail> {
+    let mut input = source(alloc, text, 97, call)?;
+    let mut output = sink(alloc, 20_000, 0)?;
+    ends(rt, alloc, &mut input, &mut output, 4, told)
+}
+
+/// Whether each read of the text fails so. Its part before the sample is the head.
+fn all_stop(
+    rt: &impl Abort,
+    alloc: Global,
+    text: &[u8],
+    head: usize,
+    whole: &[u8],
+) -> Result<(), Fail> {
+    // pieces of 97 bytes, and a last read that finds the end
+    for call in 0..text.len() / 97 + 2 {
+        let taken = &text[..text.len().min(97 * call)];
+        let told = told_before(rt, alloc, whole, taken.get(head..))?;
+        stops(rt, alloc, text, call as u64 + 1, &told)?;
     }
     Ok(())
 }
@@ -113,40 +178,30 @@ fn inputs_cut_behind_the_mark(rt: HostRuntime) -> Result<(), Fail> {
 #[test]
 fn each_read_fails(rt: HostRuntime) -> Result<(), Fail> {
     let alloc = rt.alloc();
-    let run = words(alloc, "run")?;
     let text = lighting(alloc, SAMPLE)?;
     let whole = output_of_sample(alloc)?;
     let head = lighting(alloc, b"")?.len();
-    // pieces of 97 bytes, and a last read that finds the end
-    for call in 0..text.len() / 97 + 2 {
-        let mut input = source(alloc, &text, 97, call as u64 + 1)?;
-        let mut output = sink(alloc, 20_000, 0)?;
-        assert_eq!(rt; top(alloc, &run, &mut input, &mut output), 4);
-        let taken = &text[..text.len().min(97 * call)];
-        let told = match taken.get(head..) {
-            Some(prefix) => joined(
-                alloc,
-                &[
-                    first_lines(&whole, 4),
-                    items_of(&rt, prefix),
-                    b"fault read\n",
-                ],
-            )?,
-            None => joined(alloc, &[b"fault read\n"])?,
-        };
-        assert_eq!(rt; output.written(), told.as_slice());
-    }
-    Ok(())
+    all_stop(&rt, alloc, &text, head, &whole)
+}
+
+/// Whether a run of the sample writes a prefix of this where a write fails, and ends with status 5.
+fn stops_in(
+    rt: &impl Abort,
+    alloc: Global,
+    whole: &[u8],
+    capacity: usize,
+    call: u64,
+) -> Result<bool, Fail> {
+    let mut input = source(alloc, &lighting(alloc, SAMPLE)?, 4096, 0)?;
+    let mut output = sink(alloc, capacity, call)?;
+    let status = run(alloc, &mut input, &mut output)?;
+    assert_eq!(rt; whole.get(..output.written().len()), Some(output.written()));
+    Ok(status == 5)
 }
 
 /// Whether the run writes a prefix of its output where a write fails, and ends with status 5.
 fn breaks_off(rt: &impl Abort, alloc: Global, capacity: usize, call: u64) -> Result<bool, Fail> {
-    let mut input = source(alloc, &lighting(alloc, SAMPLE)?, 4096, 0)?;
-    let mut output = sink(alloc, capacity, call)?;
-    let status = top(alloc, &words(alloc, "run")?, &mut input, &mut output);
-    let whole = output_of_sample(alloc)?;
-    assert_eq!(rt; whole.get(..output.written().len()), Some(output.written()));
-    Ok(status == 5)
+    stops_in(rt, alloc, &output_of_sample(alloc)?, capacity, call)
 }
 
 #[test]
@@ -183,85 +238,109 @@ fn long_head(alloc: Global, behind: &[u8]) -> Result<Vec<u8>, Fail> {
 #[test]
 fn heads_up_to_the_limit(rt: HostRuntime) -> Result<(), Fail> {
     let alloc = rt.alloc();
-    let run = words(alloc, "run")?;
     let rows: [(&[u8], u8, &[u8]); 2] = [
         (b"%%\n", 0, b"trace\nend\n"),
         (b"\n%%\n", 1, b"fault deployment D1 -\n"),
     ];
-    for (behind, status, told) in rows {
-        let mut input = source(alloc, &long_head(alloc, behind)?, 4096, 0)?;
-        let mut output = sink(alloc, 100, 0)?;
-        assert_eq!(rt; top(alloc, &run, &mut input, &mut output), status);
-        assert_eq!(rt; output.written(), told);
+    for (behind, status, told) in rows.as_slice() {
+        writes(&rt, alloc, &long_head(alloc, behind)?, *status, told)?;
     }
     Ok(())
+}
+
+/// A schedule of 10,000 resets.
+fn many_resets(alloc: Global) -> Result<Vec<u8>, Fail> {
+    let mut text = Vec::new(alloc);
+    text.extend_from_slice(b"%%\n")?;
+    for _ in 0..10_000 {
+        text.extend_from_slice(b"reset n\n")?;
+    }
+    Ok(text)
 }
 
 /// Of 80,003 bytes no more is read than one piece after the line whose item couldn't be written.
 #[test]
 fn nothing_is_read_behind_a_failed_write(rt: HostRuntime) -> Result<(), Fail> {
     let alloc = rt.alloc();
-    let mut text = Vec::new(alloc);
-    text.extend_from_slice(b"%%\n")?;
-    for _ in 0..10_000 {
-        text.extend_from_slice(b"reset n\n")?;
-    }
-    let mut input = source(alloc, &text, 4096, 0)?;
+    let mut input = source(alloc, &many_resets(alloc)?, 4096, 0)?;
     let mut output = sink(alloc, 200_000, 3)?;
-    let status = top(alloc, &words(alloc, "run")?, &mut input, &mut output);
-    assert_eq!(rt; status, 5);
+    assert_eq!(rt; run(alloc, &mut input, &mut output)?, 5);
     assert!(rt; input.left() > 60_000);
     Ok(())
+}
+
+const ONE_STEP: &[u8] = b"%%\nput n 0x4000 2645\nset n r5 0x5000\nset n pc 0x4000\nrun n 1\n";
+
+/// Whether the run writes this where this read of one byte fails.
+fn read_fails(rt: &impl Abort, alloc: Global, call: u64, told: &[u8]) -> Result<(), Fail> {
+    let mut input = source(alloc, ONE_STEP, 1, call)?;
+    let mut output = sink(alloc, 100, 0)?;
+    ends(rt, alloc, &mut input, &mut output, 4, told)
+}
+
+/// Whether the run of an input writes this where this write fails.
+fn write_fails(
+    rt: &impl Abort,
+    alloc: Global,
+    input: &[u8],
+    call: u64,
+    told: &[u8],
+) -> Result<(), Fail> {
+    let mut input = source(alloc, input, 4096, 0)?;
+    let mut output = sink(alloc, 10_000, call)?;
+    ends(rt, alloc, &mut input, &mut output, 5, told)
 }
 
 #[test]
 fn failing_streams(rt: HostRuntime) -> Result<(), Fail> {
     let alloc = rt.alloc();
-    let text = b"%%\nput n 0x4000 2645\nset n r5 0x5000\nset n pc 0x4000\nrun n 1\n";
-    let run = words(alloc, "run")?;
-    let rows: [(u64, &[u8]); 2] = [(22, b"trace\nfault read\n"), (2, b"fault read\n")];
-    for (call, text_of) in rows {
-        let mut input = source(alloc, text, 1, call)?;
-        let mut output = sink(alloc, 100, 0)?;
-        assert_eq!(rt; top(alloc, &run, &mut input, &mut output), 4);
-        assert_eq!(rt; output.written(), text_of);
-    }
-    let rows: [(u64, &[u8]); 2] = [(1, b""), (2, b"trace\n")];
-    for (call, text_of) in rows {
-        let mut input = source(alloc, b"%%\nreset n\nreset n\n", 4096, 0)?;
-        let mut output = sink(alloc, 100, call)?;
-        assert_eq!(rt; top(alloc, &run, &mut input, &mut output), 5);
-        assert_eq!(rt; output.written(), text_of);
-    }
-    Ok(())
+    read_fails(&rt, alloc, 22, b"trace\nfault read\n")?;
+    read_fails(&rt, alloc, 2, b"fault read\n")?;
+    let two = b"%%\nreset n\nreset n\n";
+    write_fails(&rt, alloc, two, 1, b"")?;
+    write_fails(&rt, alloc, two, 2, b"trace\n")
 }
 
-/// A module that removes itself is protected 700 times in one line of a schedule. The line's items
-/// are written in pieces: after 32 of 12 bytes there might be no room for one more.
-#[test]
-fn items_in_pieces(rt: HostRuntime) -> Result<(), Fail> {
-    let alloc = rt.alloc();
-    let run = words(alloc, "run")?;
-    let text =
-        b"%%\nput n 0x600 801330400004\nput n 0x400 811330400006\nset n r9 1\nset n r10 0x600\nset n r11 0x608\nset n r12 0x700\nset n r13 0x710\nset n pc 0x400\nrun n 2800\n";
+/// A module that removes itself is protected 700 times in one line.
+const PROTECTED_AGAIN: &[u8] =
+    b"%%\nput n 0x600 801330400004\nput n 0x400 811330400006\nset n r9 1\nset n r10 0x600\nset n r11 0x608\nset n r12 0x700\nset n r13 0x710\nset n pc 0x400\nrun n 2800\n";
+
+/// What is told of it.
+fn many_items(alloc: Global) -> Result<Vec<u8>, Fail> {
     let mut whole = joined(alloc, &[b"trace\n"])?;
     for _ in 0..700 {
         whole.extend_from_slice(b"protect n -\n")?;
     }
     whole.extend_from_slice(b"end\n")?;
-    // `trace`, 21 times 32 lines, and 28
-    let rows: [(u64, usize); 4] = [(2, 6), (3, 390), (23, 8070), (24, 8406)];
+    Ok(whole)
+}
+
+/// Whether the run writes so many bytes of the whole where this write fails.
+fn in_pieces(
+    rt: &impl Abort,
+    alloc: Global,
+    whole: &[u8],
+    rows: &[(u64, usize)],
+) -> Result<(), Fail> {
     for (call, count) in rows {
-        let mut input = source(alloc, text, 4096, 0)?;
-        let mut output = sink(alloc, 10_000, call)?;
-        assert_eq!(rt; top(alloc, &run, &mut input, &mut output), 5);
-        assert_eq!(rt; Some(output.written()), whole.get(..count));
+        let told = whole.get(..*count);
+        assert!(rt; told.is_some());
+        write_fails(rt, alloc, PROTECTED_AGAIN, *call, told.unwrap_or(b""))?;
     }
-    let mut input = source(alloc, text, 4096, 0)?;
-    let mut output = sink(alloc, 10_000, 25)?;
-    assert_eq!(rt; top(alloc, &run, &mut input, &mut output), 0);
-    assert_eq!(rt; output.written(), whole.as_slice());
     Ok(())
+}
+
+/// A line's items are written in pieces: after 32 of 12 bytes there might be no room for one more.
+#[test]
+fn items_in_pieces(rt: HostRuntime) -> Result<(), Fail> {
+    let alloc = rt.alloc();
+    let whole = many_items(alloc)?;
+    // `trace`, 21 times 32 lines, and 28
+    let rows = [(2, 6), (3, 390), (23, 8070), (24, 8406)];
+    in_pieces(&rt, alloc, &whole, &rows)?;
+    let mut input = source(alloc, PROTECTED_AGAIN, 4096, 0)?;
+    let mut output = sink(alloc, 10_000, 25)?;
+    ends(&rt, alloc, &mut input, &mut output, 0, &whole)
 }
 
 /// A stream whose calls all fail.
@@ -284,17 +363,25 @@ impl Write for Broken {
     }
 }
 
+fn reads_nothing(rt: &impl Abort, alloc: Global, words: &[String]) -> Result<(), Fail> {
+    let mut input = StdSource::new(Broken);
+    let mut output = sink(alloc, 100, 0)?;
+    assert_eq!(rt; top(alloc, words, &mut input, &mut output), 4);
+    assert_eq!(rt; output.written(), b"fault read\n".as_slice());
+    Ok(())
+}
+
+fn writes_nothing(rt: &impl Abort, alloc: Global, words: &[String]) -> Result<(), Fail> {
+    let mut input = source(alloc, b"%%\n", 4096, 0)?;
+    let mut output = StdSink::new(Broken);
+    assert_eq!(rt; top(alloc, words, &mut input, &mut output), 5);
+    Ok(())
+}
+
 #[test]
 fn broken_streams(rt: HostRuntime) -> Result<(), Fail> {
     let alloc = rt.alloc();
     let run = words(alloc, "run")?;
-    let mut input = StdSource::new(Broken);
-    let mut output = sink(alloc, 100, 0)?;
-    assert_eq!(rt; top(alloc, &run, &mut input, &mut output), 4);
-    assert_eq!(rt; output.written(), b"fault read\n".as_slice());
-
-    let mut input = source(alloc, b"%%\n", 4096, 0)?;
-    let mut output = StdSink::new(Broken);
-    assert_eq!(rt; top(alloc, &run, &mut input, &mut output), 5);
-    Ok(())
+    reads_nothing(&rt, alloc, &run)?;
+    writes_nothing(&rt, alloc, &run)
 }

@@ -1,12 +1,11 @@
 //! The workload, with the counts that are worked out by hand: 33 items for the keys and 10 for each
 //! sample, of which one is an output.
 
-use crate::inputs::{IMAGES, lighting, sink, source, two_words};
+use crate::inputs::{IMAGES, done, lighting, run, sink, source, two_words};
 use std::alloc::Global;
 use std::process::Abort;
 use std::test::Fail;
-use sx_tag::Hmac;
-use sx_top::{run_over, top};
+use sx_io::{MemSink, MemSource};
 
 /// Whether the text has this part at this place.
 fn has_at(rt: &impl Abort, text: &[u8], at: usize, part: &[u8]) {
@@ -16,17 +15,30 @@ fn has_at(rt: &impl Abort, text: &[u8], at: usize, part: &[u8]) {
     );
 }
 
+/// Generates so many samples, and gives the status.
+fn generate(
+    alloc: Global,
+    samples: &str,
+    input: &mut MemSource,
+    output: &mut MemSink,
+) -> Result<u8, Fail> {
+    Ok(done(alloc, &two_words(alloc, "gen", samples)?, input, output))
+}
+
+/// Whether a text is the images, these counts and the end.
+fn has_counts(rt: &impl Abort, text: &[u8], told: &[u8]) {
+    has_at(rt, text, 0, b"image eye ");
+    has_at(rt, text, IMAGES, told);
+    assert!(rt; text.ends_with(b"\nend\n"));
+}
+
 /// Whether this many samples give these counts.
 fn counts(rt: &impl Abort, alloc: Global, samples: &str, told: &[u8]) -> Result<(), Fail> {
     let mut input = source(alloc, b"%%\n", 1, 0)?;
     let mut output = sink(alloc, 20_000, 0)?;
-    let words = two_words(alloc, "gen", samples)?;
-    assert_eq!(rt; top(alloc, &words, &mut input, &mut output), 0);
+    assert_eq!(rt; generate(alloc, samples, &mut input, &mut output)?, 0);
     assert_eq!(rt; input.left(), 3);
-    let text = output.written();
-    has_at(rt, text, 0, b"image eye ");
-    has_at(rt, text, IMAGES, told);
-    assert!(rt; text.ends_with(b"\nend\n"));
+    has_counts(rt, output.written(), told);
     Ok(())
 }
 
@@ -44,9 +56,18 @@ fn workloads(rt: HostRuntime) -> Result<(), Fail> {
             b"lines 64026\nitems 80033\noutputs 8000\nlit 3960\nsteps ",
         ),
     ];
-    for (samples, told) in rows {
+    for (samples, told) in rows.as_slice() {
         counts(&rt, rt.alloc(), samples, told)?;
     }
+    Ok(())
+}
+
+/// Whether `gen` writes these images.
+fn generates(rt: &impl Abort, alloc: Global, images: Option<&[u8]>) -> Result<(), Fail> {
+    let mut input = source(alloc, b"", 1, 0)?;
+    let mut output = sink(alloc, 20_000, 0)?;
+    assert_eq!(rt; generate(alloc, "1", &mut input, &mut output)?, 0);
+    assert_eq!(rt; output.written().get(..IMAGES), images);
     Ok(())
 }
 
@@ -56,12 +77,8 @@ fn images_as_of_a_run(rt: HostRuntime) -> Result<(), Fail> {
     let alloc = rt.alloc();
     let mut input = source(alloc, &lighting(alloc, b"")?, 4096, 0)?;
     let mut ran = sink(alloc, 20_000, 0)?;
-    assert_eq!(rt; run_over(alloc, Hmac, &mut input, &mut ran), 0);
-    let mut output = sink(alloc, 20_000, 0)?;
-    let words = two_words(alloc, "gen", "1")?;
-    assert_eq!(rt; top(alloc, &words, &mut input, &mut output), 0);
-    assert_eq!(rt; output.written().get(..IMAGES), ran.written().get(..IMAGES));
-    Ok(())
+    assert_eq!(rt; run(alloc, &mut input, &mut ran)?, 0);
+    generates(&rt, alloc, ran.written().get(..IMAGES))
 }
 
 #[test]
@@ -69,8 +86,7 @@ fn a_write_fails(rt: HostRuntime) -> Result<(), Fail> {
     let alloc = rt.alloc();
     let mut input = source(alloc, b"", 1, 0)?;
     let mut output = sink(alloc, 20_000, 1)?;
-    let words = two_words(alloc, "gen", "1")?;
-    assert_eq!(rt; top(alloc, &words, &mut input, &mut output), 5);
+    assert_eq!(rt; generate(alloc, "1", &mut input, &mut output)?, 5);
     assert_eq!(rt; output.written(), b"".as_slice());
     Ok(())
 }

@@ -5,10 +5,10 @@ ghost use Rattle.sx_deploy.specs.Law.{IsSoundDeployment};
 ghost use Rattle.sx_deploy.specs.SeenDeployment.{deployed_as};
 ghost use Rattle.sx_tag.specs.Mac.{weak};
 ghost use Rattle.sx_trace.specs.Names.{are_valid};
-ghost use Rattle.sx_world.specs.Accepted.{setting_of};
-ghost use Rattle.sx_world.specs.Held.{setting};
+ghost use Rattle.sx_run.specs.Accepted.{setting_of};
+ghost use Rattle.sx_run.specs.Accepted.{setting};
 ghost use Rattle.sx_world.specs.Standing.{Stands};
-ghost use Rattle.sx_world.specs.State.{World as Reached, nodes_from};
+ghost use Rattle.sx_run.specs.State.{World as Reached, nodes_from};
 
 use std::alloc::{AllocError, Global};
 use std::process::Abort;

@@ -7,13 +7,13 @@ use Rattle.sx_deploy.specs.SeenDeployment.{deployed_as}
 use Rattle.sx_sched.specs.Lines.{line_of}
 use Rattle.sx_tag.specs.Mac.{weak}
 use Rattle.sx_tag.specs.Tags.{weak-is_tag}
-use Rattle.sx_world.specs.Held.{setting}
-use Rattle.sx_world.specs.Law.{IsSoundSetting}
-use Rattle.sx_world.specs.Run.{after_line, line_counted}
-use Rattle.sx_world.specs.Setting.{Site}
+use Rattle.sx_run.specs.Accepted.{setting}
+use Rattle.sx_run.specs.Law.{IsSoundSetting}
+use Rattle.sx_run.specs.Run.{after_line, line_counted}
+use Rattle.sx_run.specs.Setting.{Site}
 use Rattle.sx_world.specs.Standing.{Stands}
-use Rattle.sx_world.proofs.Lists.{get_within}
-use Rattle.sx_world.proofs.Sited.{sited}
+use Rattle.sx_run.proofs.tie.Lists.{get_within}
+use Rattle.sx_world.proofs.standing.Sited.{sited}
 use Rattle.sx_worked.proofs.WithoutModules.{no_sites}
 use Rattle.sx_worked.proofs.worlds.act.Goals as goal
 

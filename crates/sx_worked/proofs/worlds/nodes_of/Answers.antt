@@ -6,9 +6,9 @@ use Rattle.sx_machine.specs.State.{State, power_on}
 use Rattle.sx_mean.specs.declared.apps.AppDevice.{AppDevice}
 use Rattle.sx_deploy.specs.SeenDeployment.{deployed_as}
 use Rattle.sx_tag.specs.Mac.{weak}
-use Rattle.sx_world.specs.Accepted.{setting_of}
-use Rattle.sx_world.specs.Setting.{Setting, windows_at}
-use Rattle.sx_world.specs.State.{nodes_from}
+use Rattle.sx_run.specs.Accepted.{setting_of}
+use Rattle.sx_run.specs.Setting.{Setting, windows_at}
+use Rattle.sx_run.specs.State.{nodes_from}
 use Rattle.sx_worked.proofs.worlds.nodes_of.Goals as goal
 
 no_windows : (n : ℕ) (ds : List AppDevice) (ats : List ℕ) → length ds ≡ 0 → windows_at n ds ats ≡ []

@@ -1,8 +1,8 @@
 use Rattle.std.proofs.Common.{◌≡◌, ◌++◌, [], drop}
 use Rattle.sx_deploy.specs.SeenDeployment.{deployed_as}
 use Rattle.sx_tag.specs.Mac.{weak}
-use Rattle.sx_world.specs.Accepted.{setting_of}
-use Rattle.sx_world.specs.State.{nodes_from}
+use Rattle.sx_run.specs.Accepted.{setting_of}
+use Rattle.sx_run.specs.State.{nodes_from}
 use Rattle.sx_worked.proofs.worlds.nodes_of.Given as goal
 
 abbrev pub invariant-loop-key : goal.invariant-loop-key

@@ -3,11 +3,11 @@ use Rattle.std.proofs.lemmas.List.{length-map}
 use Rattle.sx_mean.specs.View.{part_as}
 use Rattle.sx_deploy.specs.SeenDeployment.{deployed_as}
 use Rattle.sx_tag.specs.Mac.{weak}
-use Rattle.sx_world.specs.Accepted.{setting_of}
-use Rattle.sx_world.specs.Held.{setting}
-use Rattle.sx_world.specs.Setting.{Site}
+use Rattle.sx_run.specs.Accepted.{setting_of}
+use Rattle.sx_run.specs.Accepted.{setting}
+use Rattle.sx_run.specs.Setting.{Site}
 use Rattle.sx_world.specs.Standing.{Stands}
-use Rattle.sx_world.specs.State.{switched_on}
+use Rattle.sx_run.specs.State.{switched_on}
 use Rattle.sx_worked.proofs.WithoutModules.{no_sites}
 use Rattle.sx_worked.proofs.worlds.world_of.Goals as goal
 

@@ -1,16 +1,10 @@
 //! Texts and their listings worked by hand from the rules, and streams that fail.
 
-use crate::inputs::{at_address, sink, source};
+use crate::inputs::{sink, source};
 use std::alloc::Global;
 use std::process::Abort;
 use std::test::Fail;
-use sx_io::{MemSink, MemSource};
-use sx_top::top;
-
-/// Does the command `asm` at this address, and gives its status.
-fn asm(alloc: Global, at: u16, input: &mut MemSource, output: &mut MemSink) -> Result<u8, Fail> {
-    Ok(top(alloc, &at_address(alloc, "asm", at)?, input, output))
-}
+use sx_command_asm::asm_over;
 
 /// Whether the command writes this for the input, and ends with this status.
 fn writes(
@@ -23,8 +17,21 @@ fn writes(
 ) -> Result<(), Fail> {
     let mut input = source(alloc, input, 4096, 0)?;
     let mut output = sink(alloc, 400, 0)?;
-    assert_eq!(rt; asm(alloc, at, &mut input, &mut output)?, status);
+    assert_eq!(rt; asm_over(alloc, at, &mut input, &mut output), status);
     assert_eq!(rt; output.written(), text);
+    Ok(())
+}
+
+/// Each input at its address gives the text beside it, and this status.
+fn all_write(
+    rt: &impl Abort,
+    alloc: Global,
+    status: u8,
+    rows: &[(u16, &[u8], &[u8])],
+) -> Result<(), Fail> {
+    for (at, input, text) in rows {
+        writes(rt, alloc, *at, input, status, text)?;
+    }
     Ok(())
 }
 
@@ -50,10 +57,7 @@ fn listings(rt: HostRuntime) -> Result<(), Fail> {
             b"0x0200 2645 mov @r5, r6\nend\n",
         ),
     ];
-    for (at, input, text) in rows {
-        writes(&rt, rt.alloc(), at, input, 0, text)?;
-    }
-    Ok(())
+    all_write(&rt, rt.alloc(), 0, &rows)
 }
 
 #[test]
@@ -73,10 +77,7 @@ fn texts_that_break_a_rule(rt: HostRuntime) -> Result<(), Fail> {
         (0, b"// \xc3\xa9\n// \xc3\nmov r5\n", b"fault asm A1 2\n"),
         (0, b"jmp 1\nreti\n  mov r5", b"fault asm A1 3\n"),
     ];
-    for (at, input, text) in rows {
-        writes(&rt, rt.alloc(), at, input, 10, text)?;
-    }
-    Ok(())
+    all_write(&rt, rt.alloc(), 10, &rows)
 }
 
 /// A line, `count` lines of 4,095 spaces, and one of `last` spaces.
@@ -96,40 +97,46 @@ fn spaces(alloc: Global, first: &[u8], count: usize, last: usize) -> Result<Vec<
 #[test]
 fn limits(rt: HostRuntime) -> Result<(), Fail> {
     let alloc = rt.alloc();
-    // 64 lines of 4,096 bytes with their newlines are 262,144 bytes
-    let most = spaces(alloc, b"", 64, 0)?;
-    writes(&rt, alloc, 0, &most, 0, b"end\n")?;
-    let more = spaces(alloc, b"", 64, 1)?;
-    writes(&rt, alloc, 0, &more, 10, b"fault asm A1 65\n")?;
-    // a last line counts with a newline
-    let last = spaces(alloc, b"", 63, 4096)?;
-    writes(&rt, alloc, 0, &last, 10, b"fault asm A1 64\n")?;
-    let long = spaces(alloc, b"reti\n", 0, 4097)?;
-    writes(&rt, alloc, 0, &long, 10, b"fault asm A1 2\n")?;
-    // an earlier line that breaks the rule is the first
-    let earlier = spaces(alloc, b"mov r5\n", 0, 4097)?;
-    writes(&rt, alloc, 0, &earlier, 10, b"fault asm A1 1\n")?;
-    let earlier = spaces(alloc, b"// \xff\n", 64, 0)?;
-    writes(&rt, alloc, 0, &earlier, 10, b"fault asm A1 1\n")?;
+    let rows: [(&[u8], usize, usize, u8, &[u8]); 6] = [
+        // 64 lines of 4,096 bytes with their newlines are 262,144 bytes
+        (b"", 64, 0, 0, b"end\n"),
+        (b"", 64, 1, 10, b"fault asm A1 65\n"),
+        // a last line counts with a newline
+        (b"", 63, 4096, 10, b"fault asm A1 64\n"),
+        (b"reti\n", 0, 4097, 10, b"fault asm A1 2\n"),
+        // an earlier line that breaks the rule is the first
+        (b"mov r5\n", 0, 4097, 10, b"fault asm A1 1\n"),
+        (b"// \xff\n", 64, 0, 10, b"fault asm A1 1\n"),
+    ];
+    for (first, count, last, status, told) in rows.as_slice() {
+        let text = spaces(alloc, first, *count, *last)?;
+        writes(&rt, alloc, 0, &text, *status, told)?;
+    }
+    Ok(())
+}
+
+/// The third read fails, after a line that isn't in the grammar.
+fn breaks_off(rt: &impl Abort, alloc: Global) -> Result<(), Fail> {
+    let mut input = source(alloc, b"mov r5\nreti\n", 4, 3)?;
+    let mut output = sink(alloc, 400, 0)?;
+    assert_eq!(rt; asm_over(alloc, 0, &mut input, &mut output), 4);
+    assert_eq!(rt; output.written(), b"fault read\n".as_slice());
+    Ok(())
+}
+
+/// Whether no more is written than the sink takes.
+fn fills(rt: &impl Abort, alloc: Global, input: &[u8], text: &[u8]) -> Result<(), Fail> {
+    let mut input = source(alloc, input, 4096, 0)?;
+    let mut output = sink(alloc, text.len(), 0)?;
+    assert_eq!(rt; asm_over(alloc, 0, &mut input, &mut output), 5);
+    assert_eq!(rt; output.written(), text);
     Ok(())
 }
 
 #[test]
 fn streams_that_fail(rt: HostRuntime) -> Result<(), Fail> {
     let alloc = rt.alloc();
-    // the third read fails, after a line that isn't in the grammar
-    let mut input = source(alloc, b"mov r5\nreti\n", 4, 3)?;
-    let mut output = sink(alloc, 400, 0)?;
-    assert_eq!(rt; asm(alloc, 0, &mut input, &mut output)?, 4);
-    assert_eq!(rt; output.written(), b"fault read\n".as_slice());
-    // the sink takes 6 bytes and no more
-    let mut input = source(alloc, b"reti\n", 4096, 0)?;
-    let mut output = sink(alloc, 6, 0)?;
-    assert_eq!(rt; asm(alloc, 0, &mut input, &mut output)?, 5);
-    assert_eq!(rt; output.written(), b"0x0000".as_slice());
-    let mut input = source(alloc, b"mov r5\n", 4096, 0)?;
-    let mut output = sink(alloc, 5, 0)?;
-    assert_eq!(rt; asm(alloc, 0, &mut input, &mut output)?, 5);
-    assert_eq!(rt; output.written(), b"fault".as_slice());
-    Ok(())
+    breaks_off(&rt, alloc)?;
+    fills(&rt, alloc, b"reti\n", b"0x0000")?;
+    fills(&rt, alloc, b"mov r5\n", b"fault")
 }
