@@ -1,6 +1,6 @@
 //! Steps of a node that show nothing, taken one after the other.
 
-ghost use Rattle.std.specs.Prelude.{◌≡◌, ◌<◌, IsTrue};
+ghost use Rattle.std.specs.Prelude.{◌≡◌, ◌<◌, true, false, IsTrue};
 ghost use Rattle.sx_machine.specs.Run.{untouched};
 ghost use Rattle.sx_machine.specs.declared.kinds.Event.TheVariants.{Quiet};
 ghost use Rattle.sx_world.specs.Passing.{after_steps, AreQuiet, EndsWith, taken};
@@ -37,8 +37,46 @@ fn is_quiet(seen: &Seen) -> bool
     matches!(seen.touch, [Touch::Quiet, Touch::Quiet]) && matches!(seen.event, Event::Quiet)
 }
 
+/// Steps of a node, at most `count`, up to the first that shows something.
+fn quiet_stretch<B: Bus, T: Tag>(node: &mut Node<B, T>, count: u32) -> QuietSteps
+    requires { node.old.boot < 4294967295 }
+    ensures quiet { AreQuiet T.mac false result.count node.old }
+    ensures last { EndsWith T.mac count result.count result.last node.old }
+    ensures left { node.new ≡ after_steps T.mac (taken result.count result.last) node.old }
+{
+    for done in 0..count {
+        if let Some(seen) = node.step_told() {
+            return QuietSteps {
+                count: done,
+                last: Some(seen),
+            };
+        }
+    }
+    QuietSteps { count, last: None }
+}
+
+/// Steps of a node, at most `count`, up to the first that shows something or leaves no module
+/// running.
+fn module_stretch<B: Bus, T: Tag>(node: &mut Node<B, T>, count: u32) -> QuietSteps
+    requires { node.old.boot < 4294967295 }
+    ensures quiet { AreQuiet T.mac true result.count node.old }
+    ensures last { EndsWith T.mac count result.count result.last node.old }
+    ensures left { node.new ≡ after_steps T.mac (taken result.count result.last) node.old }
+{
+    for done in 0..count {
+        let seen = node.step();
+        if !is_quiet(&seen) || node.running() == 0 {
+            return QuietSteps {
+                count: done,
+                last: Some(seen),
+            };
+        }
+    }
+    QuietSteps { count, last: None }
+}
+
 /// Steps of a node, at most `count`, up to the first that shows something or, where `idle` says so,
-/// leaves no module running.
+/// leaves no module running. Most runs ask for no module, so their loop asks for none.
 pub(crate) fn quiet_steps<B: Bus, T: Tag>(
     node: &mut Node<B, T>,
     count: u32,
@@ -49,14 +87,9 @@ pub(crate) fn quiet_steps<B: Bus, T: Tag>(
     ensures last { EndsWith T.mac count result.count result.last node.old }
     ensures left { node.new ≡ after_steps T.mac (taken result.count result.last) node.old }
 {
-    for done in 0..count {
-        let seen = node.step();
-        if !is_quiet(&seen) || (idle && node.running() == 0) {
-            return QuietSteps {
-                count: done,
-                last: Some(seen),
-            };
-        }
+    if idle {
+        module_stretch(node, count)
+    } else {
+        quiet_stretch(node, count)
     }
-    QuietSteps { count, last: None }
 }

@@ -1,9 +1,9 @@
-use Rattle.std.proofs.Common.{◌≡◌}
+use Rattle.std.proofs.Common.{◌≡◌, true}
 use Rattle.sx_world.specs.Passing.{after_steps, AreQuiet}
-use Rattle.sx_world.proofs.quiet.quiet_steps.Given as goal
+use Rattle.sx_world.proofs.quiet.module_stretch.Given as goal
 
 abbrev pub invariant-loop-done : goal.invariant-loop-done
 invariant-loop-done g l = record {
-  quiet : AreQuiet g.T.Tag.mac l.idle l.done l.fn.node;
+  quiet : AreQuiet g.T.Tag.mac true l.done l.fn.node;
   left : l.node ≡ after_steps g.T.Tag.mac l.done l.fn.node;
 }
