@@ -2,10 +2,7 @@
 -- bit 0, Z bit 1, N bit 2, V bit 8.
 use Rattle.std.specs.Prelude.{ℕ, ◌+◌, ◌*◌, ◌/◌, ◌%◌, ◌==◌, Bool, if◌then◌else◌}
 use Rattle.sx_alu.specs.declared.flags.Flags.{Flags}
-
--- true as 1, false as 0
-abbrev pub bit : Bool → ℕ
-bit b = if b then 1 else 0
+use Rattle.sx_lists.specs.Truth.{truth}
 
 -- the flags that a status register holds: C in bit 0, Z in bit 1, N in bit 2, V in bit 8
 abbrev pub flags_of : ℕ → Flags
@@ -15,4 +12,4 @@ flags_of sr =
 -- bits 3 to 7 and those above 8 stay
 abbrev pub with_flags_in : ℕ → Flags → ℕ
 with_flags_in sr f =
-    sr / 512 * 512 + bit f.v * 256 + sr / 8 % 32 * 8 + bit f.n * 4 + bit f.z * 2 + bit f.c
+    sr / 512 * 512 + truth f.v * 256 + sr / 8 % 32 * 8 + truth f.n * 4 + truth f.z * 2 + truth f.c

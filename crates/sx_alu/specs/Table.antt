@@ -2,12 +2,12 @@
 -- "Instruction Set"). V after a rotation through the carry is 0 here, where TI's guides differ.
 use Rattle.std.specs.Prelude.{ℕ, ℤ, pos, negsuc, ◌+◌, ◌*◌, ◌-◌, ◌/◌, ◌%◌, ◌==◌, Bool, true, false}
 use Rattle.std.specs.Prelude.{◌&&◌, not, nat_le, if◌then◌else◌, bit_and, bit_or, bit_xor}
-use Rattle.sx_alu.specs.Status.{bit}
 use Rattle.sx_alu.specs.declared.flags.Flags.{Flags}
 use Rattle.sx_alu.specs.declared.calculation.Calc.{Calc}
 use Rattle.sx_alu.specs.declared.calculation.Calc.TheVariants.{Add, AddCarry, Sub, SubCarry, And}
 use Rattle.sx_alu.specs.declared.calculation.Calc.TheVariants.{AndNot, Or, Xor, Rrc, Rra, Swap}
 use Rattle.sx_alu.specs.declared.calculation.Calc.TheVariants.{Extend}
+use Rattle.sx_lists.specs.Truth.{truth}
 
 -- how many numbers a word or a byte has
 abbrev pub limit : Bool → ℕ
@@ -63,18 +63,18 @@ tested wide r v = with_flags wide r (not (r == 0)) v
 
 -- a shift right by one, with a bit that enters at the top; C is the bit that leaves
 abbrev pub shifted : Bool → ℕ → Bool → ℕ × Flags
-shifted wide s top = with_flags wide (s / 2 + bit top * half wide) (s % 2 == 1) false
+shifted wide s top = with_flags wide (s / 2 + truth top * half wide) (s % 2 == 1) false
 
 -- bit 7 in all bits above it
 abbrev pub extended : ℕ → ℕ
-extended s = s % 256 + bit (is_negative false (s % 256)) * 0xff00
+extended s = s % 256 + truth (is_negative false (s % 256)) * 0xff00
 
 -- the result and the flags of a calculation on a source s and a destination d of its width
 abbrev pub row : Calc → Bool → ℕ → ℕ → Flags → ℕ × Flags
 row Add wide s d f = sum_row wide s d 0
-row AddCarry wide s d f = sum_row wide s d (bit f.c)
+row AddCarry wide s d f = sum_row wide s d (truth f.c)
 row Sub wide s d f = difference_row wide s d 1
-row SubCarry wide s d f = difference_row wide s d (bit f.c)
+row SubCarry wide s d f = difference_row wide s d (truth f.c)
 row And wide s d f = tested wide (bit_and d s) false
 row AndNot wide s d f = (bit_and d (inverse wide s), f)
 row Or wide s d f = (bit_or d s, f)

@@ -3,10 +3,11 @@
 
 ghost use Rattle.std.specs.Prelude.{◌≡◌, ◌↔◌, ℕ, ◌<◌, ◌≤◌, ◌+◌, ◌-◌, ◌/◌, ◌%◌, Bool, IsTrue, ◌<ℤ◌};
 ghost use Rattle.std.specs.Prelude.{◌+ℤ◌, ◌-ℤ◌, pos, false};
-ghost use Rattle.sx_alu.specs.Status.{bit, flags_of, with_flags_in};
+ghost use Rattle.sx_alu.specs.Status.{flags_of, with_flags_in};
 ghost use Rattle.sx_alu.specs.Table.{limit, row, signed, differ, sum_row, difference_row};
 ghost use Rattle.sx_alu.specs.declared.flags.Flags.{Flags};
 ghost use Rattle.sx_alu.specs.declared.calculation.Calc.TheVariants.{Sub};
+ghost use Rattle.sx_lists.specs.Truth.{truth};
 
 /// After a subtraction of s from d, as for a comparison: C says that s is at most d, Z that they
 /// are equal, and N differs from V exactly where d is below s as signed numbers. The value is the
@@ -27,11 +28,11 @@ pub fn comparison()
 /// less 1 where the carry was clear.
 pub fn overflow()
     ensures sum { (wide c : Bool) (s d : ℕ) → s < limit wide → d < limit wide →
-        let r = sum_row wide s d (bit c) in
-        r.1.v ≡ false ↔ (signed wide r.0 ≡ signed wide d +ℤ signed wide s +ℤ pos (bit c)) }
+        let r = sum_row wide s d (truth c) in
+        r.1.v ≡ false ↔ (signed wide r.0 ≡ signed wide d +ℤ signed wide s +ℤ pos (truth c)) }
     ensures difference { (wide c : Bool) (s d : ℕ) → s < limit wide → d < limit wide →
-        let r = difference_row wide s d (bit c) in
-        r.1.v ≡ false ↔ (signed wide r.0 ≡ signed wide d -ℤ signed wide s -ℤ pos (1 - bit c)) }
+        let r = difference_row wide s d (truth c) in
+        r.1.v ≡ false ↔ (signed wide r.0 ≡ signed wide d -ℤ signed wide s -ℤ pos (1 - truth c)) }
 {}
 
 /// Flags that were written into a status register are read back, and its other bits stay.

@@ -1,10 +1,10 @@
 //! The result and the flags of each calculation.
 
 ghost use Rattle.std.specs.Prelude.{◌≡◌, ◌%◌, ◌<◌, ◌&&◌, IsTrue};
-ghost use Rattle.sx_alu.specs.Status.{bit};
 ghost use Rattle.sx_alu.specs.Table.{limit, half, is_negative, row, has_width, sum_row};
 ghost use Rattle.sx_alu.specs.Table.{difference_row, carried, differ, tested, shifted, extended};
 ghost use Rattle.sx_alu.specs.Table.{with_flags};
+ghost use Rattle.sx_lists.specs.Truth.{truth};
 
 use crate::calculation::Calc;
 use crate::flags::Flags;
@@ -58,7 +58,7 @@ fn carried(wide: bool, sum: u32, d: u16, can_overflow: bool) -> (u16, StatusBits
 fn sum(wide: bool, s: u16, d: u16, carry: bool) -> (u16, StatusBits)
     requires s { s < limit wide }
     requires d { d < limit wide }
-    ensures { result ≡ sum_row wide s d (bit carry) }
+    ensures { result ≡ sum_row wide s d (truth carry) }
 {
     let sum = u32::from(d) + u32::from(s) + u32::from(carry);
     carried(wide, sum, d, is_negative(wide, d) == is_negative(wide, s))
@@ -68,7 +68,7 @@ fn sum(wide: bool, s: u16, d: u16, carry: bool) -> (u16, StatusBits)
 fn difference(wide: bool, s: u16, d: u16, carry: bool) -> (u16, StatusBits)
     requires s { s < limit wide }
     requires d { d < limit wide }
-    ensures { result ≡ difference_row wide s d (bit carry) }
+    ensures { result ≡ difference_row wide s d (truth carry) }
 {
     let sum = u32::from(d) + (limit(wide) - 1 - u32::from(s)) + u32::from(carry);
     carried(wide, sum, d, is_negative(wide, d) != is_negative(wide, s))

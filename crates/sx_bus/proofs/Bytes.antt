@@ -1,9 +1,10 @@
 -- What keeps the bytes of a memory in range.
-use Rattle.std.proofs.Common.{◌≡◌, ℕ, zero, suc, ◌<◌, inl, inr, List, length, replicate, refl, sym, ◌∙◌, subst, arith}
+use Rattle.std.proofs.Common.{◌≡◌, ℕ, ◌<◌, inl, inr, List, length, sym, ◌∙◌, subst, arith}
 use Rattle.std.specs.Prelude.{slice_index, slice_set}
 use Rattle.std.proofs.lemmas.Bool.{cases_eq, cases_lt}
 use Rattle.std.proofs.lemmas.List.{length-set, get_or-set_same, get_or-set_other, set_past, length-replicate}
 use Rattle.sx_bus.specs.Memory.{blank, AreMemoryBytes}
+use Rattle.sx_lists.proofs.Lists.{zero_at}
 
 pub AreMemoryBytes-set : (mem : List ℕ) (i v : ℕ) → AreMemoryBytes mem → v < 256 → AreMemoryBytes (slice_set mem i v)
 AreMemoryBytes-set mem i v h p = record {
@@ -16,11 +17,6 @@ AreMemoryBytes-set mem i v h p = record {
     | inr ne ↦ subst (λ z. z < 256) (sym (get_or-set_other mem i r v 0 ne)) (h.bytes r)
   ];
 }
-
-zero_at : (n k : ℕ) → slice_index (replicate n 0) k ≡ 0
-zero_at zero k = refl
-zero_at (suc n) zero = refl
-zero_at (suc n) (suc k) = zero_at n k
 
 -- The count is a variable, since a proof must never compute a list of 65,536 numbers.
 pub AreMemoryBytes-blank : (n : ℕ) → n ≡ 65536 → AreMemoryBytes (blank n)

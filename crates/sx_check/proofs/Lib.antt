@@ -1,4 +1,3 @@
-pub mod Seen
 pub mod Turns
 pub mod Places
 pub mod Keeps

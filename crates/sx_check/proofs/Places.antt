@@ -1,6 +1,5 @@
 -- One statement further in a block, its own name can be seen too.
-use Rattle.std.proofs.Common.{◌≡◌, ℕ, suc, ◌+◌, ◌<◌, Bool, false, ◌||◌, List, [], ◌∷◌, ◌++◌, length, get_or, take, drop, sym, ap, ◌∙◌, subst, add-one, append_assoc}
-use Rattle.std.proofs.Math.Seq.{drop-cons}
+use Rattle.std.proofs.Common.{◌≡◌, ℕ, ◌+◌, ◌<◌, Bool, false, ◌||◌, List, [], ◌∷◌, ◌++◌, length, get_or, take, drop, sym, ap, ◌∙◌, subst, append_assoc}
 use Rattle.std.proofs.lemmas.List.{append-nil, take_more}
 use Rattle.std.proofs.lemmas.List.Folds.{list_any-append}
 use Rattle.std.specs.List.{list_any}
@@ -9,6 +8,7 @@ use Rattle.sx_lang.specs.View.{statement_of, block_of}
 use Rattle.sx_check.specs.Names.{defined}
 use Rattle.sx_check.specs.Scopes.{definitions}
 use Rattle.sx_check.specs.Uses.{Use, statement_uses, block_uses}
+use Rattle.sx_lists.proofs.Lists.{rest_is}
 
 definitions-push : (xs : List Stmt) (s : Stmt) → definitions (block_of (xs ++ s ∷ [])) ≡ definitions (block_of xs) ++ defined (statement_of s)
 definitions-push [] s = append-nil (defined (statement_of s))
@@ -21,9 +21,6 @@ seen_next seen items i s h e =
     ap (λ xs. seen ++ definitions (block_of xs)) (take_more items i s h ∙ ap (λ x. take i items ++ x ∷ []) (sym e))
     ∙ ap (λ d. seen ++ d) (definitions-push (take i items) s)
     ∙ sym (append_assoc seen (definitions (block_of (take i items))) (defined (statement_of s)))
-
-rest_is : (items : List Stmt) (i : ℕ) (s : Stmt) → i < length items → s ≡ get_or items i s → drop i items ≡ s ∷ drop (i + 1) items
-rest_is items i s h e = drop-cons items i s h ∙ ap (λ x. x ∷ drop (suc i) items) (sym e) ∙ ap (λ n. s ∷ drop n items) (sym (add-one i))
 
 pub one_further : (F : Use → Bool) (seen : List (List ℕ)) (items : List Stmt) (i : ℕ) (s : Stmt) (x : Bool) → i < length items → s ≡ get_or items i s
     → list_any F (statement_uses (seen ++ definitions (block_of (take i items))) (statement_of s)) ≡ false

@@ -3,10 +3,10 @@ use Rattle.std.proofs.Common.{◌≡◌, ℕ, zero, suc, ◌*◌, ◌≤◌, Boo
 use Rattle.std.proofs.Math.Nat.{suc-mul}
 use Rattle.std.proofs.lemmas.Bool.Decides.{nat_tests}
 
-within : (b : ℕ) → nat_le b 65536 ≡ true → min b 65536 ≡ b
+pub within : (b : ℕ) → nat_le b 65536 ≡ true → min b 65536 ≡ b
 within b h = grind (arith, nat_tests)
 
-above : (b : ℕ) → nat_le b 65536 ≡ false → 65536 ≤ b
+pub above : (b : ℕ) → nat_le b 65536 ≡ false → 65536 ≤ b
 above b h = grind (arith, nat_tests)
 
 pub sends_cut : (n b : ℕ) → min (n * min b 65536) 65536 ≡ min (n * b) 65536

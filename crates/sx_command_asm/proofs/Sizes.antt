@@ -10,7 +10,7 @@ use Rattle.sx_isa.specs.declared.instruction.Instr.{Instr}
 use Rattle.sx_isa.specs.declared.instruction.Instr.TheVariants as instr
 use Rattle.sx_isa.specs.Legal.{is_allowed, is_constant}
 use Rattle.sx_isa.specs.Reading.{two_of, one_of, two_at, one_at, instruction_at, takes_word}
-use Rattle.sx_isa.specs.Spelling.{bit, Place, constant, place_of}
+use Rattle.sx_isa.specs.Spelling.{Place, constant, place_of}
 use Rattle.sx_isa.proofs.Formats.{by_format}
 use Rattle.sx_asm.specs.declared.error.AsmError.{AsmError}
 use Rattle.sx_asm.specs.declared.written.Value.{Value}
@@ -27,6 +27,7 @@ use Rattle.sx_asm.specs.Assembled.{formed, named, reached, fitted, stands, code_
 use Rattle.sx_asm.specs.Shown.{line_of, listed, word_from}
 use Rattle.sx_asm.proofs.Listings.{bytes_length}
 use Rattle.sx_told.proofs.Endings.{pick}
+use Rattle.sx_lists.specs.Truth.{truth}
 
 -- ---- instructions
 
@@ -38,13 +39,13 @@ abbrev FewIn : Option (Instr × ℕ) → Type 0
 FewIn None = Unit {0}
 FewIn (Some f) = Few f.1
 
-bit_few : (a b : Bool) → Few (1 + bit a + bit b)
+bit_few : (a b : Bool) → Few (1 + truth a + truth b)
 bit_few true true = (omega arith, omega arith)
 bit_few true false = (omega arith, omega arith)
 bit_few false true = (omega arith, omega arith)
 bit_few false false = (omega arith, omega arith)
 
-one_bit : (a : Bool) → Few (1 + bit a)
+one_bit : (a : Bool) → Few (1 + truth a)
 one_bit true = (omega arith, omega arith)
 one_bit false = (omega arith, omega arith)
 

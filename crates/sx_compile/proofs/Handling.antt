@@ -43,7 +43,7 @@ use Rattle.sx_compile.specs.Compiled.{HasSections}
 use Rattle.std.proofs.Common.{None, inl, inr, ◌%◌}
 use Rattle.std.proofs.lemmas.List.{append-nil}
 use Rattle.std.proofs.lemmas.List.Elements.{All-from_get_or}
-use Rattle.sx_stub.proofs.Mem.{AllBytes-bytes_from, length-bytes_from, word_same}
+use Rattle.sx_stub.proofs.Mem.{AllBytes-bytes_from, word_same}
 use Rattle.sx_stub.proofs.Packets.{bytes_from_get}
 use Rattle.sx_tmpl.proofs.Texts.Resuming.{Resumes, begins_at, conf_at, fixed_from, outside_kept, stands}
 use Rattle.sx_tmpl.proofs.Texts.TextBytes.{length-bytes}
@@ -56,6 +56,7 @@ use Rattle.sx_compile.proofs.Narrow.{AreBelow, bytes_below, ops_below}
 use Rattle.sx_compile.proofs.CompiledRealizes.{room_of}
 use Rattle.sx_compile.proofs.Regular.{runs_regular}
 use Rattle.sx_compile.proofs.Written.{handled_written, stand_same}
+use Rattle.sx_machine.proofs.Lengths.{length-bytes_from}
 
 module _ (f : Fixed) (st : Stands f) (all : List Mark) (window : f.to ≡ pieces_end (is_bad_window f.setup f.from 384) f.from (made_bytes all)) (tag : IsTag f.setup.mac) (code : Code)
     (sound : AreSound code.ops.items code.parts.items f.setup.section.layout)

@@ -6,7 +6,7 @@ use Rattle.std.proofs.lemmas.List.{append-nil, append_assoc, get_or-set_other, l
 use Rattle.std.proofs.lemmas.Bool.{and_parts, leb-true, ltb-true, or_cases}
 use Rattle.sx_lang.specs.declared.tree.UnOp.TheVariants as unary
 use Rattle.sx_lang.specs.declared.tree.BinOp.TheVariants as binary
-use Rattle.sx_mean.specs.Meaning.{truth, apply, combine}
+use Rattle.sx_mean.specs.Meaning.{apply, combine}
 use Rattle.sx_mean.specs.Offsets as offsets
 use Rattle.sx_rules.specs.declared.access.Violation.{Violation}
 use Rattle.sx_rules.specs.declared.access.Violation.TheVariants as bad
@@ -34,6 +34,7 @@ use Rattle.sx_ir.specs.Meaning as m
 use Rattle.sx_ir.specs.Meaning.{OperationResult, saved, do_op, next, when, on_top, pushed, pieces}
 use Rattle.sx_ir.specs.Sound.{are_sealed, is_even, is_free, is_sound_op, may_change}
 use Rattle.sx_stub.proofs.Mem.{word_same, get-put_bytes_other}
+use Rattle.sx_lists.specs.Truth.{truth}
 
 -- a place to return to is the one that was, or the next one
 abbrev pub ReturnsFrom : Conf → Option ℕ → Type 0

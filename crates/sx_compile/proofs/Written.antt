@@ -34,9 +34,11 @@ use Rattle.sx_invoke.specs.Protocol.{all_done, event_size, key_size, value_size,
 use Rattle.sx_invoke.proofs.ByEntry.{by_entry}
 use Rattle.sx_image.specs.Realizes.{KeepsOutside, Stand, is_piece_address}
 use Rattle.sx_invoke.specs.Progress.{bytes_in}
-use Rattle.sx_stub.proofs.Mem.{bytes_from_same, length-bytes_from}
+use Rattle.sx_stub.proofs.Mem.{bytes_from_same}
 use Rattle.sx_stub.proofs.Packets.{bytes_from_get}
 use Rattle.sx_invoke.proofs.PiecesMarked.{bytes_more, packet_length, tag_length}
+use Rattle.sx_machine.proofs.Lengths.{length-bytes_from}
+use Rattle.sx_tmpl.proofs.Running.Outcomes.{ok_same}
 
 -- only places where pieces go changed, there the pieces stand, and the out-window holds them
 pub record Written (s : Setup) (call : Call) (before : List ℕ) (p : Progress) : Type 0 where
@@ -82,9 +84,6 @@ outside_bytes s devices mem new a (b ∷ bs) at e out = go (write_byte s devices
     go (Ok x) f e rest = rest x e ∙ outside_byte s devices mem x a b at f (λ same. out (omega (arith, same)) (omega (arith, same)))
 
 -- bytes that were written stand
-
-ok_same : (x y : List ℕ) → ◌≡◌ {A = Result (List ℕ) Violation} (Ok x) (Ok y) → x ≡ y
-ok_same x y e = cc
 
 err_ok : (v : Violation) (y : List ℕ) → ◌≡◌ {A = Result (List ℕ) Violation} (Err v) (Ok y) → ⊥
 err_ok v y e = cc

@@ -5,7 +5,7 @@ use Rattle.std.proofs.lemmas.Bool.Decides.{nat_tests}
 use Rattle.sx_mean.specs.declared.apps.Link.{Link}
 use Rattle.sx_stage.specs.Stage.{made_after}
 use Rattle.sx_stage.specs.declared.fault.Sort.TheVariants.{Module}
-use Rattle.sx_stage.proofs.Each.{Each, bind-Ok}
+use Rattle.sx_stage.proofs.Each.{Each, bind-Ok, each-snoc}
 use Rattle.sx_stage.proofs.Tested.{made-keeps}
 use Rattle.sx_entries.specs.declared.entries.DeviceEntry.{DeviceEntry}
 use Rattle.sx_entries.proofs.Kept.{in_entry-Ok}
@@ -13,10 +13,7 @@ use Rattle.sx_deploy.specs.declared.placing.Placement.{Placement}
 use Rattle.sx_deploy.specs.Sources.{Coded}
 use Rattle.sx_deploy.specs.Places.{ModuleSections, Span, data_of, is_misplaced, is_outside, layout_of, meet, meets_module, placed_module, placement_of, sections_of, text_of}
 use Rattle.sx_deploy.specs.Law.{AreApartSpans, AreBeside}
-
-pub or_false : (a b : Bool) → (a || b) ≡ false → (a ≡ false) × (b ≡ false)
-or_false true b h = absurd (cc)
-or_false false b h = (refl, h)
+use Rattle.sx_lists.proofs.Truths.{or_false}
 
 pub and_false : (a b : Bool) → (a && b) ≡ false → a ≡ true → b ≡ false
 and_false true b h t = h
@@ -34,10 +31,6 @@ each-weaker P Q k (x ∷ xs) h = (k x h.0, each-weaker P Q k xs h.1)
 abbrev pub EachPair : {A : Type 0} → (A → A → Type 0) → List A → Type 0
 EachPair R [] = Unit {0}
 EachPair R (x ∷ xs) = Each (R x) xs × EachPair R xs
-
-each-snoc : {A : Type 0} (P : A → Type 0) (xs : List A) (x : A) → Each P xs → P x → Each P (xs ++ x ∷ [])
-each-snoc P [] x h p = (p, tt)
-each-snoc P (y ∷ ys) x h p = (h.0, each-snoc P ys x h.1 p)
 
 pub pair-snoc : {A : Type 0} (R : A → A → Type 0) (xs : List A) (y : A) → EachPair R xs → Each (λ x. R x y) xs → EachPair R (xs ++ y ∷ [])
 pair-snoc R [] y h p = (tt, tt)

@@ -16,10 +16,7 @@ use Rattle.sx_deploy.specs.Places.{ends_of, start_of}
 use Rattle.sx_deploy.specs.Law.{AreBeside}
 use Rattle.sx_check.proofs.Distinct.{count_by-cons}
 use Rattle.sx_deploy.proofs.Apart.{EachPair, stand, stand_after, tests-equal}
-
-and_true : (a b : Bool) → (a && b) ≡ true → (a ≡ true) × (b ≡ true)
-and_true true b h = (refl, h)
-and_true false b h = absurd (cc)
+use Rattle.sx_lists.proofs.Truths.{and_true}
 
 -- a device is on one node
 one_node : (es : List AppDevice) (d n k : ℕ) (x y : DeviceKind) → is_at es d n x ≡ true → is_at es d k y ≡ true → n ≡ k

@@ -21,8 +21,9 @@ use Rattle.sx_deploy.specs.Places.{ModuleSections, Span, data_of, drives, ends_o
 use Rattle.sx_mean.specs.Application.{PartTree}
 use Rattle.sx_deploy.specs.Deployment.{Deployed, part_of}
 use Rattle.sx_deploy.specs.Law.{AreApartSpans, AreLaid, IsInside, IsLaid, IsWordPlace, Word, standing, words_of}
-use Rattle.sx_deploy.proofs.Apart.{EachPair, none-any, one_placed, or_false, and_false, pair-snoc, stand, stand_after, tests-equal}
+use Rattle.sx_deploy.proofs.Apart.{EachPair, none-any, one_placed, and_false, pair-snoc, stand, stand_after, tests-equal}
 use Rattle.sx_deploy.proofs.ValidApp.{each-map, each-weaker, each-both}
+use Rattle.sx_lists.proofs.Truths.{and_true, or_false}
 
 apart : (a b : Span) → meet a b ≡ false → AreApartSpans a b
 apart a b h = grind (arith, nat_tests)
@@ -50,10 +51,6 @@ inside s h =
 
 same_bytes : (a b : ℕ) → a < 255 → b < 255 → min a 255 ≡ min b 255 → a ≡ b
 same_bytes a b h k e = omega arith
-
-and_true : (a b : Bool) → (a && b) ≡ true → (a ≡ true) × (b ≡ true)
-and_true true b h = (refl, h)
-and_true false b h = absurd (cc)
 
 equal-tests : (a b : ℕ) → a ≡ b → (a == b) ≡ true
 equal-tests a b h = grind (arith, nat_tests)

@@ -32,6 +32,7 @@ use Rattle.sx_deploy.proofs.Drivers.{IsFit, all_unlike, one_drives}
 use Rattle.sx_deploy.proofs.Few.{AreFew, few, tested-at}
 use Rattle.sx_deploy.proofs.Linked.{IsLinked, all_linked, as_many}
 use Rattle.sx_deploy.proofs.Pairs.{pairs, pairs-count, pairs-each, pairs-length}
+use Rattle.sx_lists.proofs.Truths.{not_false}
 
 pub each-all-back : {A : Type 0} (P : A → Type 0) (xs : List A) → All P xs → Each P xs
 each-all-back P [] h = tt
@@ -66,10 +67,6 @@ none_wrong test (m ∷ ms) p h =
     let later : (i : ℕ) (d : Coded) → i < length ms → test ((p + 1) + i) (part_of (get_or ms i d)) ≡ false =
     λ i d k. (let next : p + suc i ≡ (p + 1) + i = omega arith in subst (λ (n : ℕ). test n (part_of (get_or ms i d)) ≡ false) next (h (suc i) d (omega (arith, k)))) in
     rw (first, none_wrong test ms (p + 1) later) refl
-
-pub not_false : (b : Bool) → not b ≡ false → b ≡ true
-not_false true h = refl
-not_false false h = absurd (cc)
 
 below : (a b : ℕ) → a < b → b ≤ 64 → nat_lt (byte a) (byte b) ≡ true
 below a b h k = grind (arith, nat_tests)

@@ -1,11 +1,9 @@
 -- Names that are new keep a list of names apart.
-use Rattle.std.proofs.Common.{◌≡◌, ℕ, Bool, true, false, ◌&&◌, ◌||◌, not, List, [], ◌∷◌, ◌++◌, map, length, Option, Some, None, Ok, refl, sym, ap, subst, ◌∙◌, if◌then◌else◌, ◌<◌}
-use Rattle.std.specs.Bool.{one_answer}
+use Rattle.std.proofs.Common.{◌≡◌, ℕ, Bool, true, false, ◌||◌, not, List, [], ◌∷◌, ◌++◌, map, length, Option, Some, None, Ok, refl, sym, ap, subst, ◌∙◌, if◌then◌else◌, ◌<◌}
 use Rattle.std.specs.Str.{bytes_eq}
 use Rattle.std.proofs.lemmas.List.Folds.{list_all-append, list_any-append}
 use Rattle.std.proofs.lemmas.List.{map-append}
 use Rattle.std.proofs.lemmas.List.Quantifiers.{position-Some}
-use Rattle.std.proofs.lemmas.Slice.Eq.{bytes_eq-Decides}
 use Rattle.sx_lang.specs.Form.{is_name}
 use Rattle.sx_trace.specs.Names.{has_name, no_repeat, deployer}
 use Rattle.sx_stage.specs.Stage.{in_entry}
@@ -13,21 +11,8 @@ use Rattle.sx_stage.specs.declared.fault.Sort.{Sort}
 use Rattle.sx_entries.specs.Entries.{has_entry, fresh, place_among, not_reserved}
 use Rattle.sx_entries.specs.Law.{AreNamed}
 use Rattle.sx_entries.proofs.RowForms.{IsForm}
-
-bytes_eq-sym : (a b : List ℕ) → bytes_eq a b ≡ bytes_eq b a
-bytes_eq-sym a b = one_answer {P = a ≡ b} (bytes_eq a b) (bytes_eq b a) (bytes_eq-Decides a b) (λ h. sym ((bytes_eq-Decides b a).0 h), λ e. (bytes_eq-Decides b a).1 (sym e))
-
-or_false : (a b : Bool) → (a || b) ≡ false → (a ≡ false) × (b ≡ false)
-or_false true b h = absurd (cc)
-or_false false b h = (refl, h)
-
-and_true : (a b : Bool) → (a && b) ≡ true → (a ≡ true) × (b ≡ true)
-and_true true b h = (refl, h)
-and_true false b h = absurd (cc)
-
-not_true : (a : Bool) → not a ≡ true → a ≡ false
-not_true true h = absurd (cc)
-not_true false h = refl
+use Rattle.sx_lists.proofs.Truths.{and_true, or_false, not_true}
+use Rattle.sx_lists.proofs.Texts.{bytes_eq-sym}
 
 -- a name that isn't among the others, after them
 still_new : (names : List (List ℕ)) (x y : List ℕ) → has_name names y ≡ false → bytes_eq y x ≡ false → has_name (names ++ x ∷ []) y ≡ false

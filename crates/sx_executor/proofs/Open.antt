@@ -2,7 +2,7 @@
 use Rattle.std.proofs.Common.{◌≡◌, ℕ, ◌+◌, ◌-◌, ◌/◌, ◌%◌, Bool, true, false, ◌&&◌, List, refl, arith}
 use Rattle.sx_rules.specs.declared.access.Access.{Access}
 use Rattle.sx_rules.specs.declared.section.Section.{Section}
-use Rattle.sx_rules.specs.Access.{may, extends, outside_private, in_order, holder}
+use Rattle.sx_rules.specs.Access.{may, extends, outside_private, in_order}
 use Rattle.sx_rules.specs.Pages.{is_open}
 use Rattle.sx_rules.proofs.Away.{free}
 use Rattle.sx_machine.specs.Memory.{even}
@@ -45,6 +45,3 @@ open_outside live at h =
 
 pub open_ordered : (live : List Section) (cur at : ℕ) → is_open live (at / 256) ≡ true → in_order live cur at ≡ true
 open_ordered live cur at h = (free live at h at refl).ordered cur
-
-pub open_holder : (live : List Section) (at : ℕ) → is_open live (at / 256) ≡ true → holder live at ≡ 0
-open_holder live at h = (free live at h at refl).of_none

@@ -12,11 +12,12 @@ use Rattle.sx_machine.proofs.Boots.{boots_count}
 use Rattle.sx_run.specs.Setting.{Setting}
 use Rattle.sx_run.specs.State.{World, Acted}
 use Rattle.sx_run.specs.Acts.{only}
-use Rattle.sx_run.proofs.tie.Lists.{get_same, get_other, some_inj}
+use Rattle.sx_run.proofs.tie.Lists.{get_other, some_inj}
 use Rattle.sx_guard.specs.Happening.{Happening, Step, done}
 use Rattle.sx_guard.specs.Guarded.{SameBut, IsForeign, LeavesAlone}
 use Rattle.sx_guard.proofs.Places.{set_set, set_swap, set_here}
 use Rattle.sx_guard.proofs.Acting.{with_nodes, renoded, Effect, applied, SameEffect, Still, OnNode, kind}
+use Rattle.sx_lists.proofs.Lists.{get_same}
 
 is_or_not : (a b : ℕ) → (a ≡ b) ⊎ (a ≡ b → ⊥)
 is_or_not a b = grind arith

@@ -14,9 +14,9 @@ use Rattle.sx_machine.specs.Guard.{Alike}
 use Rattle.sx_machine.proofs.StepGuard.{with_mem}
 use Rattle.sx_machine.proofs.PlanGuard.{bytes_alike}
 use Rattle.sx_machine.proofs.ProtectGuard.{outside}
-use Rattle.sx_machine.proofs.UnprotectGuard.{found_lives}
 use Rattle.sx_run.specs.Setting.{Site, same_layout, deployed, module_of}
 use Rattle.sx_run.proofs.tie.Lists.{some_inj}
+use Rattle.sx_machine.proofs.Stays.{found_lives}
 
 is_or_not : (a b : ℕ) → (a ≡ b) ⊎ (a ≡ b → ⊥)
 is_or_not a b = grind arith

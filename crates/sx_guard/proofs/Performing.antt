@@ -21,7 +21,6 @@ use Rattle.sx_run.specs.State.{World, Acted}
 use Rattle.sx_run.specs.Acts.{only, then_, at_node, after_step}
 use Rattle.sx_run.specs.Run.{is_reset, steps_of, FINISH_STEPS, finish, put_on, put_pieces, Register, set_all, unless_busy, load, call, after_line, line_counted, run}
 use Rattle.sx_run.specs.Run.{protect_registers, call_registers}
-use Rattle.sx_run.proofs.tie.Lists.{get_same}
 use Rattle.sx_guard.specs.Happening.{Happening, Step, Put, Set, Take, Give, Forge, Sense, Irq, Reset, Ask, Answer, Show, done}
 use Rattle.sx_guard.specs.Script.{Look, look, looks, Script, Do, performed, after}
 use Rattle.sx_guard.specs.Lines.{all, ends, where_node, steps, finishing, unless_running, pieces, setting_of, loading, calling, line_script, script_of}
@@ -29,6 +28,7 @@ use Rattle.sx_guard.specs.Laws.{RunsArePerformed, RunsGuarded}
 use Rattle.sx_guard.proofs.Places.{get_map, get_map_none}
 use Rattle.sx_guard.proofs.Alone.{AllPlaced, done_placed, some_or_none}
 use Rattle.sx_guard.proofs.Guarding.{after_placed, scripts_guarded}
+use Rattle.sx_lists.proofs.Lists.{get_same}
 
 -- A step says that it was a reset exactly where the boot count is another.
 

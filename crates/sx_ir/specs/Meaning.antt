@@ -4,7 +4,7 @@ use Rattle.std.specs.Prelude.{not, if◌then◌else◌, List, [], ◌∷◌, ◌
 use Rattle.std.specs.Prelude.{Option, Some, None, Result, Ok, Err}
 use Rattle.sx_lang.specs.declared.tree.UnOp.TheVariants as unary
 use Rattle.sx_lang.specs.declared.tree.BinOp.TheVariants as binary
-use Rattle.sx_mean.specs.Meaning.{truth, apply, combine}
+use Rattle.sx_mean.specs.Meaning.{apply, combine}
 use Rattle.sx_rules.specs.declared.access.Violation.{Violation}
 use Rattle.sx_rules.specs.declared.access.Violation.TheVariants as bad
 use Rattle.sx_rules.specs.Access.{in_public}
@@ -31,6 +31,7 @@ use Rattle.sx_ir.specs.declared.ir.IrOp.{IrOp}
 use Rattle.sx_ir.specs.declared.ir.IrOp.TheVariants as op
 use Rattle.sx_ir.specs.declared.ir.Ir.{Ir}
 use Rattle.sx_ir.specs.declared.ir.Ir.TheVariants as ir
+use Rattle.sx_lists.specs.Truth.{truth}
 
 -- what an operation leads to
 abbrev pub OperationResult : Type 0

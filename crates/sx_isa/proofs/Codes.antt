@@ -6,9 +6,10 @@ use Rattle.sx_isa.specs.declared.instruction.Op2.{Op2}
 use Rattle.sx_isa.specs.declared.instruction.Op2.TheVariants.{Mov, Add, Addc, Subc, Sub, Cmp, Bit, Bic, Bis, Xor, And}
 use Rattle.sx_isa.specs.declared.instruction.Op1.{Op1}
 use Rattle.sx_isa.specs.declared.instruction.Op1.TheVariants.{Rrc, Swpb, Rra, Sxt, Push, Call}
-use Rattle.sx_isa.specs.Spelling.{op2_code, op1_code, bit, offset_field}
+use Rattle.sx_isa.specs.Spelling.{op2_code, op1_code, offset_field}
 use Rattle.sx_isa.specs.Legal.{IsOffset}
 use Rattle.sx_isa.specs.Reading.{op2_at, op1_at, offset_at}
+use Rattle.sx_lists.specs.Truth.{truth}
 
 -- reading a code gives the operation that has it
 pub op2_back : (op : Op2) →
@@ -33,11 +34,11 @@ op1_back Sxt = (refl, omega arith)
 op1_back Push = (refl, omega arith)
 op1_back Call = (refl, omega arith)
 
-pub bit_back : (b : Bool) → ((bit b == 1) ≡ b) × (bit b < 2)
+pub bit_back : (b : Bool) → ((truth b == 1) ≡ b) × (truth b < 2)
 bit_back true = (refl, omega arith)
 bit_back false = (refl, omega arith)
 
-pub bit_at : (n : ℕ) → n < 2 → bit (n == 1) ≡ n
+pub bit_at : (n : ℕ) → n < 2 → truth (n == 1) ≡ n
 bit_at n h = grind (arith, nat_tests)
 
 pub offset_back : (z : ℤ) → IsOffset z → (offset_at (offset_field z) ≡ z) × (offset_field z < 1024)

@@ -6,10 +6,11 @@ use Rattle.sx_isa.specs.declared.instruction.Op1.{Op1}
 use Rattle.sx_isa.specs.declared.instruction.Op1.TheVariants.{Rrc, Swpb, Rra, Sxt, Push, Call}
 use Rattle.sx_isa.specs.declared.instruction.Instr.{Instr}
 use Rattle.sx_isa.specs.declared.instruction.Instr.TheVariants.{Two, One, Reti, Jump, Sancus}
-use Rattle.sx_isa.specs.Spelling.{op1_code, op2_code, bit, two_word, one_word, first_word, place_of}
+use Rattle.sx_isa.specs.Spelling.{op1_code, op2_code, two_word, one_word, first_word, place_of}
 use Rattle.sx_isa.specs.Legal.{IsIllegal, IsInstruction, IsSource, is_allowed, is_value}
 use Rattle.sx_isa.proofs.Codes.{op2_back, op1_back, bit_back, offset_back}
 use Rattle.sx_isa.proofs.Operands.{source_back, destination_back}
+use Rattle.sx_lists.specs.Truth.{truth}
 
 pub two_fields : (w op s ad y m d : ℕ) → w ≡ two_word op s ad y m d → s < 16 → ad < 2 → y < 2 → m < 4 →
     d < 16 →
@@ -34,7 +35,7 @@ one_packed w op y h k e b = omega arith
 
 -- what an operation on one operand allows, by its code
 pub allowed_cases : (op : Op1) (byte : Bool) (arg : Operand) → is_allowed op byte arg ≡ true →
-    ((op1_code op % 2 ≡ 0) ⊎ (bit byte ≡ 0)) × ((4 ≤ op1_code op) ⊎ (is_value arg ≡ false))
+    ((op1_code op % 2 ≡ 0) ⊎ (truth byte ≡ 0)) × ((4 ≤ op1_code op) ⊎ (is_value arg ≡ false))
 allowed_cases Rrc byte arg h = (inl refl, inr (grind arith))
 allowed_cases Swpb byte arg h = (inr (grind arith), inr (grind arith))
 allowed_cases Rra byte arg h = (inl refl, inr (grind arith))
@@ -89,12 +90,12 @@ one_legal w op y m r e a b c d forms values illegal =
 pub legal : (i : Instr) → IsInstruction i → IsIllegal (first_word i) → ⊥
 legal (Two op byte src dst) h illegal =
     let o = op2_back op in let p = source_back src h.0 in let q = destination_back dst h.1 in
-    two_legal _ (op2_code op) (place_of src).register (place_of dst).mode (bit byte)
+    two_legal _ (op2_code op) (place_of src).register (place_of dst).mode (truth byte)
     (place_of src).mode (place_of dst).register
     refl o.1 o.2 p.register q.mode (bit_back byte).1 p.mode q.register o.3 q.not_three illegal
 legal (One op byte arg) h illegal =
     let p = source_back arg h.0 in let a = allowed_cases op byte arg h.1 in
-    one_legal _ (op1_code op) (bit byte) (place_of arg).mode (place_of arg).register refl
+    one_legal _ (op1_code op) (truth byte) (place_of arg).mode (place_of arg).register refl
     (op1_back op).1 (bit_back byte).1 p.mode p.register
     a.0 (elim a.1 [ inl l ↦ inl l | inr v ↦ inr (no_value_place arg h.0 v) ]) illegal
 legal Reti h illegal = omega arith

@@ -5,9 +5,10 @@ use Rattle.std.proofs.lemmas.Bool.{ne_eqb}
 use Rattle.std.proofs.lemmas.Bool.Decides.{nat_tests}
 use Rattle.sx_isa.specs.declared.instruction.Operand.{Operand}
 use Rattle.sx_isa.specs.declared.instruction.Operand.TheVariants.{Reg, Indexed, Indirect, Increment, Symbolic, Absolute, Immediate, Const}
-use Rattle.sx_isa.specs.Spelling.{place_of, at, bit}
+use Rattle.sx_isa.specs.Spelling.{place_of, at}
 use Rattle.sx_isa.specs.Legal.{IsSource, IsDestination, IsGeneral, IsValuePlace, is_constant, is_value}
 use Rattle.sx_isa.specs.Reading.{source_at, destination_at, takes_word}
+use Rattle.sx_lists.specs.Truth.{truth}
 
 -- a register is one of the three with meanings of their own, or a general one
 by_register : (P : ℕ → Type 0) (r : ℕ) → r < 16 → P 0 → P 2 → P 3 →
@@ -85,7 +86,7 @@ value_place r m x e h = grind (arith, nat_tests)
 pub record SourceBack (a : Operand) : Type 0 where
   pub register : (place_of a).register < 16
   pub mode : (place_of a).mode < 4
-  pub count : length (place_of a).words ≡ bit (takes_word (place_of a).register (place_of a).mode)
+  pub count : length (place_of a).words ≡ truth (takes_word (place_of a).register (place_of a).mode)
   pub operand : (x : ℕ) → take (length (place_of a).words) (x ∷ []) ≡ (place_of a).words →
       source_at (place_of a).register (place_of a).mode x ≡ a
 
@@ -130,7 +131,7 @@ source_back (Const c) h =
 pub record DestinationBack (a : Operand) : Type 0 where
   pub register : (place_of a).register < 16
   pub mode : (place_of a).mode < 2
-  pub count : length (place_of a).words ≡ bit (takes_word (place_of a).register (place_of a).mode)
+  pub count : length (place_of a).words ≡ truth (takes_word (place_of a).register (place_of a).mode)
   pub operand : (x : ℕ) → take (length (place_of a).words) (x ∷ []) ≡ (place_of a).words →
       destination_at (place_of a).register (place_of a).mode x ≡ Some a
   pub not_three : (place_of a).mode ≡ 1 → (place_of a).register ≡ 3 → ⊥

@@ -9,13 +9,14 @@ use Rattle.sx_isa.specs.declared.instruction.Op2.{Op2}
 use Rattle.sx_isa.specs.declared.instruction.Op1.{Op1}
 use Rattle.sx_isa.specs.declared.instruction.Instr.{Instr}
 use Rattle.sx_isa.specs.declared.instruction.Instr.TheVariants.{Two, One, Reti, Jump, Sancus}
-use Rattle.sx_isa.specs.Spelling.{Place, place_of, op2_code, op1_code, bit, two_word, one_word, first_word}
+use Rattle.sx_isa.specs.Spelling.{Place, place_of, op2_code, op1_code, two_word, one_word, first_word}
 use Rattle.sx_isa.specs.Legal.{IsSource, IsDestination, is_allowed, IsIllegal, BeginsWith}
 use Rattle.sx_isa.specs.Reading.{takes_word, offset_at, two_of, one_of, two_at, one_at, instruction_at}
 use Rattle.sx_isa.proofs.Codes.{bit_at, offset_field-at, offset_at-valid, op2_code-at, op1_code-at, op2_none, op1_none}
 use Rattle.sx_isa.proofs.Operands.{source_stands, destination_stands, destination_none, value_place}
 use Rattle.sx_isa.proofs.FirstWords.{two_packed, one_packed, refused_cases, legal}
 use Rattle.sx_isa.proofs.Formats.{by_format}
+use Rattle.sx_lists.specs.Truth.{truth}
 
 two_of_some : {P : Type 0} (o : Option Op2) (b : Bool) (s : Operand) (d : Option Operand) (n : ℕ) (f : Instr × ℕ) → two_of o b s d n ≡ Some f →
     ((op : Op2) (dst : Operand) → o ≡ Some op → d ≡ Some dst → (Two op b s dst, n) ≡ f → P) → P
@@ -49,8 +50,8 @@ one_of_none (Some op) b a n e = inr (op, refl, test_none (is_allowed op b a) (On
 placed_two : (first second : Bool) (w0 w1 w2 w : ℕ) → w0 ≡ w →
     let words = (if first then w1 ∷ [] else []) ++
     (if second then (if first then w2 else w1) ∷ [] else []) in
-    (1 + bit first + bit second ≡ length (w ∷ words)) ×
-    (take (1 + bit first + bit second) (w0 ∷ w1 ∷ w2 ∷ []) ≡ w ∷ words)
+    (1 + truth first + truth second ≡ length (w ∷ words)) ×
+    (take (1 + truth first + truth second) (w0 ∷ w1 ∷ w2 ∷ []) ≡ w ∷ words)
 placed_two true true w0 w1 w2 w e = (refl, cc)
 placed_two true false w0 w1 w2 w e = (refl, cc)
 placed_two false true w0 w1 w2 w e = (refl, cc)
@@ -58,19 +59,19 @@ placed_two false false w0 w1 w2 w e = (refl, cc)
 
 placed_one : (first : Bool) (w0 w1 w2 w : ℕ) → w0 ≡ w →
     let words = if first then w1 ∷ [] else [] in
-    (1 + bit first ≡ length (w ∷ words)) × (take (1 + bit first) (w0 ∷ w1 ∷ w2 ∷ []) ≡ w ∷ words)
+    (1 + truth first ≡ length (w ∷ words)) × (take (1 + truth first) (w0 ∷ w1 ∷ w2 ∷ []) ≡ w ∷ words)
 placed_one true w0 w1 w2 w e = (refl, cc)
 placed_one false w0 w1 w2 w e = (refl, cc)
 
 begins_two : (w0 w1 w2 n : ℕ) (op : Op2) (byte : Bool) (src dst : Operand) (s d : Place) →
     place_of src ≡ s → place_of dst ≡ d → IsSource src → IsDestination dst →
-    (let words = two_word (op2_code op) s.register d.mode (bit byte) s.mode d.register ∷ (s.words ++ d.words) in (n ≡ length words) × (take n (w0 ∷ w1 ∷ w2 ∷ []) ≡ words)) →
+    (let words = two_word (op2_code op) s.register d.mode (truth byte) s.mode d.register ∷ (s.words ++ d.words) in (n ≡ length words) × (take n (w0 ∷ w1 ∷ w2 ∷ []) ≡ words)) →
     BeginsWith (w0 ∷ w1 ∷ w2 ∷ []) (Two op byte src dst) n
 begins_two w0 w1 w2 n op byte src dst s d e f h k t = rw (e, f) ((h, k), t.0, t.1)
 
 begins_one : (w0 w1 w2 n : ℕ) (op : Op1) (byte : Bool) (arg : Operand) (s : Place) → place_of arg ≡ s →
     IsSource arg → is_allowed op byte arg ≡ true →
-    (let words = one_word (op1_code op) (bit byte) s.mode s.register ∷ s.words in (n ≡ length words) × (take n (w0 ∷ w1 ∷ w2 ∷ []) ≡ words)) →
+    (let words = one_word (op1_code op) (truth byte) s.mode s.register ∷ s.words in (n ≡ length words) × (take n (w0 ∷ w1 ∷ w2 ∷ []) ≡ words)) →
     BeginsWith (w0 ∷ w1 ∷ w2 ∷ []) (One op byte arg) n
 begins_one w0 w1 w2 n op byte arg s e h k t = rw e ((h, k), t.0, t.1)
 
@@ -89,7 +90,7 @@ sound_two w0 w1 w2 a b c f e =
     two_of_some _ _ _ _ _ f e (λ op dst o t same.
     let s = source_stands r m w1 (omega arith) (omega arith) b in
     let q = destination_stands d ad x (omega arith) (omega arith) word dst t in
-    let w : w0 ≡ two_word (op2_code op) r ad (bit byte) m d = two_packed w0 _ _ a (op2_code-at _ op o)
+    let w : w0 ≡ two_word (op2_code op) r ad (truth byte) m d = two_packed w0 _ _ a (op2_code-at _ op o)
     (bit_at (w0 / 64 % 2) (omega arith)) in
     at_some w0 w1 w2 _ _
     (begins_two w0 w1 w2 _ op byte _ dst _ _ s.place q.place s.valid q.valid (placed_two first second w0 w1 w2 _ w)) f same)
@@ -102,7 +103,7 @@ sound_one w0 w1 w2 low high b f e =
     let first = takes_word r m in
     one_of_some _ _ _ _ f e (λ op o allowed same.
     let s = source_stands r m w1 (omega arith) (omega arith) b in
-    let w : w0 ≡ one_word (op1_code op) (bit byte) m r = one_packed w0 _ _ low high
+    let w : w0 ≡ one_word (op1_code op) (truth byte) m r = one_packed w0 _ _ low high
     (op1_code-at _ op o) (bit_at (w0 / 64 % 2) (omega arith)) in
     at_some w0 w1 w2 _ _
     (begins_one w0 w1 w2 _ op byte _ _ s.place s.valid allowed (placed_one first w0 w1 w2 _ w)) f same)

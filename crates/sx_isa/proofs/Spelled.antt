@@ -6,13 +6,14 @@ use Rattle.sx_isa.specs.declared.instruction.Op2.{Op2}
 use Rattle.sx_isa.specs.declared.instruction.Op1.{Op1}
 use Rattle.sx_isa.specs.declared.instruction.Instr.{Instr}
 use Rattle.sx_isa.specs.declared.instruction.Instr.TheVariants.{Two, One, Reti, Jump, Sancus}
-use Rattle.sx_isa.specs.Spelling.{place_of, op2_code, op1_code, bit, two_word, one_word, spelling, first_word}
+use Rattle.sx_isa.specs.Spelling.{place_of, op2_code, op1_code, two_word, one_word, spelling, first_word}
 use Rattle.sx_isa.specs.Legal.{IsSource, IsDestination, is_allowed, IsInstruction, IsOffset, BeginsWith}
 use Rattle.sx_isa.specs.Reading.{source_at, destination_at, takes_word, op2_at, op1_at, offset_at, two_of, one_of, two_at, one_at, instruction_at}
 use Rattle.sx_isa.proofs.Codes.{op2_back, op1_back, bit_back, offset_back}
 use Rattle.sx_isa.proofs.Operands.{source_back, destination_back, words_few}
 use Rattle.sx_isa.proofs.FirstWords.{two_fields, one_fields}
 use Rattle.sx_isa.proofs.Formats.{by_format, jump_format, one_format, sancus_format, two_format}
+use Rattle.sx_lists.specs.Truth.{truth}
 
 two_of_parts : (o : Option Op2) (b byte : Bool) (s src : Operand) (d : Option Operand) (m n : ℕ) (op : Op2) (dst : Operand) →
     o ≡ Some op → b ≡ byte → s ≡ src → d ≡ Some dst → m ≡ n → two_of o b s d m ≡ Some
@@ -33,7 +34,7 @@ two_by_fields : (w0 w1 w2 op s ad y m d : ℕ) →
     (w0 / 4096 ≡ op) × (w0 / 256 % 16 ≡ s) × (w0 / 128 % 2 ≡ ad) × (w0 / 64 % 2 ≡ y) × (w0 / 16 % 4 ≡ m) × (w0 % 16 ≡ d) →
     two_at w0 w1 w2 ≡ two_of (op2_at op) (y == 1) (source_at s m w1)
     (destination_at d ad (if takes_word s m then w2 else w1))
-    (1 + bit (takes_word s m) + bit (takes_word d ad))
+    (1 + truth (takes_word s m) + truth (takes_word d ad))
 unfolding two_at
 two_by_fields w0 w1 w2 op s ad y m d f =
     let a = f.0 in let b = f.1 in let c = f.2 in let e = f.3 in let g = f.4 in let h = f.5 in rw
@@ -41,13 +42,13 @@ two_by_fields w0 w1 w2 op s ad y m d f =
 
 one_by_fields : (w0 w1 op y m r : ℕ) →
     (w0 / 128 % 8 ≡ op) × (w0 / 64 % 2 ≡ y) × (w0 / 16 % 4 ≡ m) × (w0 % 16 ≡ r) →
-    one_at w0 w1 ≡ one_of (op1_at op) (y == 1) (source_at r m w1) (1 + bit (takes_word r m))
+    one_at w0 w1 ≡ one_of (op1_at op) (y == 1) (source_at r m w1) (1 + truth (takes_word r m))
 unfolding one_at
 one_by_fields w0 w1 op y m r f =
     let a = f.0 in let b = f.1 in let c = f.2 in let e = f.3 in rw (a, b, c, e) refl
 
 -- the extension words of two operands, in the words that follow the first
-second_word : (n w1 w2 : ℕ) (first : Bool) → n ≡ bit first →
+second_word : (n w1 w2 : ℕ) (first : Bool) → n ≡ truth first →
     (if n == 0 then w1 else w2) ≡ (if first then w2 else w1)
 second_word n w1 w2 true e = rw e refl
 second_word n w1 w2 false e = rw e refl
@@ -64,7 +65,7 @@ shared_words (x ∷ x' ∷ s) d w0 w1 w2 w h k e = absurd (omega arith)
 shared_words [] (y ∷ y' ∷ d) w0 w1 w2 w h k e = absurd (omega arith)
 shared_words (x ∷ []) (y ∷ y' ∷ d) w0 w1 w2 w h k e = absurd (omega arith)
 
-bit_below : (b : Bool) (n : ℕ) → n ≡ bit b → n ≤ 1
+bit_below : (b : Bool) (n : ℕ) → n ≡ truth b → n ≤ 1
 bit_below true n e = omega arith
 bit_below false n e = omega arith
 
@@ -80,14 +81,14 @@ reads_two op byte src dst w0 w1 w2 h k e =
     let few_s : length s.words ≤ 1 = bit_below _ _ p.count in
     let few_d : length d.words ≤ 1 = bit_below _ _ q.count in
     let parts = shared_words s.words d.words w0 w1 w2
-    (two_word (op2_code op) s.register d.mode (bit byte) s.mode d.register) few_s few_d e in
+    (two_word (op2_code op) s.register d.mode (truth byte) s.mode d.register) few_s few_d e in
     let f = two_fields w0 (op2_code op) s.register d.mode
-    (bit byte) s.mode d.register parts.0 p.register q.mode y.1 p.mode q.register in
+    (truth byte) s.mode d.register parts.0 p.register q.mode y.1 p.mode q.register in
     let high : 0x4000 ≤ w0 = omega (arith, parts.0, o.1) in
     let x : take (length d.words) ((if takes_word s.register s.mode then w2 else w1) ∷ []) ≡ d.words =
     ap (λ v. take (length d.words) (v ∷ []))
     (sym (second_word (length s.words) w1 w2 (takes_word s.register s.mode) p.count)) ∙ parts.2 in
-    let n : 1 + bit (takes_word s.register s.mode) + bit (takes_word d.register d.mode) ≡ length
+    let n : 1 + truth (takes_word s.register s.mode) + truth (takes_word d.register d.mode) ≡ length
     (spelling (Two op byte src dst)) =
     omega (arith, p.count, q.count, length-append s.words d.words) in
     ap (λ r. r w1 w2) (two_format w0 high)
@@ -109,10 +110,10 @@ reads_one op byte arg w0 w1 w2 h k e =
     let s = place_of arg in
     let few : length s.words ≤ 1 = bit_below _ _ p.count in
     let parts = one_extension s.words w0 w1 w2
-    (one_word (op1_code op) (bit byte) s.mode s.register) few e in
+    (one_word (op1_code op) (truth byte) s.mode s.register) few e in
     let f = one_fields w0 (op1_code op)
-    (bit byte) s.mode s.register parts.0 o.1 y.1 p.mode p.register in
-    let n : 1 + bit (takes_word s.register s.mode) ≡ length (spelling (One op byte arg)) = omega
+    (truth byte) s.mode s.register parts.0 o.1 y.1 p.mode p.register in
+    let n : 1 + truth (takes_word s.register s.mode) ≡ length (spelling (One op byte arg)) = omega
     (arith, p.count) in
     ap (λ r. r w1 w2) (one_format w0 f.4 f.5)
     ∙ one_by_fields w0 w1 _ _ _ _ (f.0, f.1, f.2, f.3)

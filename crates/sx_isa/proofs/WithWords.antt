@@ -8,11 +8,11 @@ use Rattle.sx_isa.specs.declared.instruction.Op2.{Op2}
 use Rattle.sx_isa.specs.declared.instruction.Op1.{Op1}
 use Rattle.sx_isa.specs.declared.instruction.Instr.{Instr}
 use Rattle.sx_isa.specs.declared.instruction.Instr.TheVariants.{One}
-use Rattle.sx_isa.specs.Spelling.{bit}
 use Rattle.sx_isa.specs.Legal.{has_byte_form, writes_back, is_allowed, is_value}
 use Rattle.sx_isa.specs.Reading.{source_at, destination_at, takes_word, op2_at, op1_at, two_of, one_of, two_at, one_at, instruction_at}
 use Rattle.sx_isa.specs.Extending.{has_word, with_word, extended}
 use Rattle.sx_isa.proofs.Formats.{by_format}
+use Rattle.sx_lists.specs.Truth.{truth}
 
 abbrev with_words : ℕ → ℕ → Instr × ℕ → Instr × ℕ
 with_words w1 w2 f = (extended f.0 w1 w2, f.1)
@@ -65,7 +65,7 @@ two_reads w0 v1 v2 w1 w2 =
     two_joined (op2_at (w0 / 4096)) ((w0 / 64 % 2) == 1) (source_at r m v1) (source_at r m w1)
     (destination_at (w0 % 16) (w0 / 128 % 2) (if takes_word r m then v2 else v1))
     (destination_at (w0 % 16) (w0 / 128 % 2) (if takes_word r m then w2 else w1))
-    (1 + bit (takes_word r m) + bit (takes_word (w0 % 16) (w0 / 128 % 2))) w1 w2 (source_with r m v1 w1)
+    (1 + truth (takes_word r m) + truth (takes_word (w0 % 16) (w0 / 128 % 2))) w1 w2 (source_with r m v1 w1)
     (destination_with (w0 % 16) (w0 / 128 % 2) (if takes_word r m then v2 else v1) (if has_word (source_at r m v1) then w2 else w1)
     ∙ ap (destination_at (w0 % 16) (w0 / 128 % 2)) behind)
 
@@ -93,7 +93,7 @@ one_reads w0 v1 w1 w2 =
     let m = w0 / 16 % 4 in
     let o = op1_at (w0 / 128 % 8) in
     let b = (w0 / 64 % 2) == 1 in
-    let n = 1 + bit (takes_word r m) in
+    let n = 1 + truth (takes_word r m) in
     sym (ap (λ (a : Operand). one_of o b a n) (source_with r m v1 w1)) ∙ one_with o b (source_at r m v1) n w1 w2
 
 -- Every first word.

@@ -14,8 +14,8 @@ use Rattle.sx_isa.specs.declared.instruction.Op1.{Op1}
 use Rattle.sx_isa.specs.declared.instruction.Op1.TheVariants.{Rrc, Swpb, Rra, Sxt, Push, Call}
 use Rattle.sx_isa.specs.declared.instruction.Instr.{Instr}
 use Rattle.sx_isa.specs.declared.instruction.Instr.TheVariants.{Two, One, Reti, Jump, Sancus}
-use Rattle.sx_isa.specs.Spelling.{bit}
 use Rattle.sx_isa.specs.Legal.{is_allowed}
+use Rattle.sx_lists.specs.Truth.{truth}
 
 -- the operand of a register in the mode As, where x is the word that follows
 abbrev pub source_at : ℕ → ℕ → ℕ → Operand
@@ -98,7 +98,7 @@ two_at w0 w1 w2 =
     let first = takes_word source mode in
     let second = takes_word destination ad in
     two_of (op2_at (w0 / 4096)) (w0 / 64 % 2 == 1) (source_at source mode w1)
-    (destination_at destination ad (if first then w2 else w1)) (1 + bit first + bit second)
+    (destination_at destination ad (if first then w2 else w1)) (1 + truth first + truth second)
 
 -- bits 9 to 7 the operation, 6 B/W, 5 and 4 As, 3 to 0 the register
 unfoldable pub one_at : ℕ → ℕ → Option (Instr × ℕ)
@@ -106,7 +106,7 @@ one_at w0 w1 =
     let register = w0 % 16 in
     let mode = w0 / 16 % 4 in
     one_of (op1_at (w0 / 128 % 8)) (w0 / 64 % 2 == 1) (source_at register mode w1)
-    (1 + bit (takes_word register mode))
+    (1 + truth (takes_word register mode))
 
 -- 0x1380 to 0x1387 without 0x1383
 abbrev pub is_sancus : ℕ → Bool

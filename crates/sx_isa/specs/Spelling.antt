@@ -13,6 +13,7 @@ use Rattle.sx_isa.specs.declared.instruction.Op1.{Op1}
 use Rattle.sx_isa.specs.declared.instruction.Op1.TheVariants.{Rrc, Swpb, Rra, Sxt, Push, Call}
 use Rattle.sx_isa.specs.declared.instruction.Instr.{Instr}
 use Rattle.sx_isa.specs.declared.instruction.Instr.TheVariants.{Two, One, Reti, Jump, Sancus}
+use Rattle.sx_lists.specs.Truth.{truth}
 
 -- where an operand stands: a register's number, an addressing mode, and its extension words
 pub record Place : Type 0 where
@@ -76,10 +77,6 @@ abbrev pub packed : ℕ → List (ℕ × ℕ) → ℕ
 packed high [] = high
 packed high (field ∷ fields) = packed (high * 2 ^ field.0 + field.1) fields
 
--- true as 1, false as 0
-abbrev pub bit : Bool → ℕ
-bit b = if b then 1 else 0
-
 -- bits 15 to 12 the operation, 11 to 8 the source's register, 7 Ad, 6 B/W, 5 and 4 As, 3 to 0 the
 -- destination's register
 abbrev pub two_word : ℕ → ℕ → ℕ → ℕ → ℕ → ℕ → ℕ
@@ -101,10 +98,10 @@ abbrev pub spelling : Instr → List ℕ
 spelling (Two op byte src dst) =
     let s = place_of src in
     let d = place_of dst in
-    two_word (op2_code op) s.register d.mode (bit byte) s.mode d.register ∷ (s.words ++ d.words)
+    two_word (op2_code op) s.register d.mode (truth byte) s.mode d.register ∷ (s.words ++ d.words)
 spelling (One op byte arg) =
     let s = place_of arg in
-    one_word (op1_code op) (bit byte) s.mode s.register ∷ s.words
+    one_word (op1_code op) (truth byte) s.mode s.register ∷ s.words
 spelling Reti = 0x1300 ∷ []
 spelling (Jump cond offset) = packed 0b001 ((3, cond) ∷ (10, offset_field offset) ∷ []) ∷ []
 spelling (Sancus code) = (0x1380 + code) ∷ []

@@ -4,8 +4,9 @@ ghost use Rattle.std.specs.Prelude.{◌≡◌, ◌+◌, ◌*◌, ◌<◌, ◌≤
 ghost use Rattle.std.specs.Prelude.{option_to_list, take, drop, length, slice_index};
 ghost use Rattle.sx_isa.specs.Legal.{IsSource, IsDestination, IsInstruction, IsOffset, BeginsWith};
 ghost use Rattle.sx_isa.specs.Reading.{instruction_at};
-ghost use Rattle.sx_isa.specs.Spelling.{bit, two_word, one_word, packed, place_of, at, spelling};
+ghost use Rattle.sx_isa.specs.Spelling.{two_word, one_word, packed, place_of, at, spelling};
 ghost use Rattle.sx_isa.specs.Spelling.{op2_code, op1_code, offset_field};
+ghost use Rattle.sx_lists.specs.Truth.{truth};
 
 use crate::fields::is_allowed;
 use crate::instruction::{Instr, Op1, Op2, Operand, Words};
@@ -87,7 +88,7 @@ fn two_word(op: u16, source: u16, ad: u16, byte: bool, mode: u16, destination: u
     requires ad { ad < 2 }
     requires mode { mode < 4 }
     requires destination { destination < 16 }
-    ensures { result ≡ two_word op source ad (bit byte) mode destination }
+    ensures { result ≡ two_word op source ad (truth byte) mode destination }
 {
     op << 12 | source << 8 | ad << 7 | u16::from(byte) << 6 | mode << 4 | destination
 }
@@ -96,7 +97,7 @@ fn one_word(op: u16, byte: bool, mode: u16, register: u16) -> u16
     requires op { op < 8 }
     requires mode { mode < 4 }
     requires register { register < 16 }
-    ensures { result ≡ one_word op (bit byte) mode register }
+    ensures { result ≡ one_word op (truth byte) mode register }
 {
     0x1000 | op << 7 | u16::from(byte) << 6 | mode << 4 | register
 }

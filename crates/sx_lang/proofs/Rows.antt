@@ -1,5 +1,5 @@
 -- A statement over vectors is seen as one over blocks.
-use Rattle.std.proofs.Common.{◌≡◌, ℕ, Vec, Global, refl, ap, rules}
+use Rattle.std.proofs.Common.{◌≡◌, ℕ, Vec, Global, refl, ap, rules, ◌∙◌}
 use Rattle.sx_lang.specs.declared.tree.Expr.{Expr}
 use Rattle.sx_lang.specs.declared.tree.Stmt.{Stmt, Row_of-Stmt, end_of-Stmt, more_of-Stmt, items-the_row-Stmt}
 use Rattle.sx_lang.specs.declared.tree.Stmt.TheViews.{If, Repeat, the_lemmas}
@@ -15,3 +15,9 @@ if_is e v w = search (rules, the_lemmas, row_items)
 
 pub repeat_is : (n : ℕ) (v : Vec Stmt Global) → statement_of (Repeat n v) ≡ Repeats n (block_of v.items)
 repeat_is n v = search (rules, the_lemmas, row_items)
+
+pub if_seen : (s : Stmt) (e : Expr) (v w : Vec Stmt Global) → s ≡ If e v w → statement_of s ≡ Chooses (expression_of e) (block_of v.items) (block_of w.items)
+if_seen s e v w i = ap statement_of i ∙ if_is e v w
+
+pub repeat_seen : (s : Stmt) (n : ℕ) (v : Vec Stmt Global) → s ≡ Repeat n v → statement_of s ≡ Repeats n (block_of v.items)
+repeat_seen s n v i = ap statement_of i ∙ repeat_is n v

@@ -14,12 +14,13 @@ use Rattle.sx_mean.specs.Offsets.{event_at, local_at, cell_at}
 use Rattle.sx_invoke.specs.ModuleState.{cells_from}
 use Rattle.sx_mean.specs.Scope.{index_of, names_of}
 use Rattle.sx_mean.specs.Variables.{first_value, IsVariable, FineExpression}
-use Rattle.sx_lower.proofs.Bytes.{length-put_word, bytes-put, word_small}
+use Rattle.sx_lower.proofs.Bytes.{bytes-put, word_small}
 use Rattle.sx_lower.proofs.Slots.{InSlots, cells_other, cell_read, cell_write, cells_are_words, slots_other, slots_push, slots_set, slots_take}
 use Rattle.sx_mean.proofs.Variables.{is_element}
 use Rattle.sx_mean.proofs.Scope.{length-names, look_past, place_of_local, names_push, names_take, names_set}
 use Rattle.sx_lower.proofs.Source.{look_at, found_word}
 use Rattle.sx_mean.proofs.Words.{apply_word, combine_word, length-initial}
+use Rattle.sx_machine.proofs.Lengths.{length-put_word}
 
 -- the private section, of a module with this many ends, holds this state, whose locals have these names
 pub record Holds (ds : List Decl) (n : ℕ) (names : List (List ℕ)) (st : HandlerState) (priv : List ℕ) : Type 0 where

@@ -27,10 +27,11 @@ use Rattle.sx_ir.specs.Meaning.{OperationResult, do_op, send_open, copied_out, p
 use Rattle.sx_ir.specs.declared.ir.Ir.{Ir}
 use Rattle.sx_ir.specs.declared.ir.Ir.TheVariants as ir
 use Rattle.sx_lower.specs.Lowered.{packets_code}
-use Rattle.sx_lower.proofs.Bytes.{length-put_word, word-put_same, word-put_other}
+use Rattle.sx_lower.proofs.Bytes.{word-put_same, word-put_other}
 use Rattle.sx_lower.proofs.Slots.{end_among, ends_number, ends_other}
 use Rattle.sx_lower.proofs.Holds.{Holds, holds_other}
 use Rattle.sx_lower.proofs.Run.{HasAt, at, do_one, do_last, weaker, Comes_to}
+use Rattle.sx_machine.proofs.Lengths.{length-put_word}
 
 -- the sending ends of a list, by its first
 pub senders-cons : (e : End) (es : List End) (output : ℕ) → senders (e ∷ es) output ≡ (if is_sending output e.side e.port then 1 + senders es output else senders es output)

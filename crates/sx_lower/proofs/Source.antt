@@ -1,19 +1,13 @@
 -- The locals of a source state, where they stand in their slots.
-use Rattle.std.proofs.Common.{◌≡◌, ℕ, suc, ◌+◌, ◌*◌, ◌<◌, Bool, true, false, not, cond, if◌then◌else◌, List, [], ◌∷◌, length, Some, nat_lt, refl, sym, ap, ◌∙◌, arith}
-use Rattle.std.proofs.lemmas.Bool.{lt-ltb, le-ltb, ltb-false, ltb-true}
+use Rattle.std.proofs.Common.{◌≡◌, ℕ, suc, ◌+◌, ◌*◌, ◌<◌, Bool, true, false, not, cond, if◌then◌else◌, List, [], ◌∷◌, length, Some, nat_lt, sym, ap, ◌∙◌, arith}
+use Rattle.std.proofs.lemmas.Bool.{ltb-true}
 use Rattle.sx_check.specs.Names.{same}
 use Rattle.sx_mean.specs.declared.moments.Local.{Local}
 use Rattle.sx_mean.specs.Meaning.{look_up, or_cell}
 use Rattle.sx_mean.specs.Scope.{index_of, names_of}
 use Rattle.sx_machine.specs.Memory as memory
 use Rattle.sx_lower.proofs.Slots.{InSlots}
-
-less_by_one : (i n : ℕ) → nat_lt (1 + i) (suc n) ≡ nat_lt i n
-less_by_one i n = go (nat_lt i n) refl
-  where
-    go : (t : Bool) → nat_lt i n ≡ t → nat_lt (1 + i) (suc n) ≡ t
-    go true e = let l = ltb-true i n e in lt-ltb (1 + i) (suc n) (omega (arith, l))
-    go false e = let l = ltb-false i n e in le-ltb (1 + i) (suc n) (omega (arith, l))
+use Rattle.sx_lists.proofs.Numbers.{less_by_one}
 
 -- a local in scope is found in its slot
 pub look_at : (ls : List Local) (priv : List ℕ) (at : ℕ) (x : List ℕ) → InSlots priv at ls → nat_lt (index_of (names_of ls) x) (length (names_of ls)) ≡ true

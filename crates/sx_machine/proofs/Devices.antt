@@ -80,7 +80,7 @@ heads x y a b e =
     let h : ◌≡◌ {A = ℕ × Kind} (x.at, x.kind) (y.at, y.kind) = cc in
     (ap (λ (p : ℕ × Kind). p.0) h, ap (λ (p : ℕ × Kind). p.1) h, cc)
 
-position_same : (at i : ℕ) (a b : List Window) → shapes a ≡ shapes b → position_from (on_word at) i a ≡ position_from (on_word at) i b
+pub position_same : (at i : ℕ) (a b : List Window) → shapes a ≡ shapes b → position_from (on_word at) i a ≡ position_from (on_word at) i b
 position_same at i [] [] e = refl
 position_same at i [] (y ∷ b) e = absurd cc
 position_same at i (x ∷ a) [] e = absurd cc

@@ -22,3 +22,4 @@ pub mod PublicKept
 pub mod Keys
 pub mod RunsByTable
 pub mod DoesWhatStands
+pub mod Lengths

@@ -159,7 +159,7 @@ others_keep_sections mac (Interrupt line) a f = unless_keeps (irq_refusal a) a _
 
 -- A section that was just protected.
 
-end_lives : (live : List Section) (new : Section) → Lives (live ++ new ∷ []) new
+pub end_lives : (live : List Section) (new : Section) → Lives (live ++ new ∷ []) new
 end_lives [] new = inl refl
 end_lives (x ∷ live) new = inr (end_lives live new)
 

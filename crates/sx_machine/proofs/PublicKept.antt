@@ -45,20 +45,20 @@ framed_keeps : (own : ℕ) (s : Section) (a b : State) → Lives a.sections.live
 framed_keeps own s a b l (inl f) = inl (framed_public a.sections.live own s a.mem b.mem l f)
 framed_keeps own s a b l (inr e) = inr e
 
-put_other : (bs mem : List ℕ) (at k : ℕ) → (k < at) ⊎ (at + length bs ≤ k) → slice_index (put_bytes mem at bs) k ≡ slice_index mem k
+pub put_other : (bs mem : List ℕ) (at k : ℕ) → (k < at) ⊎ (at + length bs ≤ k) → slice_index (put_bytes mem at bs) k ≡ slice_index mem k
 put_other [] mem at k h = refl
 put_other (b ∷ bs) mem at k h =
     let ne : k ≢ at = λ e. elim h [ inl lt ↦ absurd (omega (arith, lt, e)) | inr ge ↦ absurd (omega (arith, ge, e)) ] in
     put_other bs (slice_set mem at (b % 256)) (at + 1) k (elim h [ inl lt ↦ inl (omega (arith, lt)) | inr ge ↦ inr (omega (arith, ge)) ])
     ∙ get_or-set_other mem at k (b % 256) 0 ne
 
-none_any : (test : Section → Bool) (live : List Section) (sec : Section) → list_any test live ≡ false → Lives live sec → test sec ≡ false
+pub none_any : (test : Section → Bool) (live : List Section) (sec : Section) → list_any test live ≡ false → Lives live sec → test sec ≡ false
 none_any test [] sec e l = absurd l
 none_any test (x ∷ live) sec e l =
     let p = or_parts (test x) (list_any test live) e in
     elim l [ inl same ↦ subst (λ z. test z ≡ false) same p.0 | inr r ↦ none_any test live sec p.1 r ]
 
-clear_of_range : (at n from to k : ℕ) → meets at n from to ≡ false → from ≤ k → k < to → (k < at) ⊎ (at + n ≤ k)
+pub clear_of_range : (at n from to k : ℕ) → meets at n from to ≡ false → from ≤ k → k < to → (k < at) ⊎ (at + n ≤ k)
 clear_of_range at n from to k e lo hi = elim (cases_lt k at) [
   | inl lt ↦ inl lt
   | inr ge ↦ elim (cases_lt k (at + n)) [

@@ -16,7 +16,6 @@ use Rattle.sx_isa.proofs.Sound.{sound}
 use Rattle.sx_alu.specs.declared.flags.Flags.{Flags}
 use Rattle.sx_alu.specs.declared.calculation.Calc.{Calc}
 use Rattle.sx_alu.specs.declared.calculation.Calc.TheVariants as calc
-use Rattle.sx_alu.specs.Status.{bit}
 use Rattle.sx_alu.specs.Table as alu
 use Rattle.sx_alu.specs.Table.{limit, half, is_negative, inverse, extended}
 use Rattle.sx_rules.specs.declared.access.Access.TheVariants.{Read, Write}
@@ -38,6 +37,7 @@ use Rattle.sx_bus.specs.Memory.{AreMemoryBytes}
 use Rattle.sx_machine.specs.Node.{AreRegisters, shapes}
 use Rattle.sx_machine.proofs.Registers.{Holds, holds_pc, holds_sp, holds_zero, pc_even, sp_even, set_registers, set_reg_registers, at_pc_registers, flags_registers, lowered_registers, incremented_registers, distance_even, word_small, read_small, write_bytes, put_small}
 use Rattle.sx_machine.proofs.Devices.{device_there, sample_small, cleared_shapes, cleared_samples}
+use Rattle.sx_lists.specs.Truth.{truth}
 
 -- every way that a plan goes on, when it reads words, stores words and ends in registers in range
 abbrev pub Ranged : Plan → Type 0
@@ -181,21 +181,21 @@ sum_small : (wide : Bool) (n : ℕ) → n % limit wide < 65536
 sum_small true n = omega arith
 sum_small false n = omega arith
 
-shifted_small : (wide : Bool) (s : ℕ) (top : Bool) → s < 65536 → s / 2 + bit top * half wide < 65536
+shifted_small : (wide : Bool) (s : ℕ) (top : Bool) → s < 65536 → s / 2 + truth top * half wide < 65536
 shifted_small true s true lt = omega (arith, lt)
 shifted_small true s false lt = omega (arith, lt)
 shifted_small false s true lt = omega (arith, lt)
 shifted_small false s false lt = omega (arith, lt)
 
-extended_small : (s : ℕ) (b : Bool) → s % 256 + bit b * 0xff00 < 65536
+extended_small : (s : ℕ) (b : Bool) → s % 256 + truth b * 0xff00 < 65536
 extended_small s true = omega arith
 extended_small s false = omega arith
 
 pub alu_small : (kind : Calc) (wide : Bool) (s d : ℕ) (f : Flags) → s < 65536 → d < 65536 → (alu.row kind wide s d f).0 < 65536
 alu_small calc.Add wide s d f a b = sum_small wide (d + s + 0)
-alu_small calc.AddCarry wide s d f a b = sum_small wide (d + s + bit f.c)
+alu_small calc.AddCarry wide s d f a b = sum_small wide (d + s + truth f.c)
 alu_small calc.Sub wide s d f a b = sum_small wide (d + inverse wide s + 1)
-alu_small calc.SubCarry wide s d f a b = sum_small wide (d + inverse wide s + bit f.c)
+alu_small calc.SubCarry wide s d f a b = sum_small wide (d + inverse wide s + truth f.c)
 alu_small calc.And wide s d f a b = omega (arith, and_le_l d s, b)
 alu_small calc.AndNot wide s d f a b = omega (arith, and_le_l d (inverse wide s), b)
 alu_small calc.Or wide s d f a b = or_of_16 d s b a

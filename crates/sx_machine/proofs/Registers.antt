@@ -4,7 +4,7 @@ use Rattle.std.specs.Prelude.{slice_index, slice_set}
 use Rattle.std.proofs.lemmas.Bool.{cases_eq, cases_lt, ne_eqb}
 use Rattle.std.proofs.lemmas.List.{length-set, get_or-set_same, get_or-set_other, set_past, length-replicate}
 use Rattle.sx_isa.specs.Legal.{IsGeneral}
-use Rattle.sx_alu.specs.Status.{bit, with_flags_in}
+use Rattle.sx_alu.specs.Status.{with_flags_in}
 use Rattle.sx_alu.specs.declared.flags.Flags.{Flags}
 use Rattle.sx_machine.specs.Memory.{even, word, read_at, write_at, put_bytes, zeroed}
 use Rattle.sx_machine.specs.Registers.{onward, reg, kept_in, set_reg, at_pc, set_flags, incremented}
@@ -13,6 +13,8 @@ use Rattle.sx_machine.specs.Rows.{lowered, distance}
 use Rattle.sx_bus.specs.Memory.{AreMemoryBytes}
 use Rattle.sx_bus.proofs.Bytes.{AreMemoryBytes-set}
 use Rattle.sx_machine.specs.Node.{AreRegisters}
+use Rattle.sx_lists.proofs.Lists.{zero_at}
+use Rattle.sx_lists.specs.Truth.{truth}
 
 -- a word that a register keeps
 abbrev pub Holds : ℕ → ℕ → Type 0
@@ -76,7 +78,7 @@ set_reg_registers regs r v h lt = set_registers regs (r % 16) (kept_in (r % 16) 
 pub at_pc_registers : (regs : List ℕ) (v : ℕ) → AreRegisters regs → Holds 0 v → AreRegisters (at_pc regs v)
 at_pc_registers regs v h p = set_registers regs 0 v h p
 
-pub bit_small : (b : Bool) → bit b ≤ 1
+pub bit_small : (b : Bool) → truth b ≤ 1
 bit_small true = omega arith
 bit_small false = omega arith
 
@@ -156,12 +158,6 @@ pub zeroed_small : (mem : List ℕ) (at n : ℕ) → AreMemoryBytes mem → AreM
 unfolding zeroed
 zeroed_small mem at zero h = h
 zeroed_small mem at (suc n) h = AreMemoryBytes-set (zeroed mem at n) (at + n) 0 (zeroed_small mem at n h) (omega arith)
-
--- zeros
-pub zero_at : (n k : ℕ) → slice_index (replicate n 0) k ≡ 0
-zero_at zero k = refl
-zero_at (suc n) zero = refl
-zero_at (suc n) (suc k) = zero_at n k
 
 pub zero_registers : (n : ℕ) → n ≡ 16 → AreRegisters (replicate n 0)
 zero_registers n e = record {

@@ -2,7 +2,7 @@
 use Rattle.std.proofs.Common.{◌≡◌, ◌≢◌, ℕ, ◌-◌, true, false, cond, ◌==◌, inl, inr, List, [], ◌∷◌, refl, sym, ◌∙◌, ap, Option, Some, None}
 use Rattle.std.proofs.lemmas.Bool.{and_parts, eqb-true}
 use Rattle.sx_rules.specs.declared.section.Section.{Section}
-use Rattle.sx_rules.specs.Access.{Lives, section_of}
+use Rattle.sx_rules.specs.Access.{Lives}
 use Rattle.sx_rules.specs.Admission.{apart, without}
 use Rattle.sx_rules.specs.Placed.{Placed, Beside}
 use Rattle.sx_rules.proofs.Placing.{placed_beside}
@@ -11,15 +11,7 @@ use Rattle.sx_machine.specs.Protect.{removed_if, unprotect}
 use Rattle.sx_machine.specs.Guard.{Alike}
 use Rattle.sx_machine.proofs.PlanGuard.{SameOutcome, KeptBy}
 use Rattle.sx_machine.proofs.ProtectGuard.{outside, zeroed_alike, zeroed_kept}
-
--- what is found by its id lives, and has the id
-pub found_lives : (live : List Section) (id : ℕ) (u : Section) → section_of live id ≡ Some u → Lives live u × (u.id ≡ id)
-found_lives [] id u h = cc
-found_lives (x ∷ xs) id u h =
-    elim (x.id == id) as (λ b. (x.id == id) ≡ b → cond b (Some x) (section_of xs id) ≡ Some u → Lives (x ∷ xs) u × (u.id ≡ id)) [
-      | true ↦ λ e f. let q : x ≡ u = cc in (inl q, ap (λ (y : Section). y.id) (sym q) ∙ eqb-true x.id id e)
-      | false ↦ λ e f. let r = found_lives xs id u f in (inr r.0, r.1)
-    ] refl h
+use Rattle.sx_machine.proofs.Stays.{found_lives}
 
 lives_without : (s : Section) (live : List Section) (id : ℕ) → Lives live s → id ≢ s.id → Lives (without live id) s
 lives_without s [] id l ne = absurd l

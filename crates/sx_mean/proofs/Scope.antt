@@ -2,7 +2,7 @@
 use Rattle.std.proofs.Common.{◌≡◌, ℕ, zero, suc, ◌+◌, ◌==◌, Bool, true, false, ◌||◌, not, cond, if◌then◌else◌, List, [], ◌∷◌, ◌++◌, length, take, nat_lt, Some, None, refl, sym, ap, ◌∙◌, arith, append_assoc}
 use Rattle.std.specs.Prelude.{option_map, slice_get, slice_set}
 use Rattle.std.proofs.Math.Seq.{take-append_seam}
-use Rattle.std.proofs.lemmas.Bool.{lt-ltb, le-ltb, ltb-false, ltb-true}
+use Rattle.std.proofs.lemmas.Bool.{lt-ltb, ltb-false}
 use Rattle.std.proofs.lemmas.List.{append-nil}
 use Rattle.sx_lang.specs.declared.tree.Decl.{Decl}
 use Rattle.sx_lang.specs.Tree.{Statement, Defines, Assigns, Stores, Chooses, Repeats, Sends, Emits, Block, Done, Then}
@@ -14,17 +14,11 @@ use Rattle.sx_mean.specs.declared.moments.Local.{Local}
 use Rattle.sx_mean.specs.Places.{place, array_length}
 use Rattle.sx_mean.specs.Meaning.{HandlerState, after_block, after_statement, assign, assign_element, forget, local_place, look_up, new_local, times, value}
 use Rattle.sx_mean.specs.Scope.{IsIndexed, KeepsScope, index_of, names_of}
+use Rattle.sx_lists.proofs.Numbers.{less_by_one}
 
 pub length-names : (ls : List Local) → length (names_of ls) ≡ length ls
 length-names [] = refl
 length-names (l ∷ ls) = ap suc (length-names ls)
-
-less_by_one : (i n : ℕ) → nat_lt (1 + i) (suc n) ≡ nat_lt i n
-less_by_one i n = go (nat_lt i n) refl
-  where
-    go : (t : Bool) → nat_lt i n ≡ t → nat_lt (1 + i) (suc n) ≡ t
-    go true e = let l = ltb-true i n e in lt-ltb (1 + i) (suc n) (omega (arith, l))
-    go false e = let l = ltb-false i n e in le-ltb (1 + i) (suc n) (omega (arith, l))
 
 one_more : (i n : ℕ) → nat_lt i n ≡ nat_lt (1 + i) (suc n)
 one_more i n = sym (less_by_one i n)

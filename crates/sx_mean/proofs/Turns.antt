@@ -1,21 +1,16 @@
 -- Going through the devices and the parts of an application.
-use Rattle.std.proofs.Common.{◌≡◌, ℕ, zero, suc, ◌+◌, ◌-◌, ◌*◌, ◌≤◌, ◌==◌, Bool, true, false, nat_le, nat_lt, count_by, List, ◌∷◌, map, Vec, Global, ◌<◌, length, get_or, drop, min, ap, add-one, sym, refl, ◌∙◌, arith}
+use Rattle.std.proofs.Common.{◌≡◌, ℕ, zero, suc, ◌+◌, ◌-◌, ◌*◌, ◌==◌, Bool, true, false, nat_le, nat_lt, count_by, List, ◌∷◌, map, ◌<◌, length, get_or, drop, min, ap, add-one, sym, refl, ◌∙◌, arith}
 use Rattle.std.proofs.Math.Seq.{drop-cons}
 use Rattle.std.proofs.Math.Nat.{suc-mul}
 use Rattle.std.proofs.lemmas.Bool.Decides.{nat_tests}
-use Rattle.sx_lang.specs.declared.tree.Expr.{Expr}
-use Rattle.sx_lang.specs.declared.tree.Stmt.{Stmt}
-use Rattle.sx_lang.specs.declared.tree.Stmt.TheViews.{If, Repeat}
 use Rattle.sx_lang.specs.declared.tree.DeviceKind.{DeviceKind}
 use Rattle.sx_lang.specs.declared.tree.Decl.{Decl}
-use Rattle.sx_lang.specs.Tree.{Chooses, Repeats}
-use Rattle.sx_lang.specs.View.{statement_of, block_of, expression_of}
-use Rattle.sx_lang.proofs.Rows.{if_is, repeat_is}
 use Rattle.sx_mean.specs.declared.apps.AppDevice.{AppDevice}
 use Rattle.sx_mean.specs.declared.apps.Part.{Part}
 use Rattle.sx_check.specs.Source.{source_tree}
 use Rattle.sx_mean.specs.Application.{PartTree, is_at, has_port}
 use Rattle.sx_mean.specs.View.{part_as}
+use Rattle.sx_check.proofs.Turns.{above, within}
 
 not_zero : (n : ℕ) → (n ≡ 0 → ⊥) → (n == 0) ≡ false
 not_zero n h = grind (arith, nat_tests)
@@ -33,18 +28,6 @@ at_further es i d node kind x h n all =
 
 pub port_next : (is_port : Decl → Bool) (part : PartTree) (parts : List PartTree) (p port : ℕ) → (p ≡ 0 → ⊥) → has_port is_port (part ∷ parts) p port ≡ has_port is_port parts (p - 1) port
 port_next is_port part parts p port h = rw (not_zero p h) refl
-
-pub if_seen : (s : Stmt) (e : Expr) (v w : Vec Stmt Global) → s ≡ If e v w → statement_of s ≡ Chooses (expression_of e) (block_of v.items) (block_of w.items)
-if_seen s e v w i = ap statement_of i ∙ if_is e v w
-
-pub repeat_seen : (s : Stmt) (n : ℕ) (v : Vec Stmt Global) → s ≡ Repeat n v → statement_of s ≡ Repeats n (block_of v.items)
-repeat_seen s n v i = ap statement_of i ∙ repeat_is n v
-
-within : (b : ℕ) → nat_le b 65536 ≡ true → min b 65536 ≡ b
-within b h = grind (arith, nat_tests)
-
-above : (b : ℕ) → nat_le b 65536 ≡ false → 65536 ≤ b
-above b h = grind (arith, nat_tests)
 
 -- what a block sends may be cut before its turns are counted
 pub turns_cut : (n b : ℕ) → min (n * min b 65536) 65536 ≡ min (n * b) 65536

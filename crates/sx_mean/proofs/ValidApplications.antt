@@ -1,5 +1,5 @@
 -- What a valid application's devices, parts and connections are.
-use Rattle.std.proofs.Common.{◌≡◌, ℕ, zero, suc, ◌+◌, ◌-◌, ◌<◌, ◌==◌, Bool, true, false, ◌||◌, not, List, [], ◌∷◌, length, Some, nat_lt, count_by, refl, subst, arith}
+use Rattle.std.proofs.Common.{◌≡◌, ℕ, zero, suc, ◌+◌, ◌-◌, ◌<◌, ◌==◌, Bool, true, false, ◌||◌, not, List, [], ◌∷◌, length, Some, nat_lt, count_by, subst, arith}
 use Rattle.std.specs.Prelude.{slice_get}
 use Rattle.std.specs.List.{list_any, All}
 use Rattle.std.proofs.lemmas.Bool.{ltb-false, ltb-true}
@@ -11,14 +11,7 @@ use Rattle.sx_mean.specs.declared.apps.AppDevice.{AppDevice}
 use Rattle.sx_mean.specs.declared.apps.Link.{Link}
 use Rattle.sx_mean.specs.Application.{AppTree, PartTree, any_part, declared_kind, ends_from, ends_to, has_port, is_crowded, is_driven, is_loose, is_misplaced, is_overloaded, is_port, is_stray, is_too_large, is_valid, is_wrong, parts_at, parts_with, sends_too_much}
 use Rattle.sx_mean.specs.Valid.{IsApplication, IsPlaced, IsTied}
-
-pub not_false : (b : Bool) → not b ≡ false → b ≡ true
-not_false true h = refl
-not_false false h = absurd (cc)
-
-pub not_true : (b : Bool) → not b ≡ true → b ≡ false
-not_true true h = absurd (cc)
-not_true false h = refl
+use Rattle.sx_lists.proofs.Truths.{not_true, not_false}
 
 -- a port that is there is one of the part's
 pub port_of_part : (ports : Decl → Bool) (qs : List PartTree) (p port : ℕ) (q : PartTree) → has_port ports qs p port ≡ true → slice_get qs p ≡ Some q → port < count_by ports q.tree.decls

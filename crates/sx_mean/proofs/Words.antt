@@ -21,9 +21,10 @@ use Rattle.sx_mean.specs.declared.events.SourceEvent.{SourceEvent}
 use Rattle.sx_mean.specs.declared.events.SourceEvent.TheVariants as event
 use Rattle.sx_mean.specs.declared.moments.Local.{Local}
 use Rattle.sx_mean.specs.Places.{place, array_length, initial_cells}
-use Rattle.sx_mean.specs.Meaning.{HandlerState, truth, apply, combine, look_up, or_cell, value, local_place, new_local, act, assign, assign_element, define, forget, times, after_statement, after_block}
+use Rattle.sx_mean.specs.Meaning.{HandlerState, apply, combine, look_up, or_cell, value, local_place, new_local, act, assign, assign_element, define, forget, times, after_statement, after_block}
 use Rattle.sx_mean.specs.React.{handler_at, handler_of_name, input_names, nth, run, start, value_of}
 use Rattle.sx_mean.specs.Words.{ActsOnWord, AreCells, IsLocalWord, ReactsInWords, StateHasWords}
+use Rattle.sx_lists.specs.Truth.{truth}
 
 -- Operators
 

@@ -17,16 +17,13 @@ use Rattle.sx_mean.specs.declared.events.Act.{Act}
 use Rattle.sx_mean.specs.declared.events.Act.TheVariants.{Send, Emit}
 use Rattle.sx_mean.specs.declared.moments.Local.{Local}
 use Rattle.sx_mean.specs.Places.{place, array_length, output_number}
+use Rattle.sx_lists.specs.Truth.{truth}
 
 -- where a handler stands: the locals in the order of their lets, the cells, and the acts so far
 pub record HandlerState : Type 0 where
   pub locals : List Local
   pub cells : List ℕ
   pub acts : List Act
-
--- true as 1, false as 0
-abbrev pub truth : Bool → ℕ
-truth b = if b then 1 else 0
 
 -- a unary operator on a word
 abbrev pub apply : UnOp → ℕ → ℕ

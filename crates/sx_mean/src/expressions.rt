@@ -2,9 +2,10 @@
 
 ghost use Rattle.std.specs.Prelude.{◌≡◌, ℕ, ◌≤◌, slice_index};
 ghost use Rattle.sx_lang.specs.View.{expression_of};
-ghost use Rattle.sx_mean.specs.Meaning.{apply, combine, element, look_up, truth, value, word};
+ghost use Rattle.sx_mean.specs.Meaning.{apply, combine, element, look_up, value, word};
 ghost use Rattle.sx_mean.specs.Places.{AreSizedDecls};
 ghost use Rattle.sx_mean.specs.View.{state_of};
+ghost use Rattle.sx_lists.specs.Truth.{truth};
 
 use crate::moments::{Local, Moment};
 use crate::places::{array_length, place};

@@ -19,7 +19,8 @@ use Rattle.sx_model.proofs.HeldEnd.{Held, held_attested, held_opened, held_prote
 use Rattle.sx_model.proofs.Renewed.{renewed_at}
 use Rattle.sx_model.proofs.Rising.{On}
 use Rattle.sx_model.proofs.Steps.{Cases}
-use Rattle.sx_model.proofs.Written.{get_other, get_same}
+use Rattle.sx_model.proofs.Written.{get_other}
+use Rattle.sx_lists.proofs.Lists.{get_same}
 
 -- the epoch with which an item opens the end, if it does
 abbrev pub opens_at : ℕ → ℕ → Side → Item → Option ℕ

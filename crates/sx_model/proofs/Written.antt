@@ -13,11 +13,6 @@ at_set (x ∷ xs) (suc i) zero v w e = inr (λ h. absurd (omega (arith, h)), e)
 at_set (x ∷ xs) (suc i) (suc j) v w e =
     elim (at_set xs i j v w e) [ inl h ↦ inl (ap suc h.0, h.1) | inr h ↦ inr (λ q. h.0 (omega (arith, q)), h.1) ]
 
-pub get_same : {X : Type 0} → (xs : List X) (i : ℕ) (v w : X) → slice_get xs i ≡ Some w → slice_get (slice_set xs i v) i ≡ Some v
-get_same [] i v w e = absurd cc
-get_same (x ∷ xs) zero v w e = refl
-get_same (x ∷ xs) (suc i) v w e = get_same xs i v w e
-
 pub get_other : {X : Type 0} → (xs : List X) (i j : ℕ) (v : X) → (i ≡ j → ⊥) → slice_get (slice_set xs i v) j ≡ slice_get xs j
 get_other [] i j v n = refl
 get_other (x ∷ xs) zero zero v n = absurd (n refl)

@@ -123,7 +123,7 @@ impl<B: Bus, T: Tag> Node<B, T> {
 
     /// Whether no section meets the page of the word at an address. Then what a step asks of the
     /// sections needs no look at them.
-    #[tactic(auto, using(sx_executor::proofs::Open::open_outside, sx_executor::proofs::Open::open_ordered, sx_executor::proofs::Open::open_holder))]
+    #[tactic(auto, using(sx_executor::proofs::Open::open_outside, sx_executor::proofs::Open::open_ordered, sx_rules::proofs::Away::open_holder))]
     pub(crate) fn is_open(&self, at: u16) -> bool
         ensures outside { IsTrue result → word_outside self.now.sections.live at ≡ true }
         ensures order { IsTrue result → in_order self.now.sections.live self.now.cur at ≡ true }

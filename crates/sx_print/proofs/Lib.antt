@@ -1,4 +1,3 @@
-pub mod Seen
 pub mod Parts
 pub mod Forms
 pub mod Lone

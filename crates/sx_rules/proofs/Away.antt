@@ -85,7 +85,7 @@ open_answers q (s ∷ rest) at h =
     let parts = and_parts _ _ h in
     and_from _ _ (answers_away q at s (away at s (not-true _ parts.0))) (open_answers q rest at parts.1)
 
-open_holder : (live : List Section) (at : ℕ) → is_open live (at / 256) ≡ true → holder live at ≡ 0
+pub open_holder : (live : List Section) (at : ℕ) → is_open live (at / 256) ≡ true → holder live at ≡ 0
 open_holder [] at h = refl
 open_holder (s ∷ rest) at h =
     let parts = and_parts _ _ h in

@@ -19,6 +19,7 @@ use Rattle.sx_sched.specs.declared.lines.LineError.{LineError}
 use Rattle.sx_sched.specs.Lines.{Line, Blank, Run, Finish, Put, Set, Take, Give, Forge, Sense, Irq, Reset, Ask, Answer, Load, Call, line_of, AreFewBytes, IsLine}
 use Rattle.sx_sched.specs.Reading.{no_name, no_number, no_bytes, no_code, node_of, sensor_of, module_of, registers, register_in, register_of, at_least, number_in, number16, number32, decoded_bytes, bytes_of, code_in, code_of, one_word, two_words, three_words, four_words, two_before, one, two, three, four, code_line, Kind, kinds, said_by, is_comment, said_in, said_line, SaidInForm, MayWant, TakesMemory, Answers, ◌>>=◌}
 use Rattle.sx_sched.specs.Words.{words_of, text_behind}
+use Rattle.sx_lists.proofs.Truths.{and_true}
 
 bind_ok : {A B : Type 0} (r : Result A LineError) (g : A → Result B LineError) (y : B) → (r >>= g) ≡ Ok y → (x : A) × (r ≡ Ok x) × (g x ≡ Ok y)
 bind_ok (Ok x) g y h = (x, refl, h)
@@ -65,10 +66,6 @@ has_settable entry = nat_lt entry.1 16 && not (entry.1 == 3)
 
 abbrev IsSettable : ℕ → Type 0
 IsSettable r = (r < 16) × (r ≢ 3)
-
-and_true : (a b : Bool) → (a && b) ≡ true → (a ≡ true) × (b ≡ true)
-and_true true b h = (refl, h)
-and_true false b h = absurd (cc)
 
 not_three : (r : ℕ) → not (r == 3) ≡ true → r ≢ 3
 not_three r h e = let P : ℕ → Type 0 = λ k. not (k == 3) ≡ true in let no : false ≡ true = subst P e h in cc

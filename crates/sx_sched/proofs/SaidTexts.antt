@@ -8,7 +8,7 @@ use Rattle.sx_asm.specs.Shown.{hex}
 use Rattle.sx_lang.specs.Form.{is_lower, is_name, is_name_byte}
 use Rattle.sx_trace.specs.Names.{NameLists, are_valid, if_sensor}
 use Rattle.sx_trace.specs.Items.{name_at, spaced_words}
-use Rattle.sx_trace.proofs.Known.{known_node, known_device, known_module}
+use Rattle.sx_trace.proofs.Known.{known_node, known_device, known_module, lower_byte}
 use Rattle.sx_sched.specs.declared.lines.LineError.{LineError}
 use Rattle.sx_sched.specs.Lines.{Line, Blank, Run, Finish, Put, Set, Take, Give, Forge, Sense, Irq, Reset, Ask, Answer, Load, Call, IsLine}
 use Rattle.sx_sched.specs.Reading.{no_name, node_of, sensor_of, module_of, number_in, number16, number32, one, two, three, four, said_in, said_line}
@@ -16,7 +16,8 @@ use Rattle.sx_sched.specs.Words.{words_of, text_behind}
 use Rattle.sx_sched.specs.Written.{IsWritten, line_text, TextIsSaid}
 use Rattle.sx_sched.proofs.Decimals.{decimal_word, number_between, number_said}
 use Rattle.sx_sched.proofs.Hexadecimals.{hex_said, hex_word}
-use Rattle.sx_sched.proofs.Spaced.{and_true, is_plain, is_word, spaced, words_read}
+use Rattle.sx_sched.proofs.Spaced.{is_plain, is_word, spaced, words_read}
+use Rattle.sx_lists.proofs.Truths.{and_true}
 
 -- (alone, so that no test of the byte stands among what is searched)
 number_is : (a k : ℕ) → (a == k) ≡ true → a ≡ k
@@ -41,9 +42,6 @@ all_plain [] h = refl
 all_plain (b ∷ bs) h =
     let both = and_true (is_name_byte b) (list_all is_name_byte bs) h in
     rw (plain b both.0) (all_plain bs both.1)
-
-lower_byte : (b : ℕ) → is_lower b ≡ true → is_name_byte b ≡ true
-lower_byte b h = rw h refl
 
 name_word : (w : List ℕ) → is_name w ≡ true → is_word w ≡ true
 name_word [] h = absurd (cc)

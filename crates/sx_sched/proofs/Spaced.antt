@@ -1,9 +1,10 @@
 -- The words of a line that has a space between two.
-use Rattle.std.proofs.Common.{◌≡◌, ℕ, Bool, true, false, ◌&&◌, not, List, [], ◌∷◌, ◌++◌, refl, sym, ap, ◌∙◌, append_assoc}
+use Rattle.std.proofs.Common.{◌≡◌, ℕ, Bool, true, false, not, List, [], ◌∷◌, ◌++◌, refl, sym, ap, ◌∙◌, append_assoc}
 use Rattle.std.specs.List.{list_all}
 use Rattle.std.proofs.lemmas.List.{append-nil}
 use Rattle.sx_lex.specs.Lexed.{is_space}
 use Rattle.sx_sched.specs.Words.{ended_word, words_behind, words_of}
+use Rattle.sx_lists.proofs.Truths.{and_true, not_true}
 
 abbrev pub is_plain : ℕ → Bool
 is_plain b = not (is_space b)
@@ -17,14 +18,6 @@ is_word (b ∷ bs) = list_all is_plain (b ∷ bs)
 abbrev pub spaced : List (List ℕ) → List ℕ
 spaced [] = []
 spaced (w ∷ ws) = 32 ∷ (w ++ spaced ws)
-
-pub and_true : (a b : Bool) → (a && b) ≡ true → (a ≡ true) × (b ≡ true)
-and_true true b h = (refl, h)
-and_true false b h = absurd (cc)
-
-not_true : (a : Bool) → not a ≡ true → a ≡ false
-not_true true h = sym h
-not_true false h = refl
 
 -- a word that has begun goes on
 goes_on : (begun w rest : List ℕ) → list_all is_plain w ≡ true → words_behind begun (w ++ rest) ≡ words_behind (begun ++ w) rest

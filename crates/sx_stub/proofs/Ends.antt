@@ -6,13 +6,13 @@ use Rattle.std.proofs.lemmas.Bool.Decides.{eqb_tells}
 use Rattle.sx_lang.specs.declared.sides.Side.{Side}
 use Rattle.sx_lang.specs.declared.sides.Side.TheVariants.{From, To}
 use Rattle.sx_mean.specs.declared.events.End.{End}
-use Rattle.sx_mean.specs.Meaning.{truth}
 use Rattle.sx_mean.specs.Offsets.{end_at}
 use Rattle.sx_machine.specs.Memory.{word}
 use Rattle.sx_invoke.specs.Entries.{end_is, end_found, has_side}
 use Rattle.sx_ir.specs.Meaning.{element}
 use Rattle.sx_stub.specs.Stub.{Cases, find_any, is_to}
 use Rattle.sx_stub.proofs.Chain.{found_by, case_test, AreWords}
+use Rattle.sx_lists.specs.Truth.{truth}
 
 abbrev pub FewLinks : List End → Type 0
 FewLinks es = All (λ e. e.link < 256) es

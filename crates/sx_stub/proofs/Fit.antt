@@ -14,7 +14,6 @@ use Rattle.sx_mean.specs.declared.events.End.{End}
 use Rattle.sx_mean.specs.declared.events.SourceEvent.{SourceEvent}
 use Rattle.sx_mean.specs.declared.events.SourceEvent.TheVariants as event
 use Rattle.sx_mean.specs.Application.{declared_kind}
-use Rattle.sx_mean.specs.Meaning.{truth}
 use Rattle.sx_mean.specs.React.{input_names, nth}
 use Rattle.sx_invoke.specs.Protocol.{entry_register, input_register, output_register, other_tag, set_key_kind, ask_kind, event_kind}
 use Rattle.sx_invoke.specs.Windows.{in_window_size, out_window_size}
@@ -28,6 +27,7 @@ use Rattle.sx_stub.specs.Stub.{is_above_three, is_closed_code, is_keyed_code, is
 use Rattle.sx_stub.specs.Stub.{is_stale_code, is_to, is_wrong_kind, jump_on, key_found, key_place, named_end, open_any, refuse_if, returns, sample_code}
 use Rattle.sx_stub.specs.Stub.{sampled_code, search_code, set_key_code, slot_word, stub_code, stub_ops, take_event, take_receiving, tests}
 use Rattle.sx_stub.proofs.Plain.{is_fit, is_low}
+use Rattle.sx_lists.specs.Truth.{truth}
 
 -- The handler that is named is there.
 

@@ -10,7 +10,6 @@ use Rattle.sx_lang.specs.declared.sides.Side.TheVariants.{From, To}
 use Rattle.sx_mean.specs.declared.events.End.{End}
 use Rattle.sx_mean.specs.declared.events.SourceEvent.TheVariants as event
 use Rattle.sx_mean.specs.Application.{declared_kind}
-use Rattle.sx_mean.specs.Meaning.{truth}
 use Rattle.sx_mean.specs.Offsets.{end_at, end_number_at}
 use Rattle.sx_mean.specs.Handlers.{number_of}
 use Rattle.sx_tag.specs.Wrap.{unwrapped}
@@ -36,7 +35,7 @@ use Rattle.sx_stub.specs.Stub.{input_code, input_found, key_found, key_place, se
 use Rattle.sx_stub.specs.Stub.{is_receiving, is_to, is_wrong_kind, wanted_receiving, is_closed_code, is_other_epoch, is_past_number, is_last_number}
 use Rattle.sx_stub.specs.Stub.{is_opened_not, handled_by}
 use Rattle.sx_stub.specs.Invokes.{ShowsCall, Ready, Invokes, HandlersDo}
-use Rattle.sx_stub.proofs.Mem.{AllBytes, word_lt, word_same, word-put_same, word-put_other, get-put_other, length-put_word, length-put_bytes, AllBytes-put_word}
+use Rattle.sx_stub.proofs.Mem.{AllBytes, word_lt, word_same, word-put_same, word-put_other, get-put_other, length-put_bytes, AllBytes-put_word}
 use Rattle.sx_stub.proofs.Mem.{AllBytes-put_bytes, get-put_bytes_other, get-put_bytes_in, bytes_from_same, AllBytes-bytes_from}
 use Rattle.sx_stub.proofs.Straight.{At, at, at_front, at_back, pure}
 use Rattle.sx_stub.proofs.Slots.{Same, IsKept, with_priv, shows_priv, end_with, end_state_is, end_in_slot, end_state_same}
@@ -49,6 +48,8 @@ use Rattle.sx_stub.proofs.Ends.{FewLinks, any_same, found_in, index_found, index
 use Rattle.sx_stub.proofs.Search.{shows_kept_word, some_place, some_none, search_does, found_at, both_at}
 use Rattle.sx_stub.proofs.SetKey.{shows_slot}
 use Rattle.sx_stub.proofs.Handling.{handles}
+use Rattle.sx_machine.proofs.Lengths.{length-put_word}
+use Rattle.sx_lists.specs.Truth.{truth}
 
 -- Tests of the end that was found, on words.
 

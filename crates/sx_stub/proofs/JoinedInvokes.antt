@@ -16,12 +16,13 @@ use Rattle.sx_ir.specs.declared.ir.Ir.{Ir}
 use Rattle.sx_ir.specs.declared.ir.Ir.TheVariants as ir
 use Rattle.sx_stub.specs.Invokes.{Ready, HandlerDoes, stub_count}
 use Rattle.sx_stub.specs.Joined.{JoinedInvokes}
-use Rattle.sx_stub.proofs.Mem.{word-put_same, word-put_other, get-put_other, length-put_word, AllBytes-put_word}
+use Rattle.sx_stub.proofs.Mem.{word-put_same, word-put_other, get-put_other, AllBytes-put_word}
 use Rattle.sx_stub.proofs.Straight.{goes}
 use Rattle.sx_stub.proofs.Slots.{IsKept, shows_priv}
 use Rattle.sx_stub.proofs.Refuse.{within}
 use Rattle.sx_stub.proofs.Handling.{IsDone}
 use Rattle.sx_stub.proofs.StubInvokes.{stub_invokes}
+use Rattle.sx_machine.proofs.Lengths.{length-put_word}
 
 parts_begin : (parts : List (ℕ × ℕ)) (h place end : ℕ) (c : Conf) → slice_get parts h ≡ Some (place, end)
     → part_from parts h c ≡ Goes (record c { place = place; back = Some (c.place + 1) })

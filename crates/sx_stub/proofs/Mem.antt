@@ -2,7 +2,7 @@
 use Rattle.std.proofs.Common.{◌≡◌, ◌≢◌, ℕ, zero, suc, ◌+◌, ◌*◌, ◌/◌, ◌%◌, ◌<◌, ◌≤◌, ◌⊎◌, inl, inr, List, [], ◌∷◌, ◌++◌, length, get_or, set, take, ⊎_elim, refl, sym, ap, ◌∙◌, arith}
 use Rattle.std.specs.Prelude.{All}
 use Rattle.std.proofs.Math.Seq.{take-length}
-use Rattle.std.proofs.lemmas.List.{get_or-set_same, get_or-set_other, length-set, take_more, length-append}
+use Rattle.std.proofs.lemmas.List.{get_or-set_same, get_or-set_other, length-set, take_more}
 use Rattle.std.proofs.lemmas.List.Elements.{All-set, All-append}
 use Rattle.std.proofs.lemmas.Bool.{cases_lt}
 use Rattle.std.proofs.Math.ListN.{get_or-eq_default}
@@ -17,9 +17,6 @@ word_even m a e = ap (λ (b : ℕ). get_or m b 0 + 256 * get_or m (b + 1) 0) (ev
 
 pub put_even : (m : List ℕ) (a v : ℕ) → a % 2 ≡ 0 → put_word m a v ≡ set (set m a (v % 256)) (a + 1) (v / 256)
 put_even m a v e = ap (λ (b : ℕ). set (set m b (v % 256)) (b + 1) (v / 256)) (even_same a e)
-
-pub length-put_word : (m : List ℕ) (a v : ℕ) → length (put_word m a v) ≡ length m
-length-put_word m a v = simp length-set
 
 pub get-put_other : (m : List ℕ) (a v b : ℕ) → a % 2 ≡ 0 → b ≢ a → b ≢ a + 1
     → get_or (put_word m a v) b 0 ≡ get_or m b 0
@@ -85,11 +82,6 @@ get-put_bytes_other m at (b ∷ bs) k o =
     ne : (k < at) ⊎ (at + length (b ∷ bs) ≤ k) → k ≢ at
     ne (inl p) = omega arith
     ne (inr p) = omega arith
-
-pub length-bytes_from : (m : List ℕ) (at n : ℕ) → length (bytes_from m at n) ≡ n
-unfolding bytes_from
-length-bytes_from m at zero = refl
-length-bytes_from m at (suc n) = length-append (bytes_from m at n) (get_or m (at + n) 0 ∷ []) ∙ (let e = length-bytes_from m at n in omega (arith, e))
 
 pub bytes_from_same : (m n : List ℕ) (a b k : ℕ) → ((i : ℕ) → i < k → get_or n (b + i) 0 ≡ get_or m (a + i) 0)
     → bytes_from n b k ≡ bytes_from m a k

@@ -4,7 +4,6 @@ use Rattle.std.proofs.Common.{get_or, Option, Some, None, Result, Ok, Err, refl,
 use Rattle.std.specs.Prelude.{slice_get, slice_index, if◌then◌else◌, nat_le}
 use Rattle.std.proofs.lemmas.Bool.{true≢false}
 use Rattle.std.proofs.lemmas.Bool.Decides.{eqb_tells}
-use Rattle.sx_mean.specs.Meaning.{truth}
 use Rattle.sx_rules.specs.declared.access.Violation.{Violation}
 use Rattle.sx_rules.specs.declared.access.Access.TheVariants.{Read}
 use Rattle.sx_rules.specs.declared.access.Violation.TheVariants as bad
@@ -28,6 +27,7 @@ use Rattle.sx_stub.proofs.Mem.{AllBytes, byte_at, word_lt, word_even, get-put_by
 use Rattle.sx_stub.proofs.Straight.{At, at, pure}
 use Rattle.sx_stub.proofs.Slots.{IsKept, with_priv, shows_priv}
 use Rattle.sx_stub.proofs.Refuse.{refuse_zero, sub_zero, not_twice, goes_on, breaks}
+use Rattle.sx_lists.specs.Truth.{truth}
 
 -- what was read is this many bytes
 abbrev IsRead : ℕ → Result (List ℕ) Violation → Type 0

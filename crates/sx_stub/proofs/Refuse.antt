@@ -3,7 +3,6 @@ use Rattle.std.proofs.Common.{◌≡◌, ℕ, zero, suc, ◌+◌, ◌-◌, ◌%�
 use Rattle.std.specs.Prelude.{slice_get, if◌then◌else◌}
 use Rattle.std.proofs.lemmas.Bool.{true≢false, eqb-true}
 use Rattle.std.proofs.lemmas.Bool.Decides.{eqb_tells}
-use Rattle.sx_mean.specs.Meaning.{truth}
 use Rattle.sx_rules.specs.declared.access.Violation.{Violation}
 use Rattle.sx_reach.specs.Reach.{Goes, Stops, Here}
 use Rattle.sx_invoke.specs.Marks.{Mark}
@@ -18,6 +17,7 @@ use Rattle.sx_stub.specs.Stub.{returns, refuse_if}
 use Rattle.sx_stub.specs.Invokes.{ShowsCall, EndsSo, LeavesSo, Invokes}
 use Rattle.sx_stub.proofs.Straight.{At, at, at_front, at_back, pure, counts, goes, halts, runs, wider}
 use Rattle.sx_stub.proofs.Slots.{shows_at}
+use Rattle.sx_lists.specs.Truth.{truth}
 
 -- A code does what is left of an invocation whose result is known: `Invokes` at each configuration on the way.
 module _ (s : Setup) (call : Call) (handle : ℕ → Conf → OperationResult) (given : ℕ → ℕ) (code : List Ir) where

@@ -7,7 +7,6 @@ use Rattle.sx_lang.specs.declared.tree.DeviceKind.{DeviceKind}
 use Rattle.sx_lang.specs.declared.tree.DeviceKind.TheVariants.{Sensor}
 use Rattle.sx_mean.specs.declared.events.SourceEvent.TheVariants as event
 use Rattle.sx_mean.specs.Application.{declared_kind}
-use Rattle.sx_mean.specs.Meaning.{truth}
 use Rattle.sx_mean.specs.Handlers.{number_of}
 use Rattle.sx_bus.specs.declared.devices.Kind.TheVariants as kind
 use Rattle.sx_bus.specs.declared.devices.Window.{Window}
@@ -31,11 +30,13 @@ use Rattle.sx_ir.specs.declared.ir.Ir.TheVariants as ir
 use Rattle.sx_ir.specs.declared.ir.IrOp.TheVariants as op
 use Rattle.sx_stub.specs.Stub.{sample_code, sampled_code, refuse_if, is_stale_code, handled_by}
 use Rattle.sx_stub.specs.Invokes.{ShowsCall, Ready, Invokes, HandlersDo}
-use Rattle.sx_stub.proofs.Mem.{word-put_same, get-put_other, length-put_word, AllBytes-put_word}
+use Rattle.sx_stub.proofs.Mem.{word-put_same, get-put_other, AllBytes-put_word}
 use Rattle.sx_stub.proofs.Straight.{At, at, at_front, at_back}
 use Rattle.sx_stub.proofs.Slots.{IsKept, with_priv, shows_priv}
 use Rattle.sx_stub.proofs.Refuse.{refuse_does, goes_on, runs_on, within}
 use Rattle.sx_stub.proofs.Handling.{handles}
+use Rattle.sx_machine.proofs.Lengths.{length-put_word}
+use Rattle.sx_lists.specs.Truth.{truth}
 
 -- The module's device, before and after its sample was read.
 

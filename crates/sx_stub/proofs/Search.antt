@@ -12,13 +12,14 @@ use Rattle.sx_ir.specs.declared.ir.Ir.{Ir}
 use Rattle.sx_ir.specs.declared.ir.Ir.TheVariants as ir
 use Rattle.sx_stub.specs.Stub.{search_code, found_code, input_found, key_found, key_place, returns, cases, find_any}
 use Rattle.sx_stub.specs.Invokes.{ShowsCall, Invokes}
-use Rattle.sx_stub.proofs.Mem.{word-put_same, get-put_other, length-put_word, AllBytes-put_word}
+use Rattle.sx_stub.proofs.Mem.{word-put_same, get-put_other, AllBytes-put_word}
 use Rattle.sx_stub.proofs.Straight.{At, at, at_front, at_back}
 use Rattle.sx_stub.proofs.Slots.{IsKept, with_priv, shows_priv}
 use Rattle.sx_stub.proofs.Refuse.{returns_does, goes_on, runs_on, within}
 use Rattle.sx_stub.proofs.Chain.{found_by, case_test, chain_does}
 use Rattle.sx_stub.proofs.Packets.{Holds, holds_put}
 use Rattle.sx_stub.proofs.Ends.{FewLinks, found_in, named_words}
+use Rattle.sx_machine.proofs.Lengths.{length-put_word}
 
 pub some_place : (a b : ℕ) (x y : End) → ◌≡◌ {A = Option (ℕ × End)} (Some (a, x)) (Some (b, y)) → a ≡ b
 some_place a b x y h = ap (λ (o : Option (ℕ × End)). place_of o) h

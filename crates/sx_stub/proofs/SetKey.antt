@@ -8,7 +8,6 @@ use Rattle.std.proofs.lemmas.Bool.{false≢true, true≢false, lt-ltb}
 use Rattle.sx_lang.specs.declared.sides.Side.{Side}
 use Rattle.sx_lang.specs.declared.sides.Side.TheVariants.{From, To}
 use Rattle.sx_mean.specs.declared.events.End.{End}
-use Rattle.sx_mean.specs.Meaning.{truth}
 use Rattle.sx_mean.specs.Offsets.{end_at}
 use Rattle.sx_tag.specs.Wrap.{unwrapped}
 use Rattle.sx_tag.specs.Mac.{IsTag}
@@ -31,7 +30,7 @@ use Rattle.sx_ir.specs.declared.ir.Ir.TheVariants as ir
 use Rattle.sx_stub.specs.Stub.{set_key_code, key_found, key_place, search_code, refuse_if, cases, find_any, open_any, open_end, is_wrong_kind, is_no_side}
 use Rattle.sx_stub.specs.Stub.{wanted_end, is_keyed_code, is_opened_not, is_to}
 use Rattle.sx_stub.specs.Invokes.{ShowsCall, Invokes}
-use Rattle.sx_stub.proofs.Mem.{AllBytes, word_lt, word_same, word-put_same, word-put_other, get-put_other, length-put_word, length-put_bytes, AllBytes-put_word}
+use Rattle.sx_stub.proofs.Mem.{AllBytes, word_lt, word_same, word-put_same, word-put_other, get-put_other, length-put_bytes, AllBytes-put_word}
 use Rattle.sx_stub.proofs.Mem.{AllBytes-put_bytes, get-put_bytes_other, bytes_from_put, AllBytes-bytes_from}
 use Rattle.sx_stub.proofs.Straight.{At, at, at_front, at_back, pure}
 use Rattle.sx_stub.proofs.Slots.{Same, IsKept, with_priv, shows_priv, end_state_is, end_in_slot, state_put}
@@ -42,6 +41,8 @@ use Rattle.sx_stub.proofs.Attest.{with_mark, progress_mark, shows_mark}
 use Rattle.sx_stub.proofs.Packets.{Holds, holds_copied, holds_put, holds_word, holds_part, upper, lower, upper_lt, IsOpened, opened_body}
 use Rattle.sx_stub.proofs.Ends.{FewLinks, any_same, found_in, index_found, index_words, slot_value, and_truth}
 use Rattle.sx_stub.proofs.Search.{shows_kept_word, some_place, some_none, search_does, found_at, key_at}
+use Rattle.sx_machine.proofs.Lengths.{length-put_word}
+use Rattle.sx_lists.specs.Truth.{truth}
 
 -- the test of the end that was found, on words
 pub keyed_word : (priv : List ℕ) (ends j : ℕ) (field : ℕ) → AllBytes priv → ends ≤ 16 → j < ends → word priv 74 ≡ 12 * j

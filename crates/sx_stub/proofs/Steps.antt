@@ -1,5 +1,5 @@
 -- Code that is appended piece by piece.
-use Rattle.std.proofs.Common.{◌≡◌, ℕ, suc, ◌+◌, ◌*◌, ◌<◌, Bool, true, false, List, [], ◌∷◌, ◌++◌, length, drop, get_or, Result, OnOk, refl, sym, ap, ◌∙◌, arith, add-one, append_assoc, length-append}
+use Rattle.std.proofs.Common.{◌≡◌, ℕ, ◌+◌, ◌*◌, ◌<◌, Bool, true, false, List, [], ◌∷◌, ◌++◌, length, drop, get_or, Result, OnOk, refl, sym, ap, ◌∙◌, arith, add-one, append_assoc, length-append}
 use Rattle.std.specs.Prelude.{if◌then◌else◌}
 use Rattle.std.proofs.Math.Seq.{drop-cons}
 use Rattle.std.proofs.lemmas.Result.{on_ok_weaker}
@@ -9,6 +9,7 @@ use Rattle.sx_ir.specs.declared.ir.Ir.{Ir}
 use Rattle.sx_ir.specs.declared.ir.Ir.TheVariants as ir
 use Rattle.sx_ir.specs.declared.ir.IrOp.TheVariants as op
 use Rattle.sx_stub.specs.Stub.{Cases, case_of, cases, is_receiving, take_event, take_receiving}
+use Rattle.sx_lists.proofs.Lists.{rest_is}
 
 pub grown : (x y a : List Ir) → y ≡ x ++ a → length y ≡ length x + length a
 grown x y a e = ap length e ∙ length-append x a
@@ -19,10 +20,6 @@ behind r x y z a g q e long h = on_ok_weaker r go h
   where
     go : z ≡ y ++ g (length y) → z ≡ x ++ (a ++ g q)
     go h = h ∙ ap (λ n. y ++ g n) (grown x y a e ∙ long) ∙ ap (λ y. y ++ g q) e ∙ append_assoc x a (g q)
-
--- what is left of the ends
-rest_is : (ends : List End) (i : ℕ) (e : End) → i < length ends → e ≡ get_or ends i e → drop i ends ≡ e ∷ drop (i + 1) ends
-rest_is ends i e l h = drop-cons ends i e l ∙ ap (λ x. x ∷ drop (suc i) ends) (sym h) ∙ ap (λ n. e ∷ drop n ends) (sym (add-one i))
 
 -- the case of one end, and then those of the others
 pub cases_turn : (cs : Cases) (ends : List End) (i k : ℕ) (d : End) (x y whole : List Ir) → i < length ends → y ≡ x ++ case_of cs (length x) k (get_or ends i d)

@@ -3,7 +3,7 @@ use Rattle.std.proofs.Common.{◌≡◌, ℕ, ◌+◌, ◌≤◌, Bool, true, fa
 use Rattle.std.specs.Prelude.{nat_lt, slice_get, if◌then◌else◌}
 use Rattle.sx_lang.specs.declared.tree.UnOp.TheVariants as unary
 use Rattle.sx_lang.specs.declared.tree.BinOp.TheVariants as binary
-use Rattle.sx_mean.specs.Meaning.{truth, apply, combine}
+use Rattle.sx_mean.specs.Meaning.{apply, combine}
 use Rattle.sx_mean.specs.Offsets as places
 use Rattle.sx_rules.specs.declared.access.Violation.{Violation}
 use Rattle.sx_machine.specs.Memory.{word}
@@ -18,6 +18,7 @@ use Rattle.sx_ir.specs.declared.ir.IrOp.{IrOp}
 use Rattle.sx_ir.specs.declared.ir.IrOp.TheVariants as op
 use Rattle.sx_ir.specs.declared.ir.Ir.{Ir}
 use Rattle.sx_ir.specs.declared.ir.Ir.TheVariants as ir
+use Rattle.sx_lists.specs.Truth.{truth}
 
 -- these operations stand in the code from this place on
 abbrev pub At : List Ir → ℕ → List Ir → Type 0

@@ -6,7 +6,6 @@ use Rattle.std.proofs.lemmas.Bool.{false≢true, true≢false, eqb-false, eqb-tr
 use Rattle.sx_lang.specs.declared.tree.DeviceKind.{DeviceKind}
 use Rattle.sx_lang.specs.declared.tree.DeviceKind.TheVariants.{Sensor, Actuator}
 use Rattle.sx_mean.specs.Application.{declared_kind}
-use Rattle.sx_mean.specs.Meaning.{truth}
 use Rattle.sx_rules.specs.declared.access.Violation.TheVariants as bad
 use Rattle.sx_rules.specs.Access.{in_public}
 use Rattle.sx_bus.specs.declared.devices.Kind.TheVariants as kind
@@ -36,6 +35,7 @@ use Rattle.sx_stub.proofs.Attest.{attest_does}
 use Rattle.sx_stub.proofs.SetKey.{set_key_does}
 use Rattle.sx_stub.proofs.Input.{input_does}
 use Rattle.sx_stub.proofs.Sample.{sample_does}
+use Rattle.sx_lists.specs.Truth.{truth}
 
 -- the first operations of a code stand in it
 pub stands_at : (code ops : List Ir) (k : ℕ) → ((i : ℕ) → i < length ops → slice_get code (k + i) ≡ slice_get ops i)

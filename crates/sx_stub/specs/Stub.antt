@@ -9,7 +9,6 @@ use Rattle.sx_mean.specs.declared.events.End.{End}
 use Rattle.sx_mean.specs.declared.events.SourceEvent.TheVariants as event
 use Rattle.sx_mean.specs.Application.{declared_kind}
 use Rattle.sx_mean.specs.Handlers.{number_of}
-use Rattle.sx_mean.specs.Meaning.{truth}
 use Rattle.sx_mean.specs.Offsets as offsets
 use Rattle.sx_invoke.specs.Protocol.{set_key_entry, attest_entry, input_entry, sample_entry}
 use Rattle.sx_invoke.specs.Protocol.{entry_register, input_register, output_register}
@@ -23,6 +22,7 @@ use Rattle.sx_invoke.specs.Invocation.{is_sensor_driver}
 use Rattle.sx_ir.specs.declared.ir.IrOp.TheVariants as op
 use Rattle.sx_ir.specs.declared.ir.Ir.{Ir}
 use Rattle.sx_ir.specs.declared.ir.Ir.TheVariants as ir
+use Rattle.sx_lists.specs.Truth.{truth}
 
 -- Until a handler begins, the words of its locals keep which end a packet is for.
 

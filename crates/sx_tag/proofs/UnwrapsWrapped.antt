@@ -1,11 +1,11 @@
 -- What was wrapped is unwrapped: bytes that are XORed twice with one stream are as they were.
-use Rattle.std.proofs.Common.{◌≡◌, ℕ, suc, ◌-◌, ◌≤◌, true, List, [], ◌∷◌, ◌++◌, length, drop, replicate, Some, None, bit_xor, bytes_eq, refl, sym, ◌∙◌, ap, arith}
+use Rattle.std.proofs.Common.{◌≡◌, ℕ, suc, ◌-◌, ◌≤◌, List, [], ◌∷◌, ◌++◌, length, drop, replicate, Some, None, bit_xor, refl, sym, ◌∙◌, ap, arith}
 use Rattle.std.specs.Int.Bits.{xor_assoc, xor_self, xor_zero_r}
 use Rattle.std.proofs.lemmas.Bool.{cond-true}
 use Rattle.std.proofs.lemmas.List.{drop-replicate}
-use Rattle.std.proofs.lemmas.Slice.Eq.{bytes_eq-Decides}
 use Rattle.sx_tag.specs.Mac.{Mac, GivesTags}
 use Rattle.sx_tag.specs.Wrap.{xor_bytes, stream, crypt, wrap_tag, padded, unwrapped, UnwrapsWrapped}
+use Rattle.sx_lists.proofs.Texts.{bytes_eq-same}
 
 xor_twice : (b s : ℕ) → bit_xor (bit_xor b s) s ≡ b
 xor_twice b s = xor_assoc b s s ∙ ap (λ (n : ℕ). bit_xor b n) (xor_self s) ∙ xor_zero_r b
@@ -38,9 +38,6 @@ crypt-crypt : (mac : Mac) (key ad body : List ℕ) → GivesTags mac → length 
 unfolding crypt
 crypt-crypt mac key ad body gives h =
     xor_bytes_twice body (stream mac key ad) (omega (arith, gives key (0x53 ∷ length ad ∷ (ad ++ 0 ∷ []))))
-
-bytes_eq-same : (bytes : List ℕ) → bytes_eq bytes bytes ≡ true
-bytes_eq-same bytes = (bytes_eq-Decides bytes bytes).1 refl
 
 pub unwraps_wrapped : UnwrapsWrapped
 unfolding unwrapped

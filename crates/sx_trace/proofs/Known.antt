@@ -1,6 +1,5 @@
 -- What is known of a name at its index in a list of names.
-use Rattle.std.proofs.Common.{◌≡◌, ℕ, zero, suc, ◌+◌, ◌<◌, ◌≤◌, Bool, true, false, ◌&&◌, ◌||◌, ◌==◌, not, nat_le, nat_lt, List, [], ◌∷◌, length, codes, Some, refl, sym, ap, subst, ◌∙◌, arith, IsTrue}
-use Rattle.std.specs.Bool.{one_answer}
+use Rattle.std.proofs.Common.{◌≡◌, ℕ, zero, suc, ◌+◌, ◌<◌, ◌≤◌, Bool, true, false, ◌&&◌, ◌==◌, not, nat_le, nat_lt, List, [], ◌∷◌, length, codes, Some, refl, ap, subst, ◌∙◌, arith, IsTrue}
 use Rattle.std.specs.List.{list_all, list_any, position_or_len}
 use Rattle.std.specs.Str.{bytes_eq}
 use Rattle.std.proofs.lemmas.Bool.Decides.{nat_tests}
@@ -9,21 +8,9 @@ use Rattle.sx_trace.specs.Names.{NameLists, are_valid, are_names, deployer, has_
 use Rattle.sx_lang.specs.Form.{is_lower, is_name, is_name_byte}
 use Rattle.sx_trace.specs.Items.{name_at}
 use Rattle.sx_trace.specs.Finding.{is_space}
-use Rattle.sx_trace.proofs.Cut.{and_true, is_plain, is_word}
-
-bytes_eq-sym : (a b : List ℕ) → bytes_eq a b ≡ bytes_eq b a
-bytes_eq-sym a b = one_answer {P = a ≡ b} (bytes_eq a b) (bytes_eq b a) (bytes_eq-Decides a b) (λ h. sym ((bytes_eq-Decides b a).0 h), λ e. (bytes_eq-Decides b a).1 (sym e))
-
-bytes_eq-same : (a : List ℕ) → bytes_eq a a ≡ true
-bytes_eq-same a = (bytes_eq-Decides a a).1 refl
-
-or_false : (a b : Bool) → (a || b) ≡ false → (a ≡ false) × (b ≡ false)
-or_false true b h = absurd (cc)
-or_false false b h = (refl, h)
-
-not_true : (a : Bool) → not a ≡ true → a ≡ false
-not_true true h = absurd (cc)
-not_true false h = refl
+use Rattle.sx_trace.proofs.Cut.{is_plain, is_word}
+use Rattle.sx_lists.proofs.Truths.{and_true, or_false, not_true}
+use Rattle.sx_lists.proofs.Texts.{bytes_eq-same, bytes_eq-sym}
 
 -- a name in a list that has another name nowhere is another one
 pub others : (names : List (List ℕ)) (name : List ℕ) (i : ℕ) → has_name names name ≡ false → i < length names → bytes_eq (name_at names i) name ≡ false
@@ -63,7 +50,7 @@ all_plain (b ∷ bs) h =
     let both = and_true (is_name_byte b) (list_all is_name_byte bs) h in
     rw (plain b both.0) (all_plain bs both.1)
 
-lower_byte : (b : ℕ) → is_lower b ≡ true → is_name_byte b ≡ true
+pub lower_byte : (b : ℕ) → is_lower b ≡ true → is_name_byte b ≡ true
 lower_byte b h = rw h refl
 
 -- a name has no space

@@ -24,12 +24,13 @@ use Rattle.sx_run.specs.State.{World, Acted}
 use Rattle.sx_run.specs.Observation.{unless_made}
 use Rattle.sx_run.specs.Acts.{then_, with_packet, with_deployer, ask, key_given, keys_given, attested, after_denial, open_ask, attested_at, after_verdict, after_answer}
 use Rattle.sx_run.specs.Run.{line_counted}
-use Rattle.sx_run.proofs.tie.Lists.{get_same, get_other, get_some, get_within, length_set, some_inj}
+use Rattle.sx_run.proofs.tie.Lists.{get_other, get_some, get_within, length_set, some_inj}
 use Rattle.sx_run.proofs.tie.Entries.{made_behind}
 use Rattle.sx_run.proofs.tie.Unique.{eq_refl}
 use Rattle.sx_run.proofs.acts.Renewal.{renewed_grows, renewed_long, renewed_small, later_boot, higher_epoch, from_end, to_end}
 use Rattle.sx_run.proofs.tie.Verdicts.{Verdict, Broken, Over, Going, judge, Fares, fares_then, fares_map}
 use Rattle.sx_run.proofs.tie.Tied.{KnownKey, Known, HasEnd, asked_as, DeployerTied, IsTimely, HasSent, IsSane, ModuleTied, Absent, Rests, Runs, Tied}
+use Rattle.sx_lists.proofs.Lists.{get_same}
 
 -- a challenge's bytes tell it
 pub low_number : (n v : ℕ) → v < 256 ^ n → number_in (low_first n v) ≡ v

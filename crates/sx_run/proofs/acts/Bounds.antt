@@ -37,9 +37,10 @@ use Rattle.sx_run.specs.State.{World, Acted, switched_on}
 use Rattle.sx_run.specs.Acts.{only, then_, with_node, at_node, after_step, done_on, with_deployer, with_packet, after_take, after_interrupt, ask, key_given, keys_given, attested, after_denial, after_verdict, after_answer, open_ask, attested_at}
 use Rattle.sx_run.specs.Run.{is_reset, steps_of, FINISH_STEPS, finish, put_on, set_on, give, place_at, sense_at, put_pieces, Register, set_all, register, unless_busy, load, call, after_line, line_counted, run}
 use Rattle.sx_run.specs.Law.{IsSoundSetting, LineInForm, LinesInForm}
-use Rattle.sx_run.proofs.tie.Lists.{get_same, get_other, get_some, get_within, length_set, some_inj}
+use Rattle.sx_run.proofs.tie.Lists.{get_other, get_some, get_within, length_set, some_inj}
 use Rattle.sx_run.proofs.tie.Start.{get_nodes, nodes_long, on_is_node}
 use Rattle.sx_run.proofs.steps.Entry.{shapes_on}
+use Rattle.sx_lists.proofs.Lists.{get_same}
 
 -- an event that is no reset
 pub no_reset : (e : Event) (v : Violation) → is_reset e ≡ false → e ≡ seen_event.Reset v → ⊥

@@ -1,9 +1,7 @@
 -- What is done to a node from outside while no module runs: bytes are put, a register is set.
-use Rattle.std.proofs.Common.{◌≡◌, ◌≢◌, ℕ, ◌+◌, ◌-◌, ◌%◌, ◌<◌, ◌≤◌, ◌⊎◌, inl, inr, ◌==◌, ◌&&◌, ◌||◌, not, Bool, true, false, if◌then◌else◌, List, [], ◌∷◌, length, Option, Some, None, refl, sym, ◌∙◌, ap, subst, arith}
-use Rattle.std.specs.Prelude.{slice_get, slice_set, slice_index, nat_lt}
-use Rattle.std.specs.List.{list_any}
-use Rattle.std.proofs.lemmas.Bool.{and_cases, or_parts, eqb-true, cases_lt, ltb-false}
-use Rattle.std.proofs.lemmas.List.{get_or-set_other}
+use Rattle.std.proofs.Common.{◌≡◌, ℕ, ◌-◌, ◌<◌, inl, ◌==◌, ◌||◌, not, Bool, true, false, if◌then◌else◌, List, [], ◌∷◌, length, Option, Some, None, refl, sym, ◌∙◌, ap, subst, arith}
+use Rattle.std.specs.Prelude.{slice_get}
+use Rattle.std.proofs.lemmas.Bool.{or_parts, eqb-true}
 use Rattle.sx_rules.specs.declared.section.Section.{Section}
 use Rattle.sx_rules.specs.Access.{Sections, Lives}
 use Rattle.sx_machine.specs.declared.kinds.Refused.{Refused}
@@ -16,7 +14,7 @@ use Rattle.sx_machine.specs.Step.{Shown}
 use Rattle.sx_machine.specs.Acts.{put_refusal, busy, unless, put as put_at, set as set_register}
 use Rattle.sx_invoke.specs.ModuleState.{state_of}
 use Rattle.sx_machine.specs.Node.{IsNode}
-use Rattle.sx_machine.proofs.Stays.{set_is_node, put_is_node}
+use Rattle.sx_machine.proofs.Stays.{set_is_node, put_is_node, busy_idle}
 use Rattle.sx_image.specs.Image.{private_bytes, public_bytes}
 use Rattle.sx_mean.specs.Application.{PartTree}
 use Rattle.sx_mean.specs.Ends.{ends_of}
@@ -27,11 +25,13 @@ use Rattle.sx_run.specs.Acts.{with_node, refused_item, done_on}
 use Rattle.sx_run.proofs.tie.Lists.{get_some, get_within, some_inj}
 use Rattle.sx_run.proofs.tie.Verdicts.{judge, Fares}
 use Rattle.sx_run.proofs.steps.Stretch.{set_same}
-use Rattle.sx_run.proofs.steps.Bystanders.{same_bytes, at_site_same}
+use Rattle.sx_run.proofs.steps.Bystanders.{at_site_same}
 use Rattle.sx_run.proofs.steps.Steps.{nonzero}
 use Rattle.sx_run.proofs.steps.Nodes.{tied_node}
 use Rattle.sx_run.proofs.tie.Tied.{SameState, NodeTied, ModuleTied, Absent, Rests, Runs, Tied}
 use Rattle.sx_run.proofs.acts.Compose.{Keeps}
+use Rattle.sx_machine.proofs.PublicKept.{clear_of_range, none_any, put_other}
+use Rattle.sx_machine.proofs.Meanings.{same_bytes}
 
 -- a node to which nothing was done that a deployed module or the source would know of
 pub record Calm (s s2 : State) : Type 0 where
@@ -92,45 +92,12 @@ calm_unless set w n s None done here f mo t =
     calm_tied set w mo n s done.state t here (f refl (t.nodes n s b.0 here b.1).node)
 calm_unless set w n s (Some why) done here f mo t = refused_fares set n why mo (Tied set (with_node w n s w.ledger w.steps)) (same_tied set w mo n s t here)
 
-pub busy_idle : (s : State) → busy s ≡ None → s.cur ≡ 0
-busy_idle s e = by (s.cur == 0) refl e
-  where
-    by : (b : Bool) → (s.cur == 0) ≡ b → (if b then None else Some Busy) ≡ None → s.cur ≡ 0
-    by true t e = eqb-true s.cur 0 t
-    by false t e = absurd cc
-
 pub set_keeps : (set : Setting) (w : World) (n r v : ℕ) (s : State) → r < 16 → v < 65536 → slice_get w.nodes n ≡ Some s → Keeps set w (done_on w n [] (set_register s r v))
 set_keeps set w n r v s rl vl here =
     calm_unless set w n s (busy s) (record { state = record s { regs = set_reg s.regs r v; last = if r == 0 then 0 else s.last }; shown = tt }) here (λ none node.
     record { idle = busy_idle s none; still = busy_idle s none; sections = refl; devices = refl; boot = refl; node = set_is_node s r v vl (busy_idle s none) node; public = λ sec l. refl; private = λ sec l. refl })
 
 -- Bytes.
-
-put_other : (bs mem : List ℕ) (at k : ℕ) → (k < at) ⊎ (at + length bs ≤ k) → slice_index (put_bytes mem at bs) k ≡ slice_index mem k
-put_other [] mem at k h = refl
-put_other (b ∷ bs) mem at k h =
-    let ne : k ≢ at = λ e. elim h [ inl lt ↦ absurd (omega (arith, lt, e)) | inr ge ↦ absurd (omega (arith, ge, e)) ] in
-    put_other bs (slice_set mem at (b % 256)) (at + 1) k (elim h [ inl lt ↦ inl (omega (arith, lt)) | inr ge ↦ inr (omega (arith, ge)) ])
-    ∙ get_or-set_other mem at k (b % 256) 0 ne
-
-none_any : (test : Section → Bool) (live : List Section) (sec : Section) → list_any test live ≡ false → Lives live sec → test sec ≡ false
-none_any test [] sec e l = absurd l
-none_any test (x ∷ live) sec e l =
-    let p = or_parts (test x) (list_any test live) e in
-    elim l [ inl same ↦ subst (λ z. test z ≡ false) same p.0 | inr r ↦ none_any test live sec p.1 r ]
-
-clear_of_range : (at n from to k : ℕ) → meets at n from to ≡ false → from ≤ k → k < to → (k < at) ⊎ (at + n ≤ k)
-clear_of_range at n from to k e lo hi = elim (cases_lt k at) [
-  | inl lt ↦ inl lt
-  | inr ge ↦ elim (cases_lt k (at + n)) [
-    | inl lt ↦
-        elim (and_cases (nat_lt 0 n) (nat_lt at to && nat_lt from (at + n)) e) [
-          | inl a ↦ absurd (omega (arith, ltb-false 0 n a, ge, lt))
-          | inr b ↦ elim (and_cases (nat_lt at to) (nat_lt from (at + n)) b) [ inl c ↦ absurd (omega (arith, ltb-false at to c, ge, hi)) | inr c ↦ absurd (omega (arith, ltb-false from (at + n) c, lo, lt)) ]
-        ]
-    | inr past ↦ inr past
-  ]
-]
 
 pub record Free (s : State) (at n : ℕ) : Type 0 where
   pub idle : s.cur ≡ 0

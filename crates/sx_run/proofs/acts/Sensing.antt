@@ -12,7 +12,7 @@ use Rattle.sx_trace.specs.declared.items.Item.TheVariants as item
 use Rattle.sx_machine.specs.declared.kinds.Refused.{Refused}
 use Rattle.sx_machine.specs.State.{State}
 use Rattle.sx_machine.specs.Acts.{busy, unless, sense as sense_on}
-use Rattle.sx_machine.proofs.Stays.{sense_is_node}
+use Rattle.sx_machine.proofs.Stays.{sense_is_node, busy_idle}
 use Rattle.sx_mean.specs.Application.{PartTree}
 use Rattle.sx_model.specs.State.{Reading, Standing, Model}
 use Rattle.sx_model.specs.Step.{is_sensor, with_device, after_sample as model_sensed}
@@ -22,14 +22,16 @@ use Rattle.sx_run.specs.State.{World}
 use Rattle.sx_run.specs.Acts.{with_node, done_on}
 use Rattle.sx_run.specs.Run.{or_else, place_at}
 use Rattle.sx_run.specs.Law.{IsSoundSetting}
-use Rattle.sx_run.proofs.tie.Lists.{get_same, get_other, get_some, get_within, length_set, some_inj}
+use Rattle.sx_run.proofs.tie.Lists.{get_other, get_some, get_within, length_set, some_inj}
 use Rattle.sx_run.proofs.tie.Verdicts.{Going, judge_on, judge, Fares}
 use Rattle.sx_run.proofs.steps.Nodes.{tied_node, device_here, index_get, shapes_long, windows_long}
 use Rattle.sx_run.proofs.steps.Steps.{nonzero, position_is, increasing}
 use Rattle.sx_run.proofs.steps.Foreign.{position_some}
-use Rattle.sx_run.proofs.acts.Outside.{same_tied, refused_fares, busy_idle}
-use Rattle.sx_run.proofs.tie.Tied.{Known, NodeTied, ModuleTied, Absent, Rests, Runs, Tied, shapes}
+use Rattle.sx_run.proofs.acts.Outside.{same_tied, refused_fares}
+use Rattle.sx_run.proofs.tie.Tied.{Known, NodeTied, ModuleTied, Absent, Rests, Runs, Tied}
 use Rattle.sx_run.proofs.acts.Compose.{Keeps}
+use Rattle.sx_lists.proofs.Lists.{get_same}
+use Rattle.sx_machine.proofs.Devices.{sensed_shapes}
 
 listed_head : (b : Bool) (i j : ℕ) (k : ℕ) (devs : List ℕ) → slice_get devs k ≡ Some (i + 1 + j) → (k2 : ℕ) × (slice_get (if b then i ∷ devs else devs) k2 ≡ Some (i + suc j))
 listed_head true i j k devs e = (suc k, e ∙ ap Some (omega arith))
@@ -69,11 +71,6 @@ sensed_other (x ∷ ws) zero v zero ne = absurd (ne refl)
 sensed_other (x ∷ ws) zero v (suc j) ne = refl
 sensed_other (x ∷ ws) (suc k) v zero ne = refl
 sensed_other (x ∷ ws) (suc k) v (suc j) ne = sensed_other ws k v j (λ e. ne (ap suc e))
-
-sensed_shapes : (ws : List Window) (k v : ℕ) → shapes (with_sample ws k v) ≡ shapes ws
-sensed_shapes [] k v = refl
-sensed_shapes (w ∷ ws) zero v = refl
-sensed_shapes (w ∷ ws) (suc k) v = ap (λ r. (w.at, w.kind) ∷ r) (sensed_shapes ws k v)
 
 module _ (set : Setting) (sound : IsSoundSetting set) (w : World) (mo : Model) (d v : ℕ) (x : AppDevice) (s : State) (dev : slice_get set.app.devices d ≡ Some x) (sensor : is_sensor x.kind ≡ true) (lt : v < 32768)
     (t : Tied set w mo) (here : slice_get w.nodes x.node ≡ Some s) (idle : s.cur ≡ 0) where

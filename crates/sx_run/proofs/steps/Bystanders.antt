@@ -1,6 +1,6 @@
 -- What a step leaves of the modules whose code it isn't, and of the devices that its marks tell of.
-use Rattle.std.proofs.Common.{◌≡◌, ◌≢◌, ℕ, zero, suc, ◌+◌, ◌-◌, ◌<◌, ◌≤◌, ◌⊎◌, inl, inr, ◌==◌, ◌&&◌, Bool, true, false, if◌then◌else◌, List, [], ◌∷◌, ◌++◌, Some, None, refl, sym, ◌∙◌, ap, subst, arith}
-use Rattle.std.specs.Prelude.{slice_get, slice_set, slice_index, nat_le, nat_lt}
+use Rattle.std.proofs.Common.{◌≡◌, ◌≢◌, ℕ, zero, suc, ◌-◌, ◌⊎◌, inl, inr, ◌==◌, ◌&&◌, Bool, true, false, if◌then◌else◌, List, [], ◌∷◌, Some, None, refl, sym, ◌∙◌, ap, subst, arith}
+use Rattle.std.specs.Prelude.{slice_get, slice_set, nat_le, nat_lt}
 use Rattle.std.proofs.lemmas.Bool.{and_parts, or_cases, cases_eq, cases_Bool, leb-true, ltb-true, lt-ltb, le-leb, and_from}
 use Rattle.sx_rules.specs.declared.section.Section.{Section}
 use Rattle.sx_rules.specs.declared.section.Layout.{Layout}
@@ -12,7 +12,6 @@ use Rattle.sx_bus.specs.declared.devices.Window.{Window}
 use Rattle.sx_bus.specs.Devices.{cleared, stale}
 use Rattle.sx_machine.specs.declared.kinds.Touch.{Touch}
 use Rattle.sx_machine.specs.declared.kinds.Touch.TheVariants as touch
-use Rattle.sx_machine.specs.Memory.{bytes_from}
 use Rattle.sx_machine.specs.State.{State, reset}
 use Rattle.sx_machine.specs.Step.{step, own_of}
 use Rattle.sx_machine.specs.Guard.{PrivateKept}
@@ -30,14 +29,8 @@ use Rattle.sx_run.proofs.tie.Tied.{SameState, DeviceTied, ModuleTied, Absent, Re
 use Rattle.sx_run.proofs.steps.Stretch.{readings_all}
 use Rattle.sx_machine.specs.Touches.{Replays}
 use Rattle.sx_run.proofs.steps.Machine.{MachineLaws, Onward, onward}
-
-pub same_bytes : (m n : List ℕ) (at len : ℕ) → ((k : ℕ) → at ≤ k → k < at + len → slice_index n k ≡ slice_index m k) → bytes_from n at len ≡ bytes_from m at len
-unfolding bytes_from
-same_bytes m n at zero f = refl
-same_bytes m n at (suc len) f =
-    let one : bytes_from n at len ≡ bytes_from m at len = same_bytes m n at len (λ k a b. f k a (omega (arith, b))) in
-    let two : slice_index n (at + len) ≡ slice_index m (at + len) = f (at + len) (omega arith) (omega arith) in
-    ap (λ z. z ++ slice_index n (at + len) ∷ []) one ∙ ap (λ v. bytes_from m at len ++ v ∷ []) two
+use Rattle.sx_machine.proofs.Devices.{cleared_shapes}
+use Rattle.sx_machine.proofs.Meanings.{same_bytes}
 
 pub kept_bytes : (sec : Section) (m n : List ℕ) → PrivateKept sec m n → private_bytes sec.layout n ≡ private_bytes sec.layout m
 kept_bytes sec m n h =
@@ -179,11 +172,6 @@ replayed app n own live (touch.Quiet ∷ ts) a b rs h apart t = replayed app n o
 replayed app n own live (touch.DeviceRead k v ∷ ts) a b rs h apart t =
     replayed app n own live ts (cleared a k) b (slice_set rs (device_number app n k) (record { value = v; fresh = false })) h.6 (set_apart app n k a h.0 h.1 apart) (tied_read app n k v a rs h.0 h.1 h.4 apart t)
 replayed app n own live (touch.DeviceWrite k v ∷ ts) a b rs h apart t = replayed app n own live ts a b rs h.4 apart t
-
-pub cleared_shapes : (ds : List Window) (k : ℕ) → shapes (cleared ds k) ≡ shapes ds
-cleared_shapes [] k = refl
-cleared_shapes (w ∷ ds) zero = refl
-cleared_shapes (w ∷ ds) (suc k) = ap (λ r. (w.at, w.kind) ∷ r) (cleared_shapes ds k)
 
 pub replayed_shapes : (own : ℕ) (live : List Section) (ts : List Touch) (a b : List Window) → Replays live own ts a b → shapes b ≡ shapes a
 replayed_shapes own live [] a b h = ap shapes h

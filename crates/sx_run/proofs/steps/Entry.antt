@@ -1,7 +1,6 @@
 -- A step of a deployed module's code while the module rests: it is refused, or it is the first of an invocation.
-use Rattle.std.proofs.Common.{◌≡◌, ◌≢◌, ℕ, zero, suc, ◌+◌, inl, inr, ◌==◌, ◌&&◌, ◌||◌, not, Bool, true, false, cond, if◌then◌else◌, List, [], ◌∷◌, Option, Some, None, refl, sym, ◌∙◌, ap, subst}
+use Rattle.std.proofs.Common.{◌≡◌, ◌≢◌, ℕ, inl, inr, ◌==◌, ◌||◌, not, Bool, true, false, cond, if◌then◌else◌, List, [], ◌∷◌, Option, Some, None, refl, sym, ◌∙◌, ap, subst}
 use Rattle.std.specs.Prelude.{slice_get, slice_index}
-use Rattle.std.specs.List.{position_from}
 use Rattle.std.proofs.lemmas.Bool.{true≢false, and_parts, eqb-true, or_cases, not-true}
 use Rattle.sx_lang.specs.declared.tree.DeviceKind.{DeviceKind}
 use Rattle.sx_lang.specs.declared.tree.DeviceKind.TheVariants as declared
@@ -15,7 +14,7 @@ use Rattle.sx_rules.specs.Placed.{Placed}
 use Rattle.sx_rules.proofs.Placing.{placed_found}
 use Rattle.sx_bus.specs.declared.devices.Kind.{Kind}
 use Rattle.sx_bus.specs.declared.devices.Window.{Window}
-use Rattle.sx_bus.specs.Devices.{on_word, device_at, powered_on}
+use Rattle.sx_bus.specs.Devices.{device_at, powered_on}
 use Rattle.sx_tag.specs.Mac.{Mac}
 use Rattle.sx_machine.specs.declared.kinds.Event.TheVariants as event
 use Rattle.sx_machine.specs.State.{State}
@@ -37,47 +36,9 @@ use Rattle.sx_run.specs.Law.{image_at, devices_of, IsDeployedModule}
 use Rattle.sx_run.proofs.tie.Lists.{some_inj}
 use Rattle.sx_run.proofs.tie.Entries.{bytes_same}
 use Rattle.sx_run.proofs.tie.Tied.{SameState, Begun, Yet, IsUnderWay, shapes, NodeTied, IsModule}
+use Rattle.sx_machine.proofs.Devices.{device_at_same, window_same, device_of_parts}
 
 -- Devices of the same places and kinds.
-
-pub heads : (x y : Window) (a b : List Window) → shapes (x ∷ a) ≡ shapes (y ∷ b) → (x.at ≡ y.at) × (x.kind ≡ y.kind) × (shapes a ≡ shapes b)
-heads x y a b e =
-    let h : ◌≡◌ {A = ℕ × Kind} (x.at, x.kind) (y.at, y.kind) = cc in
-    (ap (λ (p : ℕ × Kind). p.0) h, ap (λ (p : ℕ × Kind). p.1) h, cc)
-
-position_same : (at i : ℕ) (a b : List Window) → shapes a ≡ shapes b → position_from (on_word at) i a ≡ position_from (on_word at) i b
-position_same at i [] [] e = refl
-position_same at i [] (y ∷ b) e = absurd cc
-position_same at i (x ∷ a) [] e = absurd cc
-position_same at i (x ∷ a) (y ∷ b) e =
-    let h = heads x y a b e in
-    let one : on_word at x ≡ on_word at y = ap (λ p. Rattle.std.specs.Prelude.nat_le p at && Rattle.std.specs.Prelude.nat_lt at (p + 2)) h.0 in
-    ap (λ t. cond t (Some i) (position_from (on_word at) (i + 1) a)) one ∙ ap (λ r. cond (on_word at y) (Some i) r) (position_same at (i + 1) a b h.2)
-
-pub device_at_same : (a b : List Window) (at : ℕ) → shapes a ≡ shapes b → device_at a at ≡ device_at b at
-device_at_same a b at e = position_same at 0 a b e
-
-pub window_same : (a b : List Window) (k : ℕ) (w : Window) → shapes a ≡ shapes b → slice_get a k ≡ Some w → (v : Window) × (slice_get b k ≡ Some v) × (v.at ≡ w.at) × (v.kind ≡ w.kind)
-window_same [] b k w e h = absurd cc
-window_same (x ∷ a) [] k w e h = absurd cc
-window_same (x ∷ a) (y ∷ b) zero w e h =
-    let g = heads x y a b e in
-    let xw = some_inj x w h in
-    (y, refl, sym g.0 ∙ ap (λ (z : Window). z.at) xw, sym g.1 ∙ ap (λ (z : Window). z.kind) xw)
-window_same (x ∷ a) (y ∷ b) (suc k) w e h = window_same a b k w (heads x y a b e).2 h
-
-found_parts : (a : List Window) (o : Option ℕ) (k : ℕ) (w : Window) → Rattle.sx_machine.specs.Run.found a o ≡ Some (k, w) → (o ≡ Some k) × (slice_get a k ≡ Some w)
-found_parts a None k w h = absurd cc
-found_parts a (Some j) k w h = window_parts (slice_get a j) refl h
-  where
-    window_parts : (v : Option Window) → slice_get a j ≡ v → Rattle.sx_machine.specs.Run.with_window j v ≡ Some (k, w) → (◌≡◌ {A = Option ℕ} (Some j) (Some k)) × (slice_get a k ≡ Some w)
-    window_parts None e g = absurd cc
-    window_parts (Some v) e g =
-        let same : ◌≡◌ {A = ℕ × Window} (j, v) (k, w) = some_inj (j, v) (k, w) g in
-        (ap (λ (p : ℕ × Window). Some p.0) same, subst (λ i. slice_get a i ≡ Some w) (ap (λ (p : ℕ × Window). p.0) same) (e ∙ ap (λ (p : ℕ × Window). Some p.1) same))
-
-pub device_of_parts : (a : List Window) (at k : ℕ) (w : Window) → device_of a at ≡ Some (k, w) → (device_at a at ≡ Some k) × (slice_get a k ≡ Some w)
-device_of_parts a at k w h = found_parts a (device_at a at) k w h
 
 device_of_from : (a : List Window) (at k : ℕ) (w : Window) → device_at a at ≡ Some k → slice_get a k ≡ Some w → device_of a at ≡ Some (k, w)
 device_of_from a at k w d g = rw (d, g) refl

@@ -37,12 +37,13 @@ use Rattle.sx_run.specs.Law.{IsSoundSetting}
 use Rattle.sx_run.proofs.tie.Lists.{get_some, get_within, length_set, some_inj}
 use Rattle.sx_run.proofs.tie.Verdicts.{Verdict, judge, Fares, fares_then, fares_map}
 use Rattle.sx_run.proofs.tie.Tied.{Known, IsSane, NodeTied, IsModule, ModuleTied, Absent, Rests, Runs, Tied, shapes}
-use Rattle.sx_run.proofs.steps.Entry.{AtSite, at_site, heads}
+use Rattle.sx_run.proofs.steps.Entry.{AtSite, at_site}
 use Rattle.sx_run.proofs.steps.Stretch.{readings_all}
 use Rattle.sx_run.proofs.steps.Nodes.{NodeGoes, tied_node, device_here, index_get, shapes_long, windows_long}
 use Rattle.sx_machine.specs.Touches.{Replays}
 use Rattle.sx_run.proofs.steps.Machine.{MachineLaws, Onward, onward}
 use Rattle.sx_run.proofs.steps.Bystanders.{DevicesTied, Apart, cleared_get, replayed, replayed_shapes, onlooker}
+use Rattle.sx_machine.proofs.Devices.{heads}
 
 -- A node's windows are the application's devices, in place and kind.
 
@@ -201,7 +202,7 @@ module _ (set : Setting) (w : World) (mo : Model) (n : ℕ) (s : State) (boot : 
 
   -- the window of the node at the same place
   same_window : (k : ℕ) (a : List Window) (x : Window) → shapes a ≡ shapes s.devices → slice_get a k ≡ Some x → (y : Window) × (slice_get s.devices k ≡ Some y) × (y.at ≡ x.at)
-  same_window k a x sh e = let v = Rattle.sx_run.proofs.steps.Entry.window_same a s.devices k x sh e in (v.0, v.1, v.2)
+  same_window k a x sh e = let v = Rattle.sx_machine.proofs.Devices.window_same a s.devices k x sh e in (v.0, v.1, v.2)
 
   -- reads and writes of such code at devices are drains and raw writes, and allowed
   pub touches_fare : (ts : List Touch) (a b : List Window) (rs : List Reading) → shapes a ≡ shapes s.devices → length rs ≡ length set.app.devices → Replays s.sections.live own ts a b → Apart set.app n a → DevicesTied set.app n a rs
@@ -220,7 +221,7 @@ module _ (set : Setting) (w : World) (mo : Model) (n : ℕ) (s : State) (boot : 
       let value : (record { value = r.0.value; fresh = false }) ≡ (record { value = v; fresh = false }) = ap (λ z. record { value = z; fresh = false }) (was.value ∙ h.4) in
       let go : after_drain set.app (with_devices rs) num ≡ Some (with_devices rs2) = drain_step rs num d.device r.0 d.there (kind_sensor k h.0 d h.2) r.1 (was.fresh ∙ h.3) undr ∙ ap (λ z. Some (with_devices (slice_set rs num z))) value in
       subst (λ o. Fares (Rattle.sx_run.proofs.tie.Verdicts.judge_on o (λ z. judge set.app z (touch_items set.app n None ts))) (λ mo2. mo2 ≡ with_devices (readings_all set.app n (marks_of_touches ts) rs2))) (sym go)
-      (touches_fare ts (cleared a k) b rs2 (Rattle.sx_run.proofs.steps.Bystanders.cleared_shapes a k ∙ sh) (length_set rs num (record { value = v; fresh = false }) ∙ long) h.6
+      (touches_fare ts (cleared a k) b rs2 (Rattle.sx_machine.proofs.Devices.cleared_shapes a k ∙ sh) (length_set rs num (record { value = v; fresh = false }) ∙ long) h.6
       (Rattle.sx_run.proofs.steps.Bystanders.set_apart set.app n k a h.0 h.1 apart) (Rattle.sx_run.proofs.steps.Bystanders.tied_read set.app n k v a rs h.0 h.1 h.4 apart tied))
   touches_fare (touch.DeviceWrite k v ∷ ts) a b rs sh long h apart tied =
       let num = device_number set.app n k in

@@ -21,9 +21,10 @@ use Rattle.sx_run.specs.Ledger.{Made, is_made}
 use Rattle.sx_run.specs.State.{World}
 use Rattle.sx_run.specs.Acts.{with_node}
 use Rattle.sx_run.specs.Law.{IsSoundSetting}
-use Rattle.sx_run.proofs.tie.Lists.{get_same, get_other, get_some, get_within, length_set, some_inj}
+use Rattle.sx_run.proofs.tie.Lists.{get_other, get_some, get_within, length_set, some_inj}
 use Rattle.sx_run.proofs.tie.Verdicts.{Verdict, Broken, Over, Going, judge, Fares, fares_then, fares_map}
 use Rattle.sx_run.proofs.tie.Tied.{KnownKey, KnownVouch, Known, DeployerTied, IsTimely, HasSent, IsSane, HasSize, NodeTied, DeviceTied, ModuleTied, Absent, Rests, Runs, Tied, shapes}
+use Rattle.sx_lists.proofs.Lists.{get_same}
 
 -- what is owed where a node goes from s to s2 and the source from mo to mo2
 pub record NodeGoes (set : Setting) (w : World) (n : ℕ) (mo : Model) (s2 : State) (ledger : List Made) (mo2 : Model) : Type 0 where

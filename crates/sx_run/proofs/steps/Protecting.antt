@@ -37,7 +37,7 @@ use Rattle.sx_run.specs.State.{World}
 use Rattle.sx_run.specs.Observation.{Observed, observed, event_seen, touch_items}
 use Rattle.sx_run.specs.Acts.{with_node}
 use Rattle.sx_run.specs.Law.{IsSoundSetting, IsDeployedModule}
-use Rattle.sx_run.proofs.tie.Lists.{get_same, get_other, get_some, get_within, length_set, some_inj}
+use Rattle.sx_run.proofs.tie.Lists.{get_other, get_some, get_within, length_set, some_inj}
 use Rattle.sx_run.proofs.tie.Verdicts.{Going, judge_on, judge, Fares, fares_then, fares_map}
 use Rattle.sx_run.proofs.tie.Tied.{SameEnds, SameState, Known, open_at, IsTimely, HasSent, IsSane, NodeTied, IsModule, ModuleTied, Absent, Rests, Runs, Tied}
 use Rattle.sx_run.proofs.steps.Entry.{AtSite, at_site}
@@ -46,6 +46,8 @@ use Rattle.sx_run.proofs.steps.Machine.{MachineLaws, onward, Sectioned, Stay, Fe
 use Rattle.sx_run.proofs.steps.Bystanders.{onlooker, apart_self, cur_of}
 use Rattle.sx_run.proofs.steps.Steps.{position_is, nonzero, bounds_of, ForeignSteps}
 use Rattle.sx_run.proofs.steps.Foreign.{strangers, without_lives, append_lives, touches_n, goes_n, unprotected, boot_n, node_n, touched}
+use Rattle.sx_lists.proofs.Lists.{get_same}
+use Rattle.sx_machine.proofs.Meanings.{end_lives}
 
 position_none : {X : Type 0} → (test : X → Bool) (i : ℕ) (xs : List X) (k : ℕ) (x : X) → position_from test i xs ≡ None → slice_get xs k ≡ Some x → test x ≡ false
 position_none test i [] k x n e = absurd cc
@@ -60,10 +62,6 @@ position_none test i (y ∷ xs) k x n e = elim (cases_Bool (test y)) [
     by_place : (k : ℕ) → slice_get (y ∷ xs) k ≡ Some x → ((j : ℕ) → slice_get xs j ≡ Some x → test x ≡ false) → test y ≡ false → test x ≡ false
     by_place zero e f h = subst (λ z. test z ≡ false) (some_inj y x e) h
     by_place (suc j) e f h = f j e
-
-pub end_lives : (live : List Section) (new : Section) → Lives (live ++ new ∷ []) new
-end_lives [] new = inl refl
-end_lives (x ∷ live) new = inr (end_lives live new)
 
 -- a module that was just protected has its first cells, and no open end
 first_ends : (es : List End) (sent : List (List ℕ)) → SameEnds es (initial_ends es) (map (λ e. record { epoch = None; next = 0 }) es) sent

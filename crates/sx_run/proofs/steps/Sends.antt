@@ -23,12 +23,13 @@ use Rattle.sx_model.specs.Reaction.{Flow, MOST_SENT, field_at, field_of, sent_ov
 use Rattle.sx_run.specs.Setting.{device_number}
 use Rattle.sx_run.specs.Wire.{last_in, value_in}
 use Rattle.sx_run.specs.Observation.{sender_of}
-use Rattle.sx_run.proofs.tie.Lists.{get_same, get_other, get_end, get_before}
+use Rattle.sx_run.proofs.tie.Lists.{get_other, get_end, get_before}
 use Rattle.sx_run.proofs.tie.Ends.{has_link, EndOf, epoch_open, epoch_closed}
 use Rattle.sx_run.proofs.tie.Flows.{Flows, flows_on, flows_to, flows_all, AllSending}
 use Rattle.sx_run.proofs.tie.Unique.{Distinct, distinct}
 use Rattle.sx_run.proofs.tie.Frames.{ends_frame}
 use Rattle.sx_run.proofs.tie.Tied.{HasLength, Counts, SameEnd, SameEnds, WasSent, Settles, HasEnd}
+use Rattle.sx_lists.proofs.Lists.{get_same}
 
 -- an end and what the source knows of it, at one place
 abbrev pub PlaceAt : List End → List EndView → ℕ → End → EndView → Type 0

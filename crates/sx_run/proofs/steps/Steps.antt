@@ -39,7 +39,7 @@ use Rattle.sx_run.specs.State.{World}
 use Rattle.sx_run.specs.Observation.{Observed, observed}
 use Rattle.sx_run.specs.Acts.{with_node, after_step}
 use Rattle.sx_run.specs.Law.{IsSoundSetting, IsDeployedModule}
-use Rattle.sx_run.proofs.tie.Lists.{get_same, get_other, get_some, get_within, length_set, some_inj}
+use Rattle.sx_run.proofs.tie.Lists.{get_other, get_some, get_within, length_set, some_inj}
 use Rattle.sx_run.proofs.tie.Verdicts.{judge, Fares, fares_map}
 use Rattle.sx_run.proofs.tie.Tied.{SameState, OwnSensor, Known, IsSane, NodeTied, IsModule, IsUnderWay, ModuleTied, Absent, Rests, Runs, Tied, shapes}
 use Rattle.sx_run.proofs.tie.Moves.{IsOwn}
@@ -55,6 +55,8 @@ use Rattle.sx_run.proofs.steps.Nodes.{NodeGoes, tied_node, device_here, reset_is
 use Rattle.sx_machine.specs.Touches.{Replays}
 use Rattle.sx_run.proofs.steps.Machine.{MachineLaws, violates, Onward, onward}
 use Rattle.sx_run.proofs.steps.Bystanders.{bystander, at_site_same, one_section, DevicesTied, Apart, replayed, replayed_shapes}
+use Rattle.sx_lists.proofs.Lists.{get_same}
+use Rattle.sx_machine.proofs.Stays.{found_lives}
 
 -- what a module drives is its own, as its source says
 abbrev pub DriversFit : Setting → Type 0
@@ -338,15 +340,6 @@ position_is test i (x ∷ xs) j e = elim (cases_Bool (test x)) [
   | inr h ↦
       let p = position_is test (i + 1) xs j (sym (ap (λ b. Rattle.std.proofs.Common.cond b (Some i) (Rattle.std.specs.List.position_from test (i + 1) xs)) h) ∙ e) in
       (suc p.0, p.1, p.2 ∙ omega arith, p.3, p.4)
-]
-
-pub found_lives : (live : List Section) (id : ℕ) (sec : Section) → section_of live id ≡ Some sec → Lives live sec × (sec.id ≡ id)
-found_lives [] id sec e = absurd cc
-found_lives (x ∷ live) id sec e = elim (cases_Bool (x.id == id)) [
-  | inl h ↦
-      let same : x ≡ sec = some_inj x sec (sym (ap (λ b. Rattle.std.proofs.Common.cond b (Some x) (section_of live id)) h) ∙ e) in
-      (inl same, ap (λ (z : Section). z.id) (sym same) ∙ eqb-true x.id id h)
-  | inr h ↦ let p = found_lives live id sec (sym (ap (λ b. Rattle.std.proofs.Common.cond b (Some x) (section_of live id)) h) ∙ e) in (inr p.0, p.1)
 ]
 
 pub record Runner (set : Setting) (n m : ℕ) (s : State) : Type 0 where

@@ -32,6 +32,7 @@ use Rattle.sx_run.specs.Observation.{side_in}
 use Rattle.sx_run.proofs.tie.Ends.{renumbered, takes_at, found_at}
 use Rattle.sx_run.proofs.tie.Tied.{SameEnds, Settles, idle_with, Reacts, OwnSensor, Begun, Refuses, Breaks, Opens, Vouches, Takes, Samples, shapes}
 use Rattle.sx_run.proofs.steps.Sends.{Emits, event_owed}
+use Rattle.sx_machine.proofs.Devices.{cleared_shapes}
 
 -- Packets as they are read.
 
@@ -91,11 +92,6 @@ high_field c d h = omega arith
 
 tail_same : (mark : Mark) (xs ys all : List Mark) → all ≡ mark ∷ xs → all ≡ mark ∷ ys → xs ≡ ys
 tail_same mark xs ys all a b = cc
-
-cleared_shapes : (ds : List Window) (k : ℕ) → shapes (cleared ds k) ≡ shapes ds
-cleared_shapes [] k = refl
-cleared_shapes (w ∷ ds) zero = refl
-cleared_shapes (w ∷ ds) (suc k) = ap (λ r. (w.at, w.kind) ∷ r) (cleared_shapes ds k)
 
 kind_parts : (kind a b : ℕ) (rest : List ℕ) → is_kind kind (a ∷ b ∷ rest) ≡ true → (a ≡ kind) × (b ≡ 0)
 kind_parts kind a b rest h = let p = and_parts (a == kind) (b == 0) h in (eqb-true a kind p.0, eqb-true b 0 p.1)

@@ -30,7 +30,7 @@ use Rattle.sx_model.specs.Step.{is_vouched}
 use Rattle.sx_run.specs.Setting.{Site, Setting}
 use Rattle.sx_run.specs.Ledger.{Made, is_made}
 use Rattle.sx_run.specs.Observation.{Observed, observed}
-use Rattle.sx_run.proofs.tie.Lists.{get_same, some_inj}
+use Rattle.sx_run.proofs.tie.Lists.{some_inj}
 use Rattle.sx_run.proofs.tie.Flows.{Flows, flows_same, flows_on}
 use Rattle.sx_run.proofs.tie.Verdicts.{judge, Fares, fares_then, fares_map}
 use Rattle.sx_run.proofs.tie.Tied.{open_at, AtLeast, Owes, Known, IsSane, IsUnderWay, SameState}
@@ -38,6 +38,7 @@ use Rattle.sx_run.proofs.tie.Moves.{IsOwn, Moved, known_moved, sane_moved}
 use Rattle.sx_run.proofs.steps.Judged.{Readings, Finished, done_owes}
 use Rattle.sx_run.proofs.steps.Events.{left_outside, not_left}
 use Rattle.sx_run.proofs.steps.Stretch.{set_set, readings_all, marks_seen, Moves, HasMarks, Nexts, marks_fares, IsPlain, done_items, seen_as_marks}
+use Rattle.sx_lists.proofs.Lists.{get_same}
 
 -- an instruction that leaves the table of sections is neither protect nor unprotect
 abbrev pub PlainEvents : Mac → Type 0

@@ -10,7 +10,8 @@ use Rattle.sx_mean.specs.declared.events.Act.{Act}
 use Rattle.sx_mean.specs.declared.events.Act.TheVariants.{Send, Emit}
 use Rattle.sx_model.specs.State.{EndView}
 use Rattle.sx_model.specs.Reaction.{Flow, MOST_SENT, field_of, sent_over, is_from, sends, sent_to, done, all_done}
-use Rattle.sx_run.proofs.tie.Lists.{get_same, get_other, length_set, some_inj}
+use Rattle.sx_run.proofs.tie.Lists.{get_other, length_set, some_inj}
+use Rattle.sx_lists.proofs.Lists.{get_same}
 
 -- so it is of the connection field of each open sending end
 abbrev pub AllSending : (ℕ → Type 0) → List End → List EndView → Type 0

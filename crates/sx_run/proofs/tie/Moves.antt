@@ -13,9 +13,10 @@ use Rattle.sx_model.specs.State.{Reading, Standing, Model}
 use Rattle.sx_model.specs.Step.{is_vouched}
 use Rattle.sx_run.specs.Setting.{device_number}
 use Rattle.sx_run.specs.Ledger.{Made}
-use Rattle.sx_run.proofs.tie.Lists.{get_same, get_other, get_before, some_inj}
+use Rattle.sx_run.proofs.tie.Lists.{get_other, get_before, some_inj}
 use Rattle.sx_run.proofs.tie.Flows.{Flows}
 use Rattle.sx_run.proofs.tie.Tied.{WasSent, Known, IsTimely, HasSent, IsSane}
+use Rattle.sx_lists.proofs.Lists.{get_same}
 
 -- the readings after a mark
 abbrev pub readings_after : AppTree → ℕ → Mark → List Reading → List Reading

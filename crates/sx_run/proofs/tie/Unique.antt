@@ -14,6 +14,7 @@ use Rattle.sx_model.specs.Step.{same_side}
 use Rattle.sx_run.proofs.tie.Tied.{HasEnd, open_at}
 use Rattle.sx_run.proofs.tie.Ends.{has_link}
 use Rattle.sx_run.proofs.tie.Flows.{AllSending}
+use Rattle.sx_model.proofs.EndViews.{same_side-true}
 
 -- no end of the list is of this connection and side
 abbrev pub NotIn : End → List End → Type 0
@@ -51,12 +52,6 @@ distinct n m (l ∷ ls) =
 same_side-refl : (s : Side) → same_side s s ≡ true
 same_side-refl From = refl
 same_side-refl To = refl
-
-same_side-true : (a b : Side) → same_side a b ≡ true → a ≡ b
-same_side-true From From e = refl
-same_side-true From To e = absurd (true≢false (sym e))
-same_side-true To From e = absurd (true≢false (sym e))
-same_side-true To To e = refl
 
 pub eq_refl : (n : ℕ) → (n == n) ≡ true
 eq_refl n = grind arith

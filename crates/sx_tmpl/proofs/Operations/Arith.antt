@@ -5,7 +5,7 @@ use Rattle.sx_isa.specs.declared.instruction.Op2.TheVariants as op2
 use Rattle.sx_alu.specs.Status.{flags_of}
 use Rattle.sx_lang.specs.declared.tree.BinOp.TheVariants as binary
 use Rattle.sx_lang.specs.declared.tree.UnOp.TheVariants as unary
-use Rattle.sx_mean.specs.Meaning.{combine, apply, truth}
+use Rattle.sx_mean.specs.Meaning.{combine, apply}
 use Rattle.sx_isa.specs.declared.instruction.Instr.TheVariants.{Two}
 use Rattle.sx_rules.specs.declared.access.Violation.{Violation}
 use Rattle.sx_machine.specs.declared.kinds.Event.TheVariants as event
@@ -24,6 +24,7 @@ use Rattle.sx_tmpl.proofs.Running.Words as w
 use Rattle.sx_tmpl.proofs.Running.Holding.{stack_word, holds_pop, holds_replace, cell_below}
 use Rattle.std.specs.Int.Bits.{and_lt, or_lt, xor_lt}
 use Rattle.sx_tmpl.proofs.Operations.Branch.{compare_end}
+use Rattle.sx_lists.specs.Truth.{truth}
 
 module _ (f : Fixed) (st : Stands f) (all : List Mark) (B : Watched → Violation → Type 0) (at : ℕ → ℕ) where
   abbrev L : ℕ → List ℕ → ℕ → Conf → Conf → Type 0

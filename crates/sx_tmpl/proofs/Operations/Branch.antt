@@ -4,7 +4,7 @@ use Rattle.sx_isa.specs.declared.instruction.Operand.TheVariants.{Reg, Indexed, 
 use Rattle.sx_isa.specs.declared.instruction.Op2.TheVariants as op2
 use Rattle.sx_alu.specs.Status.{flags_of}
 use Rattle.sx_lang.specs.declared.tree.BinOp.TheVariants as binary
-use Rattle.sx_mean.specs.Meaning.{combine, truth}
+use Rattle.sx_mean.specs.Meaning.{combine}
 use Rattle.sx_isa.specs.declared.instruction.Instr.TheVariants.{Two, Jump}
 use Rattle.sx_rules.specs.declared.access.Violation.{Violation}
 use Rattle.sx_machine.specs.declared.kinds.Event.TheVariants as event
@@ -23,6 +23,7 @@ use Rattle.std.proofs.lemmas.Bool.{cases_lt, cases_eq, lt-ltb, le-ltb, eq-eqb, n
 use Rattle.sx_tmpl.proofs.Operations.Plain.{inside, Leads, stood}
 use Rattle.sx_tmpl.proofs.Running.Words as w
 use Rattle.sx_tmpl.proofs.Running.Holding.{stack_word, holds_pop, holds_replace, cell_below}
+use Rattle.sx_lists.specs.Truth.{truth}
 
 module _ (f : Fixed) (st : Stands f) (all : List Mark) (B : Watched → Violation → Type 0) (at : ℕ → ℕ) where
   abbrev L : ℕ → List ℕ → ℕ → Conf → Conf → Type 0

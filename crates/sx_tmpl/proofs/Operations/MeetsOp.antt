@@ -2,7 +2,6 @@
 use Rattle.std.proofs.Common.{◌≡◌, ℕ, suc, ◌+◌, ◌-◌, ◌%◌, ◌<◌, ◌≤◌, inl, inr, Bool, true, false, ◌&&◌, nat_lt, nat_lt, List, [], ◌∷◌, length, refl, sym, subst, arith}
 use Rattle.sx_isa.specs.declared.instruction.Operand.TheVariants.{Reg, Absolute, Immediate, Const}
 use Rattle.sx_isa.specs.declared.instruction.Op2.TheVariants as op2
-use Rattle.sx_mean.specs.Meaning.{truth}
 use Rattle.sx_isa.specs.declared.instruction.Op1.TheVariants as op1
 use Rattle.sx_isa.specs.declared.instruction.Instr.TheVariants.{Two, One, Jump}
 use Rattle.sx_rules.specs.declared.access.Violation.{Violation}
@@ -28,6 +27,7 @@ use Rattle.std.proofs.lemmas.Bool.{cases_lt, lt-ltb, le-ltb, and_right}
 use Rattle.sx_tmpl.proofs.Operations.Plain.{inside, Leads, stood}
 use Rattle.sx_tmpl.proofs.Running.Words as w
 use Rattle.sx_tmpl.proofs.Running.Holding.{stack_word, data_word, holds_push, holds_word, cell_below}
+use Rattle.sx_lists.specs.Truth.{truth}
 
 abbrev pub meets_words : Fixed → ℕ → ℕ → List ℕ
 meets_words f r n =

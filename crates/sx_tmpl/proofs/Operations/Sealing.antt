@@ -1,6 +1,6 @@
 -- Wrap and unwrap as one step each: buffers in the private section are never refused.
-use Rattle.std.proofs.Common.{◌≡◌, ℕ, zero, suc, ◌+◌, ◌-◌, ◌*◌, ◌%◌, ◌<◌, ◌≤◌, inl, inr, true, false, not, ◌&&◌, ◌==◌, nat_le, nat_lt, List, [], ◌∷◌, ◌++◌}
-use Rattle.std.proofs.Common.{length, take, Option, Some, None, refl, sym, ◌∙◌, ap, subst, arith, cond, slice_index}
+use Rattle.std.proofs.Common.{◌≡◌, ℕ, suc, ◌+◌, ◌-◌, ◌*◌, ◌%◌, ◌<◌, ◌≤◌, inl, inr, true, false, not, ◌&&◌, ◌==◌, nat_le, nat_lt, List, [], ◌∷◌, ◌++◌}
+use Rattle.std.proofs.Common.{length, take, Option, Some, None, refl, sym, ◌∙◌, ap, subst, arith, cond}
 use Rattle.std.specs.Prelude.{slice_get}
 use Rattle.std.specs.List.{list_any, position_from}
 use Rattle.std.proofs.lemmas.Bool.{and_from, eq-eqb, ne_eqb, le-leb, le-ltb, lt-ltb, ltb-true, and_parts, cases_Bool, cases_lt, true≢false}
@@ -11,7 +11,6 @@ use Rattle.sx_bus.specs.declared.devices.Window.{Window}
 use Rattle.sx_bus.specs.Devices.{device_at, on_word, places_of}
 use Rattle.sx_rules.specs.declared.access.Violation.{Violation}
 use Rattle.sx_rules.specs.Access.{holder}
-use Rattle.std.proofs.Common.{length-append}
 use Rattle.std.proofs.Math.Seq.{take-append_seam}
 use Rattle.std.proofs.lemmas.List.{length-take}
 use Rattle.sx_tag.specs.Mac.{Mac}
@@ -38,6 +37,7 @@ use Rattle.sx_tmpl.proofs.Running.Owned.{own_found, run_holder, in_private_yes}
 use Rattle.sx_tmpl.proofs.Running.Owes.{Owes, Met, owes_met}
 use Rattle.sx_tmpl.proofs.Running.Mem.{word_is}
 use Rattle.sx_tmpl.proofs.Running.Steps.{Text, InText, text_word, tests_passed, by_outcome}
+use Rattle.sx_machine.proofs.Lengths.{length-bytes_from}
 
 -- no device's word meets bytes that lie on none
 none_meets : (devices : List Window) (at n i : ℕ) → ((b : ℕ) → at ≤ b → b < at + n → position_from (on_word b) i devices ≡ None)
@@ -188,11 +188,6 @@ module _ (f : Fixed) (st : Stands f) where
         body : List ℕ → Plan
         body key = Bytes r.r10 r.r11 (λ ad. Bytes r.r12 r.r13 (λ text. rest key ad text))
 
-length_bytes : (m : List ℕ) (a n : ℕ) → length (bytes_from m a n) ≡ n
-unfolding bytes_from
-length_bytes m a zero = refl
-length_bytes m a (suc n) = length-append (bytes_from m a n) (slice_index m (a + n) ∷ []) ∙ (let h = length_bytes m a n in omega arith)
-
 xor_short : (bs ks : List ℕ) → length (xor_bytes bs ks) ≤ length bs
 xor_short [] ks = omega arith
 xor_short (b ∷ bs) [] = omega arith
@@ -256,7 +251,7 @@ module _ (f : Fixed) (st : Stands f) (all : List Mark) (B : Watched → Violatio
       let body = bytes_from d.mem r.r12 r.r13 in
       let w = sealed r d key in
       let found : own_section g ≡ Some f.setup.section = own_found f st in
-      let lc : length w.cipher ≤ r.r13 = let c = crypt_short f.setup.mac key ad body in let l = length_bytes d.mem r.r12 r.r13 in omega arith in
+      let lc : length w.cipher ≤ r.r13 = let c = crypt_short f.setup.mac key ad body in let l = length-bytes_from d.mem r.r12 r.r13 in omega arith in
       let lt = tag_short f.setup.mac key ad w.cipher in
       let next = next_pc t k r fits pc in
       let r2 = record r { pc = P + 2 * (k + 1); r15 = 1 } in

@@ -13,6 +13,7 @@ use Rattle.sx_rules.proofs.Placing.{placed_found, placed_beside, placed_holds}
 use Rattle.sx_machine.proofs.PlanGuard.{passes}
 use Rattle.sx_tmpl.specs.Running.{sections_of, Fixed}
 use Rattle.sx_tmpl.proofs.Running.MidRun.{Stands, PrivateByte, refused}
+use Rattle.sx_machine.proofs.Frame.{out_of}
 
 -- what each live section passes, all pass
 all_of : (test : Section → Bool) (live : List Section) → ((u : Section) → Lives live u → test u ≡ true) → list_all test live ≡ true
@@ -24,14 +25,6 @@ same_or_beside t s u p ls lu =
     elim (cases_eq s.id u.id) [
       | inl e ↦ inl (same_Some s u (sym (placed_found t s p ls) ∙ ap (section_of t.live) e ∙ placed_found t u p lu))
       | inr ne ↦ inr (placed_beside t s u p ls lu ne)
-    ]
-
--- a place in the first of two ranges that are apart isn't in the second
-out_of : (from to start end a : ℕ) → apart from to start end ≡ true → from ≤ a → a < to → (nat_le start a && nat_lt a end) ≡ false
-out_of from to start end a h p q =
-    elim (or_cases (nat_le to start) (nat_le end from) h) [
-      | inl e ↦ let le : to ≤ start = leb-true to start e in and_left _ _ (lt-leb start a (omega arith))
-      | inr e ↦ let le : end ≤ from = leb-true end from e in and_right (nat_le start a) _ (le-ltb a end (omega arith))
     ]
 
 out_of_first : (from to start end a : ℕ) → apart from to start end ≡ true → start ≤ a → a < end → (nat_le from a && nat_lt a to) ≡ false

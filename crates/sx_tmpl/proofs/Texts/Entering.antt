@@ -7,7 +7,6 @@ use Rattle.std.proofs.Math.Nat.{min-le_left, min-le_right}
 use Rattle.std.proofs.lemmas.Bool.{true≢false, lt-ltb, le-leb, leb-true, ltb-true, cases_lt, cases_Bool, and_from, and_parts, or_cases, or_left}
 use Rattle.std.proofs.lemmas.List.{get_or_append_left}
 use Rattle.std.proofs.Math.Seq.{get_or-append_seam}
-use Rattle.std.proofs.Common.{length-append}
 use Rattle.sx_lang.specs.declared.tree.DeviceKind.{DeviceKind}
 use Rattle.sx_lang.specs.declared.tree.DeviceKind.TheVariants.{Sensor, Actuator}
 use Rattle.sx_rules.specs.declared.access.Access.TheVariants.{Write}
@@ -44,6 +43,7 @@ use Rattle.sx_tmpl.specs.Template.{entry_words}
 use Rattle.sx_tmpl.proofs.Running.Steps.{Text}
 use Rattle.sx_tmpl.proofs.Running.Owned.{run_holder, public_bounds, private_bounds}
 use Rattle.sx_tmpl.proofs.Operations.Entry.{entering, entry_run}
+use Rattle.sx_machine.proofs.Lengths.{length-bytes_from}
 
 -- Lists by their places.
 
@@ -58,11 +58,6 @@ gets_past x l k (suc n) = ap (λ (r : List ℕ). slice_index l k ∷ r) (gets_pa
 pub from_gets : (l : List ℕ) → l ≡ gets l 0 (length l)
 from_gets [] = refl
 from_gets (x ∷ l) = ap (λ (r : List ℕ). x ∷ r) (from_gets l ∙ sym (gets_past x l 0 (length l)))
-
-pub length-bytes_from : (m : List ℕ) (a n : ℕ) → length (bytes_from m a n) ≡ n
-unfolding bytes_from
-length-bytes_from m a zero = refl
-length-bytes_from m a (suc n) = let x = length-append (bytes_from m a n) (slice_index m (a + n) ∷ []) in let y = length-bytes_from m a n in omega (arith, x, y)
 
 pub bytes_from_get : (m : List ℕ) (a n i : ℕ) → i < n → slice_index (bytes_from m a n) i ≡ slice_index m (a + i)
 unfolding bytes_from

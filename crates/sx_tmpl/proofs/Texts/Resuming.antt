@@ -29,7 +29,8 @@ use Rattle.sx_mean.specs.Offsets.{stack_to}
 use Rattle.sx_ir.specs.Conf.{Conf}
 use Rattle.sx_image.specs.Realizes.{KeepsOutside}
 use Rattle.sx_tmpl.specs.Running.{cell, running}
-use Rattle.sx_tmpl.proofs.Texts.Entering.{bytes_from_get, free_of_devices, from_gets, gets, length-bytes_from, outside_window, private_free, regs_at, data_at, window_short}
+use Rattle.sx_tmpl.proofs.Texts.Entering.{bytes_from_get, free_of_devices, from_gets, gets, outside_window, private_free, regs_at, data_at, window_short}
+use Rattle.sx_machine.proofs.Lengths.{length-bytes_from}
 
 -- the run from this node on, whose pieces go to this out-window and whose marks are these
 abbrev pub fixed_from : Setup → State → ℕ → List Mark → Fixed

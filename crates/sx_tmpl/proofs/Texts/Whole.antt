@@ -47,7 +47,6 @@ use Rattle.sx_tmpl.proofs.Operations.DeviceOps.{emit_leads, sense_fresh, sense_s
 use Rattle.sx_tmpl.proofs.Operations.InsideOp.{inside_ends}
 use Rattle.sx_tmpl.proofs.Operations.SetEndOp.{set_end_leads}
 use Rattle.sx_tmpl.proofs.Operations.MeetsOp.{meets_leads}
-use Rattle.sx_mean.specs.Meaning.{truth}
 use Rattle.sx_invoke.specs.Windows.{is_bad_window}
 use Rattle.sx_tmpl.proofs.Operations.SealOps.{SealsAt, seal_leads, open_leads}
 use Rattle.sx_tmpl.proofs.Operations.CopyOps.{Ending, Goes_to, Breaks_off, No_meaning, copy_in_ends, copy_out_ends}
@@ -58,6 +57,7 @@ use Rattle.sx_tag.specs.Wrap.{unwrapped}
 use Rattle.sx_machine.specs.Memory.{bytes_from, put_bytes}
 use Rattle.sx_ir.specs.Meaning.{key_at, opened, sense, sensor_read, copy_in, copy_out}
 use Rattle.sx_tmpl.proofs.Operations.Parts.{handler_leads, stop_leads}
+use Rattle.sx_lists.specs.Truth.{truth}
 
 -- an address where code goes on
 abbrev pub IsTarget : Fixed → ℕ → Type 0

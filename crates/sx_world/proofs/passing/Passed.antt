@@ -22,12 +22,13 @@ use Rattle.sx_world.specs.Held.{Running, Records, Observes, ObservesFront, Wante
 use Rattle.sx_run.specs.Accepted.{setting}
 use Rattle.sx_run.specs.Run.{is_reset}
 use Rattle.sx_world.specs.Passing.{after_steps, AreQuiet, EndsWith, stepped, taken}
-use Rattle.sx_run.proofs.tie.Lists.{get_same, get_some, some_inj, length_set}
+use Rattle.sx_run.proofs.tie.Lists.{get_some, some_inj, length_set}
 use Rattle.sx_run.proofs.steps.Stretch.{set_same, set_set}
 use Rattle.sx_world.proofs.passing.Going.{Going, Steps, next, going_on, is_last, or_first}
 use Rattle.sx_run.proofs.acts.Bounds.{no_reset}
 use Rattle.sx_world.proofs.passing.Stepped.{step_does, program_did, program_wanted, seen_behind}
 use Rattle.sx_world.proofs.doing.Doing.{with_nodes}
+use Rattle.sx_lists.proofs.Lists.{get_same}
 
 -- what a step shows that shows nothing
 abbrev nothing : Seen

@@ -24,9 +24,9 @@ use Rattle.sx_world.specs.Computed.{runner_of}
 use Rattle.sx_world.specs.Held.{Running, Records, AddsFront, Observes, ObservesFront, Shows, Did, Wanted}
 use Rattle.sx_run.specs.Accepted.{setting}
 use Rattle.sx_world.proofs.doing.Doing.{with_nodes, node_shown}
-use Rattle.sx_run.proofs.tie.Lists.{get_same}
 use Rattle.sx_world.proofs.passing.Going.{next}
 use Rattle.sx_world.proofs.showing.Runners.{observed_behind}
+use Rattle.sx_lists.proofs.Lists.{get_same}
 
 -- what is seen of a step, by whose code the node after it tells
 abbrev pub seen_behind : Setting → ℕ → State → List Made → Observed

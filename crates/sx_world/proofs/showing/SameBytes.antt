@@ -1,5 +1,5 @@
 -- Whether a memory holds the bytes of a text from an address on.
-use Rattle.std.proofs.Common.{◌≡◌, ℕ, zero, suc, ◌+◌, ◌<◌, ◌==◌, inl, inr, true, false, List, [], ◌∷◌, ◌++◌, length, take, refl, sym, subst, ap, ◌∙◌, arith, length-append}
+use Rattle.std.proofs.Common.{◌≡◌, ℕ, zero, suc, ◌+◌, ◌<◌, ◌==◌, inl, inr, true, false, List, [], ◌∷◌, ◌++◌, length, take, sym, subst, ap, ◌∙◌, arith}
 use Rattle.std.specs.Prelude.{slice_index, bytes_eq}
 use Rattle.std.proofs.Math.Seq.{take-length, get_or-append_seam}
 use Rattle.std.proofs.lemmas.List.{get_or_append_left}
@@ -7,17 +7,13 @@ use Rattle.std.proofs.lemmas.Bool.{cases_Bool, cases_lt}
 use Rattle.std.proofs.lemmas.Bool.Decides.{nat_tests}
 use Rattle.std.proofs.lemmas.Slice.Eq.{bytes_eq-Decides}
 use Rattle.sx_machine.specs.Memory.{bytes_from}
-
-length_bytes : (m : List ℕ) (a n : ℕ) → length (bytes_from m a n) ≡ n
-unfolding bytes_from
-length_bytes m a zero = refl
-length_bytes m a (suc n) = let x = length-append (bytes_from m a n) (slice_index m (a + n) ∷ []) in let y = length_bytes m a n in omega (arith, x, y)
+use Rattle.sx_machine.proofs.Lengths.{length-bytes_from}
 
 byte_at : (m : List ℕ) (a n i : ℕ) → i < n → slice_index (bytes_from m a n) i ≡ slice_index m (a + i)
 unfolding bytes_from
 byte_at m a zero i lt = absurd (omega (arith, lt))
 byte_at m a (suc n) i lt =
-    let len = length_bytes m a n in
+    let len = length-bytes_from m a n in
     elim (cases_lt i n) [
       | inl p ↦ get_or_append_left (bytes_from m a n) (slice_index m (a + n) ∷ []) 0 i (omega (arith, len, p)) ∙ byte_at m a n i p
       | inr p ↦
@@ -35,7 +31,7 @@ differ m a text i lt h = elim (cases_Bool (bytes_eq (bytes_from m a (length text
 -- the lengths differ
 pub not_as_long : (m : List ℕ) (a n : ℕ) (text : List ℕ) → (n ≡ length text → ⊥) → false ≡ bytes_eq (bytes_from m a n) text
 not_as_long m a n text h = elim (cases_Bool (bytes_eq (bytes_from m a n) text)) [
-  | inl t ↦ absurd (h (sym (length_bytes m a n) ∙ ap length ((bytes_eq-Decides (bytes_from m a n) text).0 t)))
+  | inl t ↦ absurd (h (sym (length-bytes_from m a n) ∙ ap length ((bytes_eq-Decides (bytes_from m a n) text).0 t)))
   | inr f ↦ sym f
 ]
 

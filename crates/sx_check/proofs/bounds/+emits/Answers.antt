@@ -1,8 +1,8 @@
 use Rattle.std.proofs.Common.{arith, ap}
 use Rattle.std.proofs.lemmas.Grind.{common_steps}
 use Rattle.sx_check.specs.Bounds.{statement_emits}
-use Rattle.sx_check.proofs.Seen.{if_seen, repeat_seen}
 use Rattle.sx_check.proofs.bounds.+emits.Goals as goal
+use Rattle.sx_lang.proofs.Rows.{if_seen, repeat_seen}
 
 pub emits_in_statement-returns-then-emits_in_block : goal.emits_in_statement-returns-then-emits_in_block
 emits_in_statement-returns-then-emits_in_block t c = grind (arith, common_steps, ap statement_emits (if_seen _ c.in-If.field-0 c.in-If.then c.in-If.otherwise c.in-If.is))

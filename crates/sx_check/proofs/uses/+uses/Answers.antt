@@ -5,8 +5,8 @@ use Rattle.sx_check.specs.Uses.{statement_uses}
 use Rattle.sx_check.proofs.Places.{loop_further}
 use Rattle.std.specs.List.{list_any}
 use Rattle.std.proofs.lemmas.List.Folds.{list_any-append}
-use Rattle.sx_check.proofs.Seen.{if_seen, repeat_seen}
 use Rattle.sx_check.proofs.uses.+uses.Goals as goal
+use Rattle.sx_lang.proofs.Rows.{if_seen, repeat_seen}
 
 pub in_statement-returns-then-in_block : goal.in_statement-returns-then-in_block
 in_statement-returns-then-in_block t c = grind (arith, common_steps, list_any-append, ap (λ s. list_any (is_flawed c.args.flaw c.args.decls.now) (statement_uses (seen_in c.args.scope.now) s)) (if_seen _ c.in-If.e c.in-If.then c.in-If.otherwise c.in-If.is))

@@ -1,8 +1,9 @@
 use Rattle.std.proofs.Common.{arith, ap}
 use Rattle.std.proofs.lemmas.Grind.{common_steps}
 use Rattle.sx_mean.specs.Application.{statement_packets, links_from}
-use Rattle.sx_mean.proofs.Turns.{if_seen, repeat_seen, turns_cut}
+use Rattle.sx_mean.proofs.Turns.{turns_cut}
 use Rattle.sx_mean.proofs.apps.+packets.Goals as goal
+use Rattle.sx_lang.proofs.Rows.{if_seen, repeat_seen}
 
 pub packets_of_statement-returns-in-If : goal.packets_of_statement-returns-in-If
 packets_of_statement-returns-in-If t c =

@@ -3,8 +3,8 @@ use Rattle.std.proofs.lemmas.Grind.{common_steps}
 use Rattle.sx_lang.specs.Tree.{Sends, Stores}
 use Rattle.sx_lang.specs.View.{expression_of}
 use Rattle.sx_print.proofs.Forms.{defined_written, assigned_written, chosen_written, repeated_written, seen_written, else_written}
-use Rattle.sx_print.proofs.Seen.{if_seen, repeat_seen}
 use Rattle.sx_print.proofs.printing.+blocks.Goals as goal
+use Rattle.sx_lang.proofs.Rows.{if_seen, repeat_seen}
 
 pub put_else-returns : goal.put_else-returns
 put_else-returns t c = else_written _ c.args.depth _ _ (grind (arith, common_steps)) c.in_ok-put.ensures c.in_ok-put-2.ensures c.in_ok-put_block.ensures c.put-4.ensures

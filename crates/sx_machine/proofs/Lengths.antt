@@ -1,0 +1,14 @@
+-- The lengths of bytes that are read and of a memory that a word was written to.
+use Rattle.std.proofs.Common.{◌≡◌, ℕ, zero, suc, ◌+◌, List, [], ◌∷◌, length, refl, ◌∙◌, arith}
+use Rattle.std.specs.Prelude.{slice_index}
+use Rattle.std.proofs.lemmas.List.{length-append, length-set}
+use Rattle.sx_machine.specs.Memory.{bytes_from, put_word}
+
+pub length-bytes_from : (m : List ℕ) (at n : ℕ) → length (bytes_from m at n) ≡ n
+unfolding bytes_from
+length-bytes_from m at zero = refl
+length-bytes_from m at (suc n) =
+    length-append (bytes_from m at n) (slice_index m (at + n) ∷ []) ∙ (let e = length-bytes_from m at n in omega (arith, e))
+
+pub length-put_word : (m : List ℕ) (at v : ℕ) → length (put_word m at v) ≡ length m
+length-put_word m at v = simp length-set
