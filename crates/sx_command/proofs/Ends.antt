@@ -19,7 +19,8 @@ came to_tell m0 m1 status o (inl six) zero = inl six
 came to_tell m0 m1 status o (inr all) zero = inr (all.0 ∙ zero, all.1)
 
 -- a status tells of faults, where no answers of an input without a read that failed give status 4
-pub faults_of : {tells to_tell : Bool} {m0 m1 : CommandAt} {status : ℕ} {F : List Answer → Output} {also : List Answer → Type 0} → ((bytes : List ℕ) → (F (scan (always longest) Ended [] bytes)).status ≡ 4 → ⊥)
+pub faults_of : {tells to_tell : Bool} {m0 m1 : CommandAt} {status : ℕ} {F : List Answer → Output} {also : List Answer → Type 0}
+    → ((bytes : List ℕ) → (F (scan (always longest) Ended [] bytes)).status ≡ 4 → ⊥)
     → Told tells to_tell (always longest) m0 m1 status F also → TellsFaults m0 m1 status
 faults_of {tells} {to_tell} {m0} {m1} {status} {F} {also} never told = record {
   read = λ four. told-fault told (λ five. omega (arith, four, five)) (λ six. omega (arith, four, six)) (λ bytes e. never bytes (sym e ∙ four));

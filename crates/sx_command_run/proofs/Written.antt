@@ -39,7 +39,8 @@ told_front names xs rest ys o e =
     ∙ append_assoc (items_text names xs) (items_text names rest) o.text)
 
 written_line : (names : NameLists) (set : Setting) (w : World) (line : Line) (rest : Schedule)
-    → schedule_output names set w (record { lines = line ∷ rest.lines; stop = rest.stop }) ≡ behind (items_text names (after_next set w line).items) (schedule_output names set (after_next set w line).world rest)
+    → schedule_output names set w (record { lines = line ∷ rest.lines; stop = rest.stop }) ≡ behind
+    (items_text names (after_next set w line).items) (schedule_output names set (after_next set w line).world rest)
 written_line names set w line rest =
     let a = after_next set w line in
     let b = run set a.world rest.lines in

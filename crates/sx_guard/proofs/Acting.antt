@@ -184,9 +184,22 @@ took_items n ps (Err why) = refused_item n why ∷ []
 abbrev take_effect : World → ℕ → State → Result (List ℕ) Refused → Effect
 take_effect w n s r = record { state = s; packets = took_packets w.packets r; ledger = w.ledger; steps = w.steps; items = took_items n w.packets r }
 
-take_is : (w : World) (ns : List State) (n : ℕ) (s : State) (r : Result (List ℕ) Refused) → slice_get ns n ≡ Some s → after_take (with_nodes w ns) n r ≡ applied (with_nodes w ns) n (take_effect w n s r)
+take_is : (w : World) (ns : List State) (n : ℕ) (s : State) (r : Result (List ℕ) Refused) → slice_get ns n ≡ Some s
+    → after_take (with_nodes w ns) n r ≡ applied (with_nodes w ns) n (take_effect w n s r)
 take_is w ns n s (Ok bytes) e =
-    ap (λ (z : List State). record { world = record { nodes = z; packets = w.packets ++ bytes ∷ []; deployer = w.deployer; ledger = w.ledger; lines = w.lines; steps = w.steps }; items = item.Packet (length w.packets) (length bytes) ∷ [] })
+    ap (λ (z : List State). record {
+      world = record {
+        nodes = z;
+        packets = w.packets ++ bytes
+            ∷ [];
+        deployer = w.deployer;
+        ledger = w.ledger;
+        lines = w.lines;
+        steps = w.steps;
+      };
+      items = item.Packet
+          (length w.packets) (length bytes) ∷ [];
+    })
     (sym (set_here ns n s e))
 take_is w ns n s (Err why) e = ap (λ (z : List State). only (with_nodes w z) (refused_item n why ∷ [])) (sym (set_here ns n s e))
 
@@ -239,7 +252,8 @@ step_kind set w n = inr (record {
   own = λ e. refl;
   alike = λ s a b p f h.
       let one = one_alike set.mac s NodeStep a b p f h in
-      seen_alike set w (w.steps + 1) n s (module_of set.sites n a (own_of a)) (module_of set.sites n b (own_of b)) (step set.mac a).state (step set.mac b).state (step set.mac a).shown (step set.mac b).shown
+      seen_alike set w (w.steps + 1) n s (module_of set.sites n a (own_of a)) (module_of set.sites n b (own_of b))
+      (step set.mac a).state (step set.mac b).state (step set.mac a).shown (step set.mac b).shown
       (runner_alike set n s a b p h) (stepped_inj (step set.mac a).shown (step set.mac b).shown one.0) (acted_placed set.mac NodeStep a p) one.1;
 })
 
@@ -252,14 +266,17 @@ irq_is : (set : Setting) (w : World) (ns : List State) (n : ℕ) (s : State) (o 
 irq_is set w ns n s None d e = refl
 irq_is set w ns n s (Some why) d e = ap (λ (z : List State). only (with_nodes w z) (refused_item n why ∷ [])) (sym (set_here ns n s e))
 
-irq_alike : (set : Setting) (w : World) (n : ℕ) (s : Section) (a b : State) (x y : Result Seen Refused) → x ≡ y → Placed a.sections → Same s a b → SameEffect s (irq_effect set w n a x) (irq_effect set w n b y)
+irq_alike : (set : Setting) (w : World) (n : ℕ) (s : Section) (a b : State) (x y : Result Seen Refused)
+    → x ≡ y → Placed a.sections → Same s a b → SameEffect s (irq_effect set w n a x) (irq_effect set w n b y)
 irq_alike set w n s a b x y e p h = subst (λ (z : Result Seen Refused). SameEffect s (irq_effect set w n a x) (irq_effect set w n b z)) e (by x)
   where
     by : (x : Result Seen Refused) → SameEffect s (irq_effect set w n a x) (irq_effect set w n b x)
     by (Ok seen) = seen_alike set w w.steps n s None None a b seen seen refl refl p h
     by (Err why) = record { state = h; packets = refl; ledger = refl; steps = refl; items = refl }
 
-irq_kind : (set : Setting) (x : Happening) (w : World) (n k : ℕ) → Kind set.mac x w (λ ns. at_node (with_nodes w ns) (λ s. after_interrupt set (with_nodes w ns) n (irq s k).state (irq s k).shown) (slice_get ns n))
+irq_kind : (set : Setting) (x : Happening) (w : World) (n k : ℕ)
+    → Kind set.mac x w (λ ns. at_node (with_nodes w ns) (λ s. after_interrupt set (with_nodes w ns) n (irq s k).state (irq s k).shown)
+    (slice_get ns n))
 irq_kind set x w n k = inr (record {
   node = n;
   act = Interrupt k;
@@ -282,7 +299,17 @@ irq_kind set x w n k = inr (record {
     same_state s (Err why) = refl
 
 reset_kind : (mac : Mac) (x : Happening) (w : World) (n : ℕ)
-    → Kind mac x w (λ ns. at_node (with_nodes w ns) (λ s. record { world = record { nodes = slice_set ns n (reset s); packets = w.packets; deployer = w.deployer; ledger = w.ledger; lines = w.lines; steps = w.steps }; items = item.Reset n Asked ∷ [] }) (slice_get ns n))
+    → Kind mac x w (λ ns. at_node (with_nodes w ns) (λ s. record {
+      world = record {
+        nodes = slice_set ns n (reset s);
+        packets = w.packets;
+        deployer = w.deployer;
+        ledger = w.ledger;
+        lines = w.lines;
+        steps = w.steps;
+      };
+      items = item.Reset n Asked ∷ [];
+    }) (slice_get ns n))
 reset_kind mac x w n =
     let effect : State → Effect = λ s. record { state = reset s; packets = w.packets; ledger = w.ledger; steps = w.steps; items = item.Reset n Asked ∷ [] } in
     inr (record {
@@ -312,7 +339,8 @@ keys_still set (g ∷ gs) w ns = by (slice_get set.sites g.holder) (keys_still s
     by None e f = e
     by (Some site) e f = ap (λ (z : Acted). record { world = z.world; items = (key_given set w g (Some site)).items ++ z.items }) (f site)
 
-attested_still : (set : Setting) (w : World) (m boot : ℕ) (bytes : List ℕ) (last : Option ℕ) (ns : List State) → attested set (with_nodes w ns) m boot bytes last ≡ renoded (attested set w m boot bytes last) ns
+attested_still : (set : Setting) (w : World) (m boot : ℕ) (bytes : List ℕ) (last : Option ℕ) (ns : List State)
+    → attested set (with_nodes w ns) m boot bytes last ≡ renoded (attested set w m boot bytes last) ns
 attested_still set w m boot bytes last ns =
     let d = after_acceptance set.app.links w.deployer m boot last in
     let items = unless_made None (is_made w.ledger (made_entry (maker.Module m) NO_TARGET boot bytes [])) (item.Attested m boot) in
@@ -327,10 +355,12 @@ verdict_still : (set : Setting) (w : World) (m : ℕ) (site : Site) (boot : ℕ)
 verdict_still set w m site boot answer None ns = refl
 verdict_still set w m site boot answer (Some bytes) ns =
     let last = attested_at (slice_get w.deployer.attested m) in
-    if_still (accepts set site w.deployer m boot answer (Some bytes) last) (attested set w m boot bytes last) (after_denial w m) ns (attested set (with_nodes w ns) m boot bytes last) (after_denial (with_nodes w ns) m)
+    if_still (accepts set site w.deployer m boot answer (Some bytes) last) (attested set w m boot bytes last)
+    (after_denial w m) ns (attested set (with_nodes w ns) m boot bytes last) (after_denial (with_nodes w ns) m)
     (attested_still set w m boot bytes last ns) refl
 
-answer_still : (set : Setting) (w : World) (m boot : ℕ) (o : Option Site) (p : Option (List ℕ)) (ns : List State) → after_answer set (with_nodes w ns) m boot o p ≡ renoded (after_answer set w m boot o p) ns
+answer_still : (set : Setting) (w : World) (m boot : ℕ) (o : Option Site) (p : Option (List ℕ)) (ns : List State)
+    → after_answer set (with_nodes w ns) m boot o p ≡ renoded (after_answer set w m boot o p) ns
 answer_still set w m boot None p ns = refl
 answer_still set w m boot (Some site) None ns = refl
 answer_still set w m boot (Some site) (Some answer) ns = verdict_still set w m site boot answer (open_ask (slice_get w.deployer.open_asks m)) ns

@@ -89,7 +89,8 @@ other_blind w n m s a twin e ne here h = (
   },
 )
 
-module _ (set : Setting) (x : Happening) (w : World) (n : ℕ) (s : Section) (a : State) (here : slice_get w.nodes n ≡ Some a) (placed : AllPlaced w) (lives : Lives a.sections.live s) (foreign : IsForeign x n s a) where
+module _ (set : Setting) (x : Happening) (w : World) (n : ℕ) (s : Section) (a : State)
+    (here : slice_get w.nodes n ≡ Some a) (placed : AllPlaced w) (lives : Lives a.sections.live s) (foreign : IsForeign x n s a) where
   abbrev Doing : List State → Acted
   Doing ns = done set x (with_nodes w ns)
 
@@ -153,7 +154,8 @@ module _ (set : Setting) (x : Happening) (w : World) (n : ℕ) (s : Section) (a 
       record { left = left.0; there = left.1; kept = left.2; blind = blind_at }
 
 -- the sections stay placed
-placed_node : (set : Setting) (x : Happening) (w : World) (k : Still (λ ns. done set x (with_nodes w ns)) ⊎ OnNode set.mac x w (λ ns. done set x (with_nodes w ns))) → AllPlaced w → AllPlaced (done set x w).world
+placed_node : (set : Setting) (x : Happening) (w : World) (k : Still (λ ns. done set x (with_nodes w ns))
+    ⊎ OnNode set.mac x w (λ ns. done set x (with_nodes w ns))) → AllPlaced w → AllPlaced (done set x w).world
 placed_node set x w (inl k) p = subst (λ (z : Acted). AllPlaced z.world) (sym (k.is w.nodes)) p
 placed_node set x w (inr k) p = elim (some_or_none (slice_get w.nodes k.node)) [
   | inr e ↦ subst (λ (z : Acted). AllPlaced z.world) (sym (k.none w.nodes e)) p
@@ -180,7 +182,8 @@ goes_is n a z y e h = subst (λ (q : Acted). Goes n a q) (sym e) h
 not_below : (b : ℕ) → b ≤ b
 not_below b = omega arith
 
-node_goes : (set : Setting) (x : Happening) (w : World) (n : ℕ) (a : State) → slice_get w.nodes n ≡ Some a → Still (λ ns. done set x (with_nodes w ns)) ⊎ OnNode set.mac x w (λ ns. done set x (with_nodes w ns))
+node_goes : (set : Setting) (x : Happening) (w : World) (n : ℕ) (a : State) → slice_get w.nodes n ≡ Some a
+    → Still (λ ns. done set x (with_nodes w ns)) ⊎ OnNode set.mac x w (λ ns. done set x (with_nodes w ns))
     → Goes n a (done set x w)
 node_goes set x w n a h (inl k) = goes_is n a (done set x w) (renoded k.base w.nodes) (k.is w.nodes) (a, h, not_below a.boot)
 node_goes set x w n a h (inr k) = elim (is_or_not k.node n) [

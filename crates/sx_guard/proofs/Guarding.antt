@@ -72,7 +72,8 @@ runs_blind set before script n s v f b = blind_all set script n s (after set bef
 
 -- The boot count never falls.
 
-boots_all : (set : Setting) (script : Script) (w : World) (n : ℕ) (a : State) → slice_get w.nodes n ≡ Some a → (c : State) × (slice_get (performed set script w).world.nodes n ≡ Some c) × (a.boot ≤ c.boot)
+boots_all : (set : Setting) (script : Script) (w : World) (n : ℕ) (a : State) → slice_get w.nodes n ≡ Some a
+    → (c : State) × (slice_get (performed set script w).world.nodes n ≡ Some c) × (a.boot ≤ c.boot)
 boots_all set End w n a h = (a, h, omega arith)
 boots_all set (Do x rest) w n a h =
     let one = node_boots set x w n a h in

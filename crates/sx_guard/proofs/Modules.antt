@@ -51,7 +51,8 @@ deployed_alike sites n t x s a b p l k h =
     bytes_alike s a b x.layout.pub_from (x.layout.pub_to - x.layout.pub_from) h (λ i from to. outside s x.layout.pub_from x.layout.pub_to i (parts t x s p l k) from to) in
     by_bytes sites n x a b same
   where
-    by_bytes : (sites : List Site) (n : ℕ) (x : Section) (a b : List ℕ) → bytes_from a x.layout.pub_from (x.layout.pub_to - x.layout.pub_from) ≡ bytes_from b x.layout.pub_from (x.layout.pub_to - x.layout.pub_from)
+    by_bytes : (sites : List Site) (n : ℕ) (x : Section) (a b : List ℕ)
+        → bytes_from a x.layout.pub_from (x.layout.pub_to - x.layout.pub_from) ≡ bytes_from b x.layout.pub_from (x.layout.pub_to - x.layout.pub_from)
         → deployed sites n a x ≡ deployed sites n b x
     by_bytes sites n x a b same = ap (λ (bytes : List ℕ). found_at sites n x bytes) same
 
@@ -60,5 +61,6 @@ module_found : (sites : List Site) (n : ℕ) (t : Sections) (s : Section) (a b :
 module_found sites n t s a b None p l h f = refl
 module_found sites n t s a b (Some x) p l h f = deployed_alike sites n t x s a b p (f x refl) l h
 
-pub module_alike : (sites : List Site) (n : ℕ) (s : Section) (a : State) (mem : List ℕ) (id : ℕ) → Placed a.sections → Lives a.sections.live s → Alike s a.mem mem → module_of sites n a id ≡ module_of sites n (with_mem a mem) id
+pub module_alike : (sites : List Site) (n : ℕ) (s : Section) (a : State) (mem : List ℕ) (id : ℕ)
+    → Placed a.sections → Lives a.sections.live s → Alike s a.mem mem → module_of sites n a id ≡ module_of sites n (with_mem a mem) id
 module_alike sites n s a mem id p l h = module_found sites n a.sections s a.mem mem (section_of a.sections.live id) p l h (λ x e. (found_lives a.sections.live id x e).0)

@@ -154,7 +154,8 @@ module _ (set : Setting) where
     ]
       where
         after : (s : State) → slice_get w.nodes n ≡ Some s
-            → performed set (steps stops last n k rest (looks (after_step set w n s).world)) (after_step set w n s).world ≡ then_ (steps_of set Halts items n k (after_step set w n s).world) (After rest)
+            → performed set (steps stops last n k rest (looks (after_step set w n s).world))
+            (after_step set w n s).world ≡ then_ (steps_of set Halts items n k (after_step set w n s).world) (After rest)
             → then_ (after_step set w n s) (After (Next rest k (look s))) ≡ then_ (Stepped w k s) (After rest)
         after s here more =
             let a = after_step set w n s in
@@ -177,7 +178,9 @@ module _ (set : Setting) where
   does_run n k = does_steps (λ a. false) [] [] n does_none k
 
   -- one step alone
-  one_step : (n : ℕ) (w : World) (o : Option State) → at_node w (λ s. if is_reset (step set.mac s).shown.event || false then after_step set w n s else then_ (after_step set w n s) (λ v. only v [])) o ≡ at_node w (after_step set w n) o
+  one_step : (n : ℕ) (w : World) (o : Option State) → at_node w
+      (λ s. if is_reset (step set.mac s).shown.event || false then after_step set w n s else then_
+      (after_step set w n s) (λ v. only v [])) o ≡ at_node w (after_step set w n) o
   one_step n w None = refl
   one_step n w (Some s) = by (is_reset (step set.mac s).shown.event || false)
     where
@@ -274,7 +277,8 @@ module _ (set : Setting) where
   is_performed [] w p = refl
   is_performed (l ∷ lines) w p =
       let one = does_line l in
-      then_same (after_line set (line_counted w) l) (λ v. run set v lines) (λ v. performed set (script_of set lines) v) (is_performed lines (after_line set (line_counted w) l).world (one.keeps (line_counted w) p))
+      then_same (after_line set (line_counted w) l) (λ v. run set v lines) (λ v. performed set (script_of set lines) v)
+      (is_performed lines (after_line set (line_counted w) l).world (one.keeps (line_counted w) p))
       ∙ sym (one.is (λ now. script_of set lines) (line_counted w) p)
 
 pub runs_are_performed : RunsArePerformed

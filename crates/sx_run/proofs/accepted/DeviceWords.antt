@@ -31,7 +31,8 @@ pub pairs_from : {X : Type 0} (R : X → X → Type 0) (xs : List X) → ((j k :
 pairs_from R xs h j k d lt le = h j k (get_or xs j d) (get_or xs k d) lt (slice_get-get_or xs j d (omega (arith, lt, le))) (slice_get-get_or xs k d le)
 
 -- the word of a device
-pub word_get : (ds : List AppDevice) (ats : List ℕ) (d : ℕ) (x : AppDevice) (at : ℕ) → slice_get ds d ≡ Some x → slice_get ats d ≡ Some at → slice_get (words_of ds ats) d ≡ Some (record { node = x.node; at = at })
+pub word_get : (ds : List AppDevice) (ats : List ℕ) (d : ℕ) (x : AppDevice) (at : ℕ) → slice_get ds d ≡ Some x
+    → slice_get ats d ≡ Some at → slice_get (words_of ds ats) d ≡ Some (record { node = x.node; at = at })
 word_get [] ats d x at e a = absurd cc
 word_get (y ∷ ds) [] d x at e a = absurd cc
 word_get (y ∷ ds) (b ∷ ats) zero x at e a = ap (λ (z : AppDevice). Some (record { node = z.node; at = b })) (some_inj y x e) ∙ ap (λ c. Some (record { node = x.node; at = c })) (some_inj b at a)
@@ -134,8 +135,10 @@ module _ (ds : List AppDevice) (ats : List ℕ) (few : length ds ≤ 32) (words 
   one_window n j k v w ev ew same =
       let a = of_window n j v ev in
       let b = of_window n k w ew in
-      let wa : slice_get (words_of ds ats) a.number ≡ Some (record { node = n; at = v.at }) = word_get ds ats a.number a.device v.at a.found a.place ∙ ap (λ j. Some (record { node = j; at = v.at })) a.node in
-      let wb : slice_get (words_of ds ats) b.number ≡ Some (record { node = n; at = w.at }) = word_get ds ats b.number b.device w.at b.found b.place ∙ ap (λ j. Some (record { node = j; at = w.at })) b.node in
+      let wa : slice_get (words_of ds ats) a.number ≡ Some (record { node = n; at = v.at }) = word_get ds ats a.number a.device v.at a.found a.place
+      ∙ ap (λ j. Some (record { node = j; at = v.at })) a.node in
+      let wb : slice_get (words_of ds ats) b.number ≡ Some (record { node = n; at = w.at }) = word_get ds ats b.number b.device w.at b.found b.place
+      ∙ ap (λ j. Some (record { node = j; at = w.at })) b.node in
       elim (cases_lt a.number b.number) [
         | inl lt ↦ absurd (pair_at AreWordsApart (words_of ds ats) a.number b.number _ _ apart lt wa wb refl same)
         | inr ge ↦ elim (cases_lt b.number a.number) [
@@ -152,9 +155,17 @@ module _ (ds : List AppDevice) (ats : List ℕ) (few : length ds ≤ 32) (words 
 
   place_window : (n k at : ℕ) → slice_get (places_of (powered_on (windows_at n ds ats))) k ≡ Some at → (w : Window) × (slice_get (powered_on (windows_at n ds ats)) k ≡ Some w) × (w.at ≡ at)
   place_window n k at e =
-      let lt : k < length (powered_on (windows_at n ds ats)) = omega (arith, get_within (places_of (powered_on (windows_at n ds ats))) k at e, length-map (powered_on (windows_at n ds ats)) (λ (w : Window). w.at)) in
-      let w = get_some (powered_on (windows_at n ds ats)) k lt in
-      (w.0, w.1, some_inj w.0.at at (ap (λ o. Rattle.std.specs.Prelude.option_map (λ (w : Window). w.at) o) (sym w.1) ∙ sym (slice_get-map (λ (w : Window). w.at) (powered_on (windows_at n ds ats)) k) ∙ e))
+      let lt : k < length (powered_on (windows_at n ds ats)) = omega (
+        arith,
+        get_within (places_of (powered_on (windows_at n ds ats))) k at e,
+        length-map (powered_on (windows_at n ds ats)) (λ (w : Window). w.at),
+      ) in
+      let w = get_some (powered_on (windows_at n ds ats)) k lt in (
+        w.0,
+        w.1,
+        some_inj w.0.at at (ap (λ o. Rattle.std.specs.Prelude.option_map (λ (w : Window). w.at) o) (sym w.1)
+            ∙ sym (slice_get-map (λ (w : Window). w.at) (powered_on (windows_at n ds ats)) k) ∙ e),
+      )
 
   pub are_places : (n : ℕ) → ArePlaces (places_of (powered_on (windows_at n ds ats)))
   are_places n =
@@ -171,7 +182,8 @@ module _ (ds : List AppDevice) (ats : List ℕ) (few : length ds ≤ 32) (words 
       }
 
   -- where no word of the node holds the byte, no device is
-  pub nothing_at : (n at : ℕ) → ((k : ℕ) (w : Window) → slice_get (powered_on (windows_at n ds ats)) k ≡ Some w → w.at ≤ at → at < w.at + 2 → ⊥) → device_at (powered_on (windows_at n ds ats)) at ≡ None
+  pub nothing_at : (n at : ℕ) → ((k : ℕ) (w : Window) → slice_get (powered_on (windows_at n ds ats)) k ≡ Some w → w.at ≤ at → at < w.at + 2 → ⊥)
+      → device_at (powered_on (windows_at n ds ats)) at ≡ None
   nothing_at n at h = by_case (device_at (powered_on (windows_at n ds ats)) at) refl
     where
       by_case : (o : Option ℕ) → device_at (powered_on (windows_at n ds ats)) at ≡ o → o ≡ None

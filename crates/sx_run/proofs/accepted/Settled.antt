@@ -68,7 +68,8 @@ found_driven (e ∷ es) zero node k h = let p = and_parts (e.node == node) (same
 found_driven (e ∷ es) (suc d) node k h =
     let later : (suc d == 0) ≡ false = grind (arith, nat_tests) in
     let less : suc d - 1 ≡ d = omega arith in
-    let there : is_at es d node k ≡ true = subst (λ j. is_at es j node k ≡ true) less (subst (λ b. (if b then (e.node == node) && same_kind e.kind k else is_at es (suc d - 1) node k) ≡ true) later h) in
+    let there : is_at es d node k ≡ true = subst (λ j. is_at es j node k ≡ true) less
+    (subst (λ b. (if b then (e.node == node) && same_kind e.kind k else is_at es (suc d - 1) node k) ≡ true) later h) in
     found_driven es d node k there
 
 module _ (mac : Mac) (d : Deployed) (texts : List (List ℕ)) (acc : deployment.IsSoundDeployment d) (images : AreImages mac d texts) where
@@ -92,20 +93,23 @@ module _ (mac : Mac) (d : Deployed) (texts : List (List ℕ)) (acc : deployment.
     large = let s = laid.data_size in omega (arith, s)
 
     abbrev IsClear : Word → Type 0
-    IsClear v = v.node ≡ r.part.node → (IsSome r.part.device × (v.at ≡ site.layout.priv_from)) ⊎ (Off v.at (v.at + 2) site.layout.pub_from site.layout.pub_to × Off v.at (v.at + 2) site.layout.priv_from site.layout.priv_to)
+    IsClear v = v.node ≡ r.part.node → (IsSome r.part.device × (v.at ≡ site.layout.priv_from))
+        ⊎ (Off v.at (v.at + 2) site.layout.pub_from site.layout.pub_to × Off v.at (v.at + 2) site.layout.priv_from site.layout.priv_to)
 
     -- a window of the node is the module's own, or meets no part of it
     clear : (k : ℕ) (w : Window) → slice_get (powered_on (windows_at r.part.node d.app.devices d.places)) k ≡ Some w
         → (IsSome r.part.device × (w.at ≡ site.layout.priv_from)) ⊎ (Off w.at (w.at + 2) site.layout.pub_from site.layout.pub_to × Off w.at (w.at + 2) site.layout.priv_from site.layout.priv_to)
     clear k w e =
         let o = word_of_window d.app.devices d.places acc.few_devices acc.words acc.words_apart r.part.node k w e in
-        let here : r.part.node ≡ r.part.node → (IsSome r.part.device × (w.at ≡ site.layout.priv_from)) ⊎ (Off w.at (w.at + 2) site.layout.pub_from site.layout.pub_to × Off w.at (w.at + 2) site.layout.priv_from site.layout.priv_to) =
+        let here : r.part.node ≡ r.part.node → (IsSome r.part.device × (w.at ≡ site.layout.priv_from))
+        ⊎ (Off w.at (w.at + 2) site.layout.pub_from site.layout.pub_to × Off w.at (w.at + 2) site.layout.priv_from site.layout.priv_to) =
         all_at IsClear (words_of d.app.devices d.places) o.0 (record { node = r.part.node; at = w.at }) laid.words o.1 in
         here refl
 
     no_text : (at : ℕ) → site.layout.pub_from ≤ at → at < site.layout.pub_to → device_at (powered_on (windows_at r.part.node d.app.devices d.places)) at ≡ None
     no_text at from to = nothing_at d.app.devices d.places acc.few_devices acc.words acc.words_apart r.part.node at (λ k w e le lt. elim (clear k w e) [
-      | inl own ↦ (let same = own.1 in outside site.layout.pub_from site.layout.pub_to site.layout.priv_from site.layout.priv_to at parts_off from to (omega (arith, le, same)) (omega (arith, lt, same, large)))
+      | inl own ↦ (let same = own.1 in outside site.layout.pub_from site.layout.pub_to site.layout.priv_from site.layout.priv_to at parts_off from to
+          (omega (arith, le, same)) (omega (arith, lt, same, large)))
       | inr off ↦ outside w.at (w.at + 2) site.layout.pub_from site.layout.pub_to at off.0 le lt from to
     ])
 
@@ -148,7 +152,8 @@ module _ (mac : Mac) (d : Deployed) (texts : List (List ℕ)) (acc : deployment.
         by_kind None h = refl
         by_kind (Some kd) h = absurd cc
 
-    drives : (n : ℕ) → r.part.device ≡ Some n → (kd : DeviceKind) → declared_kind r.part.tree.decls ≡ Some kd → Drives (powered_on (windows_at r.part.node d.app.devices d.places)) (kind_of kd) site.layout
+    drives : (n : ℕ) → r.part.device ≡ Some n → (kd : DeviceKind) → declared_kind r.part.tree.decls ≡ Some kd
+        → Drives (powered_on (windows_at r.part.node d.app.devices d.places)) (kind_of kd) site.layout
     drives n e kd k =
         let o = driven n e in
         let own = own_device r.part.node 0 n d.app.devices d.places o.device site.layout.priv_from o.found o.node o.place in
@@ -156,7 +161,8 @@ module _ (mac : Mac) (d : Deployed) (texts : List (List ℕ)) (acc : deployment.
         record {
           device = own.0;
           window = record { at = site.layout.priv_from; kind = kind_of o.device.kind; value = 0; fresh = false };
-          found = found_at (powered_on (windows_at r.part.node d.app.devices d.places)) own.0 site.layout.priv_from _ (spaced d.app.devices d.places acc.few_devices acc.words acc.words_apart r.part.node) w refl;
+          found = found_at (powered_on (windows_at r.part.node d.app.devices d.places)) own.0 site.layout.priv_from _
+              (spaced d.app.devices d.places acc.few_devices acc.words acc.words_apart r.part.node) w refl;
           at_start = refl;
           kind = ap kind_of (some_inj o.device.kind kd (sym o.kind ∙ k));
           alone = no_data;
@@ -165,7 +171,8 @@ module _ (mac : Mac) (d : Deployed) (texts : List (List ℕ)) (acc : deployment.
     has_devices : HasDevices (powered_on (windows_at r.part.node d.app.devices d.places)) (declared_kind r.part.tree.decls) site.layout
     has_devices = by_device r.part.device refl
       where
-        by_kind : (n : ℕ) → r.part.device ≡ Some n → (o : Option DeviceKind) → declared_kind r.part.tree.decls ≡ o → HasDevices (powered_on (windows_at r.part.node d.app.devices d.places)) o site.layout
+        by_kind : (n : ℕ) → r.part.device ≡ Some n → (o : Option DeviceKind) → declared_kind r.part.tree.decls ≡ o
+            → HasDevices (powered_on (windows_at r.part.node d.app.devices d.places)) o site.layout
         by_kind n e None k = absurd (differ (sym k ∙ (driven n e).kind))
           where
             differ : {x : DeviceKind} → ◌≡◌ {A = Option DeviceKind} None (Some x) → ⊥
@@ -211,10 +218,13 @@ module _ (mac : Mac) (d : Deployed) (texts : List (List ℕ)) (acc : deployment.
   earlier m k a b ea eb node lt =
       let x = site_at d.app.parts d.layouts d.providers texts m a ea in
       let y = site_at d.app.parts d.layouts d.providers texts k b eb in
-      let p = pair_at AreBeside (standing d.app.parts d.layouts) m k _ _ acc.beside lt (standing_at d.app.parts d.layouts m x.part a.layout x.found x.layout) (standing_at d.app.parts d.layouts k y.part b.layout y.found y.layout) in
+      let p = pair_at AreBeside (standing d.app.parts d.layouts) m k _ _ acc.beside lt
+      (standing_at d.app.parts d.layouts m x.part a.layout x.found x.layout)
+      (standing_at d.app.parts d.layouts k y.part b.layout y.found y.layout) in
       p.beside (sym x.node ∙ node ∙ y.node)
 
-  apart_sites : (m k : ℕ) (a b : Site) → slice_get (setting_of mac d texts).sites m ≡ Some a → slice_get (setting_of mac d texts).sites k ≡ Some b → a.node ≡ b.node → (m ≡ k) ⊎ AreApartLayouts a.layout b.layout
+  apart_sites : (m k : ℕ) (a b : Site) → slice_get (setting_of mac d texts).sites m ≡ Some a
+      → slice_get (setting_of mac d texts).sites k ≡ Some b → a.node ≡ b.node → (m ≡ k) ⊎ AreApartLayouts a.layout b.layout
   apart_sites m k a b ea eb node = elim (cases_lt m k) [
     | inl lt ↦ inr (
         let h = earlier m k a b ea eb node lt in
@@ -227,7 +237,8 @@ module _ (mac : Mac) (d : Deployed) (texts : List (List ℕ)) (acc : deployment.
     ]
   ]
 
-  deployed_part : (m : ℕ) (q : PartTree) (site : Site) → slice_get (setting_of mac d texts).app.parts m ≡ Some q → slice_get (setting_of mac d texts).sites m ≡ Some site → IsDeployedModule (setting_of mac d texts) m q site
+  deployed_part : (m : ℕ) (q : PartTree) (site : Site) → slice_get (setting_of mac d texts).app.parts m ≡ Some q
+      → slice_get (setting_of mac d texts).sites m ≡ Some site → IsDeployedModule (setting_of mac d texts) m q site
   deployed_part m q site eq es =
       let r = site_at d.app.parts d.layouts d.providers texts m site es in
       subst (λ (q : PartTree). IsDeployedModule (setting_of mac d texts) m q site) (some_inj r.part q (sym r.found ∙ eq)) (deployed_at m site r)

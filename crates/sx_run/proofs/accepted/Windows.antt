@@ -78,7 +78,8 @@ own_device n i zero (y ∷ ds) (b ∷ ats) x at e node a =
     let here : (y.node == n) ≡ true = eq-eqb y.node n (ap (λ (z : AppDevice). z.node) same ∙ node) in (
       0,
       ap (λ t. slice_get (if t then i ∷ devices_at n (i + 1) ds else devices_at n (i + 1) ds) 0) here ∙ ap (λ j. Some j) (omega arith),
-      ap (λ t. slice_get (if t then (b, kind_of y.kind) ∷ windows_at n ds ats else windows_at n ds ats) 0) here ∙ ap (λ (z : AppDevice). Some (b, kind_of z.kind)) same ∙ ap (λ c. Some (c, kind_of x.kind)) (some_inj b at a),
+      ap (λ t. slice_get (if t then (b, kind_of y.kind) ∷ windows_at n ds ats else windows_at n ds ats) 0) here
+          ∙ ap (λ (z : AppDevice). Some (b, kind_of z.kind)) same ∙ ap (λ c. Some (c, kind_of x.kind)) (some_inj b at a),
     )
 own_device n i (suc d) (y ∷ ds) (b ∷ ats) x at e node a = head (y.node == n) (own_device n (i + 1) d ds ats x at e node a)
   where

@@ -43,7 +43,8 @@ challenge_of : (a : ℕ) → a < 65536 → challenge_in (ask_packet a) ≡ a
 challenge_of a h = low_number 16 a (omega (arith, h))
 
 -- a standing with the same presence
-pub same_presence : (set : Setting) (n m : ℕ) (q : PartTree) (site : Site) (s : State) (x y : Standing) (sent : List (List ℕ)) → y.present ≡ x.present → ModuleTied set n m q site s x sent → ModuleTied set n m q site s y sent
+pub same_presence : (set : Setting) (n m : ℕ) (q : PartTree) (site : Site) (s : State) (x y : Standing) (sent : List (List ℕ))
+    → y.present ≡ x.present → ModuleTied set n m q site s x sent → ModuleTied set n m q site s y sent
 same_presence set n m q site s x y sent e (Absent none f) = Absent (e ∙ none) f
 same_presence set n m q site s x y sent e (Rests sec pr p i c pend h) = Rests sec pr (e ∙ p) i c pend h
 same_presence set n m q site s x y sent e (Runs sec pr p i c u) = Runs sec pr (e ∙ p) i c u
@@ -51,7 +52,17 @@ same_presence set n m q site s x y sent e (Runs sec pr p i c u) = Runs sec pr (e
 -- packets don't matter
 pub tied_packet : (set : Setting) (w : World) (mo : Model) (bytes : List ℕ) → Tied set w mo → Fares (judge set.app mo (with_packet w bytes).items) (Tied set (with_packet w bytes).world)
 tied_packet set w mo bytes t = record {
-  size = record { nodes = t.size.nodes; boots = t.size.boots; devices = t.size.devices; modules = t.size.modules; epochs = t.size.epochs; sent = t.size.sent; asks = t.size.asks; attested = t.size.attested };
+  size = record {
+    nodes = t.size.nodes;
+    boots = t.size.boots;
+    devices = t.size.devices;
+    modules =
+        t.size.modules;
+    epochs = t.size.epochs;
+    sent = t.size.sent;
+    asks = t.size.asks;
+    attested = t.size.attested;
+  };
   nodes = t.nodes;
   devices = t.devices;
   modules = t.modules;
@@ -203,7 +214,8 @@ module _ (set : Setting) (w : World) (mo : Model) (m : ℕ) (x : Standing) (t : 
     opened = λ pr c side n pe o. let g = tz.opened pr c side n pe o in (g.0, g.1, g.2, on_grown n _ _ g.3 (grows c));
   }
 
-  sent_here : (y : Standing) (epochs : List ℕ) (boot : ℕ) (es : List End) (c n : ℕ) (l : Link) → Changes y epochs → slice_get set.app.links c ≡ Some l → l.from ≡ m → HasSent es x boot mo.epochs c n → HasSent es y boot epochs c n
+  sent_here : (y : Standing) (epochs : List ℕ) (boot : ℕ) (es : List End) (c n : ℕ) (l : Link) → Changes y epochs
+      → slice_get set.app.links c ≡ Some l → l.from ≡ m → HasSent es x boot mo.epochs c n → HasSent es y boot epochs c n
   sent_here y epochs boot es c n l ch lk own h = elim ch.attested [
     | inl same ↦ (h.0, same ∙ h.1, on_grown n _ _ h.2 (ch.grows c), elim h.3 [ inl past ↦ inl past | inr o ↦ inr (o.0, ch.present ∙ o.1, o.2) ])
     | inr again ↦ (again.a, again.attested, on_grown n _ _ h.2 (ch.grows c), inl (inl (subst (λ fs. n < slice_index fs c) (sym again.floors) (below n _ _ h.2 (again.higher h.0 c l h.1 lk own)))))
@@ -225,7 +237,8 @@ module _ (set : Setting) (w : World) (mo : Model) (m : ℕ) (x : Standing) (t : 
       | inl here ↦
           elim (t.sane.unsent f l q x boot words lk pk (subst (λ j. slice_get mo.modules j ≡ Some x) (sym here.0) there) bk wk) [
             | inl none ↦ inl none
-            | inr hs ↦ inr (subst (λ s. HasSent (ends_of set.app l.from) s boot epochs (link_of f) (epoch_of f)) (sym here.1) (sent_here y epochs boot (ends_of set.app l.from) (link_of f) (epoch_of f) l ch lk here.0 hs))
+            | inr hs ↦ inr (subst (λ s. HasSent (ends_of set.app l.from) s boot epochs (link_of f) (epoch_of f))
+                (sym here.1) (sent_here y epochs boot (ends_of set.app l.from) (link_of f) (epoch_of f) l ch lk here.0 hs))
           ]
       | inr else_ ↦
           elim (t.sane.unsent f l q z boot words lk pk else_.1 bk wk) [
@@ -243,7 +256,17 @@ module _ (set : Setting) (w : World) (mo : Model) (m : ℕ) (x : Standing) (t : 
       → ((k : ℕ) → k ≢ m → (slice_get d.open_asks k ≡ slice_get w.deployer.open_asks k) × (slice_get d.attested k ≡ slice_get w.deployer.attested k))
       → Tied set (record { nodes = w.nodes; packets = w.packets; deployer = d; ledger = w.ledger; lines = lines; steps = w.steps }) (model_with y d.epochs d.asks)
   standing_tied y d lines ch la lt le few short grow now mine others = record {
-    size = record { nodes = t.size.nodes; boots = t.size.boots; devices = t.size.devices; modules = length_set mo.modules m y ∙ t.size.modules; epochs = le; sent = t.size.sent; asks = la; attested = lt };
+    size = record {
+      nodes = t.size.nodes;
+      boots = t.size.boots;
+      devices = t.size.devices;
+      modules = length_set mo.modules m y
+          ∙ t.size.modules;
+      epochs = le;
+      sent = t.size.sent;
+      asks = la;
+      attested = lt;
+    };
     nodes = t.nodes;
     devices = t.devices;
     modules = λ k q site s z pk sk nk zk. elim (which y k z zk) [
@@ -331,7 +354,17 @@ give_all app mo (g ∷ gs) hs a b = (a.0, give_all app mo gs hs a.1 b)
 
 key_tied : (set : Setting) (w : World) (mo : Model) (g : Grant) → MayGive set.app mo g → Tied set w mo → Tied set (with_deployer w w.deployer (w.ledger ++ set_key_entry set g ∷ [])) mo
 key_tied set w mo g may t = record {
-  size = record { nodes = t.size.nodes; boots = t.size.boots; devices = t.size.devices; modules = t.size.modules; epochs = t.size.epochs; sent = t.size.sent; asks = t.size.asks; attested = t.size.attested };
+  size = record {
+    nodes = t.size.nodes;
+    boots = t.size.boots;
+    devices = t.size.devices;
+    modules =
+        t.size.modules;
+    epochs = t.size.epochs;
+    sent = t.size.sent;
+    asks = t.size.asks;
+    attested = t.size.attested;
+  };
   nodes = t.nodes;
   devices = t.devices;
   modules = t.modules;
@@ -344,7 +377,19 @@ key_tied set w mo g may t = record {
   ledger = λ k was. elim (made_behind w.ledger (set_key_entry set g) k was) [
     | inl old ↦ t.ledger k old
     | inr new ↦ subst (λ (z : Made). Known set.app mo z.maker z) (sym new)
-        (record { x = may.x; there = may.there; a = may.a; attested = may.attested; older = le_of may.now; «end» = g.«end»; held = may.held; epoch = g.epoch; header = refl; floor = λ _. may.floor; given = may.given })
+        (record {
+          x = may.x;
+          there = may.there;
+          a = may.a;
+          attested = may.attested;
+          older = le_of may.now;
+          «end» = g.«end»;
+          held = may.held;
+          epoch = g.epoch;
+          header = refl;
+          floor = λ _. may.floor;
+          given = may.given;
+        })
   ];
   sane = t.sane;
 }
@@ -352,7 +397,8 @@ key_tied set w mo g may t = record {
     le_of : {a b : ℕ} → a ≡ b → a ≤ b
     le_of e = omega (arith, e)
 
-keys_fares : (set : Setting) (gs : List Grant) (w : World) (mo : Model) → MayGiveAll set.app mo gs → Tied set w mo → Fares (judge set.app mo (keys_given set gs w).items) (Tied set (keys_given set gs w).world)
+keys_fares : (set : Setting) (gs : List Grant) (w : World) (mo : Model) → MayGiveAll set.app mo gs
+    → Tied set w mo → Fares (judge set.app mo (keys_given set gs w).items) (Tied set (keys_given set gs w).world)
 keys_fares set [] w mo may t = t
 keys_fares set (g ∷ gs) w mo may t = one (slice_get set.sites g.holder) (λ v tv. keys_fares set gs v mo may.1 tv)
   where
@@ -422,7 +468,8 @@ module _ (set : Setting) (w : World) (mo : Model) (t : Tied set w mo) where
       (give_if (l.to == m) _ [] (give_to l.from (record { link = n; side = From; port = l.output }) (slice_get w.deployer.attested l.from) refl (from_end set.app n l here)) tt)))
       (give_beyond m (n + 1) ls (λ k j e. subst (λ i. slice_get set.app.links i ≡ Some j) (omega arith) (f (suc k) j e)))
 
-  pub give_after : (m : ℕ) (y : Standing) (a : Attestation) (last : Option ℕ) → slice_get mo.modules m ≡ Some y → y.attested ≡ Some a → a.floors ≡ w.deployer.epochs → MayGiveAll set.app mo (grants_after set.app w.deployer m a.boot last)
+  pub give_after : (m : ℕ) (y : Standing) (a : Attestation) (last : Option ℕ) → slice_get mo.modules m ≡ Some y
+      → y.attested ≡ Some a → a.floors ≡ w.deployer.epochs → MayGiveAll set.app mo (grants_after set.app w.deployer m a.boot last)
   give_after m y a None there at fs = give_own m y a there at fs (ends_of set.app m) (λ e h. h)
   give_after m y a (Some last) there at fs =
       give_all set.app mo (grants_of w.deployer.epochs m a.boot (ends_of set.app m)) (grants_beyond w.deployer m 0 set.app.links)
@@ -433,13 +480,15 @@ module _ (set : Setting) (w : World) (mo : Model) (m : ℕ) (site : Site) (boot 
   unless_fares true i rest good f = f refl
   unless_fares false i rest good f = tt
 
-  head_fares : (m2 b : ℕ) (mo1 : Model) (rest : List Item) (good : Model → Type 0) → was_attested set.app mo m2 b ≡ Some mo1 → Fares (judge set.app mo1 rest) good → Fares (judge set.app mo (item.Attested m2 b ∷ rest)) good
+  head_fares : (m2 b : ℕ) (mo1 : Model) (rest : List Item) (good : Model → Type 0) → was_attested set.app mo m2 b ≡ Some mo1
+      → Fares (judge set.app mo1 rest) good → Fares (judge set.app mo (item.Attested m2 b ∷ rest)) good
   head_fares m2 b mo1 rest good e f = rw e f
 
   none_some : (b : ℕ) → ◌≡◌ {A = Option ℕ} None (Some b) → ⊥
   none_some b e = cc
 
-  accepted_fares : (ask : List ℕ) (x : Standing) (a : ℕ) (last : Option ℕ) → slice_get mo.modules m ≡ Some x → last ≡ boot_of x.attested → may_attest m set.app.links w.deployer.epochs last boot ≡ true → x.asked ≡ Some a → ask ≡ ask_packet a
+  accepted_fares : (ask : List ℕ) (x : Standing) (a : ℕ) (last : Option ℕ) → slice_get mo.modules m ≡ Some x
+      → last ≡ boot_of x.attested → may_attest m set.app.links w.deployer.epochs last boot ≡ true → x.asked ≡ Some a → ask ≡ ask_packet a
       → Fares (judge set.app mo (attested set w m boot ask last).items) (Tied set (attested set w m boot ask last).world)
   accepted_fares ask x a last there was_last may asked_a same =
       let d = after_acceptance set.app.links w.deployer m boot last in
@@ -458,7 +507,8 @@ module _ (set : Setting) (w : World) (mo : Model) (m : ℕ) (site : Site) (boot 
       subst (λ c. is_vouched c boot x.vouched ≡ true) (ap challenge_in same ∙ challenge_of a lt) (subst (λ (z : Standing). is_vouched (challenge_in ask) boot z.vouched ≡ true) vx v.vouched) in
       let may2 : may_attest m set.app.links mo.epochs (boot_of x.attested) boot ≡ true =
       subst (λ o. may_attest m set.app.links mo.epochs o boot ≡ true) was_last (subst (λ es. may_attest m set.app.links es last boot ≡ true) t.epochs may) in
-      let epochs : d.epochs ≡ renewed m set.app.links (boot_of x.attested) mo.epochs = ap (λ o. renewed m set.app.links o w.deployer.epochs) was_last ∙ ap (λ es. renewed m set.app.links (boot_of x.attested) es) t.epochs in
+      let epochs : d.epochs ≡ renewed m set.app.links (boot_of x.attested) mo.epochs = ap
+      (λ o. renewed m set.app.links o w.deployer.epochs) was_last ∙ ap (λ es. renewed m set.app.links (boot_of x.attested) es) t.epochs in
       let ch : Changes set w mo m x t there y d.epochs = record {
         present = refl;
         vouched = refl;
@@ -479,7 +529,8 @@ module _ (set : Setting) (w : World) (mo : Model) (m : ℕ) (site : Site) (boot 
       let t1 : Tied set w1 mo1 =
       subst (λ n. Tied set w1 (record { boots = mo.boots; devices = mo.devices; modules = slice_set mo.modules m y; epochs = d.epochs; sent = mo.sent; asks = n })) t.asks
       (standing_tied set w mo m x t there y d w.lines ch
-      (length_set w.deployer.open_asks m None ∙ t.size.asks) (length_set w.deployer.attested m (Some boot) ∙ t.size.attested) (renewed_long m set.app.links last w.deployer.epochs ∙ ap length t.epochs ∙ t.size.epochs)
+      (length_set w.deployer.open_asks m None ∙ t.size.asks) (length_set w.deployer.attested m (Some boot) ∙ t.size.attested)
+      (renewed_long m set.app.links last w.deployer.epochs ∙ ap length t.epochs ∙ t.size.epochs)
       t.few t.short (omega (arith, t.asks))
       (λ b e. absurd (none_some b e))
       (λ o at ok tk. record {
@@ -490,7 +541,15 @@ module _ (set : Setting) (w : World) (mo : Model) (m : ℕ) (site : Site) (boot 
       (λ k ne. (get_other w.deployer.open_asks m k None ne, get_other w.deployer.attested m k (Some boot) ne))) in
       let step1 : was_attested set.app mo m boot ≡ Some mo1 =
       attested_step set w mo m x t there a boot asked_a vow may2
-      ∙ ap (λ es. Some (record { boots = mo.boots; devices = mo.devices; modules = slice_set mo.modules m (record { present = x.present; asked = None; vouched = x.vouched; attested = Some (record { boot = boot; floors = es }) }); epochs = es; sent = mo.sent; asks = mo.asks })) (sym epochs) in
+      ∙ ap (λ es. Some (record {
+        boots = mo.boots;
+        devices = mo.devices;
+        modules = slice_set mo.modules m
+            (record { present = x.present; asked = None; vouched = x.vouched; attested = Some (record { boot = boot; floors = es }) });
+        epochs = es;
+        sent = mo.sent;
+        asks = mo.asks;
+      })) (sym epochs) in
       head_fares m boot mo1 rest.items (Tied set rest.world) step1
       (keys_fares set (grants_after set.app d m boot last) w1 mo1 (give_after set w1 mo1 t1 m y new last (get_same mo.modules m y x there) refl refl) t1))
 
@@ -507,7 +566,8 @@ module _ (set : Setting) (w : World) (mo : Model) (m : ℕ) (site : Site) (boot 
   answered_if true x y f g = f refl
   answered_if false x y f g = g
 
-  judged_fares : (o : Option (List ℕ)) → open_ask (slice_get w.deployer.open_asks m) ≡ o → Fares (judge set.app mo (after_verdict set w m site boot answer o).items) (Tied set (after_verdict set w m site boot answer o).world)
+  judged_fares : (o : Option (List ℕ)) → open_ask (slice_get w.deployer.open_asks m) ≡ o
+      → Fares (judge set.app mo (after_verdict set w m site boot answer o).items) (Tied set (after_verdict set w m site boot answer o).world)
   judged_fares None e = t
   judged_fares (Some ask) e =
       let last = attested_at (slice_get w.deployer.attested m) in
@@ -524,7 +584,8 @@ module _ (set : Setting) (w : World) (mo : Model) (m : ℕ) (site : Site) (boot 
   answered_fares = judged_fares (open_ask (slice_get w.deployer.open_asks m)) refl
 
 -- an ask of a module of the application
-pub ask_fares : (set : Setting) (w : World) (m : ℕ) → m < length set.app.parts → w.lines < 65536 → (mo : Model) → Tied set w mo → Fares (judge set.app mo (ask (line_counted w) m).items) (Tied set (ask (line_counted w) m).world)
+pub ask_fares : (set : Setting) (w : World) (m : ℕ) → m < length set.app.parts → w.lines < 65536 → (mo : Model)
+    → Tied set w mo → Fares (judge set.app mo (ask (line_counted w) m).items) (Tied set (ask (line_counted w) m).world)
 ask_fares set w m lt lines mo t =
     let x : (x : Standing) × (slice_get mo.modules m ≡ Some x) = get_some mo.modules m (omega (arith, lt, t.size.modules)) in
     asked_fares set w mo m x.0 t x.1 lines

@@ -58,7 +58,8 @@ ends_few [] n p = omega arith
 ends_few (l ∷ ls) n p = two (l.from == p) (l.to == p) (ends_after (n + 1) p ls) (ends_few ls (n + 1) p)
   where
     two : (a b : Bool) (es : List End) → length es ≤ 2 * length ls
-        → length (cons_option (if a then Some (record { link = n; side = From; port = l.output }) else None) (cons_option (if b then Some (record { link = n; side = To; port = l.input }) else None) es)) ≤ 2 * suc (length ls)
+        → length (cons_option (if a then Some (record { link = n; side = From; port = l.output }) else None)
+        (cons_option (if b then Some (record { link = n; side = To; port = l.input }) else None) es)) ≤ 2 * suc (length ls)
     two true true es h = omega (arith, h)
     two true false es h = omega (arith, h)
     two false true es h = omega (arith, h)
@@ -189,13 +190,16 @@ module _ (set : Setting) where
   steps_within : (stops : State → Bool) (items : List Item) (n k b t p a : ℕ) (w : World) → Within b t p a w → Within (b + 1) (t + k) p a (steps_of set stops items n k w).world
   steps_within stops items n zero b t p a w h = more b t p a (b + 1) (t + 0) p a w h (omega arith) (omega arith) (omega arith) (omega arith)
   steps_within stops items n (suc k) b t p a w h =
-      at (Within (b + 1) (t + suc k) p a) w (λ s. if is_reset (step set.mac s).shown.event || stops (step set.mac s).state then after_step set w n s else then_ (after_step set w n s) (steps_of set stops items n k))
+      at (Within (b + 1) (t + suc k) p a) w (λ s. if is_reset (step set.mac s).shown.event || stops
+      (step set.mac s).state then after_step set w n s else then_ (after_step set w n s) (steps_of set stops items n k))
       (slice_get w.nodes n) (more b t p a (b + 1) (t + suc k) p a w h (omega arith) (omega arith) (omega arith) (omega arith)) (λ s here.
-      either (Within (b + 1) (t + suc k) p a) (is_reset (step set.mac s).shown.event) (stops (step set.mac s).state) (after_step set w n s) (then_ (after_step set w n s) (steps_of set stops items n k))
+      either (Within (b + 1) (t + suc k) p a) (is_reset (step set.mac s).shown.event) (stops (step set.mac s).state)
+      (after_step set w n s) (then_ (after_step set w n s) (steps_of set stops items n k))
       (loud b t (t + suc k) p a w n s guard.Step (after_step set w n s).world.ledger (w.steps + 1) h here tt (omega (arith, h.steps)))
       (λ calm.
       let one : Within b (t + 1) p a (after_step set w n s).world =
-      quiet b t (t + 1) p a w n s guard.Step (after_step set w n s).world.ledger (w.steps + 1) h here tt (step_quiet set.mac s (λ v e. no_reset (step set.mac s).shown.event v calm e)) (omega (arith, h.steps)) in
+      quiet b t (t + 1) p a w n s guard.Step (after_step set w n s).world.ledger (w.steps + 1) h here tt
+      (step_quiet set.mac s (λ v e. no_reset (step set.mac s).shown.event v calm e)) (omega (arith, h.steps)) in
       more (b + 1) (t + 1 + k) p a (b + 1) (t + suc k) p a (steps_of set stops items n k (after_step set w n s).world).world
       (steps_within stops items n k b (t + 1) p a (after_step set w n s).world one) (omega arith) (omega arith) (omega arith) (omega arith)))
 
@@ -265,7 +269,8 @@ module _ (set : Setting) where
   load_within b t p a w (Some site) f h =
       let n = site.node in
       let s = f site refl in
-      let regs = register 9 site.provider ∷ register 10 site.layout.pub_from ∷ register 11 site.layout.pub_to ∷ register 12 site.layout.priv_from ∷ register 13 site.layout.priv_to ∷ register 0 0 ∷ [] in
+      let regs = register 9 site.provider ∷ register 10 site.layout.pub_from ∷ register 11 site.layout.pub_to
+      ∷ register 12 site.layout.priv_from ∷ register 13 site.layout.priv_to ∷ register 0 0 ∷ [] in
       let first = put_pieces n ((length site.text + 1023) / 1024) site.layout.pub_from site.text in
       let second = put_on n 0 (0x81 ∷ 0x13 ∷ []) in
       let third = set_all n regs in
@@ -387,9 +392,13 @@ module _ (set : Setting) where
       more b t (p + 1) (a + 1) (b + 1) (t + 1000000) (p + 192) (a + 1) _
       (packet_within b t p (a + 1) (with_deployer w d w.ledger) _ (deployer_within b t p a (a + 1) w d w.ledger (omega (arith, h.asks)) h)) (omega arith) (omega arith) (omega arith) (omega arith)
   line_within (Answer m boot k) b t p a w sound form h =
-      more b t (p + 192) a (b + 1) (t + 1000000) (p + 192) (a + 1) _ (answered_within b t p a w m boot (slice_get set.sites m) (slice_get w.packets k) sound.links h) (omega arith) (omega arith) (omega arith) (omega arith)
+      more b t (p + 192) a (b + 1) (t + 1000000) (p + 192) (a + 1) _
+      (answered_within b t p a w m boot (slice_get set.sites m) (slice_get w.packets k) sound.links h)
+      (omega arith) (omega arith) (omega arith) (omega arith)
   line_within (Load m) b t p a w sound form h =
-      more (b + 1) (t + 1) p a (b + 1) (t + 1000000) (p + 192) (a + 1) _ (load_within b t p a w (slice_get set.sites m) (λ site e. has_words m site sound e) h) (omega arith) (omega arith) (omega arith) (omega arith)
+      more (b + 1) (t + 1) p a (b + 1) (t + 1000000) (p + 192) (a + 1) _
+      (load_within b t p a w (slice_get set.sites m) (λ site e. has_words m site sound e) h) (omega arith)
+      (omega arith) (omega arith) (omega arith)
   line_within (Call m e input output) b t p a w sound form h =
       more (b + 1) (t + 1000000) p a (b + 1) (t + 1000000) (p + 192) (a + 1) _
       (call_within b t p a w e input output (slice_get set.sites m) (λ site e. has_words m site sound e) form.0 form.1 form.2 h) (omega arith) (omega arith) (omega arith) (omega arith)
@@ -407,8 +416,11 @@ module _ (set : Setting) where
   run_within (line ∷ lines) b t p a w sound form h =
       let next = after_line set (line_counted w) line in
       let n = length lines in
-      let r = run_within lines (b + 1) (t + steps_in line) (p + 192) (a + 1) next.world sound form.1 (line_within line b t p a (line_counted w) sound form.0 (counted_within b t p a w h)) in
-      (r.0, more (b + 1 + n) r.0 (p + 192 + 192 * n) (a + 1 + n) (b + suc n) r.0 (p + 192 * suc n) (a + suc n) (run set next.world lines).world r.1 (omega arith) (omega arith) (omega arith) (omega arith))
+      let r = run_within lines (b + 1) (t + steps_in line) (p + 192) (a + 1) next.world sound form.1 (line_within line b t p a (line_counted w) sound form.0 (counted_within b t p a w h)) in (
+        r.0,
+        more (b + 1 + n) r.0 (p + 192 + 192 * n) (a + 1 + n) (b + suc n) r.0 (p + 192 * suc n) (a + suc n)
+            (run set next.world lines).world r.1 (omega arith) (omega arith) (omega arith) (omega arith),
+      )
 
   starts_within : IsSoundSetting set → Within 0 0 0 0 (switched_on set)
   starts_within sound = record {

@@ -37,7 +37,8 @@ pub record ActsKeep (set : Setting) : Type 0 where
       → Keeps set w (done_on w x.node (item.Sense d v ∷ []) (sense_on s (place_at set x.node d) v))
   pub irq : (w : World) (n line : ℕ) (s : State) → line < 15 → slice_get w.nodes n ≡ Some s → Keeps set w (after_interrupt set w n (interrupt s line).state (interrupt s line).shown)
   pub reset : (w : World) (n : ℕ) (s : State) → slice_get w.nodes n ≡ Some s → Keeps set w (record { world = with_node w n (restarted s) w.ledger w.steps; items = item.Reset n Asked ∷ [] })
-  pub ask : (w : World) (m : ℕ) → m < length set.app.parts → w.lines < 65536 → (mo : Model) → Tied set w mo → Fares (judge set.app mo (asks (line_counted w) m).items) (Tied set (asks (line_counted w) m).world)
+  pub ask : (w : World) (m : ℕ) → m < length set.app.parts → w.lines < 65536 → (mo : Model) → Tied set w mo
+      → Fares (judge set.app mo (asks (line_counted w) m).items) (Tied set (asks (line_counted w) m).world)
   pub answer : (w : World) (m boot : ℕ) (answer : List ℕ) (site : Site) → slice_get set.sites m ≡ Some site → Keeps set w (after_answer set w m boot (Some site) (Some answer))
 
 module _ (set : Setting) (keep : ActsKeep set) where
@@ -63,8 +64,11 @@ module _ (set : Setting) (keep : ActsKeep set) where
   keeps_steps : (stops : State → Bool) (items : List Item) (n k : ℕ) (w : World) → ((w : World) → Keeps set w (only w items)) → Keeps set w (steps_of set stops items n k w)
   keeps_steps stops items n zero w f = f w
   keeps_steps stops items n (suc k) w f =
-      keeps_at w (λ s. if is_reset (stepped_node set.mac s).shown.event || stops (stepped_node set.mac s).state then after_step set w n s else then_ (after_step set w n s) (steps_of set stops items n k)) n (slice_get w.nodes n) refl (λ s e.
-      keeps_if w (is_reset (stepped_node set.mac s).shown.event || stops (stepped_node set.mac s).state) (after_step set w n s) (then_ (after_step set w n s) (steps_of set stops items n k)) (keep.step w n s e)
+      keeps_at w (λ s. if is_reset (stepped_node set.mac s).shown.event || stops
+      (stepped_node set.mac s).state then after_step set w n s else then_ (after_step set w n s) (steps_of set stops items n k)) n
+      (slice_get w.nodes n) refl (λ s e.
+      keeps_if w (is_reset (stepped_node set.mac s).shown.event || stops (stepped_node set.mac s).state)
+      (after_step set w n s) (then_ (after_step set w n s) (steps_of set stops items n k)) (keep.step w n s e)
       (keeps_then w (after_step set w n s) (steps_of set stops items n k) (keep.step w n s e) (keeps_steps stops items n k (after_step set w n s).world f)))
 
   keeps_finish : (n : ℕ) (w : World) → Keeps set w (finish set n w)
@@ -91,7 +95,8 @@ module _ (set : Setting) (keep : ActsKeep set) where
   keeps_pieces : (n k at : ℕ) (bytes : List ℕ) (w : World) → Keeps set w (put_pieces n k at bytes w)
   keeps_pieces n zero at bytes w = keeps_nothing w
   keeps_pieces n (suc k) at bytes w =
-      keeps_then w (put_on n at (take 1024 bytes) w) (put_pieces n k (at + 1024) (drop 1024 bytes)) (keeps_put n at (take 1024 bytes) w) (keeps_pieces n k (at + 1024) (drop 1024 bytes) (put_on n at (take 1024 bytes) w).world)
+      keeps_then w (put_on n at (take 1024 bytes) w) (put_pieces n k (at + 1024) (drop 1024 bytes))
+      (keeps_put n at (take 1024 bytes) w) (keeps_pieces n k (at + 1024) (drop 1024 bytes) (put_on n at (take 1024 bytes) w).world)
 
   keeps_unless_busy : (n : ℕ) (w : World) (act : World → Acted) → Keeps set w (act w) → Keeps set w (unless_busy n w act)
   keeps_unless_busy n w act f = keeps_at w (λ s. if s.cur == 0 then act w else only w (item.Busy n ∷ [])) n (slice_get w.nodes n) refl (λ s e.
@@ -110,19 +115,30 @@ module _ (set : Setting) (keep : ActsKeep set) where
   keeps_load w (Some site) f =
       let n = site.node in
       let h = f site refl in
-      let regs = register 9 site.provider ∷ register 10 site.layout.pub_from ∷ register 11 site.layout.pub_to ∷ register 12 site.layout.priv_from ∷ register 13 site.layout.priv_to ∷ register 0 0 ∷ [] in
+      let regs = register 9 site.provider ∷ register 10 site.layout.pub_from ∷ register 11 site.layout.pub_to
+      ∷ register 12 site.layout.priv_from ∷ register 13 site.layout.priv_to ∷ register 0 0 ∷ [] in
       let first = put_pieces n ((length site.text + 1023) / 1024) site.layout.pub_from site.text in
       let second = put_on n 0 (0x81 ∷ 0x13 ∷ []) in
       let third = set_all n regs in
       let last = steps_of set (λ s. false) [] n 1 in
-      let are : AreRegisters regs = ((omega arith, h.provider), ((omega arith, h.pub_from), ((omega arith, h.pub_to), ((omega arith, h.priv_from), ((omega arith, h.priv_to), ((omega arith, omega arith), tt)))))) in
+      let are : AreRegisters regs = (
+        (omega arith, h.provider),
+        (
+          (omega arith, h.pub_from),
+          (
+            (omega arith, h.pub_to),
+            ((omega arith, h.priv_from), ((omega arith, h.priv_to), ((omega arith, omega arith), tt))),
+          ),
+        ),
+      ) in
       keeps_unless_busy n w (λ w0. then_ (first w0) (λ w1. then_ (second w1) (λ w2. then_ (third w2) last)))
       (keeps_then w (first w) (λ w1. then_ (second w1) (λ w2. then_ (third w2) last)) (keeps_pieces n ((length site.text + 1023) / 1024) site.layout.pub_from site.text w)
       (keeps_then (first w).world (second (first w).world) (λ w2. then_ (third w2) last) (keeps_put n 0 (0x81 ∷ 0x13 ∷ []) (first w).world)
       (keeps_then (second (first w).world).world (third (second (first w).world).world) last (keeps_set_all n regs (second (first w).world).world are)
       (keeps_steps (λ s. false) [] n 1 (third (second (first w).world).world).world keeps_nothing))))
 
-  keeps_call : (w : World) (e input output : ℕ) (o : Option Site) → ((site : Site) → o ≡ Some site → IsWordly site) → e < 65536 → input < 65536 → output < 65536 → Keeps set w (call set w e input output o)
+  keeps_call : (w : World) (e input output : ℕ) (o : Option Site) → ((site : Site) → o ≡ Some site → IsWordly site)
+      → e < 65536 → input < 65536 → output < 65536 → Keeps set w (call set w e input output o)
   keeps_call w e input output None f a b c = keeps_nothing w
   keeps_call w e input output (Some site) f a b c =
       let n = site.node in
@@ -144,7 +160,17 @@ module _ (set : Setting) (keep : ActsKeep set) where
 
   tied_counted : (w : World) (mo : Model) → w.lines < 65536 → Tied set w mo → Tied set (line_counted w) mo
   tied_counted w mo lt t = record {
-    size = record { nodes = t.size.nodes; boots = t.size.boots; devices = t.size.devices; modules = t.size.modules; epochs = t.size.epochs; sent = t.size.sent; asks = t.size.asks; attested = t.size.attested };
+    size = record {
+      nodes = t.size.nodes;
+      boots = t.size.boots;
+      devices = t.size.devices;
+      modules =
+          t.size.modules;
+      epochs = t.size.epochs;
+      sent = t.size.sent;
+      asks = t.size.asks;
+      attested = t.size.attested;
+    };
     nodes = t.nodes;
     devices = t.devices;
     modules = t.modules;
@@ -168,14 +194,17 @@ module _ (set : Setting) (keep : ActsKeep set) where
   keeps_line words w (Put n at bytes) lt form mo t = keeps_put n at bytes (line_counted w) mo (tied_counted w mo lt t)
   keeps_line words w (Set n r v) lt form mo t = keeps_set n r v (line_counted w) form.0 form.1 mo (tied_counted w mo lt t)
   keeps_line words w (Take n at len) lt form mo t =
-      keeps_at (line_counted w) (λ s. after_take (line_counted w) n (take_from s at len).shown) n (slice_get w.nodes n) refl (λ s e. keep.take (line_counted w) n at len s e) mo (tied_counted w mo lt t)
+      keeps_at (line_counted w) (λ s. after_take (line_counted w) n (take_from s at len).shown) n
+      (slice_get w.nodes n) refl (λ s e. keep.take (line_counted w) n at len s e) mo (tied_counted w mo lt t)
   keeps_line words w (Give k n at) lt form mo t = keeps_give (line_counted w) n at (slice_get w.packets k) mo (tied_counted w mo lt t)
   keeps_line words w (Forge bytes) lt form mo t = keep.packet (line_counted w) bytes mo (tied_counted w mo lt t)
   keeps_line words w (Sense d v) lt form mo t = keeps_sense (line_counted w) d v (slice_get set.app.devices d) refl form.0 form.1 mo (tied_counted w mo lt t)
   keeps_line words w (Irq n line) lt form mo t =
-      keeps_at (line_counted w) (λ s. after_interrupt set (line_counted w) n (interrupt s line).state (interrupt s line).shown) n (slice_get w.nodes n) refl (λ s e. keep.irq (line_counted w) n line s form e) mo (tied_counted w mo lt t)
+      keeps_at (line_counted w) (λ s. after_interrupt set (line_counted w) n (interrupt s line).state (interrupt s line).shown) n
+      (slice_get w.nodes n) refl (λ s e. keep.irq (line_counted w) n line s form e) mo (tied_counted w mo lt t)
   keeps_line words w (Reset n) lt form mo t =
-      keeps_at (line_counted w) (λ s. record { world = with_node (line_counted w) n (restarted s) w.ledger w.steps; items = item.Reset n Asked ∷ [] }) n (slice_get w.nodes n) refl (λ s e. keep.reset (line_counted w) n s e) mo (tied_counted w mo lt t)
+      keeps_at (line_counted w) (λ s. record { world = with_node (line_counted w) n (restarted s) w.ledger w.steps; items = item.Reset n Asked ∷ [] })
+      n (slice_get w.nodes n) refl (λ s e. keep.reset (line_counted w) n s e) mo (tied_counted w mo lt t)
   keeps_line words w (Ask m) lt form mo t = keep.ask w m form lt mo t
   keeps_line words w (Answer m boot k) lt form mo t = keeps_answer (line_counted w) m boot (slice_get set.sites m) (slice_get w.packets k) refl mo (tied_counted w mo lt t)
   keeps_line words w (Load m) lt form mo t = keeps_load (line_counted w) (slice_get set.sites m) (words m) mo (tied_counted w mo lt t)

@@ -33,7 +33,8 @@ same_if w false x y f g = g
 same_steps : (set : Setting) (stops : State → Bool) (items : List Item) (n k : ℕ) (w : World) → Same w (steps_of set stops items n k w)
 same_steps set stops items n zero w = refl
 same_steps set stops items n (suc k) w =
-    same_at w (λ s. if is_reset (step set.mac s).shown.event || stops (step set.mac s).state then after_step set w n s else then_ (after_step set w n s) (steps_of set stops items n k)) (slice_get w.nodes n) (λ s.
+    same_at w (λ s. if is_reset (step set.mac s).shown.event || stops (step set.mac s).state then after_step set w n s else then_
+    (after_step set w n s) (steps_of set stops items n k)) (slice_get w.nodes n) (λ s.
     same_if w (is_reset (step set.mac s).shown.event || stops (step set.mac s).state) (after_step set w n s) (then_ (after_step set w n s) (steps_of set stops items n k)) refl
     (same_steps set stops items n k (after_step set w n s).world))
 
@@ -125,7 +126,8 @@ counts_lines set w (Take n at len) = same_at w (λ s. after_take w n (take_from 
 counts_lines set w (Give k n at) = same_give w n at (slice_get w.packets k)
 counts_lines set w (Forge bytes) = refl
 counts_lines set w (Sense d v) = same_sense set w d v (slice_get set.app.devices d)
-counts_lines set w (Irq n line) = same_at w (λ s. after_interrupt set w n (interrupt s line).state (interrupt s line).shown) (slice_get w.nodes n) (λ s. same_irq set w n (interrupt s line).state (interrupt s line).shown)
+counts_lines set w (Irq n line) = same_at w (λ s. after_interrupt set w n (interrupt s line).state (interrupt s line).shown)
+    (slice_get w.nodes n) (λ s. same_irq set w n (interrupt s line).state (interrupt s line).shown)
 counts_lines set w (Reset n) = same_at w _ (slice_get w.nodes n) (λ s. refl)
 counts_lines set w (Ask m) = refl
 counts_lines set w (Answer m boot k) = same_answered set w m boot (slice_get set.sites m) (slice_get w.packets k)

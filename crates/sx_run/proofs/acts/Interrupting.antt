@@ -62,9 +62,14 @@ still_module : (set : Setting) (n m : ℕ) (q : PartTree) (site : Site) (s s2 : 
     → ((sec : Section) → Lives s.sections.live sec → KeptPublic sec s.mem s2.mem) → ((sec : Section) → Lives s.sections.live sec → PrivateKept sec s.mem s2.mem)
     → ModuleTied set n m q site s x sent → ModuleTied set n m q site s2 x sent
 still_module set n m q site s s2 x sent node idle still same public private (Absent none f) =
-    Absent none (λ sec l. let l2 : Lives s.sections.live sec = subst (λ (z : Sections). Lives z.live sec) same l in at_site_same n s.mem s2.mem sec site (public_same sec s.mem s2.mem (public sec l2)) ∙ f sec l2)
+    Absent none (λ sec l. let l2 : Lives s.sections.live sec = subst
+    (λ (z : Sections). Lives z.live sec) same l in at_site_same n s.mem s2.mem sec site (public_same sec s.mem s2.mem (public sec l2)) ∙ f sec l2)
 still_module set n m q site s s2 x sent node idle still same public private (Rests sec pr p i cur pend h) =
-    Rests sec pr p (record { lives = subst (λ (z : Sections). Lives z.live sec) (sym same) i.lives; here = at_site_same n s.mem s2.mem sec site (public_same sec s.mem s2.mem (public sec i.lives)) ∙ i.here })
+    Rests sec pr p (record {
+      lives = subst (λ (z : Sections). Lives z.live sec)
+          (sym same) i.lives;
+      here = at_site_same n s.mem s2.mem sec site (public_same sec s.mem s2.mem (public sec i.lives)) ∙ i.here;
+    })
     (λ e. nonzero s sec node i.lives (sym e ∙ still)) pend
     (subst (λ bs. SameState (ends_of set.app m) (state_of q.tree (ends_of set.app m) bs) pr.cells pr.ends sent) (sym (kept_bytes sec s.mem s2.mem (private sec i.lives))) h)
 still_module set n m q site s s2 x sent node idle still same public private (Runs sec pr p i cur u) = absurd (nonzero s sec node i.lives (sym cur ∙ idle))
@@ -81,7 +86,13 @@ module _ (set : Setting) (w : World) (mo : Model) (n : ℕ) (s : State) (sound :
 
   number_i : (k : ℕ) (x : Window) → slice_get s.devices k ≡ Some x → slice_get (devices_at n 0 set.app.devices) k ≡ Some (device_number set.app n k)
   number_i k x e =
-      let lt : k < length (devices_at n 0 set.app.devices) = omega (arith, get_within s.devices k x e, shapes_long s.devices, ap length node_i.windows, windows_long n 0 set.app.devices set.places sound.places) in
+      let lt : k < length (devices_at n 0 set.app.devices) = omega (
+        arith,
+        get_within s.devices k x e,
+        shapes_long s.devices,
+        ap length node_i.windows,
+        windows_long n 0 set.app.devices set.places sound.places,
+      ) in
       let v : (v : ℕ) × (slice_get (devices_at n 0 set.app.devices) k ≡ Some v) = get_some (devices_at n 0 set.app.devices) k lt in
       subst (λ z. slice_get (devices_at n 0 set.app.devices) k ≡ Some z) (sym (index_get (devices_at n 0 set.app.devices) k v.0 v.1)) v.1
 
@@ -105,7 +116,19 @@ module _ (set : Setting) (w : World) (mo : Model) (n : ℕ) (s : State) (sound :
     mo2 = record { boots = mo.boots; devices = reads; modules = mo.modules; sent = mo.sent; asks = mo.asks; epochs = mo.epochs }
 
     same_known : (k : Maker) (e : Made) → Known set.app mo k e → Known set.app mo2 k e
-    same_known maker.Deployer e h = record { x = h.x; there = h.there; attested = h.attested; a = h.a; older = h.older; «end» = h.«end»; held = h.held; epoch = h.epoch; header = h.header; floor = h.floor; given = h.given }
+    same_known maker.Deployer e h = record {
+      x = h.x;
+      there = h.there;
+      attested = h.attested;
+      a = h.a;
+      older = h.older;
+      «end» = h.«end»;
+      held = h.held;
+      epoch = h.epoch;
+      header = h.header;
+      floor = h.floor;
+      given = h.given;
+    }
     same_known (maker.Module k) e h = (λ a. let f = h.0 a in record { x = f.x; there = f.there; vouched = f.vouched }, h.1)
 
     ended_tied : Tied set (with_node w n s2 w.ledger w.steps) mo2
@@ -146,7 +169,8 @@ module _ (set : Setting) (w : World) (mo : Model) (n : ℕ) (s : State) (sound :
         (λ z e. subst (λ a. Tied set (with_node w n s2 w.ledger w.steps) a) (sym e) ended_tied)
         (touches_fare set w mo n s boot_i.0 sound t here boot_i.1 0 strange x.touches s.devices x.devices mo.devices refl t.size.devices traced apart_i tied_i))
 
-  by_outcome : (o : Outcome) → TracedBy s.sections.live 0 s.devices o → ((sec : Section) → Lives s.sections.live sec → PublicBy sec s.mem o) → ((sec : Section) → Lives s.sections.live sec → KeptBy sec s.mem o)
+  by_outcome : (o : Outcome) → TracedBy s.sections.live 0 s.devices o → ((sec : Section) → Lives s.sections.live sec → PublicBy sec s.mem o)
+      → ((sec : Section) → Lives s.sections.live sec → KeptBy sec s.mem o)
       → IsNode (machine_interrupted s o).state
       → (let a = after_interrupt set w n (machine_interrupted s o).state (Ok (machine_interrupted s o).shown) in Fares (judge set.app mo a.items) (Tied set a.world))
   by_outcome (Finished regs x) traced public private node = ended_fares regs x traced public private node
@@ -156,7 +180,9 @@ module _ (set : Setting) (w : World) (mo : Model) (n : ℕ) (s : State) (sound :
 pub irq_keeps : (set : Setting) → IsSoundSetting set → (w : World) (n line : ℕ) (s : State) → slice_get w.nodes n ≡ Some s → Keeps set w (after_interrupt set w n (irq s line).state (irq s line).shown)
 irq_keeps set sound w n line s here mo t = by (irq_refusal s) refl
   where
-    by : (r : Option Refused) → irq_refusal s ≡ r → (let i = unless r s (machine_interrupted s (exec s.sections 0 (interrupt line s.regs) (start s))) in let a = after_interrupt set w n i.state i.shown in Fares (judge set.app mo a.items) (Tied set a.world))
+    by : (r : Option Refused) → irq_refusal s ≡ r → (let i = unless r s
+        (machine_interrupted s (exec s.sections 0 (interrupt line s.regs) (start s))) in let a = after_interrupt set w n i.state i.shown in Fares
+        (judge set.app mo a.items) (Tied set a.world))
     by None e =
         let idle = irq_idle s e in
         let o = exec s.sections 0 (interrupt line s.regs) (start s) in

@@ -44,7 +44,8 @@ pub record Calm (s s2 : State) : Type 0 where
   pub public : (sec : Section) → Lives s.sections.live sec → public_bytes sec.layout s2.mem ≡ public_bytes sec.layout s.mem
   pub private : (sec : Section) → Lives s.sections.live sec → private_bytes sec.layout s2.mem ≡ private_bytes sec.layout s.mem
 
-calm_module : (set : Setting) (n m : ℕ) (q : PartTree) (site : Site) (s s2 : State) (x : Standing) (sent : List (List ℕ)) → IsNode s → Calm s s2 → ModuleTied set n m q site s x sent → ModuleTied set n m q site s2 x sent
+calm_module : (set : Setting) (n m : ℕ) (q : PartTree) (site : Site) (s s2 : State) (x : Standing) (sent : List (List ℕ))
+    → IsNode s → Calm s s2 → ModuleTied set n m q site s x sent → ModuleTied set n m q site s2 x sent
 calm_module set n m q site s s2 x sent node c (Absent none f) =
     Absent none (λ sec l. let l2 : Lives s.sections.live sec = subst (λ (z : Sections). Lives z.live sec) c.sections l in at_site_same n s.mem s2.mem sec site (c.public sec l2) ∙ f sec l2)
 calm_module set n m q site s s2 x sent node c (Rests sec pr p i cur pend h) =
@@ -65,7 +66,13 @@ calm_tied set w mo n s s2 t here c =
       asks = refl;
       epochs = refl;
       other_boots = λ k ne. refl;
-      node = λ boot e. record { windows = ap Rattle.sx_run.proofs.tie.Tied.shapes c.devices ∙ node.windows; node = c.node; runner = inl c.still; count = c.boot ∙ node.count ∙ some_inj b.0 boot (sym b.1 ∙ e) };
+      node = λ boot e. record {
+        windows = ap Rattle.sx_run.proofs.tie.Tied.shapes c.devices
+            ∙ node.windows;
+        node = c.node;
+        runner = inl c.still;
+        count = c.boot ∙ node.count ∙ some_inj b.0 boot (sym b.1 ∙ e);
+      };
       devices_here = λ k x r xk rk. t.devices n k s x r here (subst (λ z. slice_get z k ≡ Some x) c.devices xk) rk;
       devices_else = λ j k z x ne zk xk. refl;
       modules_here = λ m q site x pk on_node sk xk. calm_module set n m q site s s2 x mo.sent node.node c
@@ -86,7 +93,8 @@ refused_fares set n Busy mo good h = h
 refused_fares set n Guarded mo good h = h
 refused_fares set n Masked mo good h = h
 
-calm_unless : (set : Setting) (w : World) (n : ℕ) (s : State) (o : Option Refused) (done : Shown (Unit {0})) → slice_get w.nodes n ≡ Some s → (o ≡ None → IsNode s → Calm s done.state) → Keeps set w (done_on w n [] (unless o s done))
+calm_unless : (set : Setting) (w : World) (n : ℕ) (s : State) (o : Option Refused) (done : Shown (Unit {0}))
+    → slice_get w.nodes n ≡ Some s → (o ≡ None → IsNode s → Calm s done.state) → Keeps set w (done_on w n [] (unless o s done))
 calm_unless set w n s None done here f mo t =
     let b : (boot : ℕ) × (slice_get mo.boots n ≡ Some boot) = get_some mo.boots n (omega (arith, get_within w.nodes n s here, t.size.nodes, t.size.boots)) in
     calm_tied set w mo n s done.state t here (f refl (t.nodes n s b.0 here b.1).node)
@@ -95,7 +103,17 @@ calm_unless set w n s (Some why) done here f mo t = refused_fares set n why mo (
 pub set_keeps : (set : Setting) (w : World) (n r v : ℕ) (s : State) → r < 16 → v < 65536 → slice_get w.nodes n ≡ Some s → Keeps set w (done_on w n [] (set_register s r v))
 set_keeps set w n r v s rl vl here =
     calm_unless set w n s (busy s) (record { state = record s { regs = set_reg s.regs r v; last = if r == 0 then 0 else s.last }; shown = tt }) here (λ none node.
-    record { idle = busy_idle s none; still = busy_idle s none; sections = refl; devices = refl; boot = refl; node = set_is_node s r v vl (busy_idle s none) node; public = λ sec l. refl; private = λ sec l. refl })
+    record {
+      idle = busy_idle s none;
+      still = busy_idle s none;
+      sections = refl;
+      devices = refl;
+      boot = refl;
+      node = set_is_node s r v vl
+          (busy_idle s none) node;
+      public = λ sec l. refl;
+      private = λ sec l. refl;
+    })
 
 -- Bytes.
 
@@ -115,7 +133,9 @@ free_of s at n e = by (s.cur == 0) refl e
         let q = or_parts (meets_public s.sections.live at n) _ p.1 in
         (q.0, (or_parts (meets_private s.sections.live at n) _ q.1).0)
 
-    by : (b : Bool) → (s.cur == 0) ≡ b → (if not b then Some Busy else if passes_end at n || (meets_public s.sections.live at n || (meets_private s.sections.live at n || meets_device (Rattle.sx_bus.specs.Devices.places_of s.devices) at n)) then Some Guarded else None) ≡ None → Free s at n
+    by : (b : Bool) → (s.cur == 0) ≡ b → (if not b then Some Busy else if passes_end at n ||
+        (meets_public s.sections.live at n || (meets_private s.sections.live at n || meets_device
+        (Rattle.sx_bus.specs.Devices.places_of s.devices) at n)) then Some Guarded else None) ≡ None → Free s at n
     by true t e = let g = second _ refl e in record { idle = eqb-true s.cur 0 t; public = g.0; private = g.1 }
     by false t e = absurd cc
 
@@ -131,7 +151,10 @@ put_keeps set w n at bytes s here =
       boot = refl;
       node = put_is_node s at bytes node;
       public = λ sec l. same_bytes s.mem (put_bytes s.mem at bytes) sec.layout.pub_from (sec.layout.pub_to - sec.layout.pub_from) (λ k lo hi.
-          put_other bytes s.mem at k (clear_of_range at (length bytes) sec.layout.pub_from sec.layout.pub_to k (none_any (λ z. meets at (length bytes) z.layout.pub_from z.layout.pub_to) s.sections.live sec f.public l) lo (omega (arith, lo, hi))));
+          put_other bytes s.mem at k (clear_of_range at (length bytes) sec.layout.pub_from sec.layout.pub_to k
+          (none_any (λ z. meets at (length bytes) z.layout.pub_from z.layout.pub_to) s.sections.live sec f.public l) lo (omega (arith, lo, hi))));
       private = λ sec l. same_bytes s.mem (put_bytes s.mem at bytes) sec.layout.priv_from (sec.layout.priv_to - sec.layout.priv_from) (λ k lo hi.
-          put_other bytes s.mem at k (clear_of_range at (length bytes) sec.layout.priv_from sec.layout.priv_to k (none_any (λ z. meets at (length bytes) z.layout.priv_from z.layout.priv_to) s.sections.live sec f.private l) lo (omega (arith, lo, hi))));
+          put_other bytes s.mem at k (clear_of_range at (length bytes) sec.layout.priv_from sec.layout.priv_to k
+          (none_any (λ z. meets at (length bytes) z.layout.priv_from z.layout.priv_to) s.sections.live sec f.private l) lo
+          (omega (arith, lo, hi))));
     })

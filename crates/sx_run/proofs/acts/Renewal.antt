@@ -63,7 +63,8 @@ raised_small m (l ∷ ls) [] s h c = omega arith
 raised_small m (l ∷ ls) (e ∷ es) s h zero = head_small (is_of m l) e (h 0) (or_parts (is_of m l && nat_le 255 e) (is_spent m ls es) s).0
 raised_small m (l ∷ ls) (e ∷ es) s h (suc c) = raised_small m ls es (or_parts (is_of m l && nat_le 255 e) (is_spent m ls es) s).1 (λ k. h (suc k)) c
 
-pub renewed_small : (m : ℕ) (ls : List Link) (o : Option ℕ) (es : List ℕ) (b : ℕ) → may_attest m ls es o b ≡ true → ((c : ℕ) → slice_index es c ≤ 255) → (c : ℕ) → slice_index (renewed m ls o es) c ≤ 255
+pub renewed_small : (m : ℕ) (ls : List Link) (o : Option ℕ) (es : List ℕ) (b : ℕ) → may_attest m ls es o b ≡ true
+    → ((c : ℕ) → slice_index es c ≤ 255) → (c : ℕ) → slice_index (renewed m ls o es) c ≤ 255
 renewed_small m ls None es b may h c = h c
 renewed_small m ls (Some last) es b may h c = raised_small m ls es (not-true (is_spent m ls es) (and_parts (nat_lt last b) (not (is_spent m ls es)) may).1) h c
 

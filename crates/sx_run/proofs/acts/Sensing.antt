@@ -54,7 +54,9 @@ place_is set n d x e same =
     found (position_from (λ k. k == d) 0 (devices_at n 0 set.app.devices)) refl
     (λ none. position_some (λ k. k == d) 0 (devices_at n 0 set.app.devices) l.0 d there (eq-eqb d d refl) none)
   where
-    found : (o : Option ℕ) → position_from (λ k. k == d) 0 (devices_at n 0 set.app.devices) ≡ o → (position_from (λ k. k == d) 0 (devices_at n 0 set.app.devices) ≡ None → ⊥) → slice_get (devices_at n 0 set.app.devices) (or_else o) ≡ Some d
+    found : (o : Option ℕ) → position_from (λ k. k == d) 0 (devices_at n 0 set.app.devices) ≡ o
+        → (position_from (λ k. k == d) 0 (devices_at n 0 set.app.devices) ≡ None → ⊥)
+        → slice_get (devices_at n 0 set.app.devices) (or_else o) ≡ Some d
     found None e f = absurd (f e)
     found (Some k) e f =
         let p = position_is (λ k. k == d) 0 (devices_at n 0 set.app.devices) k e in
@@ -72,7 +74,8 @@ sensed_other (x ∷ ws) zero v (suc j) ne = refl
 sensed_other (x ∷ ws) (suc k) v zero ne = refl
 sensed_other (x ∷ ws) (suc k) v (suc j) ne = sensed_other ws k v j (λ e. ne (ap suc e))
 
-module _ (set : Setting) (sound : IsSoundSetting set) (w : World) (mo : Model) (d v : ℕ) (x : AppDevice) (s : State) (dev : slice_get set.app.devices d ≡ Some x) (sensor : is_sensor x.kind ≡ true) (lt : v < 32768)
+module _ (set : Setting) (sound : IsSoundSetting set) (w : World) (mo : Model) (d v : ℕ) (x : AppDevice)
+    (s : State) (dev : slice_get set.app.devices d ≡ Some x) (sensor : is_sensor x.kind ≡ true) (lt : v < 32768)
     (t : Tied set w mo) (here : slice_get w.nodes x.node ≡ Some s) (idle : s.cur ≡ 0) where
   abbrev k : ℕ
   k = place_at set x.node d
@@ -96,10 +99,29 @@ module _ (set : Setting) (sound : IsSoundSetting set) (w : World) (mo : Model) (
   number_d = index_get (devices_at x.node 0 set.app.devices) k d place_d
 
   window_d : (wd : Window) × (slice_get s.devices k ≡ Some wd)
-  window_d = get_some s.devices k (omega (arith, get_within (devices_at x.node 0 set.app.devices) k d place_d, shapes_long s.devices, ap length node_d.windows, windows_long x.node 0 set.app.devices set.places sound.places))
+  window_d = get_some s.devices k (omega (
+    arith,
+    get_within (devices_at x.node 0 set.app.devices) k d place_d,
+    shapes_long s.devices,
+    ap length node_d.windows,
+    windows_long x.node 0 set.app.devices set.places sound.places,
+  ))
 
   same_known : (m : Maker) (e : Made) → Known set.app mo m e → Known set.app mo2 m e
-  same_known maker.Deployer e h = record { x = h.x; there = h.there; attested = h.attested; a = h.a; older = h.older; «end» = h.«end»; held = h.held; epoch = h.epoch; header = h.header; floor = h.floor; given = h.given }
+  same_known maker.Deployer e h = record {
+    x = h.x;
+    there = h.there;
+    attested = h.attested;
+    a = h.a;
+    older =
+        h.older;
+    «end» = h.«end»;
+    held = h.held;
+    epoch = h.epoch;
+    header = h.header;
+    floor = h.floor;
+    given = h.given;
+  }
   same_known (maker.Module m) e h = (λ a. let f = h.0 a in record { x = f.x; there = f.there; vouched = f.vouched }, h.1)
 
   same_module : (m : ℕ) (q : PartTree) (site : Site) (z : Standing) → ModuleTied set x.node m q site s z mo.sent → ModuleTied set x.node m q site s2 z mo.sent
@@ -124,9 +146,13 @@ module _ (set : Setting) (sound : IsSoundSetting set) (w : World) (mo : Model) (
     };
     devices_here = λ j y r yj rj. elim (cases_eq j k) [
       | inl same ↦
-          let ys : y ≡ record window_d.0 { value = v; fresh = true } = some_inj y _ (sym yj ∙ subst (λ i. slice_get (with_sample s.devices k v) i ≡ Some (record window_d.0 { value = v; fresh = true })) (sym same) (sensed_same s.devices k v window_d.0 window_d.1)) in
+          let ys : y ≡ record window_d.0 { value = v; fresh = true } = some_inj y _
+          (sym yj ∙ subst (λ i. slice_get (with_sample s.devices k v) i ≡ Some (record window_d.0 { value = v; fresh = true }))
+          (sym same) (sensed_same s.devices k v window_d.0 window_d.1)) in
           let old : (old : Reading) × (slice_get mo.devices d ≡ Some old) = get_some mo.devices d (omega (arith, get_within set.app.devices d x dev, t.size.devices)) in
-          let rs : r ≡ record { value = v; fresh = true } = some_inj r (record { value = v; fresh = true }) (sym rj ∙ subst (λ i. slice_get (slice_set mo.devices d (record { value = v; fresh = true })) i ≡ Some (record { value = v; fresh = true })) (sym (ap (λ i. device_number set.app x.node i) same ∙ number_d))
+          let rs : r ≡ record { value = v; fresh = true } = some_inj r (record { value = v; fresh = true })
+          (sym rj ∙ subst (λ i. slice_get (slice_set mo.devices d (record { value = v; fresh = true })) i ≡ Some
+          (record { value = v; fresh = true })) (sym (ap (λ i. device_number set.app x.node i) same ∙ number_d))
           (get_same mo.devices d (record { value = v; fresh = true }) old.0 old.1)) in
           record { value = ap (λ (z : Reading). z.value) rs ∙ sym (ap (λ (z : Window). z.value) ys); fresh = ap (λ (z : Reading). z.fresh) rs ∙ sym (ap (λ (z : Window). z.fresh) ys) }
       | inr ne ↦
@@ -139,7 +165,9 @@ module _ (set : Setting) (sound : IsSoundSetting set) (w : World) (mo : Model) (
         let dd = device_here set j i z.devices y sound (t.nodes j z bj.0 zj bj.1).windows yi in
         get_other mo.devices d (device_number set.app j i) (record { value = v; fresh = true }) (λ e.
         ne (sym dd.2 ∙ ap (λ (g : AppDevice). g.node) (some_inj dd.0 x (sym dd.1 ∙ subst (λ g. slice_get set.app.devices g ≡ Some x) (sym e) dev))));
-    modules_here = λ m q site z pm on_node sm zm. same_module m q site z (subst (λ j. ModuleTied set j m q site s z mo.sent) on_node (t.modules m q site s z pm sm (subst (λ j. slice_get w.nodes j ≡ Some s) (sym on_node) here) zm));
+    modules_here = λ m q site z pm on_node sm zm. same_module m q site z
+        (subst (λ j. ModuleTied set j m q site s z mo.sent) on_node
+        (t.modules m q site s z pm sm (subst (λ j. slice_get w.nodes j ≡ Some s) (sym on_node) here) zm));
     modules_else = λ m q site z y pm ne sm zm ym. t.modules m q site z y pm sm zm ym;
     standing = λ m z zm. (z, zm, refl, refl);
     known = λ e h. same_known e.maker e (t.ledger e h);
@@ -148,7 +176,13 @@ module _ (set : Setting) (sound : IsSoundSetting set) (w : World) (mo : Model) (
     where
       number_of : (j : ℕ) (y : Window) → slice_get s.devices j ≡ Some y → device_number set.app x.node j ≡ d → slice_get (devices_at x.node 0 set.app.devices) j ≡ Some d
       number_of j y e same =
-          let lt2 : j < length (devices_at x.node 0 set.app.devices) = omega (arith, get_within s.devices j y e, shapes_long s.devices, ap length node_d.windows, windows_long x.node 0 set.app.devices set.places sound.places) in
+          let lt2 : j < length (devices_at x.node 0 set.app.devices) = omega (
+            arith,
+            get_within s.devices j y e,
+            shapes_long s.devices,
+            ap length node_d.windows,
+            windows_long x.node 0 set.app.devices set.places sound.places,
+          ) in
           let g : (g : ℕ) × (slice_get (devices_at x.node 0 set.app.devices) j ≡ Some g) = get_some (devices_at x.node 0 set.app.devices) j lt2 in
           g.1 ∙ ap Some (sym (index_get (devices_at x.node 0 set.app.devices) j g.0 g.1) ∙ same)
 
@@ -158,11 +192,13 @@ module _ (set : Setting) (sound : IsSoundSetting set) (w : World) (mo : Model) (
   sense_fares : Fares (judge set.app mo (item.Sense d v ∷ [])) (Tied set (with_node w x.node s2 w.ledger w.steps))
   sense_fares = subst (λ (o : Option Model). Fares (judge_on o (λ z. Going z)) (Tied set (with_node w x.node s2 w.ledger w.steps))) (sym sense_step) sense_tied
 
-pub sense_keeps : (set : Setting) → IsSoundSetting set → (w : World) (d v : ℕ) (x : AppDevice) (s : State) → slice_get set.app.devices d ≡ Some x → is_sensor x.kind ≡ true → v < 32768 → slice_get w.nodes x.node ≡ Some s
+pub sense_keeps : (set : Setting) → IsSoundSetting set → (w : World) (d v : ℕ) (x : AppDevice) (s : State)
+    → slice_get set.app.devices d ≡ Some x → is_sensor x.kind ≡ true → v < 32768 → slice_get w.nodes x.node ≡ Some s
     → Keeps set w (done_on w x.node (item.Sense d v ∷ []) (sense_on s (place_at set x.node d) v))
 sense_keeps set sound w d v x s dev sensor lt here mo t = by (busy s) refl
   where
-    by : (o : Option Refused) → busy s ≡ o → (let a = done_on w x.node (item.Sense d v ∷ []) (unless o s (record { state = record s { devices = with_sample s.devices (place_at set x.node d) v }; shown = tt })) in
+    by : (o : Option Refused) → busy s ≡ o → (let a = done_on w x.node (item.Sense d v ∷ [])
+        (unless o s (record { state = record s { devices = with_sample s.devices (place_at set x.node d) v }; shown = tt })) in
         Fares (judge set.app mo a.items) (Tied set a.world))
     by None e = sense_fares set sound w mo d v x s dev sensor lt t here (busy_idle s e)
     by (Some why) e = refused_fares set x.node why mo (Tied set (with_node w x.node s w.ledger w.steps)) (same_tied set w mo x.node s t here)

@@ -48,7 +48,8 @@ cur_of s t h = elim (cases_Bool (own_of t == own_of s)) [
 ]
 
 -- a deployed module that rests or is absent, at a step of other code that leaves the sections
-pub bystander : (set : Setting) (n m : ℕ) (q : PartTree) (site : Site) (s : State) (x : Standing) (sent : List (List ℕ)) (laws : MachineLaws set.mac) → IsNode s → violation_of (step set.mac s).shown.event ≡ None
+pub bystander : (set : Setting) (n m : ℕ) (q : PartTree) (site : Site) (s : State) (x : Standing) (sent : List (List ℕ)) (laws : MachineLaws set.mac)
+    → IsNode s → violation_of (step set.mac s).shown.event ≡ None
     → (step set.mac s).state.sections ≡ s.sections → ((sec : Section) → Lives s.sections.live sec → is_at_site n s.mem sec site ≡ true → (sec.id ≢ 0) × (own_of s ≢ sec.id) × (s.cur ≢ sec.id))
     → ModuleTied set n m q site s x sent → ModuleTied set n m q site (step set.mac s).state x sent
 bystander set n m q site s x sent laws node quiet same foreign (Absent none f) =
@@ -73,7 +74,8 @@ bystander set n m q site s x sent laws node quiet same foreign (Rests sec pr p i
 bystander set n m q site s x sent laws node quiet same foreign (Runs sec pr p i c u) = absurd ((foreign sec i.lives i.here).2 c)
 
 -- the same where the step is of other code altogether: sections may come and go
-pub onlooker : (set : Setting) (n m : ℕ) (q : PartTree) (site : Site) (s : State) (x : Standing) (sent : List (List ℕ)) (laws : MachineLaws set.mac) → IsNode s → violation_of (step set.mac s).shown.event ≡ None
+pub onlooker : (set : Setting) (n m : ℕ) (q : PartTree) (site : Site) (s : State) (x : Standing) (sent : List (List ℕ)) (laws : MachineLaws set.mac)
+    → IsNode s → violation_of (step set.mac s).shown.event ≡ None
     → ((sec : Section) → Lives (step set.mac s).state.sections.live sec → Lives s.sections.live sec ⊎ (is_at_site n (step set.mac s).state.mem sec site ≡ false))
     → ((sec : Section) → Lives s.sections.live sec → is_at_site n s.mem sec site ≡ true → (sec.id ≢ 0) × (own_of s ≢ sec.id) × (s.cur ≢ sec.id))
     → ModuleTied set n m q site s x sent → ModuleTied set n m q site (step set.mac s).state x sent
@@ -151,7 +153,9 @@ pub tied_read : (app : AppTree) (n k v : ℕ) (ws : List Window) (rs : List Read
 tied_read app n k v ws rs w kw wv apart h j x r jx jr = elim (cases_eq j k) [
   | inl same ↦
       let xw : x ≡ stale w = some_inj x (stale w) (sym jx ∙ subst (λ i. slice_get (cleared ws k) i ≡ Some (stale w)) (sym same) (cleared_same ws k w kw)) in
-      elim (set_cases rs (device_number app n k) (record { value = v; fresh = false }) r (subst (λ i. slice_get (slice_set rs (device_number app n k) (record { value = v; fresh = false })) (device_number app n i) ≡ Some r) same jr)) [
+      elim (set_cases rs (device_number app n k) (record { value = v; fresh = false }) r
+      (subst (λ i. slice_get (slice_set rs (device_number app n k) (record { value = v; fresh = false }))
+      (device_number app n i) ≡ Some r) same jr)) [
         | inl e ↦ record { value = ap (λ (z : Reading). z.value) e ∙ sym wv ∙ sym (ap (λ (z : Window). z.value) xw); fresh = ap (λ (z : Reading). z.fresh) e ∙ sym (ap (λ (z : Window). z.fresh) xw) }
         | inr bad ↦ absurd bad
       ]
@@ -170,7 +174,8 @@ pub replayed : (app : AppTree) (n own : ℕ) (live : List Section) (ts : List To
 replayed app n own live [] a b rs h apart t = subst (λ z. DevicesTied app n z rs) (sym h) t
 replayed app n own live (touch.Quiet ∷ ts) a b rs h apart t = replayed app n own live ts a b rs h apart t
 replayed app n own live (touch.DeviceRead k v ∷ ts) a b rs h apart t =
-    replayed app n own live ts (cleared a k) b (slice_set rs (device_number app n k) (record { value = v; fresh = false })) h.6 (set_apart app n k a h.0 h.1 apart) (tied_read app n k v a rs h.0 h.1 h.4 apart t)
+    replayed app n own live ts (cleared a k) b (slice_set rs (device_number app n k) (record { value = v; fresh = false })) h.6
+    (set_apart app n k a h.0 h.1 apart) (tied_read app n k v a rs h.0 h.1 h.4 apart t)
 replayed app n own live (touch.DeviceWrite k v ∷ ts) a b rs h apart t = replayed app n own live ts a b rs h.4 apart t
 
 pub replayed_shapes : (own : ℕ) (live : List Section) (ts : List Touch) (a b : List Window) → Replays live own ts a b → shapes b ≡ shapes a

@@ -112,7 +112,8 @@ ordered_quiet mac s None q = order_if (in_order s.sections.live s.cur (pc_of s))
 pub quiet_order : (mac : Mac) (s : State) → violation_of (step mac s).shown.event ≡ None → in_order s.sections.live s.cur (pc_of s) ≡ true
 quiet_order mac s q = outside_if (word_outside s.sections.live (pc_of s)) q
   where
-    outside_if : (b : Bool) → violation_of (settled_step s (cond b (ordered mac s (device_at s.devices (pc_of s))) (Violated bad.Fetch))).shown.event ≡ None → in_order s.sections.live s.cur (pc_of s) ≡ true
+    outside_if : (b : Bool) → violation_of (settled_step s (cond b (ordered mac s (device_at s.devices (pc_of s))) (Violated bad.Fetch))).shown.event
+        ≡ None → in_order s.sections.live s.cur (pc_of s) ≡ true
     outside_if true q = ordered_quiet mac s (device_at s.devices (pc_of s)) q
     outside_if false q = absurd (some_none bad.Fetch q)
 

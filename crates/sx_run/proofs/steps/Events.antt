@@ -44,7 +44,8 @@ told_plain mac g m0 m t e pl same (Removes s f r w) =
     some_none : ◌≡◌ {A = Option Section} (Some s) None → ⊥
     some_none e = cc
 
-settled_plain : (mac : Mac) (s : State) (o : Outcome) → Placed s.sections → ToldBy mac (given_at_pc mac s) s.mem o → (settled_step s o).state.sections ≡ s.sections → violation_of (settled_step s o).shown.event ≡ None → IsPlain (settled_step s o).shown.event
+settled_plain : (mac : Mac) (s : State) (o : Outcome) → Placed s.sections → ToldBy mac (given_at_pc mac s) s.mem o
+    → (settled_step s o).state.sections ≡ s.sections → violation_of (settled_step s o).shown.event ≡ None → IsPlain (settled_step s o).shown.event
 settled_plain mac s (Finished regs x) pl h same q = left_plain ((own_of s == 0) || (holder s.sections.live (slice_index regs 0) == own_of s)) (own_of s)
 settled_plain mac s (Violated v) pl h same q = absurd (some_none q)
   where

@@ -189,7 +189,8 @@ device_of_from a at k w d g = rw (d, g) refl
 none_some : {X : Type 0} → (v : X) → ◌≡◌ {A = Option X} (Some v) None → ⊥
 none_some v e = cc
 
-module _ (set : Setting) (sound : IsSoundSetting set) (m : ℕ) (q : PartTree) (site : Site) (s : State) (sec : Section) (boot : ℕ) (dep : IsDeployedModule set m q site) (node : NodeTied set q.node s boot) (is : IsModule q.node site s sec) where
+module _ (set : Setting) (sound : IsSoundSetting set) (m : ℕ) (q : PartTree) (site : Site) (s : State)
+    (sec : Section) (boot : ℕ) (dep : IsDeployedModule set m q site) (node : NodeTied set q.node s boot) (is : IsModule q.node site s sec) where
   abbrev setup : Setup
   setup = setup_at set.mac q.tree (ends_of set.app m) sec s
 
@@ -215,12 +216,21 @@ module _ (set : Setting) (sound : IsSoundSetting set) (m : ℕ) (q : PartTree) (
           let from : shapes (devices_of set q.node) ≡ shapes b = shapes_on (windows_at q.node set.app.devices set.places) ∙ sym node.windows ∙ sym same in
           let p = device_of_parts (devices_of set q.node) site.layout.priv_from first.0 first.1 first.2 in
           let v = window_same (devices_of set q.node) b first.0 first.1 from p.1 in
-          let found : device_of b site.layout.priv_from ≡ Some (first.0, v.0) = device_of_from b site.layout.priv_from first.0 v.0 (sym (device_at_same (devices_of set q.node) b site.layout.priv_from from) ∙ p.0) v.1 in
+          let found : device_of b site.layout.priv_from ≡ Some (first.0, v.0) = device_of_from b site.layout.priv_from first.0 v.0
+          (sym (device_at_same (devices_of set q.node) b site.layout.priv_from from) ∙ p.0) v.1 in
           let here : sec.layout ≡ site.layout = (at_site q.node s.mem sec site is.here).layout in
           let k2 = place_at set q.node d in
           let listed : slice_get (devices_at q.node 0 set.app.devices) k2 ≡ Some d = place_is set q.node d driven.device driven.found driven.node in
           let number : device_number set.app q.node k2 ≡ d = index_get (devices_at q.node 0 set.app.devices) k2 d listed in
-          let w2 : (w : Window) × (slice_get b k2 ≡ Some w) = get_some b k2 (omega (arith, get_within (devices_at q.node 0 set.app.devices) k2 d listed, shapes_long b, ap length same, ap length node.windows, windows_long q.node 0 set.app.devices set.places sound.places)) in
+          let w2 : (w : Window) × (slice_get b k2 ≡ Some w) = get_some b k2
+          (omega (
+            arith,
+            get_within (devices_at q.node 0 set.app.devices) k2 d listed,
+            shapes_long b,
+            ap length same,
+            ap length node.windows,
+            windows_long q.node 0 set.app.devices set.places sound.places,
+          )) in
           let d2 = device_of_window set q.node k2 b w2.0 sound (same ∙ node.windows) w2.1 in
           let at2 : w2.0.at ≡ site.layout.priv_from = some_inj w2.0.at site.layout.priv_from (sym d2.place ∙ ap (λ j. slice_get set.places j) number ∙ driven.place) in
           let places : ArePlaces (places_of b) = subst (λ z. ArePlaces z) (sym (same_places b s.devices same)) node.node.places in
@@ -256,7 +266,8 @@ module _ (set : Setting) (sound : IsSoundSetting set) (m : ℕ) (q : PartTree) (
   sensor_fits : is_sensor_driver (declared_kind q.tree.decls) ≡ true → (k : ℕ) × (w : Window) × (own_window setup s.devices ≡ Some (k, w)) × OwnSensor set.app q.node q s.devices k w
   sensor_fits h = by_kind (declared_kind q.tree.decls) refl h
     where
-      by_kind : (o : Option DeviceKind) → declared_kind q.tree.decls ≡ o → is_sensor_driver o ≡ true → (k : ℕ) × (w : Window) × (own_window setup s.devices ≡ Some (k, w)) × OwnSensor set.app q.node q s.devices k w
+      by_kind : (o : Option DeviceKind) → declared_kind q.tree.decls ≡ o → is_sensor_driver o ≡ true
+          → (k : ℕ) × (w : Window) × (own_window setup s.devices ≡ Some (k, w)) × OwnSensor set.app q.node q s.devices k w
       by_kind None e h = absurd (true≢false (sym h))
       by_kind (Some declared.Actuator) e h = absurd (true≢false (sym h))
       by_kind (Some declared.Sensor) e h =

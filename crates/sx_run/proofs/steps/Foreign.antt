@@ -98,7 +98,9 @@ device_of_window set n k ws w sound s h =
     }
 
 -- no driver of a device is present, where none that is present drives it
-undriven_where : (d : ℕ) (qs : List PartTree) (xs : List Standing) → ((m : ℕ) (q : PartTree) (x : Standing) → slice_get qs m ≡ Some q → slice_get xs m ≡ Some x → q.device ≡ Some d → x.present ≡ None) → is_undriven qs xs d ≡ true
+undriven_where : (d : ℕ) (qs : List PartTree) (xs : List Standing)
+    → ((m : ℕ) (q : PartTree) (x : Standing) → slice_get qs m ≡ Some q → slice_get xs m ≡ Some x → q.device ≡ Some d → x.present ≡ None)
+    → is_undriven qs xs d ≡ true
 undriven_where d [] xs f = refl
 undriven_where d (q ∷ qs) [] f = refl
 undriven_where d (q ∷ qs) (x ∷ xs) f = and_from _ (is_undriven qs xs d) (one q.device refl) (undriven_where d qs xs (λ m q2 x2 a b. f (suc m) q2 x2 a b))
@@ -134,13 +136,16 @@ position_some test i (y ∷ xs) (suc k) x e t n = elim (cases_Bool (test y)) [
     some_none : ◌≡◌ {A = Option ℕ} (Some i) None → ⊥
     some_none e = cc
 
-module _ (set : Setting) (w : World) (mo : Model) (n : ℕ) (s : State) (boot : ℕ) (sound : IsSoundSetting set) (t : Tied set w mo) (here : slice_get w.nodes n ≡ Some s) (boots : slice_get mo.boots n ≡ Some boot)
-    (own : ℕ) (stranger : (k : ℕ) (site : Site) (sec : Section) → slice_get set.sites k ≡ Some site → Lives s.sections.live sec → is_at_site n s.mem sec site ≡ true → (own ≢ sec.id) × (s.cur ≢ sec.id)) where
+module _ (set : Setting) (w : World) (mo : Model) (n : ℕ) (s : State) (boot : ℕ) (sound : IsSoundSetting set)
+    (t : Tied set w mo) (here : slice_get w.nodes n ≡ Some s) (boots : slice_get mo.boots n ≡ Some boot)
+    (own : ℕ) (stranger : (k : ℕ) (site : Site) (sec : Section) → slice_get set.sites k ≡ Some site
+    → Lives s.sections.live sec → is_at_site n s.mem sec site ≡ true → (own ≢ sec.id) × (s.cur ≢ sec.id)) where
   node : NodeTied set n s boot
   node = t.nodes n s boot here boots
 
   -- a driver whose device such code reached isn't present
-  driver_absent : (k : ℕ) (x : Window) (access : Access) → slice_get s.devices k ≡ Some x → may s.sections.live own access x.at ≡ true → is_undriven set.app.parts mo.modules (device_number set.app n k) ≡ true
+  driver_absent : (k : ℕ) (x : Window) (access : Access) → slice_get s.devices k ≡ Some x
+      → may s.sections.live own access x.at ≡ true → is_undriven set.app.parts mo.modules (device_number set.app n k) ≡ true
   driver_absent k x access e open_ = undriven_where (device_number set.app n k) set.app.parts mo.modules (λ m q z pm zm dv.
       let d = device_of_window set n k s.devices x sound node.windows e in
       let site : (site : Site) × (slice_get set.sites m ≡ Some site) = get_some set.sites m (omega (arith, get_within set.app.parts m q pm, sound.sites)) in
@@ -149,9 +154,12 @@ module _ (set : Setting) (w : World) (mo : Model) (n : ℕ) (s : State) (boot : 
       let same : driven.device ≡ d.device = some_inj driven.device d.device (sym driven.found ∙ d.there) in
       let qn : q.node ≡ n = sym driven.node ∙ ap (λ (g : AppDevice). g.node) same ∙ d.node in
       let at : x.at ≡ site.0.layout.priv_from = some_inj x.at site.0.layout.priv_from (sym d.place ∙ driven.place) in
-      absent_of m q site.0 z x access at open_ site.1 dep.bounds (subst (λ j. ModuleTied set j m q site.0 s z mo.sent) qn (t.modules m q site.0 s z pm site.1 (subst (λ j. slice_get w.nodes j ≡ Some s) (sym qn) here) zm)))
+      absent_of m q site.0 z x access at open_ site.1 dep.bounds
+      (subst (λ j. ModuleTied set j m q site.0 s z mo.sent) qn
+      (t.modules m q site.0 s z pm site.1 (subst (λ j. slice_get w.nodes j ≡ Some s) (sym qn) here) zm)))
     where
-      inside : (m : ℕ) (site : Site) (sec : Section) (x : Window) (access : Access) → x.at ≡ site.layout.priv_from → may s.sections.live own access x.at ≡ true → slice_get set.sites m ≡ Some site → good_bounds site.layout ≡ true
+      inside : (m : ℕ) (site : Site) (sec : Section) (x : Window) (access : Access) → x.at ≡ site.layout.priv_from
+          → may s.sections.live own access x.at ≡ true → slice_get set.sites m ≡ Some site → good_bounds site.layout ≡ true
           → IsModule n site s sec → ⊥
       inside m site sec x access at open_ sk bounds i =
           let away = stranger m site sec sk i.lives i.here in
@@ -159,11 +167,14 @@ module _ (set : Setting) (w : World) (mo : Model) (n : ℕ) (s : State) (boot : 
           let l = (at_site n s.mem sec site i.here).layout in
           let low : sec.layout.priv_from ≡ x.at = ap (λ (z : Layout). z.priv_from) l ∙ sym at in
           let lt = (and_parts (nat_lt site.layout.priv_from site.layout.priv_to) _ (and_parts (nat_lt site.layout.pub_from site.layout.pub_to) _ bounds).1).0 in
-          let lt2 : nat_lt x.at sec.layout.priv_to ≡ true = subst (λ j. nat_lt j sec.layout.priv_to ≡ true) (sym at) (subst (λ (z : Layout). nat_lt site.layout.priv_from z.priv_to ≡ true) (sym l) lt) in
+          let lt2 : nat_lt x.at sec.layout.priv_to ≡ true = subst (λ j. nat_lt j sec.layout.priv_to ≡ true)
+          (sym at) (subst (λ (z : Layout). nat_lt site.layout.priv_from z.priv_to ≡ true) (sym l) lt) in
           let yes_ : in_private sec x.at ≡ true = and_from (nat_le sec.layout.priv_from x.at) (nat_lt x.at sec.layout.priv_to) (le-leb sec.layout.priv_from x.at (omega (arith, low))) lt2 in
           absurd (true≢false (sym yes_ ∙ shut))
 
-      absent_of : (m : ℕ) (q : PartTree) (site : Site) (z : Standing) (x : Window) (access : Access) → x.at ≡ site.layout.priv_from → may s.sections.live own access x.at ≡ true → slice_get set.sites m ≡ Some site → good_bounds site.layout ≡ true
+      absent_of : (m : ℕ) (q : PartTree) (site : Site) (z : Standing) (x : Window) (access : Access)
+          → x.at ≡ site.layout.priv_from → may s.sections.live own access x.at ≡ true → slice_get set.sites m ≡ Some site
+          → good_bounds site.layout ≡ true
           → ModuleTied set n m q site s z mo.sent → z.present ≡ None
       absent_of m q site z x access at open_ sk bounds (Absent none f) = none
       absent_of m q site z x access at open_ sk bounds (Rests sec pr p i c pend h) = absurd (inside m site sec x access at open_ sk bounds i)
@@ -192,7 +203,8 @@ module _ (set : Setting) (w : World) (mo : Model) (n : ℕ) (s : State) (boot : 
           differ : ◌≡◌ {A = Kind} Sensor Actuator → ⊥
           differ e = cc
 
-  drain_step : (rs : List Reading) (d : ℕ) (dev : AppDevice) (r : Reading) → slice_get set.app.devices d ≡ Some dev → is_sensor dev.kind ≡ true → slice_get rs d ≡ Some r → r.fresh ≡ true → is_undriven set.app.parts mo.modules d ≡ true
+  drain_step : (rs : List Reading) (d : ℕ) (dev : AppDevice) (r : Reading) → slice_get set.app.devices d ≡ Some dev
+      → is_sensor dev.kind ≡ true → slice_get rs d ≡ Some r → r.fresh ≡ true → is_undriven set.app.parts mo.modules d ≡ true
       → after_drain set.app (with_devices rs) d ≡ Some (with_devices (slice_set rs d (record { value = r.value; fresh = false })))
   drain_step rs d dev r a b c e u = rw (c, e, a, b, u) refl
 
@@ -205,7 +217,8 @@ module _ (set : Setting) (w : World) (mo : Model) (n : ℕ) (s : State) (boot : 
   same_window k a x sh e = let v = Rattle.sx_machine.proofs.Devices.window_same a s.devices k x sh e in (v.0, v.1, v.2)
 
   -- reads and writes of such code at devices are drains and raw writes, and allowed
-  pub touches_fare : (ts : List Touch) (a b : List Window) (rs : List Reading) → shapes a ≡ shapes s.devices → length rs ≡ length set.app.devices → Replays s.sections.live own ts a b → Apart set.app n a → DevicesTied set.app n a rs
+  pub touches_fare : (ts : List Touch) (a b : List Window) (rs : List Reading) → shapes a ≡ shapes s.devices
+      → length rs ≡ length set.app.devices → Replays s.sections.live own ts a b → Apart set.app n a → DevicesTied set.app n a rs
       → Fares (judge set.app (with_devices rs) (touch_items set.app n None ts)) (λ mo2. mo2 ≡ with_devices (readings_all set.app n (marks_of_touches ts) rs))
   touches_fare [] a b rs sh long h apart tied = refl
   touches_fare (touch.Quiet ∷ ts) a b rs sh long h apart tied = touches_fare ts a b rs sh long h apart tied
@@ -219,8 +232,10 @@ module _ (set : Setting) (w : World) (mo : Model) (n : ℕ) (s : State) (boot : 
       let next : Option Model = after_drain set.app (with_devices rs) num in
       let rs2 = slice_set rs num (record { value = v; fresh = false }) in
       let value : (record { value = r.0.value; fresh = false }) ≡ (record { value = v; fresh = false }) = ap (λ z. record { value = z; fresh = false }) (was.value ∙ h.4) in
-      let go : after_drain set.app (with_devices rs) num ≡ Some (with_devices rs2) = drain_step rs num d.device r.0 d.there (kind_sensor k h.0 d h.2) r.1 (was.fresh ∙ h.3) undr ∙ ap (λ z. Some (with_devices (slice_set rs num z))) value in
-      subst (λ o. Fares (Rattle.sx_run.proofs.tie.Verdicts.judge_on o (λ z. judge set.app z (touch_items set.app n None ts))) (λ mo2. mo2 ≡ with_devices (readings_all set.app n (marks_of_touches ts) rs2))) (sym go)
+      let go : after_drain set.app (with_devices rs) num ≡ Some (with_devices rs2) = drain_step rs num d.device r.0 d.there
+      (kind_sensor k h.0 d h.2) r.1 (was.fresh ∙ h.3) undr ∙ ap (λ z. Some (with_devices (slice_set rs num z))) value in
+      subst (λ o. Fares (Rattle.sx_run.proofs.tie.Verdicts.judge_on o (λ z. judge set.app z (touch_items set.app n None ts)))
+      (λ mo2. mo2 ≡ with_devices (readings_all set.app n (marks_of_touches ts) rs2))) (sym go)
       (touches_fare ts (cleared a k) b rs2 (Rattle.sx_machine.proofs.Devices.cleared_shapes a k ∙ sh) (length_set rs num (record { value = v; fresh = false }) ∙ long) h.6
       (Rattle.sx_run.proofs.steps.Bystanders.set_apart set.app n k a h.0 h.1 apart) (Rattle.sx_run.proofs.steps.Bystanders.tied_read set.app n k v a rs h.0 h.1 h.4 apart tied))
   touches_fare (touch.DeviceWrite k v ∷ ts) a b rs sh long h apart tied =
@@ -228,7 +243,8 @@ module _ (set : Setting) (w : World) (mo : Model) (n : ℕ) (s : State) (boot : 
       let d = device_of_window set n k a h.0 sound (sh ∙ node.windows) h.1 in
       let x = same_window k a h.0 sh h.1 in
       let undr = driver_absent k x.0 Write x.1 (subst (λ j. may s.sections.live own Write j ≡ true) (sym x.2) h.3) in
-      subst (λ o. Fares (Rattle.sx_run.proofs.tie.Verdicts.judge_on o (λ z. judge set.app z (touch_items set.app n None ts))) (λ mo2. mo2 ≡ with_devices (readings_all set.app n (marks_of_touches ts) rs)))
+      subst (λ o. Fares (Rattle.sx_run.proofs.tie.Verdicts.judge_on o (λ z. judge set.app z (touch_items set.app n None ts)))
+      (λ mo2. mo2 ≡ with_devices (readings_all set.app n (marks_of_touches ts) rs)))
       (sym (raw_step rs num d.device d.there (kind_actuator k h.0 d h.2) undr))
       (touches_fare ts a b rs sh long h.4 apart tied)
 
@@ -238,7 +254,8 @@ pub without_lives : (live : List Section) (id : ℕ) (sec : Section) → Lives (
 without_lives [] id sec l = l
 without_lives (x ∷ live) id sec l = by_id (x.id == id) l (without_lives live id sec)
   where
-    by_id : (b : Bool) → Lives (if b then live else x ∷ Rattle.sx_rules.specs.Admission.without live id) sec → (Lives (Rattle.sx_rules.specs.Admission.without live id) sec → Lives live sec) → Lives (x ∷ live) sec
+    by_id : (b : Bool) → Lives (if b then live else x ∷ Rattle.sx_rules.specs.Admission.without live id) sec
+        → (Lives (Rattle.sx_rules.specs.Admission.without live id) sec → Lives live sec) → Lives (x ∷ live) sec
     by_id true l f = inr l
     by_id false l f = elim l [ inl e ↦ inl e | inr r ↦ inr (f r) ]
 
@@ -286,21 +303,31 @@ module _ (set : Setting) (w : World) (mo : Model) (n : ℕ) (s : State) (sound :
 
   number_n : (k : ℕ) (x : Window) → slice_get s.devices k ≡ Some x → slice_get (devices_at n 0 set.app.devices) k ≡ Some (device_number set.app n k)
   number_n k x e =
-      let lt : k < length (devices_at n 0 set.app.devices) = omega (arith, get_within s.devices k x e, shapes_long s.devices, ap length node_n.windows, windows_long n 0 set.app.devices set.places sound.places) in
+      let lt : k < length (devices_at n 0 set.app.devices) = omega (
+        arith,
+        get_within s.devices k x e,
+        shapes_long s.devices,
+        ap length node_n.windows,
+        windows_long n 0 set.app.devices set.places sound.places,
+      ) in
       let v : (v : ℕ) × (slice_get (devices_at n 0 set.app.devices) k ≡ Some v) = get_some (devices_at n 0 set.app.devices) k lt in
       subst (λ z. slice_get (devices_at n 0 set.app.devices) k ≡ Some z) (sym (index_get (devices_at n 0 set.app.devices) k v.0 v.1)) v.1
 
   apart_n : Apart set.app n s.devices
   apart_n j k x y xj yk e =
-      Rattle.sx_run.proofs.steps.Steps.increasing n 0 set.app.devices j k (device_number set.app n j) (number_n j x xj) (subst (λ v. slice_get (devices_at n 0 set.app.devices) k ≡ Some v) (sym e) (number_n k y yk))
+      Rattle.sx_run.proofs.steps.Steps.increasing n 0 set.app.devices j k (device_number set.app n j)
+      (number_n j x xj) (subst (λ v. slice_get (devices_at n 0 set.app.devices) k ≡ Some v) (sym e) (number_n k y yk))
 
   -- the touches, and the source after them
-  pub touches_n : Fares (judge set.app mo (touch_items set.app n None r.shown.touch)) (λ mo2. mo2 ≡ record { boots = mo.boots; devices = touched; modules = mo.modules; epochs = mo.epochs; sent = mo.sent; asks = mo.asks })
-  touches_n = touches_fare set w mo n s boot_n.0 sound t here boot_n.1 (own_of s) (strangers set n s boot_n.0 node_n none) r.shown.touch s.devices r.state.devices mo.devices refl t.size.devices shown_n apart_n tied_n
+  pub touches_n : Fares (judge set.app mo (touch_items set.app n None r.shown.touch))
+      (λ mo2. mo2 ≡ record { boots = mo.boots; devices = touched; modules = mo.modules; epochs = mo.epochs; sent = mo.sent; asks = mo.asks })
+  touches_n = touches_fare set w mo n s boot_n.0 sound t here boot_n.1 (own_of s)
+      (strangers set n s boot_n.0 node_n none) r.shown.touch s.devices r.state.devices mo.devices refl t.size.devices shown_n apart_n tied_n
 
   -- the node goes on beside a source of which one node's modules may change
   pub goes_n : (mods : List Standing) → length mods ≡ length mo.modules
-      → ((m : ℕ) (q : PartTree) (site : Site) (x : Standing) → slice_get set.app.parts m ≡ Some q → q.node ≡ n → slice_get set.sites m ≡ Some site → slice_get mods m ≡ Some x → ModuleTied set n m q site r.state x mo.sent)
+      → ((m : ℕ) (q : PartTree) (site : Site) (x : Standing) → slice_get set.app.parts m ≡ Some q → q.node ≡ n
+      → slice_get set.sites m ≡ Some site → slice_get mods m ≡ Some x → ModuleTied set n m q site r.state x mo.sent)
       → ((m : ℕ) (q : PartTree) → slice_get set.app.parts m ≡ Some q → q.node ≢ n → slice_get mods m ≡ slice_get mo.modules m)
       → ((m : ℕ) (x : Standing) → slice_get mods m ≡ Some x → (y : Standing) × (slice_get mo.modules m ≡ Some y) × (x.asked ≡ y.asked) × (x.attested ≡ y.attested))
       → (let mo2 : Model = record { boots = mo.boots; devices = touched; modules = mods; epochs = mo.epochs; sent = mo.sent; asks = mo.asks } in
@@ -338,7 +365,8 @@ module _ (set : Setting) (w : World) (mo : Model) (n : ℕ) (s : State) (sound :
   }
 
   -- where no deployed module was protected
-  pub unprotected : ((m : ℕ) (site : Site) (sec : Section) → slice_get set.sites m ≡ Some site → Lives r.state.sections.live sec → Lives s.sections.live sec ⊎ (is_at_site n r.state.mem sec site ≡ false))
+  pub unprotected : ((m : ℕ) (site : Site) (sec : Section) → slice_get set.sites m ≡ Some site
+      → Lives r.state.sections.live sec → Lives s.sections.live sec ⊎ (is_at_site n r.state.mem sec site ≡ false))
       → (steps : ℕ) → Tied set (with_node w n r.state w.ledger steps) (record { boots = mo.boots; devices = touched; modules = mo.modules; epochs = mo.epochs; sent = mo.sent; asks = mo.asks })
   unprotected after steps =
       tied_node set w n mo s r.state w.ledger steps (record { boots = mo.boots; devices = touched; modules = mo.modules; epochs = mo.epochs; sent = mo.sent; asks = mo.asks }) here t
@@ -350,6 +378,20 @@ module _ (set : Setting) (w : World) (mo : Model) (n : ℕ) (s : State) (sound :
       (λ m q pk ne. refl) (λ m x xk. (x, xk, refl, refl)) (λ e h. same_known e.maker e (t.ledger e h))
       (record { small = t.sane.small; timely = t.sane.timely; unsent = t.sane.unsent }))
     where
-      same_known : (k : Maker) (e : Made) → Known set.app mo k e → Known set.app (record { boots = mo.boots; devices = touched; modules = mo.modules; epochs = mo.epochs; sent = mo.sent; asks = mo.asks }) k e
-      same_known maker.Deployer e h = record { x = h.x; there = h.there; attested = h.attested; a = h.a; older = h.older; «end» = h.«end»; held = h.held; epoch = h.epoch; header = h.header; floor = h.floor; given = h.given }
+      same_known : (k : Maker) (e : Made) → Known set.app mo k e
+          → Known set.app (record { boots = mo.boots; devices = touched; modules = mo.modules; epochs = mo.epochs; sent = mo.sent; asks = mo.asks })
+          k e
+      same_known maker.Deployer e h = record {
+        x = h.x;
+        there = h.there;
+        attested = h.attested;
+        a = h.a;
+        older = h.older;
+        «end» = h.«end»;
+        held = h.held;
+        epoch = h.epoch;
+        header = h.header;
+        floor = h.floor;
+        given = h.given;
+      }
       same_known (maker.Module k) e h = (λ a. let f = h.0 a in record { x = f.x; there = f.there; vouched = f.vouched }, h.1)

@@ -111,13 +111,25 @@ module _ (app : AppTree) (m : ℕ) (q : PartTree) (x : Standing) (pr : Present) 
       let flows : Flows (OwnOpen views) mo.sent f.sent =
       flows_all (OwnOpen views) (ends_of app m) views (react q.tree e pr.cells).acts (record { sent = mo.sent; emits = []; pieces = 0 }) (own_open st views same) in
       let moved : Moved app q.node m mark x y mo (behind views e devices) =
-      record { boots = refl; asks = refl; epochs = refl; modules = refl; asked = refl; attested = refl; vouched = λ a b t. t; devices = de; sent = flows_weaken (OwnOpen views) (IsOwn app m) mo.sent f.sent (λ c o. o.1) flows } in
+      record {
+        boots = refl;
+        asks = refl;
+        epochs = refl;
+        modules = refl;
+        asked = refl;
+        attested = refl;
+        vouched = λ a b t.
+            t;
+        devices = de;
+        sent = flows_weaken (OwnOpen views) (IsOwn app m) mo.sent f.sent (λ c o. o.1) flows;
+      } in
       record {
         y = y;
         moved = moved;
         pr = after_event q.tree e f p;
         present = refl;
-        owes = λ devices. Now f.emits f.pieces refl (subst (λ cells. Settles app q.node m q.device (after_event q.tree e (flow_of q.tree (ends_of app m) e (idle_with cells views) mo.sent) (idle_with cells views)).cells views
+        owes = λ devices. Now f.emits f.pieces refl (subst (λ cells. Settles app q.node m q.device
+            (after_event q.tree e (flow_of q.tree (ends_of app m) e (idle_with cells views) mo.sent) (idle_with cells views)).cells views
             (flow_of q.tree (ends_of app m) e (idle_with cells views) mo.sent).sent
             (flow_of q.tree (ends_of app m) e (idle_with cells views) mo.sent).pieces result ms
             (flow_of q.tree (ends_of app m) e (idle_with cells views) mo.sent).emits) ce (h views mo.sent same));
@@ -147,7 +159,9 @@ module _ (app : AppTree) (m : ℕ) (q : PartTree) (x : Standing) (pr : Present) 
                         | inr o ↦ inr (
                           after_event q.tree e f p,
                           refl,
-                          subst (λ z. AtLeast (epoch_of c) z) (sym (opens (link_of c) From ∙ ap (λ (z : Present). open_at (link_of c) From (ends_of app m) z.ends) (some_inj pr o.0 (sym present ∙ o.1))))
+                          subst (λ z. AtLeast (epoch_of c) z)
+                              (sym (opens (link_of c) From ∙ ap (λ (z : Present). open_at (link_of c) From (ends_of app m) z.ends)
+                              (some_inj pr o.0 (sym present ∙ o.1))))
                               (subst (λ j. AtLeast (epoch_of c) (open_at (link_of c) From (ends_of app j) o.0.ends)) own o.2),
                         )
                       ],
@@ -222,9 +236,18 @@ module _ (app : AppTree) (m : ℕ) (q : PartTree) (x : Standing) (pr : Present) 
 
   -- with the module's standing and the readings replaced
   abbrev with_end_of : Present → Model
-  with_end_of p = record { boots = mo.boots; devices = mo.devices; modules = slice_set mo.modules m (record { present = Some p; asked = x.asked; vouched = x.vouched; attested = x.attested }); epochs = mo.epochs; sent = mo.sent; asks = mo.asks }
+  with_end_of p = record {
+    boots = mo.boots;
+    devices = mo.devices;
+    modules = slice_set mo.modules m
+        (record { present = Some p; asked = x.asked; vouched = x.vouched; attested = x.attested });
+    epochs = mo.epochs;
+    sent = mo.sent;
+    asks = mo.asks;
+  }
 
-  open_before : (c : ℕ) (p2 : Present) → x.present ≡ Some p2 → AtLeast (epoch_of c) (open_at (link_of c) From (ends_of app m) p2.ends) → AtLeast (epoch_of c) (open_at (link_of c) From (ends_of app m) pr.ends)
+  open_before : (c : ℕ) (p2 : Present) → x.present ≡ Some p2 → AtLeast (epoch_of c) (open_at (link_of c) From (ends_of app m) p2.ends)
+      → AtLeast (epoch_of c) (open_at (link_of c) From (ends_of app m) pr.ends)
   open_before c p2 e h = subst (λ (z : Present). AtLeast (epoch_of c) (open_at (link_of c) From (ends_of app m) z.ends)) (some_inj p2 pr (sym e ∙ present)) h
 
   -- a change of the module's presence alone
@@ -289,7 +312,8 @@ module _ (app : AppTree) (m : ℕ) (q : PartTree) (x : Standing) (pr : Present) 
                 | inl lt ↦ absurd (too_low hs.0 same lt)
                 | inr lt ↦ absurd (too_old hs.0 same lt)
               ]
-              | inr o ↦ absurd (not_both (open_at (link_of f) From (ends_of app m) pr.ends) (epoch_of f) below (open_before f o.0 o.1 (subst (λ j. AtLeast (epoch_of f) (open_at (link_of f) From (ends_of app j) o.0.ends)) own o.2)))
+              | inr o ↦ absurd (not_both (open_at (link_of f) From (ends_of app m) pr.ends) (epoch_of f) below
+                  (open_before f o.0 o.1 (subst (λ j. AtLeast (epoch_of f) (open_at (link_of f) From (ends_of app j) o.0.ends)) own o.2)))
             ]
       ]
     where
@@ -366,7 +390,8 @@ module _ (app : AppTree) (m : ℕ) (q : PartTree) (x : Standing) (pr : Present) 
       let within : (words : List ℕ) × (slice_get mo.sent field ≡ Some words) =
       get_some mo.sent field (subst (λ n. field < n) (sym sizes) (field_small link epoch lt (most epoch (slice_index mo.epochs link) g.reached (sane.small link)))) in
       let long : side ≡ From → HasLength (slice_get mo.sent field) 0 = λ s.
-      let empty : within.0 ≡ [] = unsent_here field lk.l within.0 g.a (subst (λ c. slice_get app.links c ≡ Some lk.l) (sym lf) lk.there) (subst (λ t. EndOf m t e.port lk.l) s lk.ends).0 within.1 g.attested g.now
+      let empty : within.0 ≡ [] = unsent_here field lk.l within.0 g.a (subst (λ c. slice_get app.links c ≡ Some lk.l) (sym lf) lk.there)
+      (subst (λ t. EndOf m t e.port lk.l) s lk.ends).0 within.1 g.attested g.now
       (subst (λ c. slice_index g.a.floors c ≤ epoch_of field) (sym lf) (subst (λ n. slice_index g.a.floors link ≤ n) (sym ef) g.floor))
       (subst (λ c. is_below (open_at c From (ends_of app m) pr.ends) (epoch_of field) ≡ true) (sym lf) (subst (λ n. is_below (open_at link From (ends_of app m) pr.ends) n ≡ true) (sym ef)
       (subst (λ t. is_below (open_at link t (ends_of app m) pr.ends) epoch ≡ true) s under))) in
@@ -448,7 +473,18 @@ module _ (app : AppTree) (m : ℕ) (q : PartTree) (x : Standing) (pr : Present) 
       let mo2 = vouched_model a in
       let y = vouched_as a in
       let moved : Moved app q.node m mark x y mo mo2 =
-      record { boots = refl; asks = refl; epochs = refl; modules = refl; asked = refl; attested = refl; vouched = λ c b t. vouched_more x.vouched (record { challenge = a; boot = boot }) c b t; devices = refl; sent = flows_same (IsOwn app m) mo.sent } in
+      record {
+        boots = refl;
+        asks = refl;
+        epochs = refl;
+        modules = refl;
+        asked = refl;
+        attested = refl;
+        vouched = λ c b t.
+            vouched_more x.vouched (record { challenge = a; boot = boot }) c b t;
+        devices = refl;
+        sent = flows_same (IsOwn app m) mo.sent;
+      } in
       let here = same_module app q.node m mark x y mo mo2 there moved in
       let seen : has_wrapped m boot header [] true ledger ≡ record { items = item.Vouch m a ∷ []; ledger = ledger ++ entry ∷ [] } = rw ask refl in
       subst (λ (o : Observed). Fares (judge app mo o.items) (Next app m q x mo mark o.ledger [] result)) (sym seen)
@@ -505,7 +541,19 @@ module _ (app : AppTree) (m : ℕ) (q : PartTree) (x : Standing) (pr : Present) 
       let two : (length body == 2) ≡ true = subst (λ n. (n == 2) ≡ true) (sym h.1) refl in
       let seen : has_wrapped m boot header body own ledger ≡ record { items = []; ledger = ledger ++ entry ∷ [] } = rw (no_ask, h.0, two) refl in
       let moved : Moved app q.node m mark x x mo mo =
-      record { boots = refl; asks = refl; epochs = refl; modules = sym (set_same mo.modules m x there); asked = refl; attested = refl; vouched = λ a b t. t; devices = refl; sent = flows_same (IsOwn app m) mo.sent } in
+      record {
+        boots = refl;
+        asks = refl;
+        epochs = refl;
+        modules = sym
+            (set_same mo.modules m x there);
+        asked = refl;
+        attested = refl;
+        vouched = λ a b t. t;
+        devices = refl;
+        sent = flows_same
+            (IsOwn app m) mo.sent;
+      } in
       subst (λ (o : Observed). Fares (judge app mo o.items) (Next app m q x mo mark o.ledger ms result)) (sym seen)
       (record {
         y = x;
@@ -523,7 +571,8 @@ module _ (app : AppTree) (m : ℕ) (q : PartTree) (x : Standing) (pr : Present) 
   abbrev pending_with : List ℕ → ℕ → Present
   pending_with emits pieces = record { cells = pr.cells; ends = pr.ends; pending = Some (record { emits = emits; pieces = pieces }) }
 
-  written_step : (v e : ℕ) (emits : List ℕ) (pieces : ℕ) → pr.pending ≡ Some (record { emits = e ∷ emits; pieces = pieces }) → v ≡ e → has_written mo m v ≡ Some (with_end_of (pending_with emits pieces))
+  written_step : (v e : ℕ) (emits : List ℕ) (pieces : ℕ) → pr.pending ≡ Some (record { emits = e ∷ emits; pieces = pieces })
+      → v ≡ e → has_written mo m v ≡ Some (with_end_of (pending_with emits pieces))
   written_step v e emits pieces pend same = rw (there, present, pend, same, eq_refl e) refl
 
   driver_here : (d : ℕ) → q.device ≡ Some d → is_driver app (Some m) d ≡ true
@@ -621,7 +670,8 @@ module _ (app : AppTree) (m : ℕ) (q : PartTree) (x : Standing) (pr : Present) 
   refused_step : (status : ℕ) → pr.pending ≡ None → nat_le 2 status ≡ true → nat_le status 8 ≡ true → (not (status == 8) || waits app mo.devices q.device) ≡ true → is_done app mo m status 0 ≡ Some mo
   refused_step status pend lo hi w = rw (part, there, present, pend, not_one status lo, lo, hi, w) refl
 
-  waits_stale : (d : ℕ) (r : Reading) → q.device ≡ Some d → kind_is is_sensor (slice_get app.devices d) ≡ true → slice_get mo.devices d ≡ Some r → r.fresh ≡ false → waits app mo.devices q.device ≡ true
+  waits_stale : (d : ℕ) (r : Reading) → q.device ≡ Some d → kind_is is_sensor (slice_get app.devices d) ≡ true
+      → slice_get mo.devices d ≡ Some r → r.fresh ≡ false → waits app mo.devices q.device ≡ true
   waits_stale d r dev sensor there_r f = rw (dev, sensor, there_r, f) refl
 
   or_waits : (status : ℕ) (b : Bool) → (status ≡ 8 → b ≡ true) → (not (status == 8) || b) ≡ true

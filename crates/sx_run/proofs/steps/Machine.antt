@@ -118,7 +118,8 @@ left_no : (b : Bool) (own id : ℕ) → (if b then event.Quiet else event.Left o
 left_no true own id e = cc
 left_no false own id e = cc
 
-told_sections : (mac : Mac) (s t : State) (m : List ℕ) (u : Sections) (e : Rattle.sx_machine.specs.declared.kinds.Event.Event) → t.sections ≡ u → Told mac (given_at_pc mac s) s.mem m u e → Sectioned s t e
+told_sections : (mac : Mac) (s t : State) (m : List ℕ) (u : Sections) (e : Rattle.sx_machine.specs.declared.kinds.Event.Event)
+    → t.sections ≡ u → Told mac (given_at_pc mac s) s.mem m u e → Sectioned s t e
 told_sections mac s t m u e tu (Same h a) = Stay (tu ∙ a) (told_no (given_at_pc mac s) e h)
 told_sections mac s t m u e tu (Admits r a w) = More _ _ _ _ r (tu ∙ a) refl
 told_sections mac s t m u e tu (Removes sec f a w) = Fewer (tu ∙ a) (λ id g. removed_no (own_of s) id g)
@@ -126,7 +127,8 @@ told_sections mac s t m u e tu (Removes sec f a w) = Fewer (tu ∙ a) (λ id g. 
     removed_no : (k id : ℕ) → event.Removed k ≡ event.Protected id → ⊥
     removed_no k id g = cc
 
-settled_sections : (mac : Mac) (s : State) (o : Outcome) → ToldBy mac (given_at_pc mac s) s.mem o → violation_of (settled_step s o).shown.event ≡ None → Sectioned s (settled_step s o).state (settled_step s o).shown.event
+settled_sections : (mac : Mac) (s : State) (o : Outcome) → ToldBy mac (given_at_pc mac s) s.mem o
+    → violation_of (settled_step s o).shown.event ≡ None → Sectioned s (settled_step s o).state (settled_step s o).shown.event
 settled_sections mac s (Finished regs x) h q = Stay refl (left_no (Rattle.std.specs.Prelude.◌||◌ (own_of s == 0) (holder s.sections.live (slice_index regs 0) == own_of s)) (own_of s))
 settled_sections mac s (Violated v) h q = absurd cc
 settled_sections mac s (Module regs x t e c) h q = told_sections mac s (settled_step s (Module regs x t e c)).state x.mem t e refl h

@@ -41,13 +41,15 @@ pub record NodeGoes (set : Setting) (w : World) (n : ℕ) (mo : Model) (s2 : Sta
       → slice_get mo2.devices (device_number set.app j k) ≡ slice_get mo.devices (device_number set.app j k)
   pub modules_here : (m : ℕ) (q : PartTree) (site : Site) (x : Standing) → slice_get set.app.parts m ≡ Some q → q.node ≡ n → slice_get set.sites m ≡ Some site → slice_get mo2.modules m ≡ Some x
       → ModuleTied set n m q site s2 x mo2.sent
-  pub modules_else : (m : ℕ) (q : PartTree) (site : Site) (s : State) (x : Standing) → slice_get set.app.parts m ≡ Some q → q.node ≢ n → slice_get set.sites m ≡ Some site → slice_get w.nodes q.node ≡ Some s
+  pub modules_else : (m : ℕ) (q : PartTree) (site : Site) (s : State) (x : Standing) → slice_get set.app.parts m ≡ Some q
+      → q.node ≢ n → slice_get set.sites m ≡ Some site → slice_get w.nodes q.node ≡ Some s
       → slice_get mo2.modules m ≡ Some x → ModuleTied set q.node m q site s x mo2.sent
   pub standing : (m : ℕ) (x : Standing) → slice_get mo2.modules m ≡ Some x → (y : Standing) × (slice_get mo.modules m ≡ Some y) × (x.asked ≡ y.asked) × (x.attested ≡ y.attested)
   pub known : (e : Made) → is_made ledger e ≡ true → Known set.app mo2 e.maker e
   pub sane : IsSane set.app mo2
 
-pub tied_node : (set : Setting) (w : World) (n : ℕ) (mo : Model) (s s2 : State) (ledger : List Made) (steps : ℕ) (mo2 : Model) → slice_get w.nodes n ≡ Some s → Tied set w mo → NodeGoes set w n mo s2 ledger mo2
+pub tied_node : (set : Setting) (w : World) (n : ℕ) (mo : Model) (s s2 : State) (ledger : List Made) (steps : ℕ) (mo2 : Model)
+    → slice_get w.nodes n ≡ Some s → Tied set w mo → NodeGoes set w n mo s2 ledger mo2
     → Tied set (with_node w n s2 ledger steps) mo2
 tied_node set w n mo s s2 ledger steps mo2 here t g = record {
   size = record {
@@ -100,14 +102,16 @@ tied_node set w n mo s s2 ledger steps mo2 here t g = record {
 -- A reset.
 
 absent_get : (n : ℕ) (qs : List PartTree) (xs : List Standing) (m : ℕ) (z : Standing) → slice_get (absent_at n qs xs) m ≡ Some z
-    → (x : Standing) × (slice_get xs m ≡ Some x) × (z.asked ≡ x.asked) × (z.vouched ≡ x.vouched) × (z.attested ≡ x.attested) × ((q : PartTree) → slice_get qs m ≡ Some q → ((q.node ≡ n) × (z.present ≡ None)) ⊎ ((q.node ≢ n) × (z ≡ x)))
+    → (x : Standing) × (slice_get xs m ≡ Some x) × (z.asked ≡ x.asked) × (z.vouched ≡ x.vouched)
+    × (z.attested ≡ x.attested) × ((q : PartTree) → slice_get qs m ≡ Some q → ((q.node ≡ n) × (z.present ≡ None)) ⊎ ((q.node ≢ n) × (z ≡ x)))
 absent_get n [] xs m z e = (z, e, refl, refl, refl, λ q h. absurd cc)
 absent_get n (q0 ∷ qs) [] m z e = absurd cc
 absent_get n (q0 ∷ qs) (x ∷ xs) (suc m) z e = absent_get n qs xs m z e
 absent_get n (q0 ∷ qs) (x ∷ xs) zero z e = head (q0.node == n) refl (some_inj _ z e)
   where
     head : (b : Bool) → (q0.node == n) ≡ b → (if b then record { present = None; asked = x.asked; vouched = x.vouched; attested = x.attested } else x) ≡ z
-        → (y : Standing) × (Some x ≡ Some y) × (z.asked ≡ y.asked) × (z.vouched ≡ y.vouched) × (z.attested ≡ y.attested) × ((q : PartTree) → Some q0 ≡ Some q → ((q.node ≡ n) × (z.present ≡ None)) ⊎ ((q.node ≢ n) × (z ≡ y)))
+        → (y : Standing) × (Some x ≡ Some y) × (z.asked ≡ y.asked) × (z.vouched ≡ y.vouched)
+        × (z.attested ≡ y.attested) × ((q : PartTree) → Some q0 ≡ Some q → ((q.node ≡ n) × (z.present ≡ None)) ⊎ ((q.node ≢ n) × (z ≡ y)))
     head true t h = (
       x,
       refl,
@@ -144,7 +148,12 @@ stale_get n (d0 ∷ ds) (r ∷ rs) zero z e = head (d0.node == n) refl (some_inj
   where
     head : (b : Bool) → (d0.node == n) ≡ b → (if b then record { value = r.value; fresh = false } else r) ≡ z
         → (y : Reading) × (Some r ≡ Some y) × (z.value ≡ y.value) × ((d : AppDevice) → Some d0 ≡ Some d → ((d.node ≡ n) × (z.fresh ≡ false)) ⊎ ((d.node ≢ n) × (z ≡ y)))
-    head true t h = (r, refl, sym (ap (λ (g : Reading). g.value) h), λ d de. inl (ap (λ (g : AppDevice). g.node) (sym (some_inj d0 d de)) ∙ eqb-true d0.node n t, sym (ap (λ (g : Reading). g.fresh) h)))
+    head true t h = (
+      r,
+      refl,
+      sym (ap (λ (g : Reading). g.value) h),
+      λ d de. inl (ap (λ (g : AppDevice). g.node) (sym (some_inj d0 d de)) ∙ eqb-true d0.node n t, sym (ap (λ (g : Reading). g.fresh) h)),
+    )
     head false t h = (r, refl, sym (ap (λ (g : Reading). g.value) h), λ d de. inr (λ same. eqb-false d0.node n t (ap (λ (g : AppDevice). g.node) (some_inj d0 d de) ∙ same), sym h))
 
 -- the k-th device of a node is at the node
@@ -181,7 +190,8 @@ windows_long n i (d ∷ ds) [] e = absurd (omega (arith, e))
 windows_long n i (d ∷ ds) (at ∷ ats) e = head (d.node == n) (windows_long n (i + 1) ds ats (omega (arith, e)))
   where
     head : (b : Bool) → length (windows_at n ds ats) ≡ length (devices_at n (i + 1) ds)
-        → length (if b then (at, Rattle.sx_run.specs.Setting.kind_of d.kind) ∷ windows_at n ds ats else windows_at n ds ats) ≡ length (if b then i ∷ devices_at n (i + 1) ds else devices_at n (i + 1) ds)
+        → length (if b then (at, Rattle.sx_run.specs.Setting.kind_of d.kind) ∷ windows_at n ds ats else windows_at n ds ats) ≡ length
+        (if b then i ∷ devices_at n (i + 1) ds else devices_at n (i + 1) ds)
     head true h = ap suc h
     head false h = h
 
@@ -243,7 +253,11 @@ module _ (set : Setting) (w : World) (mo : Model) (n : ℕ) (s : State) (sound :
 
   boot_cases : (q : PartTree) (boot : ℕ) → slice_get again.boots q.node ≡ Some boot → ((q.node ≡ n) × (boot ≡ boot_here.0 + 1)) ⊎ ((q.node ≢ n) × (slice_get mo.boots q.node ≡ Some boot))
   boot_cases q boot e = elim (cases_eq q.node n) [
-    | inl same ↦ inl (same, some_inj boot (boot_here.0 + 1) (sym e ∙ subst (λ j. slice_get again.boots j ≡ Some (boot_here.0 + 1)) (sym same) (get_same mo.boots n (boot_here.0 + 1) boot_here.0 boot_here.1)))
+    | inl same ↦ inl (
+      same,
+      some_inj boot (boot_here.0 + 1) (sym e
+          ∙ subst (λ j. slice_get again.boots j ≡ Some (boot_here.0 + 1)) (sym same) (get_same mo.boots n (boot_here.0 + 1) boot_here.0 boot_here.1)),
+    )
     | inr ne ↦ inr (ne, sym (get_other mo.boots n q.node (boot_here.0 + 1) ne) ∙ e)
   ]
 
@@ -289,7 +303,14 @@ module _ (set : Setting) (w : World) (mo : Model) (n : ℕ) (s : State) (sound :
           | inl here_ ↦
               elim (t.sane.unsent c l q r.0 boot_here.0 words lk pk r.1 (boot_of q here_.0) wk) [
                 | inl none ↦ inl none
-                | inr hs ↦ inr (hs.0, r.4 ∙ hs.1, hs.2, inl (inr (subst (λ k. hs.0.boot < k) (sym here_.1) (earlier hs.0.boot _ ((t.sane.timely l.from q r.0 boot_here.0 pk r.1 (boot_of q here_.0)).attested hs.0 hs.1)))))
+                | inr hs ↦ inr (
+                  hs.0,
+                  r.4 ∙ hs.1,
+                  hs.2,
+                  inl (inr
+                      (subst (λ k. hs.0.boot < k) (sym here_.1)
+                      (earlier hs.0.boot _ ((t.sane.timely l.from q r.0 boot_here.0 pk r.1 (boot_of q here_.0)).attested hs.0 hs.1)))),
+                )
               ]
           | inr else_ ↦
               elim (r.5 q pk) [

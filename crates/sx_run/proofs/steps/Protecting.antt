@@ -72,12 +72,14 @@ none_open : (c : ℕ) (side : Side) (es : List End) → open_at c side es (map (
 none_open c side [] = refl
 none_open c side (e ∷ es) = either_none ((e.link == c) && Rattle.sx_model.specs.Step.same_side e.side side) (none_open c side es)
   where
-    either_none : (b : Bool) → open_at c side es (map (λ e. record { epoch = None; next = 0 }) es) ≡ None → (if b then None else open_at c side es (map (λ e. record { epoch = None; next = 0 }) es)) ≡ None
+    either_none : (b : Bool) → open_at c side es (map (λ e. record { epoch = None; next = 0 }) es) ≡ None
+        → (if b then None else open_at c side es (map (λ e. record { epoch = None; next = 0 }) es)) ≡ None
     either_none true h = refl
     either_none false h = h
 
 -- an event of other code, but a protect, is no item
-quiet_items : (set : Setting) (n : ℕ) (s : State) (ledger : List Made) (e : Event) → violation_of e ≡ None → ((id : ℕ) → e ≡ event.Protected id → ⊥) → event_seen set n None s ledger e ≡ record { items = []; ledger = ledger }
+quiet_items : (set : Setting) (n : ℕ) (s : State) (ledger : List Made) (e : Event) → violation_of e ≡ None
+    → ((id : ℕ) → e ≡ event.Protected id → ⊥) → event_seen set n None s ledger e ≡ record { items = []; ledger = ledger }
 quiet_items set n s ledger event.Quiet q f = refl
 quiet_items set n s ledger (event.Reset v) q f = absurd cc
 quiet_items set n s ledger (event.Protected id) q f = absurd (f id refl)
@@ -90,7 +92,8 @@ pub append_none : {X : Type 0} → (xs : List X) → xs ++ [] ≡ xs
 append_none [] = refl
 append_none (x ∷ xs) = ap (λ r. x ∷ r) (append_none xs)
 
-module _ (set : Setting) (w : World) (mo : Model) (n : ℕ) (s : State) (sound : IsSoundSetting set) (laws : MachineLaws set.mac) (fresh : FreshSections set.mac) (t : Tied set w mo) (here : slice_get w.nodes n ≡ Some s)
+module _ (set : Setting) (w : World) (mo : Model) (n : ℕ) (s : State) (sound : IsSoundSetting set)
+    (laws : MachineLaws set.mac) (fresh : FreshSections set.mac) (t : Tied set w mo) (here : slice_get w.nodes n ≡ Some s)
     (none : module_of set.sites n s (own_of s) ≡ None) (quiet : violation_of (step set.mac s).shown.event ≡ None) where
   abbrev r : Shown Seen
   r = step set.mac s
@@ -121,11 +124,22 @@ module _ (set : Setting) (w : World) (mo : Model) (n : ℕ) (s : State) (sound :
   -- a deployed module is protected
 
   protected_step : (m : ℕ) (q : PartTree) (x : Standing) → slice_get set.app.parts m ≡ Some q → slice_get mo.modules m ≡ Some x → q.node ≡ n → x.present ≡ None
-      → protected_as set.app mo1 n (Some m) ≡ Some (record { boots = mo.boots; devices = reads; modules = slice_set mo.modules m (record { present = Some (first_present q.tree (ends_of set.app m)); asked = x.asked; vouched = x.vouched; attested = x.attested }); epochs = mo.epochs; sent = mo.sent; asks = mo.asks })
+      → protected_as set.app mo1 n (Some m) ≡ Some (record {
+        boots = mo.boots;
+        devices = reads;
+        modules = slice_set mo.modules m
+            (record { present = Some (first_present q.tree (ends_of set.app m)); asked = x.asked; vouched = x.vouched; attested = x.attested });
+        epochs = mo.epochs;
+        sent = mo.sent;
+        asks = mo.asks;
+      })
   protected_step m q x pm xm qn np = rw (pm, xm, eq-eqb q.node n qn, np) refl
 
-  module _ (m : ℕ) (q : PartTree) (site : Site) (x : Standing) (new : Section) (part : slice_get set.app.parts m ≡ Some q) (sited : slice_get set.sites m ≡ Some site) (there : slice_get mo.modules m ≡ Some x) (qn : q.node ≡ n)
-      (absent : x.present ≡ None) (grown : r.state.sections.live ≡ s.sections.live ++ new ∷ []) (at : is_at_site n r.state.mem new site ≡ true) (zeros : private_bytes new.layout r.state.mem ≡ replicate (new.layout.priv_to - new.layout.priv_from) 0)
+  module _ (m : ℕ) (q : PartTree) (site : Site) (x : Standing) (new : Section) (part : slice_get set.app.parts m ≡ Some q)
+      (sited : slice_get set.sites m ≡ Some site) (there : slice_get mo.modules m ≡ Some x) (qn : q.node ≡ n)
+      (absent : x.present ≡ None) (grown : r.state.sections.live ≡ s.sections.live ++ new ∷ [])
+      (at : is_at_site n r.state.mem new site ≡ true) (zeros : private_bytes new.layout r.state.mem ≡ replicate
+      (new.layout.priv_to - new.layout.priv_from) 0)
       (other_id : own_of s ≢ new.id) (some_id : new.id ≢ 0) where
     dep : IsDeployedModule set m q site
     dep = sound.deployed m q site part sited
@@ -181,8 +195,35 @@ module _ (set : Setting) (w : World) (mo : Model) (n : ℕ) (s : State) (sound :
     known_new maker.Deployer e h = elim (cases_eq e.target m) [
       | inl same ↦
           let hx : h.x ≡ x = some_inj h.x x (sym h.there ∙ subst (λ j. slice_get mo.modules j ≡ Some x) (sym same) there) in
-          record { x = y; there = subst (λ j. slice_get mods j ≡ Some y) (sym same) (get_same mo.modules m y x there); attested = sym (ap (λ (z : Standing). z.attested) hx) ∙ h.attested; a = h.a; older = h.older; «end» = h.«end»; held = h.held; epoch = h.epoch; header = h.header; floor = h.floor; given = h.given }
-      | inr ne ↦ record { x = h.x; there = get_other mo.modules m e.target y ne ∙ h.there; attested = h.attested; a = h.a; older = h.older; «end» = h.«end»; held = h.held; epoch = h.epoch; header = h.header; floor = h.floor; given = h.given }
+          record {
+            x = y;
+            there = subst (λ j. slice_get mods j ≡ Some y) (sym same)
+                (get_same mo.modules m y x there);
+            attested = sym (ap (λ (z : Standing). z.attested) hx)
+                ∙ h.attested;
+            a = h.a;
+            older = h.older;
+            «end» = h.«end»;
+            held = h.held;
+            epoch = h.epoch;
+            header = h.header;
+            floor = h.floor;
+            given = h.given;
+          }
+      | inr ne ↦ record {
+        x = h.x;
+        there = get_other mo.modules m e.target y ne
+            ∙ h.there;
+        attested = h.attested;
+        a = h.a;
+        older = h.older;
+        «end» = h.«end»;
+        held = h.held;
+        epoch = h.epoch;
+        header = h.header;
+        floor = h.floor;
+        given = h.given;
+      }
     ]
     known_new (maker.Module k) e h = (
       λ ask. let f = h.0 ask in elim (cases_eq k m) [
@@ -241,7 +282,9 @@ module _ (set : Setting) (w : World) (mo : Model) (n : ℕ) (s : State) (sound :
               let qq : q ≡ q2 = some_inj q q2 (sym part ∙ subst (λ j. slice_get set.app.parts j ≡ Some q2) mine.0 pk) in
               let ss : site ≡ site2 = some_inj site site2 (sym sited ∙ subst (λ j. slice_get set.sites j ≡ Some site2) mine.0 sk) in
               subst (λ j. ModuleTied set n j q2 site2 r.state z mo.sent) (sym mine.0)
-              (subst (λ a. ModuleTied set n m a site2 r.state z mo.sent) qq (subst (λ a. ModuleTied set n m q a r.state z mo.sent) ss (subst (λ a. ModuleTied set n m q site r.state a mo.sent) (sym mine.1) rests_new)))
+              (subst (λ a. ModuleTied set n m a site2 r.state z mo.sent) qq
+              (subst (λ a. ModuleTied set n m q a r.state z mo.sent) ss
+              (subst (λ a. ModuleTied set n m q site r.state a mo.sent) (sym mine.1) rests_new)))
           | inr else_ ↦
               onlooker set n k q2 site2 s z mo.sent laws node.node quiet
               (λ sec l. elim (append_lives s.sections.live new sec (subst (λ a. Lives a sec) grown l)) [
@@ -271,12 +314,14 @@ module _ (set : Setting) (w : World) (mo : Model) (n : ℕ) (s : State) (sound :
   lives_below next (x ∷ live) sec h l = elim l [ inl e ↦ subst (λ (z : Section). z.id < next) e h.0.below | inr g ↦ lives_below next live sec h.1 g ]
 
   -- a new section is at a module's site only where the module is absent
-  absent_where : (m : ℕ) (q : PartTree) (site : Site) (x : Standing) (l : Layout) (places : List ℕ) → slice_get set.app.parts m ≡ Some q → slice_get set.sites m ≡ Some site → l ≡ site.layout → refusal s.sections l places ≡ None
+  absent_where : (m : ℕ) (q : PartTree) (site : Site) (x : Standing) (l : Layout) (places : List ℕ)
+      → slice_get set.app.parts m ≡ Some q → slice_get set.sites m ≡ Some site → l ≡ site.layout → refusal s.sections l places ≡ None
       → ModuleTied set n m q site s x mo.sent → x.present ≡ None
   absent_where m q site x l places pm sm same free (Absent none2 f) = none2
   absent_where m q site x l places pm sm same free (Rests sec pr p i c pend h) = absurd (meets m q site l places pm sm same free sec i)
     where
-      meets : (m : ℕ) (q : PartTree) (site : Site) (l : Layout) (places : List ℕ) → slice_get set.app.parts m ≡ Some q → slice_get set.sites m ≡ Some site → l ≡ site.layout → refusal s.sections l places ≡ None → (sec : Section) → IsModule n site s sec → ⊥
+      meets : (m : ℕ) (q : PartTree) (site : Site) (l : Layout) (places : List ℕ) → slice_get set.app.parts m ≡ Some q
+          → slice_get set.sites m ≡ Some site → l ≡ site.layout → refusal s.sections l places ≡ None → (sec : Section) → IsModule n site s sec → ⊥
       meets m q site l places pm sm same free sec i =
           let a = admits s.sections l places free in
           let clear = passes (clear_of l) s.sections.live sec i.lives (and_parts (parts_apart l) _ a.overlap).1 in
@@ -286,16 +331,20 @@ module _ (set : Setting) (w : World) (mo : Model) (n : ℕ) (s : State) (sound :
   absent_where m q site x l places pm sm same free (Runs sec pr p i c u) =
       let away = strangers set n s boot node none m site sec sm i.lives i.here in absurd (away.1 c)
 
-  by_sections : (e : Event) → r.shown.event ≡ e → Sectioned s r.state e → (let o = observed set n None r.state r.shown w.ledger in Fares (judge set.app mo o.items) (Tied set (with_node w n r.state o.ledger (w.steps + 1))))
+  by_sections : (e : Event) → r.shown.event ≡ e → Sectioned s r.state e
+      → (let o = observed set n None r.state r.shown w.ledger in Fares (judge set.app mo o.items)
+      (Tied set (with_node w n r.state o.ledger (w.steps + 1))))
   by_sections e ev (Stay same unmade) =
       let shows : observed set n None r.state r.shown w.ledger ≡ record { items = touch_items set.app n None r.shown.touch; ledger = w.ledger } =
-      ap (λ (o : Observed). record { items = touch_items set.app n None r.shown.touch ++ o.items; ledger = o.ledger }) (quiet_items set n r.state w.ledger r.shown.event quiet (λ id g. unmade id (sym ev ∙ g)))
+      ap (λ (o : Observed). record { items = touch_items set.app n None r.shown.touch ++ o.items; ledger = o.ledger })
+      (quiet_items set n r.state w.ledger r.shown.event quiet (λ id g. unmade id (sym ev ∙ g)))
       ∙ ap (λ z. record { items = z; ledger = w.ledger }) (append_none (touch_items set.app n None r.shown.touch)) in
       subst (λ (o : Observed). Fares (judge set.app mo o.items) (Tied set (with_node w n r.state o.ledger (w.steps + 1)))) (sym shows)
       (no_more (λ m site sec sk l. inl (subst (λ (z : Sections). Lives z.live sec) same l)))
   by_sections e ev (Fewer same unmade) =
       let shows : observed set n None r.state r.shown w.ledger ≡ record { items = touch_items set.app n None r.shown.touch; ledger = w.ledger } =
-      ap (λ (o : Observed). record { items = touch_items set.app n None r.shown.touch ++ o.items; ledger = o.ledger }) (quiet_items set n r.state w.ledger r.shown.event quiet (λ id g. unmade id (sym ev ∙ g)))
+      ap (λ (o : Observed). record { items = touch_items set.app n None r.shown.touch ++ o.items; ledger = o.ledger })
+      (quiet_items set n r.state w.ledger r.shown.event quiet (λ id g. unmade id (sym ev ∙ g)))
       ∙ ap (λ z. record { items = z; ledger = w.ledger }) (append_none (touch_items set.app n None r.shown.touch)) in
       subst (λ (o : Observed). Fares (judge set.app mo o.items) (Tied set (with_node w n r.state o.ledger (w.steps + 1)))) (sym shows)
       (no_more (λ m site sec sk l. inl (without_lives s.sections.live (own_of s) sec (subst (λ (z : Sections). Lives z.live sec) same l))))
@@ -306,17 +355,25 @@ module _ (set : Setting) (w : World) (mo : Model) (n : ℕ) (s : State) (sound :
       let lives : Lives r.state.sections.live new = subst (λ z. Lives z new) (sym grown) (end_lives s.sections.live new) in
       let found : section_of r.state.sections.live next ≡ Some new = placed_found r.state.sections new (laws.node s node.node).placed lives in
       let event_is : r.shown.event ≡ event.Protected next = ev ∙ prot in
-      let shows : observed set n None r.state r.shown w.ledger ≡ record { items = touch_items set.app n None r.shown.touch ++ item.Protect n (deployed set.sites n r.state.mem new) ∷ []; ledger = w.ledger } =
+      let shows : observed set n None r.state r.shown w.ledger ≡ record
+      { items = touch_items set.app n None r.shown.touch ++ item.Protect n (deployed set.sites n r.state.mem new) ∷ []; ledger = w.ledger } =
       ap (λ z. (let o = event_seen set n None r.state w.ledger z in record { items = touch_items set.app n None r.shown.touch ++ o.items; ledger = o.ledger })) event_is
-      ∙ ap (λ z. record { items = touch_items set.app n None r.shown.touch ++ item.Protect n (Rattle.std.specs.Option.option_and_then (deployed set.sites n r.state.mem) z) ∷ []; ledger = w.ledger }) found in
+      ∙ ap (λ z. record {
+        items = touch_items set.app n None r.shown.touch ++ item.Protect n
+            (Rattle.std.specs.Option.option_and_then (deployed set.sites n r.state.mem) z) ∷ [];
+        ledger = w.ledger;
+      }) found in
       subst (λ (o : Observed). Fares (judge set.app mo o.items) (Tied set (with_node w n r.state o.ledger (w.steps + 1)))) (sym shows)
       (by_site new grown event_is found l places free refl refl (deployed set.sites n r.state.mem new) refl)
     where
       by_site : (new : Section) → r.state.sections.live ≡ s.sections.live ++ new ∷ [] → r.shown.event ≡ event.Protected s.sections.next → section_of r.state.sections.live s.sections.next ≡ Some new
           → (l : Layout) (places : List ℕ) → refusal s.sections l places ≡ None → new.layout ≡ l → new.id ≡ s.sections.next
-          → (o : Option ℕ) → deployed set.sites n r.state.mem new ≡ o → Fares (judge set.app mo (touch_items set.app n None r.shown.touch ++ item.Protect n o ∷ [])) (Tied set (with_node w n r.state w.ledger (w.steps + 1)))
+          → (o : Option ℕ) → deployed set.sites n r.state.mem new ≡ o
+          → Fares (judge set.app mo (touch_items set.app n None r.shown.touch ++ item.Protect n o ∷ []))
+          (Tied set (with_node w n r.state w.ledger (w.steps + 1)))
       by_site new grown event_is found l places free nl ni None e =
-          fares_then set.app mo (touch_items set.app n None r.shown.touch) (item.Protect n None ∷ []) (Tied set (with_node w n r.state w.ledger (w.steps + 1))) (Tied set (with_node w n r.state w.ledger (w.steps + 1)))
+          fares_then set.app mo (touch_items set.app n None r.shown.touch) (item.Protect n None ∷ [])
+          (Tied set (with_node w n r.state w.ledger (w.steps + 1))) (Tied set (with_node w n r.state w.ledger (w.steps + 1)))
           (no_more (λ m site sec sk live. elim (append_lives s.sections.live new sec (subst (λ z. Lives z sec) grown live)) [
             | inl old ↦ inl old
             | inr is_new ↦ inr (subst (λ (z : Section). is_at_site n r.state.mem z site ≡ false) (sym is_new) (position_none (is_at_site n r.state.mem new) 0 set.sites m site e sk))
@@ -330,7 +387,8 @@ module _ (set : Setting) (w : World) (mo : Model) (n : ℕ) (s : State) (sound :
           let place = at_site n r.state.mem new p.1 p.4 in
           let qn : q.0.node ≡ n = sym (sound.deployed m q.0 p.1 q.1 sited).node ∙ place.node in
           let x : (x : Standing) × (slice_get mo.modules m ≡ Some x) = get_some mo.modules m (omega (arith, get_within set.app.parts m q.0 q.1, t.size.modules)) in
-          let tied_m : ModuleTied set n m q.0 p.1 s x.0 mo.sent = subst (λ j. ModuleTied set j m q.0 p.1 s x.0 mo.sent) qn (t.modules m q.0 p.1 s x.0 q.1 sited (subst (λ j. slice_get w.nodes j ≡ Some s) (sym qn) here) x.1) in
+          let tied_m : ModuleTied set n m q.0 p.1 s x.0 mo.sent = subst (λ j. ModuleTied set j m q.0 p.1 s x.0 mo.sent) qn
+          (t.modules m q.0 p.1 s x.0 q.1 sited (subst (λ j. slice_get w.nodes j ≡ Some s) (sym qn) here) x.1) in
           let gone = absent_where m q.0 p.1 x.0 l places q.1 sited (sym nl ∙ place.layout) free tied_m in
           let nz : new.id ≢ 0 = λ z. absurd (omega (arith, node.node.placed.first, ni, z)) in
           protected_fares m q.0 p.1 x.0 new q.1 sited x.1 qn gone grown p.4 (fresh s s.sections.next new node.node event_is found)
@@ -340,4 +398,5 @@ module _ (set : Setting) (w : World) (mo : Model) (n : ℕ) (s : State) (sound :
 pub foreign_steps : (set : Setting) → IsSoundSetting set → MachineLaws set.mac → FreshSections set.mac → ForeignSteps set
 foreign_steps set sound laws fresh w mo n s t here none quiet =
     let h = by_sections set w mo n s sound laws fresh t here none quiet (step set.mac s).shown.event refl (sections_after set.mac s quiet) in
-    subst (λ z. (let o = observed set n z (step set.mac s).state (step set.mac s).shown w.ledger in Fares (judge set.app mo o.items) (Tied set (with_node w n (step set.mac s).state o.ledger (w.steps + 1))))) (sym none) h
+    subst (λ z. (let o = observed set n z (step set.mac s).state (step set.mac s).shown w.ledger in Fares
+    (judge set.app mo o.items) (Tied set (with_node w n (step set.mac s).state o.ledger (w.steps + 1))))) (sym none) h

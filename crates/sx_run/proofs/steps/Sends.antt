@@ -38,7 +38,8 @@ PlaceAt (x ∷ es) [] k e v = ⊥
 PlaceAt (x ∷ es) (w ∷ vs) zero e v = (x ≡ e) × (w ≡ v)
 PlaceAt (x ∷ es) (w ∷ vs) (suc k) e v = PlaceAt es vs k e v
 
-same_at : (es : List End) (xs : List EndState) (vs : List EndView) (sent : List (List ℕ)) (k : ℕ) (e : End) (v : EndView) → SameEnds es xs vs sent → PlaceAt es vs k e v → SameEnd e (end_of xs k) v sent
+same_at : (es : List End) (xs : List EndState) (vs : List EndView) (sent : List (List ℕ)) (k : ℕ) (e : End) (v : EndView)
+    → SameEnds es xs vs sent → PlaceAt es vs k e v → SameEnd e (end_of xs k) v sent
 same_at [] xs vs sent k e v h p = absurd p
 same_at (y ∷ es) [] vs sent k e v h p = absurd h
 same_at (y ∷ es) (x ∷ xs) [] sent k e v h p = absurd h
@@ -57,14 +58,16 @@ numbered x = record x { number = x.number + 1 }
 abbrev longer : List (List ℕ) → ℕ → List ℕ → ℕ → List (List ℕ)
 longer sent link words v = slice_set sent link (words ++ v ∷ [])
 
-counts_longer : (side : Side) (x : EndState) (view : EndView) (sent : List (List ℕ)) (v : ℕ) (words : List ℕ) → side ≡ From → slice_get sent x.field ≡ Some words → Counts side x view (slice_get sent x.field)
+counts_longer : (side : Side) (x : EndState) (view : EndView) (sent : List (List ℕ)) (v : ℕ) (words : List ℕ)
+    → side ≡ From → slice_get sent x.field ≡ Some words → Counts side x view (slice_get sent x.field)
     → Counts side (numbered x) view (slice_get (longer sent x.field words v) x.field)
 counts_longer side x view sent v words f there h =
     let n : length words ≡ x.number = subst (λ o. HasLength o x.number) there (subst (λ t. Counts t x view (slice_get sent x.field)) f h) in
     subst (λ t. Counts t (numbered x) view (slice_get (longer sent x.field words v) x.field)) (sym f)
     (subst (λ o. HasLength o (x.number + 1)) (sym (get_same sent x.field (words ++ v ∷ []) words there)) (length-append words (v ∷ []) ∙ ap (λ k. k + 1) n))
 
-counted_at : (es : List End) (xs : List EndState) (vs : List EndView) (sent : List (List ℕ)) (k v : ℕ) (e : End) (view : EndView) (words : List ℕ) → Distinct es → SameEnds es xs vs sent → PlaceAt es vs k e view
+counted_at : (es : List End) (xs : List EndState) (vs : List EndView) (sent : List (List ℕ)) (k v : ℕ) (e : End) (view : EndView) (words : List ℕ)
+    → Distinct es → SameEnds es xs vs sent → PlaceAt es vs k e view
     → e.side ≡ From → (end_of xs k).is_open ≡ true → link_of (end_of xs k).field ≡ e.link → slice_get sent (end_of xs k).field ≡ Some words
     → SameEnds es (with_end xs k (numbered (end_of xs k))) vs (longer sent (end_of xs k).field words v)
 counted_at [] xs vs sent k v e view words d h p f o le there = absurd p
@@ -196,7 +199,8 @@ module _ (app : AppTree) (m n : ℕ) (q : PartTree) (s : Setup) (c : Call) (cell
   whole_field : (field link : ℕ) → link_of field ≡ link → link + 256 * epoch_of field ≡ field
   whole_field field link e = omega (arith, e)
 
-  open_packet : (k v : ℕ) (e : End) (view : EndView) (p : Progress) (f : Flow) (emits : List ℕ) (rest : Progress → Course) (o : Option (List ℕ)) (b : Bool) → PlaceAt es views k e view → e.side ≡ From → Stand p f
+  open_packet : (k v : ℕ) (e : End) (view : EndView) (p : Progress) (f : Flow) (emits : List ℕ)
+      (rest : Progress → Course) (o : Option (List ℕ)) (b : Bool) → PlaceAt es views k e view → e.side ≡ From → Stand p f
       → (end_of p.state.ends k).is_open ≡ true → slice_get f.sent (end_of p.state.ends k).field ≡ o → HasLength o (end_of p.state.ends k).number → nat_lt (end_of p.state.ends k).number 65535 ≡ b
       → Flows Any (sent_over (end_of p.state.ends k).field v o f).sent final
       → ((p1 : Progress) → Stand p1 (sent_over (end_of p.state.ends k).field v o f) → DoesOwed (rest p1) emits p1.marks)
@@ -213,7 +217,8 @@ module _ (app : AppTree) (m n : ℕ) (q : PartTree) (s : Setup) (c : Call) (cell
       copy_owed (write_bytes s p.devices p.mem (c.output + 24 * length p.pieces) piece) k v piece p f emits rest x
       (was_sent e x v f words (has_at es views k e view at) side (se.field op) there len flows2)
       (λ p1 state made same_dev. on p1 (subst (λ (z : Flow). Stand p1 z) (sym over) (record {
-        ends = subst (λ (z : ModuleState). SameEnds es z.ends views (longer f.sent (end_of p.state.ends k).field words v)) (sym state) (counted_at es p.state.ends views f.sent k v e view words (distinct 0 m app.links) st.ends at side op (se.field op) there);
+        ends = subst (λ (z : ModuleState). SameEnds es z.ends views (longer f.sent (end_of p.state.ends k).field words v))
+            (sym state) (counted_at es p.state.ends views f.sent k v e view words (distinct 0 m app.links) st.ends at side op (se.field op) there);
         count = ap length made ∙ same_pieces p piece f st.count;
         kept = ap (λ (z : ModuleState). z.cells) state ∙ st.kept;
         beside = same_dev ∙ st.beside;
@@ -342,7 +347,9 @@ module _ (app : AppTree) (m n : ℕ) (q : PartTree) (s : Setup) (c : Call) (cell
   emits_to : (ends : List End) (vs : List EndView) (output v : ℕ) (f : Flow) → (sent_to ends vs output v f).emits ≡ f.emits
   emits_to [] vs output v f = refl
   emits_to (e ∷ ends) [] output v f = refl
-  emits_to (e ∷ ends) (w ∷ vs) output v f = emits_to ends vs output v (sent_by output v e w f) ∙ emits_if (sends output e w) (sent_over (field_of e w) v (slice_get f.sent (field_of e w)) f) f f.emits (emits_over (field_of e w) v (slice_get f.sent (field_of e w)) f) refl
+  emits_to (e ∷ ends) (w ∷ vs) output v f = emits_to ends vs output v (sent_by output v e w f)
+      ∙ emits_if (sends output e w) (sent_over (field_of e w) v (slice_get f.sent (field_of e w)) f) f f.emits
+      (emits_over (field_of e w) v (slice_get f.sent (field_of e w)) f) refl
     where
       emits_if : (b : Bool) (g h : Flow) (l : List ℕ) → g.emits ≡ l → h.emits ≡ l → (if b then g else h).emits ≡ l
       emits_if true g h l x y = x
@@ -358,7 +365,8 @@ module _ (app : AppTree) (m n : ℕ) (q : PartTree) (s : Setup) (c : Call) (cell
   emits_all (Emit v ∷ acts) f = emits_all acts (record { sent = f.sent; emits = f.emits ++ v ∷ []; pieces = f.pieces }) ∙ append_assoc f.emits (v ∷ []) (emits_of acts)
 
   -- the acts of an event, from the state in which it finds the module
-  pub event_owed : (ends_same : s.ends ≡ es) (acts : List Act) (p : Progress) (sent : List (List ℕ)) → Emits app n q s devices acts → SameEnds es p.state.ends views sent → p.pieces ≡ [] → p.state.cells ≡ cells → p.devices ≡ devices
+  pub event_owed : (ends_same : s.ends ≡ es) (acts : List Act) (p : Progress) (sent : List (List ℕ))
+      → Emits app n q s devices acts → SameEnds es p.state.ends views sent → p.pieces ≡ [] → p.state.cells ≡ cells → p.devices ≡ devices
       → (let f = all_done es views acts (record { sent = sent; emits = []; pieces = 0 }) in f.pieces ≡ pieces → final ≡ f.sent → DoesOwed (with_acts s c acts p) f.emits p.marks)
   event_owed ends_same acts p sent em same none kept beside count last =
       subst (λ l. DoesOwed (with_acts s c acts p) l p.marks) (sym (emits_all acts (record { sent = sent; emits = []; pieces = 0 })))

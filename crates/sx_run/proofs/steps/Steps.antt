@@ -80,8 +80,10 @@ increasing n i (d ∷ ds) j k v a b = head (d.node == n) j k a b (λ j k. increa
     later : (k : ℕ) → slice_get (devices_at n (i + 1) ds) k ≡ Some v → i < v
     later k e = let r = at_node_from n (i + 1) ds k v e in omega (arith, r.2)
 
-    head : (b : Bool) (j k : ℕ) → slice_get (if b then i ∷ devices_at n (i + 1) ds else devices_at n (i + 1) ds) j ≡ Some v → slice_get (if b then i ∷ devices_at n (i + 1) ds else devices_at n (i + 1) ds) k ≡ Some v
-        → ((j k : ℕ) → slice_get (devices_at n (i + 1) ds) j ≡ Some v → slice_get (devices_at n (i + 1) ds) k ≡ Some v → j ≡ k) → ((k : ℕ) → slice_get (devices_at n (i + 1) ds) k ≡ Some v → i < v) → j ≡ k
+    head : (b : Bool) (j k : ℕ) → slice_get (if b then i ∷ devices_at n (i + 1) ds else devices_at n (i + 1) ds) j ≡ Some v
+        → slice_get (if b then i ∷ devices_at n (i + 1) ds else devices_at n (i + 1) ds) k ≡ Some v
+        → ((j k : ℕ) → slice_get (devices_at n (i + 1) ds) j ≡ Some v → slice_get (devices_at n (i + 1) ds) k ≡ Some v → j ≡ k)
+        → ((k : ℕ) → slice_get (devices_at n (i + 1) ds) k ≡ Some v → i < v) → j ≡ k
     head true zero zero a b f g = refl
     head true zero (suc k) a b f g = absurd (omega (arith, g k b, some_inj i v a))
     head true (suc j) zero a b f g = absurd (omega (arith, g j a, some_inj i v b))
@@ -127,10 +129,12 @@ readings_long app n [] rs = refl
 readings_long app n (Wrapped header body own ∷ ms) rs = readings_long app n ms rs
 readings_long app n (Unwrapped header body own ∷ ms) rs = readings_long app n ms rs
 readings_long app n (Actuated k v ∷ ms) rs = readings_long app n ms rs
-readings_long app n (Sampled k v ∷ ms) rs = readings_long app n ms (slice_set rs (device_number app n k) (record { value = v; fresh = false })) ∙ length_set rs (device_number app n k) (record { value = v; fresh = false })
+readings_long app n (Sampled k v ∷ ms) rs = readings_long app n ms (slice_set rs (device_number app n k) (record { value = v; fresh = false }))
+    ∙ length_set rs (device_number app n k) (record { value = v; fresh = false })
 
 -- a step that violates is a reset
-pub violation_fares : (set : Setting) (w : World) (mo : Model) (n : ℕ) (s : State) (v : Violation) → IsSoundSetting set → Tied set w mo → slice_get w.nodes n ≡ Some s → violation_of (step set.mac s).shown.event ≡ Some v
+pub violation_fares : (set : Setting) (w : World) (mo : Model) (n : ℕ) (s : State) (v : Violation)
+    → IsSoundSetting set → Tied set w mo → slice_get w.nodes n ≡ Some s → violation_of (step set.mac s).shown.event ≡ Some v
     → Fares (judge set.app mo (after_step set w n s).items) (Tied set (after_step set w n s).world)
 violation_fares set w mo n s v sound t here q =
     let h = violates set.mac s v q in
@@ -146,7 +150,8 @@ violation_fares set w mo n s v sound t here q =
 pub bounds_of : (l : Layout) → good_bounds l ≡ true → Rattle.std.specs.Prelude.nat_lt l.pub_from l.pub_to ≡ true
 bounds_of l h = (and_parts (Rattle.std.specs.Prelude.nat_lt l.pub_from l.pub_to) _ h).0
 
-module _ (set : Setting) (w : World) (mo : Model) (m : ℕ) (q : PartTree) (site : Site) (s : State) (sec : Section) (sound : IsSoundSetting set) (laws : MachineLaws set.mac) (fit : DriversFit set) (t : Tied set w mo)
+module _ (set : Setting) (w : World) (mo : Model) (m : ℕ) (q : PartTree) (site : Site) (s : State)
+    (sec : Section) (sound : IsSoundSetting set) (laws : MachineLaws set.mac) (fit : DriversFit set) (t : Tied set w mo)
     (part : slice_get set.app.parts m ≡ Some q) (sited : slice_get set.sites m ≡ Some site) (here : slice_get w.nodes q.node ≡ Some s) (is : IsModule q.node site s sec) (own : own_of s ≡ sec.id)
     (quiet : violation_of (step set.mac s).shown.event ≡ None) where
   abbrev r : Shown Seen
@@ -168,11 +173,13 @@ module _ (set : Setting) (w : World) (mo : Model) (m : ℕ) (q : PartTree) (site
   on = onward set.mac s quiet
 
   -- a section at another module's site is another section
-  other_section : (k : ℕ) (q2 : PartTree) (site2 : Site) (sec2 : Section) → k ≢ m → slice_get set.sites k ≡ Some site2 → Lives s.sections.live sec2 → is_at_site q.node s.mem sec2 site2 ≡ true → sec.id ≢ sec2.id
+  other_section : (k : ℕ) (q2 : PartTree) (site2 : Site) (sec2 : Section) → k ≢ m → slice_get set.sites k ≡ Some site2
+      → Lives s.sections.live sec2 → is_at_site q.node s.mem sec2 site2 ≡ true → sec.id ≢ sec2.id
   other_section k q2 site2 sec2 ne sk l at same =
       let a = at_site q.node s.mem sec site is.here in
       let b = at_site q.node s.mem sec2 site2 at in
-      let one : sec ≡ sec2 = some_inj sec sec2 (sym (placed_found s.sections sec node.node.placed is.lives) ∙ subst (λ i. section_of s.sections.live i ≡ Some sec2) (sym same) (placed_found s.sections sec2 node.node.placed l)) in
+      let one : sec ≡ sec2 = some_inj sec sec2 (sym (placed_found s.sections sec node.node.placed is.lives)
+      ∙ subst (λ i. section_of s.sections.live i ≡ Some sec2) (sym same) (placed_found s.sections sec2 node.node.placed l)) in
       let layouts : site.layout ≡ site2.layout = sym a.layout ∙ ap (λ (z : Section). z.layout) one ∙ b.layout in
       elim (sound.apart m k site site2 sited sk (a.node ∙ sym b.node)) [
         | inl e ↦ absurd (ne (sym e))
@@ -180,7 +187,8 @@ module _ (set : Setting) (w : World) (mo : Model) (m : ℕ) (q : PartTree) (site
             (subst (λ (z : Layout). apart site.layout.pub_from site.layout.pub_to z.pub_from z.pub_to ≡ true) (sym layouts) p.0))
       ]
 
-  module_part : (k : ℕ) (q2 : PartTree) (site2 : Site) (z : Standing) (y : Standing) (sent : List (List ℕ)) (cur : (s.cur ≡ 0) ⊎ (s.cur ≡ sec.id)) → r.state.sections ≡ s.sections → k ≢ m → slice_get set.sites k ≡ Some site2
+  module_part : (k : ℕ) (q2 : PartTree) (site2 : Site) (z : Standing) (y : Standing) (sent : List (List ℕ)) (cur : (s.cur ≡ 0) ⊎ (s.cur ≡ sec.id))
+      → r.state.sections ≡ s.sections → k ≢ m → slice_get set.sites k ≡ Some site2
       → ModuleTied set q.node k q2 site2 s z sent → ModuleTied set q.node k q2 site2 r.state z sent
   module_part k q2 site2 z y sent cur same ne sk h =
       bystander set q.node k q2 site2 s z sent laws node.node quiet same
@@ -199,7 +207,13 @@ module _ (set : Setting) (w : World) (mo : Model) (m : ℕ) (q : PartTree) (site
     where
       number_there : (k : ℕ) (x : Window) → slice_get s.devices k ≡ Some x → slice_get (devices_at q.node 0 set.app.devices) k ≡ Some (device_number set.app q.node k)
       number_there k x e =
-          let lt : k < length (devices_at q.node 0 set.app.devices) = omega (arith, get_within s.devices k x e, Rattle.sx_run.proofs.steps.Nodes.shapes_long s.devices, ap length node.windows, Rattle.sx_run.proofs.steps.Nodes.windows_long q.node 0 set.app.devices set.places sound.places) in
+          let lt : k < length (devices_at q.node 0 set.app.devices) = omega (
+            arith,
+            get_within s.devices k x e,
+            Rattle.sx_run.proofs.steps.Nodes.shapes_long s.devices,
+            ap length node.windows,
+            Rattle.sx_run.proofs.steps.Nodes.windows_long q.node 0 set.app.devices set.places sound.places,
+          ) in
           let v : (v : ℕ) × (slice_get (devices_at q.node 0 set.app.devices) k ≡ Some v) = get_some (devices_at q.node 0 set.app.devices) k lt in
           subst (λ z. slice_get (devices_at q.node 0 set.app.devices) k ≡ Some z) (sym (index_get (devices_at q.node 0 set.app.devices) k v.0 v.1)) v.1
 
@@ -210,7 +224,8 @@ module _ (set : Setting) (w : World) (mo : Model) (m : ℕ) (q : PartTree) (site
   marks_readings = readings_append set.app q.node (marks_of_touches r.shown.touch) (marks_of_event r.shown.event r.state.exchange) mo.devices
       ∙ readings_event set.app q.node r.shown.event r.state.exchange (readings_all set.app q.node (marks_of_touches r.shown.touch) mo.devices)
 
-  goes : (x y : Standing) (mo2 : Model) (ledger : List Made) (cur : (s.cur ≡ 0) ⊎ (s.cur ≡ sec.id)) → slice_get mo.modules m ≡ Some x → Moves set.app q.node m made_marks x y mo mo2 → r.state.sections ≡ s.sections
+  goes : (x y : Standing) (mo2 : Model) (ledger : List Made) (cur : (s.cur ≡ 0) ⊎ (s.cur ≡ sec.id))
+      → slice_get mo.modules m ≡ Some x → Moves set.app q.node m made_marks x y mo mo2 → r.state.sections ≡ s.sections
       → ModuleTied set q.node m q site r.state y mo2.sent → IsSane set.app mo2 → ((e : Made) → is_made ledger e ≡ true → Known set.app mo2 e.maker e) → NodeGoes set w q.node mo r.state ledger mo2
   goes x y mo2 ledger cur there moves same mine sane known = record {
     boots_size = ap length moves.boots;
@@ -245,7 +260,9 @@ module _ (set : Setting) (w : World) (mo : Model) (m : ℕ) (q : PartTree) (site
           let qq : q ≡ q2 = some_inj q q2 (sym part ∙ subst (λ j. slice_get set.app.parts j ≡ Some q2) mine_.0 pk) in
           let ss : site ≡ site2 = some_inj site site2 (sym sited ∙ subst (λ j. slice_get set.sites j ≡ Some site2) mine_.0 sk) in
           subst (λ j. ModuleTied set q.node j q2 site2 r.state z mo2.sent) (sym mine_.0)
-          (subst (λ a. ModuleTied set q.node m a site2 r.state z mo2.sent) qq (subst (λ a. ModuleTied set q.node m q a r.state z mo2.sent) ss (subst (λ a. ModuleTied set q.node m q site r.state a mo2.sent) (sym mine_.1) mine)))
+          (subst (λ a. ModuleTied set q.node m a site2 r.state z mo2.sent) qq
+          (subst (λ a. ModuleTied set q.node m q a r.state z mo2.sent) ss
+          (subst (λ a. ModuleTied set q.node m q site r.state a mo2.sent) (sym mine_.1) mine)))
       | inr else_ ↦
           let old : ModuleTied set q.node k q2 site2 s z mo.sent = subst (λ j. ModuleTied set j k q2 site2 s z mo.sent) on_node
           (t.modules k q2 site2 s z pk sk (subst (λ j. slice_get w.nodes j ≡ Some s) (sym on_node) here) else_.1) in
@@ -258,7 +275,12 @@ module _ (set : Setting) (w : World) (mo : Model) (m : ℕ) (q : PartTree) (site
       | inr else_ ↦ module_frame set q2.node m k q2 site2 z x2 mo.sent mo2.sent moves.sent else_.0 (t.modules k q2 site2 z x2 pk sk zk else_.1)
     ];
     standing = λ k z zk. elim (which k z zk) [
-      | inl mine_ ↦ (x, subst (λ j. slice_get mo.modules j ≡ Some x) (sym mine_.0) there, ap (λ (a : Standing). a.asked) mine_.1 ∙ moves.asked, ap (λ (a : Standing). a.attested) mine_.1 ∙ moves.attested)
+      | inl mine_ ↦ (
+        x,
+        subst (λ j. slice_get mo.modules j ≡ Some x) (sym mine_.0) there,
+        ap (λ (a : Standing). a.asked) mine_.1 ∙ moves.asked,
+        ap (λ (a : Standing). a.attested) mine_.1 ∙ moves.attested,
+      )
       | inr else_ ↦ (z, else_.1, refl, refl)
     ];
     known = known;
@@ -267,28 +289,40 @@ module _ (set : Setting) (w : World) (mo : Model) (m : ℕ) (q : PartTree) (site
     where
       which : (k : ℕ) (z : Standing) → slice_get mo2.modules k ≡ Some z → ((k ≡ m) × (z ≡ y)) ⊎ ((k ≢ m) × (slice_get mo.modules k ≡ Some z))
       which k z e = elim (cases_eq k m) [
-        | inl same ↦ inl (same, some_inj z y (sym e ∙ ap (λ l. slice_get l k) moves.modules ∙ subst (λ j. slice_get (slice_set mo.modules m y) j ≡ Some y) (sym same) (get_same mo.modules m y x there)))
+        | inl same ↦ inl (
+          same,
+          some_inj z y (sym e ∙ ap (λ l. slice_get l k) moves.modules
+              ∙ subst (λ j. slice_get (slice_set mo.modules m y) j ≡ Some y) (sym same) (get_same mo.modules m y x there)),
+        )
         | inr ne ↦ inr (ne, sym (get_other mo.modules m k y ne) ∙ sym (ap (λ l. slice_get l k) moves.modules) ∙ e)
       ]
 
   -- the step of a module that is under way
-  run_fares : (x : Standing) (pr : Present) (cur : (s.cur ≡ 0) ⊎ (s.cur ≡ sec.id)) (there : slice_get mo.modules m ≡ Some x) (present : x.present ≡ Some pr) (u : IsUnderWay set q.node m q s sec pr mo.sent)
+  run_fares : (x : Standing) (pr : Present) (cur : (s.cur ≡ 0) ⊎ (s.cur ≡ sec.id)) (there : slice_get mo.modules m ≡ Some x)
+      (present : x.present ≡ Some pr) (u : IsUnderWay set q.node m q s sec pr mo.sent)
       → (Exited (setup_at set.mac q.tree (ends_of set.app m) sec u.before) u.result u.before (record { node = s; marks = u.seen; event = u.last }) → ⊥)
       → (let o = observed set q.node (Some m) r.state r.shown w.ledger in Fares (judge set.app mo o.items) (Tied set (with_node w q.node r.state o.ledger (w.steps + 1))))
   run_fares x pr cur there present u not_left =
       let boot = boot_here.0 in
       let readings : Readings set.app m q x pr boot mo w.ledger part there boot_here.1 present t.sane t.ledger s.devices = λ k wd e sensor.
       let d = device_here set q.node k s.devices wd sound node.windows e in
-      let rd : (rd : Reading) × (slice_get mo.devices (device_number set.app q.node k) ≡ Some rd) = get_some mo.devices (device_number set.app q.node k) (omega (arith, get_within set.app.devices (device_number set.app q.node k) d.0 d.1, t.size.devices)) in
+      let rd : (rd : Reading) × (slice_get mo.devices (device_number set.app q.node k) ≡ Some rd) = get_some mo.devices
+      (device_number set.app q.node k) (omega (arith, get_within set.app.devices (device_number set.app q.node k) d.0 d.1, t.size.devices)) in
       (rd.0, rd.1, t.devices q.node k s wd rd.0 here e rd.1) in
       let same = under_way_sections set m q s sec x pr boot mo w.ledger part there boot_here.1 present t.sane t.ledger t.size.sent readings u quiet not_left in
       let plain = plain_events set.mac s node.node.placed same quiet in
       let o = observed set q.node (Some m) r.state r.shown w.ledger in
-      let is2 : IsModule q.node site r.state sec = record { lives = subst (λ (z : Sections). Lives z.live sec) (sym same) is.lives; here = at_site_same q.node s.mem r.state.mem sec site (laws.public s sec node.node is.lives quiet) ∙ is.here } in
-      fares_map (judge set.app mo o.items) (λ mo2. StillRuns set m q sec r.state made_marks x mo o.ledger mo2 ⊎ RestsNow set m q sec r.state made_marks x mo o.ledger mo2) (Tied set (with_node w q.node r.state o.ledger (w.steps + 1)))
+      let is2 : IsModule q.node site r.state sec = record {
+        lives = subst (λ (z : Sections). Lives z.live sec)
+            (sym same) is.lives;
+        here = at_site_same q.node s.mem r.state.mem sec site (laws.public s sec node.node is.lives quiet) ∙ is.here;
+      } in
+      fares_map (judge set.app mo o.items) (λ mo2. StillRuns set m q sec r.state made_marks x mo o.ledger mo2
+      ⊎ RestsNow set m q sec r.state made_marks x mo o.ledger mo2) (Tied set (with_node w q.node r.state o.ledger (w.steps + 1)))
       (λ mo2 h. elim h [
         | inl run ↦ tied_node set w q.node mo s r.state o.ledger (w.steps + 1) mo2 here t (goes x run.y mo2 o.ledger cur there run.moves same
-            (Runs sec run.pr run.present is2 (on.cur ∙ ap (λ (z : Bool). if z then own_of s else 0) (Rattle.std.proofs.lemmas.Bool.eq-eqb (own_of r.state) (own_of s) (run.inside ∙ sym own)) ∙ own) run.under) run.sane run.known)
+            (Runs sec run.pr run.present is2 (on.cur ∙ ap (λ (z : Bool). if z then own_of s else 0)
+            (Rattle.std.proofs.lemmas.Bool.eq-eqb (own_of r.state) (own_of s) (run.inside ∙ sym own)) ∙ own) run.under) run.sane run.known)
         | inr rest ↦ tied_node set w q.node mo s r.state o.ledger (w.steps + 1) mo2 here t (goes x rest.y mo2 o.ledger cur there rest.moves same
             (Rests sec rest.pr rest.present is2 (λ e. nonzero s sec node.node is.lives (sym e ∙ rest.cur)) rest.idle rest.state) rest.sane rest.known)
       ])
@@ -304,9 +338,12 @@ module _ (set : Setting) (w : World) (mo : Model) (m : ℕ) (q : PartTree) (site
       let rests : s.cur ≢ sec.id = λ e. c (e ∙ ap (λ (z : Section). z.id) one) in
       let nz = nonzero s sec node.node is.lives in
       let st = state_of q.tree (ends_of set.app m) (private_bytes sec.layout s.mem) in
-      let same : SameState (ends_of set.app m) st pr.cells pr.ends mo.sent = subst (λ (z : Section). SameState (ends_of set.app m) (state_of q.tree (ends_of set.app m) (private_bytes z.layout s.mem)) pr.cells pr.ends mo.sent) (sym one) h in
+      let same : SameState (ends_of set.app m) st pr.cells pr.ends mo.sent = subst
+      (λ (z : Section). SameState (ends_of set.app m) (state_of q.tree (ends_of set.app m)
+      (private_bytes z.layout s.mem)) pr.cells pr.ends mo.sent) (sym one) h in
       let f = fit m q site s sec boot_here.0 deployed node is in
-      let begun = story set.app m q.node q (setup_at set.mac q.tree (ends_of set.app m) sec s) (call_at s) st s.mem s.devices (omega (arith, sound.links)) refl refl node.node.memory.bytes pr.ends mo.sent same.each f.0 f.1 in
+      let begun = story set.app m q.node q (setup_at set.mac q.tree (ends_of set.app m) sec s)
+      (call_at s) st s.mem s.devices (omega (arith, sound.links)) refl refl node.node.memory.bytes pr.ends mo.sent same.each f.0 f.1 in
       let u = under_way_at_entry set m q site s sec boot_here.0 deployed node is rests own nz quiet pr mo.sent pend same begun in
       run_fares x pr (inl (cur_zero rests)) there p u.0 u.1
     where
@@ -317,11 +354,15 @@ module _ (set : Setting) (w : World) (mo : Model) (m : ℕ) (q : PartTree) (site
       same_section sec2 i =
           let a = at_site q.node s.mem sec site is.here in
           let b = at_site q.node s.mem sec2 site i.here in
-          one_section s.sections sec sec2 node.node.placed is.lives i.lives (a.layout ∙ sym b.layout) (subst (λ (l : Layout). Rattle.std.specs.Prelude.nat_lt l.pub_from l.pub_to ≡ true) (sym a.layout) (bounds_of site.layout deployed.bounds))
+          one_section s.sections sec sec2 node.node.placed is.lives i.lives (a.layout ∙ sym b.layout)
+          (subst (λ (l : Layout). Rattle.std.specs.Prelude.nat_lt l.pub_from l.pub_to ≡ true) (sym a.layout)
+          (bounds_of site.layout deployed.bounds))
   own_fares x there (Runs sec2 pr p i c u) =
       let a = at_site q.node s.mem sec site is.here in
       let b = at_site q.node s.mem sec2 site i.here in
-      let one : sec2 ≡ sec = one_section s.sections sec2 sec node.node.placed i.lives is.lives (b.layout ∙ sym a.layout) (subst (λ (l : Layout). Rattle.std.specs.Prelude.nat_lt l.pub_from l.pub_to ≡ true) (sym b.layout) (bounds_of site.layout deployed.bounds)) in
+      let one : sec2 ≡ sec = one_section s.sections sec2 sec node.node.placed i.lives is.lives
+      (b.layout ∙ sym a.layout) (subst (λ (l : Layout). Rattle.std.specs.Prelude.nat_lt l.pub_from l.pub_to ≡ true)
+      (sym b.layout) (bounds_of site.layout deployed.bounds)) in
       let cur : s.cur ≡ sec.id = c ∙ ap (λ (z : Section). z.id) one in
       run_fares x pr (inr cur) there p (subst (λ z. IsUnderWay set q.node m q s z pr mo.sent) one u)
       (λ out. nonzero s sec node.node is.lives (sym cur ∙ out.idle))
@@ -333,7 +374,8 @@ module _ (set : Setting) (w : World) (mo : Model) (m : ℕ) (q : PartTree) (site
 
 -- Which module's code it is.
 
-pub position_is : {X : Type 0} → (test : X → Bool) (i : ℕ) (xs : List X) (j : ℕ) → Rattle.std.specs.List.position_from test i xs ≡ Some j → (k : ℕ) × (x : X) × (j ≡ i + k) × (slice_get xs k ≡ Some x) × (test x ≡ true)
+pub position_is : {X : Type 0} → (test : X → Bool) (i : ℕ) (xs : List X) (j : ℕ)
+    → Rattle.std.specs.List.position_from test i xs ≡ Some j → (k : ℕ) × (x : X) × (j ≡ i + k) × (slice_get xs k ≡ Some x) × (test x ≡ true)
 position_is test i [] j e = absurd cc
 position_is test i (x ∷ xs) j e = elim (cases_Bool (test x)) [
   | inl h ↦ (0, x, sym (some_inj i j (sym (ap (λ b. Rattle.std.proofs.Common.cond b (Some i) (Rattle.std.specs.List.position_from test (i + 1) xs)) h) ∙ e)) ∙ omega arith, refl, h)
@@ -355,7 +397,8 @@ pub record Runner (set : Setting) (n m : ℕ) (s : State) : Type 0 where
 pub runner_of : (set : Setting) (n m : ℕ) (s : State) → IsSoundSetting set → module_of set.sites n s (own_of s) ≡ Some m → Runner set n m s
 runner_of set n m s sound e = with_section (section_of s.sections.live (own_of s)) refl e
   where
-    with_section : (o : Option Section) → section_of s.sections.live (own_of s) ≡ o → Rattle.std.specs.Option.option_and_then (Rattle.sx_run.specs.Setting.deployed set.sites n s.mem) o ≡ Some m → Runner set n m s
+    with_section : (o : Option Section) → section_of s.sections.live (own_of s) ≡ o
+        → Rattle.std.specs.Option.option_and_then (Rattle.sx_run.specs.Setting.deployed set.sites n s.mem) o ≡ Some m → Runner set n m s
     with_section None f g = absurd cc
     with_section (Some sec) f g =
         let l = found_lives s.sections.live (own_of s) sec f in
@@ -376,23 +419,28 @@ runner_of set n m s sound e = with_section (section_of s.sections.live (own_of s
 
 -- what remains: a step of other code
 abbrev pub ForeignSteps : Setting → Type 0
-ForeignSteps set = (w : World) (mo : Model) (n : ℕ) (s : State) → Tied set w mo → slice_get w.nodes n ≡ Some s → module_of set.sites n s (own_of s) ≡ None → violation_of (step set.mac s).shown.event ≡ None
+ForeignSteps set = (w : World) (mo : Model) (n : ℕ) (s : State) → Tied set w mo → slice_get w.nodes n ≡ Some s
+    → module_of set.sites n s (own_of s) ≡ None → violation_of (step set.mac s).shown.event ≡ None
     → Fares (judge set.app mo (after_step set w n s).items) (Tied set (after_step set w n s).world)
 
 -- each step of a node forges, or goes on to a tied state
-pub step_fares : (set : Setting) (sound : IsSoundSetting set) (laws : MachineLaws set.mac) (fit : DriversFit set) (foreign : ForeignSteps set) (w : World) (mo : Model) (n : ℕ) (s : State) → Tied set w mo → slice_get w.nodes n ≡ Some s
+pub step_fares : (set : Setting) (sound : IsSoundSetting set) (laws : MachineLaws set.mac) (fit : DriversFit set)
+    (foreign : ForeignSteps set) (w : World) (mo : Model) (n : ℕ) (s : State) → Tied set w mo → slice_get w.nodes n ≡ Some s
     → Fares (judge set.app mo (after_step set w n s).items) (Tied set (after_step set w n s).world)
 step_fares set sound laws fit foreign w mo n s t here = by_event (violation_of (step set.mac s).shown.event) refl
   where
-    by_runner : (o : Option ℕ) → module_of set.sites n s (own_of s) ≡ o → violation_of (step set.mac s).shown.event ≡ None → Fares (judge set.app mo (after_step set w n s).items) (Tied set (after_step set w n s).world)
+    by_runner : (o : Option ℕ) → module_of set.sites n s (own_of s) ≡ o → violation_of (step set.mac s).shown.event ≡ None
+        → Fares (judge set.app mo (after_step set w n s).items) (Tied set (after_step set w n s).world)
     by_runner None e quiet = foreign w mo n s t here e quiet
     by_runner (Some m) e quiet =
         let g = runner_of set n m s sound e in
         let here2 : slice_get w.nodes g.part.node ≡ Some s = subst (λ j. slice_get w.nodes j ≡ Some s) (sym g.node) here in
         let is2 : IsModule g.part.node g.site s g.section = subst (λ j. IsModule j g.site s g.section) (sym g.node) g.is in
         let h = own_step set w mo m g.part g.site s g.section sound laws fit t g.parted g.sited here2 is2 g.own quiet in
-        let h2 = subst (λ j. (let o = observed set j (Some m) (step set.mac s).state (step set.mac s).shown w.ledger in Fares (judge set.app mo o.items) (Tied set (with_node w j (step set.mac s).state o.ledger (w.steps + 1))))) g.node h in
-        subst (λ z. (let o = observed set n z (step set.mac s).state (step set.mac s).shown w.ledger in Fares (judge set.app mo o.items) (Tied set (with_node w n (step set.mac s).state o.ledger (w.steps + 1))))) (sym e) h2
+        let h2 = subst (λ j. (let o = observed set j (Some m) (step set.mac s).state (step set.mac s).shown w.ledger in Fares
+        (judge set.app mo o.items) (Tied set (with_node w j (step set.mac s).state o.ledger (w.steps + 1))))) g.node h in
+        subst (λ z. (let o = observed set n z (step set.mac s).state (step set.mac s).shown w.ledger in Fares
+        (judge set.app mo o.items) (Tied set (with_node w n (step set.mac s).state o.ledger (w.steps + 1))))) (sym e) h2
 
     by_event : (o : Option Violation) → violation_of (step set.mac s).shown.event ≡ o → Fares (judge set.app mo (after_step set w n s).items) (Tied set (after_step set w n s).world)
     by_event (Some v) e = violation_fares set w mo n s v sound t here e

@@ -121,19 +121,36 @@ module _ (app : AppTree) (m n : ℕ) (q : PartTree) (s : Setup) (c : Call) (st :
 
   -- an event under way: what follows its mark is what the source then owes
   abbrev after : Mark → ModuleState → SourceEvent → List Window → Course
-  after mark st1 e d = with_acts s c (react q.tree e st1.cells).acts (record { state = record { cells = (react q.tree e st1.cells).cells; ends = st1.ends }; mem = mem; devices = d; marks = mark ∷ []; pieces = [] })
+  after mark st1 e d = with_acts s c (react q.tree e st1.cells).acts
+      (record {
+        state = record { cells = (react q.tree e st1.cells).cells; ends = st1.ends };
+        mem = mem;
+        devices = d;
+        marks = mark
+            ∷ [];
+        pieces = [];
+      })
 
   abbrev flow : SourceEvent → ModuleState → List EndView → List (List ℕ) → Flow
   flow e st1 views sent = flow_of q.tree (ends_of app m) e (idle_with st1.cells views) sent
 
-  owed : (mark : Mark) (st1 : ModuleState) (e : SourceEvent) (d : List Window) → shapes d ≡ shapes devices → (views : List EndView) (sent : List (List ℕ)) → SameEnds (ends_of app m) st1.ends views sent
+  owed : (mark : Mark) (st1 : ModuleState) (e : SourceEvent) (d : List Window) → shapes d ≡ shapes devices
+      → (views : List EndView) (sent : List (List ℕ)) → SameEnds (ends_of app m) st1.ends views sent
       → (ms : List Mark) × (marks_in (finished (after mark st1 e d)) ≡ mark ∷ ms)
       × Settles app n m q.device (react q.tree e st1.cells).cells views (flow e st1 views sent).sent (flow e st1 views sent).pieces (finished (after mark st1 e d)) ms (flow e st1 views sent).emits
   owed mark st1 e d sh views sent same =
       event_owed app m n q s c (react q.tree e st1.cells).cells views few (flow e st1 views sent).sent (flow e st1 views sent).pieces d ends_same (react q.tree e st1.cells).acts
-      (record { state = record { cells = (react q.tree e st1.cells).cells; ends = st1.ends }; mem = mem; devices = d; marks = mark ∷ []; pieces = [] }) sent (emits d sh e st1.cells) same refl refl refl refl refl
+      (record {
+        state = record { cells = (react q.tree e st1.cells).cells; ends = st1.ends };
+        mem = mem;
+        devices = d;
+        marks = mark
+            ∷ [];
+        pieces = [];
+      }) sent (emits d sh e st1.cells) same refl refl refl refl refl
 
-  reacts : (mark : Mark) (st1 : ModuleState) (e : SourceEvent) (d : List Window) → shapes d ≡ shapes devices → (views1 : List EndView) (sent1 : List (List ℕ)) → SameEnds (ends_of app m) st1.ends views1 sent1
+  reacts : (mark : Mark) (st1 : ModuleState) (e : SourceEvent) (d : List Window) → shapes d ≡ shapes devices
+      → (views1 : List EndView) (sent1 : List (List ℕ)) → SameEnds (ends_of app m) st1.ends views1 sent1
       → (ms : List Mark) × (marks_in (finished (after mark st1 e d)) ≡ mark ∷ ms) × Reacts app n m q st1 e (finished (after mark st1 e d)) ms
   reacts mark st1 e d sh views1 sent1 same1 =
       let one = owed mark st1 e d sh views1 sent1 same1 in (
@@ -141,14 +158,17 @@ module _ (app : AppTree) (m n : ℕ) (q : PartTree) (s : Setup) (c : Call) (st :
         one.1,
         λ views sent same.
             let o = owed mark st1 e d sh views sent same in
-            subst (λ ms. Settles app n m q.device (react q.tree e st1.cells).cells views (flow e st1 views sent).sent (flow e st1 views sent).pieces (finished (after mark st1 e d)) ms (flow e st1 views sent).emits)
+            subst (λ ms. Settles app n m q.device (react q.tree e st1.cells).cells views (flow e st1 views sent).sent
+            (flow e st1 views sent).pieces (finished (after mark st1 e d)) ms (flow e st1 views sent).emits)
             (tail_same mark o.0 one.0 (marks_in (finished (after mark st1 e d))) o.1 one.1) o.2,
       )
 
   handled_after : (mark : Mark) (st1 : ModuleState) (e : SourceEvent) (d : List Window)
       → handled s c e (record { state = st1; mem = mem; devices = d; marks = mark ∷ []; pieces = [] }) ≡ after mark st1 e d
   unfolding handled
-  handled_after mark st1 e d = ap (λ t. with_acts s c (react t e st1.cells).acts (record { state = record { cells = (react t e st1.cells).cells; ends = st1.ends }; mem = mem; devices = d; marks = mark ∷ []; pieces = [] })) tree_same
+  handled_after mark st1 e d = ap (λ t. with_acts s c (react t e st1.cells).acts
+      (record { state = record { cells = (react t e st1.cells).cells; ends = st1.ends }; mem = mem; devices = d; marks = mark ∷ []; pieces = [] }))
+      tree_same
 
   -- Entry 0.
 
@@ -161,7 +181,8 @@ module _ (app : AppTree) (m n : ℕ) (q : PartTree) (s : Setup) (c : Call) (st :
   some_side From = 0
   some_side To = 1
 
-  opened_key : (side e0 : ℕ) (t : Side) (cc0 d : ℕ) (rest : List ℕ) (e : ℕ × End) (o : Option (List ℕ)) → cc0 < 256 → is_set_key_header (1 ∷ 0 ∷ cc0 ∷ d ∷ e0 ∷ 0 ∷ []) ≡ true → side_in (1 ∷ 0 ∷ cc0 ∷ d ∷ e0 ∷ 0 ∷ []) ≡ t
+  opened_key : (side e0 : ℕ) (t : Side) (cc0 d : ℕ) (rest : List ℕ) (e : ℕ × End) (o : Option (List ℕ))
+      → cc0 < 256 → is_set_key_header (1 ∷ 0 ∷ cc0 ∷ d ∷ e0 ∷ 0 ∷ []) ≡ true → side_in (1 ∷ 0 ∷ cc0 ∷ d ∷ e0 ∷ 0 ∷ []) ≡ t
       → end_found cc0 t 0 (ends_of app m) ≡ Some e → is_keyed (end_of st.ends e.0) (cc0 + 256 * d) ≡ false
       → Tells (key_opened e.0 (1 ∷ 0 ∷ cc0 ∷ d ∷ e0 ∷ 0 ∷ rest) o p0)
   opened_key side e0 t cc0 d rest e None lt isk is_t found nk = refused 7 refl refl (λ x. absurd (omega (arith, x)))
@@ -177,7 +198,8 @@ module _ (app : AppTree) (m n : ℕ) (q : PartTree) (s : Setup) (c : Call) (st :
           let b = ltb-true (epoch_of x.field) (epoch_of (cc0 + 256 * d)) (not-false (nat_lt (epoch_of x.field) (epoch_of (cc0 + 256 * d))) a) in
           omega (arith, b, high_field cc0 d lt)
 
-  found_key : (e0 : ℕ) (t : Side) (cc0 d : ℕ) (rest : List ℕ) (o : Option (ℕ × End)) → cc0 < 256 → is_set_key_header (1 ∷ 0 ∷ cc0 ∷ d ∷ e0 ∷ 0 ∷ []) ≡ true → side_in (1 ∷ 0 ∷ cc0 ∷ d ∷ e0 ∷ 0 ∷ []) ≡ t
+  found_key : (e0 : ℕ) (t : Side) (cc0 d : ℕ) (rest : List ℕ) (o : Option (ℕ × End)) → cc0 < 256
+      → is_set_key_header (1 ∷ 0 ∷ cc0 ∷ d ∷ e0 ∷ 0 ∷ []) ≡ true → side_in (1 ∷ 0 ∷ cc0 ∷ d ∷ e0 ∷ 0 ∷ []) ≡ t
       → end_found cc0 t 0 (ends_of app m) ≡ o → Tells (set_key_at s (1 ∷ 0 ∷ cc0 ∷ d ∷ e0 ∷ 0 ∷ rest) o p0)
   found_key e0 t cc0 d rest None lt isk is_t found = refused 5 refl refl (λ x. absurd (omega (arith, x)))
   found_key e0 t cc0 d rest (Some e) lt isk is_t found =
@@ -234,7 +256,9 @@ module _ (app : AppTree) (m n : ℕ) (q : PartTree) (s : Setup) (c : Call) (st :
   abbrev taken_state : ℕ → ℕ → ModuleState
   taken_state k i = record { cells = st.cells; ends = with_end st.ends k (renumbered (end_of st.ends k) (i + 1)) }
 
-  opened_event : (x d e f : ℕ) (rest : List ℕ) (at : ℕ × End) (o : Option (List ℕ)) → end_found x To 0 (ends_of app m) ≡ Some at → (end_of st.ends at.0).is_open ≡ true → epoch_of (end_of st.ends at.0).field ≡ d → (end_of st.ends at.0).number ≤ e + 256 * f → e + 256 * f < 65536
+  opened_event : (x d e f : ℕ) (rest : List ℕ) (at : ℕ × End) (o : Option (List ℕ))
+      → end_found x To 0 (ends_of app m) ≡ Some at → (end_of st.ends at.0).is_open ≡ true
+      → epoch_of (end_of st.ends at.0).field ≡ d → (end_of st.ends at.0).number ≤ e + 256 * f → e + 256 * f < 65536
       → Tells (event_opened s c at (3 ∷ 0 ∷ x ∷ d ∷ e ∷ f ∷ rest) o p0)
   opened_event x d e f rest at None found op same le lt = refused 7 refl refl (λ y. absurd (omega (arith, y)))
   opened_event x d e f rest at (Some body) found op same le lt =
@@ -245,15 +269,18 @@ module _ (app : AppTree) (m n : ℕ) (q : PartTree) (s : Setup) (c : Call) (st :
       let t = takes_at x d (e + 256 * f) (ends_of app m) st.ends views0 sent0 at.0 at.1 same0 (found_at x To (ends_of app m) at.0 at.1 found) op same le in
       let r = reacts mark st1 ev devices refl t.0 sent0 t.2 in
       let ready : Begun app n m q devices st (mark ∷ r.0) (finished (after mark st1 ev devices)) =
-      Takes at.0 at.1 header (take 2 body) refl found op same le lt (subst (λ v. Reacts app n m q st1 (event.Input at.1.port v) (finished (after mark st1 ev devices)) r.0) (sym (value_two body)) r.2) in
+      Takes at.0 at.1 header (take 2 body) refl found op same le lt
+      (subst (λ v. Reacts app n m q st1 (event.Input at.1.port v) (finished (after mark st1 ev devices)) r.0) (sym (value_two body)) r.2) in
       subst (λ z. Tells (finished z)) (sym (handled_after mark st1 ev devices))
       (subst (λ z. Begun app n m q devices st z (finished (after mark st1 ev devices))) (sym r.1) ready)
 
-  numbered_event : (x d e f : ℕ) (rest : List ℕ) (at : ℕ × End) → e < 256 → f < 256 → end_found x To 0 (ends_of app m) ≡ Some at → (end_of st.ends at.0).is_open ≡ true → epoch_of (end_of st.ends at.0).field ≡ d
+  numbered_event : (x d e f : ℕ) (rest : List ℕ) (at : ℕ × End) → e < 256 → f < 256
+      → end_found x To 0 (ends_of app m) ≡ Some at → (end_of st.ends at.0).is_open ≡ true → epoch_of (end_of st.ends at.0).field ≡ d
       → Tells (event_numbered s c at (3 ∷ 0 ∷ x ∷ d ∷ e ∷ f ∷ rest) (end_of st.ends at.0) p0)
   numbered_event x d e f rest at le lf found op same =
       tells_if (nat_lt (e + 256 * f) (end_of st.ends at.0).number || (e + 256 * f == 65535)) _ _ (λ _. refused 6 refl refl (λ y. absurd (omega (arith, y))))
-      (λ no. opened_event x d e f rest at _ found op same (ltb-false (e + 256 * f) (end_of st.ends at.0).number (or_parts (nat_lt (e + 256 * f) (end_of st.ends at.0).number) (e + 256 * f == 65535) no).0) (omega (arith, le, lf)))
+      (λ no. opened_event x d e f rest at _ found op same (ltb-false (e + 256 * f) (end_of st.ends at.0).number
+      (or_parts (nat_lt (e + 256 * f) (end_of st.ends at.0).number) (e + 256 * f == 65535) no).0) (omega (arith, le, lf)))
 
   found_event : (x d e f : ℕ) (rest : List ℕ) (o : Option (ℕ × End)) → x < 256 → e < 256 → f < 256 → end_found x To 0 (ends_of app m) ≡ o → Tells (input_at s c (3 ∷ 0 ∷ x ∷ d ∷ e ∷ f ∷ rest) o p0)
   found_event x d e f rest None lx le lf found = refused 5 refl refl (λ y. absurd (omega (arith, y)))
@@ -282,7 +309,8 @@ module _ (app : AppTree) (m n : ℕ) (q : PartTree) (s : Setup) (c : Call) (st :
 
   -- Entry 3.
 
-  sample_cases : (k : ℕ) (w : Window) (b : Bool) → OwnSensor app n q devices k w → w.fresh ≡ b → Tells (if b then finished (handled s c (event.Sample w.value) (sample_read (k, w) p0)) else Returns 8 p0)
+  sample_cases : (k : ℕ) (w : Window) (b : Bool) → OwnSensor app n q devices k w → w.fresh ≡ b
+      → Tells (if b then finished (handled s c (event.Sample w.value) (sample_read (k, w) p0)) else Returns 8 p0)
   sample_cases k w true own fresh =
       let mark = Sampled k w.value in
       let ev = event.Sample w.value in
@@ -312,7 +340,8 @@ module _ (app : AppTree) (m n : ℕ) (q : PartTree) (s : Setup) (c : Call) (st :
       (λ _. tells_received (read_bytes s devices mem c.input 38) 1 (λ packet. set_key s packet p0) (λ bs e k. six_key bs (read_all s devices mem small 38 c.input bs e) k))
       (λ n0. tells_if (c.entry == 1) _ _
       (λ _. tells_received (read_bytes s devices mem c.input 18) 2 (λ packet. attest s c packet p0)
-      (λ bs e k. tells_vouch bs (write_bytes s devices mem (c.output + 24 * 0) (wrapped s.mac s.section.key bs []).tag) (wrapped s.mac s.section.key bs []).tag (is_ask_of bs (read_all s devices mem small 18 c.input bs e) k)))
+      (λ bs e k. tells_vouch bs (write_bytes s devices mem (c.output + 24 * 0) (wrapped s.mac s.section.key bs []).tag)
+      (wrapped s.mac s.section.key bs []).tag (is_ask_of bs (read_all s devices mem small 18 c.input bs e) k)))
       (λ n1. tells_if (c.entry == 2) _ _
       (λ _. tells_received (read_bytes s devices mem c.input 24) 3 (λ packet. input s c packet p0) (λ bs e k. six_event bs (read_all s devices mem small 24 c.input bs e) k))
       (λ n2. tells_sample (sensor_entry n0 n1 n2))))

@@ -61,9 +61,21 @@ set_same (z ∷ xs) zero v e = ap (λ w. w ∷ xs) (sym (some_inj z v e))
 set_same (z ∷ xs) (suc i) v e = ap (λ w. z ∷ w) (set_same xs i v e)
 
 moves_same : (app : AppTree) (n m : ℕ) (x : Standing) (mo : Model) → slice_get mo.modules m ≡ Some x → Moves app n m [] x x mo mo
-moves_same app n m x mo there = record { boots = refl; asks = refl; epochs = refl; modules = sym (set_same mo.modules m x there); asked = refl; attested = refl; vouched = λ a b t. t; devices = refl; sent = flows_same (IsOwn app m) mo.sent }
+moves_same app n m x mo there = record {
+  boots = refl;
+  asks = refl;
+  epochs = refl;
+  modules = sym
+      (set_same mo.modules m x there);
+  asked = refl;
+  attested = refl;
+  vouched = λ a b t. t;
+  devices = refl;
+  sent = flows_same (IsOwn app m) mo.sent;
+}
 
-moves_on : (app : AppTree) (n m : ℕ) (mark : Mark) (ms : List Mark) (x y z : Standing) (mo mo1 mo2 : Model) → Moved app n m mark x y mo mo1 → Moves app n m ms y z mo1 mo2 → Moves app n m (mark ∷ ms) x z mo mo2
+moves_on : (app : AppTree) (n m : ℕ) (mark : Mark) (ms : List Mark) (x y z : Standing) (mo mo1 mo2 : Model)
+    → Moved app n m mark x y mo mo1 → Moves app n m ms y z mo1 mo2 → Moves app n m (mark ∷ ms) x z mo mo2
 moves_on app n m mark ms x y z mo mo1 mo2 f g = record {
   boots = g.boots ∙ f.boots;
   asks = g.asks ∙ f.asks;
@@ -81,7 +93,8 @@ HasMarks [] = ⊥
 HasMarks (mark ∷ ms) = Unit {0}
 
 -- where the source follows marks: what is owed beside these devices, and where there was a mark beside any
-pub record Nexts (app : AppTree) (m : ℕ) (q : PartTree) (x : Standing) (mo : Model) (ms : List Mark) (ledger : List Made) (P : List Window → Type 0) (rest : List Mark) (result : Invoked) (mo' : Model) : Type 0 where
+pub record Nexts (app : AppTree) (m : ℕ) (q : PartTree) (x : Standing) (mo : Model) (ms : List Mark)
+    (ledger : List Made) (P : List Window → Type 0) (rest : List Mark) (result : Invoked) (mo' : Model) : Type 0 where
   pub y : Standing
   pub moves : Moves app q.node m ms x y mo mo'
   pub pr : Present
@@ -118,7 +131,8 @@ marks_fares app m q boot part result rest (mark ∷ ms) x pr mo ledger there boo
       sane = h.sane;
       known = h.known;
     })
-    (marks_fares app m q boot part result rest ms next.y next.pr mo1 o.ledger (same_module app q.node m mark x next.y mo mo1 there next.moved) (rw next.moved.boots boots) next.present next.sane next.known
+    (marks_fares app m q boot part result rest ms next.y next.pr mo1 o.ledger
+    (same_module app q.node m mark x next.y mo mo1 there next.moved) (rw next.moved.boots boots) next.present next.sane next.known
     (next.moved.sent.size ∙ sizes) (λ d. Unit {0}) [] tt (λ k w e. absurd cc) (λ d _. next.owes d)))
 
 -- What a step of a deployed module shows is its marks, and after them that it is done, where it left.
@@ -138,9 +152,17 @@ touches_seen : (app : AppTree) (n m boot : ℕ) (ts : List Touch) (ledger : List
 touches_seen app n m boot [] ledger = refl
 touches_seen app n m boot (touch.Quiet ∷ ts) ledger = touches_seen app n m boot ts ledger
 touches_seen app n m boot (touch.DeviceRead k v ∷ ts) ledger =
-    ap (λ (r : Observed). record { items = Rattle.sx_run.specs.Observation.read_item app (Some m) (Rattle.sx_run.specs.Setting.device_number app n k) v ∷ r.items; ledger = r.ledger }) (touches_seen app n m boot ts ledger)
+    ap (λ (r : Observed). record {
+      items = Rattle.sx_run.specs.Observation.read_item app (Some m)
+          (Rattle.sx_run.specs.Setting.device_number app n k) v ∷ r.items;
+      ledger = r.ledger;
+    }) (touches_seen app n m boot ts ledger)
 touches_seen app n m boot (touch.DeviceWrite k v ∷ ts) ledger =
-    ap (λ (r : Observed). record { items = Rattle.sx_run.specs.Observation.write_item app (Some m) (Rattle.sx_run.specs.Setting.device_number app n k) v ∷ r.items; ledger = r.ledger }) (touches_seen app n m boot ts ledger)
+    ap (λ (r : Observed). record {
+      items = Rattle.sx_run.specs.Observation.write_item app (Some m)
+          (Rattle.sx_run.specs.Setting.device_number app n k) v ∷ r.items;
+      ledger = r.ledger;
+    }) (touches_seen app n m boot ts ledger)
 
 -- an event of an instruction that is neither protect nor unprotect, nor a reset
 abbrev pub IsPlain : Event → Type 0
@@ -182,7 +204,9 @@ seen_as_marks set n m s seen ledger p =
     let e = marks_seen set.app n m s.boot (marks_of_event seen.event s.exchange) ledger in
     let whole : marks_seen set.app n m s.boot (marks_of seen s.exchange) ledger ≡ record { items = ts ++ e.items; ledger = e.ledger } =
     marks_append set.app n m s.boot (marks_of_touches seen.touch) (marks_of_event seen.event s.exchange) ledger
-    ∙ ap (λ (o : Observed). let r = marks_seen set.app n m s.boot (marks_of_event seen.event s.exchange) o.ledger in record { items = o.items ++ r.items; ledger = r.ledger }) (touches_seen set.app n m s.boot seen.touch ledger) in
+    ∙ ap (λ (o : Observed). let r = marks_seen set.app n m s.boot
+    (marks_of_event seen.event s.exchange) o.ledger in record { items = o.items ++ r.items; ledger = r.ledger })
+    (touches_seen set.app n m s.boot seen.touch ledger) in
     ap (λ (o : Observed). record { items = ts ++ o.items; ledger = o.ledger }) (event_as_marks set n m s seen.event ledger p)
     ∙ ap (λ (l : List Item). record { items = l; ledger = e.ledger }) (sym (append_assoc ts e.items (done_items m s seen.event)))
     ∙ ap (λ (o : Observed). record { items = o.items ++ done_items m s seen.event; ledger = o.ledger }) (sym whole)

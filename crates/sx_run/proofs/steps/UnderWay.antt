@@ -81,7 +81,8 @@ module _ (set : Setting) (m : ℕ) (q : PartTree) (s : State) (sec : Section) (p
   ms = marks_of (step set.mac s).shown (step set.mac s).state.exchange
 
   -- what one step of the run gives
-  pub stepped_on : (Exited setup u.result u.before (record { node = s; marks = u.seen; event = u.last }) → ⊥) → Underway setup u.result u.before (record { node = s; marks = u.seen; event = u.last }) × Behind setup u.result u.before t
+  pub stepped_on : (Exited setup u.result u.before (record { node = s; marks = u.seen; event = u.last }) → ⊥)
+      → Underway setup u.result u.before (record { node = s; marks = u.seen; event = u.last }) × Behind setup u.result u.before t
   stepped_on runs =
       elim (one_step Watched Violation (watch set.mac) (λ w. 1) (Underway setup u.result u.before) (Aborted u.result) (Exited setup u.result u.before) u.bound
       (record { node = s; marks = u.seen; event = u.last }) t (watch_goes set.mac s u.seen u.last quiet) u.comes) [
@@ -202,7 +203,8 @@ module _ (set : Setting) (m : ℕ) (q : PartTree) (s : State) (sec : Section) (x
       ∙ ap (λ (g : List ℕ). item.Done m (slice_index g 12) (slice_index g 13) ∷ []) out.registers in
       let all : (u.seen ++ made_marks) ++ [] ≡ marks_in u.result = no_more u.seen made_marks (marks_in u.result) (out.marks ∙ sym (ap marks_in out.returns)) in
       subst (λ is. Fares (judge set.app mo (seen_now.items ++ is)) (RestsNow set m q sec r.state made_marks x mo seen_now.ledger)) (sym items)
-      (fares_then set.app mo seen_now.items (item.Done m out.status (length p.pieces) ∷ []) (Nexts set.app m q x mo made_marks seen_now.ledger IsHere [] u.result) (RestsNow set m q sec r.state made_marks x mo seen_now.ledger)
+      (fares_then set.app mo seen_now.items (item.Done m out.status (length p.pieces) ∷ [])
+      (Nexts set.app m q x mo made_marks seen_now.ledger IsHere [] u.result) (RestsNow set m q sec r.state made_marks x mo seen_now.ledger)
       (marks_first [] (rest_of set m q s sec pr mo.sent u quiet [] all))
       (λ mo1 h.
       let there1 : slice_get mo1.modules m ≡ Some h.y = rw h.moves.modules (get_same mo.modules m h.y x there) in
@@ -210,7 +212,8 @@ module _ (set : Setting) (m : ℕ) (q : PartTree) (s : State) (sec : Section) (x
       let Fin = Finished set.app m q h.y h.pr boot mo1 seen_now.ledger part there1 boots1 h.present h.sane h.known p in
       let go : (d : List Window) → Owes set.app q.node m q d h.pr mo1.sent [] u.result → Readings set.app m q h.y h.pr boot mo1 seen_now.ledger part there1 boots1 h.present h.sane h.known d
       → Fares (judge set.app mo1 (item.Done m out.status (length p.pieces) ∷ [])) Fin =
-      λ d o rd. done_owes set.app m q h.y h.pr boot mo1 seen_now.ledger part there1 boots1 h.present h.sane h.known d rd out.status p (subst (λ z. Owes set.app q.node m q d h.pr mo1.sent [] z) out.returns o) in
+      λ d o rd. done_owes set.app m q h.y h.pr boot mo1 seen_now.ledger part there1 boots1 h.present h.sane h.known d rd out.status p
+      (subst (λ z. Owes set.app q.node m q d h.pr mo1.sent [] z) out.returns o) in
       fares_map (judge set.app mo1 (item.Done m out.status (length p.pieces) ∷ [])) Fin (RestsNow set m q sec r.state made_marks x mo seen_now.ledger)
       (λ mo2 f.
       let moved : Moved set.app q.node m (Wrapped [] [] true) h.y f.y mo1 mo2 = record {
@@ -226,12 +229,24 @@ module _ (set : Setting) (m : ℕ) (q : PartTree) (s : State) (sec : Section) (x
       } in
       record {
         y = f.y;
-        moves = moves_last set.app q.node m made_marks x h.y f.y mo mo1 mo2 h.moves (record { boots = moved.boots; asks = moved.asks; epochs = moved.epochs; modules = moved.modules; asked = moved.asked; attested = moved.attested; vouched = moved.vouched; devices = moved.devices; sent = moved.sent });
+        moves = moves_last set.app q.node m made_marks x h.y f.y mo mo1 mo2 h.moves
+            (record {
+              boots = moved.boots;
+              asks = moved.asks;
+              epochs = moved.epochs;
+              modules = moved.modules;
+              asked = moved.asked;
+              attested = moved.attested;
+              vouched = moved.vouched;
+              devices = moved.devices;
+              sent = moved.sent;
+            });
         pr = f.pr2;
         present = f.there2;
         idle = f.idle2;
         cur = out.idle;
-        state = subst (λ z. SameState (ends_of set.app m) z f.pr2.cells f.pr2.ends mo2.sent) (sym out.state) (subst (λ z. SameState (ends_of set.app m) p.state f.pr2.cells f.pr2.ends z) (sym (ap (λ (z : Model). z.sent) f.changed)) f.state);
+        state = subst (λ z. SameState (ends_of set.app m) z f.pr2.cells f.pr2.ends mo2.sent) (sym out.state)
+            (subst (λ z. SameState (ends_of set.app m) p.state f.pr2.cells f.pr2.ends z) (sym (ap (λ (z : Model). z.sent) f.changed)) f.state);
         sane = sane_moved set.app q.node m (Wrapped [] [] true) h.y f.y mo1 mo2 there1 moved h.sane
             (λ q2 b pk bk.
             let t = h.sane.timely m q2 h.y b pk there1 bk in
@@ -253,7 +268,13 @@ module _ (set : Setting) (m : ℕ) (q : PartTree) (s : State) (sec : Section) (x
                 hs.2,
                 elim hs.3 [
                   | inl lt ↦ inl lt
-                  | inr o ↦ inr (f.pr2, f.there2, subst (λ v. AtLeast (epoch_of c) (open_at (link_of c) From (ends_of set.app m) v)) (sym (f.ends ∙ ap (λ (z : Present). z.ends) (some_inj h.pr o.0 (sym h.present ∙ o.1)))) (subst (λ j. AtLeast (epoch_of c) (open_at (link_of c) From (ends_of set.app j) o.0.ends)) own o.2))
+                  | inr o ↦ inr (
+                    f.pr2,
+                    f.there2,
+                    subst (λ v. AtLeast (epoch_of c) (open_at (link_of c) From (ends_of set.app m) v))
+                        (sym (f.ends ∙ ap (λ (z : Present). z.ends) (some_inj h.pr o.0 (sym h.present ∙ o.1))))
+                        (subst (λ j. AtLeast (epoch_of c) (open_at (link_of c) From (ends_of set.app j) o.0.ends)) own o.2),
+                  )
                 ],
               )
             ]);
@@ -262,33 +283,49 @@ module _ (set : Setting) (m : ℕ) (q : PartTree) (s : State) (sec : Section) (x
       (elim (either_marks made_marks) [
         | inl none ↦ go s.devices (h.owes s.devices (inl refl))
             (λ k w e sensor.
-            let g = readings k w e sensor in
-            (g.0, subst (λ z. slice_get z (Rattle.sx_run.specs.Setting.device_number set.app q.node k) ≡ Some g.0) (sym (h.moves.devices ∙ ap (λ z. readings_all set.app q.node z mo.devices) none)) g.1, g.2))
+            let g = readings k w e sensor in (
+              g.0,
+              subst (λ z. slice_get z (Rattle.sx_run.specs.Setting.device_number set.app q.node k) ≡ Some g.0)
+                  (sym (h.moves.devices ∙ ap (λ z. readings_all set.app q.node z mo.devices) none)) g.1,
+              g.2,
+            ))
         | inr some ↦ go [] (h.owes [] (inr some)) (λ k w e sensor. absurd cc)
       ])))
 
   -- one step of the node, not a reset: what is seen is allowed, or forged, and the module is still under way or rests
-  pub under_way_fares : (Exited (setup_at set.mac q.tree (ends_of set.app m) sec u.before) u.result u.before (record { node = s; marks = u.seen; event = u.last }) → ⊥) → IsPlain r.shown.event → r.state.boot ≡ boot → (made_marks ≡ [] → r.state.devices ≡ s.devices)
+  pub under_way_fares : (Exited (setup_at set.mac q.tree (ends_of set.app m) sec u.before) u.result u.before
+      (record { node = s; marks = u.seen; event = u.last }) → ⊥) → IsPlain r.shown.event → r.state.boot ≡ boot
+      → (made_marks ≡ [] → r.state.devices ≡ s.devices)
       → (let o = observed set q.node (Some m) r.state r.shown ledger in
       Fares (judge set.app mo o.items) (λ mo'. StillRuns set m q sec r.state made_marks x mo o.ledger mo' ⊎ RestsNow set m q sec r.state made_marks x mo o.ledger mo'))
   under_way_fares runs plain same_boot same_devices =
       let seen : observed set q.node (Some m) r.state r.shown ledger ≡ record { items = seen_now.items ++ done_items m r.state r.shown.event; ledger = seen_now.ledger } =
       seen_as_marks set q.node m r.state r.shown ledger plain
-      ∙ ap (λ b. record { items = (marks_seen set.app q.node m b made_marks ledger).items ++ done_items m r.state r.shown.event; ledger = (marks_seen set.app q.node m b made_marks ledger).ledger }) same_boot in
-      subst (λ (o : Observed). Fares (judge set.app mo o.items) (λ mo'. StillRuns set m q sec r.state made_marks x mo o.ledger mo' ⊎ RestsNow set m q sec r.state made_marks x mo o.ledger mo')) (sym seen)
+      ∙ ap (λ b. record {
+        items = (marks_seen set.app q.node m b made_marks ledger).items ++ done_items m r.state r.shown.event;
+        ledger =
+            (marks_seen set.app q.node m b made_marks ledger).ledger;
+      }) same_boot in
+      subst (λ (o : Observed). Fares (judge set.app mo o.items)
+      (λ mo'. StillRuns set m q sec r.state made_marks x mo o.ledger mo' ⊎ RestsNow set m q sec r.state made_marks x mo o.ledger mo')) (sym seen)
       (elim ((stepped_on set m q s sec pr mo.sent u quiet runs).1) [
         | Out out ↦
             fares_map (judge set.app mo (seen_now.items ++ done_items m r.state r.shown.event)) (RestsNow set m q sec r.state made_marks x mo seen_now.ledger) _ (λ mo' h. inr h) (leave_fares out)
         | Still bound on comes ↦
             let none : done_items m r.state r.shown.event ≡ [] =
             not_left r.shown.event (λ l. left_outside set.mac s l (on.inside ∙ sym ((stepped_on set m q s sec pr mo.sent u quiet runs).0.inside))) m r.state in
-            subst (λ is. Fares (judge set.app mo (seen_now.items ++ is)) (λ mo'. StillRuns set m q sec r.state made_marks x mo seen_now.ledger mo' ⊎ RestsNow set m q sec r.state made_marks x mo seen_now.ledger mo')) (sym none)
-            (subst (λ is. Fares (judge set.app mo is) (λ mo'. StillRuns set m q sec r.state made_marks x mo seen_now.ledger mo' ⊎ RestsNow set m q sec r.state made_marks x mo seen_now.ledger mo')) (sym (append-nil seen_now.items))
-            (fares_map (judge set.app mo seen_now.items) (StillRuns set m q sec r.state made_marks x mo seen_now.ledger) _ (λ mo' h. inl h) (still_fares bound on.inside same_devices on.marks.0 on.marks.1 comes)))
+            subst (λ is. Fares (judge set.app mo (seen_now.items ++ is))
+            (λ mo'. StillRuns set m q sec r.state made_marks x mo seen_now.ledger mo'
+            ⊎ RestsNow set m q sec r.state made_marks x mo seen_now.ledger mo')) (sym none)
+            (subst (λ is. Fares (judge set.app mo is) (λ mo'. StillRuns set m q sec r.state made_marks x mo seen_now.ledger mo'
+            ⊎ RestsNow set m q sec r.state made_marks x mo seen_now.ledger mo')) (sym (append-nil seen_now.items))
+            (fares_map (judge set.app mo seen_now.items) (StillRuns set m q sec r.state made_marks x mo seen_now.ledger) _
+            (λ mo' h. inl h) (still_fares bound on.inside same_devices on.marks.0 on.marks.1 comes)))
       ])
 
   -- the sections stay
-  pub under_way_sections : (Exited (setup_at set.mac q.tree (ends_of set.app m) sec u.before) u.result u.before (record { node = s; marks = u.seen; event = u.last }) → ⊥) → r.state.sections ≡ s.sections
+  pub under_way_sections : (Exited (setup_at set.mac q.tree (ends_of set.app m) sec u.before) u.result u.before
+      (record { node = s; marks = u.seen; event = u.last }) → ⊥) → r.state.sections ≡ s.sections
   under_way_sections runs =
       let both = stepped_on set m q s sec pr mo.sent u quiet runs in
       behind_sections both.1 ∙ sym both.0.sections

@@ -142,8 +142,10 @@ below_end x v epoch e h = subst (λ o. is_below o epoch ≡ true) (sym e) (below
         lt-ltb lt = grind (arith, lt)
     below_if false o = refl
 
-pub opens_at : (link epoch : ℕ) (side : Side) (es : List End) (xs : List EndState) (vs : List EndView) (sent : List (List ℕ)) (j : ℕ) (e : End) (new : EndState) → SameEnds es xs vs sent → FoundAt link side es j e
-    → ((end_of xs j).is_open ≡ true → epoch_of (end_of xs j).field < epoch) → new.is_open ≡ true → link_of new.field ≡ link → epoch_of new.field ≡ epoch → new.number ≡ 0 → (side ≡ From → HasLength (slice_get sent new.field) 0)
+pub opens_at : (link epoch : ℕ) (side : Side) (es : List End) (xs : List EndState) (vs : List EndView)
+    (sent : List (List ℕ)) (j : ℕ) (e : End) (new : EndState) → SameEnds es xs vs sent → FoundAt link side es j e
+    → ((end_of xs j).is_open ≡ true → epoch_of (end_of xs j).field < epoch) → new.is_open ≡ true
+    → link_of new.field ≡ link → epoch_of new.field ≡ epoch → new.number ≡ 0 → (side ≡ From → HasLength (slice_get sent new.field) 0)
     → (ws : List EndView) × (changed_views (opens epoch) link side es vs ≡ Some ws) × SameEnds es (with_end xs j new) ws sent
 opens_at link epoch side [] xs vs sent j e new h f c o fe ee n l = absurd f
 opens_at link epoch side (x ∷ es) [] vs sent j e new h f c o fe ee n l = absurd h
@@ -259,7 +261,8 @@ newly_head epoch k c link to side e es v vs ws false t ih h o =
     let r = some_later (changed_views (opens epoch) link side es vs) v ws h in
     newly_if ((e.link == c) && same_side e.side to) (open_at c to es vs) (open_at c to es r.0) (ih r.0 r.1) (subst (λ us. open_at c to (e ∷ es) us ≡ Some k) r.2 o)
   where
-    newly_if : (b : Bool) (x y : Option ℕ) → (y ≡ Some k → (x ≡ Some k) ⊎ ((c ≡ link) × (k ≡ epoch))) → (if b then v.epoch else y) ≡ Some k → ((if b then v.epoch else x) ≡ Some k) ⊎ ((c ≡ link) × (k ≡ epoch))
+    newly_if : (b : Bool) (x y : Option ℕ) → (y ≡ Some k → (x ≡ Some k) ⊎ ((c ≡ link) × (k ≡ epoch)))
+        → (if b then v.epoch else y) ≡ Some k → ((if b then v.epoch else x) ≡ Some k) ⊎ ((c ≡ link) × (k ≡ epoch))
     newly_if true x y f g = inl g
     newly_if false x y f g = f g
 
@@ -388,7 +391,8 @@ takes_leaves epoch i v w h = kept (is_at v.epoch epoch && nat_le v.next i) h
     kept false h = absurd cc
 
 -- an open end's connection is below 256
-small_if : (b : Bool) (c k : ℕ) (e : End) (x : EndState) (v o : Option ℕ) → (b ≡ true → e.link ≡ c) → v ≡ epoch_at x → (x.is_open ≡ true → link_of x.field ≡ e.link) → (o ≡ Some k → c < 256) → (if b then v else o) ≡ Some k → c < 256
+small_if : (b : Bool) (c k : ℕ) (e : End) (x : EndState) (v o : Option ℕ) → (b ≡ true → e.link ≡ c)
+    → v ≡ epoch_at x → (x.is_open ≡ true → link_of x.field ≡ e.link) → (o ≡ Some k → c < 256) → (if b then v else o) ≡ Some k → c < 256
 small_if true c k e x v o l ep f g h = of_open x.is_open refl (sym ep ∙ h)
   where
     of_open : (t : Bool) → x.is_open ≡ t → (if x.is_open then Some (epoch_of x.field) else None) ≡ Some k → c < 256

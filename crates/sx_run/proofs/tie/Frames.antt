@@ -42,7 +42,8 @@ pub state_frame : (es : List End) (p : ModuleState) (cells : List ℕ) (vs : Lis
 state_frame es p cells vs a b f h = record { same = h.same; each = ends_frame es p.ends vs a b f h.each }
 
 module _ (app : AppTree) (m : ℕ) (a b : List (List ℕ)) (P : ℕ → Type 0) (flows : Flows P a b) (same : SameSent (ends_of app m) a b) where
-  settled_frame : (cells : List ℕ) (vs : List EndView) (pieces : ℕ) (emits : List ℕ) (result : Invoked) → Settled (ends_of app m) cells vs a pieces emits result → Settled (ends_of app m) cells vs b pieces emits result
+  settled_frame : (cells : List ℕ) (vs : List EndView) (pieces : ℕ) (emits : List ℕ) (result : Invoked)
+      → Settled (ends_of app m) cells vs a pieces emits result → Settled (ends_of app m) cells vs b pieces emits result
   settled_frame cells vs pieces emits (Violates v p) h = tt
   settled_frame cells vs pieces emits (Returns status p) h = (h.0, h.1, h.2, state_frame (ends_of app m) p.state cells vs a b same h.3)
 

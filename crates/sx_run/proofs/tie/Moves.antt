@@ -109,7 +109,11 @@ module _ (app : AppTree) (n m : ℕ) (mark : Mark) (x y : Standing) (mo mo' : Mo
       | inl same ↦
           let yz : y ≡ z = some_inj y z (sym same_module ∙ subst (λ j. slice_get mo'.modules j ≡ Some z) same zk) in
           let r = u f l q boot words lk same (subst (λ j. slice_get app.parts j ≡ Some q) same pk) (rw moved.boots at bk) wk in
-          elim r [ inl e ↦ inl e | inr h ↦ inr (subst (λ j. HasSent (ends_of app j) z boot mo.epochs (link_of f) (epoch_of f)) (sym same) (subst (λ s. HasSent (ends_of app m) s boot mo.epochs (link_of f) (epoch_of f)) yz h)) ]
+          elim r [
+            | inl e ↦ inl e
+            | inr h ↦ inr (subst (λ j. HasSent (ends_of app j) z boot mo.epochs (link_of f) (epoch_of f))
+                (sym same) (subst (λ s. HasSent (ends_of app m) s boot mo.epochs (link_of f) (epoch_of f)) yz h))
+          ]
       | inr ne ↦
           elim (moved.sent.only f) [
             | inl e ↦ sane.unsent f l q z boot words lk pk (sym (other_module l.from ne) ∙ zk) (rw moved.boots at bk) (sym e ∙ wk)

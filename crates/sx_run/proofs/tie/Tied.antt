@@ -280,7 +280,8 @@ HasSent es x boot epochs c e =
 
 pub record IsSane (app : AppTree) (mo : Model) : Type 0 where
   pub small : (c : ℕ) → slice_index mo.epochs c ≤ 255
-  pub timely : (m : ℕ) (q : PartTree) (x : Standing) (boot : ℕ) → slice_get app.parts m ≡ Some q → slice_get mo.modules m ≡ Some x → slice_get mo.boots q.node ≡ Some boot → IsTimely (ends_of app m) x boot mo.epochs
+  pub timely : (m : ℕ) (q : PartTree) (x : Standing) (boot : ℕ) → slice_get app.parts m ≡ Some q
+      → slice_get mo.modules m ≡ Some x → slice_get mo.boots q.node ≡ Some boot → IsTimely (ends_of app m) x boot mo.epochs
   pub unsent : (f : ℕ) (l : Link) (q : PartTree) (x : Standing) (boot : ℕ) (words : List ℕ) → slice_get app.links (link_of f) ≡ Some l → slice_get app.parts l.from ≡ Some q
       → slice_get mo.modules l.from ≡ Some x → slice_get mo.boots q.node ≡ Some boot → slice_get mo.sent f ≡ Some words
       → (words ≡ []) ⊎ HasSent (ends_of app l.from) x boot mo.epochs (link_of f) (epoch_of f)

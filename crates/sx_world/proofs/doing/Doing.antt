@@ -68,12 +68,14 @@ done_did (Ok x) old new before after n items act answer lt left said kept ok = �
 done_did (Err e) old new before after n items act answer lt left said kept ok = tt
 
 -- memory ran out before an item was added
-pub wanted_same : {T E : Type 0} (r : Result T E) (old : Running) (before after : List Item) (act : World → Acted) → OnErr r (after ≡ before) → OnErr r ((set : Setting) → Wanted set old before after act)
+pub wanted_same : {T E : Type 0} (r : Result T E) (old : Running) (before after : List Item) (act : World → Acted)
+    → OnErr r (after ≡ before) → OnErr r ((set : Setting) → Wanted set old before after act)
 wanted_same (Ok x) old before after act err = tt
 wanted_same (Err e) old before after act err = λ set w h. front_same after before (act w).items err
 
 -- so for one setting
-pub wanted_here : {T E : Type 0} (r : Result T E) (set : Setting) (old : Running) (before after : List Item) (act : World → Acted) → OnErr r (after ≡ before) → OnErr r (Wanted set old before after act)
+pub wanted_here : {T E : Type 0} (r : Result T E) (set : Setting) (old : Running) (before after : List Item) (act : World → Acted)
+    → OnErr r (after ≡ before) → OnErr r (Wanted set old before after act)
 wanted_here (Ok x) set old before after act err = tt
 wanted_here (Err e) set old before after act err = λ w h. front_same after before (act w).items err
 

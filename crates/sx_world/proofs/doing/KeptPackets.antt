@@ -78,7 +78,8 @@ map_long [] = refl
 map_long (x ∷ xs) = ap suc (map_long xs)
 
 -- bytes that were taken are a new packet
-pub took_wanted : {T E : Type 0} (r : Result T E) (old : Running) (before after : List Item) (n at len : ℕ) (bytes : List ℕ) (s : State) → slice_get old.nodes n ≡ Some s → (take s at len).shown ≡ Ok bytes
+pub took_wanted : {T E : Type 0} (r : Result T E) (old : Running) (before after : List Item) (n at len : ℕ) (bytes : List ℕ) (s : State)
+    → slice_get old.nodes n ≡ Some s → (take s at len).shown ≡ Ok bytes
     → OnErr r ((set : Setting) → Wanted set old before after (λ w. with_packet w bytes))
     → OnErr r ((set : Setting) → Wanted set old before after (λ w. at_node w (λ s. after_take w n (take s at len).shown) (slice_get w.nodes n)))
 took_wanted (Ok x) old before after n at len bytes s here shown f = tt
@@ -86,7 +87,8 @@ took_wanted (Err x) old before after n at len bytes s here shown f = λ set w h.
     subst (λ o. AddsFront before after (at_node w (λ s. after_take w n (take s at len).shown) o).items) (sym (ap (λ ns. slice_get ns n) (sym h.nodes) ∙ here))
     (subst (λ o. AddsFront before after (after_take w n o).items) (sym shown) (f set w h))
 
-pub took_did : {T E : Type 0} (r : Result T E) (old new : Running) (before after : List Item) (n at len : ℕ) (bytes : List ℕ) (s : State) → slice_get old.nodes n ≡ Some s → (take s at len).shown ≡ Ok bytes
+pub took_did : {T E : Type 0} (r : Result T E) (old new : Running) (before after : List Item) (n at len : ℕ) (bytes : List ℕ) (s : State)
+    → slice_get old.nodes n ≡ Some s → (take s at len).shown ≡ Ok bytes
     → OnOk r ((set : Setting) → Did set old new before after (λ w. with_packet w bytes))
     → OnOk r ((set : Setting) → Did set old new before after (λ w. at_node w (λ s. after_take w n (take s at len).shown) (slice_get w.nodes n)))
 took_did (Ok x) old new before after n at len bytes s here shown f = λ set w h.
@@ -95,7 +97,8 @@ took_did (Ok x) old new before after n at len bytes s here shown f = λ set w h.
     (subst (λ o. Shows set new (after_take w n o).world × (after ≡ before ++ (after_take w n o).items)) (sym shown) (f set w h))
 took_did (Err x) old new before after n at len bytes s here shown f = tt
 
-pub took_refused : {T E : Type 0} (r : Result T E) (old : Running) (before after : List Item) (n at len : ℕ) (why : Refused) (s : State) → slice_get old.nodes n ≡ Some s → (take s at len).shown ≡ Err why
+pub took_refused : {T E : Type 0} (r : Result T E) (old : Running) (before after : List Item) (n at len : ℕ) (why : Refused) (s : State)
+    → slice_get old.nodes n ≡ Some s → (take s at len).shown ≡ Err why
     → OnOk r (after ≡ before ++ refused_item n why ∷ [])
     → OnOk r ((set : Setting) → Did set old old before after (λ w. at_node w (λ s. after_take w n (take s at len).shown) (slice_get w.nodes n)))
 took_refused (Ok x) old before after n at len why s here shown e = λ set w h.

@@ -138,7 +138,8 @@ going_done set stops end n all left old now before came going e h = λ w shown.
     )
 
 -- the last item
-pub went_on : {T E : Type 0} (r : Result T E) (came after : List Item) (end : Option Item) (item : Item) → end ≡ Some item → OnOk r (after ≡ came ++ item ∷ []) → OnOk r (after ≡ came ++ option_to_list end)
+pub went_on : {T E : Type 0} (r : Result T E) (came after : List Item) (end : Option Item) (item : Item)
+    → end ≡ Some item → OnOk r (after ≡ came ++ item ∷ []) → OnOk r (after ≡ came ++ option_to_list end)
 went_on (Ok x) came after end item e h = h ∙ sym (ap (λ o. came ++ option_to_list o) e)
 went_on (Err x) came after end item e h = tt
 

@@ -47,7 +47,8 @@ quiet_boot mac idle (suc k) s q =
     step_quiet mac t (λ v e. quiet_event (step mac t).shown.event v shown e) ∙ quiet_boot mac idle k s q.0
 
 -- one more
-pub quiet_more : (mac : Mac) (idle : Bool) (k j : ℕ) (s t : State) (seen : Seen) → j ≡ suc k → AreQuiet mac idle k s → t ≡ (step mac (after_steps mac k s)).state → seen ≡ (step mac (after_steps mac k s)).shown
+pub quiet_more : (mac : Mac) (idle : Bool) (k j : ℕ) (s t : State) (seen : Seen) → j ≡ suc k → AreQuiet mac idle k s
+    → t ≡ (step mac (after_steps mac k s)).state → seen ≡ (step mac (after_steps mac k s)).shown
     → seen ≡ nothing → (idle && (t.cur == 0)) ≡ false → AreQuiet mac idle j s
 quiet_more mac idle k j s t seen e q left shown none more =
     subst (λ i. AreQuiet mac idle i s) (sym e)
@@ -97,10 +98,12 @@ going_quiet mac d sites idle ends n all left (suc k) j old now before came s goi
     let so_far = going_quiet mac d sites idle ends n all left k (suc j) old now before came s going (e ∙ omega arith) here q.0 in
     let on : is_last set (λ s. idle && (s.cur == 0)) t ≡ false = ap (λ (z : Seen). is_reset z.event || (idle && ((step mac t).state.cur == 0))) q.1 ∙ q.2 in
     going_on set (λ s. idle && (s.cur == 0)) ends n all (suc j) j old (stepped mac n k s now) (stepped mac n (suc k) s now) before came came t so_far refl (stepped_there mac n k s now here) on
-    (step_does mac d sites (stepped mac n k s now) (stepped mac n (suc k) s now) came came n t now.ledger (stepped_there mac n k s now here) (stepped_next mac n k s now now.ledger) (quiet_saw mac d sites n t now.ledger came q.1))
+    (step_does mac d sites (stepped mac n k s now) (stepped mac n (suc k) s now) came came n t now.ledger
+    (stepped_there mac n k s now here) (stepped_next mac n k s now now.ledger) (quiet_saw mac d sites n t now.ledger came q.1))
 
 -- The node's state as it is after quiet steps and one more.
-pub node_at : (mac : Mac) (n k : ℕ) (s : State) (now mid : Running) → slice_get now.nodes n ≡ Some s → mid ≡ stepped mac n (suc k) s now → slice_get mid.nodes n ≡ Some (step mac (after_steps mac k s)).state
+pub node_at : (mac : Mac) (n k : ℕ) (s : State) (now mid : Running) → slice_get now.nodes n ≡ Some s
+    → mid ≡ stepped mac n (suc k) s now → slice_get mid.nodes n ≡ Some (step mac (after_steps mac k s)).state
 node_at mac n k s now mid here left = ap (λ (r : Running). slice_get r.nodes n) left ∙ stepped_there mac n (suc k) s now here
 
 -- The program took steps that show nothing, and then one that showed this.
@@ -201,7 +204,8 @@ pub passed_did : (mac : Mac) (d : Deployed) (sites : List Site) (now mid new : R
 passed_did mac d sites now mid new came after idle n k left seen p kept saw =
     let t = after_steps mac k p.node in
     let u = (step mac t).state in
-    program_did mac d sites (stepped mac n k p.node now) new came after n t u (runner_of sites n u seen) seen mid.ledger new.ledger (stepped_there mac n k p.node now p.here) refl p.shown refl (ap (λ (r : Running). r.ledger) p.leaves)
+    program_did mac d sites (stepped mac n k p.node now) new came after n t u (runner_of sites n u seen) seen mid.ledger new.ledger
+    (stepped_there mac n k p.node now p.here) refl p.shown refl (ap (λ (r : Running). r.ledger) p.leaves)
     (kept ∙ ap (λ (r : Running). with_nodes r r.nodes new.ledger r.steps) p.leaves ∙ stepped_next mac n k p.node now new.ledger)
     (saw u (node_at mac n k p.node now mid p.here p.leaves))
 
@@ -212,7 +216,8 @@ pub passed_front : (mac : Mac) (d : Deployed) (sites : List Site) (now mid : Run
 passed_front mac d sites now mid came after idle n k left seen p saw =
     let t = after_steps mac k p.node in
     let u = (step mac t).state in
-    program_wanted mac d sites (stepped mac n k p.node now) came after n t u (runner_of sites n u seen) seen mid.ledger (stepped_there mac n k p.node now p.here) refl p.shown refl (ap (λ (r : Running). r.ledger) p.leaves)
+    program_wanted mac d sites (stepped mac n k p.node now) came after n t u (runner_of sites n u seen) seen mid.ledger
+    (stepped_there mac n k p.node now p.here) refl p.shown refl (ap (λ (r : Running). r.ledger) p.leaves)
     (saw u (node_at mac n k p.node now mid p.here p.leaves))
 
 -- what the run has come to before it
@@ -228,7 +233,8 @@ pub passed_there : (mac : Mac) (idle : Bool) (n k left : ℕ) (now mid new : Run
 passed_there mac idle n k left now mid new seen p kept = ap (λ (r : Running). slice_get r.nodes n) kept ∙ node_at mac n k p.node now mid p.here p.leaves
 
 -- the program's test whether it is the last one
-pub passed_ends : (mac : Mac) (idle : Bool) (n k left : ℕ) (now mid new : Running) (seen : Seen) (b : Bool) → (p : Passage mac idle n k left now mid seen) → new ≡ with_nodes mid mid.nodes new.ledger mid.steps
+pub passed_ends : (mac : Mac) (idle : Bool) (n k left : ℕ) (now mid new : Running) (seen : Seen) (b : Bool)
+    → (p : Passage mac idle n k left now mid seen) → new ≡ with_nodes mid mid.nodes new.ledger mid.steps
     → ((u : State) → slice_get new.nodes n ≡ Some u → b ≡ (is_reset seen.event || (idle && (u.cur == 0))))
     → (is_reset (step mac (after_steps mac k p.node)).shown.event || (idle && ((step mac (after_steps mac k p.node)).state.cur == 0))) ≡ b
 passed_ends mac idle n k left now mid new seen b p kept test =
@@ -257,7 +263,8 @@ shown_within n mid new kept lt = subst (λ i. n < i) (sym (ap (λ (r : Running).
 few_left : (limit now mid new left k : ℕ) → new ≡ mid → mid ≡ now + suc k → k < left → now + left ≤ limit → new + (left - (k + 1)) ≤ limit
 few_left limit now mid new left k e f few most = omega arith
 
-pub passed_steps : (limit : ℕ) (mac : Mac) (idle : Bool) (n k left : ℕ) (now mid new : Running) (seen : Seen) → Passage mac idle n k left now mid seen → new ≡ with_nodes mid mid.nodes new.ledger mid.steps
+pub passed_steps : (limit : ℕ) (mac : Mac) (idle : Bool) (n k left : ℕ) (now mid new : Running) (seen : Seen)
+    → Passage mac idle n k left now mid seen → new ≡ with_nodes mid mid.nodes new.ledger mid.steps
     → now.steps + left ≤ limit → new.steps + (left - (k + 1)) ≤ limit
 passed_steps limit mac idle n k left now mid new seen p kept most =
     few_left limit now.steps mid.steps new.steps left k (ap (λ (r : Running). r.steps) kept) (ap (λ (r : Running). r.steps) p.leaves) p.few most

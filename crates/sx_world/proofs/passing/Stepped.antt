@@ -74,7 +74,8 @@ saw_behind set n s node runner seen list left shown found =
     ∙ ap (λ (z : Seen). observed set n (runner_of set.sites n (step set.mac s).state z) (step set.mac s).state z list) shown
 
 -- a step that the program did
-pub program_did : (mac : Mac) (d : Deployed) (sites : List Site) (old new : Running) (before after : List Item) (n : ℕ) (s node : State) (runner : Option ℕ) (seen : Seen) (entries entries2 : List Entry)
+pub program_did : (mac : Mac) (d : Deployed) (sites : List Site) (old new : Running) (before after : List Item)
+    (n : ℕ) (s node : State) (runner : Option ℕ) (seen : Seen) (entries entries2 : List Entry)
     → slice_get old.nodes n ≡ Some s → node ≡ (step mac s).state → seen ≡ (step mac s).shown → runner ≡ runner_of sites n node seen → entries ≡ old.ledger
     → new ≡ with_nodes old (slice_set old.nodes n (step mac s).state) entries2 (old.steps + 1)
     → Observes entries entries2 before after (observed (setting mac d sites) n runner node seen) → Did (setting mac d sites) old new before after (next (setting mac d sites) n)
@@ -101,25 +102,30 @@ refused_still (Some x) s done why e = refl
 abbrev pub next_irq : Setting → ℕ → ℕ → World → Acted
 next_irq set n line w = at_node w (λ s. after_interrupt set w n (irq s line).state (irq s line).shown) (slice_get w.nodes n)
 
-pub irq_did : {T E : Type 0} (r : Result T E) (mac : Mac) (d : Deployed) (sites : List Site) (old new : Running) (before after : List Item) (n line : ℕ) (s node : State) (seen : Seen) (entries entries2 : List Entry)
+pub irq_did : {T E : Type 0} (r : Result T E) (mac : Mac) (d : Deployed) (sites : List Site) (old new : Running)
+    (before after : List Item) (n line : ℕ) (s node : State) (seen : Seen) (entries entries2 : List Entry)
     → slice_get old.nodes n ≡ Some s → node ≡ (irq s line).state → (irq s line).shown ≡ Ok seen → entries ≡ old.ledger
     → new ≡ with_nodes old (slice_set old.nodes n (irq s line).state) entries2 old.steps
-    → OnOk r (Observes entries entries2 before after (observed (setting mac d sites) n None node seen)) → OnOk r (Did (setting mac d sites) old new before after (next_irq (setting mac d sites) n line))
+    → OnOk r (Observes entries entries2 before after (observed (setting mac d sites) n None node seen))
+    → OnOk r (Did (setting mac d sites) old new before after (next_irq (setting mac d sites) n line))
 irq_did (Ok x) mac d sites old new before after n line s node seen entries entries2 there left shown kept is_new saw = λ w h.
     let set = setting mac d sites in
     let here : slice_get w.nodes n ≡ Some s = ap (λ ns. slice_get ns n) (sym h.nodes) ∙ there in
     let t = (irq s line).state in
-    let o = subst (λ (x : State). (after ≡ before ++ (observed set n None x seen w.ledger).items) × Records entries2 (observed set n None x seen w.ledger).ledger) left (saw w.ledger (subst (λ l. Records l w.ledger) (sym kept) h.ledger)) in
+    let o = subst (λ (x : State). (after ≡ before ++ (observed set n None x seen w.ledger).items)
+    × Records entries2 (observed set n None x seen w.ledger).ledger) left (saw w.ledger (subst (λ l. Records l w.ledger) (sym kept) h.ledger)) in
     let ledger = (observed set n None t seen w.ledger).ledger in
     let shows : Shows set (with_nodes old (slice_set old.nodes n t) entries2 old.steps) (with_node w n t ledger w.steps) =
     subst (λ k. Shows set (with_nodes old (slice_set old.nodes n t) entries2 k) (with_node w n t ledger w.steps)) (sym h.steps)
     (node_shown set old w n s t entries2 ledger w.steps h here (acted_placed mac (Interrupt line) s (h.placed n s here)) o.1) in
-    subst (λ q. Shows set new (at_node w (λ s. after_interrupt set w n (irq s line).state (irq s line).shown) q).world × (after ≡ before ++ (at_node w (λ s. after_interrupt set w n (irq s line).state (irq s line).shown) q).items)) (sym here)
+    subst (λ q. Shows set new (at_node w (λ s. after_interrupt set w n (irq s line).state (irq s line).shown) q).world
+    × (after ≡ before ++ (at_node w (λ s. after_interrupt set w n (irq s line).state (irq s line).shown) q).items)) (sym here)
     (subst (λ q. Shows set new (after_interrupt set w n t q).world × (after ≡ before ++ (after_interrupt set w n t q).items)) (sym shown)
     (subst (λ x. Shows set x (with_node w n t ledger w.steps)) (sym is_new) shows, o.0))
 irq_did (Err x) mac d sites old new before after n line s node seen entries entries2 there left shown kept is_new saw = tt
 
-pub irq_wanted : {T E : Type 0} (r : Result T E) (mac : Mac) (d : Deployed) (sites : List Site) (old : Running) (before after : List Item) (n line : ℕ) (s node : State) (seen : Seen) (entries : List Entry)
+pub irq_wanted : {T E : Type 0} (r : Result T E) (mac : Mac) (d : Deployed) (sites : List Site) (old : Running)
+    (before after : List Item) (n line : ℕ) (s node : State) (seen : Seen) (entries : List Entry)
     → slice_get old.nodes n ≡ Some s → node ≡ (irq s line).state → (irq s line).shown ≡ Ok seen → entries ≡ old.ledger
     → OnErr r (ObservesFront entries before after (observed (setting mac d sites) n None node seen)) → OnErr r (Wanted (setting mac d sites) old before after (next_irq (setting mac d sites) n line))
 irq_wanted (Ok x) mac d sites old before after n line s node seen entries there left shown kept saw = tt
@@ -138,7 +144,8 @@ irq_refused (Ok x) set old new before after n line s why there shown is_new e = 
     let here : slice_get w.nodes n ≡ Some s = ap (λ ns. slice_get ns n) (sym h.nodes) ∙ there in
     let still : (irq s line).state ≡ s = refused_still (irq_refusal s) s _ why shown in
     let same : new ≡ old = is_new ∙ ap (λ ns. with_nodes old ns old.ledger old.steps) (ap (λ t. slice_set old.nodes n t) still ∙ set_same old.nodes n s there) in
-    subst (λ q. Shows set new (at_node w (λ s. after_interrupt set w n (irq s line).state (irq s line).shown) q).world × (after ≡ before ++ (at_node w (λ s. after_interrupt set w n (irq s line).state (irq s line).shown) q).items)) (sym here)
+    subst (λ q. Shows set new (at_node w (λ s. after_interrupt set w n (irq s line).state (irq s line).shown) q).world
+    × (after ≡ before ++ (at_node w (λ s. after_interrupt set w n (irq s line).state (irq s line).shown) q).items)) (sym here)
     (subst (λ q. Shows set new (after_interrupt set w n (irq s line).state q).world × (after ≡ before ++ (after_interrupt set w n (irq s line).state q).items)) (sym shown)
     (subst (λ x. Shows set x w) (sym same) h, e))
 irq_refused (Err x) set old new before after n line s why there shown is_new e = tt

@@ -75,7 +75,8 @@ or_none false b h = h
 at_place : (side : Side) (c n m : ℕ) (ls : List Link) → list_any (is_end (n + c) side) (ends_after n m ls) ≡ is_held m side (slice_get ls c)
 at_place side c n m [] = refl
 at_place side zero n m (l ∷ ls) =
-    first side (n + 0) n m l ls true (eq-eqb n (n + 0) (omega arith)) ∙ or_none (at_side m side l) (list_any (is_end (n + 0) side) (ends_after (n + 1) m ls)) (below side (n + 0) (n + 1) m ls (omega arith))
+    first side (n + 0) n m l ls true (eq-eqb n (n + 0) (omega arith)) ∙ or_none (at_side m side l)
+    (list_any (is_end (n + 0) side) (ends_after (n + 1) m ls)) (below side (n + 0) (n + 1) m ls (omega arith))
 at_place side (suc c) n m (l ∷ ls) =
     first side (n + suc c) n m l ls false (other n (n + suc c) (λ e. absurd (omega (arith, e))))
     ∙ subst (λ k. list_any (is_end k side) (ends_after (n + 1) m ls) ≡ is_held m side (slice_get ls c)) (omega arith) (at_place side c (n + 1) m ls)

@@ -78,7 +78,8 @@ no_touches = refl
 by_event : (ts : List Touch) (e : Event) → ts ≡ untouched → (list_any is_touch ts || is_own e) ≡ true → is_own e ≡ true
 by_event ts e u h = sym (ap (λ x. list_any is_touch x || is_own e) u) ∙ h
 
-settled_author : (mac : Mac) (s : State) (o : Outcome) → ToldBy mac (given_at_pc mac s) s.mem o → Untouched o → tells (settled_step s o).shown ≡ true → Authored s (settled_step s o).state (settled_step s o).shown
+settled_author : (mac : Mac) (s : State) (o : Outcome) → ToldBy mac (given_at_pc mac s) s.mem o → Untouched o
+    → tells (settled_step s o).shown ≡ true → Authored s (settled_step s o).state (settled_step s o).shown
 settled_author mac s (Finished regs x) told quiet h = record {
   author = left_author s (own_of s) _ (holder s.sections.live (slice_index regs 0) == own_of s) _ refl refl (settled_step s (Finished regs x)).state refl;
   sections = refl;

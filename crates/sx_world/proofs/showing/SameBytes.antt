@@ -18,7 +18,8 @@ byte_at m a (suc n) i lt =
       | inl p ↦ get_or_append_left (bytes_from m a n) (slice_index m (a + n) ∷ []) 0 i (omega (arith, len, p)) ∙ byte_at m a n i p
       | inr p ↦
           let e : i ≡ length (bytes_from m a n) = omega (arith, lt, p, len) in
-          ap (λ (x : ℕ). slice_index (bytes_from m a n ++ slice_index m (a + n) ∷ []) x) e ∙ get_or-append_seam (bytes_from m a n) (slice_index m (a + n)) [] 0 ∙ ap (slice_index m) (omega (arith, lt, p))
+          ap (λ (x : ℕ). slice_index (bytes_from m a n ++ slice_index m (a + n) ∷ []) x) e
+          ∙ get_or-append_seam (bytes_from m a n) (slice_index m (a + n)) [] 0 ∙ ap (slice_index m) (omega (arith, lt, p))
     ]
 
 -- a byte differs

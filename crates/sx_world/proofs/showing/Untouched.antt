@@ -64,7 +64,8 @@ silent_key : (g : Given) (own : Section) (rest : List ℕ → Plan) → ((k : Li
 silent_key g own rest f = silent_if (own_key g.regs) (rest own.key) (Bytes (slice_index g.regs 9) 16 rest) (f own.key) f
 
 silent_inputs : (g : Given) (own : Section) (rest : List ℕ → List ℕ → List ℕ → Plan) → ((k a b : List ℕ) → Silent (rest k a b)) → Silent (with_inputs g own rest)
-silent_inputs g own rest f = silent_key g own (λ key. Bytes (slice_index g.regs 10) (slice_index g.regs 11) (λ ad. Bytes (slice_index g.regs 12) (slice_index g.regs 13) (λ text. rest key ad text))) (λ k a b. f k a b)
+silent_inputs g own rest f = silent_key g own (λ key. Bytes (slice_index g.regs 10) (slice_index g.regs 11)
+    (λ ad. Bytes (slice_index g.regs 12) (slice_index g.regs 13) (λ text. rest key ad text))) (λ k a b. f k a b)
 
 silent_opened : (g : Given) (ad : List ℕ) (o : Option (List ℕ)) → Silent (opened g ad o)
 silent_opened g ad None = tt
@@ -72,7 +73,8 @@ silent_opened g ad (Some body) = tt
 
 silent_wrap : (mac : Mac) (g : Given) (own : Section) → Silent (wrap mac g own)
 silent_wrap mac g own = silent_inputs g own
-    (λ key ad body. Put (slice_index g.regs 14) (wrapped mac key ad body).cipher (Put (slice_index g.regs 15) (wrapped mac key ad body).tag (Tell (concluded g.regs 1) (event.Wrapped g.own) (exchanged g.regs ad body))))
+    (λ key ad body. Put (slice_index g.regs 14) (wrapped mac key ad body).cipher
+    (Put (slice_index g.regs 15) (wrapped mac key ad body).tag (Tell (concluded g.regs 1) (event.Wrapped g.own) (exchanged g.regs ad body))))
     (λ k a b. tt)
 
 silent_unwrap : (mac : Mac) (g : Given) (own : Section) → Silent (unwrap mac g own)

@@ -16,6 +16,7 @@ put_bytes-requires-clause-few c =
 
 pub returns-clause-line : goal.returns-clause-line
 returns-clause-line c =
-    line_is c.args.at c.from.result c.args.code.now _ _ _ _ _ _ _ _ c.new-text.ensures (c.put.ensures ∙ ap (λ (t : List ℕ). c.new-text.result.items ++ t) c.address.ensures) c.put-2.ensures c.put_bytes.ensures.added
+    line_is c.args.at c.from.result c.args.code.now _ _ _ _ _ _ _ _ c.new-text.ensures
+    (c.put.ensures ∙ ap (λ (t : List ℕ). c.new-text.result.items ++ t) c.address.ensures) c.put-2.ensures c.put_bytes.ensures.added
     c.put-3.ensures c.put-4.ensures c.put-5.ensures (c.from.ensures ∙ c.dis-length.ensures.bytes)
     (front_is (listed c.args.at c.args.code.now).0 _ _ _ c.dis-length.ensures.text c.dis-length.ensures.length)

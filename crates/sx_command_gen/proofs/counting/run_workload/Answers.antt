@@ -44,7 +44,8 @@ loop-i-preserved g c =
     let text = take c.line-written.result c.line-written.new.into in
     let items = c.turn.new.items.items in
     let h : i < bulk.lines n = omega (arith, c.lines-count.ensures) in
-    let said : text ≡ bulk.line i = front_is c.line-written.result c.line-written.new.into (bulk.line i) (drop c.line-written.result c.loop-i.into) c.line-written.ensures.bytes c.line-written.ensures.count in
+    let said : text ≡ bulk.line i = front_is c.line-written.result c.line-written.new.into (bulk.line i)
+    (drop c.line-written.result c.loop-i.into) c.line-written.ensures.bytes c.line-written.ensures.count in
     let P : List Site → Type 0 = λ sites. ActsFrom d.names (setting g.T.Tag.mac d sites) c.loop-i.world c.turn.new.world (i + 1) text items in
     let Q : List ℕ → Type 0 = λ t. ActsFrom d.names set c.loop-i.world c.turn.new.world (i + 1) t items in
     let acts = subst Q said (subst P c.loop-i.invariant.sites c.in_ok-turn.ensures.acts) in
@@ -68,7 +69,8 @@ returns-in_err-turn g c =
     let i = c.loop-i.i in
     let text = take c.line-written.result c.line-written.new.into in
     let h : i < bulk.lines c.args.samples = omega (arith, c.lines-count.ensures) in
-    let said : text ≡ bulk.line i = front_is c.line-written.result c.line-written.new.into (bulk.line i) (drop c.line-written.result c.loop-i.into) c.line-written.ensures.bytes c.line-written.ensures.count in
+    let said : text ≡ bulk.line i = front_is c.line-written.result c.line-written.new.into (bulk.line i)
+    (drop c.line-written.result c.loop-i.into) c.line-written.ensures.bytes c.line-written.ensures.count in
     let stopped = c.in_err-turn.field-0.0 in
     let Q : List ℕ → Type 0 = λ t. LineStopsAt d.names (i + 1) t stopped in
     let R : Result Counts Stopped → Type 0 = λ r. EndsAs c.args.samples d.names set c.turn.new.world.running.steps r in

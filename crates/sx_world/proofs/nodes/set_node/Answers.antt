@@ -6,7 +6,8 @@ use Rattle.sx_world.proofs.nodes.set_node.Goals as goal
 
 pub returns-clause-nodes : goal.returns-clause-nodes
 returns-clause-nodes g c = λ s e.
-    set_as c.args.nodes.now c.args.n c.from.result (get_or c.args.nodes.now c.from.result c.index-nodes-from.result) s c.set.new.self (λ (x : State). (acts.set x c.args.reg c.args.value).state) c.from.ensures
+    set_as c.args.nodes.now c.args.n c.from.result (get_or c.args.nodes.now c.from.result c.index-nodes-from.result) s c.set.new.self
+    (λ (x : State). (acts.set x c.args.reg c.args.value).state) c.from.ensures
     (slot_is c.args.nodes.now c.args.n c.from.result s c.index-nodes-from.result e c.from.ensures) c.set.ensures.state
 
 pub returns-clause-answer : goal.returns-clause-answer

@@ -22,7 +22,8 @@ returns-in-Unwrapped-clause-front g c =
     let x = c.exchange-in-Unwrapped.result.now in
     due_items c.add_unwrapped.result c.args.ledger.now c.args.items.now.items c.add_unwrapped.new.items.items
     (has_unwrapped (app_as c.args.deployment.now.app) c.args.m c.boot-in-Unwrapped.result (header_of x) (body_of x)) (λ list. event_seen set c.args.n (Some c.args.m) c.args.node.now list c.args.event)
-    (λ list. unwrapped_seen set c.args.n c.args.m c.args.node.now c.args.event c.in-Unwrapped.field-0 c.boot-in-Unwrapped.result x list c.in-Unwrapped.is c.boot-in-Unwrapped.ensures c.exchange-in-Unwrapped.ensures)
+    (λ list. unwrapped_seen set c.args.n c.args.m c.args.node.now c.args.event c.in-Unwrapped.field-0
+    c.boot-in-Unwrapped.result x list c.in-Unwrapped.is c.boot-in-Unwrapped.ensures c.exchange-in-Unwrapped.ensures)
     c.add_unwrapped.ensures.front
 
 pub returns-in-Left-clause-front : goal.returns-in-Left-clause-front

@@ -31,7 +31,14 @@ returns-in-None-clause-does g c =
     let parts = c.args.deployment.now.app.parts.items in
     let mac = g.T.Tag.mac in
     let packets = ap (λ ps. map (λ p. p.items) ps) c.deref.ensures.value in
-    let new : Running = record { nodes = c.self.inside.nodes.items; packets = map (λ p. p.items) c.self.inside.packets.items; deployer = c.judge.new.deployer; ledger = c.self.inside.ledger; steps = c.self.inside.steps } in
+    let new : Running = record {
+      nodes = c.self.inside.nodes.items;
+      packets = map
+          (λ p. p.items) c.self.inside.packets.items;
+      deployer = c.judge.new.deployer;
+      ledger = c.self.inside.ledger;
+      steps = c.self.inside.steps;
+    } in
     subst (λ (o : Running). (sites : List Site) → DoesAct (setting mac (deployed_as c.args.deployment.now) sites) c.add.result o new c.args.items.now.items c.add.new.items.items
     (λ w. after_answer (setting mac (deployed_as c.args.deployment.now) sites) w c.args.m c.args.boot (slice_get sites c.args.m) (slice_get w.packets c.args.k))) c.self.view_is
     (λ sites. denied_does (setting mac (deployed_as c.args.deployment.now) sites) c.add.result _ c.judge.new.deployer c.args.items.now.items c.add.new.items.items c.args.m c.args.boot c.args.k

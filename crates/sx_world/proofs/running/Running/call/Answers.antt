@@ -16,8 +16,10 @@ returns-then-is_idle g c =
     let set = setting g.T.Tag.mac (deployed_as c.args.deployment.now) c.args.sites.now in
     let site = c.index-sites-from.result in
     let found = element_at c.args.sites.now c.args.m c.from.result site c.requires.known c.from.ensures c.index-sites-from.is in
-    subst (λ (o : Option Site). DoesAct set c.enter.result c.args.self.now c.enter.new.self c.args.items.now.items c.enter.new.items.items (λ w. call set w c.args.entry c.args.input c.args.output o)) (sym found)
-    (idle_does set c.enter.result c.args.self.now c.enter.new.self c.args.items.now.items c.enter.new.items.items site.node (λ w. then_ (set_all site.node (call_registers site c.args.entry c.args.input c.args.output) w) (finish set site.node)) c.is_idle.result
+    subst (λ (o : Option Site). DoesAct set c.enter.result c.args.self.now c.enter.new.self c.args.items.now.items c.enter.new.items.items
+    (λ w. call set w c.args.entry c.args.input c.args.output o)) (sym found)
+    (idle_does set c.enter.result c.args.self.now c.enter.new.self c.args.items.now.items c.enter.new.items.items site.node
+    (λ w. then_ (set_all site.node (call_registers site c.args.entry c.args.input c.args.output) w) (finish set site.node)) c.is_idle.result
     (c.requires.node site found) (λ s here. c.is_idle.ensures s (subst (λ (x : Site). slice_get c.args.self.now.nodes x.node ≡ Some s) (sym c.site.view_is) here)) c.if-is_idle.true
     (subst (λ rs. DoesAct set c.enter.result c.args.self.now c.enter.new.self c.args.items.now.items c.enter.new.items.items (λ w. then_ (set_all site.node rs w) (finish set site.node)))
     c.call_registers-registers.ensures c.enter.ensures))
@@ -27,9 +29,15 @@ returns-else-is_idle g c =
     let set = setting g.T.Tag.mac (deployed_as c.args.deployment.now) c.args.sites.now in
     let site = c.index-sites-from.result in
     let found = element_at c.args.sites.now c.args.m c.from.result site c.requires.known c.from.ensures c.index-sites-from.is in
-    subst (λ (o : Option Site). DoesAct set c.add.result c.args.self.now c.args.self.now c.args.items.now.items c.add.new.items.items (λ w. call set w c.args.entry c.args.input c.args.output o)) (sym found)
+    subst (λ (o : Option Site). DoesAct set c.add.result c.args.self.now c.args.self.now c.args.items.now.items c.add.new.items.items
+    (λ w. call set w c.args.entry c.args.input c.args.output o)) (sym found)
     (subst (λ (x : Site). OnOk c.add.result (c.add.new.items.items ≡ c.args.items.now.items ++ Busy x.node ∷ [])
-    → DoesAct set c.add.result c.args.self.now c.args.self.now c.args.items.now.items c.add.new.items.items (λ w. unless_busy site.node w (λ w. then_ (set_all site.node (call_registers site c.args.entry c.args.input c.args.output) w) (finish set site.node))))
+    → DoesAct set c.add.result c.args.self.now c.args.self.now c.args.items.now.items c.add.new.items.items
+    (λ w. unless_busy site.node w (λ w. then_ (set_all site.node (call_registers site c.args.entry c.args.input c.args.output) w)
+    (finish set site.node))))
     (sym c.site.view_is)
-    (λ ok. busy_does set c.add.result c.args.self.now c.args.items.now.items c.add.new.items.items site.node (λ w. then_ (set_all site.node (call_registers site c.args.entry c.args.input c.args.output) w) (finish set site.node)) c.is_idle.result
-    (c.requires.node site found) (λ s here. c.is_idle.ensures s (subst (λ (x : Site). slice_get c.args.self.now.nodes x.node ≡ Some s) (sym c.site.view_is) here)) c.if-is_idle.false ok c.add.ensures.err) c.add.ensures.ok)
+    (λ ok. busy_does set c.add.result c.args.self.now c.args.items.now.items c.add.new.items.items site.node
+    (λ w. then_ (set_all site.node (call_registers site c.args.entry c.args.input c.args.output) w) (finish set site.node)) c.is_idle.result
+    (c.requires.node site found) (λ s here. c.is_idle.ensures s
+    (subst (λ (x : Site). slice_get c.args.self.now.nodes x.node ≡ Some s) (sym c.site.view_is) here)) c.if-is_idle.false ok c.add.ensures.err)
+    c.add.ensures.ok)

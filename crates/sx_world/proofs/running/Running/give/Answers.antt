@@ -20,7 +20,9 @@ returns-in-Some-clause-done g c =
     give_did c.add_answer.result c.args.self.now _ c.args.items.now.items c.add_answer.new.items.items c.args.n c.args.at c.args.k bytes there
     (done_did c.add_answer.result c.args.self.now _ c.args.items.now.items c.add_answer.new.items.items c.args.n [] (λ s. put s c.args.at bytes) c.put_node-answer.result c.requires
     (λ s e. as_kept c.args.self.now _ _ c.args.n (act s) c.self.view_is
-    (with_items_is c.self.inside.nodes c.put_node-answer.new.nodes (lent_long c.deref_mut.result.now c.args.self.now.nodes c.put_node-answer.new.nodes c.args.n s act same e c.put_node-answer.ensures.nodes ∙ c.deref_mut.ensures.len)
+    (with_items_is c.self.inside.nodes c.put_node-answer.new.nodes
+    (lent_long c.deref_mut.result.now c.args.self.now.nodes c.put_node-answer.new.nodes c.args.n s act same e c.put_node-answer.ensures.nodes
+    ∙ c.deref_mut.ensures.len)
     ∙ lent_set c.deref_mut.result.now c.args.self.now.nodes c.put_node-answer.new.nodes c.args.n s act same e c.put_node-answer.ensures.nodes))
     (λ s e. c.put_node-answer.ensures.answer s (ap (λ ns. slice_get ns c.args.n) same ∙ e))
     (λ s. unless_kept (put_refusal s c.args.at (length bytes)) s _ refl)

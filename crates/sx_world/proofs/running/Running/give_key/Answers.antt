@@ -36,5 +36,6 @@ returns-in-None-clause-does g c =
 pub returns-in_err-record-in-Some-clause-does : goal.returns-in_err-record-in-Some-clause-does
 returns-in_err-record-in-Some-clause-does g c = λ sites.
     let set = setting g.T.Tag.mac (deployed_as c.args.deployment.now) sites in
-    does_err set c.from_residual.result c.args.self.now _ c.args.items.now.items c.args.items.now.items (λ w. key_given set w c.args.g.now (slice_get sites c.args.g.now.holder)) c.from_residual.ensures.0
+    does_err set c.from_residual.result c.args.self.now _ c.args.items.now.items c.args.items.now.items
+    (λ w. key_given set w c.args.g.now (slice_get sites c.args.g.now.holder)) c.from_residual.ensures.0
     (λ w h. front_same c.args.items.now.items c.args.items.now.items _ refl)

@@ -21,11 +21,13 @@ returns-in-Ok-clause-done g c =
     let act : State → State = λ s. (irq s c.args.line).state in
     let same : c.deref_mut.result.now ≡ c.args.self.now.nodes = c.deref_mut.ensures.value ∙ ap (λ (k : Running). k.nodes) c.self.view_is in
     let left =
-    with_items_is c.self.inside.nodes c.irq_node.new.nodes (lent_long c.deref_mut.result.now c.args.self.now.nodes c.irq_node.new.nodes c.args.n s act same e c.irq_node.ensures.nodes ∙ c.deref_mut.ensures.len)
+    with_items_is c.self.inside.nodes c.irq_node.new.nodes (lent_long c.deref_mut.result.now c.args.self.now.nodes
+    c.irq_node.new.nodes c.args.n s act same e c.irq_node.ensures.nodes ∙ c.deref_mut.ensures.len)
     ∙ lent_set c.deref_mut.result.now c.args.self.now.nodes c.irq_node.new.nodes c.args.n s act same e c.irq_node.ensures.nodes in
     let answered = c.irq_node.ensures.answer s (ap (λ ns. slice_get ns c.args.n) same ∙ e) in
     let node = node_behind _ c.args.self.now.nodes c.args.n c.from.result s (act s) c.index-node.result.now left e c.from.ensures c.index-node.ensures in
-    irq_did c.add_seen.result g.T.Tag.mac (deployed_as c.args.deployment.now) c.args.sites.now c.args.self.now _ c.args.items.now.items c.add_seen.new.items.items c.args.n c.args.line s c.index-node.result.now c.in-Ok.seen
+    irq_did c.add_seen.result g.T.Tag.mac (deployed_as c.args.deployment.now) c.args.sites.now c.args.self.now
+    _ c.args.items.now.items c.add_seen.new.items.items c.args.n c.args.line s c.index-node.result.now c.in-Ok.seen
     c.self.inside.ledger c.add_seen.new.ledger e node (answered ∙ c.in-Ok.is) (ap (λ (k : Running). k.ledger) c.self.view_is)
     (as_interrupted c.args.self.now _ _ c.add_seen.new.ledger c.args.n (act s) c.self.view_is left) c.add_seen.ensures.done
 
@@ -38,11 +40,13 @@ returns-in-Ok-clause-front g c =
     let act : State → State = λ s. (irq s c.args.line).state in
     let same : c.deref_mut.result.now ≡ c.args.self.now.nodes = c.deref_mut.ensures.value ∙ ap (λ (k : Running). k.nodes) c.self.view_is in
     let left =
-    with_items_is c.self.inside.nodes c.irq_node.new.nodes (lent_long c.deref_mut.result.now c.args.self.now.nodes c.irq_node.new.nodes c.args.n s act same e c.irq_node.ensures.nodes ∙ c.deref_mut.ensures.len)
+    with_items_is c.self.inside.nodes c.irq_node.new.nodes (lent_long c.deref_mut.result.now c.args.self.now.nodes
+    c.irq_node.new.nodes c.args.n s act same e c.irq_node.ensures.nodes ∙ c.deref_mut.ensures.len)
     ∙ lent_set c.deref_mut.result.now c.args.self.now.nodes c.irq_node.new.nodes c.args.n s act same e c.irq_node.ensures.nodes in
     let answered = c.irq_node.ensures.answer s (ap (λ ns. slice_get ns c.args.n) same ∙ e) in
     let node = node_behind _ c.args.self.now.nodes c.args.n c.from.result s (act s) c.index-node.result.now left e c.from.ensures c.index-node.ensures in
-    irq_wanted c.add_seen.result g.T.Tag.mac (deployed_as c.args.deployment.now) c.args.sites.now c.args.self.now c.args.items.now.items c.add_seen.new.items.items c.args.n c.args.line s c.index-node.result.now c.in-Ok.seen
+    irq_wanted c.add_seen.result g.T.Tag.mac (deployed_as c.args.deployment.now) c.args.sites.now
+    c.args.self.now c.args.items.now.items c.add_seen.new.items.items c.args.n c.args.line s c.index-node.result.now c.in-Ok.seen
     c.self.inside.ledger e node (answered ∙ c.in-Ok.is) (ap (λ (k : Running). k.ledger) c.self.view_is) c.add_seen.ensures.front
 
 pub returns-in-Err-clause-done : goal.returns-in-Err-clause-done
@@ -54,11 +58,14 @@ returns-in-Err-clause-done g c =
     let act : State → State = λ s. (irq s c.args.line).state in
     let same : c.deref_mut.result.now ≡ c.args.self.now.nodes = c.deref_mut.ensures.value ∙ ap (λ (k : Running). k.nodes) c.self.view_is in
     let left =
-    with_items_is c.self.inside.nodes c.irq_node.new.nodes (lent_long c.deref_mut.result.now c.args.self.now.nodes c.irq_node.new.nodes c.args.n s act same e c.irq_node.ensures.nodes ∙ c.deref_mut.ensures.len)
+    with_items_is c.self.inside.nodes c.irq_node.new.nodes (lent_long c.deref_mut.result.now c.args.self.now.nodes
+    c.irq_node.new.nodes c.args.n s act same e c.irq_node.ensures.nodes ∙ c.deref_mut.ensures.len)
     ∙ lent_set c.deref_mut.result.now c.args.self.now.nodes c.irq_node.new.nodes c.args.n s act same e c.irq_node.ensures.nodes in
     let answered = c.irq_node.ensures.answer s (ap (λ ns. slice_get ns c.args.n) same ∙ e) in
     irq_refused c.add.result set c.args.self.now _ c.args.items.now.items c.add.new.items.items c.args.n c.args.line s c.in-Err.why e (answered ∙ c.in-Err.is)
-    (as_kept c.args.self.now _ _ c.args.n (act s) c.self.view_is left) (refused_ok c.add.result c.args.items.now.items c.add.new.items.items c.refused_item.result (refused_item c.args.n c.in-Err.why) c.refused_item.ensures c.add.ensures.ok)
+    (as_kept c.args.self.now _ _ c.args.n (act s) c.self.view_is left)
+    (refused_ok c.add.result c.args.items.now.items c.add.new.items.items c.refused_item.result
+    (refused_item c.args.n c.in-Err.why) c.refused_item.ensures c.add.ensures.ok)
 
 pub returns-in-Err-clause-front : goal.returns-in-Err-clause-front
 returns-in-Err-clause-front g c =

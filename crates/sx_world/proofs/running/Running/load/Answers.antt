@@ -15,7 +15,8 @@ returns-then-is_idle g c =
     let set = setting g.T.Tag.mac (deployed_as c.args.deployment.now) c.args.sites.now in
     let site = c.index-sites-from.result in
     let found = element_at c.args.sites.now c.args.m c.from.result site c.requires.known c.from.ensures c.index-sites-from.is in
-    subst (λ (o : Option Site). DoesAct set c.put_and_protect.result c.args.self.now c.put_and_protect.new.self c.args.items.now.items c.put_and_protect.new.items.items (λ w. load set w o)) (sym found)
+    subst (λ (o : Option Site). DoesAct set c.put_and_protect.result c.args.self.now c.put_and_protect.new.self
+    c.args.items.now.items c.put_and_protect.new.items.items (λ w. load set w o)) (sym found)
     (idle_does set c.put_and_protect.result c.args.self.now c.put_and_protect.new.self c.args.items.now.items c.put_and_protect.new.items.items site.node (after_loading set site) c.is_idle.result
     (c.requires.node site found) (λ s here. c.is_idle.ensures s (subst (λ (x : Site). slice_get c.args.self.now.nodes x.node ≡ Some s) (sym c.site.view_is) here)) c.if-is_idle.true
     c.put_and_protect.ensures)
@@ -30,4 +31,6 @@ returns-else-is_idle g c =
     → DoesAct set c.add.result c.args.self.now c.args.self.now c.args.items.now.items c.add.new.items.items (λ w. unless_busy site.node w (after_loading set site)))
     (sym c.site.view_is)
     (λ ok. busy_does set c.add.result c.args.self.now c.args.items.now.items c.add.new.items.items site.node (after_loading set site) c.is_idle.result
-    (c.requires.node site found) (λ s here. c.is_idle.ensures s (subst (λ (x : Site). slice_get c.args.self.now.nodes x.node ≡ Some s) (sym c.site.view_is) here)) c.if-is_idle.false ok c.add.ensures.err) c.add.ensures.ok)
+    (c.requires.node site found) (λ s here. c.is_idle.ensures s
+    (subst (λ (x : Site). slice_get c.args.self.now.nodes x.node ≡ Some s) (sym c.site.view_is) here)) c.if-is_idle.false ok c.add.ensures.err)
+    c.add.ensures.ok)

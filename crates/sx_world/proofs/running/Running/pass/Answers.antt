@@ -13,7 +13,8 @@ pub overflow_add-self : goal.overflow_add-self
 overflow_add-self g c =
     let found = get_some c.args.self.now.nodes c.args.n c.requires.node in
     let same : c.deref_mut.result.now ≡ c.args.self.now.nodes = c.deref_mut.ensures.value ∙ ap (λ (k : Running). k.nodes) c.self.view_is in
-    let most = taken_most g.T.Tag.mac c.args.count c.pass_node-quiet.result.count c.pass_node-quiet.result.last found.0 (c.pass_node-quiet.ensures.last found.0 (ap (λ ns. slice_get ns c.args.n) same ∙ found.1)) in
+    let most = taken_most g.T.Tag.mac c.args.count c.pass_node-quiet.result.count c.pass_node-quiet.result.last found.0
+    (c.pass_node-quiet.ensures.last found.0 (ap (λ ns. slice_get ns c.args.n) same ∙ found.1)) in
     let steps : c.self.inside.steps ≡ c.args.self.now.steps = ap (λ (k : Running). k.steps) c.self.view_is in
     omega (arith, c.taken.ensures, most, steps, c.requires.steps)
 
@@ -35,6 +36,8 @@ returns-clause-left g c =
     let act : State → State = λ s. after_steps g.T.Tag.mac (taken c.pass_node-quiet.result.count c.pass_node-quiet.result.last) s in
     let same : c.deref_mut.result.now ≡ c.args.self.now.nodes = c.deref_mut.ensures.value ∙ ap (λ (k : Running). k.nodes) c.self.view_is in
     let left =
-    with_items_is c.self.inside.nodes c.pass_node-quiet.new.nodes (lent_long c.deref_mut.result.now c.args.self.now.nodes c.pass_node-quiet.new.nodes c.args.n s act same e c.pass_node-quiet.ensures.nodes ∙ c.deref_mut.ensures.len)
+    with_items_is c.self.inside.nodes c.pass_node-quiet.new.nodes
+    (lent_long c.deref_mut.result.now c.args.self.now.nodes c.pass_node-quiet.new.nodes c.args.n s act same e c.pass_node-quiet.ensures.nodes
+    ∙ c.deref_mut.ensures.len)
     ∙ lent_set c.deref_mut.result.now c.args.self.now.nodes c.pass_node-quiet.new.nodes c.args.n s act same e c.pass_node-quiet.ensures.nodes in
     as_passed c.args.self.now _ _ c.args.n (act s) _ _ c.self.view_is left c.taken.ensures

@@ -27,7 +27,8 @@ returns-in_err-put_on g c =
     let set = setting g.T.Tag.mac (deployed_as c.args.deployment.now) c.args.sites.now in
     let site : Site = record { node = c.site.inside.node; layout = c.site.inside.layout; provider = c.site.inside.provider; text = c.site.inside.text.items } in
     subst (λ (s : Site). DoesAct set c.from_residual-in_err-put_on.result c.args.self.now c.put_on.new.self c.args.items.now.items c.put_on.new.items.items (after_loading set s)) c.site.view_is
-    (does_err set c.from_residual-in_err-put_on.result c.args.self.now c.put_on.new.self c.args.items.now.items c.put_on.new.items.items (after_loading set site) c.from_residual-in_err-put_on.ensures.0
+    (does_err set c.from_residual-in_err-put_on.result c.args.self.now c.put_on.new.self c.args.items.now.items c.put_on.new.items.items
+    (after_loading set site) c.from_residual-in_err-put_on.ensures.0
     (code_wanted set site c.args.self.now c.put_pieces.new.self c.args.items.now.items c.put_pieces.new.items.items c.put_on.new.items.items
     (subst (λ xs. Did set c.args.self.now c.put_pieces.new.self c.args.items.now.items c.put_pieces.new.items.items (put_pieces site.node ((length xs + 1023) / 1024) site.layout.pub_from xs))
     c.deref.ensures.value (c.in_ok-put_pieces.ensures.does set))
@@ -38,12 +39,14 @@ returns-in_err-set_all g c =
     let set = setting g.T.Tag.mac (deployed_as c.args.deployment.now) c.args.sites.now in
     let site : Site = record { node = c.site.inside.node; layout = c.site.inside.layout; provider = c.site.inside.provider; text = c.site.inside.text.items } in
     subst (λ (s : Site). DoesAct set c.from_residual-in_err-set_all.result c.args.self.now c.set_all.new.self c.args.items.now.items c.set_all.new.items.items (after_loading set s)) c.site.view_is
-    (does_err set c.from_residual-in_err-set_all.result c.args.self.now c.set_all.new.self c.args.items.now.items c.set_all.new.items.items (after_loading set site) c.from_residual-in_err-set_all.ensures.0
+    (does_err set c.from_residual-in_err-set_all.result c.args.self.now c.set_all.new.self c.args.items.now.items c.set_all.new.items.items
+    (after_loading set site) c.from_residual-in_err-set_all.ensures.0
     (given_wanted set site c.args.self.now c.put_pieces.new.self c.put_on.new.self c.args.items.now.items c.put_pieces.new.items.items c.put_on.new.items.items c.set_all.new.items.items
     (subst (λ xs. Did set c.args.self.now c.put_pieces.new.self c.args.items.now.items c.put_pieces.new.items.items (put_pieces site.node ((length xs + 1023) / 1024) site.layout.pub_from xs))
     c.deref.ensures.value (c.in_ok-put_pieces.ensures.does set))
     (c.in_ok-put_on.ensures.done set)
-    (subst (λ rs. Wanted set c.put_on.new.self c.put_on.new.items.items c.set_all.new.items.items (set_all site.node rs)) (c.protect_registers.ensures ∙ ap protect_registers (sym c.site.view_is)) (c.in_err-set_all.ensures.does set))))
+    (subst (λ rs. Wanted set c.put_on.new.self c.put_on.new.items.items c.set_all.new.items.items (set_all site.node rs))
+    (c.protect_registers.ensures ∙ ap protect_registers (sym c.site.view_is)) (c.in_err-set_all.ensures.does set))))
 
 pub steps_of-requires-clause-boot : goal.steps_of-requires-clause-boot
 steps_of-requires-clause-boot g c =
@@ -61,6 +64,7 @@ returns g c =
     (subst (λ xs. Did set c.args.self.now c.put_pieces.new.self c.args.items.now.items c.put_pieces.new.items.items (put_pieces site.node ((length xs + 1023) / 1024) site.layout.pub_from xs))
     c.deref.ensures.value (c.in_ok-put_pieces.ensures.does set))
     (c.in_ok-put_on.ensures.done set)
-    (subst (λ rs. Did set c.put_on.new.self c.set_all.new.self c.put_on.new.items.items c.set_all.new.items.items (set_all site.node rs)) (c.protect_registers.ensures ∙ ap protect_registers (sym c.site.view_is)) (c.in_ok-set_all.ensures.does set))
+    (subst (λ rs. Did set c.put_on.new.self c.set_all.new.self c.put_on.new.items.items c.set_all.new.items.items (set_all site.node rs))
+    (c.protect_registers.ensures ∙ ap protect_registers (sym c.site.view_is)) (c.in_ok-set_all.ensures.does set))
     (does_both set c.steps_of.result c.set_all.new.self c.steps_of.new.self c.set_all.new.items.items c.steps_of.new.items.items (steps_of set (λ s. false) [] site.node 1)
     c.steps_of.ensures.done c.steps_of.ensures.front))

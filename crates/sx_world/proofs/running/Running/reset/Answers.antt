@@ -14,7 +14,9 @@ returns-clause-done g c =
     let same : c.deref_mut.result.now ≡ c.args.self.now.nodes = c.deref_mut.ensures.value ∙ ap (λ (k : Running). k.nodes) c.self.view_is in
     reset_did c.add.result c.args.self.now _ c.args.items.now.items c.add.new.items.items c.args.n (Reset c.args.n Asked ∷ []) c.requires.node
     (λ s e. as_kept c.args.self.now _ _ c.args.n (reset s) c.self.view_is
-    (with_items_is c.self.inside.nodes c.reset_node.new.nodes (lent_long c.deref_mut.result.now c.args.self.now.nodes c.reset_node.new.nodes c.args.n s reset same e c.reset_node.ensures ∙ c.deref_mut.ensures.len)
+    (with_items_is c.self.inside.nodes c.reset_node.new.nodes
+    (lent_long c.deref_mut.result.now c.args.self.now.nodes c.reset_node.new.nodes c.args.n s reset same e c.reset_node.ensures
+    ∙ c.deref_mut.ensures.len)
     ∙ lent_set c.deref_mut.result.now c.args.self.now.nodes c.reset_node.new.nodes c.args.n s reset same e c.reset_node.ensures))
     c.add.ensures.ok
 

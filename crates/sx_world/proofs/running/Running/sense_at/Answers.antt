@@ -13,9 +13,12 @@ pub returns-clause-done : goal.returns-clause-done
 returns-clause-done g c =
     let act : State → State = λ s. (sense s c.args.k c.args.value).state in
     let same : c.deref_mut.result.now ≡ c.args.self.now.nodes = c.deref_mut.ensures.value ∙ ap (λ (k : Running). k.nodes) c.self.view_is in
-    done_did c.add_answer.result c.args.self.now _ c.args.items.now.items c.add_answer.new.items.items c.args.n (Sense c.args.d c.args.value ∷ []) (λ s. sense s c.args.k c.args.value) c.sense_node-answer.result c.requires.node
+    done_did c.add_answer.result c.args.self.now _ c.args.items.now.items c.add_answer.new.items.items c.args.n
+    (Sense c.args.d c.args.value ∷ []) (λ s. sense s c.args.k c.args.value) c.sense_node-answer.result c.requires.node
     (λ s e. as_kept c.args.self.now _ _ c.args.n (act s) c.self.view_is
-    (with_items_is c.self.inside.nodes c.sense_node-answer.new.nodes (lent_long c.deref_mut.result.now c.args.self.now.nodes c.sense_node-answer.new.nodes c.args.n s act same e c.sense_node-answer.ensures.nodes ∙ c.deref_mut.ensures.len)
+    (with_items_is c.self.inside.nodes c.sense_node-answer.new.nodes
+    (lent_long c.deref_mut.result.now c.args.self.now.nodes c.sense_node-answer.new.nodes c.args.n s act same e c.sense_node-answer.ensures.nodes
+    ∙ c.deref_mut.ensures.len)
     ∙ lent_set c.deref_mut.result.now c.args.self.now.nodes c.sense_node-answer.new.nodes c.args.n s act same e c.sense_node-answer.ensures.nodes))
     (λ s e. c.sense_node-answer.ensures.answer s (ap (λ ns. slice_get ns c.args.n) same ∙ e))
     (λ s. unless_kept (busy s) s _ refl)

@@ -15,7 +15,9 @@ returns-clause-done g c =
     let same : c.deref_mut.result.now ≡ c.args.self.now.nodes = c.deref_mut.ensures.value ∙ ap (λ (k : Running). k.nodes) c.self.view_is in
     done_did c.add_answer.result c.args.self.now _ c.args.items.now.items c.add_answer.new.items.items c.args.n [] (λ s. set s c.args.reg c.args.value) c.set_node-answer.result c.requires.node
     (λ s e. as_kept c.args.self.now _ _ c.args.n (act s) c.self.view_is
-    (with_items_is c.self.inside.nodes c.set_node-answer.new.nodes (lent_long c.deref_mut.result.now c.args.self.now.nodes c.set_node-answer.new.nodes c.args.n s act same e c.set_node-answer.ensures.nodes ∙ c.deref_mut.ensures.len)
+    (with_items_is c.self.inside.nodes c.set_node-answer.new.nodes
+    (lent_long c.deref_mut.result.now c.args.self.now.nodes c.set_node-answer.new.nodes c.args.n s act same e c.set_node-answer.ensures.nodes
+    ∙ c.deref_mut.ensures.len)
     ∙ lent_set c.deref_mut.result.now c.args.self.now.nodes c.set_node-answer.new.nodes c.args.n s act same e c.set_node-answer.ensures.nodes))
     (λ s e. c.set_node-answer.ensures.answer s (ap (λ ns. slice_get ns c.args.n) same ∙ e))
     (λ s. unless_kept (busy s) s _ refl)
@@ -27,7 +29,9 @@ returns-clause-boots g c =
     let same : c.deref_mut.result.now ≡ c.args.self.now.nodes = c.deref_mut.ensures.value ∙ ap (λ (k : Running). k.nodes) c.self.view_is in
     boots_kept c.args.self.now.nodes _ c.args.n act c.requires.node
     (λ s e.
-    with_items_is c.self.inside.nodes c.set_node-answer.new.nodes (lent_long c.deref_mut.result.now c.args.self.now.nodes c.set_node-answer.new.nodes c.args.n s act same e c.set_node-answer.ensures.nodes ∙ c.deref_mut.ensures.len)
+    with_items_is c.self.inside.nodes c.set_node-answer.new.nodes
+    (lent_long c.deref_mut.result.now c.args.self.now.nodes c.set_node-answer.new.nodes c.args.n s act same e c.set_node-answer.ensures.nodes
+    ∙ c.deref_mut.ensures.len)
     ∙ lent_set c.deref_mut.result.now c.args.self.now.nodes c.set_node-answer.new.nodes c.args.n s act same e c.set_node-answer.ensures.nodes)
     (λ s. unless_boot (busy s) s _ refl)
 

@@ -19,12 +19,20 @@ returns-in_err-show-clause-front g c =
     let set = setting g.T.Tag.mac (deployed_as c.args.deployment.now) c.args.sites.now in
     let p = passage g.T.Tag.mac c.args.idle c.args.n c.pass-quiet.result.count c.stretches.left c.stretches.self c.pass-quiet.new.self c.pass-quiet.result.last c.in-Some.seen
     c.stretches.invariant.within c.pass-quiet.ensures.quiet c.pass-quiet.ensures.last c.pass-quiet.ensures.left c.in-Some.is in
-    let going = passed_going g.T.Tag.mac (deployed_as c.args.deployment.now) c.args.sites.now c.args.idle (option_to_list c.args.end) c.args.n c.args.count c.stretches.left c.pass-quiet.result.count c.args.self.now c.stretches.self c.pass-quiet.new.self
+    let going = passed_going g.T.Tag.mac (deployed_as c.args.deployment.now) c.args.sites.now c.args.idle
+    (option_to_list c.args.end) c.args.n c.args.count c.stretches.left c.pass-quiet.result.count
+    c.args.self.now c.stretches.self c.pass-quiet.new.self
     c.args.items.now.items c.stretches.items.items c.in-Some.seen p c.stretches.invariant.going in
     err_any c.from_residual.result
-    (going_front set (λ s. c.args.idle && (s.cur == 0)) (option_to_list c.args.end) c.args.n c.args.count (c.stretches.left - c.pass-quiet.result.count) (c.stretches.left - (c.pass-quiet.result.count + 1)) c.args.self.now (stepped g.T.Tag.mac c.args.n c.pass-quiet.result.count p.node c.stretches.self)
-    c.args.items.now.items c.stretches.items.items c.show.new.items.items (after_steps g.T.Tag.mac c.pass-quiet.result.count p.node) going (one_less c.stretches.left c.pass-quiet.result.count p.few) (stepped_there g.T.Tag.mac c.args.n c.pass-quiet.result.count p.node c.stretches.self p.here)
-    (passed_front g.T.Tag.mac (deployed_as c.args.deployment.now) c.args.sites.now c.stretches.self c.pass-quiet.new.self c.stretches.items.items c.show.new.items.items c.args.idle c.args.n c.pass-quiet.result.count c.stretches.left c.in-Some.seen p
+    (going_front set (λ s. c.args.idle && (s.cur == 0)) (option_to_list c.args.end) c.args.n c.args.count
+    (c.stretches.left - c.pass-quiet.result.count) (c.stretches.left - (c.pass-quiet.result.count + 1)) c.args.self.now
+    (stepped g.T.Tag.mac c.args.n c.pass-quiet.result.count p.node c.stretches.self)
+    c.args.items.now.items c.stretches.items.items c.show.new.items.items
+    (after_steps g.T.Tag.mac c.pass-quiet.result.count p.node) going (one_less c.stretches.left c.pass-quiet.result.count p.few)
+    (stepped_there g.T.Tag.mac c.args.n c.pass-quiet.result.count p.node c.stretches.self p.here)
+    (passed_front g.T.Tag.mac (deployed_as c.args.deployment.now) c.args.sites.now c.stretches.self
+    c.pass-quiet.new.self c.stretches.items.items c.show.new.items.items c.args.idle c.args.n
+    c.pass-quiet.result.count c.stretches.left c.in-Some.seen p
     c.in_err-show.ensures.front))
 
 pub ends-requires : goal.ends-requires
@@ -40,13 +48,22 @@ returns-then-ends-clause-done g c =
     let set = setting g.T.Tag.mac (deployed_as c.args.deployment.now) c.args.sites.now in
     let p = passage g.T.Tag.mac c.args.idle c.args.n c.pass-quiet.result.count c.stretches.left c.stretches.self c.pass-quiet.new.self c.pass-quiet.result.last c.in-Some.seen
     c.stretches.invariant.within c.pass-quiet.ensures.quiet c.pass-quiet.ensures.last c.pass-quiet.ensures.left c.in-Some.is in
-    let going = passed_going g.T.Tag.mac (deployed_as c.args.deployment.now) c.args.sites.now c.args.idle (option_to_list c.args.end) c.args.n c.args.count c.stretches.left c.pass-quiet.result.count c.args.self.now c.stretches.self c.pass-quiet.new.self
+    let going = passed_going g.T.Tag.mac (deployed_as c.args.deployment.now) c.args.sites.now c.args.idle
+    (option_to_list c.args.end) c.args.n c.args.count c.stretches.left c.pass-quiet.result.count
+    c.args.self.now c.stretches.self c.pass-quiet.new.self
     c.args.items.now.items c.stretches.items.items c.in-Some.seen p c.stretches.invariant.going in
-    let ended = passed_ends g.T.Tag.mac c.args.idle c.args.n c.pass-quiet.result.count c.stretches.left c.stretches.self c.pass-quiet.new.self c.show.new.self c.in-Some.seen c.ends.result p c.in_ok-show.ensures.kept c.ends.ensures in
-    let steps = passed_did g.T.Tag.mac (deployed_as c.args.deployment.now) c.args.sites.now c.stretches.self c.pass-quiet.new.self c.show.new.self c.stretches.items.items c.show.new.items.items c.args.idle c.args.n c.pass-quiet.result.count c.stretches.left c.in-Some.seen p
+    let ended = passed_ends g.T.Tag.mac c.args.idle c.args.n c.pass-quiet.result.count c.stretches.left
+    c.stretches.self c.pass-quiet.new.self c.show.new.self c.in-Some.seen c.ends.result p c.in_ok-show.ensures.kept c.ends.ensures in
+    let steps = passed_did g.T.Tag.mac (deployed_as c.args.deployment.now) c.args.sites.now c.stretches.self
+    c.pass-quiet.new.self c.show.new.self c.stretches.items.items c.show.new.items.items c.args.idle
+    c.args.n c.pass-quiet.result.count c.stretches.left c.in-Some.seen p
     c.in_ok-show.ensures.kept c.in_ok-show.ensures.done in
-    going_over set (λ s. c.args.idle && (s.cur == 0)) (option_to_list c.args.end) c.args.n c.args.count (c.stretches.left - c.pass-quiet.result.count) (c.stretches.left - (c.pass-quiet.result.count + 1)) c.args.self.now (stepped g.T.Tag.mac c.args.n c.pass-quiet.result.count p.node c.stretches.self) c.show.new.self
-    c.args.items.now.items c.stretches.items.items c.show.new.items.items (after_steps g.T.Tag.mac c.pass-quiet.result.count p.node) going (one_less c.stretches.left c.pass-quiet.result.count p.few) (stepped_there g.T.Tag.mac c.args.n c.pass-quiet.result.count p.node c.stretches.self p.here) (ended ∙ c.if-ends.true) steps
+    going_over set (λ s. c.args.idle && (s.cur == 0)) (option_to_list c.args.end) c.args.n c.args.count
+    (c.stretches.left - c.pass-quiet.result.count) (c.stretches.left - (c.pass-quiet.result.count + 1)) c.args.self.now
+    (stepped g.T.Tag.mac c.args.n c.pass-quiet.result.count p.node c.stretches.self) c.show.new.self
+    c.args.items.now.items c.stretches.items.items c.show.new.items.items
+    (after_steps g.T.Tag.mac c.pass-quiet.result.count p.node) going (one_less c.stretches.left c.pass-quiet.result.count p.few)
+    (stepped_there g.T.Tag.mac c.args.n c.pass-quiet.result.count p.node c.stretches.self p.here) (ended ∙ c.if-ends.true) steps
 
 pub overflow_add-left : goal.overflow_add-left
 overflow_add-left g c =
@@ -75,42 +92,67 @@ stretches-preserved g c =
     let set = setting g.T.Tag.mac (deployed_as c.args.deployment.now) c.args.sites.now in
     let p = passage g.T.Tag.mac c.args.idle c.args.n c.pass-quiet.result.count c.stretches.left c.stretches.self c.pass-quiet.new.self c.pass-quiet.result.last c.in-Some.seen
     c.stretches.invariant.within c.pass-quiet.ensures.quiet c.pass-quiet.ensures.last c.pass-quiet.ensures.left c.in-Some.is in
-    let going = passed_going g.T.Tag.mac (deployed_as c.args.deployment.now) c.args.sites.now c.args.idle (option_to_list c.args.end) c.args.n c.args.count c.stretches.left c.pass-quiet.result.count c.args.self.now c.stretches.self c.pass-quiet.new.self
+    let going = passed_going g.T.Tag.mac (deployed_as c.args.deployment.now) c.args.sites.now c.args.idle
+    (option_to_list c.args.end) c.args.n c.args.count c.stretches.left c.pass-quiet.result.count
+    c.args.self.now c.stretches.self c.pass-quiet.new.self
     c.args.items.now.items c.stretches.items.items c.in-Some.seen p c.stretches.invariant.going in
-    let ended = passed_ends g.T.Tag.mac c.args.idle c.args.n c.pass-quiet.result.count c.stretches.left c.stretches.self c.pass-quiet.new.self c.show.new.self c.in-Some.seen c.ends.result p c.in_ok-show.ensures.kept c.ends.ensures in
-    let steps = passed_did g.T.Tag.mac (deployed_as c.args.deployment.now) c.args.sites.now c.stretches.self c.pass-quiet.new.self c.show.new.self c.stretches.items.items c.show.new.items.items c.args.idle c.args.n c.pass-quiet.result.count c.stretches.left c.in-Some.seen p
+    let ended = passed_ends g.T.Tag.mac c.args.idle c.args.n c.pass-quiet.result.count c.stretches.left
+    c.stretches.self c.pass-quiet.new.self c.show.new.self c.in-Some.seen c.ends.result p c.in_ok-show.ensures.kept c.ends.ensures in
+    let steps = passed_did g.T.Tag.mac (deployed_as c.args.deployment.now) c.args.sites.now c.stretches.self
+    c.pass-quiet.new.self c.show.new.self c.stretches.items.items c.show.new.items.items c.args.idle
+    c.args.n c.pass-quiet.result.count c.stretches.left c.in-Some.seen p
     c.in_ok-show.ensures.kept c.in_ok-show.ensures.done in
     let within = shown_within c.args.n c.pass-quiet.new.self c.show.new.self c.in_ok-show.ensures.kept
     (passed_within g.T.Tag.mac c.args.idle c.args.n c.pass-quiet.result.count c.stretches.left c.stretches.self c.pass-quiet.new.self c.in-Some.seen p c.stretches.invariant.within) in
     record {
       going =
-          going_on set (λ s. c.args.idle && (s.cur == 0)) (option_to_list c.args.end) c.args.n c.args.count (c.stretches.left - c.pass-quiet.result.count) (c.stretches.left - (c.pass-quiet.result.count + 1)) c.args.self.now (stepped g.T.Tag.mac c.args.n c.pass-quiet.result.count p.node c.stretches.self) c.show.new.self
-          c.args.items.now.items c.stretches.items.items c.show.new.items.items (after_steps g.T.Tag.mac c.pass-quiet.result.count p.node) going (one_less c.stretches.left c.pass-quiet.result.count p.few) (stepped_there g.T.Tag.mac c.args.n c.pass-quiet.result.count p.node c.stretches.self p.here) (ended ∙ c.if-ends.false) steps;
+          going_on set (λ s. c.args.idle && (s.cur == 0)) (option_to_list c.args.end) c.args.n c.args.count
+          (c.stretches.left - c.pass-quiet.result.count) (c.stretches.left - (c.pass-quiet.result.count + 1)) c.args.self.now
+          (stepped g.T.Tag.mac c.args.n c.pass-quiet.result.count p.node c.stretches.self) c.show.new.self
+          c.args.items.now.items c.stretches.items.items c.show.new.items.items
+          (after_steps g.T.Tag.mac c.pass-quiet.result.count p.node) going
+          (one_less c.stretches.left c.pass-quiet.result.count p.few)
+          (stepped_there g.T.Tag.mac c.args.n c.pass-quiet.result.count p.node c.stretches.self p.here) (ended ∙ c.if-ends.false) steps;
       within = within;
-      boot = passed_small g.T.Tag.mac c.args.idle c.args.n c.pass-quiet.result.count c.stretches.left c.stretches.self c.pass-quiet.new.self c.show.new.self c.in-Some.seen p c.in_ok-show.ensures.kept (ended ∙ c.if-ends.false) (c.stretches.invariant.boot p.node p.here);
-      steps = passed_steps 18446744073709551615 g.T.Tag.mac c.args.idle c.args.n c.pass-quiet.result.count c.stretches.left c.stretches.self c.pass-quiet.new.self c.show.new.self c.in-Some.seen p c.in_ok-show.ensures.kept c.stretches.invariant.steps;
+      boot = passed_small g.T.Tag.mac c.args.idle c.args.n c.pass-quiet.result.count c.stretches.left
+          c.stretches.self c.pass-quiet.new.self c.show.new.self c.in-Some.seen p c.in_ok-show.ensures.kept
+          (ended ∙ c.if-ends.false) (c.stretches.invariant.boot p.node p.here);
+      steps = passed_steps 18446744073709551615 g.T.Tag.mac c.args.idle c.args.n c.pass-quiet.result.count
+          c.stretches.left c.stretches.self c.pass-quiet.new.self c.show.new.self c.in-Some.seen p
+          c.in_ok-show.ensures.kept c.stretches.invariant.steps;
     }
 
 pub returns-in-Some-end-clause-done : goal.returns-in-Some-end-clause-done
 returns-in-Some-end-clause-done g c =
     let set = setting g.T.Tag.mac (deployed_as c.args.deployment.now) c.args.sites.now in
-    let going = all_passed g.T.Tag.mac (deployed_as c.args.deployment.now) c.args.sites.now c.args.idle (option_to_list c.args.end) c.args.n c.args.count c.stretches.left c.pass-quiet.result.count c.args.self.now c.stretches.self c.pass-quiet.new.self
-    c.args.items.now.items c.stretches.items.items c.pass-quiet.result.last c.stretches.invariant.going c.stretches.invariant.within c.pass-quiet.ensures.quiet c.pass-quiet.ensures.last c.pass-quiet.ensures.left c.in_default.not-Some in
-    going_end set (λ s. c.args.idle && (s.cur == 0)) (option_to_list c.args.end) c.args.n c.args.count 0 c.args.self.now c.pass-quiet.new.self c.args.items.now.items c.stretches.items.items c.add.new.items.items
+    let going = all_passed g.T.Tag.mac (deployed_as c.args.deployment.now) c.args.sites.now c.args.idle
+    (option_to_list c.args.end) c.args.n c.args.count c.stretches.left c.pass-quiet.result.count
+    c.args.self.now c.stretches.self c.pass-quiet.new.self
+    c.args.items.now.items c.stretches.items.items c.pass-quiet.result.last c.stretches.invariant.going
+    c.stretches.invariant.within c.pass-quiet.ensures.quiet c.pass-quiet.ensures.last c.pass-quiet.ensures.left c.in_default.not-Some in
+    going_end set (λ s. c.args.idle && (s.cur == 0)) (option_to_list c.args.end) c.args.n c.args.count 0
+    c.args.self.now c.pass-quiet.new.self c.args.items.now.items c.stretches.items.items c.add.new.items.items
     c.add.result going refl (went_on c.add.result c.stretches.items.items c.add.new.items.items c.args.end c.in-Some-end.item c.in-Some-end.is c.add.ensures.ok)
 
 pub returns-in-Some-end-clause-front : goal.returns-in-Some-end-clause-front
 returns-in-Some-end-clause-front g c =
     let set = setting g.T.Tag.mac (deployed_as c.args.deployment.now) c.args.sites.now in
-    let going = all_passed g.T.Tag.mac (deployed_as c.args.deployment.now) c.args.sites.now c.args.idle (option_to_list c.args.end) c.args.n c.args.count c.stretches.left c.pass-quiet.result.count c.args.self.now c.stretches.self c.pass-quiet.new.self
-    c.args.items.now.items c.stretches.items.items c.pass-quiet.result.last c.stretches.invariant.going c.stretches.invariant.within c.pass-quiet.ensures.quiet c.pass-quiet.ensures.last c.pass-quiet.ensures.left c.in_default.not-Some in
-    going_none set (λ s. c.args.idle && (s.cur == 0)) (option_to_list c.args.end) c.args.n c.args.count 0 c.args.self.now c.pass-quiet.new.self c.args.items.now.items c.stretches.items.items c.add.new.items.items
+    let going = all_passed g.T.Tag.mac (deployed_as c.args.deployment.now) c.args.sites.now c.args.idle
+    (option_to_list c.args.end) c.args.n c.args.count c.stretches.left c.pass-quiet.result.count
+    c.args.self.now c.stretches.self c.pass-quiet.new.self
+    c.args.items.now.items c.stretches.items.items c.pass-quiet.result.last c.stretches.invariant.going
+    c.stretches.invariant.within c.pass-quiet.ensures.quiet c.pass-quiet.ensures.last c.pass-quiet.ensures.left c.in_default.not-Some in
+    going_none set (λ s. c.args.idle && (s.cur == 0)) (option_to_list c.args.end) c.args.n c.args.count 0
+    c.args.self.now c.pass-quiet.new.self c.args.items.now.items c.stretches.items.items c.add.new.items.items
     c.add.result going c.add.ensures.err
 
 pub returns-in-None-clause-done : goal.returns-in-None-clause-done
 returns-in-None-clause-done g c =
     let set = setting g.T.Tag.mac (deployed_as c.args.deployment.now) c.args.sites.now in
-    let going = all_passed g.T.Tag.mac (deployed_as c.args.deployment.now) c.args.sites.now c.args.idle (option_to_list c.args.end) c.args.n c.args.count c.stretches.left c.pass-quiet.result.count c.args.self.now c.stretches.self c.pass-quiet.new.self
-    c.args.items.now.items c.stretches.items.items c.pass-quiet.result.last c.stretches.invariant.going c.stretches.invariant.within c.pass-quiet.ensures.quiet c.pass-quiet.ensures.last c.pass-quiet.ensures.left c.in_default.not-Some in
+    let going = all_passed g.T.Tag.mac (deployed_as c.args.deployment.now) c.args.sites.now c.args.idle
+    (option_to_list c.args.end) c.args.n c.args.count c.stretches.left c.pass-quiet.result.count
+    c.args.self.now c.stretches.self c.pass-quiet.new.self
+    c.args.items.now.items c.stretches.items.items c.pass-quiet.result.last c.stretches.invariant.going
+    c.stretches.invariant.within c.pass-quiet.ensures.quiet c.pass-quiet.ensures.last c.pass-quiet.ensures.left c.in_default.not-Some in
     going_done set (λ s. c.args.idle && (s.cur == 0)) c.args.end c.args.n c.args.count 0 c.args.self.now c.pass-quiet.new.self c.args.items.now.items c.stretches.items.items
     going refl c.in-None.is

@@ -18,25 +18,32 @@ returns-in-Ok-clause-front g c =
     let found = get_some c.args.self.now.nodes c.args.n c.requires.node in
     let nodes : c.deref.result.now ≡ c.args.self.now.nodes = c.deref.ensures.value ∙ ap (λ (k : Running). k.nodes) c.self.view_is in
     let taken =
-    subst (λ (r : Result (Vec ℕ Global) Refused). IfOk r (λ b. (s : State) → slice_get c.deref.result.now c.args.n ≡ Some s → (take s c.args.at c.args.len).shown ≡ Ok b.items)) c.in-Ok.is c.in_ok-bytes.ensures.bytes in
-    let shown : (take found.0 c.args.at c.args.len).shown ≡ Ok c.deref-in-Ok.result.now = taken found.0 (ap (λ ns. slice_get ns c.args.n) nodes ∙ found.1) ∙ ap (λ b. Ok b) (sym c.deref-in-Ok.ensures.value) in
-    took_wanted c.new_packet.result c.args.self.now c.args.items.now.items c.new_packet.new.items.items c.args.n c.args.at c.args.len c.deref-in-Ok.result.now found.0 found.1 shown c.new_packet.ensures.front
+    subst (λ (r : Result (Vec ℕ Global) Refused). IfOk r (λ b. (s : State) → slice_get c.deref.result.now c.args.n ≡ Some s
+    → (take s c.args.at c.args.len).shown ≡ Ok b.items)) c.in-Ok.is c.in_ok-bytes.ensures.bytes in
+    let shown : (take found.0 c.args.at c.args.len).shown ≡ Ok c.deref-in-Ok.result.now = taken found.0
+    (ap (λ ns. slice_get ns c.args.n) nodes ∙ found.1) ∙ ap (λ b. Ok b) (sym c.deref-in-Ok.ensures.value) in
+    took_wanted c.new_packet.result c.args.self.now c.args.items.now.items c.new_packet.new.items.items
+    c.args.n c.args.at c.args.len c.deref-in-Ok.result.now found.0 found.1 shown c.new_packet.ensures.front
 
 pub returns-in-Ok-clause-done : goal.returns-in-Ok-clause-done
 returns-in-Ok-clause-done g c =
     let found = get_some c.args.self.now.nodes c.args.n c.requires.node in
     let nodes : c.deref.result.now ≡ c.args.self.now.nodes = c.deref.ensures.value ∙ ap (λ (k : Running). k.nodes) c.self.view_is in
     let taken =
-    subst (λ (r : Result (Vec ℕ Global) Refused). IfOk r (λ b. (s : State) → slice_get c.deref.result.now c.args.n ≡ Some s → (take s c.args.at c.args.len).shown ≡ Ok b.items)) c.in-Ok.is c.in_ok-bytes.ensures.bytes in
-    let shown : (take found.0 c.args.at c.args.len).shown ≡ Ok c.deref-in-Ok.result.now = taken found.0 (ap (λ ns. slice_get ns c.args.n) nodes ∙ found.1) ∙ ap (λ b. Ok b) (sym c.deref-in-Ok.ensures.value) in
-    took_did c.new_packet.result c.args.self.now c.new_packet.new.self c.args.items.now.items c.new_packet.new.items.items c.args.n c.args.at c.args.len c.deref-in-Ok.result.now found.0 found.1 shown c.new_packet.ensures.done
+    subst (λ (r : Result (Vec ℕ Global) Refused). IfOk r (λ b. (s : State) → slice_get c.deref.result.now c.args.n ≡ Some s
+    → (take s c.args.at c.args.len).shown ≡ Ok b.items)) c.in-Ok.is c.in_ok-bytes.ensures.bytes in
+    let shown : (take found.0 c.args.at c.args.len).shown ≡ Ok c.deref-in-Ok.result.now = taken found.0
+    (ap (λ ns. slice_get ns c.args.n) nodes ∙ found.1) ∙ ap (λ b. Ok b) (sym c.deref-in-Ok.ensures.value) in
+    took_did c.new_packet.result c.args.self.now c.new_packet.new.self c.args.items.now.items
+    c.new_packet.new.items.items c.args.n c.args.at c.args.len c.deref-in-Ok.result.now found.0 found.1 shown c.new_packet.ensures.done
 
 pub returns-in-Err-clause-done : goal.returns-in-Err-clause-done
 returns-in-Err-clause-done g c =
     let found = get_some c.args.self.now.nodes c.args.n c.requires.node in
     let nodes : c.deref.result.now ≡ c.args.self.now.nodes = c.deref.ensures.value ∙ ap (λ (k : Running). k.nodes) c.self.view_is in
     let taken =
-    subst (λ (r : Result (Vec ℕ Global) Refused). IfErr r (λ why. (s : State) → slice_get c.deref.result.now c.args.n ≡ Some s → (take s c.args.at c.args.len).shown ≡ Err why)) c.in-Err.is c.in_ok-bytes.ensures.refused in
+    subst (λ (r : Result (Vec ℕ Global) Refused). IfErr r (λ why. (s : State) → slice_get c.deref.result.now c.args.n ≡ Some s
+    → (take s c.args.at c.args.len).shown ≡ Err why)) c.in-Err.is c.in_ok-bytes.ensures.refused in
     let shown : (take found.0 c.args.at c.args.len).shown ≡ Err c.in-Err.why = taken found.0 (ap (λ ns. slice_get ns c.args.n) nodes ∙ found.1) in
     took_refused c.add.result c.args.self.now c.args.items.now.items c.add.new.items.items c.args.n c.args.at c.args.len c.in-Err.why found.0 found.1 shown
     (refused_ok c.add.result c.args.items.now.items c.add.new.items.items c.refused_item.result (refused_item c.args.n c.in-Err.why) c.refused_item.ensures c.add.ensures.ok)
