@@ -18,7 +18,9 @@ build of the program in place of the script. The words after the three backquote
 
     LANGUAGE in=NAME     the block stands in this file, whatever the spaces
 
-What else a block holds isn't looked at. Each link to a file of the repository, or to a heading of one, must lead there.
+What else a block holds isn't looked at. Each link to a file of the repository, or to a heading of one, must lead there, and
+each path in a crate that stands between backquotes must be that of a file or a folder, as of `sx_run/specs/Run.antt`, which
+may be written without its ending.
 
 Of an example the run must end well, and show each item that its first lines name between backquotes.
 """
@@ -112,6 +114,19 @@ def bad_links(document):
         if not file.exists() or (anchor and anchor not in anchors(file.read_text())):
             found.append(link)
     return found
+
+
+def is_there(path):
+    """Whether a path in a crate is a file, also without its ending, or a folder."""
+    whole = TOP / "crates" / path.removeprefix("crates/")
+    return whole.exists() or any(Path(f"{whole}{ending}").exists() for ending in (".antt", ".rt"))
+
+
+def bad_paths(document):
+    """The paths in crates that a document names and that aren't there."""
+    text = re.sub(r"^```.*?^```", "", document.read_text(), flags=re.MULTILINE | re.DOTALL)
+    paths = re.findall(r"`((?:crates/)?sx_\w+/(?:[\w.+-]+/?)+)", text)
+    return [path for path in paths if not is_there(path.rstrip("/"))]
 
 
 def bash(command, room):
@@ -232,8 +247,10 @@ def make_room(room, program):
 
 def try_document(document, program):
     """What trying a document says, and how many of its commands failed."""
-    links = bad_links(document) if document.suffix == ".md" else []
-    said = [f"{document.name}: FAILED: the link {link} leads nowhere" for link in links]
+    said = []
+    if document.suffix == ".md":
+        said += [f"{document.name}: FAILED: the link {link} leads nowhere" for link in bad_links(document)]
+        said += [f"{document.name}: FAILED: there is no {path}" for path in bad_paths(document)]
     failed = len(said)
     with tempfile.TemporaryDirectory() as folder:
         room = Path(folder)
