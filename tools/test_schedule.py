@@ -72,7 +72,7 @@ class Schedule(unittest.TestCase):
             with self.subTest(line):
                 ran = written(line + "\n")
                 self.assertEqual((ran.returncode, ran.stdout), (1, ""))
-                self.assertIn("line 43: ", ran.stderr)
+                self.assertIn("line 45: ", ran.stderr)
                 self.assertIn(words, ran.stderr)
 
     @unittest.skipUnless(PROGRAM, "there is no program to run")
