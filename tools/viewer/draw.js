@@ -27,7 +27,8 @@ class Columns {
     this.add("deployer", "deployer", 100);
     this.add("network", "network", 116);
     for (const node of plan.nodes) this.addNode(node, plan);
-    this.width += 40;
+    // (what stands beside the last column may need more: it isn't cut off)
+    this.width += 70;
   }
 
   add(id, name, width, kind = "") {

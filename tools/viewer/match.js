@@ -15,6 +15,7 @@ class Matcher {
     this.acts = lines.filter(line => line.kind && line.kind !== "#" && line.number < stop);
     this.isCut = false;
     this.countBefore();
+    this.findRuns();
   }
 
   // How many packets there are, and which modules were attested, before each item.
@@ -27,6 +28,20 @@ class Matcher {
       this.attested.push(kind === "attested" ? new Set(before).add(words[1]) : before);
     }
   }
+
+  // From which line on a module may be in the middle of its run on a node: only `run` ends there, a `finish` or `call`
+  // that took all its steps, and the step of a `load` where other code is protected at address 0.
+  findRuns() {
+    this.runs = new Map();
+    const begin = (node, number) =>
+        this.runs.set(node, Math.min(number, this.runs.get(node) ?? Infinity));
+    for (const {kind, words, number} of this.acts)
+      if (kind === "run") begin(words[1], number);
+    for (const {kind, words} of this.items)
+      if (kind === "budget" || kind === "protect" && words[2] === "-") begin(words[1], 0);
+  }
+
+  isBusy(at, node, line) { return this.is(at, "busy", node) && line.number > (this.runs.get(node) ?? Infinity); }
 
   is(at, ...words) {
     return at < this.items.length && words.every((word, k) => this.items[at].words[k] === String(word));
@@ -80,42 +95,45 @@ class Matcher {
   }
 
   // One item of these, or none where the line shows nothing.
-  refused(node, at, kinds, silent) {
-    const ends = kinds.some(kind => this.is(at, kind, node)) ? [[at + 1, 1]] : [];
+  refused(line, node, at, kinds, silent) {
+    const isOne = kind => kind === "busy" ? this.isBusy(at, node, line) : this.is(at, kind, node);
+    const ends = kinds.some(isOne) ? [[at + 1, 1]] : [];
     return silent ? [...ends, [at, 0]] : ends;
   }
 
   // Where the items of the line can end that begin at this place.
-  ends({kind, words}, at) {
+  ends(line, at) {
+    const {kind, words} = line;
     const one = fits => fits ? [[at + 1, 1]] : [];
     const node = this.plan.nodeOf(words[1]);
     switch (kind) {
       case "put":
-      case "asm": return this.refused(words[1], at, ["busy", "skip"], true);
-      case "set": return this.refused(words[1], at, ["busy"], true);
-      case "give": return this.refused(words[2], at, ["busy", "skip"], numberOf(words[1]) < this.packets[at]);
+      case "asm": return this.refused(line, words[1], at, ["busy", "skip"], true);
+      case "set": return this.refused(line, words[1], at, ["busy"], true);
+      case "give":
+        return this.refused(line, words[2], at, ["busy", "skip"], numberOf(words[1]) < this.packets[at]);
       case "take": {
         const made = this.is(at, "packet") && Number(this.items[at].words[2]) === numberOf(words[3]);
-        return [...one(made), ...this.refused(words[1], at, ["busy", "skip"], false)];
+        return [...one(made), ...this.refused(line, words[1], at, ["busy", "skip"], false)];
       }
       case "forge":
         return one(this.is(at, "packet") && Number(this.items[at].words[2]) === words[1].length / 2);
       case "sense":
         return one(
             this.is(at, "sense", words[1], numberOf(words[2])) ||
-            this.is(at, "busy", this.plan.devices.get(words[1])?.node));
+            this.isBusy(at, this.plan.devices.get(words[1])?.node, line));
       case "reset": return one(this.is(at, "reset", words[1], "asked"));
       case "ask": return this.is(at, "ask", words[1]) && this.is(at + 1, "packet") ? [[at + 2, 1]] : [];
       case "answer": return this.answerEnds(words, at);
-      case "load": return this.loadEnds(node, at);
+      case "load": return this.loadEnds(line, node, at);
       case "irq":
         return [
-          ...this.refused(words[1], at, ["busy", "skip"], false), ...this.steps(words[1], at, 1, false)
+          ...this.refused(line, words[1], at, ["busy", "skip"], false), ...this.steps(words[1], at, 1, false)
         ];
       case "run": return this.steps(words[1], at, numberOf(words[2]), false);
       case "finish": return this.steps(words[1], at, Infinity, true);
       case "call":
-        return [...this.refused(node, at, ["busy"], false), ...this.steps(node, at, Infinity, true)];
+        return [...this.refused(line, node, at, ["busy"], false), ...this.steps(node, at, Infinity, true)];
     }
     return [[at, 0]];
   }
@@ -132,8 +150,8 @@ class Matcher {
   }
 
   // A `load` writes a `skip` for each piece that is refused, and its step may protect or break a rule.
-  loadEnds(node, at) {
-    const ends = [...this.refused(node, at, ["busy"], true)];
+  loadEnds(line, node, at) {
+    const ends = [...this.refused(line, node, at, ["busy"], true)];
     if (this.is(at, "protect", node)) ends.push([at + 1, 2]);
     for (let end = at + 1; this.is(end - 1, "skip", node); end++)
       ends.push(...this.steps(node, end, 1, false));

@@ -194,11 +194,11 @@ class Page {
   tellLine(row, say) {
     if (row.line.number)
       say(`Line ${row.line.number}: `, html("code", "", row.line.text.trim()),
-          row.line.isUnsure ? "  ≈ the items fit the lines in more than one way" : "");
+          row.line.isUnsure ? " — ≈ the items fit the lines in more than one way" : "");
     if (row.fault) say(row.fault);
     if (row.item)
       say(`Item ${row.item.number}: `, html("code", "", row.item.text),
-          `  ${sayItem(row.item, this.run.plan)}`);
+          ` — ${sayItem(row.item, this.run.plan)}`);
     else if (!row.line.items.length)
       say("It gave no items.");
   }

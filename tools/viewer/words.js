@@ -28,6 +28,11 @@ function sayItem({kind, words}, plan) {
   const epoch = Math.floor(Number(words[3]) / 65536);
   switch (kind) {
     case "done": return `status ${words[2]}: ${STATUSES[words[2]]?.[1] ?? "?"}; ${words[3]} pieces`;
+    case "ask": return `the deployer asks ${words[1]} for an answer to challenge ${words[2]}`;
+    case "packet": return `a new packet of ${words[2]} bytes`;
+    case "sense": return `the sensor has a new sample`;
+    case "read": return `${words[1]} read the sample of its sensor`;
+    case "out": return `${words[1]} wrote ${words[2]} to its actuator`;
     case "reset": return `${CAUSES[words[2]] ?? "?"}; memory and sections of node ${words[1]} are gone`;
     case "take":
       return `event ${Number(words[3]) % 65536} of ${connection(words[2])}${
@@ -39,7 +44,7 @@ function sayItem({kind, words}, plan) {
       return plan.isTrouble({kind, words}) ? "not by the device's driver" :
                                              "the device has no driver: any code may use it";
     case "forged":
-      return "a tag was accepted that none of those whose key it is under had made; up to here the trace is a legal run";
+      return "a tag was accepted that its rightful maker hadn't made; up to here the trace is a legal run";
     case "skip":
       return "refused: it meets a section, a device or the end of memory, interrupts are disabled, or there is no such packet";
     case "busy": return "refused, since a module runs";
