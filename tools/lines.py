@@ -1,10 +1,11 @@
 #!/usr/bin/env python3
-"""Prints the table of lines of docs/PROOFS.md: each crate's src (without tests), specs and proofs."""
+"""Prints the lines of each crate's src (without tests), specs and proofs, and of all but the crates of tests."""
 
 import re
 from pathlib import Path
 
 CRATES = Path(__file__).resolve().parent.parent / "crates"
+TESTS = "sx_worked"
 
 
 def lines(files):
@@ -18,11 +19,16 @@ def counts(crate):
     return lines(src), lines((crate / "specs").rglob("*.antt")), lines((crate / "proofs").rglob("*.antt"))
 
 
+def told(name, row):
+    return f"| {name} | " + " / ".join(f"{count:,}" for count in row) + " |"
+
+
 def main():
     rows = {crate.name: counts(crate) for crate in CRATES.iterdir() if (crate / "src").is_dir()}
     print("| | lines in src / specs / proofs |\n|---|---|")
     for name, row in sorted(rows.items(), key=lambda item: -sum(item[1])):
-        print(f"| {name} | " + " / ".join(f"{count:,}" for count in row) + " |")
+        print(told(name, row))
+    print(told("all", [sum(it) for it in zip(*(row for name, row in rows.items() if not name.startswith(TESTS)))]))
 
 
 main()
