@@ -2,7 +2,7 @@
 """Tests tools/viewer.html by what it shows in a headless Chromium, and tools/view.py. Not a part of the gate.
 
 It is left out where there is no Chromium; what needs the program (./sancus after a build, or PROGRAM in the environment) is
-left out where there is none. With SHOTS=FOLDER it also writes pictures to look at.
+left out where there is none. With SHOTS=FOLDER it also writes pictures to look at, and says how long a large run takes.
 """
 
 import base64
@@ -20,7 +20,7 @@ TOP = Path(__file__).resolve().parent.parent
 sys.path.insert(0, str(TOP / "tools"))
 from marked import marked  # noqa: E402
 from deployment import Input  # noqa: E402
-from view import page_of, without_lines  # noqa: E402
+from view import page_of, texts_of_run, without_lines  # noqa: E402
 
 BUILT = TOP / "crates" / "sancus_run" / "out" / "sancus_run"
 PROGRAM = os.environ.get("PROGRAM") or (str(BUILT) if BUILT.is_file() else "")
@@ -29,7 +29,18 @@ BROWSER = next(
 )
 LIGHTING = (TOP / "examples" / "lighting.txt").read_text()
 DEPLOYMENT = LIGHTING.partition("%%\n")[0] + "%%\n"
+# The lines of the example that come before its reading, which make ten packets.
+SET_UP = LIGHTING.partition("sense light")[0]
+PACKETS = 10
 PATIENCE = 60
+# What each of these may take in a run of 2,000 readings, in milliseconds, also on a machine with other work.
+PATIENT = 3000
+ACTS = {"open": "page.show()", "end": "page.select(page.run.shown.length - 1)", "unfold": "page.foldAll()"} | {
+    "last": "page.select(page.run.shown.length - 1)",
+    "out": "page.at = 0; page.keys().o()",
+    "find": 'page.find("packet 3")',
+    "scroll": 'byId("scroll").scrollTop = 100000; page.paint()',
+}
 
 
 class Browser:
@@ -77,6 +88,11 @@ class Browser:
         if "exceptionDetails" in answer:
             raise RuntimeError(answer["exceptionDetails"]["exception"].get("description"))
         return answer["result"].get("value")
+
+    def milliseconds(self, code):
+        """What this takes, with the layout after it."""
+        timed = f"{code}; document.body.offsetHeight"
+        return self.value(f"(() => {{ const begun = performance.now(); {timed}; return performance.now() - begun; }})()")
 
     def open(self, file, part=""):
         self.call("Page.navigate", url="about:blank")
@@ -128,13 +144,17 @@ call lamp 2 0x300 0x400
 """
 
 
-def readings(count):
-    """The lines and the items of this many readings, on modules that have their keys."""
+def readings(count, packets=0):
+    """The lines and the items of this many readings, on modules that have their keys, where so many packets were made."""
     lines, items = [], []
     for number in range(count):
         value = 37 * number % 200
         text = READING.format(
-            value=value, first=2 * number, second=2 * number + 1, number=number, lit=int(value > 100)
+            value=value,
+            first=packets + 2 * number,
+            second=packets + 2 * number + 1,
+            number=number,
+            lit=int(value > 100),
         )
         for line in text.splitlines():
             (items if line.startswith(" ") else lines).append(line.strip())
@@ -248,13 +268,34 @@ class Viewer(unittest.TestCase):
             self.browser.press("o")
         self.assertIn("Item 29: out lamp 0", self.texts("#more")[0])
         self.browser.press("z")
-        took = self.browser.value(
-            "(() => { const begun = performance.now(); page.select(20000); return performance.now() - begun; })()"
-        )
+        self.browser.value("page.select(20000)")
         self.browser.shoot("many-open")
-        self.assertLess(took, 2000)
         self.assertLess(self.browser.value("document.getElementsByTagName('*').length"), 3000)
         self.assertIn("out lamp", self.texts("#more")[0] + "".join(self.texts(".row")))
+        self.is_quick("20,000 items that are matched")
+
+    def is_quick(self, what):
+        """Opens the run once more, and moves about in it."""
+        took = {name: round(self.browser.milliseconds(code)) for name, code in ACTS.items()}
+        if os.environ.get("SHOTS"):
+            print(f"{what}: milliseconds {took}", file=sys.stderr)
+        self.assertEqual({name: it for name, it in took.items() if it > PATIENT}, {})
+
+    @unittest.skipUnless(PROGRAM, "there is no program to run")
+    def test_two_thousand_readings_of_the_program(self):
+        lines, items = readings(2000, PACKETS)
+        texts = texts_of_run((SET_UP + "\n".join(lines) + "\n").encode(), PROGRAM)
+        self.assertIn(b"> sense light 37\nsense light 37\n", texts["output"])
+        self.assertIn("\n".join(items[-10:]), without_lines(b"%%\n" + texts["output"]).decode())
+        self.show(texts)
+        self.assertEqual(self.texts("#about"), ["20033 items · 2000 out · 0 reset"])
+        self.assertEqual(self.texts("#notes div"), [])
+        self.browser.shoot("program-folded")
+        self.is_quick("20,033 items of a marked run")
+        self.browser.shoot("program-open")
+        self.browser.value("page.go(page.run.output.items.findLast(it => it.kind === 'out').row)")
+        self.browser.shoot("program-out")
+        self.assertIn("out lamp 0", self.texts("#more")[0])
 
     def test_find_and_fold(self):
         self.show(run_of(*readings(3)))
@@ -308,6 +349,23 @@ class Viewer(unittest.TestCase):
                 for one, other in zip(found, self.browser.value(split), strict=True):
                     self.assertEqual(one[0], other[0])
                     self.assertIn(one[1], (None, other[1]))
+
+    @unittest.skipUnless(PROGRAM, "there is no program to run")
+    def test_causes_of_the_program(self):
+        texts = texts_of_run(LIGHTING.encode(), PROGRAM)
+        if not texts["causes"]:
+            self.skipTest("the program has no `explain`")
+        self.show(texts, "#item=42")
+        self.browser.shoot("explained")
+        chain = "42 out lamp 1 ← 41 take lamp down 0 1 ← 38 take logic up 0 120 ← 35 read eye 120 ← 34 sense light 120"
+        self.assertIn(f"Because: {chain}", self.texts("#more")[0])
+
+    def test_busy_comes_after_a_run(self):
+        """A line that comes before any `run` of its node can't have given a `busy`."""
+        self.show(run_of(["put a 0x800 00", "run a 5", "put a 0x800 00", "sense light 3"], ["busy a", "busy a"]))
+        self.assertEqual(self.texts("#notes div"), [])
+        cells = self.texts(".row .cell")
+        self.assertEqual([it.replace("▾", "") for it in cells][-4:], ["3put a 0x800 00", "1busy a", "4sense light 3", "2busy a"])
 
     def test_dark_and_folded(self):
         self.show(run_of(*readings(3)), "#dark&fold")
