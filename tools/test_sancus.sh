@@ -172,7 +172,7 @@ fresh 'work=../../crates/sx_low/out/rlib; mkdir -p $work; sleep 0.5; touch $work
 work=../../crates/sx_top/out/rlib; mkdir -p $work; sleep 0.5; touch $work/stamp; sleep 0.5
 mkdir -p out; printf "#!/bin/bash\necho built\n" >out/sancus_run; chmod +x out/sancus_run'
 printf 'sx_low: hex\nsx_other:\nsx_top: sx_low hex\nsancus_run: sx_top\n' >"$repository/crates.txt"
-run env SANCUS_LOOK=0.1 "$repository/sancus" build
+run env SANCUS_LOOK=0.1 "$repository/sancus" build --jobs 1
 expect "build says how many crates are proved" 0 "" "0 of 2 crates below the program are proved, after 0 seconds; at work: sx_low"
 expect "build says when they all are" 0 "" "2 of 2 crates below the program are proved"
 
@@ -180,6 +180,13 @@ fresh 'if [[ "$1" == all ]]; then echo "$PWD: $*"; exit; fi
 mkdir -p out; printf "#!/bin/bash\necho built\n" >out/sancus_run; chmod +x out/sancus_run'
 run "$repository/sancus" build --jobs 4
 expect "build of libraries side by side" 0 "" "$repository/crates: all check --jobs 4"
+program "$work/bin/nproc" 'echo 2'
+run "$repository/sancus" build
+expect "as many at a time as there are processors" 0 "" "; 2 at a time"
+program "$work/bin/nproc" 'echo 1'
+run "$repository/sancus" build
+expect "one at a time on one processor" 0 "" "; 1 at a time"
+rm -- "$work/bin/nproc"
 
 fresh 'echo "fn sancus_run::main: not proved"; exit 1'
 run "$repository/sancus" build
