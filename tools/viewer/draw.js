@@ -213,6 +213,15 @@ class Picture {
         svg("path", {d: `M${x - 2.5} ${y - 6}h5l3.5 3.5v5l-3.5 3.5h-5l-3.5 -3.5v-5z`, class: "fill-forged"}));
   }
 
+  row(row, y) {
+    if (row.kind === "group")
+      this.folded(row, y);
+    else if (row.kind === "act")
+      this.act(row, y);
+    else if (row.kind === "item")
+      this.item(row, y);
+  }
+
   // --- lines of the schedule ---
 
   act(row, y) {

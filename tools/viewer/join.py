@@ -10,7 +10,7 @@ from pathlib import Path
 
 HERE = Path(__file__).resolve().parent
 PAGE = HERE.parent / "viewer.html"
-SCRIPTS = ("toml", "texts", "plan", "match", "rows", "words", "draw", "page")
+SCRIPTS = ("toml", "texts", "plan", "match", "rows", "words", "draw", "export", "page")
 
 
 def joined():

@@ -75,12 +75,7 @@ class Page {
     for (let place = from; place < to; place++) {
       const row = shown[place], y = (place - from + 0.5) * HEIGHT;
       cells.push(this.rowCell(row, place, inChain));
-      if (row.kind === "group")
-        this.picture.folded(row, y);
-      else if (row.kind === "act")
-        this.picture.act(row, y);
-      else if (row.kind === "item")
-        this.picture.item(row, y);
+      this.picture.row(row, y);
     }
     this.picture.chain(chain, from);
     byId("space").replaceChildren(drawing, ...cells);
@@ -371,6 +366,7 @@ class Page {
       if (document.activeElement !== byId("find") && text.trim()) this.open([text]);
     });
     byId("save").onclick = () => this.save();
+    byId("draw").onclick = () => this.saveDrawing();
     byId("theme").onclick = () => {
       const isDark = (document.documentElement.dataset.theme ??
                       (matchMedia("(prefers-color-scheme: dark)").matches ? "dark" : "")) === "dark";
@@ -385,9 +381,21 @@ class Page {
     const held = Object.entries(this.texts).map(([name, text]) => `${name} ${encode(text)}`).join("\n");
     const page =
         BARE_PAGE.replace(/(<script type="text\/plain" id="data">)[^<]*/, (_, begin) => begin + held);
+    this.saveAs("run.html", "text/html", page);
+  }
+
+  saveDrawing() {
+    if (!this.run) return;
+    if (this.run.shown.length > MOST_ROWS) return this.warn(`Fold groups first: at most ${MOST_ROWS} rows are drawn.`);
+    this.saveAs("run.svg", "image/svg+xml", wholePicture(this));
+  }
+
+  warn(text) { byId("notes").append(html("div", "", text)); }
+
+  saveAs(name, type, text) {
     const link = html("a");
-    link.href = URL.createObjectURL(new Blob([page], {type: "text/html"}));
-    link.download = "run.html";
+    link.href = URL.createObjectURL(new Blob([text], {type}));
+    link.download = name;
     link.click();
   }
 
