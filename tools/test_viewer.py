@@ -15,6 +15,7 @@ import tempfile
 import time
 import unittest
 from pathlib import Path
+from xml.etree import ElementTree
 
 TOP = Path(__file__).resolve().parent.parent
 sys.path.insert(0, str(TOP / "tools"))
@@ -366,6 +367,15 @@ class Viewer(unittest.TestCase):
         self.assertEqual(self.texts("#notes div"), [])
         cells = self.texts(".row .cell")
         self.assertEqual([it.replace("▾", "") for it in cells][-4:], ["3put a 0x800 00", "1busy a", "4sense light 3", "2busy a"])
+
+    def test_picture_as_a_file(self):
+        self.show(run_of(*readings(2)) | {"causes": b"because 9 8\nlegal\n"}, "#item=9")
+        text = self.browser.value("wholePicture(page)")
+        names = {it.tag.rpartition("}")[2] for it in ElementTree.fromstring(text).iter()}
+        self.assertEqual(names & {"script", "image", "foreignObject", "a"}, set())
+        self.assertNotIn("var(", text)
+        for part in ("out lamp 0", "call eye 3 0x300 0x400", "up 0 = 0", 'class="cause"', "node b"):
+            self.assertIn(part, text)
 
     def test_dark_and_folded(self):
         self.show(run_of(*readings(3)), "#dark&fold")

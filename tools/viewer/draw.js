@@ -199,8 +199,10 @@ class Picture {
     forged([, who], y) {
       this.into.append(svg("rect", {x: 0, y: y - 10, width: this.columns.width, height: 20, class: "band"}));
       const column = who === "deployer" ? this.deployer : this.module(who);
-      this.octagon((column?.x ?? this.network.x) - 68, y);
-      this.text(column?.x ?? this.network.x, y, `FORGED for ${who}`, "middle bold forged");
+      // (the deployer's column is at the edge: there the words move into the picture)
+      const x = Math.max(92, column?.x ?? this.network.x);
+      this.octagon(x - 76, y);
+      this.text(x, y, `FORGED for ${who}`, "middle bold forged");
     },
     busy([, node], y) { this.beside(this.memory(node), y, "✗ refused: a module runs", "trouble"); },
     skip([, node], y) { this.beside(this.memory(node), y, "✗ refused: skip", "trouble"); },
