@@ -425,7 +425,7 @@ def schedule_fault(data, rule, line):
     if rule in ("S4", "S5", "S6"):
         for field, (word, column) in zip(ACTS[act], words[1:]):
             if not field_suits(field, word, act, plan):
-                return lines + shown(data, at, column, len(word)) + [f"here stands {told_field(field, plan)}"]
+                return lines + shown(data, at, column, len(word)) + [f"here must stand {told_field(field, plan)}"]
     column = words[3][1] if rule == "S8" and len(words) > 3 else None
     fields = " ".join(it[0] if isinstance(it, tuple) else it for it in ACTS.get(act, []))
     return lines + shown(data, at, column) + ([f"its words: {act} {fields}"] if rule == "S7" else [])
