@@ -45,7 +45,9 @@ def texts_of_run(text, program):
             output = (b"\n" + lines).partition(b"\n%%\n")[2]
     except CannotMark as error:
         print(f"view: no marked run, so the page matches items and lines: {error}", file=sys.stderr)
-    causes = run(program, "explain", data.head + b"%%\n" + plain.stdout) if plain.returncode == 0 else None
+    # (a run that ended in a fault of its schedule has a trace too)
+    has_trace = b"\ntrace\n" in b"\n" + plain.stdout
+    causes = run(program, "explain", data.head + b"%%\n" + plain.stdout) if has_trace else None
     has_causes = causes is not None and causes.returncode in (0, 8)
     return {"input": text, "output": output, "causes": causes.stdout if has_causes else b""}
 
