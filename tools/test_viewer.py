@@ -35,7 +35,7 @@ SET_UP = LIGHTING.partition("sense light")[0]
 PACKETS = 10
 PATIENCE = 60
 # What each of these may take in a run of 2,000 readings, in milliseconds, also on a machine with other work.
-PATIENT = 3000
+PATIENT = 8000
 ACTS = {"open": "page.show()", "end": "page.select(page.run.shown.length - 1)", "unfold": "page.foldAll()"} | {
     "last": "page.select(page.run.shown.length - 1)",
     "out": "page.at = 0; page.keys().o()",
