@@ -1,162 +1,109 @@
 //! For each rule a module that breaks it, and a module that keeps them all.
 
-use std::alloc::{AllocError, Global};
-use std::process::Abort;
+use crate::texts::repeated;
 use std::test::Fail;
 use sx_check::checks::check;
 use sx_check::rules::Rule;
-use sx_lang::names::Name;
-use sx_lang::tree::{Decl, DeviceKind, Expr, Handler, Module, Stmt};
+use sx_parse::parse::parse;
 
-#[derive(Debug, Drop)]
-struct NoName;
-
-fn name(text: &str) -> Result<Name, NoName> {
-    Name::new(text.as_bytes()).ok_or(NoName)
-}
-
-/// A module that samples into `v`.
-fn sampling(alloc: Global, decls: Vec<Decl>, body: Vec<Stmt>) -> Result<Module, Fail> {
-    Ok(Module {
-        decls,
-        handlers: vec![in alloc;
-            Handler {
-                input: None,
-                param: name("v")?,
-                body
-            },
-        ]?,
-    })
-}
-
-fn sensor(alloc: Global) -> Result<Vec<Decl>, AllocError> {
-    Ok(vec![in alloc; Decl::Device(DeviceKind::Sensor)]?)
-}
-
-fn assigned(x: &Name) -> Stmt {
-    Stmt::Assign(*x, Expr::Number(1))
-}
-
-/// `repeat` in `repeat`, `times` deep.
-fn nested(alloc: Global, turns: u16, times: u8, inner: Vec<Stmt>) -> Result<Vec<Stmt>, AllocError> {
-    let mut body = inner;
-    for _level in 0..times {
-        body = vec![in alloc; Stmt::Repeat(turns, body)]?;
-    }
-    Ok(body)
-}
-
-fn many_locals(alloc: Global) -> Result<Vec<Stmt>, Fail> {
-    let mut body = Vec::new(alloc);
-    for letter in b"abcdefghijklmnop" {
-        let local = Name::new(&[*letter]).ok_or(NoName)?;
-        body.push(Stmt::Let(local, Expr::Number(0)))?;
-    }
-    Ok(body)
-}
-
-fn many_nodes(alloc: Global, x: &Name) -> Result<Vec<Stmt>, AllocError> {
-    let mut body = Vec::new(alloc);
-    for _statement in 0..256u16 {
-        body.push(assigned(x))?;
-    }
-    Ok(body)
-}
-
-/// For each rule a module that breaks it and none before it.
-fn broken(alloc: Global, rule: Rule) -> Result<Module, Fail> {
-    let x = name("x")?;
-    let mut decls = sensor(alloc)?;
-    let body = match rule {
-        Rule::Duplicate => {
-            decls.push(Decl::Input(x))?;
-            decls.push(Decl::Output(x))?;
-            Vec::new(alloc)
-        }
-        Rule::Unknown => vec![in alloc; assigned(&x)]?,
-        Rule::Kind => {
-            decls.push(Decl::Output(x))?;
-            vec![in alloc; assigned(&x)]?
-        }
-        Rule::Depth => nested(alloc, 1, 16, Vec::new(alloc))?,
-        Rule::Locals => many_locals(alloc)?,
-        Rule::Repeat => nested(alloc, 0, 1, Vec::new(alloc))?,
-        Rule::Packets => {
-            decls.push(Decl::Output(x))?;
-            nested(
-                alloc,
-                17,
-                1,
-                vec![in alloc; Stmt::Send(x, Expr::Number(0))]?,
-            )?
-        }
-        Rule::Cost => nested(alloc, 256, 2, Vec::new(alloc))?,
-        Rule::Nodes => {
-            decls.push(Decl::Var(x, 0))?;
-            many_nodes(alloc, &x)?
-        }
-        Rule::Cells => {
-            decls.push(Decl::Array(x, 1025))?;
-            Vec::new(alloc)
-        }
-    };
-    sampling(alloc, decls, body)
-}
-
-/// Whether the module breaks this rule first.
-fn breaks(rt: &impl Abort, module: Module, rule: Rule) {
-    assert_eq!(rt; check(module).err().map(|e| e.0), Some(rule));
-}
-
-#[test]
-fn each_rule_is_answered(rt: HostRuntime) -> Result<(), Fail> {
-    let rules = [
-        Rule::Duplicate,
-        Rule::Unknown,
-        Rule::Kind,
-        Rule::Depth,
-        Rule::Locals,
-        Rule::Repeat,
-        Rule::Packets,
-        Rule::Cost,
-        Rule::Nodes,
-        Rule::Cells,
-    ];
-    for rule in rules {
-        breaks(&rt, broken(rt.alloc(), rule)?, rule);
-    }
-    Ok(())
-}
-
-/// A module that breaks the rule of costs, and that of unknown names before it.
-fn costly(alloc: Global) -> Result<Module, Fail> {
-    let unknown = vec![in alloc; assigned(&name("x")?)]?;
-    let body = nested(alloc, 256, 2, unknown)?;
-    sampling(alloc, sensor(alloc)?, body)
-}
+/// Texts whose middle stands so many times, and the rule that they break first.
+const RULES: [(&str, &str, u16, &str, Option<Rule>); 13] = [
+    (
+        "sensor; input x; output x; sample(v) { }",
+        "",
+        0,
+        "",
+        Some(Rule::Duplicate),
+    ),
+    (
+        "sensor; sample(v) { x = 1; }",
+        "",
+        0,
+        "",
+        Some(Rule::Unknown),
+    ),
+    (
+        "sensor; output x; sample(v) { x = 1; }",
+        "",
+        0,
+        "",
+        Some(Rule::Kind),
+    ),
+    (
+        "sensor; sample(v) { ",
+        "repeat 1 { ",
+        16,
+        "} } } } } } } } } } } } } } } } }",
+        Some(Rule::Depth),
+    ),
+    (
+        "sensor; sample(v) { let a = 0; let b = 0; let c = 0; let d = 0; let e = 0; let f = 0; let g = 0; let h = 0; ",
+        "",
+        0,
+        "let i = 0; let j = 0; let k = 0; let l = 0; let m = 0; let n = 0; let o = 0; let p = 0; }",
+        Some(Rule::Locals),
+    ),
+    (
+        "sensor; sample(v) { repeat 0 { } }",
+        "",
+        0,
+        "",
+        Some(Rule::Repeat),
+    ),
+    (
+        "sensor; output x; sample(v) { repeat 17 { send x(0); } }",
+        "",
+        0,
+        "",
+        Some(Rule::Packets),
+    ),
+    (
+        "sensor; sample(v) { repeat 256 { repeat 256 { } } }",
+        "",
+        0,
+        "",
+        Some(Rule::Cost),
+    ),
+    (
+        "sensor; var x; sample(v) { ",
+        "x = 1; ",
+        256,
+        "}",
+        Some(Rule::Nodes),
+    ),
+    (
+        "sensor; array x[1025]; sample(v) { }",
+        "",
+        0,
+        "",
+        Some(Rule::Cells),
+    ),
+    // the rule of costs is broken too
+    (
+        "sensor; sample(v) { repeat 256 { repeat 256 { x = 1; } } }",
+        "",
+        0,
+        "",
+        Some(Rule::Unknown),
+    ),
+    // the highest tree that a text spells in one chain
+    (
+        "sensor; output o; sample(v) { send o(v",
+        " + v",
+        48,
+        "); }",
+        Some(Rule::Depth),
+    ),
+    ("sensor; sample(v) { repeat 256 { } }", "", 0, "", None),
+];
 
 #[test]
 fn the_first_broken_rule_is_answered(rt: HostRuntime) -> Result<(), Fail> {
-    breaks(&rt, costly(rt.alloc())?, Rule::Unknown);
-    Ok(())
-}
-
-/// A module that keeps the rules.
-fn kept(alloc: Global) -> Result<Module, Fail> {
-    let body = nested(alloc, 256, 1, Vec::new(alloc))?;
-    sampling(alloc, sensor(alloc)?, body)
-}
-
-/// Whether the module is checked, and has so many handlers.
-fn is_checked(rt: &impl Abort, module: Module, handlers: usize) {
-    match check(module) {
-        Ok(m) => assert_eq!(rt; m.module().handlers.len(), handlers),
-        Err(_) => assert!(rt; false),
+    let alloc = rt.alloc();
+    for (front, middle, times, back, want) in RULES.as_slice() {
+        let text = repeated(alloc, front, middle, *times, back)?;
+        let broken = check(parse(alloc, text.as_str())?).err();
+        assert_eq!(rt; broken.map(|e| e.0), *want);
     }
-}
-
-#[test]
-fn a_module_that_keeps_the_rules_is_checked(rt: HostRuntime) -> Result<(), Fail> {
-    is_checked(&rt, kept(rt.alloc())?, 1);
     Ok(())
 }

@@ -1,94 +1,76 @@
-//! The tokens of a dozen texts, with their places.
+//! The places of the tokens of a dozen texts, and the values of numbers.
 
 use std::test::Fail;
 use sx_lang::names::Name;
 use sx_lex::reading::tokens_of;
-use sx_lex::tokens::{Kind, Place, Placed};
+use sx_lex::tokens::{Kind, Placed};
 
-#[derive(Debug, Drop)]
-struct NoName;
+/// A token's line and column, and its value if it is a number.
+type Token = (u32, u32, Option<u16>);
 
-fn name(text: &str) -> Result<Kind, NoName> {
-    let name = Name::new(text.as_bytes()).ok_or(NoName)?;
-    Ok(Kind::Name(name))
+/// Texts, their tokens, and the line and column of their end.
+const TEXTS: [(&str, &[Token], (u32, u32)); 12] = [
+    ("", &[], (1, 1)),
+    (
+        "let x = 0x1F;",
+        &[
+            (1, 1, None),
+            (1, 5, None),
+            (1, 7, None),
+            (1, 9, Some(31)),
+            (1, 13, None),
+        ],
+        (1, 14),
+    ),
+    ("65536", &[(1, 1, Some(6553)), (1, 5, Some(6))], (1, 6)),
+    ("0x10000", &[(1, 1, Some(4096)), (1, 7, Some(0))], (1, 8)),
+    ("0x", &[(1, 1, Some(0)), (1, 2, None)], (1, 3)),
+    ("00000000065535", &[(1, 1, Some(65_535))], (1, 15)),
+    ("seventeen_letters", &[(1, 1, None), (1, 17, None)], (1, 18)),
+    (
+        "a<=b// c\r\n!",
+        &[(1, 1, None), (1, 2, None), (1, 4, None), (2, 1, None)],
+        (2, 2),
+    ),
+    ("===", &[(1, 1, None), (1, 3, None)], (1, 4)),
+    ("//", &[], (1, 3)),
+    ("\t/ x", &[(1, 2, None)], (1, 2)),
+    ("\n a\r", &[(2, 2, None), (2, 3, None)], (2, 3)),
+];
+
+fn number(kind: &Kind) -> Option<u16> {
+    match kind {
+        Kind::Number(value) => Some(*value),
+        _ => None,
+    }
 }
 
-fn at(line: u32, column: u32, kind: Kind) -> Placed {
-    Placed {
-        kind,
-        place: Place { line, column },
+/// Whether a list has these tokens.
+fn are_tokens(list: &[Placed], want: &[Token]) -> bool {
+    for (token, expected) in list.iter().zip(want.iter()) {
+        if (token.place.line, token.place.column, number(&token.kind)) != *expected {
+            return false;
+        }
     }
+    list.len() == want.len()
 }
 
 #[test]
-fn tokens_of_a_dozen_texts(rt: HostRuntime) -> Result<(), Fail> {
-    let alloc = rt.alloc();
-    let rows = vec![in alloc;
-        ("", vec![in alloc;]?, (1, 1)),
-        (
-            "let x = 0x1F;",
-            vec![in alloc;
-                at(1, 1, Kind::Let),
-                at(1, 5, name("x")?),
-                at(1, 7, Kind::Equals),
-                at(1, 9, Kind::Number(31)),
-                at(1, 13, Kind::Semicolon),
-            ]?,
-            (1, 14),
-        ),
-        (
-            "65536",
-            vec![in alloc; at(1, 1, Kind::Number(6553)), at(1, 5, Kind::Number(6))]?,
-            (1, 6),
-        ),
-        (
-            "0x10000",
-            vec![in alloc; at(1, 1, Kind::Number(4096)), at(1, 7, Kind::Number(0))]?,
-            (1, 8),
-        ),
-        (
-            "0x",
-            vec![in alloc; at(1, 1, Kind::Number(0)), at(1, 2, name("x")?)]?,
-            (1, 3),
-        ),
-        (
-            "00000000065535",
-            vec![in alloc; at(1, 1, Kind::Number(65535))]?,
-            (1, 15)
-        ),
-        (
-            "seventeen_letters",
-            vec![in alloc; at(1, 1, name("seventeen_letter")?), at(1, 17, name("s")?)]?,
-            (1, 18),
-        ),
-        ("letter", vec![in alloc; at(1, 1, name("letter")?)]?, (1, 7)),
-        (
-            "a<=b// c\r\n!",
-            vec![in alloc;
-                at(1, 1, name("a")?),
-                at(1, 2, Kind::LessEquals),
-                at(1, 4, name("b")?),
-                at(2, 1, Kind::Bang),
-            ]?,
-            (2, 2),
-        ),
-        (
-            "===",
-            vec![in alloc; at(1, 1, Kind::EqualsEquals), at(1, 3, Kind::Equals)]?,
-            (1, 4),
-        ),
-        ("//", vec![in alloc;]?, (1, 3)),
-        ("\t/ x", vec![in alloc; at(1, 2, Kind::Bad)]?, (1, 2)),
-        (
-            "\n a\r",
-            vec![in alloc; at(2, 2, name("a")?), at(2, 3, Kind::Bad)]?,
-            (2, 3)
-        ),
-    ]?;
-    for (text, want, end) in &rows {
-        let tokens = tokens_of(alloc, text.as_bytes())?;
-        assert!(rt; tokens.list == *want);
-        assert_eq!(rt; (tokens.end.line, tokens.end.column), *end);
+fn tokens_of_texts(rt: HostRuntime) -> Result<(), Fail> {
+    for (text, want, end) in TEXTS.as_slice() {
+        let tokens = tokens_of(rt.alloc(), text.as_bytes())?;
+        let at_end = (tokens.end.line, tokens.end.column) == *end;
+        assert!(rt; at_end && are_tokens(&tokens.list, want));
     }
+    Ok(())
+}
+
+/// What the tokens are, where a name is cut at sixteen bytes and where a sign is none.
+#[test]
+fn kinds(rt: HostRuntime) -> Result<(), Fail> {
+    let tokens = tokens_of(rt.alloc(), b"seventeen_letters/")?;
+    let first = tokens.list.first().map(|token| token.kind);
+    assert!(rt; first == Name::new(b"seventeen_letter").map(Kind::Name));
+    assert!(rt; tokens.list.last().map(|token| token.kind) == Some(Kind::Bad));
     Ok(())
 }
