@@ -3,8 +3,9 @@
 //! What a first word says depends on nothing else, so what was decoded once is kept for the next
 //! time, whatever was written to memory in between.
 
-ghost use Rattle.std.specs.Prelude.{◌≡◌, ◌<◌, None, MatchOption, IfSome, length};
+ghost use Rattle.std.specs.Prelude.{◌≡◌, ◌<◌, false, None, MatchOption, IfSome, IsTrue, length};
 ghost use Rattle.sx_isa.specs.Reading.{length_of};
+ghost use Rattle.sx_machine.specs.Step.{is_module_word};
 
 use crate::decoded::Decoded;
 use crate::executor::Executor;
@@ -59,6 +60,15 @@ impl<B: Bus> Executor<B> {
     #[inline(always)]
     pub fn shortcut(&self, at: u16) -> &Shortcut {
         shortcut_at(&self.shortcuts, at)
+    }
+
+    /// Whether the shortcut that is kept for an address is that of this word. Then the word is no
+    /// module instruction's.
+    #[inline(always)]
+    pub fn has_shortcut(&self, at: u16, first: u16) -> bool
+        ensures { IsTrue result → is_module_word first ≡ false }
+    {
+        self.shortcut(at).first == first
     }
 
     /// The first word as it was decoded before at the address, if it is kept.

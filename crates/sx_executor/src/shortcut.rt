@@ -1,8 +1,9 @@
 //! Shortcuts: what is kept of an instruction that code runs often, in eight bytes.
 //!
 //! A jump, an operation on words from a register or a constant onto a general register, and one
-//! from a constant onto a word of memory have one. An instruction is of its form by a fact that the
-//! shortcut carries, so nothing else has to be believed of what is kept.
+//! from a constant onto a word of memory have one. An instruction is of its form, and is no module
+//! instruction, by facts that the shortcut carries, so nothing else has to be believed of what is
+//! kept.
 
 ghost use Rattle.std.specs.Prelude.{◌≡◌, ℕ, true, false, Some, IfSome};
 ghost use Rattle.std.proofs.Props.{props};
@@ -10,6 +11,7 @@ ghost use Rattle.sx_isa.specs.declared.instruction.Instr.TheVariants.{Jump, Two}
 ghost use Rattle.sx_isa.specs.declared.instruction.Operand.TheVariants.{Reg, Const};
 ghost use Rattle.sx_isa.specs.Reading.{instruction_at};
 ghost use Rattle.sx_isa.specs.Extending.{extended};
+ghost use Rattle.sx_machine.specs.Step.{is_module_word};
 ghost use Rattle.sx_executor.specs.Reads.{IsDecoded};
 ghost use Rattle.sx_executor.specs.Shortcuts.{instruction_of, words_of, is_fit, IsForm};
 
@@ -40,6 +42,9 @@ pub enum Form {
     OntoAbsolute { op: Op2, value: u16 },
 }
 
+/// The least first word that has a form. Below it are those of one operand and of modules.
+const FIRST_JUMP: u16 = 0x2000;
+
 /// A first word with its form.
 #[derive(Clone, Copy)]
 pub struct Shortcut {
@@ -47,6 +52,7 @@ pub struct Shortcut {
     pub form: Form,
     pub ghost read: { IsDecoded first (instruction_of form) (words_of form) } by { Prim.hlevel props },
     pub ghost fit: { is_fit form ≡ true } by { Prim.hlevel props },
+    pub ghost plain: { is_module_word first ≡ false } by { Prim.hlevel props },
 }
 
 /// The form of a jump.
@@ -119,8 +125,11 @@ impl Shortcut {
     pub(crate) fn new(decoded: &Decoded) -> Option<Shortcut>
         ensures { IfSome result (λ shortcut. shortcut.first ≡ decoded.now.first) }
     {
-        let form = form_of(decoded.instruction, decoded.words)?;
         let first = decoded.first;
+        if first < FIRST_JUMP {
+            return None;
+        }
+        let form = form_of(decoded.instruction, decoded.words)?;
         Some(Shortcut { first, form })
     }
 
