@@ -8,7 +8,7 @@
 #![tactic(auto)]
 
 pub use quick::{Stepped, step_quick};
-pub use step::{interrupt, step_plain};
+pub use step::{interrupt, step_long, step_plain};
 
 mod jump;
 mod one_operand;

@@ -2,23 +2,24 @@
 //! none, and where no section meets the page of PC.
 //!
 //! Then neither the sections nor who ran before change anything, so what a step does is what its
-//! instruction does. Most steps show nothing, which is told without a look at what was touched.
+//! instruction does. Most steps show nothing, which is told without a look at what was touched, and
+//! with no word on what was seen.
 
 ghost use Rattle.std.specs.Prelude.{◌≡◌, ◌==◌, ◌<◌, if◌then◌else◌, true, None, IsTrue};
-ghost use Rattle.std.specs.Prelude.{MatchOption};
 ghost use Rattle.sx_rules.specs.Access.{holder, in_order};
 ghost use Rattle.sx_bus.specs.Devices.{device_at};
-ghost use Rattle.sx_machine.specs.Run.{exec, untouched};
+ghost use Rattle.sx_machine.specs.declared.kinds.Event.TheVariants.{Quiet};
+ghost use Rattle.sx_machine.specs.Memory.{word};
+ghost use Rattle.sx_machine.specs.Run.{exec, untouched, Violated};
 ghost use Rattle.sx_machine.specs.Rows.{program};
 ghost use Rattle.sx_machine.specs.Step.{step, attempt, instruction, word_outside, pc_of, own_of};
 ghost use Rattle.sx_machine.specs.Step.{start, entered_from};
-ghost use Rattle.sx_machine.specs.Answers.{Attempts};
-ghost use Rattle.sx_node.specs.Telling.{silent, seen_of};
+ghost use Rattle.sx_node.specs.Telling.{told, Tells};
 
 use crate::node::Node;
 use crate::step::{code_of, reset_by};
 use sx_bus::Bus;
-use sx_core::{Stepped, step_quick};
+use sx_core::{Stepped, step_long, step_quick};
 use sx_executor::registers::PC;
 use sx_machine::{Event, Seen, Touch};
 use sx_rules::Violation;
@@ -31,122 +32,171 @@ fn is_untouched(touch: &[Touch; 2]) -> bool
     matches!(*touch, [Touch::Quiet, Touch::Quiet])
 }
 
-/// What a step showed, or None where that is nothing.
-fn told(seen: Seen) -> Option<Seen>
-    ensures { MatchOption result (seen ≡ silent) (λ shown. shown ≡ seen) }
+/// Whether a step shows anything.
+fn is_anything(seen: &Seen) -> bool
+    ensures { told result seen.now ≡ seen.now }
 {
-    if is_untouched(&seen.touch) && matches!(seen.event, Event::Quiet) {
-        None
-    } else {
-        Some(seen)
-    }
+    !is_untouched(&seen.touch) || !matches!(seen.event, Event::Quiet)
+}
+
+/// Leaves what a plain instruction did at devices, and says whether that is anything.
+#[inline(never)]
+fn tell_touches(touch: [Touch; 2], seen: &mut Seen) -> bool
+    ensures { told result seen.new ≡ record { touch = touch; event = Quiet } }
+{
+    *seen = Seen {
+        touch,
+        event: Event::Quiet,
+    };
+    is_anything(seen)
 }
 
 impl<B: Bus, T: Tag> Node<B, T> {
-    /// One step, as `step` takes it: what it shows, or None where it shows nothing, as most steps
-    /// do.
+    /// One step, as `step` takes it. Whether it shows something, as few steps do; that is then left
+    /// in `seen`.
     #[inline(always)]
-    pub fn step_told(&mut self) -> Option<Seen>
+    pub fn step_told(&mut self, seen: &mut Seen) -> bool
         requires { self.old.boot < 4294967295 }
         ensures state { self.new ≡ (step T.mac self.old).state }
-        ensures seen { MatchOption result ((step T.mac self.old).shown ≡ silent)
-            (λ seen. seen ≡ (step T.mac self.old).shown) }
+        ensures shown { told result seen.new ≡ (step T.mac self.old).shown }
     {
-        if self.cur != 0 || self.last != 0 || !self.is_open(self.executor.register(PC)) {
-            return self.step_near();
+        let pc = self.executor.register(PC);
+        if self.cur != 0 || self.last != 0 || !self.is_open(pc) {
+            return self.step_near(seen);
         }
-        match self.attempt_idle() {
-            Ok(shown) => shown,
-            Err(violation) => {
-                self.reset();
-                Some(reset_by(violation))
-            }
+        match self.executor.windows().at(pc) {
+            Some(_device) => self.end_reset(Violation::Device, seen),
+            None => self.instruction_idle(seen),
         }
     }
 
     /// The same in each case. Its code stays out of the way of what most steps do.
     #[inline(never)]
-    fn step_near(&mut self) -> Option<Seen>
+    fn step_near(&mut self, seen: &mut Seen) -> bool
         requires { self.old.boot < 4294967295 }
-        ensures state { self.new ≡ (step T.mac self.old).state }
-        ensures seen { MatchOption result ((step T.mac self.old).shown ≡ silent)
-            (λ seen. seen ≡ (step T.mac self.old).shown) }
+        ensures { Tells self.old (attempt T.mac self.old) result seen.new self.new }
     {
-        told(self.step())
+        *seen = self.step();
+        is_anything(seen)
     }
 
-    /// The instruction at PC, as `attempt_outside`, where the fast path is taken.
-    #[inline(always)]
-    fn attempt_idle(&mut self) -> Result<Option<Seen>, Violation>
-        requires outside { word_outside self.old.sections.live (pc_of self.old) ≡ true }
-        requires order { in_order self.old.sections.live self.old.cur (pc_of self.old) ≡ true }
-        requires own { own_of self.old ≡ 0 }
-        requires cur { self.old.cur ≡ 0 }
-        requires last { self.old.last ≡ 0 }
-        ensures { Attempts self.old (attempt T.mac self.old) (seen_of result) self.new }
+    /// The end of a step by a violation, which is always told.
+    #[inline(never)]
+    fn end_reset(&mut self, violation: Violation, seen: &mut Seen) -> bool
+        requires { self.old.boot < 4294967295 }
+        ensures { Tells self.old (Violated violation) result seen.new self.new }
     {
-        let pc = self.executor.register(PC);
-        match self.executor.windows().at(pc) {
-            Some(_device) => Err(Violation::Device),
-            None => self.instruction_idle(),
-        }
+        self.reset();
+        *seen = reset_by(violation);
+        true
     }
 
-    /// The instruction at PC, as `instruction`, where the fast path is taken.
+    /// The instruction at PC, where the fast path is taken.
     #[inline(always)]
     #[tactic(auto, using(sx_executor::proofs::Rights::outside_word, sx_executor::proofs::Clear::none_found))]
-    fn instruction_idle(&mut self) -> Result<Option<Seen>, Violation>
+    fn instruction_idle(&mut self, seen: &mut Seen) -> bool
+        requires boot { self.old.boot < 4294967295 }
         requires own { own_of self.old ≡ 0 }
         requires cur { self.old.cur ≡ 0 }
         requires last { self.old.last ≡ 0 }
         requires outside { word_outside self.old.sections.live (pc_of self.old) ≡ true }
         requires memory { device_at self.old.devices (pc_of self.old) ≡ None }
-        ensures { Attempts self.old (instruction T.mac self.old) (seen_of result) self.new }
+        ensures { Tells self.old (instruction T.mac self.old) result seen.new self.new }
     {
         let pc = self.executor.register(PC);
-        let word = self.executor.read(true, pc);
-        match code_of(word) {
-            Some(code) => {
-                let seen = self.module_instruction(0, code)?;
-                Ok(Some(seen))
-            }
-            None => self.plain_idle(word),
+        let first = self.executor.read(true, pc);
+        if self.executor.has_shortcut(pc, first) {
+            self.plain_idle(first, seen)
+        } else {
+            self.instruction_near(first, seen)
         }
     }
 
-    /// A plain instruction, where the fast path is taken.
+    /// A plain instruction with a shortcut.
     #[inline(always)]
-    fn plain_idle(&mut self, word: u16) -> Result<Option<Seen>, Violation>
+    fn plain_idle(&mut self, first: u16, seen: &mut Seen) -> bool
+        requires boot { self.old.boot < 4294967295 }
         requires own { own_of self.old ≡ 0 }
         requires cur { self.old.cur ≡ 0 }
         requires last { self.old.last ≡ 0 }
-        ensures { Attempts self.old
-            (exec self.old.sections 0 (program word self.old.regs) (start self.old))
-            (seen_of result) self.new }
+        ensures { Tells self.old
+            (exec self.old.sections 0 (program first self.old.regs) (start self.old))
+            result seen.new self.new }
     {
-        match step_quick(&mut self.executor, word) {
+        match step_quick(&mut self.executor, first) {
             Stepped::Quiet => {
                 self.stays_idle();
-                Ok(None)
+                false
             }
-            Stepped::Answered(done) => {
+            Stepped::Answered(Err(violation)) => {
+                self.executor.begin(0);
+                self.end_reset(violation, seen)
+            }
+            Stepped::Answered(Ok(())) => {
                 let touch = self.executor.touches();
-                if let Err(violation) = done {
-                    self.executor.begin(0);
-                    return Err(violation);
-                }
-                if is_untouched(&touch) {
-                    self.stays_idle();
-                    return Ok(None);
-                }
                 self.executor.begin(0);
                 self.stays_idle();
-                Ok(Some(Seen {
-                    touch,
-                    event: Event::Quiet,
-                }))
+                tell_touches(touch, seen)
             }
         }
+    }
+
+    /// An instruction without a shortcut. Its code stays out of the way of what most steps do.
+    #[inline(never)]
+    fn instruction_near(&mut self, first: u16, seen: &mut Seen) -> bool
+        requires boot { self.old.boot < 4294967295 }
+        requires own { own_of self.old ≡ 0 }
+        requires cur { self.old.cur ≡ 0 }
+        requires last { self.old.last ≡ 0 }
+        requires word { first ≡ word self.old.mem (pc_of self.old) }
+        ensures { Tells self.old (instruction T.mac self.old) result seen.new self.new }
+    {
+        match code_of(first) {
+            Some(code) => match self.module_instruction(0, code) {
+                Ok(shown) => {
+                    *seen = shown;
+                    is_anything(seen)
+                }
+                Err(violation) => self.end_reset(violation, seen),
+            },
+            None => self.plain_long(first, seen),
+        }
+    }
+
+    /// A plain instruction without a shortcut.
+    #[inline(always)]
+    fn plain_long(&mut self, first: u16, seen: &mut Seen) -> bool
+        requires boot { self.old.boot < 4294967295 }
+        requires own { own_of self.old ≡ 0 }
+        requires cur { self.old.cur ≡ 0 }
+        requires last { self.old.last ≡ 0 }
+        ensures { Tells self.old
+            (exec self.old.sections 0 (program first self.old.regs) (start self.old))
+            result seen.new self.new }
+    {
+        match step_long(&mut self.executor, first) {
+            Err(violation) => {
+                self.executor.begin(0);
+                self.end_reset(violation, seen)
+            }
+            Ok(()) => {
+                let touch = self.executor.touches();
+                self.executor.begin(0);
+                self.stays_idle();
+                tell_touches(touch, seen)
+            }
+        }
+    }
+
+    /// Whether no section meets the page of the word at an address. Then what a step asks of the
+    /// sections needs no look at them.
+    #[tactic(auto, using(sx_executor::proofs::Open::open_outside, sx_executor::proofs::Open::open_ordered, sx_rules::proofs::Away::open_holder))]
+    fn is_open(&self, at: u16) -> bool
+        ensures outside { IsTrue result → word_outside self.now.sections.live at ≡ true }
+        ensures order { IsTrue result → in_order self.now.sections.live self.now.cur at ≡ true }
+        ensures own { IsTrue result → holder self.now.sections.live at ≡ 0 }
+    {
+        self.executor.table().is_open(at)
     }
 
     /// Where no module runs and the last instruction was of none, `settle` changes nothing.

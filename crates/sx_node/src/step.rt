@@ -1,7 +1,7 @@
 //! One step of a node: the tests of PC, and then the instruction.
 
 ghost use Rattle.std.specs.Prelude.{◌≡◌, ◌==◌, ◌-◌, ◌<◌, ℕ, if◌then◌else◌, true, false};
-ghost use Rattle.std.specs.Prelude.{None, MatchOption, IsTrue};
+ghost use Rattle.std.specs.Prelude.{None, MatchOption};
 ghost use Rattle.sx_rules.specs.Access.{Lives, holder, in_order};
 ghost use Rattle.sx_rules.specs.Placed.{Placed};
 ghost use Rattle.sx_bus.specs.Devices.{device_at};
@@ -94,19 +94,6 @@ impl<B: Bus, T: Tag> Node<B, T> {
     fn attempt(&mut self) -> Result<Seen, Violation>
         ensures { Attempts self.old (attempt T.mac self.old) result self.new }
     {
-        if self.is_open(self.executor.register(PC)) {
-            self.attempt_outside()
-        } else {
-            self.attempt_near()
-        }
-    }
-
-    /// The same where a section may meet the page of PC. Its code stays out of the way of what most
-    /// steps do.
-    #[inline(never)]
-    fn attempt_near(&mut self) -> Result<Seen, Violation>
-        ensures { Attempts self.old (attempt T.mac self.old) result self.new }
-    {
         let pc = self.executor.register(PC);
         if !self.word_outside(pc) {
             return Err(Violation::Fetch);
@@ -119,32 +106,6 @@ impl<B: Bus, T: Tag> Node<B, T> {
         }
         let own = self.executor.holder(pc);
         self.instruction(own)
-    }
-
-    /// Whether no section meets the page of the word at an address. Then what a step asks of the
-    /// sections needs no look at them.
-    #[tactic(auto, using(sx_executor::proofs::Open::open_outside, sx_executor::proofs::Open::open_ordered, sx_rules::proofs::Away::open_holder))]
-    pub(crate) fn is_open(&self, at: u16) -> bool
-        ensures outside { IsTrue result → word_outside self.now.sections.live at ≡ true }
-        ensures order { IsTrue result → in_order self.now.sections.live self.now.cur at ≡ true }
-        ensures own { IsTrue result → holder self.now.sections.live at ≡ 0 }
-    {
-        self.executor.table().is_open(at)
-    }
-
-    /// The instruction at PC, where no section is in its way and it is of no module's code.
-    #[inline(always)]
-    fn attempt_outside(&mut self) -> Result<Seen, Violation>
-        requires outside { word_outside self.old.sections.live (pc_of self.old) ≡ true }
-        requires order { in_order self.old.sections.live self.old.cur (pc_of self.old) ≡ true }
-        requires own { own_of self.old ≡ 0 }
-        ensures { Attempts self.old (attempt T.mac self.old) result self.new }
-    {
-        let pc = self.executor.register(PC);
-        match self.executor.windows().at(pc) {
-            Some(_device) => Err(Violation::Device),
-            None => self.instruction(0),
-        }
     }
 
     /// Whether the word at an address lies in no private section.
