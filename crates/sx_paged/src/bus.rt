@@ -51,6 +51,7 @@ impl Bus for PagedBus {
         self.pages.put(at, byte);
     }
 
+    #[inline(always)]
     fn put_word(&mut self, at: u16, value: u16)
         requires { at % 2 ≡ 0 }
         ensures bytes { joined self.new.pages

@@ -63,6 +63,7 @@ impl Paged {
     }
 
     /// Writes the word at an even address, the low byte first. Both bytes are on one page.
+    #[inline(always)]
     pub(crate) fn put_word(&mut self, at: u16, value: u16)
         requires { at % 2 ≡ 0 }
         ensures { self.new
@@ -72,11 +73,18 @@ impl Paged {
         let high = (value / 256) as u8;
         match self.numbers[(at / 256) as usize] {
             Some(page) => write_two(&mut self.arena, page, (at % 256) as u8, low, high),
-            None => {
-                self.put(at, low);
-                self.put(at + 1, high);
-            }
+            None => self.put_two(at, low, high),
         }
+    }
+
+    /// Two bytes, one after the other. Its code stays out of the way of what most writes do.
+    #[inline(never)]
+    fn put_two(&mut self, at: u16, low: u8, high: u8)
+        requires { at < 65535 }
+        ensures { self.new ≡ after_put (after_put self.old at low) (at + 1) high }
+    {
+        self.put(at, low);
+        self.put(at + 1, high);
     }
 
     /// Makes all pages absent.
