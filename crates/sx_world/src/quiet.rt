@@ -44,8 +44,12 @@ fn quiet_stretch<B: Bus, T: Tag>(node: &mut Node<B, T>, count: u32) -> QuietStep
     ensures last { EndsWith T.mac count result.count result.last node.old }
     ensures left { node.new ≡ after_steps T.mac (taken result.count result.last) node.old }
 {
+    let mut seen = Seen {
+        touch: [Touch::Quiet; 2],
+        event: Event::Quiet,
+    };
     for done in 0..count {
-        if let Some(seen) = node.step_told() {
+        if node.step_told(&mut seen) {
             return QuietSteps {
                 count: done,
                 last: Some(seen),
