@@ -16,7 +16,9 @@ use Rattle.sx_machine.specs.State.{State, reset}
 use Rattle.sx_machine.specs.Step.{Shown, own_of, step, start}
 use Rattle.sx_machine.specs.Run.{exec}
 use Rattle.sx_machine.specs.Acts.{unless, take_refusal, irq_refusal, interrupt, interrupted, put, set as set_register, take as take_from, sense, irq}
-use Rattle.sx_machine.specs.Guard.{Act, Step as NodeStep, Restart, Put as PutAct, Set as SetAct, Take as TakeAct, Sense as SenseAct, Interrupt, Stepped, Answered, Took, Interrupted, acted, FromOutside, Same}
+use Rattle.sx_machine.specs.Guard.{Act, Step as NodeStep, Restart, Put as PutAct, Set as SetAct}
+use Rattle.sx_machine.specs.Guard.{Take as TakeAct, Sense as SenseAct, Interrupt, Stepped, Answered}
+use Rattle.sx_machine.specs.Guard.{Took, Interrupted, acted, FromOutside, Same}
 use Rattle.sx_machine.proofs.Sections.{acted_placed}
 use Rattle.sx_machine.proofs.RunGuard.{runs_blind}
 use Rattle.sx_run.specs.Setting.{Site, Setting, module_of}
@@ -26,7 +28,10 @@ use Rattle.sx_ledger.specs.Made.{Made, NO_TARGET}
 use Rattle.sx_run.specs.Deployer.{Grant, accepts, after_acceptance, grants_after}
 use Rattle.sx_run.specs.Observation.{Observed, observed, unless_made}
 use Rattle.sx_run.specs.State.{World, Acted}
-use Rattle.sx_run.specs.Acts.{only, then_, at_node, after_step, refused_item, or_refused, done_on, after_take, after_interrupt, with_deployer, key_given, keys_given, attested, after_denial, after_verdict, after_answer, open_ask, attested_at}
+use Rattle.sx_run.specs.Acts.{only, then_, at_node, after_step, refused_item, or_refused, done_on}
+use Rattle.sx_run.specs.Acts.{after_take, after_interrupt, with_deployer, key_given, keys_given}
+use Rattle.sx_run.specs.Acts.{attested, after_denial, after_verdict, after_answer, open_ask}
+use Rattle.sx_run.specs.Acts.{attested_at}
 use Rattle.sx_run.specs.Run.{place_at, sense_at, give, put_on}
 use Rattle.sx_guard.specs.Happening.{Happening, Begin, Step, Put, Set, Take, Give, Forge, Sense, Irq, Reset, Ask, Answer, Show, done}
 use Rattle.sx_guard.proofs.Places.{set_here}

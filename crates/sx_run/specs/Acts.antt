@@ -66,8 +66,8 @@ done_on w n items r =
     record { world = with_node w n r.state w.ledger w.steps; items = or_refused n items r.shown }
 
 -- the world with one more packet, and its item
-abbrev pub with_packet : World → List ℕ → Acted
-with_packet w bytes = record {
+abbrev pub new_packet : World → List ℕ → Acted
+new_packet w bytes = record {
   world = record {
     nodes = w.nodes;
     packets = w.packets ++ bytes ∷ [];
@@ -81,7 +81,7 @@ with_packet w bytes = record {
 
 -- the bytes that were taken become a packet, or the refusal's item is shown
 abbrev pub after_take : World → ℕ → Result (List ℕ) Refused → Acted
-after_take w n (Ok bytes) = with_packet w bytes
+after_take w n (Ok bytes) = new_packet w bytes
 after_take w n (Err why) = only w (refused_item n why ∷ [])
 
 -- an interrupt is run as code outside every module
@@ -111,12 +111,12 @@ ask w m =
       items =
           item.Ask m w.deployer.asks ∷ [];
     })
-    (λ v. with_packet v (ask_packet w.deployer.asks))
+    (λ v. new_packet v (ask_packet w.deployer.asks))
 
 -- one set-key packet, and its entry
 abbrev pub key_given : Setting → World → Grant → Option Site → Acted
 key_given set w g None = only w []
-key_given set w g (Some site) = with_packet (with_deployer w w.deployer
+key_given set w g (Some site) = new_packet (with_deployer w w.deployer
     (w.ledger ++ set_key_entry set g ∷ [])) (set_key set site g)
 
 -- set-key packets for all grants, one after the other

@@ -22,7 +22,8 @@ use Rattle.sx_mean.specs.declared.events.End.{End}
 use Rattle.sx_mean.specs.Application.{AppTree}
 use Rattle.sx_mean.specs.Ends.{ends_of}
 use Rattle.sx_model.specs.Step.{drives, same_side}
-use Rattle.sx_run.specs.Setting.{Setting, module_of, device_number, device_of}
+use Rattle.sx_model.specs.Consequences.{device_of}
+use Rattle.sx_run.specs.Setting.{Setting, module_of, device_number}
 use Rattle.sx_run.specs.Wire.{is_ask, is_set_key_header, is_event_header, challenge_in, link_in}
 use Rattle.sx_run.specs.Wire.{epoch_in, last_in, value_in}
 use Rattle.sx_run.specs.Ledger.{Made, NO_TARGET, made_entry, is_made, header_of, body_of}
@@ -88,7 +89,7 @@ has_wrapped m boot header body own ledger =
     }
     else record { items = []; ledger = ledger }
 
--- the item, after one that says that no holder of the key had made it
+-- the item, after one that says that its rightful maker hadn't made what it rests on
 abbrev pub unless_made : Option ℕ → Bool → Item → List Item
 unless_made who made i = if made then i ∷ [] else item.Forged who ∷ i ∷ []
 
@@ -131,29 +132,25 @@ protect_item set n s id = item.Protect n (module_of set.sites n s id)
 
 -- the event of a step of the module's code that leaves the node in this state
 abbrev pub event_seen : Setting → ℕ → Option ℕ → State → List Made → Event → Observed
-event_seen set n runner s ledger event.Quiet = record { items = []; ledger = ledger }
 event_seen set n runner s ledger (event.Reset v) =
     record { items = item.Reset n (cause_of v) ∷ []; ledger = ledger }
 event_seen set n runner s ledger (event.Protected id) =
     record { items = protect_item set n s id ∷ []; ledger = ledger }
-event_seen set n runner s ledger (event.Removed id) = record { items = []; ledger = ledger }
-event_seen set n None s ledger (event.Wrapped id) = record { items = []; ledger = ledger }
 event_seen set n (Some m) s ledger (event.Wrapped id) =
     has_wrapped m s.boot (header_of s.exchange) (body_of s.exchange) s.exchange.own_key ledger
-event_seen set n None s ledger (event.Unwrapped id) = record { items = []; ledger = ledger }
 event_seen set n (Some m) s ledger (event.Unwrapped id) =
     record {
       items = has_unwrapped set.app m s.boot (header_of s.exchange) (body_of s.exchange)
           ledger;
       ledger = ledger;
     }
-event_seen set n None s ledger (event.Left id) = record { items = []; ledger = ledger }
 event_seen set n (Some m) s ledger (event.Left id) =
     record {
       items = item.Done m (slice_index s.regs 12) (slice_index s.regs 13) ∷ [];
       ledger =
           ledger;
     }
+event_seen set n runner s ledger _ = record { items = []; ledger = ledger }
 
 -- what is seen of code of this module, which leaves the node in this state
 abbrev pub observed : Setting → ℕ → Option ℕ → State → Seen → List Made → Observed

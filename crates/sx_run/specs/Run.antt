@@ -15,7 +15,7 @@ use Rattle.sx_machine.specs.Step.{step}
 use Rattle.sx_machine.specs.Acts.{put, set, take as take_from, sense, irq}
 use Rattle.sx_run.specs.Setting.{Site, Setting, devices_at}
 use Rattle.sx_run.specs.State.{World, Acted}
-use Rattle.sx_run.specs.Acts.{only, then_, with_node, at_node, after_step, done_on, with_packet}
+use Rattle.sx_run.specs.Acts.{only, then_, with_node, at_node, after_step, done_on, new_packet}
 use Rattle.sx_run.specs.Acts.{after_take, after_interrupt, ask, after_answer}
 
 -- the step's event is a reset
@@ -135,7 +135,7 @@ after_line set w (Set n r v) = set_on n r v w
 after_line set w (Take n at len) =
     at_node w (λ s. after_take w n (take_from s at len).shown) (slice_get w.nodes n)
 after_line set w (Give k n at) = give w n at (slice_get w.packets k)
-after_line set w (Forge bytes) = with_packet w bytes
+after_line set w (Forge bytes) = new_packet w bytes
 after_line set w (Sense d v) = sense_at set w d v (slice_get set.app.devices d)
 after_line set w (Irq n line) = at_node w (λ s.
     after_interrupt set w n (irq s line).state (irq s line).shown) (slice_get w.nodes n)

@@ -61,10 +61,6 @@ devices_at n i (d ∷ ds) =
 abbrev pub device_number : AppTree → ℕ → ℕ → ℕ
 device_number app n k = slice_index (devices_at n 0 app.devices) k
 
--- the device that the module drives
-abbrev pub device_of : AppTree → ℕ → Option ℕ
-device_of app m = option_and_then (λ q. q.device) (slice_get app.parts m)
-
 -- the kind of device as the machine has it
 abbrev pub kind_of : DeviceKind → Kind
 kind_of declared_kind.Sensor = Sensor

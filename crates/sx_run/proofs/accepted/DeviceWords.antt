@@ -1,5 +1,7 @@
 -- A node's windows when it is switched on stand at the words of its devices.
-use Rattle.std.proofs.Common.{◌≡◌, ◌≢◌, ℕ, zero, suc, ◌+◌, ◌%◌, ◌<◌, ◌≤◌, ◌==◌, inl, inr, nat_lt, nat_le, Bool, true, false, if◌then◌else◌, List, [], ◌∷◌, length, get_or, Option, Some, None, refl, sym, ◌∙◌, ap, subst, arith}
+use Rattle.std.proofs.Common.{◌≡◌, ◌≢◌, ℕ, zero, suc, ◌+◌, ◌%◌, ◌<◌, ◌≤◌, ◌==◌, inl, inr, nat_lt}
+use Rattle.std.proofs.Common.{nat_le, Bool, true, false, if◌then◌else◌, List, [], ◌∷◌, length}
+use Rattle.std.proofs.Common.{get_or, Option, Some, None, refl, sym, ◌∙◌, ap, subst, arith}
 use Rattle.std.specs.Prelude.{slice_get, All, AllPairs}
 use Rattle.std.proofs.lemmas.Bool.{and_parts, eqb-true, cases_lt}
 use Rattle.std.proofs.lemmas.Bool.Decides.{nat_tests}
@@ -10,9 +12,10 @@ use Rattle.sx_bus.specs.declared.devices.Kind.{Kind}
 use Rattle.sx_bus.specs.declared.devices.Window.{Window}
 use Rattle.sx_bus.specs.Devices.{ArePlaces, powered_on, places_of, on_word, device_at}
 use Rattle.sx_deploy.specs.Law.{Word, words_of, IsWordPlace}
+use Rattle.sx_machine.proofs.Devices.{position_is}
 use Rattle.sx_run.specs.Setting.{devices_at, windows_at, kind_of}
 use Rattle.sx_run.proofs.tie.Lists.{some_inj, get_within, get_some}
-use Rattle.sx_run.proofs.steps.Steps.{position_is, increasing}
+use Rattle.sx_run.proofs.steps.Steps.{increasing}
 use Rattle.sx_run.proofs.accepted.Windows.{AreSpaced}
 
 -- what holds of all holds at a place

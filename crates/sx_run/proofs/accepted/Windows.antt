@@ -1,5 +1,7 @@
 -- A node's windows: each device of the node is one, and is found at its place.
-use Rattle.std.proofs.Common.{◌≡◌, ℕ, zero, suc, ◌+◌, ◌%◌, ◌<◌, ◌≤◌, ◌==◌, ◌&&◌, inl, inr, nat_lt, nat_le, Bool, true, false, if◌then◌else◌, List, [], ◌∷◌, length, map, get_or, Option, Some, None, refl, sym, ◌∙◌, ap, subst, arith}
+use Rattle.std.proofs.Common.{◌≡◌, ℕ, zero, suc, ◌+◌, ◌%◌, ◌<◌, ◌≤◌, ◌==◌, ◌&&◌, inl, inr, nat_lt}
+use Rattle.std.proofs.Common.{nat_le, Bool, true, false, if◌then◌else◌, List, [], ◌∷◌, length, map}
+use Rattle.std.proofs.Common.{get_or, Option, Some, None, refl, sym, ◌∙◌, ap, subst, arith}
 use Rattle.std.specs.Prelude.{slice_get, slice_index_or}
 use Rattle.std.proofs.lemmas.Bool.{and_parts, eq-eqb, cases_lt}
 use Rattle.std.proofs.lemmas.Bool.Decides.{nat_tests}
@@ -10,11 +12,11 @@ use Rattle.sx_bus.specs.declared.devices.Kind.{Kind}
 use Rattle.sx_bus.specs.declared.devices.Window.{Window}
 use Rattle.sx_bus.specs.Devices.{ArePlaces, places_of, on_word, device_at}
 use Rattle.sx_machine.specs.Run.{device_of, found}
+use Rattle.sx_machine.proofs.Devices.{position_is}
 use Rattle.sx_run.specs.Setting.{devices_at, windows_at, kind_of}
 use Rattle.sx_run.proofs.tie.Lists.{some_inj, get_within}
 use Rattle.sx_run.proofs.tie.Tied.{shapes}
 use Rattle.sx_run.proofs.steps.Foreign.{position_some}
-use Rattle.sx_run.proofs.steps.Steps.{position_is}
 
 -- Windows at even places of their own.
 pub record AreSpaced (ws : List Window) : Type 0 where

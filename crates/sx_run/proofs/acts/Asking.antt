@@ -1,5 +1,7 @@
 -- What the deployer does keeps a run tied: asks, answers, and the keys that it gives.
-use Rattle.std.proofs.Common.{◌≡◌, ◌≢◌, ℕ, zero, suc, ◌+◌, ◌*◌, ◌%◌, ◌/◌, ◌^◌, ◌<◌, ◌≤◌, ◌⊎◌, inl, inr, ◌==◌, Bool, true, false, if◌then◌else◌, List, [], ◌∷◌, ◌++◌, length, Option, Some, None, refl, sym, ◌∙◌, ap, subst, arith}
+use Rattle.std.proofs.Common.{◌≡◌, ◌≢◌, ℕ, zero, suc, ◌+◌, ◌*◌, ◌%◌, ◌/◌, ◌^◌, ◌<◌, ◌≤◌, ◌⊎◌, inl}
+use Rattle.std.proofs.Common.{inr, ◌==◌, Bool, true, false, if◌then◌else◌, List, [], ◌∷◌, ◌++◌}
+use Rattle.std.proofs.Common.{length, Option, Some, None, refl, sym, ◌∙◌, ap, subst, arith}
 use Rattle.std.specs.Prelude.{slice_get, slice_set, slice_index, is_some}
 use Rattle.std.proofs.lemmas.Bool.{and_parts, cases_eq}
 use Rattle.sx_lang.specs.declared.sides.Side.TheVariants.{From, To}
@@ -22,7 +24,7 @@ use Rattle.sx_run.specs.Ledger.{Made, NO_TARGET, made_entry, is_made}
 use Rattle.sx_run.specs.Deployer.{DeployerState, Grant, after_ask, accepts, after_acceptance, grants_of, grant_to, grant_beyond, grants_beyond, grants_after, set_key, set_key_entry}
 use Rattle.sx_run.specs.State.{World, Acted}
 use Rattle.sx_run.specs.Observation.{unless_made}
-use Rattle.sx_run.specs.Acts.{then_, with_packet, with_deployer, ask, key_given, keys_given, attested, after_denial, open_ask, attested_at, after_verdict, after_answer}
+use Rattle.sx_run.specs.Acts.{then_, new_packet, with_deployer, ask, key_given, keys_given, attested, after_denial, open_ask, attested_at, after_verdict, after_answer}
 use Rattle.sx_run.specs.Run.{line_counted}
 use Rattle.sx_run.proofs.tie.Lists.{get_other, get_some, get_within, length_set, some_inj}
 use Rattle.sx_run.proofs.tie.Entries.{made_behind}
@@ -50,7 +52,7 @@ same_presence set n m q site s x y sent e (Rests sec pr p i c pend h) = Rests se
 same_presence set n m q site s x y sent e (Runs sec pr p i c u) = Runs sec pr (e ∙ p) i c u
 
 -- packets don't matter
-pub tied_packet : (set : Setting) (w : World) (mo : Model) (bytes : List ℕ) → Tied set w mo → Fares (judge set.app mo (with_packet w bytes).items) (Tied set (with_packet w bytes).world)
+pub tied_packet : (set : Setting) (w : World) (mo : Model) (bytes : List ℕ) → Tied set w mo → Fares (judge set.app mo (new_packet w bytes).items) (Tied set (new_packet w bytes).world)
 tied_packet set w mo bytes t = record {
   size = record {
     nodes = t.size.nodes;
@@ -407,7 +409,7 @@ keys_fares set (g ∷ gs) w mo may t = one (slice_get set.sites g.holder) (λ v 
     one None rest = rest w t
     one (Some site) rest =
         let w1 = with_deployer w w.deployer (w.ledger ++ set_key_entry set g ∷ []) in
-        rest (with_packet w1 (set_key set site g)).world (tied_packet set w1 mo (set_key set site g) (key_tied set w mo g may.0 t))
+        rest (new_packet w1 (set_key set site g)).world (tied_packet set w1 mo (set_key set site g) (key_tied set w mo g may.0 t))
 
 -- the keys that follow an answer may be given
 module _ (set : Setting) (w : World) (mo : Model) (t : Tied set w mo) where

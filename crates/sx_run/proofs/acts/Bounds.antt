@@ -1,5 +1,8 @@
 -- What every line keeps: nodes stay nodes with their devices, and no count gains more than so much.
-use Rattle.std.proofs.Common.{◌≡◌, ℕ, zero, suc, ◌+◌, ◌*◌, ◌/◌, ◌<◌, ◌≤◌, ◌==◌, ◌||◌, inl, inr, Bool, true, false, if◌then◌else◌, List, [], ◌∷◌, length, take, drop, Option, Some, None, Result, Ok, Err, refl, sym, ◌∙◌, ap, subst, arith, length-append}
+use Rattle.std.proofs.Common.{◌≡◌, ℕ, zero, suc, ◌+◌, ◌*◌, ◌/◌, ◌<◌, ◌≤◌, ◌==◌, ◌||◌, inl, inr}
+use Rattle.std.proofs.Common.{Bool, true, false, if◌then◌else◌, List, [], ◌∷◌, length, take, drop}
+use Rattle.std.proofs.Common.{Option, Some, None, Result, Ok, Err, refl, sym, ◌∙◌, ap, subst, arith}
+use Rattle.std.proofs.Common.{length-append}
 use Rattle.std.specs.Prelude.{slice_get, slice_set}
 use Rattle.std.specs.List.{cons_option}
 use Rattle.std.proofs.lemmas.Bool.{cases_eq}
@@ -34,8 +37,13 @@ use Rattle.sx_run.specs.Setting.{Site, Setting, windows_at}
 use Rattle.sx_run.specs.Ledger.{Made}
 use Rattle.sx_run.specs.Deployer.{DeployerState, accepts, Grant, after_acceptance, after_ask, grants_of, grant_to, grant_beyond, grants_beyond, grants_after}
 use Rattle.sx_run.specs.State.{World, Acted, switched_on}
-use Rattle.sx_run.specs.Acts.{only, then_, with_node, at_node, after_step, done_on, with_deployer, with_packet, after_take, after_interrupt, ask, key_given, keys_given, attested, after_denial, after_verdict, after_answer, open_ask, attested_at}
-use Rattle.sx_run.specs.Run.{is_reset, steps_of, FINISH_STEPS, finish, put_on, set_on, give, place_at, sense_at, put_pieces, Register, set_all, register, unless_busy, load, call, after_line, line_counted, run}
+use Rattle.sx_run.specs.Acts.{only, then_, with_node, at_node, after_step, done_on, with_deployer}
+use Rattle.sx_run.specs.Acts.{new_packet, after_take, after_interrupt, ask, key_given, keys_given}
+use Rattle.sx_run.specs.Acts.{attested, after_denial, after_verdict, after_answer, open_ask}
+use Rattle.sx_run.specs.Acts.{attested_at}
+use Rattle.sx_run.specs.Run.{is_reset, steps_of, FINISH_STEPS, finish, put_on, set_on, give}
+use Rattle.sx_run.specs.Run.{place_at, sense_at, put_pieces, Register, set_all, register}
+use Rattle.sx_run.specs.Run.{unless_busy, load, call, after_line, line_counted, run}
 use Rattle.sx_run.specs.Law.{IsSoundSetting, LineInForm, LinesInForm}
 use Rattle.sx_run.proofs.tie.Lists.{get_other, get_some, get_within, length_set, some_inj}
 use Rattle.sx_run.proofs.tie.Start.{get_nodes, nodes_long, on_is_node}
@@ -301,7 +309,7 @@ module _ (set : Setting) where
       (λ s here. quiet b t t p a w x.node s (guard.Sense (place_at set x.node d) v) w.ledger w.steps h here lt
       (unless_boot {T = Unit {0}} (busy s) s (record { state = record s { devices = with_sample s.devices (place_at set x.node d) v }; shown = tt }) refl) h.steps)
 
-  packet_within : (b t p a : ℕ) (w : World) (bytes : List ℕ) → Within b t p a w → Within b t (p + 1) a (with_packet w bytes).world
+  packet_within : (b t p a : ℕ) (w : World) (bytes : List ℕ) → Within b t p a w → Within b t (p + 1) a (new_packet w bytes).world
   packet_within b t p a w bytes h = record {
     as_many = h.as_many;
     nodes = h.nodes;

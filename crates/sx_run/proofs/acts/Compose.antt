@@ -16,8 +16,10 @@ use Rattle.sx_model.specs.Step.{is_sensor, kind_is}
 use Rattle.sx_model.specs.Legal.{Legal, before}
 use Rattle.sx_run.specs.Setting.{Site, Setting}
 use Rattle.sx_run.specs.State.{World, Acted, switched_on}
-use Rattle.sx_run.specs.Acts.{only, then_, with_node, at_node, after_step, refused_item, done_on, with_packet, after_take, after_interrupt, ask as asks, after_answer}
-use Rattle.sx_run.specs.Run.{is_reset, steps_of, FINISH_STEPS, finish, put_on, set_on, give, place_at, sense_at, put_pieces, Register, set_all, register, unless_busy, load, call, after_line, line_counted, run}
+use Rattle.sx_run.specs.Acts.{only, then_, with_node, at_node, after_step, refused_item, done_on, new_packet, after_take, after_interrupt, ask as asks, after_answer}
+use Rattle.sx_run.specs.Run.{is_reset, steps_of, FINISH_STEPS, finish, put_on, set_on, give}
+use Rattle.sx_run.specs.Run.{place_at, sense_at, put_pieces, Register, set_all, register}
+use Rattle.sx_run.specs.Run.{unless_busy, load, call, after_line, line_counted, run}
 use Rattle.sx_run.specs.Law.{LineInForm, LinesInForm}
 use Rattle.sx_run.proofs.tie.Verdicts.{judge, Fares, fares_then, legal_of}
 use Rattle.sx_run.proofs.tie.Tied.{Tied}
@@ -32,7 +34,7 @@ pub record ActsKeep (set : Setting) : Type 0 where
   pub put : (w : World) (n at : ℕ) (bytes : List ℕ) (s : State) → slice_get w.nodes n ≡ Some s → Keeps set w (done_on w n [] (put_at s at bytes))
   pub set_ : (w : World) (n r v : ℕ) (s : State) → r < 16 → v < 65536 → slice_get w.nodes n ≡ Some s → Keeps set w (done_on w n [] (set_register s r v))
   pub take : (w : World) (n at len : ℕ) (s : State) → slice_get w.nodes n ≡ Some s → Keeps set w (after_take w n (take_from s at len).shown)
-  pub packet : (w : World) (bytes : List ℕ) → Keeps set w (with_packet w bytes)
+  pub packet : (w : World) (bytes : List ℕ) → Keeps set w (new_packet w bytes)
   pub sense : (w : World) (d v : ℕ) (x : AppDevice) (s : State) → slice_get set.app.devices d ≡ Some x → is_sensor x.kind ≡ true → v < 32768 → slice_get w.nodes x.node ≡ Some s
       → Keeps set w (done_on w x.node (item.Sense d v ∷ []) (sense_on s (place_at set x.node d) v))
   pub irq : (w : World) (n line : ℕ) (s : State) → line < 15 → slice_get w.nodes n ≡ Some s → Keeps set w (after_interrupt set w n (interrupt s line).state (interrupt s line).shown)

@@ -13,7 +13,9 @@ use Rattle.sx_machine.specs.Acts.{put as put_at, set as set_register, take as ta
 use Rattle.sx_run.specs.Setting.{Site, Setting}
 use Rattle.sx_run.specs.Deployer.{accepts, Grant, after_acceptance, grants_after}
 use Rattle.sx_run.specs.State.{World, Acted}
-use Rattle.sx_run.specs.Acts.{only, then_, at_node, after_step, done_on, with_deployer, after_take, after_interrupt, key_given, keys_given, attested, after_denial, after_verdict, after_answer, open_ask, attested_at}
+use Rattle.sx_run.specs.Acts.{only, then_, at_node, after_step, done_on, with_deployer, after_take}
+use Rattle.sx_run.specs.Acts.{after_interrupt, key_given, keys_given, attested, after_denial}
+use Rattle.sx_run.specs.Acts.{after_verdict, after_answer, open_ask, attested_at}
 use Rattle.sx_run.specs.Run.{is_reset, steps_of, FINISH_STEPS, finish, put_on, set_on, give, place_at, sense_at, put_pieces, Register, set_all, register, unless_busy, load, call, after_line}
 
 abbrev Same : World → Acted → Type 0

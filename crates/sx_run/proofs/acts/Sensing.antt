@@ -25,13 +25,13 @@ use Rattle.sx_run.specs.Law.{IsSoundSetting}
 use Rattle.sx_run.proofs.tie.Lists.{get_other, get_some, get_within, length_set, some_inj}
 use Rattle.sx_run.proofs.tie.Verdicts.{Going, judge_on, judge, Fares}
 use Rattle.sx_run.proofs.steps.Nodes.{tied_node, device_here, index_get, shapes_long, windows_long}
-use Rattle.sx_run.proofs.steps.Steps.{nonzero, position_is, increasing}
+use Rattle.sx_run.proofs.steps.Steps.{nonzero, increasing}
 use Rattle.sx_run.proofs.steps.Foreign.{position_some}
 use Rattle.sx_run.proofs.acts.Outside.{same_tied, refused_fares}
 use Rattle.sx_run.proofs.tie.Tied.{Known, NodeTied, ModuleTied, Absent, Rests, Runs, Tied}
 use Rattle.sx_run.proofs.acts.Compose.{Keeps}
 use Rattle.sx_lists.proofs.Lists.{get_same}
-use Rattle.sx_machine.proofs.Devices.{sensed_shapes}
+use Rattle.sx_machine.proofs.Devices.{sensed_shapes, position_is}
 
 listed_head : (b : Bool) (i j : ℕ) (k : ℕ) (devs : List ℕ) → slice_get devs k ≡ Some (i + 1 + j) → (k2 : ℕ) × (slice_get (if b then i ∷ devs else devs) k2 ≡ Some (i + suc j))
 listed_head true i j k devs e = (suc k, e ∙ ap Some (omega arith))

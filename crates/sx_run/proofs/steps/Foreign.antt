@@ -1,5 +1,7 @@
 -- A step of code that is no deployed module's: what it does at devices, and what it leaves of the modules.
-use Rattle.std.proofs.Common.{◌≡◌, ◌≢◌, ℕ, zero, suc, ◌+◌, ◌<◌, ◌⊎◌, inl, inr, ◌==◌, ◌&&◌, not, Bool, true, false, cond, if◌then◌else◌, List, [], ◌∷◌, ◌++◌, length, Option, Some, None, refl, sym, ◌∙◌, ap, subst, arith}
+use Rattle.std.proofs.Common.{◌≡◌, ◌≢◌, ℕ, zero, suc, ◌+◌, ◌<◌, ◌⊎◌, inl, inr, ◌==◌, ◌&&◌, not}
+use Rattle.std.proofs.Common.{Bool, true, false, cond, if◌then◌else◌, List, [], ◌∷◌, ◌++◌, length}
+use Rattle.std.proofs.Common.{Option, Some, None, refl, sym, ◌∙◌, ap, subst, arith}
 use Rattle.std.specs.Prelude.{slice_get, slice_set, nat_lt, nat_le, is_some}
 use Rattle.std.specs.List.{position_from}
 use Rattle.std.proofs.lemmas.Bool.{true≢false, and_parts, and_from, eqb-true, eqb-false, cases_eq, cases_Bool, le-leb, leb-true}
@@ -249,15 +251,6 @@ module _ (set : Setting) (w : World) (mo : Model) (n : ℕ) (s : State) (boot : 
       (touches_fare ts a b rs sh long h.4 apart tied)
 
 -- The node goes on, and no deployed module was protected.
-
-pub without_lives : (live : List Section) (id : ℕ) (sec : Section) → Lives (Rattle.sx_rules.specs.Admission.without live id) sec → Lives live sec
-without_lives [] id sec l = l
-without_lives (x ∷ live) id sec l = by_id (x.id == id) l (without_lives live id sec)
-  where
-    by_id : (b : Bool) → Lives (if b then live else x ∷ Rattle.sx_rules.specs.Admission.without live id) sec
-        → (Lives (Rattle.sx_rules.specs.Admission.without live id) sec → Lives live sec) → Lives (x ∷ live) sec
-    by_id true l f = inr l
-    by_id false l f = elim l [ inl e ↦ inl e | inr r ↦ inr (f r) ]
 
 pub append_lives : (live : List Section) (new sec : Section) → Lives (live ++ new ∷ []) sec → Lives live sec ⊎ (sec ≡ new)
 append_lives [] new sec l = elim l [ inl e ↦ inr (sym e) | inr f ↦ absurd f ]

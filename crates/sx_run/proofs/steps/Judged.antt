@@ -1,5 +1,7 @@
 -- Each mark of a module that is under way is an item that the source allows, or it is forged.
-use Rattle.std.proofs.Common.{◌≡◌, ℕ, zero, suc, ◌+◌, ◌*◌, ◌/◌, ◌%◌, ◌<◌, ◌≤◌, ◌⊎◌, inl, inr, ◌==◌, ◌&&◌, ◌||◌, not, Bool, true, false, if◌then◌else◌, List, [], ◌∷◌, ◌++◌, length, Option, Some, None, refl, sym, ◌∙◌, ap, subst, arith}
+use Rattle.std.proofs.Common.{◌≡◌, ℕ, zero, suc, ◌+◌, ◌*◌, ◌/◌, ◌%◌, ◌<◌, ◌≤◌, ◌⊎◌, inl, inr, ◌==◌}
+use Rattle.std.proofs.Common.{◌&&◌, ◌||◌, not, Bool, true, false, if◌then◌else◌, List, [], ◌∷◌}
+use Rattle.std.proofs.Common.{◌++◌, length, Option, Some, None, refl, sym, ◌∙◌, ap, subst, arith}
 use Rattle.std.specs.Prelude.{slice_get, slice_set, slice_index, is_some, nat_le}
 use Rattle.std.proofs.lemmas.Bool.{le-leb, ltb-true, true≢false, and_parts, eqb-true, cases_eq, or_cases, or_left, or_right, and_left, and_right, and_from, false_from_ne_true, ne_eqb}
 use Rattle.sx_lang.specs.declared.sides.Side.{Side}
@@ -33,7 +35,10 @@ use Rattle.sx_run.proofs.tie.Flows.{Flows, flows_same, flows_all, AllSending}
 use Rattle.sx_model.specs.Legal.{is_forged}
 use Rattle.sx_run.proofs.tie.Unique.{distinct, sending_open, eq_refl}
 use Rattle.sx_run.proofs.tie.Verdicts.{judge, Fares}
-use Rattle.sx_run.proofs.tie.Tied.{place_in, HasLength, SameEnds, SameState, WasSent, Settled, Settles, idle_with, Reacts, OwnSensor, Vouched, Begun, Refuses, Opens, Vouches, Takes, Samples, Owes, Yet, Now, KnownKey, Known, open_at, AtLeast, IsSane, DeviceTied}
+use Rattle.sx_run.proofs.tie.Tied.{place_in, HasLength, SameEnds, SameState, WasSent, Settled}
+use Rattle.sx_run.proofs.tie.Tied.{Settles, idle_with, Reacts, OwnSensor, Vouched, Begun, Refuses}
+use Rattle.sx_run.proofs.tie.Tied.{Opens, Vouches, Takes, Samples, Owes, Yet, Now, KnownKey, Known}
+use Rattle.sx_run.proofs.tie.Tied.{open_at, AtLeast, IsSane, DeviceTied}
 use Rattle.sx_run.proofs.tie.Entries.{made_behind}
 use Rattle.sx_run.proofs.tie.Moves.{readings_after, IsOwn, Moved, same_module, known_moved, sane_moved}
 

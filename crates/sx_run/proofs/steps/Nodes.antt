@@ -1,5 +1,7 @@
 -- One node goes on, and the run stays tied.
-use Rattle.std.proofs.Common.{◌≡◌, ◌≢◌, ℕ, zero, suc, ◌+◌, ◌<◌, ◌≤◌, ◌⊎◌, inl, inr, ◌==◌, Bool, true, false, if◌then◌else◌, List, [], ◌∷◌, length, replicate, Option, Some, None, refl, sym, ◌∙◌, ap, subst, arith}
+use Rattle.std.proofs.Common.{◌≡◌, ◌≢◌, ℕ, zero, suc, ◌+◌, ◌<◌, ◌≤◌, ◌⊎◌, inl, inr, ◌==◌, Bool}
+use Rattle.std.proofs.Common.{true, false, if◌then◌else◌, List, [], ◌∷◌, length, replicate, Option}
+use Rattle.std.proofs.Common.{Some, None, refl, sym, ◌∙◌, ap, subst, arith}
 use Rattle.std.specs.Prelude.{slice_get, slice_set, is_some}
 use Rattle.std.proofs.lemmas.Bool.{eqb-true, eqb-false, cases_eq, ne_eqb}
 use Rattle.sx_bus.specs.declared.devices.Window.{Window}
@@ -15,6 +17,7 @@ use Rattle.sx_mean.specs.Application.{PartTree}
 use Rattle.sx_mean.specs.Ends.{ends_of}
 use Rattle.sx_model.specs.State.{Reading, Present, Standing, Model}
 use Rattle.sx_model.specs.Step.{step, reset_at, absent_at, stale_at, is_vouched}
+use Rattle.sx_machine.proofs.Devices.{stale_shapes}
 use Rattle.sx_run.specs.Setting.{Site, Setting, device_number, devices_at, windows_at}
 use Rattle.sx_run.specs.Wire.{challenge_in}
 use Rattle.sx_run.specs.Ledger.{Made, is_made}
@@ -214,10 +217,6 @@ all_stale_get [] k x e = absurd cc
 all_stale_get (w ∷ ws) zero x e = (w, refl, sym (some_inj (stale w) x e))
 all_stale_get (w ∷ ws) (suc k) x e = all_stale_get ws k x e
 
-all_stale_shapes : (ws : List Window) → shapes (all_stale ws) ≡ shapes ws
-all_stale_shapes [] = refl
-all_stale_shapes (w ∷ ws) = ap (λ r. (w.at, w.kind) ∷ r) (all_stale_shapes ws)
-
 -- what a node is after a reset
 abbrev pub ResetIsNode : Type 0
 ResetIsNode = (s : State) → IsNode s → IsNode (reset s)
@@ -340,7 +339,7 @@ module _ (set : Setting) (w : World) (mo : Model) (n : ℕ) (s : State) (sound :
     epochs = refl;
     other_boots = λ k ne. get_other mo.boots n k (boot_here.0 + 1) ne;
     node = λ boot e. record {
-      windows = all_stale_shapes s.devices ∙ node_here.windows;
+      windows = stale_shapes s.devices ∙ node_here.windows;
       node = is_node s node_here.node;
       runner = inl refl;
       count = ap (λ k. k + 1) node_here.count ∙ some_inj (boot_here.0 + 1) boot (sym (get_same mo.boots n (boot_here.0 + 1) boot_here.0 boot_here.1) ∙ e);

@@ -1,5 +1,7 @@
 -- A step of other code whole: with what it does at devices, and the module that it may protect.
-use Rattle.std.proofs.Common.{◌≡◌, ◌≢◌, ℕ, zero, suc, ◌+◌, ◌-◌, ◌<◌, ◌⊎◌, inl, inr, ◌==◌, ◌&&◌, Bool, true, false, cond, if◌then◌else◌, List, [], ◌∷◌, ◌++◌, length, map, replicate, Option, Some, None, refl, sym, ◌∙◌, ap, subst, arith}
+use Rattle.std.proofs.Common.{◌≡◌, ◌≢◌, ℕ, zero, suc, ◌+◌, ◌-◌, ◌<◌, ◌⊎◌, inl, inr, ◌==◌, ◌&&◌}
+use Rattle.std.proofs.Common.{Bool, true, false, cond, if◌then◌else◌, List, [], ◌∷◌, ◌++◌, length}
+use Rattle.std.proofs.Common.{map, replicate, Option, Some, None, refl, sym, ◌∙◌, ap, subst, arith}
 use Rattle.std.specs.Prelude.{slice_get, slice_set, is_some}
 use Rattle.std.specs.List.{position_from}
 use Rattle.std.proofs.lemmas.Bool.{true≢false, and_parts, cases_eq, cases_Bool, eq-eqb}
@@ -30,6 +32,8 @@ use Rattle.sx_image.specs.Image.{private_bytes}
 use Rattle.sx_mean.specs.Application.{PartTree}
 use Rattle.sx_mean.specs.Ends.{ends_of}
 use Rattle.sx_model.specs.State.{Reading, Present, Standing, Model}
+use Rattle.sx_machine.proofs.Apart.{lives_without}
+use Rattle.sx_machine.proofs.Devices.{position_is}
 use Rattle.sx_run.specs.Setting.{Site, Setting, module_of, deployed, is_at_site}
 use Rattle.sx_run.specs.Wire.{challenge_in}
 use Rattle.sx_run.specs.Ledger.{Made}
@@ -44,8 +48,8 @@ use Rattle.sx_run.proofs.steps.Entry.{AtSite, at_site}
 use Rattle.sx_run.proofs.steps.Nodes.{tied_node}
 use Rattle.sx_run.proofs.steps.Machine.{MachineLaws, onward, Sectioned, Stay, Fewer, More, sections_after, FreshSections}
 use Rattle.sx_run.proofs.steps.Bystanders.{onlooker, apart_self, cur_of}
-use Rattle.sx_run.proofs.steps.Steps.{position_is, nonzero, bounds_of, ForeignSteps}
-use Rattle.sx_run.proofs.steps.Foreign.{strangers, without_lives, append_lives, touches_n, goes_n, unprotected, boot_n, node_n, touched}
+use Rattle.sx_run.proofs.steps.Steps.{nonzero, bounds_of, ForeignSteps}
+use Rattle.sx_run.proofs.steps.Foreign.{strangers, append_lives, touches_n, goes_n, unprotected, boot_n, node_n, touched}
 use Rattle.sx_lists.proofs.Lists.{get_same}
 use Rattle.sx_machine.proofs.Meanings.{end_lives}
 
@@ -347,7 +351,7 @@ module _ (set : Setting) (w : World) (mo : Model) (n : ℕ) (s : State) (sound :
       (quiet_items set n r.state w.ledger r.shown.event quiet (λ id g. unmade id (sym ev ∙ g)))
       ∙ ap (λ z. record { items = z; ledger = w.ledger }) (append_none (touch_items set.app n None r.shown.touch)) in
       subst (λ (o : Observed). Fares (judge set.app mo o.items) (Tied set (with_node w n r.state o.ledger (w.steps + 1)))) (sym shows)
-      (no_more (λ m site sec sk l. inl (without_lives s.sections.live (own_of s) sec (subst (λ (z : Sections). Lives z.live sec) same l))))
+      (no_more (λ m site sec sk l. inl (lives_without s.sections.live (own_of s) sec (subst (λ (z : Sections). Lives z.live sec) same l))))
   by_sections e ev (More l provider key places free same prot) =
       let next = s.sections.next in
       let new : Section = record { layout = l; provider = provider; id = next; key = key } in

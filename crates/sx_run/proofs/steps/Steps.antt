@@ -1,5 +1,7 @@
 -- One instruction of a node: of a deployed module's code, or a violation.
-use Rattle.std.proofs.Common.{◌≡◌, ◌≢◌, ℕ, zero, suc, ◌+◌, ◌-◌, ◌<◌, ◌≤◌, ◌⊎◌, inl, inr, ◌==◌, ◌&&◌, ◌||◌, Bool, true, false, if◌then◌else◌, List, [], ◌∷◌, ◌++◌, length, All, Option, Some, None, refl, sym, ◌∙◌, ap, subst, arith}
+use Rattle.std.proofs.Common.{◌≡◌, ◌≢◌, ℕ, zero, suc, ◌+◌, ◌-◌, ◌<◌, ◌≤◌, ◌⊎◌, inl, inr, ◌==◌, ◌&&◌}
+use Rattle.std.proofs.Common.{◌||◌, Bool, true, false, if◌then◌else◌, List, [], ◌∷◌, ◌++◌, length}
+use Rattle.std.proofs.Common.{All, Option, Some, None, refl, sym, ◌∙◌, ap, subst, arith}
 use Rattle.std.specs.Prelude.{slice_get, slice_set, slice_index, slice_index_or}
 use Rattle.std.proofs.lemmas.Bool.{true≢false, and_parts, eqb-true, eqb-false, cases_eq, cases_lt, cases_Bool}
 use Rattle.sx_rules.specs.declared.access.Violation.{Violation}
@@ -33,6 +35,7 @@ use Rattle.sx_image.specs.Image.{private_bytes, setup_at, call_at}
 use Rattle.sx_image.specs.Realizes.{Exited}
 use Rattle.sx_mean.specs.Ends.{ends_of}
 use Rattle.sx_model.specs.State.{Reading, Present, Standing, Model}
+use Rattle.sx_machine.proofs.Devices.{position_is}
 use Rattle.sx_run.specs.Setting.{Site, Setting, module_of, is_at_site, device_number, devices_at}
 use Rattle.sx_run.specs.Ledger.{Made, is_made}
 use Rattle.sx_run.specs.State.{World}
@@ -373,16 +376,6 @@ module _ (set : Setting) (w : World) (mo : Model) (m : ℕ) (q : PartTree) (site
       own_fares x.0 x.1 (t.modules m q site s x.0 part sited here x.1)
 
 -- Which module's code it is.
-
-pub position_is : {X : Type 0} → (test : X → Bool) (i : ℕ) (xs : List X) (j : ℕ)
-    → Rattle.std.specs.List.position_from test i xs ≡ Some j → (k : ℕ) × (x : X) × (j ≡ i + k) × (slice_get xs k ≡ Some x) × (test x ≡ true)
-position_is test i [] j e = absurd cc
-position_is test i (x ∷ xs) j e = elim (cases_Bool (test x)) [
-  | inl h ↦ (0, x, sym (some_inj i j (sym (ap (λ b. Rattle.std.proofs.Common.cond b (Some i) (Rattle.std.specs.List.position_from test (i + 1) xs)) h) ∙ e)) ∙ omega arith, refl, h)
-  | inr h ↦
-      let p = position_is test (i + 1) xs j (sym (ap (λ b. Rattle.std.proofs.Common.cond b (Some i) (Rattle.std.specs.List.position_from test (i + 1) xs)) h) ∙ e) in
-      (suc p.0, p.1, p.2 ∙ omega arith, p.3, p.4)
-]
 
 pub record Runner (set : Setting) (n m : ℕ) (s : State) : Type 0 where
   pub section : Section

@@ -1,5 +1,8 @@
 -- An invocation as the source sees it: it is refused, or it begins with a mark that the source may allow and does what is then owed.
-use Rattle.std.proofs.Common.{◌≡◌, ℕ, zero, suc, ◌+◌, ◌*◌, ◌%◌, ◌/◌, ◌<◌, ◌≤◌, ◌⊎◌, inl, inr, ◌==◌, ◌&&◌, ◌||◌, not, Bool, true, false, if◌then◌else◌, List, [], ◌∷◌, length, take, Option, Some, None, Result, Ok, Err, refl, sym, ◌∙◌, ap, subst, arith}
+use Rattle.std.proofs.Common.{◌≡◌, ℕ, zero, suc, ◌+◌, ◌*◌, ◌%◌, ◌/◌, ◌<◌, ◌≤◌, ◌⊎◌, inl, inr, ◌==◌}
+use Rattle.std.proofs.Common.{◌&&◌, ◌||◌, not, Bool, true, false, if◌then◌else◌, List, [], ◌∷◌}
+use Rattle.std.proofs.Common.{length, take, Option, Some, None, Result, Ok, Err, refl, sym, ◌∙◌, ap}
+use Rattle.std.proofs.Common.{subst, arith}
 use Rattle.std.specs.Prelude.{slice_index, nat_lt, nat_le}
 use Rattle.std.proofs.lemmas.Bool.{and_parts, and_from, or_parts, not-false, eqb-true, eqb-false, ltb-true, ltb-false}
 use Rattle.sx_lang.specs.declared.sides.Side.{Side}
@@ -17,7 +20,9 @@ use Rattle.sx_bus.specs.declared.devices.Window.{Window}
 use Rattle.sx_bus.specs.Devices.{device_at, cleared}
 use Rattle.sx_tag.specs.Wrap.{wrapped}
 use Rattle.sx_invoke.specs.Setup.{Setup, Call}
-use Rattle.sx_invoke.specs.Entries.{input, end_found, side_of, end_on, is_kind, received, is_keyed, key_opened, set_key_at, set_key, attest, event_opened, event_numbered, input_at, sample_read, sample_of, sample}
+use Rattle.sx_invoke.specs.Entries.{input, end_found, side_of, end_on, is_kind, received, is_keyed}
+use Rattle.sx_invoke.specs.Entries.{key_opened, set_key_at, set_key, attest, event_opened}
+use Rattle.sx_invoke.specs.Entries.{event_numbered, input_at, sample_read, sample_of, sample}
 use Rattle.sx_invoke.specs.ModuleState.{ModuleState, end_of, with_end, epoch_of, link_of}
 use Rattle.sx_invoke.specs.Marks.{Mark, Wrapped, Unwrapped, Sampled}
 use Rattle.sx_invoke.specs.Windows.{read_byte, read_bytes, unless_device, write_bytes, then_}

@@ -4,12 +4,13 @@ use Rattle.std.specs.Prelude.{slice_get, slice_index}
 use Rattle.std.proofs.lemmas.Bool.{true≢false}
 use Rattle.sx_bus.specs.declared.devices.Kind.{Kind}
 use Rattle.sx_bus.specs.declared.devices.Window.{Window}
-use Rattle.sx_bus.specs.Devices.{HaveSamples, powered_on}
+use Rattle.sx_bus.specs.Devices.{powered_on}
 use Rattle.sx_machine.specs.State.{State, power_on as node_on}
 use Rattle.sx_model.specs.State.{power_on, Reading, Standing, FIELDS}
 use Rattle.sx_mean.specs.Application.{AppTree}
 use Rattle.sx_model.specs.Renewal.{boot_of}
 use Rattle.sx_mean.specs.declared.apps.Link.{Link}
+use Rattle.sx_bus.proofs.Changed.{HaveSamples-powered_on}
 use Rattle.sx_run.specs.Setting.{Setting, windows_at, device_number}
 use Rattle.sx_run.specs.State.{nodes_from, switched_on}
 use Rattle.sx_machine.specs.Node.{IsNode}
@@ -37,11 +38,6 @@ pub nodes_long : (set : Setting) (i : ℕ) (keys : List (List ℕ)) → length (
 nodes_long set i [] = refl
 nodes_long set i (key ∷ keys) = ap suc (nodes_long set (i + 1) keys)
 
-first_samples : (xs : List (ℕ × Kind)) → HaveSamples (powered_on xs)
-first_samples [] k d lt = absurd (omega (arith, lt))
-first_samples (x ∷ xs) zero d lt = omega arith
-first_samples (x ∷ xs) (suc k) d lt = first_samples xs k d (omega (arith, lt))
-
 get_powered : (xs : List (ℕ × Kind)) (k : ℕ) (w : Window) → slice_get (powered_on xs) k ≡ Some w → (w.value ≡ 0) × (w.fresh ≡ false)
 get_powered [] k w e = absurd cc
 get_powered (x ∷ xs) zero w e = (sym (ap (λ (z : Window). z.value) (some_inj _ w e)), sym (ap (λ (z : Window). z.fresh) (some_inj _ w e)))
@@ -53,7 +49,7 @@ get_zero (suc n) zero v e = sym (some_inj 0 v e)
 get_zero (suc n) (suc k) v e = get_zero n k v e
 
 pub on_is_node : (set : Setting) (n : ℕ) (key : List ℕ) → IsSoundSetting set → IsNode (node_on key (devices_of set n))
-on_is_node set n key sound = Rattle.sx_machine.proofs.Stays.power_on_is_node key (devices_of set n) (sound.windows n) (first_samples (windows_at n set.app.devices set.places))
+on_is_node set n key sound = Rattle.sx_machine.proofs.Stays.power_on_is_node key (devices_of set n) (sound.windows n) (HaveSamples-powered_on (windows_at n set.app.devices set.places))
 
 abbrev new_standing : Standing
 new_standing = record { present = None; asked = None; vouched = []; attested = None }
