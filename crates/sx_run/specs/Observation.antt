@@ -33,6 +33,10 @@ pub record Observed : Type 0 where
   pub items : List Item
   pub ledger : List Made
 
+-- these items, with this ledger after them
+abbrev pub with_items : List Made → List Item → Observed
+with_items ledger items = record { items = items; ledger = ledger }
+
 -- the cause of a reset by a violation
 abbrev pub cause_of : Violation → Cause
 cause_of bad.Order = cause.Order
@@ -76,18 +80,11 @@ touch_items app n runner (touch.DeviceWrite k v ∷ ts) =
 abbrev pub has_wrapped : ℕ → ℕ → List ℕ → List ℕ → Bool → List Made → Observed
 has_wrapped m boot header body own ledger =
     if is_ask header && ((length body == 0) && own)
-    then record {
-      items = item.Vouch m (challenge_in header) ∷ [];
-      ledger =
-          ledger ++ made_entry (maker.Module m) NO_TARGET boot header body ∷ [];
-    }
+    then with_items (ledger ++ made_entry (maker.Module m) NO_TARGET boot header body ∷ [])
+    (item.Vouch m (challenge_in header) ∷ [])
     else if is_event_header header && (length body == 2)
-    then record {
-      items = [];
-      ledger = ledger ++ made_entry (maker.Module m) NO_TARGET 0 header body
-          ∷ [];
-    }
-    else record { items = []; ledger = ledger }
+    then with_items (ledger ++ made_entry (maker.Module m) NO_TARGET 0 header body ∷ []) []
+    else with_items ledger []
 
 -- the item, after one that says that its rightful maker hadn't made what it rests on
 abbrev pub unless_made : Option ℕ → Bool → Item → List Item
@@ -133,27 +130,19 @@ protect_item set n s id = item.Protect n (module_of set.sites n s id)
 -- the event of a step of the module's code that leaves the node in this state
 abbrev pub event_seen : Setting → ℕ → Option ℕ → State → List Made → Event → Observed
 event_seen set n runner s ledger (event.Reset v) =
-    record { items = item.Reset n (cause_of v) ∷ []; ledger = ledger }
+    with_items ledger (item.Reset n (cause_of v) ∷ [])
 event_seen set n runner s ledger (event.Protected id) =
-    record { items = protect_item set n s id ∷ []; ledger = ledger }
+    with_items ledger (protect_item set n s id ∷ [])
 event_seen set n (Some m) s ledger (event.Wrapped id) =
     has_wrapped m s.boot (header_of s.exchange) (body_of s.exchange) s.exchange.own_key ledger
-event_seen set n (Some m) s ledger (event.Unwrapped id) =
-    record {
-      items = has_unwrapped set.app m s.boot (header_of s.exchange) (body_of s.exchange)
-          ledger;
-      ledger = ledger;
-    }
+event_seen set n (Some m) s ledger (event.Unwrapped id) = with_items ledger
+    (has_unwrapped set.app m s.boot (header_of s.exchange) (body_of s.exchange) ledger)
 event_seen set n (Some m) s ledger (event.Left id) =
-    record {
-      items = item.Done m (slice_index s.regs 12) (slice_index s.regs 13) ∷ [];
-      ledger =
-          ledger;
-    }
-event_seen set n runner s ledger _ = record { items = []; ledger = ledger }
+    with_items ledger (item.Done m (slice_index s.regs 12) (slice_index s.regs 13) ∷ [])
+event_seen set n runner s ledger _ = with_items ledger []
 
 -- what is seen of code of this module, which leaves the node in this state
 abbrev pub observed : Setting → ℕ → Option ℕ → State → Seen → List Made → Observed
 observed set n runner s seen ledger =
     let last = event_seen set n runner s ledger seen.event in
-    record { items = touch_items set.app n runner seen.touch ++ last.items; ledger = last.ledger }
+    with_items last.ledger (touch_items set.app n runner seen.touch ++ last.items)
