@@ -4,7 +4,7 @@ ghost use Rattle.std.specs.Prelude.{◌≡◌, ℕ, ◌+◌, ◌<◌, ◌≤◌,
 ghost use Rattle.sx_machine.specs.State.{State};
 ghost use Rattle.sx_run.specs.Acts.{then_};
 ghost use Rattle.sx_world.specs.Held.{DoesAct};
-ghost use Rattle.sx_world.specs.InMemory.{setting_at};
+ghost use Rattle.sx_world.specs.InMemory.{setting_in};
 ghost use Rattle.sx_world.specs.Loading.{AreSettable};
 ghost use Rattle.sx_run.specs.Run.{call_registers};
 ghost use Rattle.sx_run.specs.Run as run;
@@ -13,10 +13,10 @@ ghost use Rattle.sx_run.specs.Setting.{Site as Placed};
 use crate::recording::add;
 use crate::registers::Register;
 use crate::running::Running;
+use crate::settings::Setting;
 use crate::sites::Site;
 use std::alloc::AllocError;
 use sx_bus::Copied;
-use sx_deploy::deployment::Deployment;
 use sx_tag::Tag;
 use sx_trace::items::Item;
 
@@ -38,8 +38,7 @@ impl<B: Copied, T: Tag> Running<B, T> {
     /// A module runs from its entry on, until none of its node runs or the budget is over.
     fn enter(
         &mut self,
-        deployment: &Deployment,
-        sites: &[Site],
+        setting: &Setting<'_>,
         site: &Site,
         registers: &[Register],
         items: &mut Vec<Item>,
@@ -49,45 +48,41 @@ impl<B: Copied, T: Tag> Running<B, T> {
             → s.boot < 4294967295 }
         requires steps { self.old.steps + run.FINISH_STEPS ≤ 18446744073709551615 }
         requires settable { AreSettable registers.now }
-        requires sites { length sites.now ≤ 256 }
-        requires devices { length deployment.now.app.devices.items ≤ 256 }
-        ensures { DoesAct (setting_at T.mac deployment.now sites.now) result
+        ensures { DoesAct (setting_in T.mac setting.now) result
             self.old self.new items.old.items items.new.items
             (λ w. then_ (run.set_all site.now.node registers.now w)
-            (run.finish (setting_at T.mac deployment.now sites.now) site.now.node)) }
+            (run.finish (setting_in T.mac setting.now) site.now.node)) }
     {
         self.set_all(site.node, registers, items)?;
-        self.finish(deployment, sites, site.node, items)
+        self.finish(setting, site.node, items)
     }
 
     /// A module is called at an entry with two windows, unless a module of its node runs.
     pub(crate) fn call(
         &mut self,
-        deployment: &Deployment,
-        sites: &[Site],
+        setting: &Setting<'_>,
         m: u8,
         entry: u16,
         input: u16,
         output: u16,
         items: &mut Vec<Item>,
     ) -> Result<(), AllocError>
-        requires known { m < length sites.now }
-        requires node { (site : Placed) → slice_get sites.now m ≡ Some site
+        requires known { m < length setting.now.sites.now }
+        requires node { (site : Placed) → slice_get setting.now.sites.now m ≡ Some site
             → site.node < length self.old.nodes }
         requires boot { (n : ℕ) (s : State) → slice_get self.old.nodes n ≡ Some s
             → s.boot < 4294967295 }
         requires steps { self.old.steps + run.FINISH_STEPS ≤ 18446744073709551615 }
-        requires sites { length sites.now ≤ 256 }
-        requires devices { length deployment.now.app.devices.items ≤ 256 }
-        ensures { DoesAct (setting_at T.mac deployment.now sites.now) result
+        ensures { DoesAct (setting_in T.mac setting.now) result
             self.old self.new items.old.items items.new.items
-            (λ w. run.call (setting_at T.mac deployment.now sites.now) w entry input output
-            (slice_get sites.now m)) }
+            (λ w. run.call (setting_in T.mac setting.now) w entry input output
+            (slice_get setting.now.sites.now m)) }
     {
+        let sites = setting.sites;
         let site = &sites[usize::from(m)];
         if self.is_idle(site.node) {
             let registers = call_registers(site, entry, input, output);
-            self.enter(deployment, sites, site, &registers, items)
+            self.enter(setting, site, &registers, items)
         } else {
             add(items, Item::Busy { node: site.node })
         }

@@ -5,10 +5,12 @@
 //! the ledger, and its calls are acts: each says what it leaves and which items it adds, of every
 //! world of a run that it shows (`specs/Held.antt`).
 //!
-//! A line goes from `World::act` to `lines`, which hands each kind to its file: `stepping` for
-//! instructions and interrupts, `nodes` for what is done from outside, `packets`, `sensors`,
-//! `loading`, `calls` and `deployer`. What a step shows is `observation`, with `recording` for
-//! what modules wrap and unwrap.
+//! A line goes from `World::act` to `lines`, which puts the deployment and its sites together
+//! (`settings`) and hands each kind of line to its file: `stepping` for instructions and
+//! interrupts, `nodes` for what is done from outside, `packets`, `sensors`, `loading`, `calls` and
+//! `deployer`. What a step shows is `observation`, with `recording` for what modules wrap and
+//! unwrap. A `call` goes through `lines`, `calls`, `registers`, `stepping`, `quiet` and
+//! `observation`, in this order.
 #![tactic(auto)]
 
 mod calls;
@@ -28,6 +30,7 @@ mod recording;
 mod registers;
 mod running;
 mod sensors;
+mod settings;
 pub mod sites;
 mod stepping;
 mod targets;

@@ -9,6 +9,7 @@ ghost use Rattle.sx_world.specs.Ready.{IsReady};
 ghost use Rattle.sx_run.specs.Run.{after_line};
 
 use crate::running::Running;
+use crate::settings::Setting;
 use crate::sites::Site;
 use std::alloc::AllocError;
 use sx_bus::Copied;
@@ -34,27 +35,20 @@ impl<B: Copied, T: Tag> Running<B, T> {
             (λ w. after_line (setting_at T.mac deployment.now sites.now) w
             (line_of line.now)) }
     {
+        let setting = Setting { deployment, sites };
         match line {
             Line::Blank => Ok(()),
             Line::Run { node, steps } => {
-                self.steps_of(
-                    deployment,
-                    sites,
-                    *node,
-                    u32::from(*steps),
-                    false,
-                    None,
-                    items,
-                )
+                self.steps_of(&setting, *node, u32::from(*steps), false, None, items)
             }
-            Line::Finish { node } => self.finish(deployment, sites, *node, items),
+            Line::Finish { node } => self.finish(&setting, *node, items),
             Line::Put { node, at, bytes } => self.put_on(*node, *at, bytes, items),
             Line::Set { node, reg, value } => self.set_on(*node, *reg, *value, items),
             Line::Take { node, at, len } => self.take(*node, *at, *len, items),
             Line::Give { packet, node, at } => self.give(*packet, *node, *at, items),
             Line::Forge { bytes } => self.new_packet(bytes, items),
             Line::Sense { device, value } => self.sense(deployment, *device, *value, items),
-            Line::Irq { node, line } => self.irq(deployment, sites, *node, *line, items),
+            Line::Irq { node, line } => self.irq(&setting, *node, *line, items),
             Line::Reset { node } => self.reset(*node, items),
             Line::Ask { module } => self.ask(*module, items),
             Line::Answer {
@@ -62,13 +56,13 @@ impl<B: Copied, T: Tag> Running<B, T> {
                 boot,
                 packet,
             } => self.answer(deployment, *module, *boot, *packet, items),
-            Line::Load { module } => self.load(deployment, sites, *module, items),
+            Line::Load { module } => self.load(&setting, *module, items),
             Line::Call {
                 module,
                 entry,
                 input,
                 output,
-            } => self.call(deployment, sites, *module, *entry, *input, *output, items),
+            } => self.call(&setting, *module, *entry, *input, *output, items),
         }
     }
 }

@@ -3,19 +3,19 @@
 ghost use Rattle.std.specs.Prelude.{◌≡◌, ℕ, ◌+◌, ◌/◌, ◌<◌, ◌≤◌, length, slice_get, Some};
 ghost use Rattle.sx_machine.specs.State.{State};
 ghost use Rattle.sx_world.specs.Held.{DoesAct, boots_of};
-ghost use Rattle.sx_world.specs.InMemory.{setting_at};
+ghost use Rattle.sx_world.specs.InMemory.{setting_in};
 ghost use Rattle.sx_world.specs.Loading.{after_loading};
 ghost use Rattle.sx_run.specs.Run.{protect_registers};
 ghost use Rattle.sx_run.specs.Run as run;
-ghost use Rattle.sx_run.specs.Setting.{Setting, Site as Placed};
+ghost use Rattle.sx_run.specs.Setting.{Setting as AnySetting, Site as Placed};
 
 use crate::recording::add;
 use crate::registers::Register;
 use crate::running::Running;
+use crate::settings::Setting;
 use crate::sites::Site;
 use std::alloc::AllocError;
 use sx_bus::Copied;
-use sx_deploy::deployment::Deployment;
 use sx_tag::Tag;
 use sx_trace::items::Item;
 
@@ -51,7 +51,7 @@ impl<B: Copied, T: Tag> Running<B, T> {
     ) -> Result<(), AllocError>
         requires node { n < length self.old.nodes }
         requires within { at + length bytes.now ≤ 65536 }
-        ensures does { (set : Setting) → DoesAct set result self.old self.new items.old.items
+        ensures does { (set : AnySetting) → DoesAct set result self.old self.new items.old.items
             items.new.items
             (run.put_pieces n ((length bytes.now + 1023) / 1024) at bytes.now) }
         ensures boots { boots_of self.new.nodes ≡ boots_of self.old.nodes }
@@ -69,8 +69,7 @@ impl<B: Copied, T: Tag> Running<B, T> {
     /// An image is put, and protected by an instruction at address 0.
     fn put_and_protect(
         &mut self,
-        deployment: &Deployment,
-        sites: &[Site],
+        setting: &Setting<'_>,
         site: &Site,
         items: &mut Vec<Item>,
     ) -> Result<(), AllocError>
@@ -79,45 +78,41 @@ impl<B: Copied, T: Tag> Running<B, T> {
             → s.boot < 4294967295 }
         requires steps { self.old.steps < 18446744073709551615 }
         requires text { site.now.layout.pub_from + length site.now.text ≤ 65536 }
-        requires sites { length sites.now ≤ 256 }
-        requires devices { length deployment.now.app.devices.items ≤ 256 }
-        ensures { DoesAct (setting_at T.mac deployment.now sites.now) result
+        ensures { DoesAct (setting_in T.mac setting.now) result
             self.old self.new items.old.items items.new.items
-            (after_loading (setting_at T.mac deployment.now sites.now) site.now) }
+            (after_loading (setting_in T.mac setting.now) site.now) }
     {
         let n = site.node;
         self.put_pieces(n, site.layout.pub_from, &site.text, items)?;
         self.put_on(n, 0, &PROTECT, items)?;
         self.set_all(n, &protect_registers(site), items)?;
-        self.steps_of(deployment, sites, n, 1, false, None, items)
+        self.steps_of(setting, n, 1, false, None, items)
     }
 
     /// A module's image is put and protected, unless a module of its node runs.
     pub(crate) fn load(
         &mut self,
-        deployment: &Deployment,
-        sites: &[Site],
+        setting: &Setting<'_>,
         m: u8,
         items: &mut Vec<Item>,
     ) -> Result<(), AllocError>
-        requires known { m < length sites.now }
-        requires node { (site : Placed) → slice_get sites.now m ≡ Some site
+        requires known { m < length setting.now.sites.now }
+        requires node { (site : Placed) → slice_get setting.now.sites.now m ≡ Some site
             → site.node < length self.old.nodes }
         requires boot { (n : ℕ) (s : State) → slice_get self.old.nodes n ≡ Some s
             → s.boot < 4294967295 }
         requires steps { self.old.steps < 18446744073709551615 }
-        requires text { (site : Placed) → slice_get sites.now m ≡ Some site
+        requires text { (site : Placed) → slice_get setting.now.sites.now m ≡ Some site
             → site.layout.pub_from + length site.text ≤ 65536 }
-        requires sites { length sites.now ≤ 256 }
-        requires devices { length deployment.now.app.devices.items ≤ 256 }
-        ensures { DoesAct (setting_at T.mac deployment.now sites.now) result
+        ensures { DoesAct (setting_in T.mac setting.now) result
             self.old self.new items.old.items items.new.items
-            (λ w. run.load (setting_at T.mac deployment.now sites.now) w
-            (slice_get sites.now m)) }
+            (λ w. run.load (setting_in T.mac setting.now) w
+            (slice_get setting.now.sites.now m)) }
     {
+        let sites = setting.sites;
         let site = &sites[usize::from(m)];
         if self.is_idle(site.node) {
-            self.put_and_protect(deployment, sites, site, items)
+            self.put_and_protect(setting, site, items)
         } else {
             add(items, Item::Busy { node: site.node })
         }

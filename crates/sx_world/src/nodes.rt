@@ -10,7 +10,7 @@ ghost use Rattle.sx_machine.specs.Acts as acts;
 ghost use Rattle.sx_trace.specs.declared.items.Item.TheVariants.{Reset, Sense};
 ghost use Rattle.sx_trace.specs.declared.items.Cause.TheVariants.{Asked};
 ghost use Rattle.sx_run.specs.Acts.{at_node, done_on, or_refused, refused_item, with_node};
-ghost use Rattle.sx_world.specs.Held.{Did, Wanted, boots_of};
+ghost use Rattle.sx_world.specs.Held.{DoesAct, boots_of};
 ghost use Rattle.sx_run.specs.Run as run;
 ghost use Rattle.sx_run.specs.Setting.{Setting};
 
@@ -123,12 +123,9 @@ impl<B: Copied, T: Tag> Running<B, T> {
         items: &mut Vec<Item>,
     ) -> Result<(), AllocError>
         requires { n < length self.old.nodes }
-        ensures done { OnOk result ((set : Setting)
-            → Did set self.old self.new items.old.items items.new.items
-            (run.put_on n at bytes.now)) }
-        ensures front { OnErr result ((set : Setting)
-            → Wanted set self.old items.old.items items.new.items
-            (run.put_on n at bytes.now)) }
+        ensures does { (set : Setting) → DoesAct set result self.old self.new items.old.items
+            items.new.items
+            (run.put_on n at bytes.now) }
         ensures boots { boots_of self.new.nodes ≡ boots_of self.old.nodes }
         ensures steps { self.new.steps ≡ self.old.steps }
     {
@@ -147,12 +144,9 @@ impl<B: Copied, T: Tag> Running<B, T> {
         requires node { n < length self.old.nodes }
         requires below { reg < 16 }
         requires settable { reg ≢ 3 }
-        ensures done { OnOk result ((set : Setting)
-            → Did set self.old self.new items.old.items items.new.items
-            (run.set_on n reg value)) }
-        ensures front { OnErr result ((set : Setting)
-            → Wanted set self.old items.old.items items.new.items
-            (run.set_on n reg value)) }
+        ensures does { (set : Setting) → DoesAct set result self.old self.new items.old.items
+            items.new.items
+            (run.set_on n reg value) }
         ensures boots { boots_of self.new.nodes ≡ boots_of self.old.nodes }
         ensures steps { self.new.steps ≡ self.old.steps }
     {
@@ -164,18 +158,12 @@ impl<B: Copied, T: Tag> Running<B, T> {
     pub(crate) fn reset(&mut self, n: u8, items: &mut Vec<Item>) -> Result<(), AllocError>
         requires node { n < length self.old.nodes }
         requires boot { (s : State) → slice_get self.old.nodes n ≡ Some s → s.boot < 4294967295 }
-        ensures done { OnOk result ((set : Setting)
-            → Did set self.old self.new items.old.items items.new.items
+        ensures { (set : Setting) → DoesAct set result self.old self.new items.old.items
+            items.new.items
             (λ w. at_node w (λ s. record {
               world = with_node w n (state.reset s) w.ledger w.steps;
               items = Reset n Asked ∷ [];
-            }) (slice_get w.nodes n))) }
-        ensures front { OnErr result ((set : Setting)
-            → Wanted set self.old items.old.items items.new.items
-            (λ w. at_node w (λ s. record {
-              world = with_node w n (state.reset s) w.ledger w.steps;
-              items = Reset n Asked ∷ [];
-            }) (slice_get w.nodes n))) }
+            }) (slice_get w.nodes n)) }
     {
         reset_node(&mut self.nodes, n);
         add(
@@ -202,14 +190,10 @@ impl<B: Copied, T: Tag> Running<B, T> {
         requires sensor { (s : State) → slice_get self.old.nodes n ≡ Some s
             → IfSome (slice_get s.devices k) (λ window. window.kind ≡ Sensor) }
         requires value { value < 32768 }
-        ensures done { OnOk result ((set : Setting)
-            → Did set self.old self.new items.old.items items.new.items
+        ensures { (set : Setting) → DoesAct set result self.old self.new items.old.items
+            items.new.items
             (λ w. at_node w (λ s. done_on w n (Sense d value ∷ []) (acts.sense s k value))
-            (slice_get w.nodes n))) }
-        ensures front { OnErr result ((set : Setting)
-            → Wanted set self.old items.old.items items.new.items
-            (λ w. at_node w (λ s. done_on w n (Sense d value ∷ []) (acts.sense s k value))
-            (slice_get w.nodes n))) }
+            (slice_get w.nodes n)) }
     {
         let answer = sense_node(&mut self.nodes, n, k, value);
         add_answer(n, Some(Item::Sense { device: d, value }), answer, items)

@@ -7,17 +7,17 @@ ghost use Rattle.sx_trace.specs.declared.items.Item.TheVariants.{Done};
 ghost use Rattle.sx_mean.specs.View.{app_as};
 ghost use Rattle.sx_ledger.specs.Made.{Made};
 ghost use Rattle.sx_world.specs.Held.{AddsFront, Observes, ObservesFront};
-ghost use Rattle.sx_world.specs.InMemory.{setting_at};
+ghost use Rattle.sx_world.specs.InMemory.{setting_in};
 ghost use Rattle.sx_run.specs.Observation.{cause_of, event_seen, observed, protect_item};
 ghost use Rattle.sx_run.specs.Observation.{read_item, touch_items, write_item};
 ghost use Rattle.sx_world.specs.Computed.{author, is_own, is_touch, runner_of, tells};
 
 use crate::devices::{device_number, is_driver};
 use crate::recording::{add, add_unwrapped, add_wrapped};
+use crate::settings::Setting;
 use crate::sites::{Site, module_of};
 use std::alloc::AllocError;
 use sx_bus::Copied;
-use sx_deploy::deployment::Deployment;
 use sx_ledger::Ledger;
 use sx_mean::apps::App;
 use sx_node::{Event, Node, Seen, Touch};
@@ -169,19 +169,12 @@ fn add_touches(
     Ok(())
 }
 
-fn protect_item<B: Copied, T: Tag>(
-    deployment: &Deployment,
-    sites: &[Site],
-    n: u8,
-    node: &Node<B, T>,
-    id: u16,
-) -> Item
-    requires { length sites.now ≤ 256 }
-    ensures { result ≡ protect_item (setting_at T.mac deployment.now sites.now) n node.now id }
+fn protect_item<B: Copied, T: Tag>(setting: &Setting<'_>, n: u8, node: &Node<B, T>, id: u16) -> Item
+    ensures { result ≡ protect_item (setting_in T.mac setting.now) n node.now id }
 {
     Item::Protect {
         node: n,
-        module: module_of(sites, n, node, id),
+        module: module_of(setting.sites, n, node, id),
     }
 }
 
@@ -197,8 +190,7 @@ fn done_item<B: Copied, T: Tag>(m: u8, node: &Node<B, T>) -> Item
 
 /// What the event of a deployed module's step shows, and the ledger after it.
 fn add_own_event<B: Copied, T: Tag>(
-    deployment: &Deployment,
-    sites: &[Site],
+    setting: &Setting<'_>,
     n: u8,
     m: u8,
     node: &Node<B, T>,
@@ -208,16 +200,16 @@ fn add_own_event<B: Copied, T: Tag>(
 ) -> Result<(), AllocError>
     requires { is_own event ≡ true }
     ensures done { OnOk result (Observes ledger.old ledger.new items.old.items items.new.items
-        (λ list. event_seen (setting_at T.mac deployment.now sites.now) n (Some m) node.now
+        (λ list. event_seen (setting_in T.mac setting.now) n (Some m) node.now
         list event)) }
     ensures front { OnErr result (ObservesFront ledger.old items.old.items items.new.items
-        (λ list. event_seen (setting_at T.mac deployment.now sites.now) n (Some m) node.now
+        (λ list. event_seen (setting_in T.mac setting.now) n (Some m) node.now
         list event)) }
 {
     match event {
         Event::Wrapped(_) => add_wrapped(m, node.boot(), node.exchange(), items, ledger),
         Event::Unwrapped(_) => add_unwrapped(
-            &deployment.app,
+            &setting.deployment.app,
             m,
             node.boot(),
             node.exchange(),
@@ -231,8 +223,7 @@ fn add_own_event<B: Copied, T: Tag>(
 
 /// What the event of a step shows, whose code left the node so, and the ledger after it.
 fn add_event<B: Copied, T: Tag>(
-    deployment: &Deployment,
-    sites: &[Site],
+    setting: &Setting<'_>,
     n: u8,
     runner: Option<u8>,
     node: &Node<B, T>,
@@ -240,12 +231,11 @@ fn add_event<B: Copied, T: Tag>(
     items: &mut Vec<Item>,
     ledger: &mut Ledger,
 ) -> Result<(), AllocError>
-    requires { length sites.now ≤ 256 }
     ensures done { OnOk result (Observes ledger.old ledger.new items.old.items items.new.items
-        (λ list. event_seen (setting_at T.mac deployment.now sites.now) n runner node.now list
+        (λ list. event_seen (setting_in T.mac setting.now) n runner node.now list
         event)) }
     ensures front { OnErr result (ObservesFront ledger.old items.old.items items.new.items
-        (λ list. event_seen (setting_at T.mac deployment.now sites.now) n runner node.now list
+        (λ list. event_seen (setting_in T.mac setting.now) n runner node.now list
         event)) }
 {
     match event {
@@ -257,9 +247,9 @@ fn add_event<B: Copied, T: Tag>(
                 cause: cause_of(violation),
             },
         ),
-        Event::Protected(id) => add(items, protect_item(deployment, sites, n, node, id)),
+        Event::Protected(id) => add(items, protect_item(setting, n, node, id)),
         Event::Wrapped(_) | Event::Unwrapped(_) | Event::Left(_) => match runner {
-            Some(m) => add_own_event(deployment, sites, n, m, node, event, items, ledger),
+            Some(m) => add_own_event(setting, n, m, node, event, items, ledger),
             None => Ok(()),
         },
     }
@@ -267,8 +257,7 @@ fn add_event<B: Copied, T: Tag>(
 
 /// What is seen of code of this module, which left the node so: its items, and the ledger after it.
 pub(crate) fn add_seen<B: Copied, T: Tag>(
-    deployment: &Deployment,
-    sites: &[Site],
+    setting: &Setting<'_>,
     n: u8,
     runner: Option<u8>,
     node: &Node<B, T>,
@@ -276,15 +265,11 @@ pub(crate) fn add_seen<B: Copied, T: Tag>(
     items: &mut Vec<Item>,
     ledger: &mut Ledger,
 ) -> Result<(), AllocError>
-    requires sites { length sites.now ≤ 256 }
-    requires devices { length deployment.now.app.devices.items ≤ 256 }
     ensures done { OnOk result (Observes ledger.old ledger.new items.old.items items.new.items
-        (observed (setting_at T.mac deployment.now sites.now) n runner node.now seen.now)) }
+        (observed (setting_in T.mac setting.now) n runner node.now seen.now)) }
     ensures front { OnErr result (ObservesFront ledger.old items.old.items items.new.items
-        (observed (setting_at T.mac deployment.now sites.now) n runner node.now seen.now)) }
+        (observed (setting_in T.mac setting.now) n runner node.now seen.now)) }
 {
-    add_touches(&deployment.app, n, runner, &seen.touch, items)?;
-    add_event(
-        deployment, sites, n, runner, node, seen.event, items, ledger,
-    )
+    add_touches(&setting.deployment.app, n, runner, &seen.touch, items)?;
+    add_event(setting, n, runner, node, seen.event, items, ledger)
 }

@@ -1,11 +1,10 @@
 //! Packets, and what is given to nodes and taken from them.
 
 ghost use Rattle.std.specs.Prelude.{◌≡◌, ◌<◌, ◌≤◌, length, slice_get, Some, Ok, Err, IfOk, IfErr};
-ghost use Rattle.std.specs.Prelude.{OnOk, OnErr};
 ghost use Rattle.sx_machine.specs.State.{State};
 ghost use Rattle.sx_machine.specs.Acts as acts;
 ghost use Rattle.sx_run.specs.Acts.{at_node, after_take, with_packet};
-ghost use Rattle.sx_world.specs.Held.{Did, Wanted};
+ghost use Rattle.sx_world.specs.Held.{DoesAct};
 ghost use Rattle.sx_run.specs.Run.{give};
 ghost use Rattle.sx_run.specs.Setting.{Setting};
 
@@ -50,12 +49,9 @@ impl<B: Copied, T: Tag> Running<B, T> {
     ) -> Result<(), AllocError>
         requires few { length self.old.packets < 4294967295 }
         requires short { length bytes.now < 65536 }
-        ensures done { OnOk result ((set : Setting)
-            → Did set self.old self.new items.old.items items.new.items
-            (λ w. with_packet w bytes.now)) }
-        ensures front { OnErr result ((set : Setting)
-            → Wanted set self.old items.old.items items.new.items
-            (λ w. with_packet w bytes.now)) }
+        ensures { (set : Setting) → DoesAct set result self.old self.new items.old.items
+            items.new.items
+            (λ w. with_packet w bytes.now) }
     {
         let number = self.packets.len() as u32;
         let packet = bytes.to_vec(self.alloc)?;
@@ -80,14 +76,10 @@ impl<B: Copied, T: Tag> Running<B, T> {
         requires node { n < length self.old.nodes }
         requires few { length self.old.packets < 4294967295 }
         requires short { len ≤ 384 }
-        ensures done { OnOk result ((set : Setting)
-            → Did set self.old self.new items.old.items items.new.items
+        ensures { (set : Setting) → DoesAct set result self.old self.new items.old.items
+            items.new.items
             (λ w. at_node w (λ s. after_take w n (acts.take s at len).shown)
-            (slice_get w.nodes n))) }
-        ensures front { OnErr result ((set : Setting)
-            → Wanted set self.old items.old.items items.new.items
-            (λ w. at_node w (λ s. after_take w n (acts.take s at len).shown)
-            (slice_get w.nodes n))) }
+            (slice_get w.nodes n)) }
     {
         match taken(self.alloc, &self.nodes, n, at, len)? {
             Ok(bytes) => self.new_packet(&bytes, items),
@@ -104,12 +96,9 @@ impl<B: Copied, T: Tag> Running<B, T> {
         items: &mut Vec<Item>,
     ) -> Result<(), AllocError>
         requires { n < length self.old.nodes }
-        ensures done { OnOk result ((set : Setting)
-            → Did set self.old self.new items.old.items items.new.items
-            (λ w. give w n at (slice_get w.packets k))) }
-        ensures front { OnErr result ((set : Setting)
-            → Wanted set self.old items.old.items items.new.items
-            (λ w. give w n at (slice_get w.packets k))) }
+        ensures { (set : Setting) → DoesAct set result self.old self.new items.old.items
+            items.new.items
+            (λ w. give w n at (slice_get w.packets k)) }
     {
         match self.packets.get(k as usize) {
             Some(bytes) => {

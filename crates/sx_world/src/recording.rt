@@ -116,7 +116,7 @@ pub(crate) fn add_wrapped(
     Ok(())
 }
 
-/// Adds the item, after one that says that no holder of the key had made it.
+/// Adds the item, after one that says that its rightful maker hadn't made what it rests on.
 pub(crate) fn add_unless_made(
     items: &mut Vec<Item>,
     who: Option<u8>,

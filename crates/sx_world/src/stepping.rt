@@ -7,8 +7,8 @@ ghost use Rattle.sx_machine.specs.State.{State};
 ghost use Rattle.sx_machine.specs.Step.{step};
 ghost use Rattle.sx_machine.specs.Acts.{irq};
 ghost use Rattle.sx_run.specs.Acts.{at_node, after_interrupt};
-ghost use Rattle.sx_world.specs.Held.{Did, DoesAct, Observes, ObservesFront, Wanted};
-ghost use Rattle.sx_world.specs.InMemory.{setting_at};
+ghost use Rattle.sx_world.specs.Held.{DoesAct, Observes, ObservesFront};
+ghost use Rattle.sx_world.specs.InMemory.{setting_in};
 ghost use Rattle.sx_world.specs.Computed.{runner_of};
 ghost use Rattle.sx_run.specs.Observation.{observed};
 ghost use Rattle.sx_world.specs.Passing.{after_steps, stepped, taken, AreQuiet, EndsWith};
@@ -20,10 +20,9 @@ use crate::observation::{add_seen, runner_of};
 use crate::quiet::{QuietSteps, quiet_steps};
 use crate::recording::add;
 use crate::running::Running;
-use crate::sites::Site;
+use crate::settings::Setting;
 use std::alloc::AllocError;
 use sx_bus::{Bus, Copied};
-use sx_deploy::deployment::Deployment;
 use sx_node::{Event, Node, Refused, Seen};
 use sx_tag::Tag;
 use sx_trace::items::Item;
@@ -70,8 +69,7 @@ impl<B: Copied, T: Tag> Running<B, T> {
     /// An interrupt of a node, which runs as code outside every module.
     pub(crate) fn irq(
         &mut self,
-        deployment: &Deployment,
-        sites: &[Site],
+        setting: &Setting<'_>,
         n: u8,
         line: u8,
         items: &mut Vec<Item>,
@@ -79,30 +77,15 @@ impl<B: Copied, T: Tag> Running<B, T> {
         requires node { n < length self.old.nodes }
         requires line { line ≤ 14 }
         requires boot { (s : State) → slice_get self.old.nodes n ≡ Some s → s.boot < 4294967295 }
-        requires sites { length sites.now ≤ 256 }
-        requires devices { length deployment.now.app.devices.items ≤ 256 }
-        ensures done { OnOk result (Did (setting_at T.mac deployment.now sites.now) self.old
-            self.new items.old.items items.new.items
-            (λ w. at_node w (λ s. after_interrupt (setting_at T.mac deployment.now sites.now) w
-            n (irq s line).state (irq s line).shown) (slice_get w.nodes n))) }
-        ensures front { OnErr result (Wanted (setting_at T.mac deployment.now sites.now)
-            self.old items.old.items items.new.items
-            (λ w. at_node w (λ s. after_interrupt (setting_at T.mac deployment.now sites.now) w
-            n (irq s line).state (irq s line).shown) (slice_get w.nodes n))) }
+        ensures { DoesAct (setting_in T.mac setting.now) result self.old self.new
+            items.old.items items.new.items
+            (λ w. at_node w (λ s. after_interrupt (setting_in T.mac setting.now) w
+            n (irq s line).state (irq s line).shown) (slice_get w.nodes n)) }
     {
         match irq_node(&mut self.nodes, n, line) {
             Ok(seen) => {
                 let node = &self.nodes[usize::from(n)];
-                add_seen(
-                    deployment,
-                    sites,
-                    n,
-                    None,
-                    node,
-                    &seen,
-                    items,
-                    &mut self.ledger,
-                )
+                add_seen(setting, n, None, node, &seen, items, &mut self.ledger)
             }
             Err(why) => add(items, refused_item(n, why)),
         }
@@ -129,37 +112,25 @@ impl<B: Copied, T: Tag> Running<B, T> {
     /// What is seen of an instruction that left the node so: its items, and the ledger after it.
     fn show(
         &mut self,
-        deployment: &Deployment,
-        sites: &[Site],
+        setting: &Setting<'_>,
         n: u8,
         seen: &Seen,
         items: &mut Vec<Item>,
     ) -> Result<(), AllocError>
         requires node { n < length self.old.nodes }
-        requires sites { length sites.now ≤ 256 }
-        requires devices { length deployment.now.app.devices.items ≤ 256 }
         ensures done { OnOk result ((s : State) → slice_get self.old.nodes n ≡ Some s
             → Observes self.old.ledger self.new.ledger items.old.items items.new.items
-            (observed (setting_at T.mac deployment.now sites.now) n
-            (runner_of sites.now n s seen.now) s seen.now)) }
+            (observed (setting_in T.mac setting.now) n
+            (runner_of setting.now.sites.now n s seen.now) s seen.now)) }
         ensures front { OnErr result ((s : State) → slice_get self.old.nodes n ≡ Some s
             → ObservesFront self.old.ledger items.old.items items.new.items
-            (observed (setting_at T.mac deployment.now sites.now) n
-            (runner_of sites.now n s seen.now) s seen.now)) }
+            (observed (setting_in T.mac setting.now) n
+            (runner_of setting.now.sites.now n s seen.now) s seen.now)) }
         ensures kept { self.new ≡ record self.old { ledger = self.new.ledger } }
     {
         let node = &self.nodes[usize::from(n)];
-        let runner = runner_of(sites, n, node, seen);
-        add_seen(
-            deployment,
-            sites,
-            n,
-            runner,
-            node,
-            seen,
-            items,
-            &mut self.ledger,
-        )
+        let runner = runner_of(setting.sites, n, node, seen);
+        add_seen(setting, n, runner, node, seen, items, &mut self.ledger)
     }
 
     /// Whether no further step follows one that showed this event.
@@ -183,8 +154,7 @@ impl<B: Copied, T: Tag> Running<B, T> {
     /// leaves no module running; and this item where all were taken.
     pub(crate) fn steps_of(
         &mut self,
-        deployment: &Deployment,
-        sites: &[Site],
+        setting: &Setting<'_>,
         n: u8,
         count: u32,
         idle: bool,
@@ -194,22 +164,16 @@ impl<B: Copied, T: Tag> Running<B, T> {
         requires node { n < length self.old.nodes }
         requires boot { (s : State) → slice_get self.old.nodes n ≡ Some s → s.boot < 4294967295 }
         requires steps { self.old.steps + count ≤ 18446744073709551615 }
-        requires sites { length sites.now ≤ 256 }
-        requires devices { length deployment.now.app.devices.items ≤ 256 }
-        ensures done { OnOk result (Did (setting_at T.mac deployment.now sites.now) self.old
-            self.new items.old.items items.new.items
-            (steps_of (setting_at T.mac deployment.now sites.now)
-            (λ s. idle && (s.cur == 0)) (option_to_list end) n count)) }
-        ensures front { OnErr result (Wanted (setting_at T.mac deployment.now sites.now)
-            self.old items.old.items items.new.items
-            (steps_of (setting_at T.mac deployment.now sites.now)
-            (λ s. idle && (s.cur == 0)) (option_to_list end) n count)) }
+        ensures { DoesAct (setting_in T.mac setting.now) result self.old self.new
+            items.old.items items.new.items
+            (steps_of (setting_in T.mac setting.now)
+            (λ s. idle && (s.cur == 0)) (option_to_list end) n count) }
     {
         let mut left = count;
         'stretches: loop {
             let quiet = self.pass(n, left, idle);
             let Some(seen) = quiet.last else { break };
-            self.show(deployment, sites, n, &seen, items)?;
+            self.show(setting, n, &seen, items)?;
             if self.ends(n, idle, seen.event) {
                 return Ok(());
             }
@@ -224,29 +188,18 @@ impl<B: Copied, T: Tag> Running<B, T> {
     /// A step of a node, and further ones while a module runs, at most a million.
     pub(crate) fn finish(
         &mut self,
-        deployment: &Deployment,
-        sites: &[Site],
+        setting: &Setting<'_>,
         n: u8,
         items: &mut Vec<Item>,
     ) -> Result<(), AllocError>
         requires node { n < length self.old.nodes }
         requires boot { (s : State) → slice_get self.old.nodes n ≡ Some s → s.boot < 4294967295 }
         requires steps { self.old.steps + FINISH_STEPS ≤ 18446744073709551615 }
-        requires sites { length sites.now ≤ 256 }
-        requires devices { length deployment.now.app.devices.items ≤ 256 }
-        ensures { DoesAct (setting_at T.mac deployment.now sites.now) result self.old self.new
+        ensures { DoesAct (setting_in T.mac setting.now) result self.old self.new
             items.old.items items.new.items
-            (run.finish (setting_at T.mac deployment.now sites.now) n) }
+            (run.finish (setting_in T.mac setting.now) n) }
     {
         let budget = Item::Budget { node: n };
-        self.steps_of(
-            deployment,
-            sites,
-            n,
-            finish_steps(),
-            true,
-            Some(budget),
-            items,
-        )
+        self.steps_of(setting, n, finish_steps(), true, Some(budget), items)
     }
 }

@@ -11,7 +11,9 @@ use Rattle.sx_machine.specs.State.{State}
 use Rattle.sx_machine.specs.Acts.{take}
 use Rattle.sx_run.specs.Acts.{at_node, refused_item, after_take, with_packet}
 use Rattle.sx_run.specs.Run.{give, put_on}
-use Rattle.sx_world.specs.Held.{AddsFront, Running, Shows, Did, Wanted}
+use Rattle.sx_run.specs.State.{World, Acted}
+use Rattle.sx_world.specs.Held.{AddsFront, Running, Shows, Did, Wanted, DoesAct}
+use Rattle.sx_world.proofs.doing.Composed.{does_same}
 
 -- the bytes of a packet in memory
 abbrev pub bytes_in : Vec ℕ Global → List ℕ
@@ -78,24 +80,15 @@ map_long [] = refl
 map_long (x ∷ xs) = ap suc (map_long xs)
 
 -- bytes that were taken are a new packet
-pub took_wanted : {T E : Type 0} (r : Result T E) (old : Running) (before after : List Item) (n at len : ℕ) (bytes : List ℕ) (s : State)
+pub took_does : {T E : Type 0} (set : Setting) (r : Result T E) (old new : Running) (before after : List Item) (n at len : ℕ) (bytes : List ℕ) (s : State)
     → slice_get old.nodes n ≡ Some s → (take s at len).shown ≡ Ok bytes
-    → OnErr r ((set : Setting) → Wanted set old before after (λ w. with_packet w bytes))
-    → OnErr r ((set : Setting) → Wanted set old before after (λ w. at_node w (λ s. after_take w n (take s at len).shown) (slice_get w.nodes n)))
-took_wanted (Ok x) old before after n at len bytes s here shown f = tt
-took_wanted (Err x) old before after n at len bytes s here shown f = λ set w h.
-    subst (λ o. AddsFront before after (at_node w (λ s. after_take w n (take s at len).shown) o).items) (sym (ap (λ ns. slice_get ns n) (sym h.nodes) ∙ here))
-    (subst (λ o. AddsFront before after (after_take w n o).items) (sym shown) (f set w h))
-
-pub took_did : {T E : Type 0} (r : Result T E) (old new : Running) (before after : List Item) (n at len : ℕ) (bytes : List ℕ) (s : State)
-    → slice_get old.nodes n ≡ Some s → (take s at len).shown ≡ Ok bytes
-    → OnOk r ((set : Setting) → Did set old new before after (λ w. with_packet w bytes))
-    → OnOk r ((set : Setting) → Did set old new before after (λ w. at_node w (λ s. after_take w n (take s at len).shown) (slice_get w.nodes n)))
-took_did (Ok x) old new before after n at len bytes s here shown f = λ set w h.
-    subst (λ o. Shows set new (at_node w (λ s. after_take w n (take s at len).shown) o).world × (after ≡ before ++ (at_node w (λ s. after_take w n (take s at len).shown) o).items))
-    (sym (ap (λ ns. slice_get ns n) (sym h.nodes) ∙ here))
-    (subst (λ o. Shows set new (after_take w n o).world × (after ≡ before ++ (after_take w n o).items)) (sym shown) (f set w h))
-took_did (Err x) old new before after n at len bytes s here shown f = tt
+    → DoesAct set r old new before after (λ w. with_packet w bytes)
+    → DoesAct set r old new before after (λ w. at_node w (λ s. after_take w n (take s at len).shown) (slice_get w.nodes n))
+took_does set r old new before after n at len bytes s here shown does =
+    let taken : World → State → Acted = λ w s. after_take w n (take s at len).shown in
+    does_same set r old new before after (λ w. with_packet w bytes) (λ w. at_node w (taken w) (slice_get w.nodes n))
+    (λ w h. ap (λ o. after_take w n o) (sym shown) ∙ ap (λ o. at_node w (taken w) o) (sym (ap (λ ns. slice_get ns n) (sym h.nodes) ∙ here)))
+    does
 
 pub took_refused : {T E : Type 0} (r : Result T E) (old : Running) (before after : List Item) (n at len : ℕ) (why : Refused) (s : State)
     → slice_get old.nodes n ≡ Some s → (take s at len).shown ≡ Err why

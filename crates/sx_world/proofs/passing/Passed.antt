@@ -1,5 +1,7 @@
 -- Steps that show nothing, and the run step by step.
-use Rattle.std.proofs.Common.{◌≡◌, ℕ, zero, suc, ◌+◌, ◌-◌, ◌<◌, Bool, false, ◌||◌, ◌&&◌, ◌==◌, List, ◌++◌, Option, Some, None, Result, Ok, Err, OnOk, OnErr, get_or, ◌≤◌, length, refl, sym, subst, ap, ◌∙◌, arith}
+use Rattle.std.proofs.Common.{◌≡◌, ℕ, zero, suc, ◌+◌, ◌-◌, ◌<◌, Bool, false, ◌||◌, ◌&&◌, ◌==◌, List}
+use Rattle.std.proofs.Common.{◌++◌, Option, Some, None, Result, Ok, Err, OnOk, OnErr, get_or, ◌≤◌}
+use Rattle.std.proofs.Common.{length, refl, sym, subst, ap, ◌∙◌, arith}
 use Rattle.std.specs.Prelude.{slice_get, slice_set}
 use Rattle.std.proofs.lemmas.List.{append-nil}
 use Rattle.std.proofs.lemmas.Option.{get_or_from_slice_get}

@@ -1,12 +1,10 @@
 use Rattle.std.proofs.Common.{[], false, subst}
 use Rattle.sx_sched.specs.declared.lines.Line.TheVariants as read
-use Rattle.sx_sched.specs.Lines.{Take, Give, Irq, Reset}
 use Rattle.sx_deploy.specs.SeenDeployment.{deployed_as}
 use Rattle.sx_run.specs.Acts.{with_packet}
 use Rattle.sx_world.specs.Held.{DoesAct}
 use Rattle.sx_run.specs.Accepted.{setting}
-use Rattle.sx_run.specs.Run.{after_line, put_on, set_on, steps_of}
-use Rattle.sx_world.proofs.doing.Composed.{does_any, does_both}
+use Rattle.sx_run.specs.Run.{put_on, steps_of}
 use Rattle.sx_world.proofs.doing.Prepared.{counts_finish, line_does}
 use Rattle.sx_world.proofs.running.Running.act.Goals as goal
 
@@ -21,8 +19,7 @@ returns-in-Run g c =
     let set = setting g.T.Tag.mac (deployed_as c.args.deployment.now) c.args.sites.now in
     line_does set c.steps_of.result c.args.self.now c.steps_of.new.self c.args.items.now.items c.steps_of.new.items.items c.args.line.now (read.Run c.in-Run.node c.in-Run.steps) c.in-Run.is
     (subst (λ k. DoesAct set c.steps_of.result c.args.self.now c.steps_of.new.self c.args.items.now.items c.steps_of.new.items.items (steps_of set (λ s. false) [] c.in-Run.node k)) c.from.ensures
-    (does_both set c.steps_of.result c.args.self.now c.steps_of.new.self c.args.items.now.items c.steps_of.new.items.items
-    (steps_of set (λ s. false) [] c.in-Run.node c.from.result) c.steps_of.ensures.done c.steps_of.ensures.front))
+    c.steps_of.ensures)
 
 pub returns-in-Finish : goal.returns-in-Finish
 returns-in-Finish g c =
@@ -35,29 +32,25 @@ returns-in-Put g c =
     let set = setting g.T.Tag.mac (deployed_as c.args.deployment.now) c.args.sites.now in
     line_does set c.put_on.result c.args.self.now c.put_on.new.self c.args.items.now.items c.put_on.new.items.items c.args.line.now (read.Put c.in-Put.node c.in-Put.at c.in-Put.bytes) c.in-Put.is
     (subst (λ bytes. DoesAct set c.put_on.result c.args.self.now c.put_on.new.self c.args.items.now.items c.put_on.new.items.items (put_on c.in-Put.node c.in-Put.at bytes)) c.deref.ensures.value
-    (does_any set c.put_on.result c.args.self.now c.put_on.new.self c.args.items.now.items c.put_on.new.items.items
-    (put_on c.in-Put.node c.in-Put.at c.deref.result.now) c.put_on.ensures.done c.put_on.ensures.front))
+    (c.put_on.ensures.does set))
 
 pub returns-in-Set : goal.returns-in-Set
 returns-in-Set g c =
     let set = setting g.T.Tag.mac (deployed_as c.args.deployment.now) c.args.sites.now in
     line_does set c.set_on.result c.args.self.now c.set_on.new.self c.args.items.now.items c.set_on.new.items.items c.args.line.now (read.Set c.in-Set.node c.in-Set.reg c.in-Set.value) c.in-Set.is
-    (does_any set c.set_on.result c.args.self.now c.set_on.new.self c.args.items.now.items c.set_on.new.items.items
-    (set_on c.in-Set.node c.in-Set.reg c.in-Set.value) c.set_on.ensures.done c.set_on.ensures.front)
+    (c.set_on.ensures.does set)
 
 pub returns-in-Take : goal.returns-in-Take
 returns-in-Take g c =
     let set = setting g.T.Tag.mac (deployed_as c.args.deployment.now) c.args.sites.now in
     line_does set c.take.result c.args.self.now c.take.new.self c.args.items.now.items c.take.new.items.items c.args.line.now (read.Take c.in-Take.node c.in-Take.at c.in-Take.len) c.in-Take.is
-    (does_any set c.take.result c.args.self.now c.take.new.self c.args.items.now.items c.take.new.items.items
-    (λ w. after_line set w (Take c.in-Take.node c.in-Take.at c.in-Take.len)) c.take.ensures.done c.take.ensures.front)
+    (c.take.ensures set)
 
 pub returns-in-Give : goal.returns-in-Give
 returns-in-Give g c =
     let set = setting g.T.Tag.mac (deployed_as c.args.deployment.now) c.args.sites.now in
     line_does set c.give.result c.args.self.now c.give.new.self c.args.items.now.items c.give.new.items.items c.args.line.now (read.Give c.in-Give.packet c.in-Give.node c.in-Give.at) c.in-Give.is
-    (does_any set c.give.result c.args.self.now c.give.new.self c.args.items.now.items c.give.new.items.items
-    (λ w. after_line set w (Give c.in-Give.packet c.in-Give.node c.in-Give.at)) c.give.ensures.done c.give.ensures.front)
+    (c.give.ensures set)
 
 pub returns-in-Forge : goal.returns-in-Forge
 returns-in-Forge g c =
@@ -65,8 +58,7 @@ returns-in-Forge g c =
     line_does set c.new_packet.result c.args.self.now c.new_packet.new.self c.args.items.now.items c.new_packet.new.items.items c.args.line.now (read.Forge c.in-Forge.bytes) c.in-Forge.is
     (subst (λ bytes. DoesAct set c.new_packet.result c.args.self.now c.new_packet.new.self c.args.items.now.items c.new_packet.new.items.items
     (λ w. with_packet w bytes)) c.deref-in-Forge.ensures.value
-    (does_any set c.new_packet.result c.args.self.now c.new_packet.new.self c.args.items.now.items c.new_packet.new.items.items
-    (λ w. with_packet w c.deref-in-Forge.result.now) c.new_packet.ensures.done c.new_packet.ensures.front))
+    (c.new_packet.ensures set))
 
 pub returns-in-Sense : goal.returns-in-Sense
 returns-in-Sense g c =
@@ -78,15 +70,13 @@ pub returns-in-Irq : goal.returns-in-Irq
 returns-in-Irq g c =
     let set = setting g.T.Tag.mac (deployed_as c.args.deployment.now) c.args.sites.now in
     line_does set c.irq.result c.args.self.now c.irq.new.self c.args.items.now.items c.irq.new.items.items c.args.line.now (read.Irq c.in-Irq.node c.in-Irq.line) c.in-Irq.is
-    (does_both set c.irq.result c.args.self.now c.irq.new.self c.args.items.now.items c.irq.new.items.items
-    (λ w. after_line set w (Irq c.in-Irq.node c.in-Irq.line)) c.irq.ensures.done c.irq.ensures.front)
+    c.irq.ensures
 
 pub returns-in-Reset : goal.returns-in-Reset
 returns-in-Reset g c =
     let set = setting g.T.Tag.mac (deployed_as c.args.deployment.now) c.args.sites.now in
     line_does set c.reset.result c.args.self.now c.reset.new.self c.args.items.now.items c.reset.new.items.items c.args.line.now (read.Reset c.in-Reset.node) c.in-Reset.is
-    (does_any set c.reset.result c.args.self.now c.reset.new.self c.args.items.now.items c.reset.new.items.items
-    (λ w. after_line set w (Reset c.in-Reset.node)) c.reset.ensures.done c.reset.ensures.front)
+    (c.reset.ensures set)
 
 pub returns-in-Ask : goal.returns-in-Ask
 returns-in-Ask g c =

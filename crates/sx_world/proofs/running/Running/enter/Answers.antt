@@ -1,10 +1,9 @@
 use Rattle.std.proofs.Common.{◌≡◌, Some, subst}
 use Rattle.std.specs.Prelude.{slice_get}
-use Rattle.sx_deploy.specs.SeenDeployment.{deployed_as}
 use Rattle.sx_run.specs.Setting.{Site}
 use Rattle.sx_run.specs.Acts.{then_}
 use Rattle.sx_world.specs.Held.{DoesAct}
-use Rattle.sx_run.specs.Accepted.{setting}
+use Rattle.sx_world.specs.InMemory.{setting_in}
 use Rattle.sx_run.specs.Run.{finish, set_all}
 use Rattle.sx_world.proofs.doing.Composed.{first_wanted, then_does}
 use Rattle.sx_world.proofs.granting.Given.{does_err}
@@ -13,7 +12,7 @@ use Rattle.sx_world.proofs.running.Running.enter.Goals as goal
 
 pub returns-in_err-set_all : goal.returns-in_err-set_all
 returns-in_err-set_all g c =
-    let set = setting g.T.Tag.mac (deployed_as c.args.deployment.now) c.args.sites.now in
+    let set = setting_in g.T.Tag.mac c.args.setting.now in
     let n = c.site.inside.node in
     subst (λ (s : Site). DoesAct set c.from_residual.result c.args.self.now c.set_all.new.self c.args.items.now.items c.set_all.new.items.items
     (λ w. then_ (set_all s.node c.args.registers.now w) (finish set s.node))) c.site.view_is
@@ -28,7 +27,7 @@ finish-requires-clause-boot g c =
 
 pub returns : goal.returns
 returns g c =
-    let set = setting g.T.Tag.mac (deployed_as c.args.deployment.now) c.args.sites.now in
+    let set = setting_in g.T.Tag.mac c.args.setting.now in
     let n = c.site.inside.node in
     subst (λ (s : Site). DoesAct set c.finish.result c.args.self.now c.finish.new.self c.args.items.now.items c.finish.new.items.items
     (λ w. then_ (set_all s.node c.args.registers.now w) (finish set s.node))) c.site.view_is

@@ -1,16 +1,13 @@
 use Rattle.std.proofs.Common.{[], ◌∷◌, ◌==◌, subst}
 use Rattle.sx_trace.specs.declared.items.Item.TheVariants.{Budget}
-use Rattle.sx_deploy.specs.SeenDeployment.{deployed_as}
 use Rattle.sx_world.specs.Held.{DoesAct}
-use Rattle.sx_run.specs.Accepted.{setting}
+use Rattle.sx_world.specs.InMemory.{setting_in}
 use Rattle.sx_run.specs.Run.{steps_of}
-use Rattle.sx_world.proofs.doing.Composed.{does_both}
 use Rattle.sx_world.proofs.running.Running.finish.Goals as goal
 
 pub returns : goal.returns
 returns g c =
-    let set = setting g.T.Tag.mac (deployed_as c.args.deployment.now) c.args.sites.now in
+    let set = setting_in g.T.Tag.mac c.args.setting.now in
     subst (λ k. DoesAct set c.steps_of.result c.args.self.now c.steps_of.new.self c.args.items.now.items c.steps_of.new.items.items (steps_of set (λ s. s.cur == 0) (Budget c.args.n ∷ []) c.args.n k))
     c.finish_steps.ensures
-    (does_both set c.steps_of.result c.args.self.now c.steps_of.new.self c.args.items.now.items c.steps_of.new.items.items
-    (steps_of set (λ s. s.cur == 0) (Budget c.args.n ∷ []) c.args.n c.finish_steps.result) c.steps_of.ensures.done c.steps_of.ensures.front)
+    c.steps_of.ensures

@@ -7,17 +7,20 @@ use Rattle.sx_world.specs.Held.{Running}
 use Rattle.sx_world.proofs.doing.Doing.{done_did, as_kept, lent_set, lent_long, unless_kept, wanted_same}
 use Rattle.sx_world.proofs.doing.KeptPackets.{packet_found, packet_none, give_did, give_none}
 use Rattle.sx_run.specs.Run.{give}
+use Rattle.sx_world.proofs.doing.Composed.{does_any}
 use Rattle.sx_world.proofs.running.Running.give.Goals as goal
 
-pub returns-in-Some-clause-done : goal.returns-in-Some-clause-done
-returns-in-Some-clause-done g c =
+pub returns-in-Some : goal.returns-in-Some
+returns-in-Some g c =
     let bytes = c.deref-in-Some.result.now in
     let act : State → State = λ s. (put s c.args.at bytes).state in
     let same : c.deref_mut.result.now ≡ c.args.self.now.nodes = c.deref_mut.ensures.value ∙ ap (λ (k : Running). k.nodes) c.self.view_is in
     let there : slice_get c.args.self.now.packets c.args.k ≡ Some bytes =
     packet_found c.self.inside.packets.items c.deref.result.now c.args.self.now.packets c.args.k c.in-Some.bytes.now (ap (λ (k : Running). k.packets) c.self.view_is) c.deref.ensures.value
     c.in-Some.ensures.lookup.3.0 c.in-Some.ensures.lookup.1 ∙ ap (λ x. Some x) (sym c.deref-in-Some.ensures.value) in
-    give_did c.add_answer.result c.args.self.now _ c.args.items.now.items c.add_answer.new.items.items c.args.n c.args.at c.args.k bytes there
+    λ any. does_any any c.add_answer.result c.args.self.now _ c.args.items.now.items c.add_answer.new.items.items
+    (λ w. give w c.args.n c.args.at (slice_get w.packets c.args.k))
+    (give_did c.add_answer.result c.args.self.now _ c.args.items.now.items c.add_answer.new.items.items c.args.n c.args.at c.args.k bytes there
     (done_did c.add_answer.result c.args.self.now _ c.args.items.now.items c.add_answer.new.items.items c.args.n [] (λ s. put s c.args.at bytes) c.put_node-answer.result c.requires
     (λ s e. as_kept c.args.self.now _ _ c.args.n (act s) c.self.view_is
     (with_items_is c.self.inside.nodes c.put_node-answer.new.nodes
@@ -26,18 +29,14 @@ returns-in-Some-clause-done g c =
     ∙ lent_set c.deref_mut.result.now c.args.self.now.nodes c.put_node-answer.new.nodes c.args.n s act same e c.put_node-answer.ensures.nodes))
     (λ s e. c.put_node-answer.ensures.answer s (ap (λ ns. slice_get ns c.args.n) same ∙ e))
     (λ s. unless_kept (put_refusal s c.args.at (length bytes)) s _ refl)
-    c.add_answer.ensures.ok)
+    c.add_answer.ensures.ok))
+    (wanted_same c.add_answer.result c.args.self.now c.args.items.now.items c.add_answer.new.items.items (λ w. give w c.args.n c.args.at (slice_get w.packets c.args.k)) c.add_answer.ensures.err)
 
-pub returns-in-None-clause-done : goal.returns-in-None-clause-done
-returns-in-None-clause-done g c =
-    give_none c.add.result c.args.self.now c.args.items.now.items c.add.new.items.items c.args.n c.args.at c.args.k
+pub returns-in-None : goal.returns-in-None
+returns-in-None g c =
+    λ any. does_any any c.add.result c.args.self.now c.args.self.now c.args.items.now.items c.add.new.items.items
+    (λ w. give w c.args.n c.args.at (slice_get w.packets c.args.k))
+    (give_none c.add.result c.args.self.now c.args.items.now.items c.add.new.items.items c.args.n c.args.at c.args.k
     (packet_none c.self.inside.packets.items c.deref.result.now c.args.self.now.packets c.args.k (ap (λ (k : Running). k.packets) c.self.view_is) c.deref.ensures.value c.in-None.ensures.lookup.3)
-    c.add.ensures.ok
-
-pub returns-in-Some-clause-front : goal.returns-in-Some-clause-front
-returns-in-Some-clause-front g c =
-    wanted_same c.add_answer.result c.args.self.now c.args.items.now.items c.add_answer.new.items.items (λ w. give w c.args.n c.args.at (slice_get w.packets c.args.k)) c.add_answer.ensures.err
-
-pub returns-in-None-clause-front : goal.returns-in-None-clause-front
-returns-in-None-clause-front g c =
-    wanted_same c.add.result c.args.self.now c.args.items.now.items c.add.new.items.items (λ w. give w c.args.n c.args.at (slice_get w.packets c.args.k)) c.add.ensures.err
+    c.add.ensures.ok)
+    (wanted_same c.add.result c.args.self.now c.args.items.now.items c.add.new.items.items (λ w. give w c.args.n c.args.at (slice_get w.packets c.args.k)) c.add.ensures.err)

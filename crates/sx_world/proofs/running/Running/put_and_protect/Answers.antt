@@ -1,20 +1,18 @@
-use Rattle.std.proofs.Common.{◌≡◌, ◌+◌, ◌/◌, false, [], length, Some, sym, subst, ap, ◌∙◌}
+use Rattle.std.proofs.Common.{◌≡◌, ◌+◌, ◌/◌, length, Some, sym, subst, ap, ◌∙◌}
 use Rattle.std.specs.Prelude.{slice_get}
-use Rattle.sx_deploy.specs.SeenDeployment.{deployed_as}
 use Rattle.sx_run.specs.Setting.{Site}
 use Rattle.sx_world.specs.Held.{Did, DoesAct, Wanted}
-use Rattle.sx_run.specs.Accepted.{setting}
+use Rattle.sx_world.specs.InMemory.{setting_in}
 use Rattle.sx_world.specs.Loading.{after_loading}
 use Rattle.sx_run.specs.Run.{protect_registers}
-use Rattle.sx_run.specs.Run.{put_pieces, set_all, steps_of}
-use Rattle.sx_world.proofs.doing.Composed.{does_both}
+use Rattle.sx_run.specs.Run.{put_pieces, set_all}
 use Rattle.sx_world.proofs.granting.Given.{does_err}
 use Rattle.sx_world.proofs.doing.Loaded.{still_few, image_wanted, code_wanted, given_wanted, loaded_does}
 use Rattle.sx_world.proofs.running.Running.put_and_protect.Goals as goal
 
 pub returns-in_err-put_pieces : goal.returns-in_err-put_pieces
 returns-in_err-put_pieces g c =
-    let set = setting g.T.Tag.mac (deployed_as c.args.deployment.now) c.args.sites.now in
+    let set = setting_in g.T.Tag.mac c.args.setting.now in
     let site : Site = record { node = c.site.inside.node; layout = c.site.inside.layout; provider = c.site.inside.provider; text = c.site.inside.text.items } in
     subst (λ (s : Site). DoesAct set c.from_residual.result c.args.self.now c.put_pieces.new.self c.args.items.now.items c.put_pieces.new.items.items (after_loading set s)) c.site.view_is
     (does_err set c.from_residual.result c.args.self.now c.put_pieces.new.self c.args.items.now.items c.put_pieces.new.items.items (after_loading set site) c.from_residual.ensures.0
@@ -24,7 +22,7 @@ returns-in_err-put_pieces g c =
 
 pub returns-in_err-put_on : goal.returns-in_err-put_on
 returns-in_err-put_on g c =
-    let set = setting g.T.Tag.mac (deployed_as c.args.deployment.now) c.args.sites.now in
+    let set = setting_in g.T.Tag.mac c.args.setting.now in
     let site : Site = record { node = c.site.inside.node; layout = c.site.inside.layout; provider = c.site.inside.provider; text = c.site.inside.text.items } in
     subst (λ (s : Site). DoesAct set c.from_residual-in_err-put_on.result c.args.self.now c.put_on.new.self c.args.items.now.items c.put_on.new.items.items (after_loading set s)) c.site.view_is
     (does_err set c.from_residual-in_err-put_on.result c.args.self.now c.put_on.new.self c.args.items.now.items c.put_on.new.items.items
@@ -32,11 +30,11 @@ returns-in_err-put_on g c =
     (code_wanted set site c.args.self.now c.put_pieces.new.self c.args.items.now.items c.put_pieces.new.items.items c.put_on.new.items.items
     (subst (λ xs. Did set c.args.self.now c.put_pieces.new.self c.args.items.now.items c.put_pieces.new.items.items (put_pieces site.node ((length xs + 1023) / 1024) site.layout.pub_from xs))
     c.deref.ensures.value (c.in_ok-put_pieces.ensures.does set))
-    (c.in_err-put_on.ensures.front set)))
+    (c.in_err-put_on.ensures.does set)))
 
 pub returns-in_err-set_all : goal.returns-in_err-set_all
 returns-in_err-set_all g c =
-    let set = setting g.T.Tag.mac (deployed_as c.args.deployment.now) c.args.sites.now in
+    let set = setting_in g.T.Tag.mac c.args.setting.now in
     let site : Site = record { node = c.site.inside.node; layout = c.site.inside.layout; provider = c.site.inside.provider; text = c.site.inside.text.items } in
     subst (λ (s : Site). DoesAct set c.from_residual-in_err-set_all.result c.args.self.now c.set_all.new.self c.args.items.now.items c.set_all.new.items.items (after_loading set s)) c.site.view_is
     (does_err set c.from_residual-in_err-set_all.result c.args.self.now c.set_all.new.self c.args.items.now.items c.set_all.new.items.items
@@ -44,7 +42,7 @@ returns-in_err-set_all g c =
     (given_wanted set site c.args.self.now c.put_pieces.new.self c.put_on.new.self c.args.items.now.items c.put_pieces.new.items.items c.put_on.new.items.items c.set_all.new.items.items
     (subst (λ xs. Did set c.args.self.now c.put_pieces.new.self c.args.items.now.items c.put_pieces.new.items.items (put_pieces site.node ((length xs + 1023) / 1024) site.layout.pub_from xs))
     c.deref.ensures.value (c.in_ok-put_pieces.ensures.does set))
-    (c.in_ok-put_on.ensures.done set)
+    (c.in_ok-put_on.ensures.does set)
     (subst (λ rs. Wanted set c.put_on.new.self c.put_on.new.items.items c.set_all.new.items.items (set_all site.node rs))
     (c.protect_registers.ensures ∙ ap protect_registers (sym c.site.view_is)) (c.in_err-set_all.ensures.does set))))
 
@@ -56,15 +54,14 @@ steps_of-requires-clause-boot g c =
 
 pub returns : goal.returns
 returns g c =
-    let set = setting g.T.Tag.mac (deployed_as c.args.deployment.now) c.args.sites.now in
+    let set = setting_in g.T.Tag.mac c.args.setting.now in
     let site : Site = record { node = c.site.inside.node; layout = c.site.inside.layout; provider = c.site.inside.provider; text = c.site.inside.text.items } in
     subst (λ (s : Site). DoesAct set c.steps_of.result c.args.self.now c.steps_of.new.self c.args.items.now.items c.steps_of.new.items.items (after_loading set s)) c.site.view_is
     (loaded_does set site c.steps_of.result c.args.self.now c.put_pieces.new.self c.put_on.new.self c.set_all.new.self c.steps_of.new.self
     c.args.items.now.items c.put_pieces.new.items.items c.put_on.new.items.items c.set_all.new.items.items c.steps_of.new.items.items
     (subst (λ xs. Did set c.args.self.now c.put_pieces.new.self c.args.items.now.items c.put_pieces.new.items.items (put_pieces site.node ((length xs + 1023) / 1024) site.layout.pub_from xs))
     c.deref.ensures.value (c.in_ok-put_pieces.ensures.does set))
-    (c.in_ok-put_on.ensures.done set)
+    (c.in_ok-put_on.ensures.does set)
     (subst (λ rs. Did set c.put_on.new.self c.set_all.new.self c.put_on.new.items.items c.set_all.new.items.items (set_all site.node rs))
     (c.protect_registers.ensures ∙ ap protect_registers (sym c.site.view_is)) (c.in_ok-set_all.ensures.does set))
-    (does_both set c.steps_of.result c.set_all.new.self c.steps_of.new.self c.set_all.new.items.items c.steps_of.new.items.items (steps_of set (λ s. false) [] site.node 1)
-    c.steps_of.ensures.done c.steps_of.ensures.front))
+    c.steps_of.ensures)

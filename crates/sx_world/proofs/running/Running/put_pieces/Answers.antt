@@ -19,7 +19,7 @@ returns-in_err-put_on-clause-does g c = λ set.
     c.args.self.now c.loop-i.self c.args.items.now.items c.loop-i.items.items c.put_on.new.items.items (c.loop-i.invariant.remains set)
     (next_piece c.args.n c.args.at bytes count i (c.from.result + i * 1024) piece lt (piece_within (length bytes) i lt) (ap (λ k. k + i * 1024) c.from.ensures)
     (ap (λ k. take (k - i * 1024) (drop (i * 1024) bytes)) c.min-end.ensures))
-    (c.in_err-put_on.ensures.front set))
+    (c.in_err-put_on.ensures.does set))
 
 pub loop-i-preserved : goal.loop-i-preserved
 loop-i-preserved g c =
@@ -35,7 +35,7 @@ loop-i-preserved g c =
           c.args.self.now c.loop-i.self c.put_on.new.self c.args.items.now.items c.loop-i.items.items c.put_on.new.items.items (c.loop-i.invariant.remains set)
           (next_piece c.args.n c.args.at bytes count i (c.from.result + i * 1024) piece lt (piece_within (length bytes) i lt) (ap (λ k. k + i * 1024) c.from.ensures)
           (ap (λ k. take (k - i * 1024) (drop (i * 1024) bytes)) c.min-end.ensures))
-          (c.in_ok-put_on.ensures.done set);
+          (c.in_ok-put_on.ensures.does set);
       boots = c.in_ok-put_on.ensures.boots ∙ c.loop-i.invariant.boots;
       steps = c.in_ok-put_on.ensures.steps ∙ c.loop-i.invariant.steps;
     }

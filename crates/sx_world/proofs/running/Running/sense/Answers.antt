@@ -9,7 +9,6 @@ use Rattle.sx_world.specs.Held.{Running}
 use Rattle.sx_run.specs.Accepted.{setting}
 use Rattle.sx_run.specs.Run.{or_else, place_at}
 use Rattle.sx_run.proofs.tie.Lists.{some_inj}
-use Rattle.sx_world.proofs.doing.Composed.{does_any}
 use Rattle.sx_world.proofs.doing.Loaded.{element_at}
 use Rattle.sx_world.proofs.doing.Sampled.{sensor_there, sense_does, sense_past}
 use Rattle.sx_world.proofs.running.Running.sense.Goals as goal
@@ -54,4 +53,4 @@ returns g c = λ sites.
     let place : c.place_at-k.result ≡ place_at set x.node c.args.d =
     c.place_at-k.ensures ∙ ap (λ ds. or_else (position_from (λ k. k == c.args.d) 0 (devices_at x.node 0 ds))) c.deref.ensures.value in
     sense_does set c.sense_at.result c.args.self.now c.sense_at.new.self c.args.items.now.items c.sense_at.new.items.items c.args.d c.args.value c.place_at-k.result x found place
-    (does_any set c.sense_at.result c.args.self.now c.sense_at.new.self c.args.items.now.items c.sense_at.new.items.items _ c.sense_at.ensures.done c.sense_at.ensures.front)
+    (c.sense_at.ensures set)

@@ -14,7 +14,7 @@ returns-in_err-set_on-clause-does g c = λ set.
     (remains_wanted set (set_all c.args.n all) (set_all c.args.n (drop i all)) (set_on c.args.n r.number r.value) (set_all c.args.n (drop (i + 1) all))
     c.args.self.now c.loop-register.self c.args.items.now.items c.loop-register.items.items c.set_on.new.items.items (c.loop-register.invariant.remains set)
     (next_register c.args.n all i r c.register-item.result (omega (arith, c.loop-register-test.true, c.loop-register.auto.register-index-end)) (c.register.view_is ∙ c.register-item.is))
-    (c.in_err-set_on.ensures.front set))
+    (c.in_err-set_on.ensures.does set))
 
 pub loop-register-preserved : goal.loop-register-preserved
 loop-register-preserved g c =
@@ -26,7 +26,7 @@ loop-register-preserved g c =
           remains_on set (set_all c.args.n all) (set_all c.args.n (drop i all)) (set_on c.args.n r.number r.value) (set_all c.args.n (drop (i + 1) all))
           c.args.self.now c.loop-register.self c.set_on.new.self c.args.items.now.items c.loop-register.items.items c.set_on.new.items.items (c.loop-register.invariant.remains set)
           (next_register c.args.n all i r c.register-item.result (omega (arith, c.loop-register-test.true, c.loop-register.auto.register-index-end)) (c.register.view_is ∙ c.register-item.is))
-          (c.in_ok-set_on.ensures.done set);
+          (c.in_ok-set_on.ensures.does set);
       settable =
           (settable all i r c.register-item.result (omega (arith, c.loop-register-test.true, c.loop-register.auto.register-index-end)) (c.register.view_is ∙ c.register-item.is)
           c.loop-register.invariant.settable).2;

@@ -1,13 +1,12 @@
 use Rattle.std.proofs.Common.{ap}
-use Rattle.sx_deploy.specs.SeenDeployment.{deployed_as}
 use Rattle.sx_world.specs.Held.{Running}
-use Rattle.sx_run.specs.Accepted.{setting}
+use Rattle.sx_world.specs.InMemory.{setting_in}
 use Rattle.sx_world.proofs.passing.Passed.{node_there, shown_did, shown_front}
 use Rattle.sx_world.proofs.running.Running.show.Goals as goal
 
 pub returns-clause-done : goal.returns-clause-done
 returns-clause-done g c =
-    let set = setting g.T.Tag.mac (deployed_as c.args.deployment.now) c.args.sites.now in
+    let set = setting_in g.T.Tag.mac c.args.setting.now in
     shown_did c.add_seen.result set c.args.n c.self.inside.ledger c.args.self.now.ledger c.add_seen.new.ledger
     c.args.items.now.items c.add_seen.new.items.items c.args.self.now.nodes c.index-node.result.now c.runner_of-runner.result c.args.seen.now
     (ap (λ (k : Running). k.ledger) c.self.view_is) c.runner_of-runner.ensures
@@ -16,7 +15,7 @@ returns-clause-done g c =
 
 pub returns-clause-front : goal.returns-clause-front
 returns-clause-front g c =
-    let set = setting g.T.Tag.mac (deployed_as c.args.deployment.now) c.args.sites.now in
+    let set = setting_in g.T.Tag.mac c.args.setting.now in
     shown_front c.add_seen.result set c.args.n c.self.inside.ledger c.args.self.now.ledger c.args.items.now.items
     c.add_seen.new.items.items c.args.self.now.nodes c.index-node.result.now c.runner_of-runner.result c.args.seen.now
     (ap (λ (k : Running). k.ledger) c.self.view_is) c.runner_of-runner.ensures

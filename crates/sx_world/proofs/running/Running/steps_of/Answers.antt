@@ -1,9 +1,11 @@
 use Rattle.std.proofs.Common.{◌+◌, ◌-◌, ◌==◌, ◌&&◌, refl, ◌∙◌, arith}
 use Rattle.std.specs.Option.{option_to_list}
 use Rattle.sx_deploy.specs.SeenDeployment.{deployed_as}
-use Rattle.sx_run.specs.Accepted.{setting}
+use Rattle.sx_world.specs.InMemory.{setting_in}
 use Rattle.sx_world.specs.Passing.{after_steps, stepped}
-use Rattle.sx_world.proofs.showing.Fronts.{err_any}
+use Rattle.sx_run.specs.Run.{steps_of}
+use Rattle.sx_world.proofs.doing.Composed.{does_both}
+use Rattle.sx_world.proofs.granting.Given.{does_err}
 use Rattle.sx_world.proofs.passing.Going.{going_on, going_over, going_front, going_end, going_none, going_done, went_on}
 use Rattle.sx_world.proofs.passing.Passed.{passage, passed_going, passed_did, passed_front, passed_ends, passed_small, passed_within, passed_steps, shown_within, all_passed, stepped_there, one_less}
 use Rattle.sx_world.proofs.running.Running.steps_of.Goals as goal
@@ -14,23 +16,24 @@ show-requires-clause-node g c =
     c.stretches.invariant.within c.pass-quiet.ensures.quiet c.pass-quiet.ensures.last c.pass-quiet.ensures.left c.in-Some.is in
     passed_within g.T.Tag.mac c.args.idle c.args.n c.pass-quiet.result.count c.stretches.left c.stretches.self c.pass-quiet.new.self c.in-Some.seen p c.stretches.invariant.within
 
-pub returns-in_err-show-clause-front : goal.returns-in_err-show-clause-front
-returns-in_err-show-clause-front g c =
-    let set = setting g.T.Tag.mac (deployed_as c.args.deployment.now) c.args.sites.now in
+pub returns-in_err-show : goal.returns-in_err-show
+returns-in_err-show g c =
+    let set = setting_in g.T.Tag.mac c.args.setting.now in
     let p = passage g.T.Tag.mac c.args.idle c.args.n c.pass-quiet.result.count c.stretches.left c.stretches.self c.pass-quiet.new.self c.pass-quiet.result.last c.in-Some.seen
     c.stretches.invariant.within c.pass-quiet.ensures.quiet c.pass-quiet.ensures.last c.pass-quiet.ensures.left c.in-Some.is in
-    let going = passed_going g.T.Tag.mac (deployed_as c.args.deployment.now) c.args.sites.now c.args.idle
+    let going = passed_going g.T.Tag.mac (deployed_as c.args.setting.now.deployment.now) c.args.setting.now.sites.now c.args.idle
     (option_to_list c.args.end) c.args.n c.args.count c.stretches.left c.pass-quiet.result.count
     c.args.self.now c.stretches.self c.pass-quiet.new.self
     c.args.items.now.items c.stretches.items.items c.in-Some.seen p c.stretches.invariant.going in
-    err_any c.from_residual.result
+    does_err set c.from_residual.result c.args.self.now c.show.new.self c.args.items.now.items c.show.new.items.items
+    (steps_of set (λ s. c.args.idle && (s.cur == 0)) (option_to_list c.args.end) c.args.n c.args.count) c.from_residual.ensures.0
     (going_front set (λ s. c.args.idle && (s.cur == 0)) (option_to_list c.args.end) c.args.n c.args.count
     (c.stretches.left - c.pass-quiet.result.count) (c.stretches.left - (c.pass-quiet.result.count + 1)) c.args.self.now
     (stepped g.T.Tag.mac c.args.n c.pass-quiet.result.count p.node c.stretches.self)
     c.args.items.now.items c.stretches.items.items c.show.new.items.items
     (after_steps g.T.Tag.mac c.pass-quiet.result.count p.node) going (one_less c.stretches.left c.pass-quiet.result.count p.few)
     (stepped_there g.T.Tag.mac c.args.n c.pass-quiet.result.count p.node c.stretches.self p.here)
-    (passed_front g.T.Tag.mac (deployed_as c.args.deployment.now) c.args.sites.now c.stretches.self
+    (passed_front g.T.Tag.mac (deployed_as c.args.setting.now.deployment.now) c.args.setting.now.sites.now c.stretches.self
     c.pass-quiet.new.self c.stretches.items.items c.show.new.items.items c.args.idle c.args.n
     c.pass-quiet.result.count c.stretches.left c.in-Some.seen p
     c.in_err-show.ensures.front))
@@ -43,18 +46,18 @@ ends-requires g c =
     (passed_within g.T.Tag.mac c.args.idle c.args.n c.pass-quiet.result.count c.stretches.left c.stretches.self c.pass-quiet.new.self c.in-Some.seen p c.stretches.invariant.within) in
     within
 
-pub returns-then-ends-clause-done : goal.returns-then-ends-clause-done
-returns-then-ends-clause-done g c =
-    let set = setting g.T.Tag.mac (deployed_as c.args.deployment.now) c.args.sites.now in
+pub returns-then-ends : goal.returns-then-ends
+returns-then-ends g c =
+    let set = setting_in g.T.Tag.mac c.args.setting.now in
     let p = passage g.T.Tag.mac c.args.idle c.args.n c.pass-quiet.result.count c.stretches.left c.stretches.self c.pass-quiet.new.self c.pass-quiet.result.last c.in-Some.seen
     c.stretches.invariant.within c.pass-quiet.ensures.quiet c.pass-quiet.ensures.last c.pass-quiet.ensures.left c.in-Some.is in
-    let going = passed_going g.T.Tag.mac (deployed_as c.args.deployment.now) c.args.sites.now c.args.idle
+    let going = passed_going g.T.Tag.mac (deployed_as c.args.setting.now.deployment.now) c.args.setting.now.sites.now c.args.idle
     (option_to_list c.args.end) c.args.n c.args.count c.stretches.left c.pass-quiet.result.count
     c.args.self.now c.stretches.self c.pass-quiet.new.self
     c.args.items.now.items c.stretches.items.items c.in-Some.seen p c.stretches.invariant.going in
     let ended = passed_ends g.T.Tag.mac c.args.idle c.args.n c.pass-quiet.result.count c.stretches.left
     c.stretches.self c.pass-quiet.new.self c.show.new.self c.in-Some.seen c.ends.result p c.in_ok-show.ensures.kept c.ends.ensures in
-    let steps = passed_did g.T.Tag.mac (deployed_as c.args.deployment.now) c.args.sites.now c.stretches.self
+    let steps = passed_did g.T.Tag.mac (deployed_as c.args.setting.now.deployment.now) c.args.setting.now.sites.now c.stretches.self
     c.pass-quiet.new.self c.show.new.self c.stretches.items.items c.show.new.items.items c.args.idle
     c.args.n c.pass-quiet.result.count c.stretches.left c.in-Some.seen p
     c.in_ok-show.ensures.kept c.in_ok-show.ensures.done in
@@ -89,16 +92,16 @@ stretches-smaller g c =
 
 pub stretches-preserved : goal.stretches-preserved
 stretches-preserved g c =
-    let set = setting g.T.Tag.mac (deployed_as c.args.deployment.now) c.args.sites.now in
+    let set = setting_in g.T.Tag.mac c.args.setting.now in
     let p = passage g.T.Tag.mac c.args.idle c.args.n c.pass-quiet.result.count c.stretches.left c.stretches.self c.pass-quiet.new.self c.pass-quiet.result.last c.in-Some.seen
     c.stretches.invariant.within c.pass-quiet.ensures.quiet c.pass-quiet.ensures.last c.pass-quiet.ensures.left c.in-Some.is in
-    let going = passed_going g.T.Tag.mac (deployed_as c.args.deployment.now) c.args.sites.now c.args.idle
+    let going = passed_going g.T.Tag.mac (deployed_as c.args.setting.now.deployment.now) c.args.setting.now.sites.now c.args.idle
     (option_to_list c.args.end) c.args.n c.args.count c.stretches.left c.pass-quiet.result.count
     c.args.self.now c.stretches.self c.pass-quiet.new.self
     c.args.items.now.items c.stretches.items.items c.in-Some.seen p c.stretches.invariant.going in
     let ended = passed_ends g.T.Tag.mac c.args.idle c.args.n c.pass-quiet.result.count c.stretches.left
     c.stretches.self c.pass-quiet.new.self c.show.new.self c.in-Some.seen c.ends.result p c.in_ok-show.ensures.kept c.ends.ensures in
-    let steps = passed_did g.T.Tag.mac (deployed_as c.args.deployment.now) c.args.sites.now c.stretches.self
+    let steps = passed_did g.T.Tag.mac (deployed_as c.args.setting.now.deployment.now) c.args.setting.now.sites.now c.stretches.self
     c.pass-quiet.new.self c.show.new.self c.stretches.items.items c.show.new.items.items c.args.idle
     c.args.n c.pass-quiet.result.count c.stretches.left c.in-Some.seen p
     c.in_ok-show.ensures.kept c.in_ok-show.ensures.done in
@@ -122,34 +125,27 @@ stretches-preserved g c =
           c.in_ok-show.ensures.kept c.stretches.invariant.steps;
     }
 
-pub returns-in-Some-end-clause-done : goal.returns-in-Some-end-clause-done
-returns-in-Some-end-clause-done g c =
-    let set = setting g.T.Tag.mac (deployed_as c.args.deployment.now) c.args.sites.now in
-    let going = all_passed g.T.Tag.mac (deployed_as c.args.deployment.now) c.args.sites.now c.args.idle
+pub returns-in-Some-end : goal.returns-in-Some-end
+returns-in-Some-end g c =
+    let set = setting_in g.T.Tag.mac c.args.setting.now in
+    let going = all_passed g.T.Tag.mac (deployed_as c.args.setting.now.deployment.now) c.args.setting.now.sites.now c.args.idle
     (option_to_list c.args.end) c.args.n c.args.count c.stretches.left c.pass-quiet.result.count
     c.args.self.now c.stretches.self c.pass-quiet.new.self
     c.args.items.now.items c.stretches.items.items c.pass-quiet.result.last c.stretches.invariant.going
     c.stretches.invariant.within c.pass-quiet.ensures.quiet c.pass-quiet.ensures.last c.pass-quiet.ensures.left c.in_default.not-Some in
-    going_end set (λ s. c.args.idle && (s.cur == 0)) (option_to_list c.args.end) c.args.n c.args.count 0
+    does_both set c.add.result c.args.self.now c.pass-quiet.new.self c.args.items.now.items c.add.new.items.items
+    (steps_of set (λ s. c.args.idle && (s.cur == 0)) (option_to_list c.args.end) c.args.n c.args.count)
+    (going_end set (λ s. c.args.idle && (s.cur == 0)) (option_to_list c.args.end) c.args.n c.args.count 0
     c.args.self.now c.pass-quiet.new.self c.args.items.now.items c.stretches.items.items c.add.new.items.items
-    c.add.result going refl (went_on c.add.result c.stretches.items.items c.add.new.items.items c.args.end c.in-Some-end.item c.in-Some-end.is c.add.ensures.ok)
-
-pub returns-in-Some-end-clause-front : goal.returns-in-Some-end-clause-front
-returns-in-Some-end-clause-front g c =
-    let set = setting g.T.Tag.mac (deployed_as c.args.deployment.now) c.args.sites.now in
-    let going = all_passed g.T.Tag.mac (deployed_as c.args.deployment.now) c.args.sites.now c.args.idle
-    (option_to_list c.args.end) c.args.n c.args.count c.stretches.left c.pass-quiet.result.count
-    c.args.self.now c.stretches.self c.pass-quiet.new.self
-    c.args.items.now.items c.stretches.items.items c.pass-quiet.result.last c.stretches.invariant.going
-    c.stretches.invariant.within c.pass-quiet.ensures.quiet c.pass-quiet.ensures.last c.pass-quiet.ensures.left c.in_default.not-Some in
-    going_none set (λ s. c.args.idle && (s.cur == 0)) (option_to_list c.args.end) c.args.n c.args.count 0
+    c.add.result going refl (went_on c.add.result c.stretches.items.items c.add.new.items.items c.args.end c.in-Some-end.item c.in-Some-end.is c.add.ensures.ok))
+    (going_none set (λ s. c.args.idle && (s.cur == 0)) (option_to_list c.args.end) c.args.n c.args.count 0
     c.args.self.now c.pass-quiet.new.self c.args.items.now.items c.stretches.items.items c.add.new.items.items
-    c.add.result going c.add.ensures.err
+    c.add.result going c.add.ensures.err)
 
-pub returns-in-None-clause-done : goal.returns-in-None-clause-done
-returns-in-None-clause-done g c =
-    let set = setting g.T.Tag.mac (deployed_as c.args.deployment.now) c.args.sites.now in
-    let going = all_passed g.T.Tag.mac (deployed_as c.args.deployment.now) c.args.sites.now c.args.idle
+pub returns-in-None : goal.returns-in-None
+returns-in-None g c =
+    let set = setting_in g.T.Tag.mac c.args.setting.now in
+    let going = all_passed g.T.Tag.mac (deployed_as c.args.setting.now.deployment.now) c.args.setting.now.sites.now c.args.idle
     (option_to_list c.args.end) c.args.n c.args.count c.stretches.left c.pass-quiet.result.count
     c.args.self.now c.stretches.self c.pass-quiet.new.self
     c.args.items.now.items c.stretches.items.items c.pass-quiet.result.last c.stretches.invariant.going

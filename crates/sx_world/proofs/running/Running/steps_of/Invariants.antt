@@ -2,14 +2,13 @@ use Rattle.std.proofs.Common.{◌≡◌, ◌+◌, ◌==◌, ◌&&◌, ◌<◌, �
 use Rattle.std.specs.Prelude.{slice_get}
 use Rattle.std.specs.Option.{option_to_list}
 use Rattle.sx_machine.specs.State.{State}
-use Rattle.sx_deploy.specs.SeenDeployment.{deployed_as}
-use Rattle.sx_run.specs.Accepted.{setting}
+use Rattle.sx_world.specs.InMemory.{setting_in}
 use Rattle.sx_world.proofs.passing.Going.{Going}
 use Rattle.sx_world.proofs.running.Running.steps_of.Given as goal
 
 abbrev pub invariant-stretches : goal.invariant-stretches
 invariant-stretches g l = record {
-  going : Going (setting g.T.Tag.mac (deployed_as l.deployment) l.sites) (λ s. l.idle && (s.cur == 0)) (option_to_list l.end) l.n l.count l.left l.fn.self l.self l.fn.items.items l.items.items;
+  going : Going (setting_in g.T.Tag.mac l.setting) (λ s. l.idle && (s.cur == 0)) (option_to_list l.end) l.n l.count l.left l.fn.self l.self l.fn.items.items l.items.items;
   within : l.n < length l.self.nodes;
   boot : (s : State) → slice_get l.self.nodes l.n ≡ Some s → s.boot < 4294967295;
   steps : l.self.steps + l.left ≤ 18446744073709551615;

@@ -7,14 +7,16 @@ use Rattle.sx_run.specs.Acts.{refused_item}
 use Rattle.sx_world.specs.Held.{Running}
 use Rattle.sx_run.proofs.tie.Lists.{get_some}
 use Rattle.sx_world.proofs.passing.Stepped.{refused_ok}
-use Rattle.sx_world.proofs.doing.KeptPackets.{took_did, took_wanted, took_refused}
+use Rattle.sx_world.proofs.doing.KeptPackets.{took_does, took_refused}
 use Rattle.sx_run.specs.Acts.{at_node, after_take}
-use Rattle.sx_world.proofs.showing.Fronts.{err_any, front_same}
+use Rattle.sx_world.proofs.showing.Fronts.{front_same}
 use Rattle.sx_world.proofs.doing.Doing.{wanted_same}
+use Rattle.sx_world.proofs.doing.Composed.{does_any}
+use Rattle.sx_world.proofs.granting.Given.{does_err}
 use Rattle.sx_world.proofs.running.Running.take.Goals as goal
 
-pub returns-in-Ok-clause-front : goal.returns-in-Ok-clause-front
-returns-in-Ok-clause-front g c =
+pub returns-in-Ok : goal.returns-in-Ok
+returns-in-Ok g c =
     let found = get_some c.args.self.now.nodes c.args.n c.requires.node in
     let nodes : c.deref.result.now ≡ c.args.self.now.nodes = c.deref.ensures.value ∙ ap (λ (k : Running). k.nodes) c.self.view_is in
     let taken =
@@ -22,36 +24,26 @@ returns-in-Ok-clause-front g c =
     → (take s c.args.at c.args.len).shown ≡ Ok b.items)) c.in-Ok.is c.in_ok-bytes.ensures.bytes in
     let shown : (take found.0 c.args.at c.args.len).shown ≡ Ok c.deref-in-Ok.result.now = taken found.0
     (ap (λ ns. slice_get ns c.args.n) nodes ∙ found.1) ∙ ap (λ b. Ok b) (sym c.deref-in-Ok.ensures.value) in
-    took_wanted c.new_packet.result c.args.self.now c.args.items.now.items c.new_packet.new.items.items
-    c.args.n c.args.at c.args.len c.deref-in-Ok.result.now found.0 found.1 shown c.new_packet.ensures.front
+    λ any. took_does any c.new_packet.result c.args.self.now c.new_packet.new.self c.args.items.now.items
+    c.new_packet.new.items.items c.args.n c.args.at c.args.len c.deref-in-Ok.result.now found.0 found.1 shown (c.new_packet.ensures any)
 
-pub returns-in-Ok-clause-done : goal.returns-in-Ok-clause-done
-returns-in-Ok-clause-done g c =
-    let found = get_some c.args.self.now.nodes c.args.n c.requires.node in
-    let nodes : c.deref.result.now ≡ c.args.self.now.nodes = c.deref.ensures.value ∙ ap (λ (k : Running). k.nodes) c.self.view_is in
-    let taken =
-    subst (λ (r : Result (Vec ℕ Global) Refused). IfOk r (λ b. (s : State) → slice_get c.deref.result.now c.args.n ≡ Some s
-    → (take s c.args.at c.args.len).shown ≡ Ok b.items)) c.in-Ok.is c.in_ok-bytes.ensures.bytes in
-    let shown : (take found.0 c.args.at c.args.len).shown ≡ Ok c.deref-in-Ok.result.now = taken found.0
-    (ap (λ ns. slice_get ns c.args.n) nodes ∙ found.1) ∙ ap (λ b. Ok b) (sym c.deref-in-Ok.ensures.value) in
-    took_did c.new_packet.result c.args.self.now c.new_packet.new.self c.args.items.now.items
-    c.new_packet.new.items.items c.args.n c.args.at c.args.len c.deref-in-Ok.result.now found.0 found.1 shown c.new_packet.ensures.done
-
-pub returns-in-Err-clause-done : goal.returns-in-Err-clause-done
-returns-in-Err-clause-done g c =
+pub returns-in-Err : goal.returns-in-Err
+returns-in-Err g c =
     let found = get_some c.args.self.now.nodes c.args.n c.requires.node in
     let nodes : c.deref.result.now ≡ c.args.self.now.nodes = c.deref.ensures.value ∙ ap (λ (k : Running). k.nodes) c.self.view_is in
     let taken =
     subst (λ (r : Result (Vec ℕ Global) Refused). IfErr r (λ why. (s : State) → slice_get c.deref.result.now c.args.n ≡ Some s
     → (take s c.args.at c.args.len).shown ≡ Err why)) c.in-Err.is c.in_ok-bytes.ensures.refused in
     let shown : (take found.0 c.args.at c.args.len).shown ≡ Err c.in-Err.why = taken found.0 (ap (λ ns. slice_get ns c.args.n) nodes ∙ found.1) in
-    took_refused c.add.result c.args.self.now c.args.items.now.items c.add.new.items.items c.args.n c.args.at c.args.len c.in-Err.why found.0 found.1 shown
-    (refused_ok c.add.result c.args.items.now.items c.add.new.items.items c.refused_item.result (refused_item c.args.n c.in-Err.why) c.refused_item.ensures c.add.ensures.ok)
+    λ any. does_any any c.add.result c.args.self.now c.args.self.now c.args.items.now.items c.add.new.items.items
+    (λ w. at_node w (λ s. after_take w c.args.n (take s c.args.at c.args.len).shown) (slice_get w.nodes c.args.n))
+    (took_refused c.add.result c.args.self.now c.args.items.now.items c.add.new.items.items c.args.n c.args.at c.args.len c.in-Err.why found.0 found.1 shown
+    (refused_ok c.add.result c.args.items.now.items c.add.new.items.items c.refused_item.result (refused_item c.args.n c.in-Err.why) c.refused_item.ensures c.add.ensures.ok))
+    (wanted_same c.add.result c.args.self.now c.args.items.now.items c.add.new.items.items
+    (λ w. at_node w (λ s. after_take w c.args.n (take s c.args.at c.args.len).shown) (slice_get w.nodes c.args.n)) c.add.ensures.err)
 
-pub returns-in_err-bytes-clause-front : goal.returns-in_err-bytes-clause-front
-returns-in_err-bytes-clause-front g c = err_any c.from_residual.result (λ set w h. front_same c.args.items.now.items c.args.items.now.items _ refl)
-
-pub returns-in-Err-clause-front : goal.returns-in-Err-clause-front
-returns-in-Err-clause-front g c =
-    wanted_same c.add.result c.args.self.now c.args.items.now.items c.add.new.items.items
-    (λ w. at_node w (λ s. after_take w c.args.n (take s c.args.at c.args.len).shown) (slice_get w.nodes c.args.n)) c.add.ensures.err
+pub returns-in_err-bytes : goal.returns-in_err-bytes
+returns-in_err-bytes g c = λ any.
+    does_err any c.from_residual.result c.args.self.now _ c.args.items.now.items c.args.items.now.items
+    (λ w. at_node w (λ s. after_take w c.args.n (take s c.args.at c.args.len).shown) (slice_get w.nodes c.args.n)) c.from_residual.ensures.0
+    (λ w h. front_same c.args.items.now.items c.args.items.now.items _ refl)

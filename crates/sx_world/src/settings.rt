@@ -1,0 +1,16 @@
+//! What a run is given.
+
+ghost use Rattle.std.specs.Prelude.{◌≤◌, length};
+
+use crate::sites::Site;
+use sx_deploy::deployment::Deployment;
+
+/// What a run is given: a deployment, and the sites of its modules. The number of a site and that
+/// of a device are bytes.
+#[derive(Clone, Copy)]
+pub(crate) struct Setting<'a> {
+    pub(crate) deployment: &'a Deployment,
+    pub(crate) sites: &'a [Site],
+    pub(crate) ghost few_sites: { length sites.now ≤ 256 },
+    pub(crate) ghost few_devices: { length deployment.now.app.devices.items ≤ 256 },
+}
