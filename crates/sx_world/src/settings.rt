@@ -11,6 +11,6 @@ use sx_deploy::deployment::Deployment;
 pub(crate) struct Setting<'a> {
     pub(crate) deployment: &'a Deployment,
     pub(crate) sites: &'a [Site],
-    pub(crate) ghost few_sites: { length sites.now ≤ 256 },
-    pub(crate) ghost few_devices: { length deployment.now.app.devices.items ≤ 256 },
+    ghost few_sites: { length sites.now ≤ 256 },
+    ghost few_devices: { length deployment.now.app.devices.items ≤ 256 },
 }
