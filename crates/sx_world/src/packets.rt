@@ -3,7 +3,7 @@
 ghost use Rattle.std.specs.Prelude.{◌≡◌, ◌<◌, ◌≤◌, length, slice_get, Some, Ok, Err, IfOk, IfErr};
 ghost use Rattle.sx_machine.specs.State.{State};
 ghost use Rattle.sx_machine.specs.Acts as acts;
-ghost use Rattle.sx_run.specs.Acts.{at_node, after_take, with_packet};
+ghost use Rattle.sx_run.specs.Acts.{at_node, after_take, new_packet};
 ghost use Rattle.sx_world.specs.Held.{DoesAct};
 ghost use Rattle.sx_run.specs.Run.{give};
 ghost use Rattle.sx_run.specs.Setting.{Setting};
@@ -51,7 +51,7 @@ impl<B: Copied, T: Tag> Running<B, T> {
         requires short { length bytes.now < 65536 }
         ensures { (set : Setting) → DoesAct set result self.old self.new items.old.items
             items.new.items
-            (λ w. with_packet w bytes.now) }
+            (λ w. new_packet w bytes.now) }
     {
         let number = self.packets.len() as u32;
         let packet = bytes.to_vec(self.alloc)?;

@@ -9,7 +9,7 @@ use Rattle.sx_run.specs.Setting.{Setting}
 use Rattle.sx_machine.specs.declared.kinds.Refused.{Refused}
 use Rattle.sx_machine.specs.State.{State}
 use Rattle.sx_machine.specs.Acts.{take}
-use Rattle.sx_run.specs.Acts.{at_node, refused_item, after_take, with_packet}
+use Rattle.sx_run.specs.Acts.{at_node, refused_item, after_take, new_packet}
 use Rattle.sx_run.specs.Run.{give, put_on}
 use Rattle.sx_run.specs.State.{World, Acted}
 use Rattle.sx_world.specs.Held.{AddsFront, Running, Shows, Did, Wanted, DoesAct}
@@ -56,9 +56,9 @@ give_none (Err x) old before after n at k found e = tt
 -- a new packet is kept
 pub packet_did : {T E : Type 0} (r : Result T E) (old view : Running) (packets : List (List ℕ)) (before after : List Item) (bytes : List ℕ) (number : ℕ) → view ≡ old
     → packets ≡ old.packets ++ bytes ∷ [] → number ≡ length old.packets → OnOk r (after ≡ before ++ Packet number (length bytes) ∷ [])
-    → OnOk r ((set : Setting) → Did set old (with_packets view packets) before after (λ w. with_packet w bytes))
+    → OnOk r ((set : Setting) → Did set old (with_packets view packets) before after (λ w. new_packet w bytes))
 packet_did (Ok x) old view packets before after bytes number v e count added = λ set w h. (
-  subst (λ (k : Running). Shows set (with_packets k packets) (with_packet w bytes).world) (sym v)
+  subst (λ (k : Running). Shows set (with_packets k packets) (new_packet w bytes).world) (sym v)
       (record {
         nodes = h.nodes;
         packets = e ∙ ap (λ ps. ps ++ bytes ∷ []) h.packets;
@@ -82,11 +82,11 @@ map_long (x ∷ xs) = ap suc (map_long xs)
 -- bytes that were taken are a new packet
 pub took_does : {T E : Type 0} (set : Setting) (r : Result T E) (old new : Running) (before after : List Item) (n at len : ℕ) (bytes : List ℕ) (s : State)
     → slice_get old.nodes n ≡ Some s → (take s at len).shown ≡ Ok bytes
-    → DoesAct set r old new before after (λ w. with_packet w bytes)
+    → DoesAct set r old new before after (λ w. new_packet w bytes)
     → DoesAct set r old new before after (λ w. at_node w (λ s. after_take w n (take s at len).shown) (slice_get w.nodes n))
 took_does set r old new before after n at len bytes s here shown does =
     let taken : World → State → Acted = λ w s. after_take w n (take s at len).shown in
-    does_same set r old new before after (λ w. with_packet w bytes) (λ w. at_node w (taken w) (slice_get w.nodes n))
+    does_same set r old new before after (λ w. new_packet w bytes) (λ w. at_node w (taken w) (slice_get w.nodes n))
     (λ w h. ap (λ o. after_take w n o) (sym shown) ∙ ap (λ o. at_node w (taken w) o) (sym (ap (λ ns. slice_get ns n) (sym h.nodes) ∙ here)))
     does
 

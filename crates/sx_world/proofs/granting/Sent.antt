@@ -11,7 +11,7 @@ use Rattle.sx_run.specs.Setting.{Setting}
 use Rattle.sx_run.specs.Wire.{ask_packet, challenge_in}
 use Rattle.sx_run.specs.Deployer.{DeployerState, after_ask}
 use Rattle.sx_run.specs.State.{World}
-use Rattle.sx_run.specs.Acts.{ask, with_deployer, with_packet}
+use Rattle.sx_run.specs.Acts.{ask, with_deployer, new_packet}
 use Rattle.sx_world.specs.Held.{Running, IsKept, Records, Shows, DoesAct}
 use Rattle.sx_world.proofs.granting.SameKeys.{same_packet, asked_kept, challenge_same}
 
@@ -34,7 +34,7 @@ deployer_shown set old w k d entries ledger h kept records = record {
 -- a packet came
 pub packet_shown : (set : Setting) (old : Running) (w : World) (packets : List (List ℕ)) (bytes sent_bytes : List ℕ)
     → Shows set old w → packets ≡ old.packets ++ bytes ∷ [] → bytes ≡ sent_bytes
-    → Shows set (sent old packets old.deployer old.ledger) (with_packet w sent_bytes).world
+    → Shows set (sent old packets old.deployer old.ledger) (new_packet w sent_bytes).world
 packet_shown set old w packets bytes sent_bytes h e same = record {
   nodes = h.nodes;
   packets = e ∙ ap (λ (ps : List (List ℕ)). ps ++ bytes ∷ []) h.packets ∙ ap (λ b. w.packets ++ b ∷ []) same;

@@ -1,7 +1,7 @@
 use Rattle.std.proofs.Common.{[], false, subst}
 use Rattle.sx_sched.specs.declared.lines.Line.TheVariants as read
 use Rattle.sx_deploy.specs.SeenDeployment.{deployed_as}
-use Rattle.sx_run.specs.Acts.{with_packet}
+use Rattle.sx_run.specs.Acts.{new_packet}
 use Rattle.sx_world.specs.Held.{DoesAct}
 use Rattle.sx_run.specs.Accepted.{setting}
 use Rattle.sx_run.specs.Run.{put_on, steps_of}
@@ -57,7 +57,7 @@ returns-in-Forge g c =
     let set = setting g.T.Tag.mac (deployed_as c.args.deployment.now) c.args.sites.now in
     line_does set c.new_packet.result c.args.self.now c.new_packet.new.self c.args.items.now.items c.new_packet.new.items.items c.args.line.now (read.Forge c.in-Forge.bytes) c.in-Forge.is
     (subst (λ bytes. DoesAct set c.new_packet.result c.args.self.now c.new_packet.new.self c.args.items.now.items c.new_packet.new.items.items
-    (λ w. with_packet w bytes)) c.deref-in-Forge.ensures.value
+    (λ w. new_packet w bytes)) c.deref-in-Forge.ensures.value
     (c.new_packet.ensures set))
 
 pub returns-in-Sense : goal.returns-in-Sense
