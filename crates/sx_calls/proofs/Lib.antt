@@ -1,0 +1,12 @@
+pub mod Observing
+pub mod Registering
+pub mod Runner
+pub mod Middle
+pub mod Running
+pub mod Finishing
+pub mod Calling
+pub mod GoingOn
+pub mod Budgets
+pub mod KeyGiving
+pub mod Showing
+pub mod Four

@@ -1,0 +1,4 @@
+pub mod Shown
+pub mod Calls
+pub mod Laws
+pub mod FourCalls
