@@ -1,0 +1,12 @@
+pub mod Agreement
+pub mod Computed
+pub mod Lists
+pub mod Course
+pub mod AsPlain
+pub mod Sending
+pub mod Events
+pub mod Views
+pub mod Agreed
+pub mod Setup
+pub mod Honest
+pub mod Fuel

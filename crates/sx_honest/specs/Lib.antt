@@ -1,0 +1,5 @@
+pub mod Plain
+pub mod Course
+pub mod Told
+pub mod Laws
+pub mod Worked
