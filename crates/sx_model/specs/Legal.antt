@@ -16,7 +16,7 @@ after app s (item ∷ items) = option_and_then (λ t. after app t items) (step a
 abbrev pub Legal : AppTree → List Item → Type 0
 Legal app items = IsSome (after app (power_on app) items)
 
--- an item that says that somebody without the key made a tag
+-- an item that says that what comes next rests on what its rightful maker hadn't made
 abbrev pub is_forged : Item → Bool
 is_forged (Forged m) = true
 is_forged _ = false

@@ -108,7 +108,7 @@ pub enum Item {
         number: u32,
         len: u16,
     },
-    /// No holder of the key had made what the item after this one rests on. The module is the one
+    /// What the item after this one rests on, its rightful maker hadn't made. The module is the one
     /// that opened or took; none is the deployer, which attested.
     Forged {
         module: Option<u8>,
