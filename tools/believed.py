@@ -19,7 +19,6 @@ SOURCE = ["sx_model.Legal.Legal", "sx_model.Legal.before"]
 CORE = SOURCE + [
     "sx_run.Law.RunsLegal",
     "sx_guard.Guarded.GuardedRun",
-    "sx_model.Consequences.TellsReader",
     "sx_trace.Items.item_words", "sx_trace.Items.spaced_words",
     "sx_tag.Mac.hmac_sha256",
 ]
@@ -194,7 +193,7 @@ def main():
     repository.show("The source: application, model, legal run and items", source)
     repository.show("The core, beside it", core - source)
     repository.show("From the text on", headline - core)
-    repository.show("The other commands", program - headline)
+    repository.show("What a reader may take from a trace, and the other commands", program - headline)
     print(f"core {repository.lines(core)}, headline {repository.lines(headline)}, program {repository.lines(program)} lines")
 
 

@@ -10,7 +10,6 @@ use Rattle.sx_told.proofs.Due.{streams-by}
 use Rattle.sx_tag.specs.Mac.{Mac, IsTag}
 use Rattle.sx_head.specs.Head.{head, head_lines}
 use Rattle.sx_model.specs.Legal.{Legal, before}
-use Rattle.sx_model.proofs.Telling as telling
 use Rattle.sx_deploy.specs.Deployment.{Deployed}
 use Rattle.sx_run.specs.Accepted.{AreImages, setting_of}
 use Rattle.sx_command_head.specs.Meanings.{Meaning, IsMeaning}
@@ -43,8 +42,6 @@ runs_with {tells} {to_tell} {m0} {m1} {status} mac tag deployment texts headed r
   told = told;
   streams = λ meaning is. streams-by longest (run_all mac meaning texts) (due_all mac meaning texts) (told meaning is);
   legal = λ d deploys schedule. legal_by mac deployment texts d tag deploys (realize d deploys) schedule;
-  tells_reader = λ d deploys schedule.
-      telling.tells d.app (before (items_of mac d texts schedule)) (legal_by mac deployment texts d tag deploys (realize d deploys) schedule);
   guarded = λ d lines. runs_guarded (setting_of mac d texts) lines;
   complete = λ meaning is t good quiet.
       let answers = scan head_lines Ended [] m0.source.rest in

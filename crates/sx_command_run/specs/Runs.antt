@@ -7,6 +7,8 @@ use Rattle.sx_told.specs.Told.{CommandAt, Told, Rest, out_of_memory}
 use Rattle.sx_told.specs.Further.{Streams}
 use Rattle.sx_tag.specs.Mac.{Mac}
 use Rattle.sx_head.specs.Head.{Head, Found, TooLong, NoMark, Unread, head, head_lines}
+use Rattle.sx_mean.specs.Application.{AppTree}
+use Rattle.sx_trace.specs.declared.items.Item.{Item}
 use Rattle.sx_model.specs.Legal.{Legal, before}
 use Rattle.sx_model.specs.Consequences.{TellsReader}
 use Rattle.sx_deploy.specs.Deployment.{Deployed, IsRead}
@@ -37,10 +39,9 @@ Deploys (Some text) d = IsRead text (Ok d)
 -- There are images, each of which realizes its module of the deployment that was read, and what was
 -- written is the text of the run with these images (`told`); no more was taken than must be
 -- (`streams`). Whatever the schedule is, the items of its run with them are legal up to the first
--- that is forged, with what a reader may take from that (`tells_reader`); and its run is a script,
--- in which each thing that happens leaves each private section alone (`guarded`). An input that
--- keeps the rules is run to its end (`complete`). That there is no head is reported without memory
--- (`headed`).
+-- that is forged; and its run is a script, in which each thing that happens leaves each private
+-- section alone (`guarded`). An input that keeps the rules is run to its end (`complete`). That
+-- there is no head is reported without memory (`headed`).
 pub record RunsWith (mac : Mac) (tells to_tell : Bool) (m0 m1 : CommandAt) (status : ℕ) : Type
     0 where
   pub deployment : Option (List ℕ)
@@ -54,8 +55,6 @@ pub record RunsWith (mac : Mac) (tells to_tell : Bool) (m0 m1 : CommandAt) (stat
       → Streams tells to_tell head_lines m0 m1 (run_all mac meaning texts)
   pub legal : (d : Deployed) → Deploys deployment d → (schedule : List Answer)
       → Legal d.app (before (items_of mac d texts schedule))
-  pub tells_reader : (d : Deployed) → Deploys deployment d → (schedule : List Answer)
-      → TellsReader d.app (before (items_of mac d texts schedule))
   pub guarded : (d : Deployed) (lines : List Line) → GuardedRun (setting_of mac d texts) lines
   pub complete : (meaning : Meaning) → IsMeaning meaning → IsTrue tells
       → IsGoodInput meaning (head (input_of m0)) → IsFaultless m0 m1
@@ -78,6 +77,13 @@ pub record RunSays (mac : Mac) (tells to_tell : Bool) (m0 m1 : CommandAt) (statu
   pub read_all : status ≡ 0 → IsTrue tells → m1.source.rest ≡ []
   pub exact : (meaning : Meaning) → IsMeaning meaning → IsTrue tells → IsFaultless m0 m1
       → (status ≡ out_of_memory) ⊎ (status ≡ run_status meaning (input_of m0))
+
+-- What `run` promises, and beside it what a reader may take from each legal trace: that follows
+-- from what is legal.
+pub record RunTold (mac : Mac) (tells to_tell : Bool) (m0 m1 : CommandAt) (status : ℕ) : Type
+    0 where
+  pub says : RunSays mac tells to_tell m0 m1 status
+  pub reader : (app : AppTree) (items : List Item) → Legal app items → TellsReader app items
 
 -- What does the rest of the command after a head of this text: with these images, which realize its
 -- modules, it writes what is defined for what is to come.

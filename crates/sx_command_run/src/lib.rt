@@ -1,6 +1,6 @@
 //! The command `run`: a deployment, and a schedule that is performed while it is read.
 //!
-//! What it promises is `RunSays` of specs/Runs.antt: what is written, and the exit status, are
+//! What it promises is `RunTold` of specs/Runs.antt: what is written, and the exit status, are
 //! `run_all` (specs/Run.antt) of the input: of its head (sx_head), of what the deployment in it
 //! means (sx_deploy), of the texts of its modules' images, and of the lines of its schedule
 //! (sx_command_world), each of which is an act in a world (sx_world); and how far the input was

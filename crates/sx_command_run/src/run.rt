@@ -12,7 +12,7 @@ ghost use Rattle.sx_run.specs.Accepted.{AreImages};
 ghost use Rattle.sx_world.specs.InMemory.{texts_of};
 ghost use Rattle.sx_command_head.specs.Refused.{EndsRefused};
 ghost use Rattle.sx_command_run.specs.Run.{run_deployed};
-ghost use Rattle.sx_command_run.specs.Runs.{RunSays, RunsOrRanOut};
+ghost use Rattle.sx_command_run.specs.Runs.{RunTold, RunsOrRanOut};
 
 use crate::schedule::run_built;
 use std::alloc::Global;
@@ -132,7 +132,7 @@ pub fn run_over<S: Source, K: Sink, T: Tag + Copy>(
     input: &mut S,
     output: &mut K,
 ) -> u8
-    ensures { RunSays T.mac S.tells K.tells (command_at (S.at input.old) (K.at output.old))
+    ensures { RunTold T.mac S.tells K.tells (command_at (S.at input.old) (K.at output.old))
         (command_at (S.at input.new) (K.at output.new)) result }
 {
     let mut lines = Lines::new();

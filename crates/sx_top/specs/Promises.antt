@@ -9,7 +9,7 @@ use Rattle.sx_command_asm.specs.Assembling.{AsmTold}
 use Rattle.sx_top.specs.Commands.{command_of}
 use Rattle.sx_command_asm.specs.Disassembling.{DisTold}
 use Rattle.sx_command.specs.Output.{misuse_output}
-use Rattle.sx_command_run.specs.Runs.{RunSays}
+use Rattle.sx_command_run.specs.Runs.{RunTold}
 use Rattle.sx_command_gen.specs.Workload.{GenTold}
 use Rattle.sx_command_check.specs.Promise.{CheckTold}
 
@@ -28,7 +28,7 @@ pub record GenSays (mac : Mac) (n : ℕ) (to_tell : Bool) (m0 m1 : CommandAt) (s
 -- what a command promises
 abbrev pub CommandTold : Mac → Option Command → Bool → Bool → CommandAt → CommandAt → ℕ → Type 0
 CommandTold mac None tells to_tell m0 m1 status = MisusedTold to_tell m0 m1 status
-CommandTold mac (Some Run) tells to_tell m0 m1 status = RunSays mac tells to_tell m0 m1 status
+CommandTold mac (Some Run) tells to_tell m0 m1 status = RunTold mac tells to_tell m0 m1 status
 CommandTold mac (Some Check) tells to_tell m0 m1 status = CheckTold tells to_tell m0 m1 status
 CommandTold mac (Some (Gen n)) tells to_tell m0 m1 status = GenSays mac n to_tell m0 m1 status
 CommandTold mac (Some (Asm at)) tells to_tell m0 m1 status = AsmTold at tells to_tell m0 m1 status

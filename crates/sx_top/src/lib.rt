@@ -2,7 +2,7 @@
 //!
 //! `top` does all that the program does. What it promises is one record, `ProgramTold` of
 //! specs/Promises.antt, which hands on what its command promises: `AsmTold` and `DisTold`
-//! (sx_command_asm), `CheckTold` (sx_command_check), `GenTold` (sx_command_gen), `RunSays`
+//! (sx_command_asm), `CheckTold` (sx_command_check), `GenTold` (sx_command_gen), `RunTold`
 //! (sx_command_run).
 #![tactic(auto)]
 

@@ -1,5 +1,6 @@
 use Rattle.std.proofs.Common.{ℕ, List, subst}
 use Rattle.sx_told.specs.Told.{command_at}
+use Rattle.sx_model.proofs.Telling.{tells}
 use Rattle.sx_command_run.specs.Runs.{RunsOrRanOut}
 use Rattle.sx_command_run.proofs.Behind.{says_headless, says_behind}
 use Rattle.sx_command_run.proofs.run.run_over.Goals as goal
@@ -8,7 +9,14 @@ pub returns-in-Ok : goal.returns-in-Ok
 returns-in-Ok g c =
     let P : List ℕ → Type 0 = λ text. RunsOrRanOut g.T.Tag.mac g.S.Source.tells g.K.Sink.tells c.read_head.new.lines
     (command_at (g.S.Source.at c.read_head.new.source) (g.K.Sink.at c.args.output.now)) (command_at (g.S.Source.at c.run_text.new.input) (g.K.Sink.at c.run_text.new.output)) c.run_text.result text in
-    says_behind {now = c.read_head.new.lines} g.T.Tag.mac c.in-Ok.text.items g.met.T.Tag.is_tag c.in-Ok.ensures (subst P c.deref.ensures.value c.run_text.ensures)
+    record {
+      says = says_behind {now = c.read_head.new.lines} g.T.Tag.mac c.in-Ok.text.items g.met.T.Tag.is_tag c.in-Ok.ensures
+          (subst P c.deref.ensures.value c.run_text.ensures);
+      reader = tells;
+    }
 
 pub returns-in-Err : goal.returns-in-Err
-returns-in-Err g c = says_headless g.T.Tag.mac c.read_head.new.lines c.in-Err.fault g.met.T.Tag.is_tag c.in-Err.ensures c.refuse_head.ensures
+returns-in-Err g c = record {
+  says = says_headless g.T.Tag.mac c.read_head.new.lines c.in-Err.fault g.met.T.Tag.is_tag c.in-Err.ensures c.refuse_head.ensures;
+  reader = tells;
+}

@@ -16,7 +16,7 @@ pub returns-in-Some-Run-clause-told : goal.returns-in-Some-Run-clause-told
 returns-in-Some-Run-clause-told g c =
     program hmac_sha256 (map string_bytes c.args.words.now) (Some Run)
     (sym c.command_of.ensures.command ∙ c.in-Some-Run.is ∙ ap Some c.in-Some-Run.field-0-is) c.run_over.ensures
-    (λ two. absurd (says_not_two hmac_sha256 c.run_over.ensures two))
+    (λ two. absurd (says_not_two hmac_sha256 c.run_over.ensures.says two))
 
 pub returns-in-Some-Check-clause-told : goal.returns-in-Some-Check-clause-told
 returns-in-Some-Check-clause-told g c =
