@@ -40,18 +40,39 @@ def is_text(line):
     return line.strip() and not line.strip().startswith("--")
 
 
+def flat(lines):
+    """The lines, with what is defined together (`mutual`) as definitions of their own."""
+    together = False
+    for line in filter(is_text, lines):
+        if re.match(r"(?:abbrev |unfoldable )?mutual\b", line):
+            together = True
+        elif together and line.startswith("  "):
+            yield line[2:]
+        else:
+            together = False
+            yield line
+
+
+def begins(line, name):
+    """The name of the definition that begins with this line after that of another, or that other's."""
+    if line[0].isspace() or line[0] in "})]":
+        return name
+    if name and "◌" in name and name.strip("◌") in line.split():
+        return name
+    return HEAD.match(line).group(1)
+
+
 def parts(lines):
     """The definitions of a file, each with the names that stand for it: its own, its constructors', its fields'."""
     name, rows = None, []
-    for line in filter(is_text, lines):
-        if line.startswith(("use ", "pub use ", "module ", "pub mod", "mod ")):
+    for line in flat(lines):
+        if line.startswith(("use ", "pub use ", "module ", "pub mod", "mod ", "infix")):
             continue
-        if not line[0].isspace():
-            head = HEAD.match(line).group(1)
-            if head != name:
-                if name:
-                    yield name, rows
-                name, rows = head, []
+        head = begins(line, name)
+        if head != name:
+            if name:
+                yield name, rows
+            name, rows = head, []
         rows.append(line)
     if name:
         yield name, rows
@@ -61,6 +82,11 @@ def constructors(rows):
     if re.match(r"(pub )?data\b", rows[0]):
         for row in rows[1:]:
             yield row.split(":")[0].split()[0] if ":" in row else row.split()[0]
+
+
+def spoken(name):
+    """The word by which a text names a definition: of an operator the part that WORD finds."""
+    return WORD.match(name.strip("◌")).group(0) if "◌" in name and WORD.match(name.strip("◌")) else name
 
 
 def rust_types(crate):
@@ -97,7 +123,7 @@ class Repository:
             for name, rows in parts(lines):
                 it = Definition(f"{crate}/specs/{path.name}", name)
                 it.lines, it.text = len(rows), rows
-                self.add((module, name), it, [name, *constructors(rows)])
+                self.add((module, name), it, [name, spoken(name), *constructors(rows)])
             for line in lines:
                 self.add_import(module, line)
 
@@ -114,7 +140,7 @@ class Repository:
             return
         for name in names.split(","):
             old, _, new = name.strip().partition(" as ")
-            self.imports[module][new or old] = (target, old)
+            self.imports[module][spoken(new or old)] = (target, old)
 
     @staticmethod
     def target(path):
