@@ -14,6 +14,7 @@
 #![tactic(auto)]
 
 mod calls;
+mod copying;
 mod deployer;
 mod devices;
 mod grants;

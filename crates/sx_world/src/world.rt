@@ -28,13 +28,13 @@ use sx_trace::items::Item;
 /// A deployment that runs: its nodes, the network, the deployer and the ledger.
 #[derive(Drop)]
 pub struct World<B: Bus, T: Tag> {
-    sites: Vec<Site>,
-    running: Running<B, T>,
-    lines: u32,
+    pub(crate) sites: Vec<Site>,
+    pub(crate) running: Running<B, T>,
+    pub(crate) lines: u32,
     /// Whether memory ran out in an act: no further line is performed then.
-    wanted: bool,
+    pub(crate) wanted: bool,
     /// How many items the list held when the last act ended.
-    made: usize,
+    pub(crate) made: usize,
 }
 
 impl<B: Bus, T: Tag> Model for World<B, T> {

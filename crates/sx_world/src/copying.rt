@@ -1,0 +1,105 @@
+//! Copies of worlds, and the nodes of a world.
+
+ghost use Rattle.std.specs.Prelude.{◌≡◌, ◌<◌, Some, IfOk, length, map, slice_get};
+
+use crate::running::Running;
+use crate::sites::Site;
+use crate::world::World;
+use std::alloc::{AllocError, Global};
+use sx_bus::{Bus, Copied};
+use sx_node::Node;
+use sx_tag::Tag;
+
+fn copy_of_site(site: &Site) -> Result<Site, AllocError>
+    ensures { IfOk result (λ copy. copy ≡ site.now) }
+{
+    Ok(Site {
+        node: site.node,
+        layout: site.layout,
+        provider: site.provider,
+        text: site.text.clone()?,
+    })
+}
+
+fn copy_of_sites(alloc: Global, sites: &[Site]) -> Result<Vec<Site>, AllocError>
+    ensures { IfOk result (λ copies. copies.items ≡ sites.now) }
+{
+    let mut copies = Vec::new(alloc);
+    for site in sites {
+        copies.push(copy_of_site(site)?)?;
+    }
+    Ok(copies)
+}
+
+fn copy_of_nodes<B: Copied, T: Tag + Copy>(
+    alloc: Global,
+    nodes: &[Node<B, T>],
+) -> Result<Vec<Node<B, T>>, AllocError>
+    ensures { IfOk result (λ copies. copies.items ≡ nodes.now) }
+{
+    let mut copies = Vec::new(alloc);
+    for node in nodes {
+        copies.push(node.copy(alloc)?)?;
+    }
+    Ok(copies)
+}
+
+fn copy_of_packets(alloc: Global, packets: &[Vec<u8>]) -> Result<Vec<Vec<u8>>, AllocError>
+    ensures { IfOk result (λ copies.
+        map (λ p. p.items) copies.items ≡ map (λ p. p.items) packets.now) }
+{
+    let mut copies = Vec::new(alloc);
+    for packet in packets {
+        copies.push(packet.to_vec(alloc)?)?;
+    }
+    Ok(copies)
+}
+
+impl<B: Copied, T: Tag + Copy> Running<B, T> {
+    /// An equal run, with nodes, packets, a deployer and a ledger of its own.
+    fn copy(&self, alloc: Global) -> Result<Running<B, T>, AllocError>
+        ensures { IfOk result (λ copy. copy ≡ self.now) }
+    {
+        let nodes = copy_of_nodes(alloc, &self.nodes)?;
+        let packets = copy_of_packets(alloc, &self.packets)?;
+        let deployer = self.deployer.copy(alloc)?;
+        let ledger = self.ledger.copy(alloc)?;
+        Ok(Running {
+            alloc,
+            tag: self.tag,
+            nodes,
+            packets,
+            deployer,
+            ledger,
+            steps: self.steps,
+        })
+    }
+}
+
+impl<B: Copied, T: Tag + Copy> World<B, T> {
+    /// An equal world of its own: what is done in one of the two leaves the other as it was. The
+    /// error says that memory ran out.
+    pub fn copy(&self, alloc: Global) -> Result<World<B, T>, AllocError>
+        ensures { IfOk result (λ copy. copy ≡ self.now) }
+    {
+        let sites = copy_of_sites(alloc, &self.sites)?;
+        let running = self.running.copy(alloc)?;
+        Ok(World {
+            sites,
+            running,
+            lines: self.lines,
+            wanted: self.wanted,
+            made: self.made,
+        })
+    }
+}
+
+impl<B: Bus, T: Tag> World<B, T> {
+    /// The node of this index.
+    pub fn node(&self, node: u8) -> &Node<B, T>
+        requires { node < length self.now.running.nodes }
+        ensures { slice_get self.now.running.nodes node ≡ Some result.now }
+    {
+        &self.running.nodes[usize::from(node)]
+    }
+}
