@@ -296,7 +296,7 @@ class Viewer(unittest.TestCase):
         self.browser.shoot("program-open")
         self.browser.value("page.go(page.run.output.items.findLast(it => it.kind === 'out').row)")
         self.browser.shoot("program-out")
-        self.assertIn("out lamp 0", self.texts("#more")[0])
+        self.assertIn("out lamp 1", self.texts("#more")[0])
 
     def test_find_and_fold(self):
         self.show(run_of(*readings(3)))
