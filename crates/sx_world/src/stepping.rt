@@ -117,7 +117,7 @@ impl<B: Copied, T: Tag> Running<B, T> {
         seen: &Seen,
         items: &mut Vec<Item>,
     ) -> Result<(), AllocError>
-        requires node { n < length self.old.nodes }
+        requires { n < length self.old.nodes }
         ensures done { OnOk result ((s : State) → slice_get self.old.nodes n ≡ Some s
             → Observes self.old.ledger self.new.ledger items.old.items items.new.items
             (observed (setting_in T.mac setting.now) n

@@ -10,8 +10,8 @@ use Rattle.sx_world.proofs.passing.Going.{going_on, going_over, going_front, goi
 use Rattle.sx_world.proofs.passing.Passed.{passage, passed_going, passed_did, passed_front, passed_ends, passed_small, passed_within, passed_steps, shown_within, all_passed, stepped_there, one_less}
 use Rattle.sx_world.proofs.running.Running.steps_of.Goals as goal
 
-pub show-requires-clause-node : goal.show-requires-clause-node
-show-requires-clause-node g c =
+pub show-requires : goal.show-requires
+show-requires g c =
     let p = passage g.T.Tag.mac c.args.idle c.args.n c.pass-quiet.result.count c.stretches.left c.stretches.self c.pass-quiet.new.self c.pass-quiet.result.last c.in-Some.seen
     c.stretches.invariant.within c.pass-quiet.ensures.quiet c.pass-quiet.ensures.last c.pass-quiet.ensures.left c.in-Some.is in
     passed_within g.T.Tag.mac c.args.idle c.args.n c.pass-quiet.result.count c.stretches.left c.stretches.self c.pass-quiet.new.self c.in-Some.seen p c.stretches.invariant.within
