@@ -1,0 +1,38 @@
+-- Runs of lines, one after the other.
+use Rattle.std.proofs.Common.{◌≡◌, ℕ, List, [], ◌∷◌, ◌++◌, refl, sym, ◌∙◌, ap}
+use Rattle.std.specs.Prelude.{slice_set}
+use Rattle.sx_trace.specs.declared.items.Item.{Item}
+use Rattle.sx_machine.specs.State.{State}
+use Rattle.sx_sched.specs.Lines.{Line}
+use Rattle.sx_run.specs.Setting.{Setting}
+use Rattle.sx_run.specs.Deployer.{DeployerState}
+use Rattle.sx_run.specs.Ledger.{Made}
+use Rattle.sx_run.specs.State.{World, Acted}
+use Rattle.sx_run.specs.Acts.{then_}
+use Rattle.sx_run.specs.Run.{after_line, line_counted, run}
+use Rattle.sx_run.proofs.steps.Stretch.{set_set}
+use Rattle.sx_setup.proofs.forms.Served.{Moves}
+
+pub assoc : {X : Type 0} → (xs ys zs : List X) → (xs ++ ys) ++ zs ≡ xs ++ (ys ++ zs)
+assoc [] ys zs = refl
+assoc (x ∷ xs) ys zs = ap (λ r. x ∷ r) (assoc xs ys zs)
+
+pub run_append : (set : Setting) (xs ys : List Line) (w : World) → run set w (xs ++ ys) ≡ then_ (run set w xs) (λ v. run set v ys)
+run_append set [] ys w = refl
+run_append set (x ∷ xs) ys w =
+    let a = after_line set (line_counted w) x in
+    ap (λ (r : Acted). record { world = r.world; items = a.items ++ r.items }) (run_append set xs ys a.world)
+    ∙ ap (λ is. record { world = (run set (run set a.world xs).world ys).world; items = is }) (sym (assoc a.items (run set a.world xs).items (run set (run set a.world xs).world ys).items))
+
+pub moves_then : (set : Setting) (w : World) (xs ys : List Line) (is js : List Item) (n : ℕ) (t u : State) (ps qs : List (List ℕ)) (d e : DeployerState) (a b : List Made)
+    → (first : Moves set w xs is n t ps d a) → Moves set first.world ys js n u qs e b → Moves set w (xs ++ ys) (is ++ js) n u qs e b
+moves_then set w xs ys is js n t u ps qs d e a b first second = record {
+  world = second.world;
+  is =
+      run_append set xs ys w ∙ ap (λ (r : Acted). then_ r (λ v. run set v ys)) first.is
+      ∙ ap (λ (r : Acted). record { world = r.world; items = is ++ r.items }) second.is;
+  nodes = second.nodes ∙ ap (λ (ns : List State). slice_set ns n u) first.nodes ∙ set_set w.nodes n t u;
+  packets = second.packets;
+  deployer = second.deployer;
+  ledger = second.ledger;
+}

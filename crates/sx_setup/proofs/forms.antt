@@ -1,0 +1,8 @@
+-- The forms of the set-up, which nobody has to believe. Begin with Settled: a world that stands as the course of
+-- an honest run says. The others say what each line, and each part of the lines, does.
+pub mod Loaded
+pub mod Served
+pub mod Acting
+pub mod Attesting
+pub mod PartDone
+pub mod Settled
