@@ -27,6 +27,7 @@ use Rattle.sx_run.specs.Setting.{Setting, device_number, is_at_site, windows_at}
 use Rattle.sx_run.specs.Wire.{is_ask, challenge_in, set_key_header}
 use Rattle.sx_run.specs.Deployer.{side_number}
 use Rattle.sx_ledger.specs.Made.{Made, NO_TARGET}
+use Rattle.sx_invoke.specs.Protocol.{all_done, set_key_entry, attest_entry, input_entry, sample_entry}
 use Rattle.sx_run.specs.Ledger.{made_entry, is_made}
 use Rattle.sx_run.specs.Observation.{Observed, is_driver, has_end, sender_of, unless_made, has_wrapped, has_unwrapped}
 use Rattle.sx_run.specs.State.{World}
@@ -38,7 +39,7 @@ use Rattle.sx_run.proofs.tie.Ends.{found_at, has_end-found}
 use Rattle.sx_run.proofs.steps.Sends.{Emits}
 use Rattle.sx_run.proofs.steps.Fits.{drivers_fit}
 use Rattle.sx_gives.specs.Effect.{acts_made, numbered}
-use Rattle.sx_gives.specs.Gives.{InvocationGives, beginning, index_in, low_call, own_device}
+use Rattle.sx_gives.specs.Gives.{InvocationGives, beginning, index_in, low_call, low_input, low_output, own_device}
 use Rattle.sx_gives.proofs.Attest.{attest_returns}
 use Rattle.sx_gives.proofs.Inputs.{input_returns}
 use Rattle.sx_gives.proofs.Samples.{sample_returns}
@@ -61,8 +62,8 @@ does set w c e devices effect sound h el g shown =
     let p : Progress = record { state = effect.state; mem = g.mem; devices = devices; marks = effect.marks; pieces = effect.pieces } in
     let same : progress_at su c.node ≡ beginning (state_at set c) c.node.mem c.node.devices =
     ap (λ (l : Layout). beginning (state_of c.part.tree (ends_of set.app c.number) (private_bytes l c.node.mem)) c.node.mem c.node.devices) h.stands.layout in
-    let returns : invoke su (low_call e) (progress_at su c.node) ≡ Returns 1 p = ap (λ z. invoke su (low_call e) z) same ∙ g.is in
-    let r = call_returns set w c e 0x40 0x80 1 p sound h el (omega arith) (omega arith) returns in
+    let returns : invoke su (low_call e) (progress_at su c.node) ≡ Returns all_done p = ap (λ z. invoke su (low_call e) z) same ∙ g.is in
+    let r = call_returns set w c e low_input low_output all_done p sound h el (omega arith) (omega arith) returns in
     record {
       mem = g.mem;
       devices = devices;
@@ -71,7 +72,7 @@ does set w c e devices effect sound h el g shown =
       steps = r.steps;
       few = r.few;
       is = r.is
-          ∙ ap (λ (o : Observed). record { world = with_node w c.site.node r.after o.ledger (w.steps + r.steps); items = o.items ++ item.Done c.number 1 (length effect.pieces) ∷ [] }) shown;
+          ∙ ap (λ (o : Observed). record { world = with_node w c.site.node r.after o.ledger (w.steps + r.steps); items = o.items ++ item.Done c.number all_done (length effect.pieces) ∷ [] }) shown;
     }
 
 -- an ask
@@ -82,7 +83,7 @@ attest_called set w c ask sound h low bytes is =
     let kind = (and_parts (length ask == 18) _ is).1 in
     let vouched : has_wrapped m c.node.boot ask [] true w.ledger ≡ record { items = item.Vouch m (challenge_in ask) ∷ []; ledger = w.ledger ++ entry ∷ [] } =
     cond-true _ _ _ (and_from (is_ask ask) true is refl) in
-    does set w c 1 c.node.devices _ sound h (omega arith)
+    does set w c attest_entry c.node.devices _ sound h (omega arith)
     (attest_returns (setup_of set c) (state_at set c) c.node.mem c.node.devices ask low bytes kind)
     (ap (λ (o : Observed). record { items = o.items ++ []; ledger = o.ledger }) vouched)
 
@@ -100,7 +101,7 @@ key_called set w c link epoch k side e key sound h low lt len found closed bytes
     let header = set_key_header link epoch (side_number side) in
     let has : has_end set.app m link side ≡ true = has_end-found link side ends k e (found_at link side ends k e found) in
     let opens = key_shows set.app m c.node.boot link epoch key w.ledger side has made in
-    does set w c 0 c.node.devices _ sound h (omega arith)
+    does set w c set_key_entry c.node.devices _ sound h (omega arith)
     (set_key_returns (setup_of set c) (state_at set c) c.node.mem c.node.devices link epoch k side e key low sound.tag lt len found closed bytes)
     (ap (λ is. record { items = is ++ []; ledger = w.ledger }) opens ∙ ap (λ l. record { items = item.Open m link side epoch ∷ []; ledger = l }) (sym (append-nil w.ledger)))
 
@@ -158,7 +159,7 @@ input_called set w c k i v e sound h low few found opens above below bytes made 
     let took = input_shows set.app m boot i v x w.ledger has made in
     let rest = acts_show set.app n m boot su c.part c.node.devices done.acts (with_end st.ends k (numbered x (i + 1))) h.part (emits set w c sound h (event.Input e.port v) st.cells) w.ledger in
     let o = marks_observed set.app n m boot d.marks w.ledger in
-    does set w c 2 c.node.devices _ sound h (omega arith)
+    does set w c input_entry c.node.devices _ sound h (omega arith)
     (input_returns su st c.node.mem c.node.devices k i v e low sound.tag few found opens above below bytes)
     (ap (λ is. record { items = is ++ o.items; ledger = o.ledger }) took
     ∙ ap (λ (r : Observed). record { items = take ∷ r.items; ledger = r.ledger }) rest)
@@ -186,7 +187,7 @@ sample_called set w c k window sound h low few driver own fresh =
     let rest : marks_observed set.app n m boot d.marks w.ledger ≡ record { items = map (λ u. item.Out m u) (emitted done.acts); ledger = w.ledger ++ entries_of m d.marks } =
     subst (λ o. Shows set.app n m boot (acts_made su o done.acts st.ends).marks (emitted done.acts)) index (acts_show set.app n m boot su c.part c.node.devices done.acts st.ends h.part em) w.ledger in
     let o = marks_observed set.app n m boot d.marks w.ledger in
-    does set w c 3 (cleared c.node.devices k) _ sound h (omega arith)
+    does set w c sample_entry (cleared c.node.devices k) _ sound h (omega arith)
     (sample_returns su st c.node.mem c.node.devices k window low sound.tag few driver own fresh)
     (ap (λ (b : Bool). record { items = (if b then item.Read m window.value else item.Drain sensor) ∷ o.items; ledger = o.ledger }) mine
     ∙ ap (λ (r : Observed). record { items = item.Read m window.value ∷ r.items; ledger = r.ledger }) rest)

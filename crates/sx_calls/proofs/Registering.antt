@@ -3,6 +3,7 @@ use Rattle.std.proofs.Common.{◌≡◌, ◌≢◌, ℕ, ◌-◌, ◌%◌, ◌<�
 use Rattle.std.specs.Prelude.{slice_get, slice_set, slice_index}
 use Rattle.std.proofs.lemmas.Bool.{eq-eqb}
 use Rattle.std.proofs.lemmas.List.{get_or-set_same, get_or-set_other, length-set}
+use Rattle.sx_ledger.specs.Made.{Made}
 use Rattle.sx_machine.specs.declared.kinds.Refused.TheVariants.{Busy}
 use Rattle.sx_machine.specs.Registers.{set_reg}
 use Rattle.sx_machine.specs.State.{State}
@@ -37,7 +38,7 @@ same_node w n s there =
     ap (λ ns. record { nodes = ns; packets = w.packets; deployer = w.deployer; ledger = w.ledger; lines = w.lines; steps = w.steps }) (sym (set_same w.nodes n s there))
 
 -- a node that changed twice
-pub node_twice : (w : World) (n : ℕ) (s t : State) (a b : List Rattle.sx_ledger.specs.Made.Made) (j k : ℕ) → with_node (with_node w n s a j) n t b k ≡ with_node w n t b k
+pub node_twice : (w : World) (n : ℕ) (s t : State) (a b : List Made) (j k : ℕ) → with_node (with_node w n s a j) n t b k ≡ with_node w n t b k
 node_twice w n s t a b j k =
     ap (λ ns. record { nodes = ns; packets = w.packets; deployer = w.deployer; ledger = b; lines = w.lines; steps = k }) (set_set w.nodes n s t)
 

@@ -1,5 +1,5 @@
 -- Whose code runs: the deployed module of the section that holds PC.
-use Rattle.std.proofs.Common.{◌≡◌, ℕ, inl, inr, ◌==◌, true, List, Option, Some, None, refl, sym, ◌∙◌, ap, subst, arith, bytes_eq}
+use Rattle.std.proofs.Common.{◌≡◌, ℕ, inl, inr, ◌==◌, Bool, true, List, Option, Some, None, refl, sym, ◌∙◌, ap, subst, arith, bytes_eq}
 use Rattle.std.specs.Prelude.{slice_get, option_and_then}
 use Rattle.std.specs.List.{position_from}
 use Rattle.std.proofs.lemmas.Bool.{and_from, eq-eqb}
@@ -35,7 +35,7 @@ own_site site mem sec layout provider text =
     (and_from (sec.provider == site.provider) (bytes_eq (public_bytes sec.layout mem) site.text) (eq-eqb sec.provider site.provider provider) ((bytes_eq-Decides (public_bytes sec.layout mem) site.text).1 text)))
 
 -- the first that passes a test is the only one
-first_is : {X : Type 0} → (test : X → Rattle.std.specs.Prelude.Bool) (xs : List X) (m : ℕ) (x : X) → slice_get xs m ≡ Some x → test x ≡ true → ((k : ℕ) (y : X) → slice_get xs k ≡ Some y → test y ≡ true → k ≡ m) → position_from test 0 xs ≡ Some m
+first_is : {X : Type 0} → (test : X → Bool) (xs : List X) (m : ℕ) (x : X) → slice_get xs m ≡ Some x → test x ≡ true → ((k : ℕ) (y : X) → slice_get xs k ≡ Some y → test y ≡ true → k ≡ m) → position_from test 0 xs ≡ Some m
 first_is test xs m x here is one = by_place (position_from test 0 xs) refl
   where
     by_place : (o : Option ℕ) → position_from test 0 xs ≡ o → position_from test 0 xs ≡ Some m

@@ -10,6 +10,7 @@ use Rattle.sx_mean.specs.Application.{AppTree, PartTree}
 use Rattle.sx_mean.specs.Ends.{is_sending}
 use Rattle.sx_bus.specs.declared.devices.Window.{Window}
 use Rattle.sx_trace.specs.declared.items.Item.TheVariants as item
+use Rattle.sx_invoke.specs.Protocol.{last_number}
 use Rattle.sx_invoke.specs.Setup.{Setup}
 use Rattle.sx_invoke.specs.ModuleState.{EndState, end_of}
 use Rattle.sx_invoke.specs.Marks.{Mark, Wrapped, Unwrapped, Sampled, Actuated}
@@ -56,7 +57,7 @@ module _ (app : AppTree) (n m boot : ℕ) where
 
   module _ (su : Setup) where
     packet_shows : (v k : ℕ) (ends : List EndState) → Shows (packet_made su v k ends).marks []
-    packet_shows v k ends = go ((end_of ends k).is_open && nat_lt (end_of ends k).number 65535)
+    packet_shows v k ends = go ((end_of ends k).is_open && nat_lt (end_of ends k).number last_number)
       where
         go : (b : Bool) → Shows (if b then one_packet su v k (end_of ends k) ends else nothing ends).marks []
         go true ledger = refl

@@ -1,6 +1,7 @@
 -- An ask is answered.
 use Rattle.std.proofs.Common.{◌≤◌, true, [], ◌∷◌, length, refl, ap, ◌∙◌, arith}
 use Rattle.sx_tag.specs.Wrap.{wrapped, crypt}
+use Rattle.sx_invoke.specs.Protocol.{attest_entry, ask_size, ask_kind, tag_size}
 use Rattle.sx_invoke.specs.Marks.{Wrapped}
 use Rattle.sx_invoke.specs.Progress.{Progress, finished}
 use Rattle.sx_invoke.specs.Entries.{attest}
@@ -17,9 +18,9 @@ attest_returns su st mem devices ask low bytes is =
     let p = beginning st mem devices in
     let tag = (wrapped su.mac su.section.key ask []).tag in
     let q : Progress = record p { marks = Wrapped ask [] true ∷ [] } in
-    let short : length tag ≤ 16 = tag_short su.mac su.section.key ask (crypt su.mac su.section.key ask []) in
-    let m = piece_made su devices low (low_call 1) tag q refl (omega (arith, short)) in
+    let short : length tag ≤ tag_size = tag_short su.mac su.section.key ask (crypt su.mac su.section.key ask []) in
+    let m = piece_made su devices low (low_call attest_entry) tag q refl (omega (arith, short)) in
     record {
       mem = m.0;
-      is = enters su p 1 low refl ∙ receives su p 1 18 2 ask (λ x. attest su (low_call 1) x p) low (omega arith) bytes is ∙ ap finished m.1;
+      is = enters su p attest_entry low refl ∙ receives su p attest_entry ask_size ask_kind ask (λ x. attest su (low_call attest_entry) x p) low (omega arith) bytes is ∙ ap finished m.1;
     }

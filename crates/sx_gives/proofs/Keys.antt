@@ -2,6 +2,7 @@
 use Rattle.std.proofs.Common.{◌≡◌, ℕ, ◌+◌, ◌-◌, ◌*◌, true, false, ◌&&◌, not, List, [], ◌∷◌, ◌++◌, length, take, drop, replicate, Some, nat_lt, refl, ap, ◌∙◌, arith}
 use Rattle.std.proofs.lemmas.Bool.{cond-false}
 use Rattle.sx_tag.specs.Wrap.{wrapped, unwrapped}
+use Rattle.sx_invoke.specs.Protocol.{all_done, no_end, set_key_entry, set_key_kind, set_key_size, key_size}
 use Rattle.sx_invoke.specs.ModuleState.{end_of, with_end, link_of, epoch_of}
 use Rattle.sx_invoke.specs.Marks.{Unwrapped}
 use Rattle.sx_invoke.specs.Progress.{Invoked, Returns}
@@ -16,7 +17,7 @@ pub key_returns : KeyReturns
 unfolding entered
 key_returns su st mem devices link epoch second k side e key low tag lt sd len found closed bytes =
     let p = beginning st mem devices in
-    let header : List ℕ = 1 ∷ 0 ∷ link ∷ epoch ∷ second ∷ 0 ∷ [] in
+    let header : List ℕ = set_key_kind ∷ 0 ∷ link ∷ epoch ∷ second ∷ 0 ∷ [] in
     let w = wrapped su.mac su.section.key header key in
     let packet : List ℕ = header ++ w.cipher ++ w.tag in
     let x = end_of st.ends k in
@@ -25,8 +26,8 @@ key_returns su st mem devices link epoch second k side e key low tag lt sd len f
     let the_end : end_on (link_of (link + 256 * epoch)) su.ends (side_of (second + 256 * 0)) ≡ Some (k, e) =
     ap (λ l. end_on l su.ends (side_of (second + 256 * 0))) the_link ∙ ap (λ n. end_on link su.ends (side_of n)) the_second
     ∙ ap (λ o. end_on link su.ends o) sd ∙ found in
-    let opened = unwrapped su.mac su.section.key header (take 16 (w.cipher ++ w.tag)) (drop 16 (w.cipher ++ w.tag)) in
-    let new : List ℕ → Invoked = λ body. Returns 1 (record {
+    let opened = unwrapped su.mac su.section.key header (take key_size (w.cipher ++ w.tag)) (drop key_size (w.cipher ++ w.tag)) in
+    let new : List ℕ → Invoked = λ body. Returns all_done (record {
       state = record { cells = st.cells; ends = with_end st.ends k (record { is_open = true; field = link + 256 * epoch; number = 0; key = body }) };
       mem = mem;
       devices = devices;
@@ -36,10 +37,10 @@ key_returns su st mem devices link epoch second k side e key low tag lt sd len f
     let keyed : is_keyed x (link + 256 * epoch) ≡ false = ap (λ b. b && not (nat_lt (epoch_of x.field) (epoch_of (link + 256 * epoch)))) closed in
     record {
       mem = mem;
-      is = enters su p 0 low refl
-          ∙ receives su p 0 38 1 packet (λ y. set_key su y p) low (omega arith) bytes refl
+      is = enters su p set_key_entry low refl
+          ∙ receives su p set_key_entry set_key_size set_key_kind packet (λ y. set_key su y p) low (omega arith) bytes refl
           ∙ ap (λ o. set_key_at su packet o p) the_end
-          ∙ cond-false _ (Returns 5 p) (key_opened k packet opened p) keyed
-          ∙ ap (λ o. key_opened k packet o p) (unwraps su.mac su.section.key header key 16 tag len (omega arith))
-          ∙ ap new (take_first 16 key (replicate (32 - length key) 0) len);
+          ∙ cond-false _ (Returns no_end p) (key_opened k packet opened p) keyed
+          ∙ ap (λ o. key_opened k packet o p) (unwraps su.mac su.section.key header key key_size tag len (omega arith))
+          ∙ ap new (take_first key_size key (replicate (32 - length key) 0) len);
     }

@@ -12,10 +12,10 @@ use Rattle.sx_machine.specs.Memory.{bytes_from}
 use Rattle.sx_machine.specs.Ranges.{meets}
 use Rattle.sx_invoke.specs.Setup.{Setup}
 use Rattle.sx_invoke.specs.Windows.{unless_device, read_byte, write_byte, then_, read_bytes, write_bytes, is_bad_window}
-use Rattle.sx_gives.specs.Gives.{IsLowFree}
+use Rattle.sx_gives.specs.Gives.{IsLowFree, low_end}
 
 abbrev Above : List Section → Type 0
-Above live = (x : Section) → Lives live x → (512 ≤ x.layout.pub_from) × (512 ≤ x.layout.priv_from)
+Above live = (x : Section) → Lives live x → (low_end ≤ x.layout.pub_from) × (low_end ≤ x.layout.priv_from)
 
 below_from : (from at : ℕ) (rest : Bool) → at < from → (nat_le from at && rest) ≡ false
 below_from from at rest lt = ap (λ b. b && rest) (lt-leb from at lt)
@@ -32,7 +32,7 @@ allowed own Read at x a b = ap (λ c. not c || (own == x.id)) (not_private x at 
 allowed own Write at x a b = ap (λ c. not c && (not (in_private x at) || (own == x.id))) (not_public x at a) ∙ ap (λ c. not c || (own == x.id)) (not_private x at b)
 allowed own Run at x a b = ap (λ c. not c && (not (in_public x at) || ((own == x.id) || at_entry x at))) (not_private x at b) ∙ ap (λ c. not c || ((own == x.id) || at_entry x at)) (not_public x at a)
 
-pub may_low : (live : List Section) (own : ℕ) (access : Access) (at : ℕ) → at < 512 → Above live → may live own access at ≡ true
+pub may_low : (live : List Section) (own : ℕ) (access : Access) (at : ℕ) → at < low_end → Above live → may live own access at ≡ true
 unfolding may
 may_low [] own access at lt h = refl
 may_low (x ∷ live) own access at lt h =
@@ -42,13 +42,13 @@ may_low (x ∷ live) own access at lt h =
     (may_low live own access at lt (λ y l. h y (inr l)))
 
 module _ (su : Setup) (devices : List Window) (low : IsLowFree su devices) where
-  read_low : (mem : List ℕ) (at : ℕ) → at < 512 → read_byte su devices mem at ≡ Ok (slice_index mem at)
+  read_low : (mem : List ℕ) (at : ℕ) → at < low_end → read_byte su devices mem at ≡ Ok (slice_index mem at)
   unfolding read_byte
   read_low mem at lt =
       cond-true _ _ _ (may_low su.live su.section.id Read at lt low.sections)
       ∙ ap (λ o. unless_device o (slice_index mem at)) (low.free at lt)
 
-  written_low : (mem : List ℕ) (at b : ℕ) → at < 512 → write_byte su devices mem at b ≡ Ok (slice_set mem at b)
+  written_low : (mem : List ℕ) (at b : ℕ) → at < low_end → write_byte su devices mem at b ≡ Ok (slice_set mem at b)
   unfolding write_byte
   written_low mem at b lt =
       cond-true _ _ _ (may_low su.live su.section.id Write at lt low.sections)
@@ -61,7 +61,7 @@ module _ (su : Setup) (devices : List Window) (low : IsLowFree su devices) where
       ap (λ l. l ++ slice_index mem (at + 1 + n) ∷ []) (bytes_first mem at n)
       ∙ ap (λ k. bytes_from mem at (suc n) ++ slice_index mem k ∷ []) (omega arith)
 
-  pub read_all : (mem : List ℕ) (at n : ℕ) → at + n ≤ 512 → read_bytes su devices mem at n ≡ Ok (bytes_from mem at n)
+  pub read_all : (mem : List ℕ) (at n : ℕ) → at + n ≤ low_end → read_bytes su devices mem at n ≡ Ok (bytes_from mem at n)
   unfolding read_bytes bytes_from
   read_all mem at zero le = refl
   read_all mem at (suc n) le =
@@ -69,14 +69,14 @@ module _ (su : Setup) (devices : List Window) (low : IsLowFree su devices) where
       ∙ ap (λ r. then_ r (λ bs. Ok (slice_index mem at ∷ bs))) (read_all mem (at + 1) n (omega (arith, le)))
       ∙ ap (λ bs. Ok bs) (bytes_first mem at n)
 
-  pub write_all : (mem : List ℕ) (at : ℕ) (bs : List ℕ) → at + length bs ≤ 512 → (new : List ℕ) × (write_bytes su devices mem at bs ≡ Ok new)
+  pub write_all : (mem : List ℕ) (at : ℕ) (bs : List ℕ) → at + length bs ≤ low_end → (new : List ℕ) × (write_bytes su devices mem at bs ≡ Ok new)
   unfolding write_bytes
   write_all mem at [] le = (mem, refl)
   write_all mem at (b ∷ bs) le =
       let r = write_all (slice_set mem at b) (at + 1) bs (omega (arith, le)) in
       (r.0, ap (λ r. then_ r (λ m. write_bytes su devices m (at + 1) bs)) (written_low mem at b (omega (arith, le))) ∙ r.1)
 
-  own_above : (512 ≤ su.section.layout.pub_from) × (512 ≤ su.section.layout.priv_from)
+  own_above : (low_end ≤ su.section.layout.pub_from) × (low_end ≤ su.section.layout.priv_from)
   own_above = low.sections su.section low.lives
 
   -- the return address 0 isn't inside
@@ -84,7 +84,7 @@ module _ (su : Setup) (devices : List Window) (low : IsLowFree su devices) where
   returns_outside = not_public su.section 0 (let a = own_above.0 in omega (arith, a))
 
   -- a window that ends below 0x0200 is fine
-  pub good_window : (at n : ℕ) → at + n ≤ 512 → is_bad_window su at n ≡ false
+  pub good_window : (at n : ℕ) → at + n ≤ low_end → is_bad_window su at n ≡ false
   good_window at n le =
       let l = su.section.layout in
       let a = own_above.1 in

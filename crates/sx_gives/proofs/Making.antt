@@ -11,15 +11,16 @@ use Rattle.sx_mean.specs.Ends.{is_sending, senders}
 use Rattle.sx_mean.specs.React.{react}
 use Rattle.sx_bus.specs.declared.devices.Window.{Window}
 use Rattle.sx_tag.specs.Mac.{IsTag}
+use Rattle.sx_invoke.specs.Protocol.{event_size, last_number}
 use Rattle.sx_invoke.specs.Setup.{Setup, Call}
 use Rattle.sx_invoke.specs.ModuleState.{EndState, end_of}
 use Rattle.sx_invoke.specs.Marks.{Actuated}
-use Rattle.sx_invoke.specs.Windows.{write_bytes}
+use Rattle.sx_invoke.specs.Windows.{out_window_size, write_bytes}
 use Rattle.sx_invoke.specs.Progress.{Progress, Course, Going, and_on}
 use Rattle.sx_invoke.specs.Acts.{copied_to, with_piece, wrap_counted, event_packet, with_packet, with_packets, own_window, actuated, with_act, with_acts, handled}
 use Rattle.sx_invoke.proofs.PiecesMarked.{packet_length}
 use Rattle.sx_gives.specs.Effect.{Effect, nothing, also, one_packet, packet_made, packets_made, emit_marks, act_made, acts_made, act_packets, acts_packets, MakesFew}
-use Rattle.sx_gives.specs.Gives.{index_in, own_device, IsLowFree}
+use Rattle.sx_gives.specs.Gives.{index_in, low_end, own_device, IsLowFree}
 use Rattle.sx_gives.proofs.Low.{write_all}
 
 -- the progress after this effect
@@ -69,7 +70,7 @@ senders-cons e es output = go (is_sending output e.side e.port) refl
 -- how many pieces
 module _ (su : Setup) where
   one_piece : (v k : ℕ) (ends : List EndState) → length (packet_made su v k ends).pieces ≤ 1
-  one_piece v k ends = go ((end_of ends k).is_open && nat_lt (end_of ends k).number 65535)
+  one_piece v k ends = go ((end_of ends k).is_open && nat_lt (end_of ends k).number last_number)
     where
       go : (b : Bool) → length (if b then one_packet su v k (end_of ends k) ends else nothing ends).pieces ≤ 1
       go true = omega arith
@@ -95,16 +96,16 @@ module _ (su : Setup) where
 
 module _ (su : Setup) (devices : List Window) (low : IsLowFree su devices) (c : Call) where
   -- a piece is copied
-  pub piece_made : (piece : List ℕ) (p : Progress) → p.devices ≡ devices → c.output + 24 * length p.pieces + length piece ≤ 512
+  pub piece_made : (piece : List ℕ) (p : Progress) → p.devices ≡ devices → c.output + event_size * length p.pieces + length piece ≤ low_end
       → (m : List ℕ) × (with_piece su c piece p ≡ Going (record p { mem = m; pieces = p.pieces ++ piece ∷ [] }))
   piece_made piece p same le =
-      let w = write_all su devices low p.mem (c.output + 24 * length p.pieces) piece le in
-      (w.0, ap (λ r. copied_to r (record p { pieces = p.pieces ++ piece ∷ [] })) (ap (λ ds. write_bytes su ds p.mem (c.output + 24 * length p.pieces) piece) same ∙ w.1))
+      let w = write_all su devices low p.mem (c.output + event_size * length p.pieces) piece le in
+      (w.0, ap (λ r. copied_to r (record p { pieces = p.pieces ++ piece ∷ [] })) (ap (λ ds. write_bytes su ds p.mem (c.output + event_size * length p.pieces) piece) same ∙ w.1))
 
-module _ (su : Setup) (devices : List Window) (low : IsLowFree su devices) (tag : IsTag su.mac) (c : Call) (room : c.output + 384 ≤ 512) where
+module _ (su : Setup) (devices : List Window) (low : IsLowFree su devices) (tag : IsTag su.mac) (c : Call) (room : c.output + out_window_size ≤ low_end) where
   packet_makes : (v k : ℕ) (p : Progress) → p.devices ≡ devices → length p.pieces < 16 → Makes (with_packet su c v k p) p (packet_made su v k p.state.ends)
   unfolding with_packet
-  packet_makes v k p same few = go ((end_of p.state.ends k).is_open && nat_lt (end_of p.state.ends k).number 65535)
+  packet_makes v k p same few = go ((end_of p.state.ends k).is_open && nat_lt (end_of p.state.ends k).number last_number)
     where
       go : (b : Bool) → Makes (if b then with_piece su c (event_packet su (end_of p.state.ends k) v) (wrap_counted k (end_of p.state.ends k) v p) else Going p) p
           (if b then one_packet su v k (end_of p.state.ends k) p.state.ends else nothing p.state.ends)

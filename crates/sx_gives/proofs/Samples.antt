@@ -6,6 +6,7 @@ use Rattle.sx_bus.specs.declared.devices.Window.{Window}
 use Rattle.sx_bus.specs.Devices.{cleared}
 use Rattle.sx_machine.specs.Run.{device_of, found, with_window}
 use Rattle.sx_machine.proofs.Devices.{cleared_shapes, device_at_same, device_of_parts, window_same}
+use Rattle.sx_invoke.specs.Protocol.{no_sample, sample_entry}
 use Rattle.sx_invoke.specs.Setup.{Setup}
 use Rattle.sx_invoke.specs.Marks.{Sampled}
 use Rattle.sx_invoke.specs.Progress.{Progress, Returns, finished}
@@ -31,13 +32,13 @@ pub sample_returns : SampleReturns
 unfolding entered
 sample_returns su st mem devices k window low tag few driver own fresh =
     let p = beginning st mem devices in
-    let c = low_call 3 in
+    let c = low_call sample_entry in
     let q : Progress = record p { devices = cleared devices k; marks = Sampled k window.value ∷ [] } in
     let made = handler_makes su (cleared devices k) (low_cleared su devices k low) tag c (omega arith) (Some k) (index_cleared devices su.section.layout.priv_from k window own) few (event.Sample window.value) q refl refl in
     record {
       mem = made.mem;
-      is = enters su p 3 low (ap not driver)
+      is = enters su p sample_entry low (ap not driver)
           ∙ ap (λ o. sample_of su c o p) own
-          ∙ cond-true _ (finished (handled su c (event.Sample window.value) q)) (Returns 8 p) fresh
+          ∙ cond-true _ (finished (handled su c (event.Sample window.value) q)) (Returns no_sample p) fresh
           ∙ ap finished made.is;
     }

@@ -16,7 +16,7 @@ use Rattle.sx_invoke.specs.ModuleState.{EndState, ModuleState, initial_state}
 use Rattle.sx_invoke.specs.Marks.{Wrapped, Unwrapped}
 use Rattle.sx_invoke.specs.Acts.{event_packet}
 use Rattle.sx_gives.specs.Effect.{MakesFew}
-use Rattle.sx_gives.specs.Gives.{InvocationGives, IsLowFree, beginning}
+use Rattle.sx_gives.specs.Gives.{InvocationGives, IsLowFree, beginning, low_end}
 use Rattle.sx_gives.proofs.Few.{few_made}
 use Rattle.sx_gives.proofs.Attest.{attest_returns}
 use Rattle.sx_gives.proofs.Inputs.{input_returns}
@@ -54,7 +54,7 @@ low : IsLowFree setup []
 unfolding own
 low = record {
   lives = inl refl;
-  sections = λ x l. elim l [ inl e ↦ subst (λ (z : Section). (512 ≤ z.layout.pub_from) × (512 ≤ z.layout.priv_from)) e (omega arith, omega arith) | inr b ↦ absurd b ];
+  sections = λ x l. elim l [ inl e ↦ subst (λ (z : Section). (low_end ≤ z.layout.pub_from) × (low_end ≤ z.layout.priv_from)) e (omega arith, omega arith) | inr b ↦ absurd b ];
   free = λ at lt. refl;
 }
 
