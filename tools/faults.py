@@ -436,12 +436,23 @@ def text_fault(data, rule, place):
     return [f"{rule}: {TEXTS[rule]}"] + (shown(data, int(place)) if place.isdigit() else [])
 
 
+def trace_mark(data):
+    """The line of the file that is `trace`, behind the deployment's mark."""
+    mark = (data.mark or 0) + 1
+    return next((at for at, it in enumerate(data.lines, 1) if at > mark and it == b"trace"), mark)
+
+
+def illegal(data, number):
+    """An item that the deployment's sources don't allow."""
+    return ["the sources don't allow this item after those before it"] + shown(data, trace_mark(data) + number)
+
+
 def later_fault(data, rule, line):
     """A fault of `explain`, `drive` or `snap`, whose lines are counted after a mark."""
     table = {"E": TRACES, "Q": READINGS, "Y": QUERIES}[rule[0]]
     mark = (data.mark or 0) + 1
     if rule[0] == "E" and rule != "E1":
-        mark = next((at for at, it in enumerate(data.lines, 1) if at > mark and it == b"trace"), mark)
+        mark = trace_mark(data)
     if rule[0] == "Y":
         mark = next((at for at, it in enumerate(data.lines, 1) if at > mark and it == b"%%"), mark)
     return [f"{rule}: {table[rule]}"] + shown(data, mark + line)
@@ -450,6 +461,8 @@ def later_fault(data, rule, line):
 def told(data, fault):
     """What a fault line means, in lines; none where it is no fault that is known here."""
     words = fault.split()
+    if words[:1] == ["illegal"] and len(words) == 2:
+        return illegal(data, int(words[1]))
     if words[:1] != ["fault"] or len(words) < 3:
         return []
     what, rule, place = words[1], words[2], words[3:]

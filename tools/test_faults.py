@@ -136,6 +136,7 @@ class Faults(unittest.TestCase):
     def test_later_commands(self):
         text = b"%%\nimage eye 00\ntrace\nout eye 1\nnone 2\n"
         self.assertIn("line 5 of the file: none 2", "\n".join(told(Input(text), "fault trace E2 2")))
+        self.assertIn("line 4 of the file: out eye 1", "\n".join(told(Input(text), "illegal 1")))
         self.assertIn("line 2 of the file: bulb 1", "\n".join(told(Input(b"%%\nbulb 1\n"), "fault reading Q4 1")))
         self.assertIn(
             "line 4 of the file: what", "\n".join(told(Input(b"%%\nload eye\n%%\nwhat\n"), "fault query Y3 1"))

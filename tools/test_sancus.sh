@@ -82,8 +82,8 @@ for words in "gen 1" "gen 0x1F40" "asm 65535" "dis 0x0" "asm 0000000000000006553
 done
 
 built
-run "$repository/sancus" explain
-expect "a word that the script doesn't know goes to a proved build" 3 $'ran explain\nin' ""
+run "$repository/sancus" later
+expect "a word that the script doesn't know goes to a proved build" 3 $'ran later\nin' ""
 
 # FILE, in place of the standard input.
 printf 'of a file\n' >"$work/file"
@@ -92,6 +92,13 @@ run "$repository/sancus" run "$work/file"
 expect "FILE is read" 3 $'ran run\nof a file' "the proved build"
 run "$repository/sancus" asm 7 "$work/file"
 expect "FILE behind an address" 3 $'ran asm 7\nof a file' "the proved build"
+printf 'a deployment\r\n%%%%\r\nload eye\n' >"$work/both"
+run "$repository/sancus" explain "$work/both" "$work/file"
+expect "a deployment and a trace" 3 $'ran explain\na deployment\r\n%%\nof a file' "the proved build"
+run "$repository/sancus" explain "$work/both" -
+expect "a deployment, and a trace on the standard input" 3 $'ran explain\na deployment\r\n%%\nin' "the proved build"
+run "$repository/sancus" explain "$work/both" "$work/none"
+expect "a trace that isn't there" 125 "" "none is no file that can be read"
 run "$repository/sancus" check -
 expect "- is the standard input" 3 $'ran check\nin' "the proved build"
 run "$repository/sancus" run "$work/none"

@@ -12,6 +12,7 @@ use sx_io::number;
 pub(crate) enum Command {
     Run,
     Check,
+    Explain,
     /// The run of the workload that carries this many samples.
     Gen(u32),
     /// The listing of a text's code for this address.
@@ -29,6 +30,8 @@ fn plain_command(word: &[u8]) -> Option<Command>
         Some(Command::Run)
     } else if word == b"check".as_slice() {
         Some(Command::Check)
+    } else if word == b"explain".as_slice() {
+        Some(Command::Explain)
     } else {
         None
     }

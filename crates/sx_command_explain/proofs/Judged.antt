@@ -1,0 +1,40 @@
+-- One item that is judged, and what is written of it.
+use Rattle.std.proofs.Common.{◌≡◌, ◌∙◌, ℕ, ◌+◌, Bool, List, [], ◌∷◌, ◌++◌, length, refl, sym, ap, subst}
+use Rattle.std.specs.Prelude.{◌≢◌}
+use Rattle.sx_io.specs.Streams.{SinkAt}
+use Rattle.sx_told.specs.Told.{Output, out_of_memory}
+use Rattle.sx_told.specs.declared.turned.Turned.{Turned}
+use Rattle.sx_told.specs.declared.turned.Turned.TheVariants.{On, Stop}
+use Rattle.sx_told.proofs.Laws.{ends-out-of-memory, prefix-none}
+use Rattle.sx_trace.specs.declared.items.Item.{Item}
+use Rattle.sx_mean.specs.Application.{AppTree}
+use Rattle.sx_explain.specs.declared.judge.Judged.{Judged}
+use Rattle.sx_explain.specs.declared.judge.Judged.TheVariants as verdict
+use Rattle.sx_explain.specs.Followed.{Follows, Seen}
+use Rattle.sx_explain.specs.Judging.{items_after, judged}
+use Rattle.sx_command_explain.specs.Explain.{told_item}
+use Rattle.sx_command_explain.specs.Turns.{JudgesItem, TellsItem}
+
+taken_on : (items : List Item) (item : Item) (j : Judged) → j ≢ verdict.Illegal → items_after items item j ≡ items ++ item ∷ []
+taken_on items item (verdict.Because n) h = refl
+taken_on items item verdict.Illegal h = absurd (h refl)
+taken_on items item verdict.Fine h = refl
+taken_on items item verdict.Forged h = refl
+taken_on items item verdict.Unjudged h = refl
+
+pub judges : {to_tell : Bool} {k0 k1 : SinkAt} {new : Seen} {turned : Turned} (app : AppTree) (items : List Item) (item : Item) (number : ℕ) (j : Judged) → number ≡ length items + 1
+    → j ≡ judged app items item → Follows app (items_after items item j) new → TellsItem to_tell k0 k1 number j turned → (turned ≡ On → j ≢ verdict.Illegal)
+    → JudgesItem to_tell k0 k1 app items item new turned
+judges {to_tell} {k0} {k1} {new} {turned} app items item number j counted is follows tells on = record {
+  does =
+      let P : ℕ → Type 0 = λ n. TellsItem to_tell k0 k1 n (judged app items item) turned in
+      let Q : Judged → Type 0 = λ j. TellsItem to_tell k0 k1 number j turned in
+      subst P counted (subst Q is tells);
+  follows = λ goes. (let P : List Item → Type 0 = λ xs. Follows app xs new in subst P (taken_on items item j (on goes)) follows);
+}
+
+pub judges_none : {to_tell : Bool} {k : SinkAt} {new : Seen} (app : AppTree) (items : List Item) (item : Item) → JudgesItem to_tell k k app items item new (Stop out_of_memory)
+judges_none {to_tell} {k} app items item = record {
+  does = λ left more. ends-out-of-memory to_tell k k (told_item (length items + 1) (judged app items item) (left more)) (λ t. prefix-none k.written k.written _ refl) refl;
+  follows = λ on. absurd (cc on);
+}

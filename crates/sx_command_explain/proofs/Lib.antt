@@ -1,0 +1,10 @@
+pub mod Between
+pub mod Explained
+pub mod Found
+pub mod Fronts
+pub mod Heads
+pub mod Judged
+pub mod Promised
+pub mod Starting
+pub mod Statuses
+pub mod Written

@@ -1,0 +1,119 @@
+//! The lines that `explain` writes. None of them takes memory.
+
+ghost use Rattle.std.specs.Prelude.{◌≡◌, ◌≢◌, ◌+◌, ◌≤◌, ◌++◌, codes, decimal, length, List, Some};
+ghost use Rattle.sx_io.specs.Reading.{Answer};
+ghost use Rattle.sx_told.specs.Told.{CommandEnds, Output, out_of_memory};
+ghost use Rattle.sx_trace.specs.declared.items.Item.{Item as Listed};
+ghost use Rattle.sx_mean.specs.Application.{AppTree};
+ghost use Rattle.sx_explain.specs.Followed.{Follows};
+ghost use Rattle.sx_command_explain.specs.Explain.{because_line, broken_output, forged_line};
+ghost use Rattle.sx_command_explain.specs.Explain.{illegal_output, legal_text};
+ghost use Rattle.sx_command_explain.specs.Turns.{TellsItem};
+
+use itoa::Buffer;
+use sx_command::fault::finish_fault;
+use sx_command::text::{Text, put};
+use sx_explain::judge::{Judge, Judged};
+use sx_io::Sink;
+use sx_told::{Turned, finish, put_text};
+
+/// The exit status for a line that breaks a rule.
+const BROKEN: u8 = 3;
+
+/// The exit status for an item that the source doesn't allow.
+const ILLEGAL: u8 = 8;
+
+/// Appends a number of at most 20 digits.
+fn put_number(text: &mut Text, number: u64)
+    requires { length text.old.items + 20 ≤ 96 }
+    ensures added { text.new.items ≡ text.old.items ++ decimal number }
+    ensures short { length text.new.items ≤ length text.old.items + 20 }
+{
+    let mut digits = Buffer::new();
+    put(text, digits.format(number).as_bytes());
+}
+
+/// Which item caused an item.
+fn because_text(number: u32, cause: u64) -> Text
+    ensures { result.items ≡ because_line number cause }
+{
+    let mut text = Text::new();
+    put(&mut text, b"because ");
+    put_number(&mut text, u64::from(number));
+    put(&mut text, b" ");
+    put_number(&mut text, cause);
+    put(&mut text, b"\n");
+    text
+}
+
+/// That an item is illegal.
+fn illegal_text(number: u32) -> Text
+    ensures { result.items ≡ (illegal_output number).text }
+{
+    let mut text = Text::new();
+    put(&mut text, b"illegal ");
+    put_number(&mut text, u64::from(number));
+    put(&mut text, b"\n");
+    text
+}
+
+/// Appends which item is the first that is forged, if one is.
+fn put_forged(text: &mut Text, forged: Option<u64>)
+    requires { length text.old.items + 28 ≤ 96 }
+    ensures added { text.new.items ≡ text.old.items ++ forged_line forged }
+    ensures short { length text.new.items ≤ length text.old.items + 28 }
+{
+    if let Some(number) = forged {
+        put(text, b"forged ");
+        put_number(text, number);
+        put(text, b"\n");
+    }
+}
+
+/// How many items are legal, and which is the first that is forged.
+#[tactic(auto, unfolding(sx_command::specs::Output::end_line))]
+fn last_text(judge: &Judge) -> Text
+    ensures { (app : AppTree) (items : List Listed) → Follows app items judge.now
+        → result.items ≡ legal_text items }
+{
+    let mut text = Text::new();
+    put(&mut text, b"legal ");
+    put_number(&mut text, judge.legal());
+    put(&mut text, b"\n");
+    put_forged(&mut text, judge.forged());
+    put(&mut text, b"end\n");
+    text
+}
+
+/// Writes what is said of an item, and stops where it is illegal.
+pub(crate) fn put_said<K: Sink>(output: &mut K, number: u32, said: Judged) -> Turned
+    ensures does { TellsItem K.tells (K.at output.old) (K.at output.new) number said result }
+    ensures legal { result ≡ Turned.On → said ≢ Judged.Illegal }
+    ensures memory { result ≢ Turned.Stop out_of_memory }
+{
+    match said {
+        Judged::Because(cause) => put_text(output, because_text(number, cause).as_slice()),
+        Judged::Illegal => Turned::Stop(finish(output, illegal_text(number).as_slice(), ILLEGAL)),
+        Judged::Fine => Turned::On,
+        Judged::Forged => Turned::On,
+        Judged::Unjudged => Turned::On,
+    }
+}
+
+/// Writes the last lines of a trace that is whole, and legal up to the first item that is forged.
+pub(crate) fn finish_legal<K: Sink>(output: &mut K, judge: &Judge) -> u8
+    ensures { (app : AppTree) (items : List Listed) → Follows app items judge.now
+        → CommandEnds K.tells (K.at output.old) (K.at output.new) result
+        (record { text = legal_text items; status = 0 }) }
+{
+    finish(output, last_text(judge).as_slice(), 0)
+}
+
+/// Writes which rule the line of this number breaks.
+pub(crate) fn break_off<K: Sink>(output: &mut K, rule: u8, number: u32) -> u8
+    ensures ends { CommandEnds K.tells (K.at output.old) (K.at output.new) result
+        (broken_output rule number) }
+    ensures memory { result ≢ out_of_memory }
+{
+    finish_fault(output, b"fault trace E", rule, number, BROKEN)
+}

@@ -1,0 +1,128 @@
+//! The lines of a trace. Each is judged, and what is said of it is written, before the next is
+//! read.
+
+ghost use Rattle.std.specs.Prelude.{◌≡◌, ◌+◌, ◌<◌, ◌≤◌, [], IsTrue, List, length, true};
+ghost use Rattle.sx_told.specs.Told.{Rest, command_at};
+ghost use Rattle.sx_trace.specs.declared.items.Item.{Item as Listed};
+ghost use Rattle.sx_trace.specs.Names.{are_valid};
+ghost use Rattle.sx_mean.specs.Application.{is_valid};
+ghost use Rattle.sx_mean.specs.View.{app_as};
+ghost use Rattle.sx_explain.specs.Followed.{Follows};
+ghost use Rattle.sx_command_explain.specs.Explain.{explain_from, stop_output};
+ghost use Rattle.sx_command_explain.specs.Meant.{AreMeanings, Meanings};
+ghost use Rattle.sx_command_explain.specs.Trace.{stop_behind, trace_lines};
+ghost use Rattle.sx_command_explain.specs.Turns.{JudgesFrom};
+
+use crate::lines::{NO_ITEM, TraceLine, judge_line, rule_behind};
+use crate::text::{break_off, finish_legal, put_said};
+use std::alloc::Global;
+use sx_deploy::deployment::Deployment;
+use sx_explain::judge::Judge;
+use sx_io::{LineRead, Lines, Sink, Source};
+use sx_mean::apps::App;
+use sx_told::{OUT_OF_MEMORY, READ_FAILED, Turned, finish};
+use sx_trace::items::Item;
+
+/// The rule that a trace ends with its last line.
+const NO_END: u8 = 3;
+
+/// Judges an item with this number, and writes what is said of it.
+fn turn<K: Sink>(output: &mut K, judge: &mut Judge, app: &App, item: &Item, number: u32) -> Turned
+    requires valid { is_valid (app_as app.now) ≡ true }
+    requires few { judge.old.taken < 4000000 }
+    ensures { JudgesFrom K.tells (K.at output.old) (K.at output.new) (app_as app.now) judge.old
+        judge.new number item.now result }
+{
+    match judge.item(app, item) {
+        Ok(said) => put_said(output, number, said),
+        Err(_) => Turned::Stop(OUT_OF_MEMORY),
+    }
+}
+
+/// What follows the last line of a trace, from the line of this number on: nothing.
+fn explain_end<S: Source, K: Sink>(
+    lines: &mut Lines,
+    input: &mut S,
+    output: &mut K,
+    plan: &Deployment,
+    judge: &Judge,
+    number: u32,
+) -> u8
+    requires names { IsTrue (are_valid plan.now.names) }
+    ensures { (means : Meanings) (items : List Listed) → AreMeanings means
+        → Follows (app_as plan.now.app) items judge.now
+        → Rest S.tells K.tells trace_lines lines.old
+        (command_at (S.at input.old) (K.at output.old))
+        (command_at (S.at input.new) (K.at output.new)) result
+        (λ more. stop_output items (stop_behind (means.item plan.now.names) number more)) }
+{
+    let mut into = [0; 4096];
+    match lines.next(input, &mut into) {
+        LineRead::End => finish_legal(output, judge),
+        LineRead::TooLong => break_off(output, NO_ITEM, number),
+        LineRead::Failed => finish(output, b"fault read\n", READ_FAILED),
+        LineRead::Text(n) => break_off(output, rule_behind(&plan.names, &into[..n]), number),
+    }
+}
+
+/// Judges the lines of a trace.
+fn explain_lines<S: Source, K: Sink>(
+    lines: &mut Lines,
+    input: &mut S,
+    output: &mut K,
+    plan: &Deployment,
+    judge: &mut Judge,
+) -> u8
+    requires valid { is_valid (app_as plan.now.app) ≡ true }
+    requires names { IsTrue (are_valid plan.now.names) }
+    requires follows { Follows (app_as plan.now.app) [] judge.old }
+    ensures { (means : Meanings) → AreMeanings means
+        → Rest S.tells K.tells trace_lines lines.old
+        (command_at (S.at input.old) (K.at output.old))
+        (command_at (S.at input.new) (K.at output.new)) result
+        (explain_from (app_as plan.now.app) (means.item plan.now.names) []) }
+{
+    let mut into = [0; 4096];
+    let mut number: u32 = 1;
+    'lines: loop {
+        match lines.next(input, &mut into) {
+            LineRead::End => return break_off(output, NO_END, number),
+            LineRead::TooLong => return break_off(output, NO_ITEM, number),
+            LineRead::Failed => return finish(output, b"fault read\n", READ_FAILED),
+            LineRead::Text(n) => match judge_line(&plan.names, &into[..n], number) {
+                Err(rule) => return break_off(output, rule, number),
+                Ok(TraceLine::Last) => {
+                    return explain_end(lines, input, output, plan, judge, number + 1);
+                }
+                Ok(TraceLine::Item(item)) => {
+                    match turn(output, judge, &plan.app, &item, number) {
+                        Turned::On => number += 1,
+                        Turned::Stop(status) => return status,
+                    }
+                }
+            },
+        }
+    }
+}
+
+/// Judges a trace of a deployment.
+pub(crate) fn explain_trace<S: Source, K: Sink>(
+    alloc: Global,
+    lines: &mut Lines,
+    input: &mut S,
+    output: &mut K,
+    plan: &Deployment,
+) -> u8
+    requires valid { is_valid (app_as plan.now.app) ≡ true }
+    requires names { IsTrue (are_valid plan.now.names) }
+    ensures { (means : Meanings) → AreMeanings means
+        → Rest S.tells K.tells trace_lines lines.old
+        (command_at (S.at input.old) (K.at output.old))
+        (command_at (S.at input.new) (K.at output.new)) result
+        (explain_from (app_as plan.now.app) (means.item plan.now.names) []) }
+{
+    match Judge::new(alloc, &plan.app) {
+        Ok(mut judge) => explain_lines(lines, input, output, plan, &mut judge),
+        Err(_) => OUT_OF_MEMORY,
+    }
+}
