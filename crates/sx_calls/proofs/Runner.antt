@@ -19,7 +19,8 @@ use Rattle.sx_run.specs.Law.{IsSoundSetting}
 use Rattle.sx_run.proofs.steps.Entry.{at_site}
 use Rattle.sx_run.proofs.steps.Bystanders.{apart_self}
 use Rattle.sx_run.proofs.steps.Foreign.{position_some}
-use Rattle.sx_run.proofs.steps.Steps.{bounds_of, position_is}
+use Rattle.sx_machine.proofs.Devices.{position_is}
+use Rattle.sx_run.proofs.steps.Steps.{bounds_of}
 
 layout_self : (l : Layout) → same_layout l l ≡ true
 layout_self l =

@@ -16,7 +16,7 @@ use Rattle.sx_run.specs.Wire.{ask_packet, is_ask, challenge_in}
 use Rattle.sx_run.specs.Deployer.{Grant, DeployerState, after_acceptance, after_ask, expected, set_key, set_key_entry}
 use Rattle.sx_run.specs.Ledger.{NO_TARGET, made_entry}
 use Rattle.sx_run.specs.State.{World, Acted}
-use Rattle.sx_run.specs.Acts.{then_, with_node, with_packet}
+use Rattle.sx_run.specs.Acts.{then_, with_node, new_packet}
 use Rattle.sx_run.specs.Run.{after_line, call, line_counted, run}
 use Rattle.sx_run.specs.Law.{IsSoundSetting}
 use Rattle.sx_run.proofs.tie.Lists.{get_end}
@@ -166,7 +166,7 @@ module _ (set : Setting) (w : World) (m : ℕ) (q : PartTree) (site : Site) (sec
   takes_it : after_line set w3 (Take n 0x80 16) ≡ record { world = v4; items = item.Packet (p + 1) 16 ∷ [] }
   takes_it =
       piece_taken set w3 n 0x80 16 u here2 served2.idle served2.low (omega arith)
-      ∙ ap (with_packet w3) tag_there
+      ∙ ap (new_packet w3) tag_there
       ∙ ap (λ k. record { world = v4; items = item.Packet k (length tag) ∷ [] }) second
       ∙ ap (λ k. record { world = v4; items = item.Packet (p + 1) k ∷ [] }) tag_size
 

@@ -46,7 +46,8 @@ use Rattle.sx_run.proofs.steps.Entry.{at_site}
 use Rattle.sx_run.proofs.steps.Bystanders.{apart_self}
 use Rattle.sx_calls.proofs.Registering.{all_set, node_twice, with_register, with_registers}
 use Rattle.sx_calls.proofs.Runner.{own_site}
-use Rattle.sx_run.proofs.steps.Steps.{bounds_of, position_is}
+use Rattle.sx_machine.proofs.Devices.{position_is}
+use Rattle.sx_run.proofs.steps.Steps.{bounds_of}
 use Rattle.sx_run.proofs.steps.Foreign.{position_some}
 use Rattle.sx_setup.proofs.forms.Loaded.{IsLoadable, IsLoaded, LoadDoes, ModuleLoaded}
 use Rattle.sx_setup.proofs.Bytes.{bytes_put, put_long, put_other}

@@ -16,7 +16,7 @@ use Rattle.sx_run.specs.Setting.{Site, Setting}
 use Rattle.sx_run.specs.Deployer.{Grant, after_acceptance, connection_key, expected, grants_of, set_key, set_key_entry}
 use Rattle.sx_run.specs.Ledger.{NO_TARGET, made_entry, is_made}
 use Rattle.sx_run.specs.State.{World}
-use Rattle.sx_run.specs.Acts.{with_node, with_packet}
+use Rattle.sx_run.specs.Acts.{with_node, new_packet}
 use Rattle.sx_run.specs.Run.{after_line}
 use Rattle.sx_run.specs.Law.{IsSoundSetting}
 use Rattle.sx_honest.specs.Course.{packet_items}
@@ -36,7 +36,7 @@ PacketGiven = (set : Setting) (w : World) (k n at : ℕ) (bytes : List ℕ) (s :
 abbrev pub PieceTaken : Type 0
 PieceTaken = (set : Setting) (w : World) (n at len : ℕ) (s : State)
     → slice_get w.nodes n ≡ Some s → s.cur ≡ 0 → StandsHigh s → at + len ≤ 512
-    → after_line set w (Take n at len) ≡ with_packet w (bytes_from s.mem at len)
+    → after_line set w (Take n at len) ≡ new_packet w (bytes_from s.mem at len)
 
 -- the world with set-key packets for grants of the module of a site, and their entries
 abbrev pub with_keys : Setting → Site → World → List Grant → World
