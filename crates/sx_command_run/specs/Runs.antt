@@ -7,7 +7,6 @@ use Rattle.sx_told.specs.Told.{CommandAt, Told, Rest, out_of_memory}
 use Rattle.sx_told.specs.Further.{Streams}
 use Rattle.sx_tag.specs.Mac.{Mac}
 use Rattle.sx_head.specs.Head.{Head, Found, TooLong, NoMark, Unread, head, head_lines}
-use Rattle.sx_mean.specs.Application.{AppTree}
 use Rattle.sx_trace.specs.declared.items.Item.{Item}
 use Rattle.sx_model.specs.Legal.{Legal, before}
 use Rattle.sx_model.specs.Consequences.{TellsReader}
@@ -83,7 +82,7 @@ pub record RunSays (mac : Mac) (tells to_tell : Bool) (m0 m1 : CommandAt) (statu
 pub record RunTold (mac : Mac) (tells to_tell : Bool) (m0 m1 : CommandAt) (status : ℕ) : Type
     0 where
   pub says : RunSays mac tells to_tell m0 m1 status
-  pub reader : (app : AppTree) (items : List Item) → Legal app items → TellsReader app items
+  pub reader : (d : Deployed) (items : List Item) → Legal d.app items → TellsReader d.app items
 
 -- What does the rest of the command after a head of this text: with these images, which realize its
 -- modules, it writes what is defined for what is to come.

@@ -12,11 +12,11 @@ returns-in-Ok g c =
     record {
       says = says_behind {now = c.read_head.new.lines} g.T.Tag.mac c.in-Ok.text.items g.met.T.Tag.is_tag c.in-Ok.ensures
           (subst P c.deref.ensures.value c.run_text.ensures);
-      reader = tells;
+      reader = λ d items legal. tells d.app items legal;
     }
 
 pub returns-in-Err : goal.returns-in-Err
 returns-in-Err g c = record {
   says = says_headless g.T.Tag.mac c.read_head.new.lines c.in-Err.fault g.met.T.Tag.is_tag c.in-Err.ensures c.refuse_head.ensures;
-  reader = tells;
+  reader = λ d items legal. tells d.app items legal;
 }
