@@ -9,15 +9,12 @@ use sx_bulk::HEAD;
 use sx_io::{MemSink, MemSource};
 use sx_top::top;
 
-pub(crate) fn words(alloc: Global, word: &str) -> Result<Vec<String>, AllocError> {
+/// The words of a command.
+pub(crate) fn words(alloc: Global, text: &str) -> Result<Vec<String>, AllocError> {
     let mut words = Vec::new(alloc);
-    words.push(format!(in alloc; "{word}")?)?;
-    Ok(words)
-}
-
-pub(crate) fn two_words(alloc: Global, word: &str, next: &str) -> Result<Vec<String>, AllocError> {
-    let mut words = words(alloc, word)?;
-    words.push(format!(in alloc; "{next}")?)?;
+    for word in text.split_whitespace() {
+        words.push(String::from_str(alloc, word)?)?;
+    }
     Ok(words)
 }
 
@@ -44,7 +41,8 @@ pub(crate) fn sink(alloc: Global, capacity: usize, failing: u64) -> Result<MemSi
     MemSink::new(alloc, capacity, calls)
 }
 
-/// Does a command, and gives its status.
+/// Does a command, and gives its status. No other function calls `top`, since what that call says
+/// is long, and is proved anew of each place that calls it.
 pub(crate) fn done(
     alloc: Global,
     words: &[String],
@@ -54,28 +52,52 @@ pub(crate) fn done(
     top(alloc, words, input, output)
 }
 
-/// Does the command `run`, and gives its status.
-pub(crate) fn run(
+/// Does the command of these words on an input in one piece, and gives its status.
+pub(crate) fn does(
     alloc: Global,
-    input: &mut MemSource,
+    command: &str,
+    input: &[u8],
     output: &mut MemSink,
 ) -> Result<u8, AllocError> {
-    Ok(top(alloc, &words(alloc, "run")?, input, output))
+    let mut input = source(alloc, input, 4096, 0)?;
+    Ok(done(alloc, &words(alloc, command)?, &mut input, output))
 }
 
-/// Whether the command does its input, given in one piece, with this status and this output.
+/// Whether the command does its input with this status and this output.
 pub(crate) fn says(
     rt: &impl Abort,
     alloc: Global,
-    words: &[String],
+    command: &str,
     input: &[u8],
     status: u8,
     text: &[u8],
 ) -> Result<(), Fail> {
-    let mut input = source(alloc, input, 4096, 0)?;
-    let mut output = sink(alloc, 400, 0)?;
-    assert_eq!(rt; done(alloc, words, &mut input, &mut output), status);
-    assert_eq!(rt; output.written(), text);
+    let mut output = sink(alloc, 300_000, 0)?;
+    let ended = does(alloc, command, input, &mut output)?;
+    assert!(rt; ended == status && output.written() == text, "{command}");
+    Ok(())
+}
+
+/// Lines of a schedule after the first ones of the sample, the status, and what is told after the
+/// first items of the sample.
+pub(crate) type Lit<'a> = (usize, &'a [u8], u8, usize, &'a [u8]);
+
+/// Whether the lighting does so, and what it tells follows the images.
+fn lights(rt: &impl Abort, alloc: Global, row: &Lit) -> Result<(), Fail> {
+    let schedule = joined(alloc, &[first_lines(SAMPLE, row.0), row.1])?;
+    let text = joined(alloc, &[b"trace\n", first_lines(SAMPLED, row.3), row.4])?;
+    let mut output = sink(alloc, 20_000, 0)?;
+    let ended = does(alloc, "run", &lighting(alloc, &schedule)?, &mut output)?;
+    let told = output.written().get(IMAGES..) == Some(text.as_slice());
+    assert!(rt; ended == row.2 && told);
+    Ok(())
+}
+
+/// Whether the lighting does all rows.
+pub(crate) fn all_light(rt: &impl Abort, alloc: Global, rows: &[Lit]) -> Result<(), Fail> {
+    for row in rows {
+        lights(rt, alloc, row)?;
+    }
     Ok(())
 }
 
@@ -177,11 +199,6 @@ pub(crate) const IMAGES: usize = 15_908;
 /// The lighting, and a schedule.
 pub(crate) fn lighting(alloc: Global, schedule: &[u8]) -> Result<Vec<u8>, AllocError> {
     joined(alloc, &[HEAD.as_bytes(), b"%%\n", schedule])
-}
-
-/// Whether this is what follows the images.
-pub(crate) fn is_told(rt: &impl Abort, output: &MemSink, text: &[u8]) {
-    assert_eq!(rt; output.written().get(IMAGES..), Some(text));
 }
 
 /// The first lines of a text.

@@ -1,34 +1,25 @@
-//! Worked runs of the compiler, of the world and of the commands, as tests.
+//! Whole runs as tests: inputs of the commands, and what must be written.
 //!
 //! They use what these crates give to everybody, and stand in a crate of their own since the tests
 //! of a crate are proved together with all of it: so a change of a test proves no crate again.
 //!
-//! `modules` has the modules of the lighting application, `runs` steps their handlers' code,
-//! `calls` calls their images on nodes, by `protocol` and `meanings`. `worlds` drives a world by
-//! lines. All others are inputs of the commands (`inputs`), with what must be written.
+//! `inputs` has the lighting with a sample of light, and does a row; `lighting` are runs after the
+//! first lines of that sample, `attacks` what an attacker tries, `listings` those of
+//! `asm` and `dis`, `commands` all other inputs, `streams` those whose reads and writes fail, and
+//! `workloads` those of `gen`. Inputs are rows of constant tables: a row costs no proof of its own.
 #![tactic(auto)]
 
 #[cfg(test)]
 mod attacks;
 #[cfg(test)]
-mod calls;
-#[cfg(test)]
 mod commands;
 #[cfg(test)]
 mod inputs;
 #[cfg(test)]
-mod meanings;
+mod lighting;
 #[cfg(test)]
-mod modules;
-#[cfg(test)]
-mod protocol;
-#[cfg(test)]
-mod rows;
-#[cfg(test)]
-mod runs;
+mod listings;
 #[cfg(test)]
 mod streams;
 #[cfg(test)]
 mod workloads;
-#[cfg(test)]
-mod worlds;

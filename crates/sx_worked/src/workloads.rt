@@ -1,92 +1,51 @@
 //! The workload, with the counts that are worked out by hand: 33 items for the keys and 10 for each
 //! sample, of which one is an output.
 
-use crate::inputs::{IMAGES, done, lighting, run, sink, source, two_words};
-use std::alloc::Global;
-use std::process::Abort;
+use crate::inputs::{IMAGES, does, lighting, sink};
+use std::alloc::{AllocError, Global};
 use std::test::Fail;
-use sx_io::{MemSink, MemSource};
 
-/// Whether the text has this part at this place.
-fn has_at(rt: &impl Abort, text: &[u8], at: usize, part: &[u8]) {
-    assert_eq!(rt;
-        text.get(at..).and_then(|rest| rest.get(..part.len())),
-        Some(part)
-    );
-}
+const COUNTS: [(&str, &[u8]); 4] = [
+    ("gen 4", b"lines 58\nitems 73\noutputs 4\nlit 1\nsteps "),
+    ("gen 0x4", b"lines 58\nitems 73\noutputs 4\nlit 1\nsteps "),
+    (
+        "gen 1000",
+        b"lines 8026\nitems 10033\noutputs 1000\nlit 495\nsteps ",
+    ),
+    (
+        "gen 8000",
+        b"lines 64026\nitems 80033\noutputs 8000\nlit 3960\nsteps ",
+    ),
+];
 
-/// Generates so many samples, and gives the status.
-fn generate(
-    alloc: Global,
-    samples: &str,
-    input: &mut MemSource,
-    output: &mut MemSink,
-) -> Result<u8, Fail> {
-    Ok(done(alloc, &two_words(alloc, "gen", samples)?, input, output))
-}
-
-/// Whether a text is the images, these counts and the end.
-fn has_counts(rt: &impl Abort, text: &[u8], told: &[u8]) {
-    has_at(rt, text, 0, b"image eye ");
-    has_at(rt, text, IMAGES, told);
-    assert!(rt; text.ends_with(b"\nend\n"));
-}
-
-/// Whether this many samples give these counts.
-fn counts(rt: &impl Abort, alloc: Global, samples: &str, told: &[u8]) -> Result<(), Fail> {
-    let mut input = source(alloc, b"%%\n", 1, 0)?;
+/// Whether the command gives these counts behind the images.
+fn counts(alloc: Global, command: &str, told: &[u8]) -> Result<bool, AllocError> {
     let mut output = sink(alloc, 20_000, 0)?;
-    assert_eq!(rt; generate(alloc, samples, &mut input, &mut output)?, 0);
-    assert_eq!(rt; input.left(), 3);
-    has_counts(rt, output.written(), told);
-    Ok(())
+    let ended = does(alloc, command, b"", &mut output)?;
+    let counts = output.written().get(IMAGES..).unwrap_or(b"");
+    Ok(ended == 0 && counts.starts_with(told) && counts.ends_with(b"\nend\n"))
 }
 
 #[test]
 fn workloads(rt: HostRuntime) -> Result<(), Fail> {
-    let rows: [(&str, &[u8]); 4] = [
-        ("4", b"lines 58\nitems 73\noutputs 4\nlit 1\nsteps "),
-        ("0x4", b"lines 58\nitems 73\noutputs 4\nlit 1\nsteps "),
-        (
-            "1000",
-            b"lines 8026\nitems 10033\noutputs 1000\nlit 495\nsteps ",
-        ),
-        (
-            "8000",
-            b"lines 64026\nitems 80033\noutputs 8000\nlit 3960\nsteps ",
-        ),
-    ];
-    for (samples, told) in rows.as_slice() {
-        counts(&rt, rt.alloc(), samples, told)?;
+    for (command, told) in COUNTS.as_slice() {
+        assert!(rt; counts(rt.alloc(), command, told)?);
     }
     Ok(())
 }
 
-/// Whether `gen` writes these images.
-fn generates(rt: &impl Abort, alloc: Global, images: Option<&[u8]>) -> Result<(), Fail> {
-    let mut input = source(alloc, b"", 1, 0)?;
-    let mut output = sink(alloc, 20_000, 0)?;
-    assert_eq!(rt; generate(alloc, "1", &mut input, &mut output)?, 0);
-    assert_eq!(rt; output.written().get(..IMAGES), images);
-    Ok(())
-}
+/// MOV SP, &0x1094 and MOV R12, &0x1006: the entry keeps the caller's registers.
+const ENTRY: &[u8] = b"image eye 82419410824c0610";
 
 /// The images are those that `run` writes of the same deployment.
 #[test]
 fn images_as_of_a_run(rt: HostRuntime) -> Result<(), Fail> {
     let alloc = rt.alloc();
-    let mut input = source(alloc, &lighting(alloc, b"")?, 4096, 0)?;
     let mut ran = sink(alloc, 20_000, 0)?;
-    assert_eq!(rt; run(alloc, &mut input, &mut ran)?, 0);
-    generates(&rt, alloc, ran.written().get(..IMAGES))
-}
-
-#[test]
-fn a_write_fails(rt: HostRuntime) -> Result<(), Fail> {
-    let alloc = rt.alloc();
-    let mut input = source(alloc, b"", 1, 0)?;
-    let mut output = sink(alloc, 20_000, 1)?;
-    assert_eq!(rt; generate(alloc, "1", &mut input, &mut output)?, 5);
-    assert_eq!(rt; output.written(), b"".as_slice());
+    let mut made = sink(alloc, 20_000, 0)?;
+    assert_eq!(rt; does(alloc, "run", &lighting(alloc, b"")?, &mut ran)?, 0);
+    assert_eq!(rt; does(alloc, "gen 1", b"", &mut made)?, 0);
+    assert!(rt; ran.written().starts_with(ENTRY));
+    assert!(rt; ran.written().get(..IMAGES) == made.written().get(..IMAGES));
     Ok(())
 }

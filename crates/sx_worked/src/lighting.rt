@@ -1,0 +1,191 @@
+//! Worked runs of the lighting after the first lines of the sample.
+
+use crate::inputs::{Lit, all_light};
+use std::test::Fail;
+
+const RUNS: [Lit; 29] = [
+    (0, b"", 0, 0, b"end\n"),
+    (34, b"", 0, 43, b"end\n"),
+    (0, b"load eye\nload eyes\n", 3, 1, b"fault schedule S4 2\n"),
+    (0, b"sense bulb 1\n", 3, 0, b"fault schedule S4 1\n"),
+    (
+        0,
+        b"load logic\nput a 0x800 2645\nset a r5 0x2000\nset a pc 0x800\nrun a 1\n",
+        0,
+        0,
+        b"protect a logic\nreset a read\nend\n",
+    ),
+    (
+        0,
+        b"load logic\nput a 0x800 26452645\nset a r5 0x2232\nset a pc 0x800\nrun a 1\nset a r5 0x2231\nrun a 1\n",
+        0,
+        0,
+        b"protect a logic\nreset a read\nend\n",
+    ),
+    (
+        0,
+        b"load logic\nset a pc 0x6002\nrun a 1\n",
+        0,
+        0,
+        b"protect a logic\nreset a order\nend\n",
+    ),
+    (
+        0,
+        b"load logic\nset a r12 1\nset a r13 0x300\nset a r14 0x400\nset a r15 0x6004\nset a pc 0x6000\nfinish a\n",
+        0,
+        0,
+        b"protect a logic\nreset a illegal\nend\n",
+    ),
+    (
+        0,
+        b"load logic\ncall logic 2 0x2000 0x400\n",
+        0,
+        0,
+        b"protect a logic\ndone logic 3 0\nend\n",
+    ),
+    (
+        0,
+        b"put b 0x800 b24009000010\nset b pc 0x800\nrun b 1\nload lamp\nset b pc 0x800\nrun b 1\n",
+        0,
+        0,
+        b"raw bulb 9\nprotect b lamp\nreset b write\nend\n",
+    ),
+    (
+        0,
+        b"load eye\nset a r12 3\nset a r13 0x300\nset a r14 0x400\nset a r15 0\nset a pc 0x4000\nrun a 1\nsense light 7\nput a 0x800 00\nload logic\nreset a\n",
+        0,
+        0,
+        b"protect a eye\nbusy a\nbusy a\nbusy a\nreset a asked\nend\n",
+    ),
+    (
+        0,
+        b"sense light 7\nput a 0x800 16420010\nset a pc 0x800\nrun a 1\nload eye\ncall eye 3 0x300 0x400\n",
+        0,
+        0,
+        b"sense light 7\ndrain light\nprotect a eye\ndone eye 8 0\nend\n",
+    ),
+    (
+        0,
+        b"load logic\nask logic\ngive 0 a 0x300\nset a sp 0x2100\ncall logic 1 0x300 0x400\ncall logic 2 0x300 0x400\ncall logic 3 0x300 0x400\n",
+        0,
+        0,
+        b"protect a logic\nask logic 0\npacket 0 18\nvouch logic 0\ndone logic 1 1\ndone logic 4 0\ndone logic 2 0\nend\n",
+    ),
+    (
+        0,
+        b"load logic\nask logic\ngive 0 a 0x300\ncall logic 1 0x300 0xff8\n",
+        0,
+        0,
+        b"protect a logic\nask logic 0\npacket 0 18\nvouch logic 0\nreset a device\nend\n",
+    ),
+    (
+        0,
+        b"load logic\nset a pc 0x800\n\nput a 0x300 abc\n",
+        3,
+        0,
+        b"protect a logic\nfault schedule S6 4\n",
+    ),
+    (
+        0,
+        b"load logic\nload logic\n",
+        0,
+        0,
+        b"protect a logic\nskip a\nskip a\nskip a\nend\n",
+    ),
+    (
+        0,
+        b"load logic\nasm a 0x800 mov @r5, r6\nset a r5 0x2000\nset a pc 0x800\nrun a 1\n",
+        0,
+        0,
+        b"protect a logic\nreset a read\nend\n",
+    ),
+    (
+        0,
+        b"load logic\nasm a 0x800 mov r5\nset a r5 0x2000\nset a pc 0x800\nrun a 1\n",
+        3,
+        0,
+        b"protect a logic\nfault schedule S8 2\n",
+    ),
+    (
+        34,
+        b"give 11 b 0x300\ncall lamp 2 0x300 0x400\n",
+        0,
+        43,
+        b"done lamp 6 0\nend\n",
+    ),
+    (
+        29,
+        b"sense light 50\ncall eye 3 0x300 0x400\ntake a 0x400 24\ngive 11 a 0x300\ncall logic 2 0x300 0x400\ngive 10 a 0x300\ncall logic 2 0x300 0x400\n",
+        0,
+        37,
+        b"sense light 50\nread eye 50\ndone eye 1 1\npacket 11 24\ntake logic up 1 50\ndone logic 1 1\ndone logic 6 0\nend\n",
+    ),
+    (
+        34,
+        b"reset b\nload lamp\ngive 9 b 0x300\ncall lamp 0 0x300 0x400\ngive 11 b 0x300\ncall lamp 2 0x300 0x400\n",
+        0,
+        43,
+        b"reset b asked\nprotect b lamp\ndone lamp 7 0\ndone lamp 5 0\nend\n",
+    ),
+    (
+        34,
+        b"give 9 b 0x300\ncall lamp 0 0x300 0x400\n",
+        0,
+        43,
+        b"done lamp 5 0\nend\n",
+    ),
+    (
+        23,
+        b"answer lamp 1 8\nanswer lamp 0 8\ngive 9 b 0x300\ncall lamp 0 0x300 0x400\nsense light 120\ncall eye 3 0x300 0x400\ntake a 0x400 24\ngive 10 a 0x300\ncall logic 2 0x300 0x400\ntake a 0x400 24\ngive 11 b 0x300\ncall lamp 2 0x300 0x400\n",
+        0,
+        29,
+        b"denied lamp\nattested lamp 0\npacket 9 38\nopen lamp down to\ndone lamp 1 0\nsense light 120\nread eye 120\ndone eye 1 1\npacket 10 24\ntake logic up 0 120\ndone logic 1 1\npacket 11 24\ntake lamp down 0 1\nout lamp 1\ndone lamp 1 0\nend\n",
+    ),
+    (
+        33,
+        b"put b 0x800 d2e30603\nset b pc 0x800\nrun b 1\ncall lamp 2 0x300 0x400\n",
+        0,
+        40,
+        b"done lamp 7 0\nend\n",
+    ),
+    (
+        34,
+        b"forge 030001000100999ed6d6d6d6d6d6d6d6d6d6d6d6d6d6d6d6\ngive 12 b 0x300\ncall lamp 2 0x300 0x400\n",
+        0,
+        43,
+        b"packet 12 24\ndone lamp 7 0\nend\n",
+    ),
+    (
+        34,
+        b"reset b\nload lamp\nask lamp\ngive 12 b 0x300\ncall lamp 1 0x300 0x400\ntake b 0x400 16\nanswer lamp 1 13\n",
+        0,
+        43,
+        b"reset b asked\nprotect b lamp\nask lamp 3\npacket 12 18\nvouch lamp 3\ndone lamp 1 1\npacket 13 16\nattested lamp 1\npacket 14 38\npacket 15 38\nend\n",
+    ),
+    (
+        34,
+        b"reset b\nload lamp\nask lamp\ngive 12 b 0x300\ncall lamp 1 0x300 0x400\ntake b 0x400 16\nanswer lamp 1 13\ngive 14 b 0x300\ncall lamp 0 0x300 0x400\ngive 15 a 0x300\ncall logic 0 0x300 0x400\n",
+        0,
+        43,
+        b"reset b asked\nprotect b lamp\nask lamp 3\npacket 12 18\nvouch lamp 3\ndone lamp 1 1\npacket 13 16\nattested lamp 1\npacket 14 38\npacket 15 38\nopen lamp down to 1\ndone lamp 1 0\nopen logic down from 1\ndone logic 1 0\nend\n",
+    ),
+    (
+        34,
+        b"reset b\nload lamp\nask lamp\ngive 12 b 0x300\ncall lamp 1 0x300 0x400\ntake b 0x400 16\nanswer lamp 1 13\ngive 14 b 0x300\ncall lamp 0 0x300 0x400\ngive 15 a 0x300\ncall logic 0 0x300 0x400\nsense light 50\ncall eye 3 0x300 0x400\ntake a 0x400 24\ngive 16 a 0x300\ncall logic 2 0x300 0x400\ntake a 0x400 24\ngive 17 b 0x300\ncall lamp 2 0x300 0x400\n",
+        0,
+        43,
+        b"reset b asked\nprotect b lamp\nask lamp 3\npacket 12 18\nvouch lamp 3\ndone lamp 1 1\npacket 13 16\nattested lamp 1\npacket 14 38\npacket 15 38\nopen lamp down to 1\ndone lamp 1 0\nopen logic down from 1\ndone logic 1 0\nsense light 50\nread eye 50\ndone eye 1 1\npacket 16 24\ntake logic up 1 50\ndone logic 1 1\npacket 17 24\ntake lamp down 65536 0\nout lamp 0\ndone lamp 1 0\nend\n",
+    ),
+    (
+        34,
+        b"reset b\nload lamp\nask lamp\ngive 12 b 0x300\ncall lamp 1 0x300 0x400\ntake b 0x400 16\nanswer lamp 1 13\ngive 14 b 0x300\ncall lamp 0 0x300 0x400\ngive 15 a 0x300\ncall logic 0 0x300 0x400\ngive 11 b 0x300\ncall lamp 2 0x300 0x400\ngive 14 b 0x300\ncall lamp 0 0x300 0x400\nanswer lamp 1 13\n",
+        0,
+        43,
+        b"reset b asked\nprotect b lamp\nask lamp 3\npacket 12 18\nvouch lamp 3\ndone lamp 1 1\npacket 13 16\nattested lamp 1\npacket 14 38\npacket 15 38\nopen lamp down to 1\ndone lamp 1 0\nopen logic down from 1\ndone logic 1 0\ndone lamp 5 0\ndone lamp 5 0\ndenied lamp\nend\n",
+    ),
+];
+
+#[test]
+fn runs_of_the_lighting(rt: HostRuntime) -> Result<(), Fail> {
+    all_light(&rt, rt.alloc(), &RUNS)
+}
