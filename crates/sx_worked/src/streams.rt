@@ -7,6 +7,7 @@ use std::test::Fail;
 use sx_io::MemSink;
 
 /// An input, and what is told of it.
+#[derive(Clone, Copy)]
 struct Whole<'a> {
     text: &'a [u8],
     told: &'a [u8],
