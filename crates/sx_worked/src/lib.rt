@@ -4,9 +4,10 @@
 //! of a crate are proved together with all of it: so a change of a test proves no crate again.
 //!
 //! `inputs` has the lighting with a sample of light, and does a row; `lighting` are runs after the
-//! first lines of that sample, `attacks` what an attacker tries, `listings` those of
-//! `asm` and `dis`, `commands` all other inputs, `streams` those whose reads and writes fail, and
-//! `workloads` those of `gen`. Inputs are rows of constant tables: a row costs no proof of its own.
+//! first lines of that sample, `attacks` what an attacker tries, `listings` those of `asm` and
+//! `dis`, `traces` those of `explain`, `commands` all other inputs, `streams` those whose reads and
+//! writes fail, and `workloads` those of `gen`. Inputs are rows of constant tables: a row costs no
+//! proof of its own.
 #![tactic(auto)]
 
 #[cfg(test)]
@@ -21,5 +22,7 @@ mod lighting;
 mod listings;
 #[cfg(test)]
 mod streams;
+#[cfg(test)]
+mod traces;
 #[cfg(test)]
 mod workloads;
