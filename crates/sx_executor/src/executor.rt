@@ -163,8 +163,8 @@ impl<B: Bus> Executor<B> {
     }
 
     /// The word at an address, whose bit 0 doesn't count, or in byte form the byte. It may be read,
-    /// and is no device's.
-    #[inline(always)]
+    /// and is no device's. Where inlining is but a hint, both bytes become one load before it.
+    #[inline]
     pub fn read(&self, wide: bool, at: u16) -> u16
         requires right { may_at wide self.now.sections.live self.now.own Read at ≡ true }
         requires memory { device_of self.now.devices at ≡ None }
