@@ -37,7 +37,9 @@ fn is_quiet(seen: &Seen) -> bool
     matches!(seen.touch, [Touch::Quiet, Touch::Quiet]) && matches!(seen.event, Event::Quiet)
 }
 
-/// Steps of a node, at most `count`, up to the first that shows something.
+/// Steps of a node, at most `count`, up to the first that shows something. The loop is code of its
+/// own, so that the processor's registers are its alone.
+#[inline(never)]
 fn quiet_stretch<B: Bus, T: Tag>(node: &mut Node<B, T>, count: u32) -> QuietSteps
     requires { node.old.boot < 4294967295 }
     ensures quiet { AreQuiet T.mac false result.count node.old }
