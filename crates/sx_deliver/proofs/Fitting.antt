@@ -49,7 +49,7 @@ module _ (set : Setting) (valid : is_valid set.app ≡ true) where
     abbrev e : SourceEvent
     e = event.Sample r.value
 
-    reading_is : Sense r.device r.value ∷ event_lines app is.driver 3 e c.plain.cells d.part ≡ reading_lines app r c
+    pub reading_is : Sense r.device r.value ∷ event_lines app is.driver 3 e c.plain.cells d.part ≡ reading_lines app r c
     reading_is = rw (is.driven, d.there) refl
 
     sensed_is : reacted app is.driver e c.plain d.part ≡ (sensed app r c).plain
@@ -81,7 +81,7 @@ module _ (set : Setting) (valid : is_valid set.app ≡ true) where
     abbrev plain : Plain
     plain = record c.plain { waiting = ws }
 
-    delivery_is : Give (setup_packets app + length c.past) g.part.node 0x40 ∷ event_lines app g.link.to 2 input c.plain.cells g.part ≡ delivery_lines app w c
+    pub delivery_is : Give (setup_packets app + length c.past) g.part.node 0x40 ∷ event_lines app g.link.to 2 input c.plain.cells g.part ≡ delivery_lines app w c
     delivery_is = rw (g.there, g.to) refl
 
     delivered_is : reacted app g.link.to input plain g.part ≡ (delivered app w ws c).plain
@@ -104,9 +104,9 @@ module _ (set : Setting) (valid : is_valid set.app ≡ true) where
 
   -- All deliveries after a reading.
 
-  record Fit (lines : List Line) (from to : ℕ) : Type 0 where
-    long : length lines + from ≡ to
-    formed : LinesInForm set lines
+  pub record Fit (lines : List Line) (from to : ℕ) : Type 0 where
+    pub long : length lines + from ≡ to
+    pub formed : LinesInForm set lines
 
   fit_on : (xs ys : List Line) (a b c : ℕ) → Fit xs a b → Fit ys b c → Fit (xs ++ ys) a c
   fit_on xs ys a b c f g = record {
@@ -114,7 +114,7 @@ module _ (set : Setting) (valid : is_valid set.app ≡ true) where
     formed = both_formed set xs ys f.formed g.formed;
   }
 
-  settling_fits : (n k : ℕ) (c : Course) → IsTold app c → Fit (settling_lines app n c) (lines_so_far app k c) (lines_so_far app k (settled app n c)) × IsTold app (settled app n c)
+  pub settling_fits : (n k : ℕ) (c : Course) → IsTold app c → Fit (settling_lines app n c) (lines_so_far app k c) (lines_so_far app k (settled app n c)) × IsTold app (settled app n c)
   settling_fits zero k c h = (record { long = zero-add (lines_so_far app k c); formed = tt }, h)
   settling_fits (suc n) k c h = go c.plain.waiting refl (λ d t. settling_fits n k d t)
     where
@@ -132,7 +132,7 @@ module _ (set : Setting) (valid : is_valid set.app ≡ true) where
             rest.1,
           )
 
-  readings_fit : (n k : ℕ) (rs : List Sampling) (c d : Course) → All (IsSampling app) rs → All (λ (r : Sampling). r.value < 32768) rs → IsTold app c → played app n rs c ≡ Some d
+  pub readings_fit : (n k : ℕ) (rs : List Sampling) (c d : Course) → All (IsSampling app) rs → All (λ (r : Sampling). r.value < 32768) rs → IsTold app c → played app n rs c ≡ Some d
       → Fit (readings_lines app n rs c) (lines_so_far app k c) (lines_so_far app (k + length rs) d)
   readings_fit n k [] c d all low h p =
       let none : k ≡ k + 0 = omega arith in

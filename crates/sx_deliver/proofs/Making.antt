@@ -124,11 +124,11 @@ ends_apart es j k a b ordered n f h s l = go (nat_lt j k) refl
         ]
 
 -- what is sent to an output, end by end
-abbrev sends_over : ℕ → ℕ → List End → List Waiting
+abbrev pub sends_over : ℕ → ℕ → List End → List Waiting
 sends_over output v [] = []
 sends_over output v (e ∷ es) = if is_sending output e.side e.port then record { link = e.link; value = v } ∷ sends_over output v es else sends_over output v es
 
-sends_are : (n p output v : ℕ) (ls : List Link) → sends_over output v (ends_after n p ls) ≡ over n p output v ls
+pub sends_are : (n p output v : ℕ) (ls : List Link) → sends_over output v (ends_after n p ls) ≡ over n p output v ls
 sends_are n p output v [] = refl
 sends_are n p output v (l ∷ ls) = go (l.from == p) (l.to == p) (sends_are (n + 1) p output v ls)
   where

@@ -10,7 +10,7 @@ use Rattle.sx_image.specs.Realizes.{Stand}
 use Rattle.sx_sched.specs.Lines.{Line, Take}
 use Rattle.sx_run.specs.Setting.{Setting}
 use Rattle.sx_run.specs.State.{World, Acted}
-use Rattle.sx_run.specs.Acts.{then_, with_packet}
+use Rattle.sx_run.specs.Acts.{then_, new_packet}
 use Rattle.sx_run.specs.Run.{after_line, line_counted, run}
 use Rattle.sx_honest.specs.Course.{packet_items}
 use Rattle.sx_setup.proofs.forms.Loaded.{StandsHigh}
@@ -40,7 +40,7 @@ takes_all set (p ∷ ps) w n at s there idle low le sizes stand =
     let v : World = record { nodes = w.nodes; packets = w.packets ++ p ∷ []; deployer = w.deployer; ledger = w.ledger; lines = w.lines + 1; steps = w.steps } in
     let got : bytes_from s.mem at 24 ≡ p = ap (bytes_from s.mem at) (sym sizes.0) ∙ stand.0 in
     let first : after_line set w0 (Take n at 24) ≡ record { world = v; items = item.Packet (length w.packets) 24 ∷ [] } =
-    piece_taken set w0 n at 24 s there idle low (omega (arith, le)) ∙ ap (with_packet w0) got
+    piece_taken set w0 n at 24 s there idle low (omega (arith, le)) ∙ ap (new_packet w0) got
     ∙ ap (λ (k : ℕ). record { world = v; items = item.Packet (length w.packets) k ∷ [] }) sizes.0 in
     let next : Stand s.mem (at + 24) ps = subst (λ (k : ℕ). Stand s.mem (at + k) ps) sizes.0 stand.1 in
     let rest = takes_all set ps v n (at + 24) s there idle low (omega (arith, le)) sizes.1 next in
