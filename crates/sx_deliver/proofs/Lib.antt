@@ -1,9 +1,18 @@
 -- Statements: specs/Laws. Fitting: the lines. Making and Taking: what an event makes of its acts, and its takes. Leaving, Waits and Serving:
--- what a settled world needs; Calling puts them together for any call.
+-- what a settled world needs; Calling puts them together for any call. Sampled is a reading, Received a delivery, Joined the whole run, and
+-- Accepted begins at an accepted text.
 pub mod Taking
 pub mod Making
 pub mod Leaving
 pub mod Waits
 pub mod Serving
 pub mod Calling
+pub mod InWords
+pub mod Effects
+pub mod Going
+pub mod Found
+pub mod Sampled
+pub mod Received
 pub mod Fitting
+pub mod Joined
+pub mod Accepted
