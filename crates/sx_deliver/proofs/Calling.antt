@@ -15,7 +15,7 @@ use Rattle.sx_image.specs.Image.{private_bytes, public_bytes}
 use Rattle.sx_invoke.specs.Windows.{two}
 use Rattle.sx_invoke.specs.Acts.{event_header}
 use Rattle.sx_tag.specs.Wrap.{wrapped}
-use Rattle.sx_sched.specs.Lines.{Line, Call}
+use Rattle.sx_sched.specs.Lines.{Call}
 use Rattle.sx_run.specs.Setting.{Site, Setting}
 use Rattle.sx_run.specs.Deployer.{connection_key}
 use Rattle.sx_run.specs.Observation.{sender_of}

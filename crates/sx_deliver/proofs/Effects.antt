@@ -1,5 +1,5 @@
 -- What an event of a module leaves of the course, and which values it sends.
-use Rattle.std.proofs.Common.{◌≡◌, ℕ, suc, ◌+◌, ◌<◌, ◌≤◌, Bool, true, false, cond, if◌then◌else◌, List, [], ◌∷◌, ◌++◌, length, length-append, map, Some, slice_get, append_assoc, refl, sym, ◌∙◌, ap, subst, arith}
+use Rattle.std.proofs.Common.{◌≡◌, ℕ, ◌+◌, ◌<◌, ◌≤◌, Bool, true, false, cond, if◌then◌else◌, List, [], ◌∷◌, ◌++◌, length, length-append, map, Some, slice_get, append_assoc, refl, sym, ◌∙◌, ap, arith}
 use Rattle.std.specs.Prelude.{slice_index_or, slice_set, count_by}
 use Rattle.std.proofs.lemmas.List.{get_or-set_other, get_or-set_same}
 use Rattle.std.proofs.lemmas.List.Sums.{sum_by-cons}
@@ -22,7 +22,7 @@ use Rattle.sx_run.proofs.tie.Lists.{get_some, get_within}
 use Rattle.sx_gives.specs.Effect.{acts_packets}
 use Rattle.sx_gives.proofs.Few.{few_made}
 use Rattle.sx_calls.specs.FourCalls.{emitted}
-use Rattle.sx_honest.specs.Plain.{Output, Plain, Waiting, act_sends, acts_emit, acts_send}
+use Rattle.sx_honest.specs.Plain.{Output, Waiting, act_sends, acts_emit, acts_send}
 use Rattle.sx_honest.specs.Course.{Course}
 use Rattle.sx_setup.proofs.forms.Settled.{Settled, all_sent, module_as, open_end}
 use Rattle.sx_deliver.proofs.Leaving.{Among, acts_leave, ends_kept}

@@ -1,5 +1,5 @@
 -- How many lines an honest run has, and that they are in form.
-use Rattle.std.proofs.Common.{◌≡◌, ℕ, zero, suc, ◌+◌, ◌*◌, ◌<◌, true, List, [], ◌∷◌, ◌++◌, length, length-append, Option, Some, slice_get, zero-add, refl, sym, ◌∙◌, ap, subst, arith}
+use Rattle.std.proofs.Common.{◌≡◌, ℕ, zero, suc, ◌+◌, ◌*◌, ◌<◌, true, List, [], ◌∷◌, ◌++◌, length, length-append, Some, zero-add, refl, sym, ◌∙◌, ap, subst, arith}
 use Rattle.std.specs.List.{All}
 use Rattle.std.proofs.lemmas.List.Elements.{All-head, All-tail}
 use Rattle.std.proofs.lemmas.Option.{same_Some}
@@ -10,12 +10,12 @@ use Rattle.sx_sched.specs.Lines.{Line, Sense, Give}
 use Rattle.sx_run.specs.Setting.{Setting}
 use Rattle.sx_run.specs.Law.{LinesInForm}
 use Rattle.sx_honest.specs.Plain.{MOST_DELIVERIES, Plain, Sampling, Waiting, acts_send, oldest, reacted, reaction}
-use Rattle.sx_honest.specs.Course.{Course, IsHonest, IsSampling, course_start, delivered, lines_so_far, played, sensed, settled, setup_lines, setup_packets}
+use Rattle.sx_honest.specs.Course.{Course, IsSampling, course_start, delivered, lines_so_far, played, sensed, settled, setup_lines, setup_packets}
 use Rattle.sx_honest.proofs.AsPlain.{IsLinked, IsTold, driver, goes, told_delivered, told_sensed, told_start}
 use Rattle.sx_honest.proofs.Course.{played_on}
 use Rattle.sx_setup.specs.Schedule.{setup_schedule}
 use Rattle.sx_setup.proofs.Counting.{both_formed, schedule_formed, schedule_long}
-use Rattle.sx_deliver.specs.Schedule.{delivery_lines, event_lines, honest_schedule, reading_lines, readings_lines, settling_lines, take_lines}
+use Rattle.sx_deliver.specs.Schedule.{delivery_lines, event_lines, reading_lines, readings_lines, settling_lines, take_lines}
 use Rattle.sx_deliver.specs.Laws.{HonestFits}
 
 takes_long : (n at k : ℕ) → length (take_lines n at k) ≡ k

@@ -1,5 +1,5 @@
 -- Lines that lead from where one course stands to where another does.
-use Rattle.std.proofs.Common.{◌≡◌, List, ◌++◌, append_assoc, refl, sym, ◌∙◌, ap, subst}
+use Rattle.std.proofs.Common.{◌≡◌, List, ◌++◌, append_assoc, ◌∙◌, ap}
 use Rattle.sx_trace.specs.declared.items.Item.{Item}
 use Rattle.sx_sched.specs.Lines.{Line}
 use Rattle.sx_run.specs.Setting.{Setting}

@@ -14,14 +14,14 @@ use Rattle.sx_honest.specs.Plain.{MOST_DELIVERIES, Sampling, Waiting, oldest}
 use Rattle.sx_honest.specs.Course.{Course, IsSampling, course_start, delivered, lines_so_far, played, sensed, settled, setup_lines}
 use Rattle.sx_honest.specs.Laws.{Delivers}
 use Rattle.sx_honest.proofs.AsPlain.{told_delivered, told_sensed, told_start}
-use Rattle.sx_honest.proofs.Course.{played_on, total}
+use Rattle.sx_honest.proofs.Course.{played_on}
 use Rattle.sx_honest.proofs.Honest.{honest_delivers}
 use Rattle.sx_setup.specs.Laws.{HasRoom}
 use Rattle.sx_setup.specs.Schedule.{setup_schedule}
 use Rattle.sx_setup.proofs.Runs.{run_append}
 use Rattle.sx_setup.proofs.SetUp.{is_set_up}
 use Rattle.sx_deliver.specs.Laws.{HaveWords, HonestRunDelivers, HonestShows}
-use Rattle.sx_deliver.specs.Schedule.{delivery_lines, honest_schedule, reading_lines, readings_lines, settling_lines}
+use Rattle.sx_deliver.specs.Schedule.{delivery_lines, reading_lines, readings_lines, settling_lines}
 use Rattle.sx_deliver.proofs.Fitting.{readings_fit, settling_fits}
 use Rattle.sx_deliver.proofs.Going.{Leads, Stands, leads_on}
 use Rattle.sx_deliver.proofs.InWords.{words_start}

@@ -1,5 +1,5 @@
 -- An event's values go over connections that leave its module, so the ends of other modules are as they were.
-use Rattle.std.proofs.Common.{◌≡◌, ℕ, zero, suc, ◌+◌, ◌⊎◌, inl, inr, ◌==◌, ◌&&◌, Bool, true, false, if◌then◌else◌, List, [], ◌∷◌, ◌++◌, length, map, Some, slice_get, refl, sym, ap, ◌∙◌, subst, arith}
+use Rattle.std.proofs.Common.{◌≡◌, ℕ, suc, ◌+◌, ◌⊎◌, inl, inr, ◌==◌, Bool, true, false, if◌then◌else◌, List, [], ◌∷◌, ◌++◌, length, map, Some, slice_get, refl, sym, ap, ◌∙◌, arith}
 use Rattle.std.proofs.lemmas.Bool.{and_parts, eqb-true, ne_eqb}
 use Rattle.std.proofs.lemmas.List.{append-nil}
 use Rattle.std.proofs.lemmas.Option.{same_Some}
@@ -15,7 +15,7 @@ use Rattle.sx_invoke.specs.ModuleState.{EndState}
 use Rattle.sx_run.specs.Setting.{Setting}
 use Rattle.sx_run.specs.Deployer.{connection_key}
 use Rattle.sx_run.proofs.tie.Tied.{HasEnd}
-use Rattle.sx_run.proofs.tie.Ends.{EndOf, HasLink, has_link}
+use Rattle.sx_run.proofs.tie.Ends.{EndOf, has_link}
 use Rattle.sx_honest.specs.Plain.{Waiting, act_sends, acts_send, over}
 use Rattle.sx_honest.specs.Course.{count_over, words_over}
 use Rattle.sx_honest.proofs.Lists.{words-append}

@@ -15,7 +15,6 @@ use Rattle.sx_mean.specs.Ends.{IsBefore, ends_of}
 use Rattle.sx_mean.specs.React.{react}
 use Rattle.sx_mean.proofs.Ends.{ends_hold}
 use Rattle.sx_rules.specs.declared.section.Section.{Section}
-use Rattle.sx_bus.specs.declared.devices.Window.{Window}
 use Rattle.sx_trace.specs.declared.items.Item.{Item}
 use Rattle.sx_trace.specs.declared.items.Item.TheVariants as item
 use Rattle.sx_ledger.specs.declared.entry.Maker.TheVariants as maker

@@ -1,5 +1,5 @@
 -- A reading in a world that stands as a course says: the sensor gets its value, its driver reads it, and what it sends is taken.
-use Rattle.std.proofs.Common.{◌≡◌, ℕ, zero, suc, ◌+◌, ◌<◌, ◌≤◌, inl, ◌==◌, Bool, true, false, if◌then◌else◌, List, [], ◌∷◌, ◌++◌, length, length-append, map, Some, None, slice_get, refl, sym, ◌∙◌, ap, subst, arith}
+use Rattle.std.proofs.Common.{◌≡◌, ℕ, zero, suc, ◌+◌, ◌<◌, ◌≤◌, inl, Bool, true, false, if◌then◌else◌, List, [], ◌∷◌, ◌++◌, length, length-append, map, Some, None, slice_get, refl, sym, ◌∙◌, ap, subst, arith}
 use Rattle.std.specs.Prelude.{All, AllPairs, slice_index_or}
 use Rattle.std.proofs.lemmas.Bool.{eq-eqb}
 use Rattle.std.proofs.lemmas.List.Elements.{All-cons, All-head, All-nil, All-tail}
@@ -60,12 +60,12 @@ use Rattle.sx_setup.proofs.forms.Settled.{Settled, all_sent, module_as}
 use Rattle.sx_setup.proofs.KeyTaking.{served_callable, served_low}
 use Rattle.sx_setup.proofs.Sites.{section_at}
 use Rattle.sx_deliver.specs.Laws.{HaveWords}
-use Rattle.sx_deliver.specs.Schedule.{event_lines, reading_lines, take_lines}
+use Rattle.sx_deliver.specs.Schedule.{reading_lines, take_lines}
 use Rattle.sx_deliver.proofs.Calling.{Before, CalledThere, Follows, Makes, Stays, called_there}
 use Rattle.sx_deliver.proofs.Effects.{emits_same, node_there, others_after, own_after, sends_few, sent_by, site_there}
 use Rattle.sx_deliver.proofs.Fitting.{reading_is}
 use Rattle.sx_deliver.proofs.Going.{Leads, Stands}
-use Rattle.sx_deliver.proofs.InWords.{InWords, reacted_words}
+use Rattle.sx_deliver.proofs.InWords.{reacted_words}
 use Rattle.sx_deliver.proofs.Making.{acts_at}
 use Rattle.sx_deliver.proofs.Making.{Makes as MakesPackets}
 use Rattle.sx_deliver.proofs.Serving.{own_section, served_at}

@@ -1,8 +1,7 @@
 -- In a settled world each module stands at its node and can be served; and what is served leads to a settled world.
-use Rattle.std.proofs.Common.{◌≡◌, ◌≢◌, ℕ, zero, suc, ◌+◌, ◌<◌, ◌≤◌, ◌⊎◌, inl, inr, ◌==◌, Bool, true, false, if◌then◌else◌, List, [], ◌∷◌, ◌++◌, length, length-append, map, Option, Some, slice_get, append_assoc, refl, sym, ◌∙◌, ap, subst, arith}
+use Rattle.std.proofs.Common.{◌≡◌, ◌≢◌, ℕ, zero, suc, ◌+◌, ◌≤◌, ◌⊎◌, inl, inr, ◌==◌, Bool, true, false, if◌then◌else◌, List, [], ◌∷◌, ◌++◌, length, length-append, map, Some, slice_get, append_assoc, refl, sym, ◌∙◌, ap, subst, arith}
 use Rattle.std.specs.Prelude.{All, slice_set}
 use Rattle.std.proofs.lemmas.Bool.{cases_eq, eq-eqb}
-use Rattle.std.proofs.lemmas.List.{append-nil}
 use Rattle.std.proofs.lemmas.Option.{same_Some}
 use Rattle.sx_rules.specs.declared.section.Section.{Section}
 use Rattle.sx_rules.specs.declared.section.Layout.{Layout}
@@ -17,7 +16,7 @@ use Rattle.sx_machine.specs.State.{State}
 use Rattle.sx_machine.specs.Node.{IsNode, shapes}
 use Rattle.sx_model.proofs.Written.{at_set}
 use Rattle.sx_image.specs.Image.{private_bytes, public_bytes}
-use Rattle.sx_invoke.specs.ModuleState.{ModuleState, state_of}
+use Rattle.sx_invoke.specs.ModuleState.{state_of}
 use Rattle.sx_run.specs.Setting.{Site, Setting, windows_at}
 use Rattle.sx_run.specs.Observation.{sender_of}
 use Rattle.sx_run.specs.State.{World}
@@ -31,9 +30,9 @@ use Rattle.sx_honest.specs.Plain.{Waiting}
 use Rattle.sx_honest.specs.Course.{Course, count_over, packets_so_far, setup_packets}
 use Rattle.sx_setup.specs.Laws.{HasRoom}
 use Rattle.sx_setup.proofs.forms.Loaded.{StandsHigh}
-use Rattle.sx_setup.proofs.forms.Served.{IsServed, Serves, state_on}
+use Rattle.sx_setup.proofs.forms.Served.{IsServed, state_on}
 use Rattle.sx_setup.proofs.forms.Settled.{IsOnItsWay, ModuleStands, NodeStands, Settled, all_sent, module_as, sections_of}
-use Rattle.sx_setup.proofs.Sites.{FromSite, in_sections, low_windows, section_at}
+use Rattle.sx_setup.proofs.Sites.{in_sections, low_windows, section_at}
 use Rattle.sx_deliver.proofs.Leaving.{Among}
 use Rattle.sx_deliver.proofs.Making.{entries_for, pieces_of}
 use Rattle.sx_deliver.proofs.Waits.{split_two, way_kept, way_made}
