@@ -14,7 +14,7 @@ use Rattle.sx_run.proofs.accepted.Settled.{settled}
 use Rattle.sx_setup.specs.Laws.{AcceptedSetUp, AreByteTexts, HasRoom}
 use Rattle.sx_setup.proofs.SetUp.{set_up}
 
-all_low : (ds : List AppDevice) (ats : List ℕ) → length ats ≡ length ds → All IsWordPlace (words_of ds ats) → All (λ at. 512 ≤ at) ats
+pub all_low : (ds : List AppDevice) (ats : List ℕ) → length ats ≡ length ds → All IsWordPlace (words_of ds ats) → All (λ at. 512 ≤ at) ats
 all_low [] [] len h = All-nil (λ (at : ℕ). 512 ≤ at)
 all_low [] (at ∷ ats) len h = absurd (omega (arith, len))
 all_low (d ∷ ds) [] len h = All-nil (λ (at : ℕ). 512 ≤ at)
@@ -22,7 +22,7 @@ all_low (d ∷ ds) (at ∷ ats) len h =
     All-cons (λ (at : ℕ). 512 ≤ at) at ats (h 0 (record { node = d.node; at = at }) (omega arith)).low
     (all_low ds ats (omega (arith, len)) (λ k x lt. h (suc k) x (omega (arith, lt))))
 
-has_room : (text : List ℕ) (d : Deployed) → IsRead text (Ok d) → (mac : Mac) (texts : List (List ℕ)) → AreByteTexts texts → HasRoom (setting_of mac d texts)
+pub has_room : (text : List ℕ) (d : Deployed) → IsRead text (Ok d) → (mac : Mac) (texts : List (List ℕ)) → AreByteTexts texts → HasRoom (setting_of mac d texts)
 has_room text d h mac texts bytes =
     let acc = sound text d h in
     record {

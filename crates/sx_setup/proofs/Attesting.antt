@@ -4,6 +4,7 @@ use Rattle.std.specs.Prelude.{slice_get}
 use Rattle.sx_rules.specs.declared.section.Section.{Section}
 use Rattle.sx_mean.specs.Application.{PartTree}
 use Rattle.sx_mean.specs.Ends.{ends_of}
+use Rattle.sx_trace.specs.declared.items.Item.{Item}
 use Rattle.sx_trace.specs.declared.items.Item.TheVariants as item
 use Rattle.sx_ledger.specs.declared.entry.Maker.TheVariants as maker
 use Rattle.sx_tag.specs.Wrap.{wrapped}
@@ -26,6 +27,7 @@ use Rattle.sx_run.proofs.steps.Stretch.{set_set}
 use Rattle.sx_honest.specs.Course.{packet_items}
 use Rattle.sx_calls.specs.FourCalls.{CallDoes}
 use Rattle.sx_calls.proofs.Four.{attest_called}
+use Rattle.sx_setup.proofs.forms.ByLine.{asking_shown, shown_by}
 use Rattle.sx_setup.proofs.forms.Served.{IsServed, Serves, callee, state_on}
 use Rattle.sx_setup.proofs.forms.Acting.{with_keys}
 use Rattle.sx_setup.proofs.forms.Attesting.{DoesFor, ModuleAttested, asking_items, asking_lines, grants_at, vouched_entry}
@@ -188,7 +190,22 @@ module _ (set : Setting) (w : World) (m : ℕ) (q : PartTree) (site : Site) (sec
       answer_accepted set w4 m (p + 1) site ask tag sound h.sited got_tag (get_same w.deployer.open_asks m (Some ask) old asked) fresh refl (made_in w.ledger [] (vouched_entry m a))
       ∙ ap (λ k. record { world = v5; items = item.Attested m 0 ∷ packet_items k 38 (length (ends_of set.app m)) }) third
 
-  pub attested_at : DoesFor set w m q site sec s st (asking_lines m n p) (asking_items m a p (length (ends_of set.app m)))
+  -- what each line shows
+  abbrev asked_now : List Item
+  asked_now = item.Ask m a ∷ item.Packet p 18 ∷ []
+
+  abbrev vouched : List Item
+  vouched = item.Vouch m a ∷ item.Done m 1 1 ∷ []
+
+  asking_each : shown_by set w (asking_lines m n p) ≡ asking_shown m a p (length (ends_of set.app m))
+  asking_each =
+      ap (λ (z : Acted). z.items ∷ shown_by set z.world (Give p n 0x40 ∷ Call m 1 0x40 0x80 ∷ Take n 0x80 16 ∷ Answer m 0 (p + 1) ∷ [])) asks_it
+      ∙ ap (λ (z : Acted). asked_now ∷ z.items ∷ shown_by set z.world (Call m 1 0x40 0x80 ∷ Take n 0x80 16 ∷ Answer m 0 (p + 1) ∷ [])) gave
+      ∙ ap (λ (z : Acted). asked_now ∷ [] ∷ z.items ∷ shown_by set z.world (Take n 0x80 16 ∷ Answer m 0 (p + 1) ∷ [])) calls_it
+      ∙ ap (λ (z : Acted). asked_now ∷ [] ∷ vouched ∷ z.items ∷ shown_by set z.world (Answer m 0 (p + 1) ∷ [])) takes_it
+      ∙ ap (λ (z : Acted). asked_now ∷ [] ∷ vouched ∷ (item.Packet (p + 1) 16 ∷ []) ∷ z.items ∷ []) answers_it
+
+  pub attested_at : DoesFor set w m q site sec s st (asking_lines m n p) (asking_items m a p (length (ends_of set.app m))) (asking_shown m a p (length (ends_of set.app m)))
       (w.packets ++ ask ∷ tag ∷ map (set_key set site) gs) d2 (w.ledger ++ vouched_entry m a ∷ map (set_key_entry set) gs)
   attested_at = record {
     after = u;
@@ -215,6 +232,7 @@ module _ (set : Setting) (w : World) (m : ℕ) (q : PartTree) (site : Site) (sec
             items = item.Ask m a ∷ item.Packet p 18 ∷ item.Vouch m a ∷ item.Done m 1 1 ∷ item.Packet (p + 1) 16 ∷ (z.items ++ []);
           }) answers_it
           ∙ ap (λ is. record { world = v5; items = item.Ask m a ∷ item.Packet p 18 ∷ item.Vouch m a ∷ item.Done m 1 1 ∷ item.Packet (p + 1) 16 ∷ is }) (Rattle.std.proofs.lemmas.List.append-nil (item.Attested m 0 ∷ packet_items (p + 2) 38 (length (ends_of set.app m))));
+      each = asking_each;
       nodes = set_set w.nodes n s1 u;
       packets = append_more (w.packets ++ ask ∷ []) tag (map (set_key set site) gs) ∙ append_more w.packets ask (tag ∷ map (set_key set site) gs);
       deployer = refl;

@@ -99,7 +99,7 @@ keys_taken set w m q site sec s cells number before [] sound there h ends have =
       after = s;
       serves = serves_self set m q site sec s _ h;
       served = served_as set m q site sec s (state_with cells (map f before ++ [])) (state_with cells (map f (before ++ []))) (ap (state_with cells) (sym (map_more f before []))) h;
-      moves = record { world = w; is = refl; nodes = sym (set_same w.nodes site.node s there); packets = refl; deployer = refl; ledger = refl };
+      moves = record { world = w; is = refl; each = refl; nodes = sym (set_same w.nodes site.node s there); packets = refl; deployer = refl; ledger = refl };
     }
 keys_taken set w m q site sec s cells number before (e ∷ es) sound there h ends have =
     let f = first_end set in
@@ -125,7 +125,7 @@ keys_taken set w m q site sec s cells number before (e ∷ es) sound there h end
     let ends2 : ends_of set.app m ≡ (before ++ e ∷ []) ++ es = ends ∙ sym (append_more before e es) in
     let have2 = keys_same set w v m site (number + 1) es step.moves.packets step.moves.ledger have.2 in
     let rest = keys_taken set v m q site sec step.after cells (number + 1) (before ++ e ∷ []) es sound there2 served2 ends2 have2 in
-    let both = moves_then set w _ _ _ _ site.node step.after rest.after _ _ _ _ _ _ step.moves rest.moves in
+    let both = moves_then set w _ _ _ _ _ _ site.node step.after rest.after _ _ _ _ _ _ step.moves rest.moves in
     record {
       after = rest.after;
       serves = serves_then sec s step.after rest.after step.serves rest.serves;
@@ -135,6 +135,7 @@ keys_taken set w m q site sec s cells number before (e ∷ es) sound there h end
       moves = record {
         world = both.world;
         is = both.is;
+        each = both.each;
         nodes = both.nodes;
         packets = both.packets ∙ step.moves.packets;
         deployer = both.deployer ∙ step.moves.deployer;

@@ -40,6 +40,7 @@ use Rattle.sx_calls.specs.Calls.{IsCallable, IsReturned, setup_of}
 use Rattle.sx_calls.specs.Shown.{devices_after}
 use Rattle.sx_calls.specs.FourCalls.{CallDoes}
 use Rattle.sx_calls.proofs.Four.{key_called}
+use Rattle.sx_setup.proofs.forms.ByLine.{keys_shown, shown_by}
 use Rattle.sx_setup.proofs.forms.Loaded.{StandsHigh}
 use Rattle.sx_setup.proofs.forms.Served.{IsServed, Serves, callee, state_on}
 use Rattle.sx_setup.proofs.forms.Acting.{KeyTaken, TakesKey, first_end, first_grant}
@@ -247,7 +248,7 @@ module _ (set : Setting) (w : World) (m : ℕ) (q : PartTree) (site : Site) (sec
       plus_none a = omega arith
 
   pub key_taken_at : TakesKey set w m q site sec s (record { cells = st.cells; ends = with_end st.ends j (first_end set e) })
-      (Give k n 0x40 ∷ Call m 0 0x40 0x80 ∷ []) (item.Open m e.link e.side 0 ∷ item.Done m 1 0 ∷ [])
+      (Give k n 0x40 ∷ Call m 0 0x40 0x80 ∷ []) (item.Open m e.link e.side 0 ∷ item.Done m 1 0 ∷ []) (keys_shown m (e ∷ []))
   key_taken_at = record {
     after = u;
     serves = serves_all;
@@ -257,6 +258,9 @@ module _ (set : Setting) (w : World) (m : ℕ) (q : PartTree) (site : Site) (sec
       is =
           ap (λ (a : Acted). then_ a (λ v. run set v (Call m 0 0x40 0x80 ∷ []))) gave
           ∙ ap (λ (a : Acted). then_ a (λ v. only v [])) called_there;
+      each =
+          ap (λ (a : Acted). a.items ∷ shown_by set a.world (Call m 0 0x40 0x80 ∷ [])) gave
+          ∙ ap (λ (a : Acted). [] ∷ a.items ∷ []) called_there;
       nodes = set_set w.nodes n s1 u;
       packets = refl;
       deployer = refl;

@@ -27,6 +27,7 @@ use Rattle.sx_run.specs.Law.{IsSoundSetting}
 use Rattle.sx_lists.proofs.Lists.{get_same}
 use Rattle.sx_honest.specs.Course.{open_items, part_items}
 use Rattle.sx_setup.specs.Schedule.{key_lines, part_lines}
+use Rattle.sx_setup.proofs.forms.ByLine.{asking_shown, keys_shown, part_shown, shown_by}
 use Rattle.sx_setup.proofs.forms.Loaded.{IsLoadable, StandsHigh, LoadDoes}
 use Rattle.sx_setup.proofs.forms.Served.{IsServed, Moves, Serves}
 use Rattle.sx_setup.proofs.forms.Acting.{first_grant}
@@ -111,10 +112,11 @@ module _ (set : Setting) (w : World) (m : ℕ) (q : PartTree) (site : Site) (s :
   abbrev v : World
   v = with_node w0 n t w.ledger (w.steps + 1)
 
-  loads : Moves set w (Load m ∷ []) (item.Protect n (Some m) ∷ []) n t w.packets w.deployer w.ledger
+  loads : Moves set w (Load m ∷ []) (item.Protect n (Some m) ∷ []) ((item.Protect n (Some m) ∷ []) ∷ []) n t w.packets w.deployer w.ledger
   loads = record {
     world = v;
     is = ap (λ (a : Acted). then_ a (λ u. only u [])) (ap (load set w0) h.sited ∙ load_it.is);
+    each = ap (λ (a : Acted). a.items ∷ []) (ap (load set w0) h.sited ∙ load_it.is);
     nodes = refl;
     packets = refl;
     deployer = refl;
@@ -165,7 +167,7 @@ module _ (set : Setting) (w : World) (m : ℕ) (q : PartTree) (site : Site) (s :
   abbrev tag : List ℕ
   tag = expected set site 0 ask
 
-  attested_now : DoesFor set v m q site sec t (initial_state q.tree es) (asking_lines m n p) (asking_items m w.deployer.asks p (length es))
+  attested_now : DoesFor set v m q site sec t (initial_state q.tree es) (asking_lines m n p) (asking_items m w.deployer.asks p (length es)) (asking_shown m w.deployer.asks p (length es))
       (w.packets ++ ask ∷ tag ∷ map (set_key set site) gs) (after_acceptance set.app.links (after_ask w.deployer m) m 0 None)
       (w.ledger ++ vouched_entry m w.deployer.asks ∷ map (set_key_entry set) gs)
   attested_now = module_attested set v m q site sec t (initial_state q.tree es) old sound here1 served (omega (arith, asks, small)) asked fresh
@@ -198,16 +200,17 @@ module _ (set : Setting) (w : World) (m : ℕ) (q : PartTree) (site : Site) (s :
   have : HaveKeys set v2 m site (p + 2) es
   have = have_keys set m site es v2 (p + 2) ((w.packets ++ ask ∷ []) ++ tag ∷ []) (w.ledger ++ vouched_entry m w.deployer.asks ∷ []) first_packets third first_entries
 
-  keys_now : DoesFor set v2 m q site sec u (first_state set m q) (key_lines m n (p + 2) (length es)) (open_items m es) v2.packets v2.deployer v2.ledger
+  keys_now : DoesFor set v2 m q site sec u (first_state set m q) (key_lines m n (p + 2) (length es)) (open_items m es) (keys_shown m es) v2.packets v2.deployer v2.ledger
   keys_now = keys_taken set v2 m q site sec u (initial_cells q.tree.decls) (p + 2) [] es sound here2 attested_now.served refl have
 
   all_moves : Moves set w ((Load m ∷ []) ++ (asking_lines m n p ++ key_lines m n (p + 2) (length es)))
-      ((item.Protect n (Some m) ∷ []) ++ (asking_items m w.deployer.asks p (length es) ++ open_items m es)) n keys_now.after v2.packets v2.deployer v2.ledger
+      ((item.Protect n (Some m) ∷ []) ++ (asking_items m w.deployer.asks p (length es) ++ open_items m es))
+      (((item.Protect n (Some m) ∷ []) ∷ []) ++ (asking_shown m w.deployer.asks p (length es) ++ keys_shown m es)) n keys_now.after v2.packets v2.deployer v2.ledger
   unfolding loads
   all_moves =
-      moves_then set w (Load m ∷ []) (asking_lines m n p ++ key_lines m n (p + 2) (length es)) (item.Protect n (Some m) ∷ []) (asking_items m w.deployer.asks p (length es) ++ open_items m es) n t
-      keys_now.after w.packets v2.packets w.deployer v2.deployer w.ledger v2.ledger loads
-      (moves_then set v (asking_lines m n p) (key_lines m n (p + 2) (length es)) (asking_items m w.deployer.asks p (length es)) (open_items m es) n u keys_now.after _ v2.packets _ v2.deployer _ v2.ledger
+      moves_then set w (Load m ∷ []) (asking_lines m n p ++ key_lines m n (p + 2) (length es)) (item.Protect n (Some m) ∷ []) (asking_items m w.deployer.asks p (length es) ++ open_items m es)
+      ((item.Protect n (Some m) ∷ []) ∷ []) (asking_shown m w.deployer.asks p (length es) ++ keys_shown m es) n t keys_now.after w.packets v2.packets w.deployer v2.deployer w.ledger v2.ledger loads
+      (moves_then set v (asking_lines m n p) (key_lines m n (p + 2) (length es)) (asking_items m w.deployer.asks p (length es)) (open_items m es) (asking_shown m w.deployer.asks p (length es)) (keys_shown m es) n u keys_now.after _ v2.packets _ v2.deployer _ v2.ledger
       attested_now.moves keys_now.moves)
 
   node_same : n ≡ q.node
@@ -224,6 +227,14 @@ module _ (set : Setting) (w : World) (m : ℕ) (q : PartTree) (site : Site) (s :
       ap (λ k. run set w (lines_at k)) (sym node_same) ∙ all_moves.is
       ∙ ap (λ k. record { world = all_moves.world; items = items_at k w.deployer.asks }) node_same
       ∙ ap (λ a. record { world = all_moves.world; items = items_at q.node a }) asks
+
+  abbrev shown_at : ℕ → ℕ → List (List Item)
+  shown_at k a = ((item.Protect k (Some m) ∷ []) ∷ []) ++ (asking_shown m a p (length es) ++ keys_shown m es)
+
+  each_run : shown_by set w (part_lines m p q es) ≡ part_shown m p q es
+  each_run =
+      ap (λ k. shown_by set w (lines_at k)) (sym node_same) ∙ all_moves.each ∙ ap (λ k. shown_at k w.deployer.asks) node_same
+      ∙ ap (λ a. shown_at q.node a) asks
 
   done : Serves sec t keys_now.after
   done = serves_then sec t u keys_now.after attested_now.serves keys_now.serves
@@ -246,6 +257,7 @@ module _ (set : Setting) (w : World) (m : ℕ) (q : PartTree) (site : Site) (s :
     moves = record {
       world = all_moves.world;
       is = is_run;
+      each = each_run;
       nodes = all_moves.nodes;
       packets = all_moves.packets ∙ attested_now.moves.packets;
       deployer = all_moves.deployer ∙ attested_now.moves.deployer;

@@ -11,6 +11,7 @@ use Rattle.sx_run.specs.State.{World, Acted}
 use Rattle.sx_run.specs.Acts.{then_}
 use Rattle.sx_run.specs.Run.{after_line, line_counted, run}
 use Rattle.sx_run.proofs.steps.Stretch.{set_set}
+use Rattle.sx_setup.proofs.forms.ByLine.{shown_by}
 use Rattle.sx_setup.proofs.forms.Served.{Moves}
 
 pub assoc : {X : Type 0} → (xs ys zs : List X) → (xs ++ ys) ++ zs ≡ xs ++ (ys ++ zs)
@@ -24,13 +25,22 @@ run_append set (x ∷ xs) ys w =
     ap (λ (r : Acted). record { world = r.world; items = a.items ++ r.items }) (run_append set xs ys a.world)
     ∙ ap (λ is. record { world = (run set (run set a.world xs).world ys).world; items = is }) (sym (assoc a.items (run set a.world xs).items (run set (run set a.world xs).world ys).items))
 
-pub moves_then : (set : Setting) (w : World) (xs ys : List Line) (is js : List Item) (n : ℕ) (t u : State) (ps qs : List (List ℕ)) (d e : DeployerState) (a b : List Made)
-    → (first : Moves set w xs is n t ps d a) → Moves set first.world ys js n u qs e b → Moves set w (xs ++ ys) (is ++ js) n u qs e b
-moves_then set w xs ys is js n t u ps qs d e a b first second = record {
+pub shown_append : (set : Setting) (xs ys : List Line) (w : World) → shown_by set w (xs ++ ys) ≡ shown_by set w xs ++ shown_by set (run set w xs).world ys
+shown_append set [] ys w = refl
+shown_append set (x ∷ xs) ys w =
+    let a = after_line set (line_counted w) x in
+    ap (λ (zs : List (List Item)). a.items ∷ zs) (shown_append set xs ys a.world)
+
+pub moves_then : (set : Setting) (w : World) (xs ys : List Line) (is js : List Item) (ss ts : List (List Item)) (n : ℕ) (t u : State) (ps qs : List (List ℕ)) (d e : DeployerState) (a b : List Made)
+    → (first : Moves set w xs is ss n t ps d a) → Moves set first.world ys js ts n u qs e b → Moves set w (xs ++ ys) (is ++ js) (ss ++ ts) n u qs e b
+moves_then set w xs ys is js ss ts n t u ps qs d e a b first second = record {
   world = second.world;
   is =
       run_append set xs ys w ∙ ap (λ (r : Acted). then_ r (λ v. run set v ys)) first.is
       ∙ ap (λ (r : Acted). record { world = r.world; items = is ++ r.items }) second.is;
+  each =
+      shown_append set xs ys w ∙ ap (λ (zs : List (List Item)). zs ++ shown_by set (run set w xs).world ys) first.each
+      ∙ ap (λ (r : Acted). ss ++ shown_by set r.world ys) first.is ∙ ap (λ (zs : List (List Item)). ss ++ zs) second.each;
   nodes = second.nodes ∙ ap (λ (ns : List State). slice_set ns n u) first.nodes ∙ set_set w.nodes n t u;
   packets = second.packets;
   deployer = second.deployer;

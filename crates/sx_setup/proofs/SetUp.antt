@@ -9,6 +9,7 @@ use Rattle.sx_mean.specs.declared.events.End.{End}
 use Rattle.sx_mean.specs.Application.{PartTree}
 use Rattle.sx_mean.specs.Ends.{ends_of}
 use Rattle.sx_mean.specs.Places.{initial_cells}
+use Rattle.sx_trace.specs.declared.items.Item.{Item}
 use Rattle.sx_machine.specs.State.{State, power_on}
 use Rattle.sx_machine.specs.Node.{shapes}
 use Rattle.sx_invoke.specs.ModuleState.{EndState}
@@ -23,12 +24,13 @@ use Rattle.sx_run.proofs.tie.Lists.{some_inj}
 use Rattle.sx_run.proofs.tie.Start.{nodes_long, on_is_node}
 use Rattle.sx_honest.specs.Plain.{Waiting}
 use Rattle.sx_honest.specs.Course.{course_start, packets_so_far, part_items, parts_items, parts_packets}
-use Rattle.sx_setup.specs.Schedule.{part_lines, parts_schedule}
+use Rattle.sx_setup.specs.Schedule.{part_lines, parts_schedule, setup_schedule}
 use Rattle.sx_setup.specs.Laws.{HasRoom, SetUp}
+use Rattle.sx_setup.proofs.forms.ByLine.{part_shown, parts_shown, setup_shown, shown_by}
 use Rattle.sx_setup.proofs.forms.Settled.{IsSetUp, Settled, module_as, number_at, open_end}
 use Rattle.sx_setup.proofs.forms.Acting.{first_end}
 use Rattle.sx_setup.proofs.forms.PartDone.{first_state}
-use Rattle.sx_setup.proofs.Runs.{run_append}
+use Rattle.sx_setup.proofs.Runs.{run_append, shown_append}
 use Rattle.sx_setup.proofs.Answering.{append_more}
 use Rattle.sx_setup.proofs.Sites.{stale_windows}
 use Rattle.sx_setup.proofs.SoFar.{NodeSoFar, SoFar, done_next, far_next, marks_all, marks_none, packets_next, s_there}
@@ -45,6 +47,7 @@ list_at_is (y ∷ xs) (suc i) x e =
 record Result (set : Setting) (m number : ℕ) (qs : List PartTree) (w : World) : Type 0 where
   pub world : World
   pub is : run set w (parts_schedule set.app m number qs) ≡ record { world = world; items = parts_items set.app m number qs }
+  pub each : shown_by set w (parts_schedule set.app m number qs) ≡ parts_shown set.app m number qs
   pub far : SoFar set (length set.app.parts) set.sites world
   pub packets : length world.packets ≡ number + parts_packets set.app m qs
 
@@ -56,6 +59,7 @@ loop : (set : Setting) → IsSoundSetting set → HasRoom set → (qs : List Par
 loop set sound room [] [] before sb w parts sites len far = record {
   world = w;
   is = refl;
+  each = refl;
   far =
       subst (λ (xs : List Site). SoFar set (length set.app.parts) xs w) (sym (no_more set.sites sb sites))
       (subst (λ (xs : List PartTree). SoFar set (length xs) sb w) (sym (no_more set.app.parts before parts)) far);
@@ -99,6 +103,11 @@ loop set sound room (q ∷ qs) (site ∷ ss) before sb w parts sites len far =
           run_append set (part_lines k number q es) others w
           ∙ ap (λ (a : Acted). then_ a (λ u. run set u others)) z.moves.is
           ∙ ap (λ (a : Acted). record { world = a.world; items = mine ++ a.items }) rest.is;
+      each =
+          shown_append set (part_lines k number q es) others w
+          ∙ ap (λ (zs : List (List Item)). zs ++ shown_by set (run set w (part_lines k number q es)).world others) z.moves.each
+          ∙ ap (λ (a : Acted). part_shown k number q es ++ shown_by set a.world others) z.moves.is
+          ∙ ap (λ (zs : List (List Item)). part_shown k number q es ++ zs) rest.each;
       far = rest.far;
       packets = total;
     }
@@ -200,13 +209,20 @@ settles set w far count sound = record {
         plus : (a b : ℕ) → b ≡ 0 + a → b ≡ a + 0 + 0
         plus a b e = omega (arith, e)
 
+from_power_on : (set : Setting) → IsSoundSetting set → HasRoom set → Result set 0 0 set.app.parts (switched_on set)
+from_power_on set sound room = loop set sound room set.app.parts set.sites [] [] (switched_on set) refl refl refl (first_far set sound)
+
 pub is_set_up : (set : Setting) → IsSoundSetting set → HasRoom set → IsSetUp set
 is_set_up set sound room =
-    let r : Result set 0 0 set.app.parts (switched_on set) = loop set sound room set.app.parts set.sites [] [] (switched_on set) refl refl refl (first_far set sound) in
+    let r = from_power_on set sound room in
     record {
       items = ap (λ (a : Acted). a.items) r.is;
       settled = subst (λ (v : World). Settled set v (course_start set.app)) (sym (ap (λ (a : Acted). a.world) r.is)) (settles set r.world r.far r.packets sound);
     }
+
+-- line by line
+pub set_up_shown : (set : Setting) → IsSoundSetting set → HasRoom set → shown_by set (switched_on set) (setup_schedule set.app) ≡ setup_shown set.app
+set_up_shown set sound room = (from_power_on set sound room).each
 
 pub set_up : SetUp
 set_up set sound room = (is_set_up set sound room).items

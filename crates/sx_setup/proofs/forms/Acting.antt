@@ -21,6 +21,7 @@ use Rattle.sx_run.specs.Run.{after_line}
 use Rattle.sx_run.specs.Law.{IsSoundSetting}
 use Rattle.sx_honest.specs.Course.{packet_items}
 use Rattle.sx_gives.specs.Gives.{low_input, low_output}
+use Rattle.sx_setup.proofs.forms.ByLine.{keys_shown}
 use Rattle.sx_setup.proofs.forms.Loaded.{StandsHigh}
 use Rattle.sx_setup.proofs.forms.Served.{IsServed, Moves, Serves}
 
@@ -75,11 +76,11 @@ first_end set e =
     record { is_open = true; field = e.link; number = 0; key = connection_key set e.link 0 }
 
 -- a module took a set-key packet
-pub record TakesKey (set : Setting) (w : World) (m : ℕ) (q : PartTree) (site : Site) (sec : Section) (s : State) (st : ModuleState) (lines : List Line) (items : List Item) : Type 0 where
+pub record TakesKey (set : Setting) (w : World) (m : ℕ) (q : PartTree) (site : Site) (sec : Section) (s : State) (st : ModuleState) (lines : List Line) (items : List Item) (shown : List (List Item)) : Type 0 where
   pub after : State
   pub serves : Serves sec s after
   pub served : IsServed set m q site sec after st
-  pub moves : Moves set w lines items site.node after w.packets w.deployer w.ledger
+  pub moves : Moves set w lines items shown site.node after w.packets w.deployer w.ledger
 
 -- a set-key packet for a closed end is given and taken: the end opens
 abbrev pub KeyTaken : Type 0
@@ -92,4 +93,4 @@ KeyTaken = (set : Setting) (w : World) (m : ℕ) (q : PartTree) (site : Site) (s
     → TakesKey set w m q site sec s
     (record { cells = st.cells; ends = with_end st.ends j (first_end set e) })
     (Give k site.node low_input ∷ Call m 0 low_input low_output ∷ [])
-    (item.Open m e.link e.side 0 ∷ item.Done m 1 0 ∷ [])
+    (item.Open m e.link e.side 0 ∷ item.Done m 1 0 ∷ []) (keys_shown m (e ∷ []))

@@ -19,16 +19,17 @@ use Rattle.sx_run.specs.Law.{IsSoundSetting}
 use Rattle.sx_honest.specs.Course.{open_items, packet_items}
 use Rattle.sx_gives.specs.Gives.{low_input, low_output}
 use Rattle.sx_setup.specs.Schedule.{key_lines}
+use Rattle.sx_setup.proofs.forms.ByLine.{asking_shown, keys_shown}
 use Rattle.sx_setup.proofs.forms.Served.{IsServed, Moves, Serves}
 use Rattle.sx_setup.proofs.forms.Acting.{first_end, first_grant}
 
--- lines were acted for a module, which then stands in this state; the packets, the deployer's
--- record and the ledger after them
-pub record DoesFor (set : Setting) (w : World) (m : ℕ) (q : PartTree) (site : Site) (sec : Section) (s : State) (st : ModuleState) (lines : List Line) (items : List Item) (ps : List (List ℕ)) (d : DeployerState) (made : List Made) : Type 0 where
+-- lines were acted for a module, which then stands in this state; what they showed, and the packets,
+-- the deployer's record and the ledger after them
+pub record DoesFor (set : Setting) (w : World) (m : ℕ) (q : PartTree) (site : Site) (sec : Section) (s : State) (st : ModuleState) (lines : List Line) (items : List Item) (shown : List (List Item)) (ps : List (List ℕ)) (d : DeployerState) (made : List Made) : Type 0 where
   pub after : State
   pub serves : Serves sec s after
   pub served : IsServed set m q site sec after st
-  pub moves : Moves set w lines items site.node after ps d made
+  pub moves : Moves set w lines items shown site.node after ps d made
 
 -- the ask of a module, given and answered: its lines
 abbrev pub asking_lines : ℕ → ℕ → ℕ → List Line
@@ -61,6 +62,7 @@ ModuleAttested = (set : Setting) (w : World) (m : ℕ) (q : PartTree) (site : Si
     let gs = grants_at w.deployer.epochs m (ends_of set.app m) in
     DoesFor set w m q site sec s st (asking_lines m site.node p)
     (asking_items m a p (length (ends_of set.app m)))
+    (asking_shown m a p (length (ends_of set.app m)))
     (w.packets ++ ask_packet a ∷ expected set site 0 (ask_packet a) ∷ map (set_key set site) gs)
     (after_acceptance set.app.links (after_ask w.deployer m) m 0 None)
     (w.ledger ++ vouched_entry m a ∷ map (set_key_entry set) gs)
@@ -81,4 +83,5 @@ KeysTaken = (set : Setting) (w : World) (m : ℕ) (q : PartTree) (site : Site) (
     → ends_of set.app m ≡ before ++ es → HaveKeys set w m site number es
     → DoesFor set w m q site sec s
     (record { cells = cells; ends = map (first_end set) (before ++ es) })
-    (key_lines m site.node number (length es)) (open_items m es) w.packets w.deployer w.ledger
+    (key_lines m site.node number (length es)) (open_items m es) (keys_shown m es) w.packets
+    w.deployer w.ledger

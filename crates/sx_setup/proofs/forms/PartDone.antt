@@ -17,6 +17,7 @@ use Rattle.sx_run.specs.State.{World}
 use Rattle.sx_run.specs.Law.{IsSoundSetting}
 use Rattle.sx_honest.specs.Course.{part_items}
 use Rattle.sx_setup.specs.Schedule.{part_lines}
+use Rattle.sx_setup.proofs.forms.ByLine.{part_shown}
 use Rattle.sx_setup.proofs.forms.Settled.{ModuleStands}
 use Rattle.sx_setup.proofs.forms.Loaded.{IsLoadable}
 use Rattle.sx_setup.proofs.forms.Served.{Moves}
@@ -46,7 +47,8 @@ pub record SetsUp (set : Setting) (w : World) (m : ℕ) (q : PartTree) (site : S
   pub private : (x : Section) → Lives s.sections.live x
       → private_bytes x.layout after.mem ≡ private_bytes x.layout s.mem
   pub moves : Moves set w (part_lines m (length w.packets) q (ends_of set.app m))
-      (part_items m (length w.packets) q (ends_of set.app m)) site.node after
+      (part_items m (length w.packets) q (ends_of set.app m))
+      (part_shown m (length w.packets) q (ends_of set.app m)) site.node after
       (w.packets ++ ask_packet w.deployer.asks ∷ expected set site 0 (ask_packet w.deployer.asks)
       ∷ map (set_key set site) (grants_at w.deployer.epochs m (ends_of set.app m)))
       (after_acceptance set.app.links (after_ask w.deployer m) m 0 None)

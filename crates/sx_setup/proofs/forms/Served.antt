@@ -17,6 +17,7 @@ use Rattle.sx_run.specs.State.{World}
 use Rattle.sx_run.specs.Run.{run}
 use Rattle.sx_run.specs.Law.{image_at}
 use Rattle.sx_calls.specs.Calls.{Callee}
+use Rattle.sx_setup.proofs.forms.ByLine.{shown_by}
 use Rattle.sx_setup.proofs.forms.Loaded.{StandsHigh}
 
 -- a module as it is called
@@ -55,11 +56,12 @@ pub record IsServed (set : Setting) (m : ℕ) (q : PartTree) (site : Site) (sec 
   pub low : StandsHigh s
   pub state : state_on set m q site s ≡ st
 
--- lines show these items; after them the n-th node is in this state, and these are the packets, the
--- deployer's record and the ledger
-pub record Moves (set : Setting) (w : World) (lines : List Line) (items : List Item) (n : ℕ) (t : State) (ps : List (List ℕ)) (d : DeployerState) (made : List Made) : Type 0 where
+-- lines show these items, and line by line these; after them the n-th node is in this state, and
+-- these are the packets, the deployer's record and the ledger
+pub record Moves (set : Setting) (w : World) (lines : List Line) (items : List Item) (shown : List (List Item)) (n : ℕ) (t : State) (ps : List (List ℕ)) (d : DeployerState) (made : List Made) : Type 0 where
   pub world : World
   pub is : run set w lines ≡ record { world = world; items = items }
+  pub each : shown_by set w lines ≡ shown
   pub nodes : world.nodes ≡ slice_set w.nodes n t
   pub packets : world.packets ≡ ps
   pub deployer : world.deployer ≡ d

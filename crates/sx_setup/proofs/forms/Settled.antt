@@ -1,10 +1,10 @@
 -- A world that stands as a course of an honest run says, and what the set-up does.
-use Rattle.std.specs.Prelude.{◌≡◌, ℕ, ◌+◌, ◌<◌, ◌≤◌, true, false, if◌then◌else◌, ◌==◌, List, [], ◌∷◌, ◌++◌, length, map}
+use Rattle.std.specs.Prelude.{◌≡◌, ℕ, ◌+◌, true, false, if◌then◌else◌, ◌==◌, List, [], ◌∷◌, ◌++◌, length, map}
 use Rattle.std.specs.Prelude.{slice_get, slice_index_or, Some, None, All}
 use Rattle.sx_lang.specs.declared.sides.Side.{Side}
 use Rattle.sx_lang.specs.declared.sides.Side.TheVariants.{From, To}
 use Rattle.sx_mean.specs.declared.events.End.{End}
-use Rattle.sx_mean.specs.Application.{PartTree, is_valid}
+use Rattle.sx_mean.specs.Application.{PartTree}
 use Rattle.sx_mean.specs.Ends.{ends_of}
 use Rattle.sx_rules.specs.declared.section.Section.{Section}
 use Rattle.sx_rules.specs.Access.{Sections}
@@ -22,7 +22,6 @@ use Rattle.sx_run.specs.Ledger.{NO_TARGET, made_entry, is_made}
 use Rattle.sx_run.specs.Observation.{sender_of}
 use Rattle.sx_run.specs.State.{World, switched_on}
 use Rattle.sx_run.specs.Run.{run}
-use Rattle.sx_run.specs.Law.{IsSoundSetting}
 use Rattle.sx_honest.specs.Course.{Course, count_over, course_start, packets_so_far, setup_items, setup_packets}
 use Rattle.sx_honest.specs.Plain.{Waiting}
 use Rattle.sx_setup.specs.Schedule.{setup_schedule}
