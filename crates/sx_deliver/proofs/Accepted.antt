@@ -1,40 +1,10 @@
--- An accepted deployment has room, and its modules' numbers are words.
-use Rattle.std.proofs.Common.{◌≡◌, ℕ, suc, ◌≤◌, List, [], ◌∷◌, length, Ok, sym, ◌∙◌, arith}
-use Rattle.std.specs.Prelude.{All}
-use Rattle.std.proofs.lemmas.List.Elements.{All-cons, All-nil}
-use Rattle.sx_mean.specs.declared.apps.AppDevice.{AppDevice}
-use Rattle.sx_deploy.specs.Deployment.{Deployed, IsRead}
-use Rattle.sx_deploy.specs.Law.{IsWordPlace, words_of}
+-- From an accepted text on: it has room, and its modules' numbers are words.
 use Rattle.sx_deploy.proofs.Sound.{sound}
-use Rattle.sx_deploy.proofs.ValidApp.{app_valid}
-use Rattle.sx_tag.specs.Mac.{Mac}
 use Rattle.sx_run.specs.Accepted.{setting_of}
-use Rattle.sx_run.proofs.accepted.LaidSites.{laid_at, site_at}
 use Rattle.sx_run.proofs.accepted.Settled.{settled}
-use Rattle.sx_setup.specs.Laws.{AreByteTexts, HasRoom}
+use Rattle.sx_setup.proofs.Accepting.{has_room}
 use Rattle.sx_deliver.specs.Laws.{AcceptedRunDelivers}
 use Rattle.sx_deliver.proofs.Joined.{honest_run_delivers}
-
-all_low : (ds : List AppDevice) (ats : List ℕ) → length ats ≡ length ds → All IsWordPlace (words_of ds ats) → All (λ at. 512 ≤ at) ats
-all_low [] [] len h = All-nil (λ (at : ℕ). 512 ≤ at)
-all_low [] (at ∷ ats) len h = absurd (omega (arith, len))
-all_low (d ∷ ds) [] len h = All-nil (λ (at : ℕ). 512 ≤ at)
-all_low (d ∷ ds) (at ∷ ats) len h =
-    All-cons (λ (at : ℕ). 512 ≤ at) at ats (h 0 (record { node = d.node; at = at }) (omega arith)).low
-    (all_low ds ats (omega (arith, len)) (λ k x lt. h (suc k) x (omega (arith, lt))))
-
-has_room : (text : List ℕ) (d : Deployed) → IsRead text (Ok d) → (mac : Mac) (texts : List (List ℕ)) → AreByteTexts texts → HasRoom (setting_of mac d texts)
-has_room text d h mac texts bytes =
-    let acc = sound text d h in
-    record {
-      valid = app_valid text d h;
-      sections = λ m site e.
-          let r = site_at d.app.parts d.layouts d.providers texts m site e in
-          let laid = laid_at d 0 d.app.parts d.layouts m r.part site.layout acc.laid r.found r.layout in
-          (laid.text.low, laid.data_part.low);
-      devices = all_low d.app.devices d.places (acc.places ∙ sym acc.devices) acc.words;
-      texts = λ m site e. bytes m site.text (site_at d.app.parts d.layouts d.providers texts m site e).text;
-    }
 
 pub accepted_run_delivers : AcceptedRunDelivers
 accepted_run_delivers text d h mac texts tag images bytes rs c honest low =

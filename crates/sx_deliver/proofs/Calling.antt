@@ -30,12 +30,14 @@ use Rattle.sx_calls.specs.FourCalls.{CallDoes, CallEffect}
 use Rattle.sx_honest.specs.Plain.{Waiting}
 use Rattle.sx_honest.specs.Course.{Course, count_over, packet_items, packets_so_far, setup_packets}
 use Rattle.sx_setup.specs.Laws.{HasRoom}
+use Rattle.sx_setup.proofs.forms.ByLine.{shown_by}
 use Rattle.sx_setup.proofs.forms.Loaded.{StandsHigh}
 use Rattle.sx_setup.proofs.forms.Served.{Serves, callee}
 use Rattle.sx_setup.proofs.forms.Settled.{IsOnItsWay, Settled, all_sent, event_of, module_as}
 use Rattle.sx_setup.proofs.Packets.{cipher_length, tag_length}
 use Rattle.sx_setup.proofs.Sites.{section_at}
 use Rattle.sx_deliver.specs.Schedule.{take_lines}
+use Rattle.sx_deliver.proofs.ByLine.{packets_shown}
 use Rattle.sx_deliver.proofs.Leaving.{Among}
 use Rattle.sx_deliver.proofs.Making.{entries_for, pieces_of}
 use Rattle.sx_deliver.proofs.Serving.{Passes, own_section, settles_at}
@@ -111,6 +113,7 @@ module _ (set : Setting) (sound : IsSoundSetting set) (room : HasRoom set) (c : 
   pub record CalledThere (w1 : World) (e : ℕ) (items : List Item) (c1 : Course) (ys : List Waiting) : Type 0 where
     pub world : World
     pub is : run set w1 (Call m e 0x40 0x80 ∷ take_lines site.node 0x80 (length ys)) ≡ record { world = world; items = items ++ item.Done m 1 (length ys) ∷ packet_items (length w.packets) 24 (length ys) }
+    pub each : shown_by set w1 (Call m e 0x40 0x80 ∷ take_lines site.node 0x80 (length ys)) ≡ (items ++ item.Done m 1 (length ys) ∷ []) ∷ packets_shown (length w.packets) (length ys)
     pub is_settled : Settled set world c1
 
   module _ (s1 : State) (w1 : World) (before : Before s1 w1) (e : ℕ) (effect : CallEffect) (c1 : Course) (rest ys : List Waiting) (makes : Makes s1 w1 e effect c1 ys) (follows : Follows c1 rest ys) where
@@ -169,6 +172,11 @@ module _ (set : Setting) (sound : IsSoundSetting set) (room : HasRoom set) (c : 
     joined : run set w1 (Call m e 0x40 0x80 ∷ take_lines n 0x80 k) ≡ record { world = takes.world; items = effect.items ++ item.Done m 1 k ∷ packet_items (length w.packets) 24 k }
     joined = run_is ∙ ap (λ (is : List Item). record { world = takes.world; items = is }) (append_assoc effect.items (item.Done m 1 k ∷ []) (packet_items (length w.packets) 24 k))
 
+    each_is : shown_by set w1 (Call m e 0x40 0x80 ∷ take_lines n 0x80 k) ≡ (effect.items ++ item.Done m 1 k ∷ []) ∷ packets_shown (length w.packets) k
+    each_is =
+        ap (λ (a : Acted). a.items ∷ shown_by set a.world (take_lines n 0x80 k)) call_is
+        ∙ ap (λ (zs : List (List Item)). (effect.items ++ item.Done m 1 k ∷ []) ∷ zs) (takes.each ∙ ap (λ (ps : List (List ℕ)). packets_shown (length ps) k) before.packets)
+
     passes : Passes set sound room c w settled m q site sec s u c1 takes.world rest ys
     passes =
         let still : (x : Section) → Lives s.sections.live x → Lives s1.sections.live x = λ x l. subst (λ (z : Sections). Lives z.live x) (sym before.stays.sections) l in
@@ -205,5 +213,6 @@ module _ (set : Setting) (sound : IsSoundSetting set) (room : HasRoom set) (c : 
     called_there = record {
       world = takes.world;
       is = subst (λ (j : ℕ). run set w1 (Call m e 0x40 0x80 ∷ take_lines n 0x80 j) ≡ record { world = takes.world; items = effect.items ++ item.Done m 1 j ∷ packet_items (length w.packets) 24 j }) long joined;
+      each = subst (λ (j : ℕ). shown_by set w1 (Call m e 0x40 0x80 ∷ take_lines n 0x80 j) ≡ (effect.items ++ item.Done m 1 j ∷ []) ∷ packets_shown (length w.packets) j) long each_is;
       is_settled = settles_at set sound room c w settled m q site sec s u c1 takes.world rest ys passes;
     }

@@ -6,17 +6,19 @@ use Rattle.std.proofs.lemmas.Option.{same_Some}
 use Rattle.sx_mean.specs.declared.events.SourceEvent.{SourceEvent}
 use Rattle.sx_mean.specs.declared.events.SourceEvent.TheVariants as event
 use Rattle.sx_mean.specs.Application.{AppTree, PartTree, is_valid}
+use Rattle.sx_trace.specs.declared.items.Item.TheVariants as item
 use Rattle.sx_sched.specs.Lines.{Line, Sense, Give}
 use Rattle.sx_run.specs.Setting.{Setting}
 use Rattle.sx_run.specs.Law.{LinesInForm}
 use Rattle.sx_honest.specs.Plain.{MOST_DELIVERIES, Plain, Sampling, Waiting, acts_send, oldest, reacted, reaction}
-use Rattle.sx_honest.specs.Course.{Course, IsSampling, course_start, delivered, lines_so_far, played, sensed, settled, setup_lines, setup_packets}
+use Rattle.sx_honest.specs.Course.{Course, IsSampling, count_over, course_start, delivered, lines_so_far, packets_so_far, played, sensed, settled, setup_lines, setup_packets}
 use Rattle.sx_honest.proofs.AsPlain.{IsLinked, IsTold, driver, goes, told_delivered, told_sensed, told_start}
 use Rattle.sx_honest.proofs.Course.{played_on}
 use Rattle.sx_setup.specs.Schedule.{setup_schedule}
 use Rattle.sx_setup.proofs.Counting.{both_formed, schedule_formed, schedule_long}
 use Rattle.sx_deliver.specs.Schedule.{delivery_lines, event_lines, reading_lines, readings_lines, settling_lines, take_lines}
 use Rattle.sx_deliver.specs.Laws.{HonestFits}
+use Rattle.sx_deliver.proofs.ByLine.{delivery_shown, event_shown, reading_shown}
 
 takes_long : (n at k : ℕ) → length (take_lines n at k) ≡ k
 takes_long n at zero = refl
@@ -31,7 +33,7 @@ module _ (set : Setting) (valid : is_valid set.app ≡ true) where
   app = set.app
 
   -- the values that an event puts on their way
-  abbrev sent : ℕ → SourceEvent → List (List ℕ) → PartTree → List Waiting
+  abbrev pub sent : ℕ → SourceEvent → List (List ℕ) → PartTree → List Waiting
   sent m e cells q = acts_send app.links m (reaction m q e cells).acts
 
   event_long : (m entry : ℕ) (e : SourceEvent) (cells : List (List ℕ)) (q : PartTree) → length (event_lines app m entry e cells q) ≡ suc (length (sent m e cells q))
@@ -52,16 +54,20 @@ module _ (set : Setting) (valid : is_valid set.app ≡ true) where
     pub reading_is : Sense r.device r.value ∷ event_lines app is.driver 3 e c.plain.cells d.part ≡ reading_lines app r c
     reading_is = rw (is.driven, d.there) refl
 
-    sensed_is : reacted app is.driver e c.plain d.part ≡ (sensed app r c).plain
+    pub reading_shown_is : (item.Sense r.device r.value ∷ []) ∷ event_shown app is.driver (item.Read is.driver r.value) (packets_so_far app c) (reaction is.driver d.part e c.plain.cells).acts ≡ reading_shown app r c
+    reading_shown_is = rw (is.driven, d.there) refl
+
+    pub sensed_is : reacted app is.driver e c.plain d.part ≡ (sensed app r c).plain
     sensed_is = rw (is.driven, d.there) refl
 
-    reading_long : (k : ℕ) → length (reading_lines app r c) + lines_so_far app k c ≡ lines_so_far app (k + 1) (sensed app r c)
+    pub sensed_waits : length (sensed app r c).plain.waiting ≡ length c.plain.waiting + length (sent is.driver e c.plain.cells d.part)
+    sensed_waits = ap (λ (s : Plain). length s.waiting) (sym sensed_is) ∙ length-append c.plain.waiting (sent is.driver e c.plain.cells d.part)
+
+    pub reading_long : (k : ℕ) → length (reading_lines app r c) + lines_so_far app k c ≡ lines_so_far app (k + 1) (sensed app r c)
     reading_long k =
         let new = length (sent is.driver e c.plain.cells d.part) in
         let a : length (reading_lines app r c) ≡ suc (suc new) = (ap length (sym reading_is) ∙ ap (λ (i : ℕ). suc i) (event_long is.driver 3 e c.plain.cells d.part)) in
-        let b : length (sensed app r c).plain.waiting ≡ length c.plain.waiting + new =
-        ap (λ (s : Plain). length s.waiting) (sym sensed_is) ∙ length-append c.plain.waiting (sent is.driver e c.plain.cells d.part) in
-        sums (length (reading_lines app r c)) new (setup_lines app) k (length c.past) (length c.plain.waiting) (length (sensed app r c).plain.waiting) a b
+        sums (length (reading_lines app r c)) new (setup_lines app) k (length c.past) (length c.plain.waiting) (length (sensed app r c).plain.waiting) a sensed_waits
       where
         sums : (x new u k p w v : ℕ) → x ≡ suc (suc new) → v ≡ w + new → x + (u + 2 * k + 3 * p + w) ≡ u + 2 * (k + 1) + 3 * p + v
         sums x new u k p w v a b = omega (arith, a, b)
@@ -84,16 +90,20 @@ module _ (set : Setting) (valid : is_valid set.app ≡ true) where
     pub delivery_is : Give (setup_packets app + length c.past) g.part.node 0x40 ∷ event_lines app g.link.to 2 input c.plain.cells g.part ≡ delivery_lines app w c
     delivery_is = rw (g.there, g.to) refl
 
-    delivered_is : reacted app g.link.to input plain g.part ≡ (delivered app w ws c).plain
+    pub delivery_shown_is : [] ∷ event_shown app g.link.to (item.Take g.link.to w.link (count_over w.link c.past) w.value) (packets_so_far app c) (reaction g.link.to g.part input c.plain.cells).acts ≡ delivery_shown app w c
+    delivery_shown_is = rw (g.there, g.to) refl
+
+    pub delivered_is : reacted app g.link.to input plain g.part ≡ (delivered app w ws c).plain
     delivered_is = rw (g.there, g.to) refl
 
-    delivery_long : (k : ℕ) → length (delivery_lines app w c) + lines_so_far app k c ≡ lines_so_far app k (delivered app w ws c)
+    pub delivered_waits : length (delivered app w ws c).plain.waiting ≡ length ws + length (sent g.link.to input c.plain.cells g.part)
+    delivered_waits = ap (λ (s : Plain). length s.waiting) (sym delivered_is) ∙ length-append ws (sent g.link.to input c.plain.cells g.part)
+
+    pub delivery_long : (k : ℕ) → length (delivery_lines app w c) + lines_so_far app k c ≡ lines_so_far app k (delivered app w ws c)
     delivery_long k =
         let new = length (sent g.link.to input c.plain.cells g.part) in
         let a : length (delivery_lines app w c) ≡ suc (suc new) = (ap length (sym delivery_is) ∙ ap (λ (i : ℕ). suc i) (event_long g.link.to 2 input c.plain.cells g.part)) in
-        let b : length (delivered app w ws c).plain.waiting ≡ length ws + new =
-        ap (λ (s : Plain). length s.waiting) (sym delivered_is) ∙ length-append ws (sent g.link.to input c.plain.cells g.part) in
-        sums (length (delivery_lines app w c)) new (setup_lines app) k (length c.past) (length (c.past ++ w ∷ [])) (length c.plain.waiting) (length ws) (length (delivered app w ws c).plain.waiting) a b
+        sums (length (delivery_lines app w c)) new (setup_lines app) k (length c.past) (length (c.past ++ w ∷ [])) (length c.plain.waiting) (length ws) (length (delivered app w ws c).plain.waiting) a delivered_waits
         (length-append c.past (w ∷ [])) (ap (λ (zs : List Waiting). length zs) waits)
       where
         sums : (x new u k p n l o v : ℕ) → x ≡ suc (suc new) → v ≡ o + new → n ≡ p + 1 → l ≡ suc o → x + (u + 2 * k + 3 * p + l) ≡ u + 2 * k + 3 * n + v

@@ -22,6 +22,7 @@ use Rattle.sx_setup.proofs.Runs.{run_append}
 use Rattle.sx_setup.proofs.SetUp.{is_set_up}
 use Rattle.sx_deliver.specs.Laws.{HaveWords, HonestRunDelivers, HonestShows}
 use Rattle.sx_deliver.specs.Schedule.{delivery_lines, reading_lines, readings_lines, settling_lines}
+use Rattle.sx_deliver.proofs.ByLine.{delivery_shown, reading_shown, readings_shown, settling_shown}
 use Rattle.sx_deliver.proofs.Fitting.{readings_fit, settling_fits}
 use Rattle.sx_deliver.proofs.Going.{Leads, Stands, leads_on}
 use Rattle.sx_deliver.proofs.InWords.{words_start}
@@ -43,28 +44,28 @@ module _ (set : Setting) (sound : IsSoundSetting set) (room : HasRoom set) (word
   abbrev valid : is_valid set.app ≡ true
   valid = room.valid
 
-  leads_none : (c : Course) (w : World) → Stands set w c → Leads set w [] c c
-  leads_none c w h = record { world = w; items = []; is = refl; more = sym (append-nil c.items); stands = h }
+  pub leads_none : (c : Course) (w : World) → Stands set w c → Leads set w [] [] c c
+  leads_none c w h = record { world = w; items = []; is = refl; each = refl; more = sym (append-nil c.items); stands = h }
 
-  settling_leads : (n k : ℕ) (c : Course) (w : World) → Stands set w c → lines_so_far app (k + 1) (settled app n c) ≤ 65536 → Leads set w (settling_lines app n c) c (settled app n c)
+  pub settling_leads : (n k : ℕ) (c : Course) (w : World) → Stands set w c → lines_so_far app (k + 1) (settled app n c) ≤ 65536 → Leads set w (settling_lines app n c) (settling_shown app n c) c (settled app n c)
   settling_leads zero k c w h few = leads_none c w h
   settling_leads (suc n) k c w h few = go c.plain.waiting refl (λ d v t b. settling_leads n k d v t b) few
     where
       go : (xs : List Waiting) → c.plain.waiting ≡ xs
-          → ((d : Course) (v : World) → Stands set v d → lines_so_far app (k + 1) (settled app n d) ≤ 65536 → Leads set v (settling_lines app n d) d (settled app n d))
+          → ((d : Course) (v : World) → Stands set v d → lines_so_far app (k + 1) (settled app n d) ≤ 65536 → Leads set v (settling_lines app n d) (settling_shown app n d) d (settled app n d))
           → lines_so_far app (k + 1) (oldest c (λ x ws. settled app n (delivered app x ws c)) xs) ≤ 65536
-          → Leads set w (oldest [] (λ x ws. delivery_lines app x c ++ settling_lines app n (delivered app x ws c)) xs) c (oldest c (λ x ws. settled app n (delivered app x ws c)) xs)
+          → Leads set w (oldest [] (λ x ws. delivery_lines app x c ++ settling_lines app n (delivered app x ws c)) xs) (oldest [] (λ x ws. delivery_shown app x c ++ settling_shown app n (delivered app x ws c)) xs) c (oldest c (λ x ws. settled app n (delivered app x ws c)) xs)
       go [] e more few = leads_none c w h
       go (x ∷ ws) e more few =
           let d = delivered app x ws c in
           let fit = settling_fits set valid n (k + 1) d (told_delivered app x ws c valid e h.told) in
           let there : lines_so_far app (k + 1) d ≤ 65536 = began (length (settling_lines app n d)) (lines_so_far app (k + 1) d) (lines_so_far app (k + 1) (settled app n d)) fit.0.long few in
           let first = delivery_leads set sound room words c w h x ws e (room_left (setup_lines app) k (length d.past) (length d.plain.waiting) there) in
-          leads_on set w (delivery_lines app x c) (settling_lines app n d) c d (settled app n d) first (more d first.world first.stands few)
+          leads_on set w (delivery_lines app x c) (settling_lines app n d) (delivery_shown app x c) (settling_shown app n d) c d (settled app n d) first (more d first.world first.stands few)
 
-  readings_lead : (n k : ℕ) (rs : List Sampling) (c d : Course) (w : World) → All (IsSampling app) rs → All (λ (r : Sampling). r.value < 32768) rs → Stands set w c → played app n rs c ≡ Some d
-      → lines_so_far app (k + length rs) d ≤ 65536 → Leads set w (readings_lines app n rs c) c d
-  readings_lead n k [] c d w all low h p few = subst (λ (e : Course). Leads set w [] c e) (same_Some c d p) (leads_none c w h)
+  pub readings_lead : (n k : ℕ) (rs : List Sampling) (c d : Course) (w : World) → All (IsSampling app) rs → All (λ (r : Sampling). r.value < 32768) rs → Stands set w c → played app n rs c ≡ Some d
+      → lines_so_far app (k + length rs) d ≤ 65536 → Leads set w (readings_lines app n rs c) (readings_shown app n rs c) c d
+  readings_lead n k [] c d w all low h p few = subst (λ (e : Course). Leads set w [] [] c e) (same_Some c d p) (leads_none c w h)
   readings_lead n k (r ∷ rs) c d w all low h p few =
       let is = All-head (IsSampling app) r rs all in
       let small : r.value < 32768 = All-head (λ (r : Sampling). r.value < 32768) r rs low in
@@ -79,22 +80,25 @@ module _ (set : Setting) (sound : IsSoundSetting set) (room : HasRoom set) (word
       let at_s : lines_so_far app (k + 1) s ≤ 65536 = began (length (settling_lines app n s)) (lines_so_far app (k + 1) s) (lines_so_far app (k + 1) e) deliveries.0.long at_e in
       let first = reading_leads set sound room words c w h r is small (room_left (setup_lines app) k (length s.past) (length s.plain.waiting) at_s) in
       let second = settling_leads n k s first.world first.stands at_e in
-      let both = leads_on set w (reading_lines app r c) (settling_lines app n s) c s e first second in
-      leads_on set w (reading_lines app r c ++ settling_lines app n s) (readings_lines app n rs e) c e d both
+      let both = leads_on set w (reading_lines app r c) (settling_lines app n s) (reading_shown app r c) (settling_shown app n s) c s e first second in
+      leads_on set w (reading_lines app r c ++ settling_lines app n s) (readings_lines app n rs e) (reading_shown app r c ++ settling_shown app n s) (readings_shown app n rs e) c e d both
       (readings_lead n (k + 1) rs e d both.world (All-tail (IsSampling app) r rs all) (All-tail (λ (r : Sampling). r.value < 32768) r rs low) both.stands on.more last)
+
+-- after the set-up
+pub starts : (set : Setting) → IsSoundSetting set → HasRoom set → HaveWords set.app → Stands set (run set (switched_on set) (setup_schedule set.app)).world (course_start set.app)
+starts set sound room words = record { settled = (is_set_up set sound room).settled; told = told_start set.app; words = words_start set.app words }
 
 pub honest_shows : HonestShows
 honest_shows set rs c sound room words h low =
     let app = set.app in
     let start = course_start app in
-    let set_up = is_set_up set sound room in
     let w : World = (run set (switched_on set) (setup_schedule app)).world in
-    let stands : Stands set w start = record { settled = set_up.settled; told = told_start app; words = words_start app words } in
+    let stands : Stands set w start = starts set sound room words in
     let few : lines_so_far app (0 + length rs) c ≤ 65536 = subst (λ (i : ℕ). lines_so_far app i c ≤ 65536) (sym (zero-add (length rs))) h.lines in
     let r = readings_lead set sound room words MOST_DELIVERIES 0 rs start c w h.readings low stands h.course few in
     let lines = readings_lines app MOST_DELIVERIES rs start in
     ap (λ (a : Acted). a.items) (run_append set (setup_schedule app) lines (switched_on set))
-    ∙ ap (λ (zs : List Item). zs ++ (run set w lines).items) set_up.items
+    ∙ ap (λ (zs : List Item). zs ++ (run set w lines).items) (is_set_up set sound room).items
     ∙ ap (λ (a : Acted). start.items ++ a.items) r.is ∙ sym r.more
 
 pub honest_run_delivers : HonestRunDelivers

@@ -53,6 +53,7 @@ use Rattle.sx_honest.proofs.Course.{total}
 use Rattle.sx_honest.proofs.Lists.{words-few}
 use Rattle.sx_honest.proofs.Views.{count-other, count-same}
 use Rattle.sx_setup.specs.Laws.{HasRoom}
+use Rattle.sx_setup.proofs.forms.ByLine.{shown_by}
 use Rattle.sx_setup.proofs.forms.Loaded.{StandsHigh}
 use Rattle.sx_setup.proofs.forms.Served.{IsServed, Serves, callee, state_on}
 use Rattle.sx_setup.proofs.forms.Settled.{IsOnItsWay, Settled, all_sent, event_of, module_as, open_end}
@@ -64,6 +65,7 @@ use Rattle.sx_setup.proofs.Packets.{AreBytes, all_bytes, cipher_bytes, tag_bytes
 use Rattle.sx_setup.proofs.Sites.{section_at}
 use Rattle.sx_deliver.specs.Laws.{HaveWords}
 use Rattle.sx_deliver.specs.Schedule.{delivery_lines, take_lines}
+use Rattle.sx_deliver.proofs.ByLine.{call_shown, delivery_shown}
 use Rattle.sx_deliver.proofs.Calling.{Before, CalledThere, Follows, Makes, called_there, event_size, stays}
 use Rattle.sx_deliver.proofs.Effects.{emits_same, node_there, others_after, own_after, sends_few, sent_by, site_there}
 use Rattle.sx_deliver.proofs.Fitting.{delivery_is}
@@ -416,6 +418,21 @@ module _ (set : Setting) (sound : IsSoundSetting set) (room : HasRoom set) (word
       ap (λ (a : Acted). then_ a (λ z. run set z (Call m 2 0x40 0x80 ∷ take_lines site.node 0x80 (length ys)))) gave
       ∙ ap (λ (a : Acted). record { world = a.world; items = a.items }) called.is
 
+  abbrev shown_at : ℕ → ℕ → ℕ → List ℕ → List (List Item)
+  shown_at l k n vs = [] ∷ call_shown m (item.Take m l k v) vs (length ys) n
+
+  each_is : shown_by set w (lines_at site.node) ≡ shown_at x.link i (packets_so_far set.app c) (acts_emit acts)
+  each_is =
+      ap (λ (a : Acted). a.items ∷ shown_by set a.world (Call m 2 0x40 0x80 ∷ take_lines site.node 0x80 (length ys))) gave
+      ∙ ap (λ (zs : List (List Item)). [] ∷ zs) called.each
+      ∙ ap (λ (vs : List ℕ). shown_at (link_of x.link) (65536 * epoch_of x.link + i) (length w.packets) vs) (emits_same acts)
+      ∙ ap (λ (n : ℕ). shown_at (link_of x.link) (65536 * epoch_of x.link + i) n (acts_emit acts)) settled.packets
+      ∙ ap (λ (k : ℕ). shown_at (link_of x.link) k (packets_so_far set.app c) (acts_emit acts)) (first_epoch x.link i small)
+      ∙ ap (λ (l : ℕ). shown_at l i (packets_so_far set.app c) (acts_emit acts)) (low_field x.link small)
+
+  shown_is : shown_at x.link i (packets_so_far set.app c) (acts_emit acts) ≡ delivery_shown set.app x c
+  shown_is = rw (g.there, g.to) refl
+
   next_stands : Stands set called.world next
   next_stands = record {
     settled = called.is_settled;
@@ -424,11 +441,12 @@ module _ (set : Setting) (sound : IsSoundSetting set) (room : HasRoom set) (word
         (words_with set.app c.plain ws (All-tail HasWord x ws (subst (λ zs. All HasWord zs) waits stands.words.waiting)) stands.words);
   }
 
-  leads_next : Leads set w (lines_at site.node) c next
+  leads_next : Leads set w (lines_at site.node) (delivery_shown set.app x c) c next
   leads_next = record {
     world = called.world;
     items = showing (link_of x.link) (65536 * epoch_of x.link + i) (length w.packets) (emitted acts);
     is = run_is;
+    each = each_is ∙ shown_is;
     more =
         ap (λ (zs : List Item). c.items ++ zs)
         (ap (λ (l : ℕ). showing l i (packets_so_far set.app c) (acts_emit acts)) (sym (low_field x.link small))
@@ -438,9 +456,9 @@ module _ (set : Setting) (sound : IsSoundSetting set) (room : HasRoom set) (word
     stands = next_stands;
   }
 
-  pub delivery_leads : Leads set w (delivery_lines set.app x c) c (delivered set.app x ws c)
+  pub delivery_leads : Leads set w (delivery_lines set.app x c) (delivery_shown set.app x c) c (delivered set.app x ws c)
   unfolding g
   delivery_leads =
-      subst (λ (z : Course). Leads set w (delivery_lines set.app x c) c z) next_is
-      (subst (λ ls. Leads set w ls c next) (delivery_is set valid x ws c waits linked)
-      (subst (λ (n : ℕ). Leads set w (lines_at n) c next) (sound.deployed m q site g.to sited).node leads_next))
+      subst (λ (z : Course). Leads set w (delivery_lines set.app x c) (delivery_shown set.app x c) c z) next_is
+      (subst (λ ls. Leads set w ls (delivery_shown set.app x c) c next) (delivery_is set valid x ws c waits linked)
+      (subst (λ (n : ℕ). Leads set w (lines_at n) (delivery_shown set.app x c) c next) (sound.deployed m q site g.to sited).node leads_next))

@@ -54,6 +54,7 @@ use Rattle.sx_honest.specs.Course.{Course, IsSampling, acts_items, packet_items,
 use Rattle.sx_honest.proofs.AsPlain.{Drives, IsTold, driver, told_sensed}
 use Rattle.sx_honest.proofs.Course.{total}
 use Rattle.sx_setup.specs.Laws.{HasRoom}
+use Rattle.sx_setup.proofs.forms.ByLine.{shown_by}
 use Rattle.sx_setup.proofs.forms.Loaded.{StandsHigh}
 use Rattle.sx_setup.proofs.forms.Served.{IsServed, callee, state_on}
 use Rattle.sx_setup.proofs.forms.Settled.{Settled, all_sent, module_as}
@@ -61,6 +62,7 @@ use Rattle.sx_setup.proofs.KeyTaking.{served_callable, served_low}
 use Rattle.sx_setup.proofs.Sites.{section_at}
 use Rattle.sx_deliver.specs.Laws.{HaveWords}
 use Rattle.sx_deliver.specs.Schedule.{reading_lines, take_lines}
+use Rattle.sx_deliver.proofs.ByLine.{call_shown, reading_shown}
 use Rattle.sx_deliver.proofs.Calling.{Before, CalledThere, Follows, Makes, Stays, called_there}
 use Rattle.sx_deliver.proofs.Effects.{emits_same, node_there, others_after, own_after, sends_few, sent_by, site_there}
 use Rattle.sx_deliver.proofs.Fitting.{reading_is}
@@ -354,6 +356,18 @@ module _ (set : Setting) (sound : IsSoundSetting set) (room : HasRoom set) (word
       ap (λ (a : Acted). then_ a (λ v. run set v (Call m 3 0x40 0x80 ∷ take_lines site.node 0x80 (length ys)))) sense_is
       ∙ ap (λ (a : Acted). record { world = a.world; items = item.Sense r.device r.value ∷ a.items }) called.is
 
+  abbrev shown_at : ℕ → List ℕ → List (List Item)
+  shown_at n vs = (item.Sense r.device r.value ∷ []) ∷ call_shown m (item.Read m r.value) vs (length ys) n
+
+  each_is : shown_by set w (lines_at site.node) ≡ shown_at (packets_so_far set.app c) (acts_emit acts)
+  each_is =
+      ap (λ (a : Acted). a.items ∷ shown_by set a.world (Call m 3 0x40 0x80 ∷ take_lines site.node 0x80 (length ys))) sense_is
+      ∙ ap (λ (zs : List (List Item)). (item.Sense r.device r.value ∷ []) ∷ zs) called.each
+      ∙ ap (λ (vs : List ℕ). shown_at (length w.packets) vs) (emits_same acts) ∙ ap (λ (n : ℕ). shown_at n (acts_emit acts)) settled.packets
+
+  shown_is : shown_at (packets_so_far set.app c) (acts_emit acts) ≡ reading_shown set.app r c
+  shown_is = rw (is.driven, d.there) refl
+
   next_stands : Stands set called.world next
   next_stands = record {
     settled = called.is_settled;
@@ -361,20 +375,21 @@ module _ (set : Setting) (sound : IsSoundSetting set) (room : HasRoom set) (word
     words = (let word : r.value < 65536 = omega (arith, low) in reacted_words set.app words m e c.plain q d.there word stands.words);
   }
 
-  leads_next : Leads set w (lines_at site.node) c next
+  leads_next : Leads set w (lines_at site.node) (reading_shown set.app r c) c next
   leads_next = record {
     world = called.world;
     items = showing (length w.packets) (emitted acts);
     is = run_is;
+    each = each_is ∙ shown_is;
     more =
         ap (λ (zs : List Item). c.items ++ zs)
         (ap (λ (n : ℕ). showing n (acts_emit acts)) (sym settled.packets) ∙ ap (λ (vs : List ℕ). showing (length w.packets) vs) (sym (emits_same acts)));
     stands = next_stands;
   }
 
-  pub reading_leads : Leads set w (reading_lines set.app r c) c (sensed set.app r c)
+  pub reading_leads : Leads set w (reading_lines set.app r c) (reading_shown set.app r c) c (sensed set.app r c)
   unfolding d
   reading_leads =
-      subst (λ (z : Course). Leads set w (reading_lines set.app r c) c z) next_is
-      (subst (λ ls. Leads set w ls c next) (reading_is set valid r c is)
-      (subst (λ (n : ℕ). Leads set w (lines_at n) c next) dep.node leads_next))
+      subst (λ (z : Course). Leads set w (reading_lines set.app r c) (reading_shown set.app r c) c z) next_is
+      (subst (λ ls. Leads set w ls (reading_shown set.app r c) c next) (reading_is set valid r c is)
+      (subst (λ (n : ℕ). Leads set w (lines_at n) (reading_shown set.app r c) c next) dep.node leads_next))

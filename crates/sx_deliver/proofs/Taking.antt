@@ -13,15 +13,18 @@ use Rattle.sx_run.specs.State.{World, Acted}
 use Rattle.sx_run.specs.Acts.{then_, new_packet}
 use Rattle.sx_run.specs.Run.{after_line, line_counted, run}
 use Rattle.sx_honest.specs.Course.{packet_items}
+use Rattle.sx_setup.proofs.forms.ByLine.{shown_by}
 use Rattle.sx_setup.proofs.forms.Loaded.{StandsHigh}
 use Rattle.sx_setup.proofs.Acting.{piece_taken}
 use Rattle.sx_setup.proofs.Answering.{append_more}
 use Rattle.sx_deliver.specs.Schedule.{take_lines}
+use Rattle.sx_deliver.proofs.ByLine.{packets_shown}
 
 -- lines show these items and add these packets to the world, which is as before in all else but counts
 pub record Takes (set : Setting) (w : World) (lines : List Line) (items : List Item) (ps : List (List ℕ)) : Type 0 where
   pub world : World
   pub is : run set w lines ≡ record { world = world; items = items }
+  pub each : shown_by set w lines ≡ packets_shown (length w.packets) (length ps)
   pub nodes : world.nodes ≡ w.nodes
   pub packets : world.packets ≡ w.packets ++ ps
   pub deployer : world.deployer ≡ w.deployer
@@ -34,7 +37,7 @@ AreEvents (p ∷ ps) = (length p ≡ 24) × AreEvents ps
 
 pub takes_all : (set : Setting) (ps : List (List ℕ)) (w : World) (n at : ℕ) (s : State) → slice_get w.nodes n ≡ Some s → s.cur ≡ 0 → StandsHigh s → at + 24 * length ps ≤ 512 → AreEvents ps → Stand s.mem at ps
     → Takes set w (take_lines n at (length ps)) (packet_items (length w.packets) 24 (length ps)) ps
-takes_all set [] w n at s there idle low le sizes stand = record { world = w; is = refl; nodes = refl; packets = sym (append-nil w.packets); deployer = refl; ledger = refl }
+takes_all set [] w n at s there idle low le sizes stand = record { world = w; is = refl; each = refl; nodes = refl; packets = sym (append-nil w.packets); deployer = refl; ledger = refl }
 takes_all set (p ∷ ps) w n at s there idle low le sizes stand =
     let w0 = line_counted w in
     let v : World = record { nodes = w.nodes; packets = w.packets ++ p ∷ []; deployer = w.deployer; ledger = w.ledger; lines = w.lines + 1; steps = w.steps } in
@@ -51,6 +54,9 @@ takes_all set (p ∷ ps) w n at s there idle low le sizes stand =
           ap (λ (a : Acted). then_ a (λ v. run set v (take_lines n (at + 24) (length ps)))) first
           ∙ ap (λ (a : Acted). record { world = a.world; items = item.Packet (length w.packets) 24 ∷ a.items }) rest.is
           ∙ ap (λ (k : ℕ). record { world = rest.world; items = item.Packet (length w.packets) 24 ∷ packet_items k 24 (length ps) }) long;
+      each =
+          ap (λ (a : Acted). a.items ∷ shown_by set a.world (take_lines n (at + 24) (length ps))) first
+          ∙ ap (λ (zs : List (List Item)). (item.Packet (length w.packets) 24 ∷ []) ∷ zs) (rest.each ∙ ap (λ (k : ℕ). packets_shown k (length ps)) long);
       nodes = rest.nodes;
       packets = rest.packets ∙ append_more w.packets p ps;
       deployer = rest.deployer;
