@@ -1,0 +1,133 @@
+use Rattle.std.proofs.Common.{◌≡◌, ◌∙◌, ◌+◌, ◌∷◌, ◌++◌, [], ℕ, List, length, length-append, take, arith, ap, refl, subst, sym, Err}
+use Rattle.sx_io.specs.Reading.{Line}
+use Rattle.sx_told.specs.Told.{behind, read_line}
+use Rattle.sx_told.proofs.Laws.{begun-line, begun-same, ends-same, ends-out-of-memory, prefix-none, told-stop, told-end, told-too-long, told-failed}
+use Rattle.sx_deploy.specs.SeenDeployment.{deployed_as}
+use Rattle.sx_sched.specs.Lines as lines
+use Rattle.sx_run.specs.Accepted.{setting}
+use Rattle.sx_run.specs.Law.{IsSoundSetting}
+use Rattle.sx_run.specs.Setting.{Site}
+use Rattle.sx_world.specs.InMemory.{texts_of}
+use Rattle.sx_command_world.specs.Images.{images_text}
+use Rattle.sx_command_world.specs.Schedule.{judged_line}
+use Rattle.sx_command_world.specs.Turning.{broken_output}
+use Rattle.sx_command_snap.specs.Snap.{answers_from, snap_from}
+use Rattle.sx_command_snap.proofs.Written.{asks_breaks, asks_end, asks_line, asks_long, asks_mark, asks_unread}
+use Rattle.sx_command_snap.proofs.schedule.snap_lines.Goals as goal
+
+pub lines-init : goal.lines-init
+lines-init g c = record {
+  few = omega arith;
+  counted = ap (λ (ls : List lines.Line). length ls + 1) c.requires.none;
+  sites = refl;
+  timeline = c.requires.timeline;
+  begun = λ limit m0 defined aside noted b.
+      let d = deployed_as c.args.plan.now in
+      let left = snap_from d.names (setting g.T.Tag.mac d c.args.timeline.now.sites) (images_text d.names.modules (texts_of c.args.images.now)) in
+      begun-same (left c.args.timeline.now.lines) (λ more. ap (λ (ls : List lines.Line). left ls more) (sym c.requires.none)) b;
+}
+
+pub returns-in-End : goal.returns-in-End
+returns-in-End g c = λ limit m0 defined aside noted b.
+    let d = deployed_as c.args.plan.now in
+    let set = setting g.T.Tag.mac d c.args.timeline.now.sites in
+    let images = images_text d.names.modules (texts_of c.args.images.now) in
+    let before = c.lines.timeline.lines in
+    told-end {f = snap_from d.names set images before} (asks_unread d.names set images before) (c.lines.invariant.begun limit m0 defined aside noted b)
+    c.in-End.ensures.next (ends-same _ _ _ _ _ _ (asks_end d.names set images before) c.answer_none.ensures)
+
+pub returns-in-TooLong : goal.returns-in-TooLong
+returns-in-TooLong g c = λ limit m0 defined aside noted b.
+    let d = deployed_as c.args.plan.now in
+    let set = setting g.T.Tag.mac d c.args.timeline.now.sites in
+    let images = images_text d.names.modules (texts_of c.args.images.now) in
+    let before = c.lines.timeline.lines in
+    told-too-long {f = snap_from d.names set images before} (asks_unread d.names set images before) (c.lines.invariant.begun limit m0 defined aside noted b)
+    c.in-TooLong.ensures.next
+    (ends-same _ _ _ _ _ _ (asks_long d.names set images before ∙ ap (broken_output 1) c.lines.invariant.counted) c.break_off.ensures.ends)
+
+pub returns-in-Failed : goal.returns-in-Failed
+unfolding read_line
+returns-in-Failed g c = λ limit m0 defined aside noted b.
+    let d = deployed_as c.args.plan.now in
+    let set = setting g.T.Tag.mac d c.args.timeline.now.sites in
+    let images = images_text d.names.modules (texts_of c.args.images.now) in
+    let before = c.lines.timeline.lines in
+    told-failed {f = snap_from d.names set images before} (asks_unread d.names set images before) (c.lines.invariant.begun limit m0 defined aside noted b)
+    c.in-Failed.ensures.next (ends-same _ _ _ _ _ _ (asks_unread d.names set images before) c.finish.ensures.ends)
+
+pub answer_all-requires-clause-images : goal.answer_all-requires-clause-images
+answer_all-requires-clause-images g c =
+    let P : List Site → Type 0 = λ sites. IsSoundSetting (setting g.T.Tag.mac (deployed_as c.args.plan.now) sites) in
+    subst P (sym c.lines.invariant.sites) c.requires.images
+
+pub returns-then-is_mark : goal.returns-then-is_mark
+returns-then-is_mark g c = λ limit m0 defined aside noted b.
+    let mac = g.T.Tag.mac in
+    let d = deployed_as c.args.plan.now in
+    let set = setting mac d c.args.timeline.now.sites in
+    let images = images_text d.names.modules (texts_of c.args.images.now) in
+    let before = c.lines.timeline.lines in
+    let text = take c.in-Text.n c.next.new.into in
+    let answers = λ (sites : List Site) more. behind images (answers_from d.names (setting mac d sites) before 1 more) in
+    c.answer_all.ensures limit m0 defined aside noted
+    (begun-same (answers c.lines.timeline.sites)
+    (λ more. asks_mark d.names set images before text more (sym c.is_mark.ensures ∙ c.if-is_mark.true) ∙ ap (λ (sites : List Site). answers sites more) (sym c.lines.invariant.sites))
+    (begun-line (snap_from d.names set images before) (asks_unread d.names set images before) (c.lines.invariant.begun limit m0 defined aside noted b) c.in-Text.ensures.next))
+
+pub keep-requires-clause-images : goal.keep-requires-clause-images
+keep-requires-clause-images g c =
+    let P : List Site → Type 0 = λ sites. IsSoundSetting (setting g.T.Tag.mac (deployed_as c.args.plan.now) sites) in
+    subst P (sym c.lines.invariant.sites) c.requires.images
+
+pub returns-in-Err-Fault : goal.returns-in-Err-Fault
+returns-in-Err-Fault g c = λ limit m0 defined aside noted b.
+    let d = deployed_as c.args.plan.now in
+    let set = setting g.T.Tag.mac d c.args.timeline.now.sites in
+    let images = images_text d.names.modules (texts_of c.args.images.now) in
+    let before = c.lines.timeline.lines in
+    let text = take c.in-Text.n c.next.new.into in
+    let rule = c.in-Err-Fault.rule in
+    let judged : judged_line d.names (length before + 1) text ≡ Err rule =
+    ap (λ (n : ℕ). judged_line d.names n text) c.lines.invariant.counted ∙ c.keep.ensures.rule rule (c.in-Err-Fault.is ∙ ap Err c.in-Err-Fault.field-0-is) in
+    told-stop (begun-line (snap_from d.names set images before) (asks_unread d.names set images before) (c.lines.invariant.begun limit m0 defined aside noted b) c.in-Text.ensures.next)
+    (λ more.
+    ends-same _ _ _ _ _ _
+    (asks_breaks d.names set images before text rule more (sym c.is_mark.ensures ∙ c.if-is_mark.false) judged ∙ ap (broken_output rule) c.lines.invariant.counted)
+    c.break_off-in-Err-Fault.ensures.ends)
+
+pub returns-in-Err-OutOfMemory : goal.returns-in-Err-OutOfMemory
+returns-in-Err-OutOfMemory g c = λ limit m0 defined aside noted b.
+    let d = deployed_as c.args.plan.now in
+    let set = setting g.T.Tag.mac d c.args.timeline.now.sites in
+    let images = images_text d.names.modules (texts_of c.args.images.now) in
+    let before = c.lines.timeline.lines in
+    let text = take c.in-Text.n c.next.new.into in
+    told-stop (begun-line (snap_from d.names set images before) (asks_unread d.names set images before) (c.lines.invariant.begun limit m0 defined aside noted b) c.in-Text.ensures.next)
+    (λ more. ends-out-of-memory _ _ _ (snap_from d.names set images before (Line text ∷ more)) (λ t. prefix-none _ _ _ refl) refl)
+
+pub lines-preserved : goal.lines-preserved
+lines-preserved g c =
+    let d = deployed_as c.args.plan.now in
+    let set = setting g.T.Tag.mac d c.args.timeline.now.sites in
+    let images = images_text d.names.modules (texts_of c.args.images.now) in
+    let before = c.lines.timeline.lines in
+    let after = c.keep.new.timeline.lines in
+    let text = take c.in-Text.n c.next.new.into in
+    let k = c.in-Ok.ensures.keeps in
+    let long = length_more before k.line in
+    let same : length after ≡ length (before ++ k.line ∷ []) = ap length k.kept in
+    record {
+      few = omega (arith, c.in-Ok.ensures.few);
+      counted = omega (arith, same, long, c.lines.invariant.counted);
+      sites = c.keep.ensures.sites ∙ c.lines.invariant.sites;
+      timeline = c.keep.ensures.timeline;
+      begun = λ limit m0 defined aside noted b.
+          begun-same (snap_from d.names set images after)
+          (λ more. asks_line d.names set images before text k.line more (sym c.is_mark.ensures ∙ c.if-is_mark.false) k.judged
+          ∙ ap (λ (ls : List lines.Line). snap_from d.names set images ls more) (sym k.kept))
+          (begun-line (snap_from d.names set images before) (asks_unread d.names set images before) (c.lines.invariant.begun limit m0 defined aside noted b) c.in-Text.ensures.next);
+    }
+  where
+    length_more : (xs : List lines.Line) (x : lines.Line) → length (xs ++ x ∷ []) ≡ length xs + 1
+    length_more xs x = length-append xs (x ∷ [])

@@ -1,0 +1,8 @@
+pub mod Answers
+pub mod Kept
+pub mod Queries
+pub mod Reading
+pub mod Snap
+pub mod Snaps
+pub mod Statuses
+pub mod Words

@@ -1,0 +1,50 @@
+-- The exit status of `snap`, whatever the images are.
+use Rattle.std.specs.Prelude.{ℕ, ◌+◌, List, [], ◌∷◌, length, Result, Ok, Err}
+use Rattle.sx_io.specs.Reading.{Answer, Line, End, Long, Fault}
+use Rattle.sx_told.specs.Told.{read_failed}
+use Rattle.sx_stage.specs.declared.fault.DeployFault.{DeployFault}
+use Rattle.sx_head.specs.Head.{Head, Found, TooLong, NoMark, head}
+use Rattle.sx_head.specs.Head as heads
+use Rattle.sx_trace.specs.Names.{NameLists}
+use Rattle.sx_deploy.specs.Deployment.{Deployed}
+use Rattle.sx_command_head.specs.Meanings.{Meaning}
+use Rattle.sx_command_snap.specs.declared.queries.Query.{Query}
+use Rattle.sx_command_snap.specs.Queries.{judged_query}
+use Rattle.sx_command_snap.specs.Reading.{Asking, Asks, Breaks, Unread, asking}
+
+-- the status of a query and what follows
+abbrev pub query_status : Result Query ℕ → ℕ → ℕ
+query_status (Ok query) rest = rest
+query_status (Err rule) rest = 11
+
+-- of the queries from the line with this number on, about a schedule with so many lines
+abbrev pub queries_status : NameLists → ℕ → ℕ → List Answer → ℕ
+queries_status names last number [] = 0
+queries_status names last number (End ∷ more) = 0
+queries_status names last number (Long ∷ more) = 11
+queries_status names last number (Fault ∷ more) = read_failed
+queries_status names last number (Line text ∷ more) =
+    query_status (judged_query names last number text)
+    (queries_status names last (number + 1) more)
+
+-- of a schedule and its queries
+abbrev pub asking_status : NameLists → Asking → ℕ
+asking_status names (Asks lines more) = queries_status names (length lines) 1 more
+asking_status names (Breaks rule number) = 3
+asking_status names Unread = read_failed
+
+-- the exit status by the deployment, the schedule and the queries
+abbrev pub found_status : Result Deployed DeployFault → List Answer → ℕ
+found_status (Ok d) more = asking_status d.names (asking d.names [] more)
+found_status (Err f) more = 1
+
+-- the exit status by an input's head
+abbrev pub head_status : Meaning → Head → ℕ
+head_status meaning (Found text more) = found_status (meaning text) more
+head_status meaning TooLong = 1
+head_status meaning NoMark = 1
+head_status meaning heads.Unread = read_failed
+
+-- the status of `snap`, of the answers alone
+abbrev pub snap_status : Meaning → List Answer → ℕ
+snap_status meaning answers = head_status meaning (head answers)

@@ -1,0 +1,142 @@
+//! The schedule: its lines are judged and kept to its end, and nothing is written before.
+
+ghost use Rattle.std.specs.Prelude.{◌≡◌, ℕ, ◌+◌, ◌≤◌, [], Err, IsTrue, OnOk, length};
+ghost use Rattle.sx_told.specs.Told.{CommandEnds, Rest, behind, command_at};
+ghost use Rattle.sx_head.specs.Head.{head_lines};
+ghost use Rattle.sx_trace.specs.Names.{are_valid};
+ghost use Rattle.sx_deploy.specs.Law.{IsSoundDeployment};
+ghost use Rattle.sx_deploy.specs.SeenDeployment.{deployed_as};
+ghost use Rattle.sx_run.specs.Accepted.{setting};
+ghost use Rattle.sx_run.specs.Law.{IsSoundSetting};
+ghost use Rattle.sx_world.specs.InMemory.{texts_of};
+ghost use Rattle.sx_snap.specs.Timeline.{IsTimeline};
+ghost use Rattle.sx_command_world.specs.Images.{images_text};
+ghost use Rattle.sx_command_world.specs.Schedule.{judged_line};
+ghost use Rattle.sx_command_snap.specs.Kept.{KeepsLine};
+ghost use Rattle.sx_command_snap.specs.Snap.{answers_from, ended_output, snap_from};
+
+use crate::images::put_images;
+use crate::querying::answer_queries;
+use std::alloc::Global;
+use sx_bus::Copied;
+use sx_command_world::judging::{TOO_LONG, break_off, judge};
+use sx_deploy::deployment::Deployment;
+use sx_head::is_mark;
+use sx_image::Image;
+use sx_io::{LineRead, Lines, Sink, Source};
+use sx_sched::lines::LineError;
+use sx_snap::Timeline;
+use sx_tag::Tag;
+use sx_told::{OUT_OF_MEMORY, READ_FAILED, Turned, finish};
+
+/// Keeps the line with this number of the schedule. The error is the rule that it breaks, or says
+/// that memory ran out.
+fn keep<B: Copied, T: Tag + Copy>(
+    alloc: Global,
+    plan: &Deployment,
+    timeline: &mut Timeline<B, T>,
+    said: &[u8],
+    number: u32,
+) -> Result<(), LineError>
+    requires sound { IsSoundDeployment (deployed_as plan.now) }
+    requires images { IsSoundSetting (setting T.mac (deployed_as plan.now) timeline.old.sites) }
+    requires names { IsTrue (are_valid (deployed_as plan.now).names) }
+    requires timeline { IsTimeline T.mac (deployed_as plan.now) timeline.old }
+    requires counted { length timeline.old.lines + 1 ≡ number }
+    ensures timeline { IsTimeline T.mac (deployed_as plan.now) timeline.new }
+    ensures sites { timeline.new.sites ≡ timeline.old.sites }
+    ensures keeps { OnOk result (KeepsLine (deployed_as plan.now).names said.now
+        timeline.old.lines timeline.new.lines) }
+    ensures few { OnOk result (number ≤ 65536) }
+    ensures rule { (rule : ℕ) → result ≡ Err (LineError.Fault rule)
+        → judged_line (deployed_as plan.now).names number said.now ≡ Err rule }
+{
+    let line = judge(alloc, &plan.names, said, number)?;
+    match timeline.push(plan, line) {
+        Ok(()) => Ok(()),
+        Err(_) => Err(LineError::OutOfMemory),
+    }
+}
+
+/// The images and `end`, where no queries came.
+fn answer_none<K: Sink>(alloc: Global, output: &mut K, plan: &Deployment, images: &[Image]) -> u8
+    ensures { CommandEnds K.tells (K.at output.old) (K.at output.new) result
+        (behind (images_text (deployed_as plan.now).names.modules (texts_of images.now))
+        ended_output) }
+{
+    match put_images(alloc, &plan.names, images, output) {
+        Turned::Stop(status) => status,
+        Turned::On => finish(output, b"end\n", 0),
+    }
+}
+
+/// The images, and the answers to the queries behind the mark.
+fn answer_all<S: Source, K: Sink, B: Copied, T: Tag + Copy>(
+    alloc: Global,
+    lines: &mut Lines,
+    input: &mut S,
+    output: &mut K,
+    plan: &Deployment,
+    images: &[Image],
+    timeline: &Timeline<B, T>,
+) -> u8
+    requires sound { IsSoundDeployment (deployed_as plan.now) }
+    requires images { IsSoundSetting (setting T.mac (deployed_as plan.now) timeline.now.sites) }
+    requires names { IsTrue (are_valid (deployed_as plan.now).names) }
+    requires timeline { IsTimeline T.mac (deployed_as plan.now) timeline.now }
+    ensures { Rest S.tells K.tells head_lines lines.old
+        (command_at (S.at input.old) (K.at output.old))
+        (command_at (S.at input.new) (K.at output.new)) result
+        (λ more. behind (images_text (deployed_as plan.now).names.modules (texts_of images.now))
+        (answers_from (deployed_as plan.now).names
+        (setting T.mac (deployed_as plan.now) timeline.now.sites) timeline.now.lines 1 more)) }
+{
+    match put_images(alloc, &plan.names, images, output) {
+        Turned::Stop(status) => status,
+        Turned::On => answer_queries(alloc, lines, input, output, plan, timeline),
+    }
+}
+
+/// Reads the schedule to its end, and answers the queries behind its mark.
+pub(crate) fn snap_lines<S: Source, K: Sink, B: Copied, T: Tag + Copy>(
+    alloc: Global,
+    lines: &mut Lines,
+    input: &mut S,
+    output: &mut K,
+    plan: &Deployment,
+    images: &[Image],
+    timeline: &mut Timeline<B, T>,
+) -> u8
+    requires sound { IsSoundDeployment (deployed_as plan.now) }
+    requires images { IsSoundSetting (setting T.mac (deployed_as plan.now) timeline.old.sites) }
+    requires names { IsTrue (are_valid (deployed_as plan.now).names) }
+    requires timeline { IsTimeline T.mac (deployed_as plan.now) timeline.old }
+    requires none { timeline.old.lines ≡ [] }
+    ensures { Rest S.tells K.tells head_lines lines.old
+        (command_at (S.at input.old) (K.at output.old))
+        (command_at (S.at input.new) (K.at output.new)) result
+        (snap_from (deployed_as plan.now).names
+        (setting T.mac (deployed_as plan.now) timeline.old.sites)
+        (images_text (deployed_as plan.now).names.modules (texts_of images.now)) []) }
+{
+    let mut into = [0; 4096];
+    let mut number: u32 = 1;
+    'lines: loop {
+        match lines.next(input, &mut into) {
+            LineRead::End => return answer_none(alloc, output, plan, images),
+            LineRead::TooLong => return break_off(output, TOO_LONG, number),
+            LineRead::Failed => return finish(output, b"fault read\n", READ_FAILED),
+            LineRead::Text(n) => {
+                let said = &into[..n];
+                if is_mark(said) {
+                    return answer_all(alloc, lines, input, output, plan, images, timeline);
+                }
+                match keep(alloc, plan, timeline, said, number) {
+                    Ok(()) => number += 1,
+                    Err(LineError::Fault(rule)) => return break_off(output, rule, number),
+                    Err(LineError::OutOfMemory) => return OUT_OF_MEMORY,
+                }
+            }
+        }
+    }
+}
