@@ -4,7 +4,8 @@ use Rattle.std.specs.Prelude.{ℕ, ◌≡◌, Bool, List, Option, Some, None}
 use Rattle.sx_told.specs.Told.{CommandEnds, CommandAt, out_of_memory}
 use Rattle.sx_tag.specs.Mac.{Mac}
 use Rattle.sx_top.specs.declared.words.Command.{Command}
-use Rattle.sx_top.specs.declared.words.Command.TheVariants.{Run, Check, Explain, Gen, Asm, Dis}
+use Rattle.sx_top.specs.declared.words.Command.TheVariants.{Run, Check, Explain, Snap, Gen, Asm}
+use Rattle.sx_top.specs.declared.words.Command.TheVariants.{Dis}
 use Rattle.sx_command_asm.specs.Assembling.{AsmTold}
 use Rattle.sx_top.specs.Commands.{command_of}
 use Rattle.sx_command_asm.specs.Disassembling.{DisTold}
@@ -13,6 +14,7 @@ use Rattle.sx_command_run.specs.Runs.{RunTold}
 use Rattle.sx_command_gen.specs.Workload.{GenTold}
 use Rattle.sx_command_check.specs.Promise.{CheckTold}
 use Rattle.sx_command_explain.specs.Explains.{ExplainSays}
+use Rattle.sx_command_snap.specs.Snaps.{SnapSays}
 
 -- Words that are no command: one line says so, without memory, and nothing is read.
 pub record MisusedTold (to_tell : Bool) (m0 m1 : CommandAt) (status : ℕ) : Type 0 where
@@ -32,6 +34,7 @@ CommandTold mac None tells to_tell m0 m1 status = MisusedTold to_tell m0 m1 stat
 CommandTold mac (Some Run) tells to_tell m0 m1 status = RunTold mac tells to_tell m0 m1 status
 CommandTold mac (Some Check) tells to_tell m0 m1 status = CheckTold tells to_tell m0 m1 status
 CommandTold mac (Some Explain) tells to_tell m0 m1 status = ExplainSays tells to_tell m0 m1 status
+CommandTold mac (Some Snap) tells to_tell m0 m1 status = SnapSays mac tells to_tell m0 m1 status
 CommandTold mac (Some (Gen n)) tells to_tell m0 m1 status = GenSays mac n to_tell m0 m1 status
 CommandTold mac (Some (Asm at)) tells to_tell m0 m1 status = AsmTold at tells to_tell m0 m1 status
 CommandTold mac (Some (Dis at)) tells to_tell m0 m1 status = DisTold at tells to_tell m0 m1 status
@@ -49,6 +52,7 @@ LeavesInput None = Unit {0}
 LeavesInput (Some Run) = ⊥
 LeavesInput (Some Check) = ⊥
 LeavesInput (Some Explain) = ⊥
+LeavesInput (Some Snap) = ⊥
 LeavesInput (Some (Gen n)) = Unit {0}
 LeavesInput (Some (Asm at)) = ⊥
 LeavesInput (Some (Dis at)) = ⊥

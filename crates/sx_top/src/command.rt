@@ -13,6 +13,7 @@ use sx_command_check::check_over;
 use sx_command_explain::explain_over;
 use sx_command_gen::gen_over;
 use sx_command_run::run_over;
+use sx_command_snap::snap_over;
 use sx_io::{Sink, Source};
 use sx_tag::Hmac;
 use sx_told::finish;
@@ -23,19 +24,21 @@ const MISUSED: u8 = 2;
 /// Does all that the program does, and gives its exit status. `words` are those of the command line
 /// after the program's name.
 ///
-/// The commands are `run`, `check`, `explain`, `gen N` for 1 to 8,000 samples, and `asm A` and
-/// `dis A` with an address A. `run`, `check` and `explain` read a deployment and the line `%%` after
-/// it. `check` writes where each module stands, and `end`. `run` writes each module's image, `trace`,
-/// the items of the schedule that follows, one a line, and `end`; a line's items are written before
-/// the next line is read. `explain` reads such an output behind the deployment, and writes which item
-/// caused which, how many are legal, and `end`. `gen` reads nothing: it writes the images of a stated
+/// The commands are `run`, `check`, `explain`, `snap`, `gen N` for 1 to 8,000 samples, and `asm A`
+/// and `dis A` with an address A. `run`, `check`, `explain` and `snap` read a deployment and the
+/// line `%%` after it. `check` writes where each module stands, and `end`. `run` writes each
+/// module's image, `trace`, the items of the schedule that follows, one a line, and `end`; a line's
+/// items are written before the next line is read. `explain` reads such an output behind the
+/// deployment, and writes which item caused which, how many are legal, and `end`. `snap` reads a
+/// schedule, a second line `%%` and queries: it writes the images, the answers about where the run
+/// stands after any of its lines, and `end`. `gen` reads nothing: it writes the images of a stated
 /// deployment and what it counted in the run of a stated schedule that carries this many samples,
-/// and `end`. `asm` reads a text of assembly, and `dis` bytes in hexadecimal; both write the listing
-/// of the code at the address, and `end`.
+/// and `end`. `asm` reads a text of assembly, and `dis` bytes in hexadecimal; both write the
+/// listing of the code at the address, and `end`.
 ///
 /// | Status | Last line | When |
 /// |---|---|---|
-/// | 0 | `end` | all was written; `run`, `explain`, `asm` and `dis` read the input to its end |
+/// | 0 | `end` | all was written; all but `check` and `gen` read the input to its end |
 /// | 1 | `fault deployment Dk place` | the deployment breaks rule Dk, the first that it breaks |
 /// | 2 | `fault usage` | the words are no command; nothing was read |
 /// | 3 | `fault schedule Sk line` | this line, from 1, is the first to break a rule, Sk the rule |
@@ -45,6 +48,7 @@ const MISUSED: u8 = 2;
 /// | 6 | none | memory ran out: what was written is a prefix of what is defined |
 /// | 8 | `illegal N` | item N of a trace isn't allowed by the sources after those before it |
 /// | 10 | `fault asm Ak line`, `fault hex Bk line` | rule Ak or Bk is broken; `-` is no line |
+/// | 11 | `fault query Yk line` | this line after the second `%%` is the first to break a rule |
 ///
 /// Every line, a fault's too, goes to `output` and ends with a newline.
 #[tactic(auto, unfolding(sx_command::specs::Output::usage_line))]
@@ -62,6 +66,7 @@ pub fn top<S: Source, K: Sink>(alloc: Global, words: &[String], input: &mut S, o
         Some(Command::Run) => run_over(alloc, Hmac, input, output),
         Some(Command::Check) => check_over(alloc, input, output),
         Some(Command::Explain) => explain_over(alloc, input, output),
+        Some(Command::Snap) => snap_over(alloc, Hmac, input, output),
         Some(Command::Gen(samples)) => gen_over(alloc, Hmac, samples, output),
         Some(Command::Asm(at)) => asm_over(alloc, at, input, output),
         Some(Command::Dis(at)) => dis_over(at, input, output),

@@ -13,6 +13,8 @@ pub(crate) enum Command {
     Run,
     Check,
     Explain,
+    /// Answers about a run after any of its lines.
+    Snap,
     /// The run of the workload that carries this many samples.
     Gen(u32),
     /// The listing of a text's code for this address.
@@ -32,6 +34,8 @@ fn plain_command(word: &[u8]) -> Option<Command>
         Some(Command::Check)
     } else if word == b"explain".as_slice() {
         Some(Command::Explain)
+    } else if word == b"snap".as_slice() {
+        Some(Command::Snap)
     } else {
         None
     }
