@@ -212,9 +212,9 @@ fn deployments(rt: HostRuntime) -> Result<(), Fail> {
 }
 
 /// A first part, a piece so many times, and a last part.
-type Framed<'a> = (&'a [u8], &'a [u8], usize, &'a [u8]);
+pub(crate) type Framed<'a> = (&'a [u8], &'a [u8], usize, &'a [u8]);
 
-fn framed(alloc: Global, parts: &Framed) -> Result<Vec<u8>, AllocError> {
+pub(crate) fn framed(alloc: Global, parts: &Framed) -> Result<Vec<u8>, AllocError> {
     let mut text = joined(alloc, &[parts.0])?;
     for _ in 0..parts.2 {
         text.extend_from_slice(parts.1)?;
