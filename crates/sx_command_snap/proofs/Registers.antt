@@ -1,7 +1,8 @@
--- The texts of registers and items, one after the other.
-use Rattle.std.proofs.Common.{◌≡◌, ◌∙◌, ℕ, suc, ◌+◌, ◌-◌, ◌<◌, ◌≤◌, List, [], ◌++◌, length, drop, get_or, refl, sym, ap, arith, append_assoc}
+-- The texts of registers and items, one after the other, and the bytes of a memory.
+use Rattle.std.proofs.Common.{◌≡◌, ◌∙◌, ℕ, suc, ◌+◌, ◌-◌, ◌<◌, ◌≤◌, List, [], ◌∷◌, ◌++◌, length, drop, get_or, sym, ap, arith, append_assoc}
 use Rattle.std.specs.Prelude.{slice_index}
 use Rattle.std.proofs.lemmas.List.{at_drop_more}
+use Rattle.sx_machine.specs.Memory.{bytes_from}
 use Rattle.sx_trace.specs.declared.items.Item.{Item}
 use Rattle.sx_trace.specs.Names.{NameLists}
 use Rattle.sx_command_snap.specs.Answers.{item_line, items_text, register_text, registers_text}
@@ -33,3 +34,17 @@ next_item names at items i text now d h e =
     ap (λ (t : List ℕ). t ++ items_text names at (drop (i + 1) items)) e
     ∙ append_assoc text (item_line names at (get_or items i d)) (items_text names at (drop (i + 1) items))
     ∙ ap (λ (t : List ℕ). text ++ t) (sym (at_drop_more (items_text names at) items i d h))
+
+one_more : (mem : List ℕ) (from i n : ℕ) → n ≡ suc i → bytes_from mem from n ≡ bytes_from mem from i ++ slice_index mem (from + i) ∷ []
+unfolding bytes_from
+one_more mem from i n e = ap (λ (n : ℕ). bytes_from mem from n) e
+
+-- one byte more was appended
+pub next_byte : (mem : List ℕ) (from i : ℕ) (bytes now : List ℕ) (b : ℕ) → now ≡ bytes ++ b ∷ [] → bytes ≡ bytes_from mem from i → b ≡ slice_index mem (from + i)
+    → now ≡ bytes_from mem from (i + 1)
+next_byte mem from i bytes now b e before byte =
+    e ∙ ap (λ (bs : List ℕ). bs ++ b ∷ []) before ∙ ap (λ (b : ℕ). bytes_from mem from i ++ b ∷ []) byte ∙ sym (one_more mem from i (i + 1) (omega arith))
+
+-- no byte is left
+pub all_bytes : (mem : List ℕ) (from i len : ℕ) (bytes : List ℕ) → bytes ≡ bytes_from mem from i → i ≡ len → bytes ≡ bytes_from mem from len
+all_bytes mem from i len bytes e all = e ∙ ap (λ (n : ℕ). bytes_from mem from n) all

@@ -1,5 +1,5 @@
 -- What follows for `snap` from what it wrote and read.
-use Rattle.std.proofs.Common.{◌≡◌, ◌∙◌, ◌⊎◌, inl, inr, ℕ, Bool, List, [], sym, ap, arith, Option, Some, None}
+use Rattle.std.proofs.Common.{◌≡◌, ◌∙◌, ◌⊎◌, inl, inr, ℕ, Bool, List, [], sym, ap, arith, Option, None}
 use Rattle.std.specs.Prelude.{IsTrue}
 use Rattle.sx_io.specs.Streams.{SinkAt}
 use Rattle.sx_io.specs.Reading.{Answer, Broken, Ended, longest, scan}

@@ -1,5 +1,5 @@
 -- The status of `snap` is that of the input, whatever the images are.
-use Rattle.std.proofs.Common.{◌≡◌, ◌∙◌, ℕ, ◌+◌, List, [], ◌∷◌, ◌++◌, length, nat_lt, refl, arith, Result, Ok, Err}
+use Rattle.std.proofs.Common.{◌≡◌, ℕ, ◌+◌, List, [], ◌∷◌, ◌++◌, length, nat_lt, refl, arith, Result, Ok, Err}
 use Rattle.sx_io.specs.Reading.{Answer, End, Long, Fault}
 use Rattle.sx_io.specs.Reading as answer
 use Rattle.sx_told.specs.Told.{Output}

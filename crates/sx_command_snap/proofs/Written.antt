@@ -18,8 +18,8 @@ use Rattle.sx_machine.specs.State.{State}
 use Rattle.sx_world.specs.Held.{Held}
 use Rattle.sx_snap.specs.Timeline.{StandsAfter, world_at}
 use Rattle.sx_command_snap.specs.Answers.{of_node}
-use Rattle.sx_command_snap.specs.Reading.{Asking, Asks, asking, on_line}
-use Rattle.sx_command_snap.specs.Snap.{answers_from, asked_output, ended_output, on_query, query_fault, snap_from}
+use Rattle.sx_command_snap.specs.Reading.{Asks, asking, on_line}
+use Rattle.sx_command_snap.specs.Snap.{answers_from, asked_output, ended_output, on_query, snap_from}
 
 module _ (names : NameLists) (set : Setting) (images : List ℕ) (before : List Line) where
   pub asks_end : snap_from names set images before (answer.End ∷ []) ≡ behind images ended_output

@@ -1,6 +1,6 @@
 -- What a text says as a query: a query, or the first rule that it breaks.
 use Rattle.std.specs.Prelude.{ℕ, ◌+◌, ◌<◌, ◌≤◌, nat_lt, if◌then◌else◌, List, [], ◌∷◌}
-use Rattle.std.specs.Prelude.{length, codes, Option, Some, None, Result, Ok, Err, ok_or}
+use Rattle.std.specs.Prelude.{length, codes, Result, Ok, Err, ok_or}
 use Rattle.std.specs.Str.{bytes_eq}
 use Rattle.sx_io.specs.Numbers.{number_of}
 use Rattle.sx_trace.specs.Names.{NameLists, place_of}

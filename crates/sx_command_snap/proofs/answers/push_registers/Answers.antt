@@ -1,4 +1,4 @@
-use Rattle.std.proofs.Common.{◌∙◌, ◌++◌, ℕ, List, ap}
+use Rattle.std.proofs.Common.{◌∙◌, ◌++◌, ℕ, ap}
 use Rattle.sx_command.proofs.Ends.{all_lines}
 use Rattle.sx_command_snap.specs.Answers.{register_text}
 use Rattle.sx_command_snap.proofs.Registers.{next_register, no_registers}

@@ -1,4 +1,4 @@
-use Rattle.std.proofs.Common.{◌≡◌, ◌∙◌, length, refl, subst, sym}
+use Rattle.std.proofs.Common.{◌≡◌, length, subst, sym}
 use Rattle.std.specs.Prelude.{IfOk}
 use Rattle.sx_deploy.specs.SeenDeployment.{deployed_as}
 use Rattle.sx_run.specs.Accepted.{setting}

@@ -1,7 +1,6 @@
-use Rattle.std.proofs.Common.{◌+◌, ◌∙◌, ◌∷◌, ℕ, List, take, arith, ap, refl, subst, sym}
+use Rattle.std.proofs.Common.{◌+◌, ◌∷◌, take, arith, refl}
 use Rattle.sx_io.specs.Reading.{Line}
 use Rattle.sx_told.specs.Told.{read_line}
-use Rattle.sx_told.specs.declared.turned.Turned.TheVariants.{On, Stop}
 use Rattle.sx_told.proofs.Laws.{begun-line, begun-put, told-stop, told-end, told-too-long, told-failed}
 use Rattle.sx_deploy.specs.SeenDeployment.{deployed_as}
 use Rattle.sx_run.specs.Accepted.{setting}

@@ -1,4 +1,4 @@
-use Rattle.std.proofs.Common.{◌+◌, ◌∙◌, ap, ℕ, List, length}
+use Rattle.std.proofs.Common.{◌∙◌, ap, ℕ}
 use Rattle.sx_deploy.specs.SeenDeployment.{deployed_as}
 use Rattle.sx_sched.specs.Lines.{line_of}
 use Rattle.sx_command_world.specs.Schedule.{judged_line}

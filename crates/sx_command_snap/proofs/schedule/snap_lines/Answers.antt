@@ -1,6 +1,6 @@
 use Rattle.std.proofs.Common.{◌≡◌, ◌∙◌, ◌+◌, ◌∷◌, ◌++◌, [], ℕ, List, length, length-append, take, arith, ap, refl, subst, sym, Err}
-use Rattle.sx_io.specs.Reading.{Line}
-use Rattle.sx_told.specs.Told.{behind, read_line}
+use Rattle.sx_io.specs.Reading.{Answer, Line}
+use Rattle.sx_told.specs.Told.{CommandEnds, Output, behind, read_line}
 use Rattle.sx_told.proofs.Laws.{begun-line, begun-same, ends-same, ends-out-of-memory, prefix-none, told-stop, told-end, told-too-long, told-failed}
 use Rattle.sx_deploy.specs.SeenDeployment.{deployed_as}
 use Rattle.sx_sched.specs.Lines as lines
@@ -69,7 +69,7 @@ returns-then-is_mark g c = λ limit m0 defined aside noted b.
     let images = images_text d.names.modules (texts_of c.args.images.now) in
     let before = c.lines.timeline.lines in
     let text = take c.in-Text.n c.next.new.into in
-    let answers = λ (sites : List Site) more. behind images (answers_from d.names (setting mac d sites) before 1 more) in
+    let answers : List Site → List Answer → Output = λ sites more. behind images (answers_from d.names (setting mac d sites) before 1 more) in
     c.answer_all.ensures limit m0 defined aside noted
     (begun-same (answers c.lines.timeline.sites)
     (λ more. asks_mark d.names set images before text more (sym c.is_mark.ensures ∙ c.if-is_mark.true) ∙ ap (λ (sites : List Site). answers sites more) (sym c.lines.invariant.sites))
@@ -90,11 +90,13 @@ returns-in-Err-Fault g c = λ limit m0 defined aside noted b.
     let rule = c.in-Err-Fault.rule in
     let judged : judged_line d.names (length before + 1) text ≡ Err rule =
     ap (λ (n : ℕ). judged_line d.names n text) c.lines.invariant.counted ∙ c.keep.ensures.rule rule (c.in-Err-Fault.is ∙ ap Err c.in-Err-Fault.field-0-is) in
+    let P : ℕ → Type 0 = λ rule. CommandEnds g.K.Sink.tells (g.K.Sink.at c.lines.output) (g.K.Sink.at c.break_off-in-Err-Fault.new.output) c.break_off-in-Err-Fault.result
+    (broken_output rule c.lines.number) in
     told-stop (begun-line (snap_from d.names set images before) (asks_unread d.names set images before) (c.lines.invariant.begun limit m0 defined aside noted b) c.in-Text.ensures.next)
     (λ more.
     ends-same _ _ _ _ _ _
     (asks_breaks d.names set images before text rule more (sym c.is_mark.ensures ∙ c.if-is_mark.false) judged ∙ ap (broken_output rule) c.lines.invariant.counted)
-    c.break_off-in-Err-Fault.ensures.ends)
+    (subst P c.in-Err-Fault.rule-is c.break_off-in-Err-Fault.ensures.ends))
 
 pub returns-in-Err-OutOfMemory : goal.returns-in-Err-OutOfMemory
 returns-in-Err-OutOfMemory g c = λ limit m0 defined aside noted b.
