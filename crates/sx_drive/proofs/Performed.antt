@@ -1,0 +1,200 @@
+-- A line that the program's world performed, and what was said of it.
+use Rattle.std.proofs.Common.{◌≡◌, ◌≢◌, ℕ, ◌+◌, ◌<◌, ◌≤◌, ◌==◌, ◌||◌, Bool, true, false, if◌then◌else◌, ◌++◌, List, [], ◌∷◌, length, map, Result, Ok, Err, OnOk, OnErr, refl, sym, subst, ap, ◌∙◌, arith}
+use Rattle.std.proofs.lemmas.Bool.Decides.{nat_tests}
+use Rattle.std.proofs.lemmas.List.{append_assoc, append-nil, map-append}
+use Rattle.sx_tag.specs.Mac.{Mac}
+use Rattle.sx_trace.specs.declared.items.Item.{Item}
+use Rattle.sx_sched.specs.Lines.{Line}
+use Rattle.sx_deploy.specs.declared.deployment.Deployment.{Deployment}
+use Rattle.sx_run.specs.Setting.{Setting, Site}
+use Rattle.sx_run.specs.State.{World, Acted, switched_on}
+use Rattle.sx_run.specs.Run.{after_line, line_counted, run}
+use Rattle.sx_run.proofs.acts.Counting.{counts_lines}
+use Rattle.sx_world.specs.Held.{Held, IsFront, AddsFront}
+use Rattle.sx_world.specs.Standing.{Stands, IsGoing}
+use Rattle.sx_world.specs.Continued.{next, Acts, ActsInPart}
+use Rattle.sx_world.specs.InMemory.{setting_at, world_setting}
+use Rattle.sx_run.specs.Law.{IsSoundSetting}
+use Rattle.sx_drive.specs.declared.said.Said.{Said as Told}
+use Rattle.sx_drive.specs.Honest.{Said, SaidLine, SaidItem, Honest, Driven, MOST_LINES, left_out, performed, says}
+use Rattle.sx_drive.specs.Driving.{Kept, Follows, GoesOn, SaysFront, Did, Wanted, Does, said_of, is_full, left}
+use Rattle.sx_drive.proofs.Remains.{Part, still_goes}
+use Rattle.sx_drive.proofs.Parts.{does_same}
+
+-- a schedule has room for so many lines
+pub most : MOST_LINES ≡ 65536
+unfolding MOST_LINES
+most = refl
+
+-- a world counts the lines of its run
+run_counts : (set : Setting) (lines : List Line) (w : World) → (run set w lines).world.lines ≡ w.lines + length lines
+run_counts set [] w = omega arith
+run_counts set (x ∷ lines) w =
+    let after = (after_line set (line_counted w) x).world in
+    let rest : (run set after lines).world.lines ≡ after.lines + length lines = run_counts set lines after in
+    let one : after.lines ≡ w.lines + 1 = counts_lines set (line_counted w) x in
+    omega (arith, rest, one)
+
+-- so do the program's world and the world that it stands at
+pub stands_lines : (set : Setting) (held : Held) (w : World) → Stands set held w → w.lines ≡ held.lines
+stands_lines set held w s =
+    let counted : (run set (switched_on set) s.lines).world.lines ≡ 0 + length s.lines = run_counts set s.lines (switched_on set) in
+    let same : w.lines ≡ (run set (switched_on set) s.lines).world.lines = ap (λ (v : World). v.lines) s.is in
+    let many : length s.lines ≡ held.lines = s.count in
+    omega (arith, counted, same, many)
+
+-- the line as a part
+abbrev pub line_part : Line → Part
+line_part line set h = performed line h (next set h.world line)
+
+-- what a world's act asks of where the run stands
+pub goes_sound : (mac : Mac) (d : Deployment) (k : Kept) → GoesOn mac d k → IsSoundSetting (world_setting mac d k.world)
+goes_sound mac d k goes = subst (λ (s : Setting). IsSoundSetting s) goes.follows.setting goes.sound
+
+pub goes_going : (mac : Mac) (d : Deployment) (k : Kept) → GoesOn mac d k → IsGoing (world_setting mac d k.world) k.world
+goes_going mac d k goes = λ e. (goes.honest.world, subst (λ (s : Setting). Stands s k.world goes.honest.world) goes.follows.setting goes.follows.world)
+
+-- what was shown is a prefix of what is due
+part_front : (set : Setting) (line : Line) (old : Held) (shown : List Item) → ActsInPart set line old [] shown
+    → (w : World) → Stands set old w → IsFront shown (next set w line).items
+part_front set line old shown front w s =
+    let a = front w s in
+    (a.2.0, ap (λ xs. xs ++ a.2.0) a.1 ∙ a.2.1)
+
+act_front : {X E : Type 0} (r : Result X E) (set : Setting) (line : Line) (old new : Held) (shown : List Item)
+    → OnOk r (Acts set line old new [] shown) → OnErr r (ActsInPart set line old [] shown)
+    → (w : World) → Stands set old w → IsFront shown (next set w line).items
+act_front (Ok x) set line old new shown acted front w s = ([], append-nil shown ∙ (acted w s).1)
+act_front (Err e) set line old new shown acted front w s = part_front set line old shown front w s
+
+-- the same in a setting that the run follows
+part_there : (mac : Mac) (d : Deployment) (line : Line) (old : Kept) (shown : List Item) → ActsInPart (world_setting mac d old.world) line old.world [] shown
+    → (set : Setting) (h : Honest) → Follows mac d old set h → IsFront shown (next set h.world line).items
+part_there mac d line old shown front set h f =
+    subst (λ (s : Setting). IsFront shown (next s h.world line).items) (sym f.setting)
+    (part_front (world_setting mac d old.world) line old.world shown front h.world (subst (λ (s : Setting). Stands s old.world h.world) f.setting f.world))
+
+front_there : {X E : Type 0} (mac : Mac) (d : Deployment) (r : Result X E) (line : Line) (old : Kept) (new : Held) (shown : List Item)
+    → OnOk r (Acts (world_setting mac d old.world) line old.world new [] shown) → OnErr r (ActsInPart (world_setting mac d old.world) line old.world [] shown)
+    → (set : Setting) (h : Honest) → Follows mac d old set h → IsFront shown (next set h.world line).items
+front_there mac d r line old new shown acted front set h f =
+    subst (λ (s : Setting). IsFront shown (next s h.world line).items) (sym f.setting)
+    (act_front r (world_setting mac d old.world) line old.world new shown acted front h.world (subst (λ (s : Setting). Stands s old.world h.world) f.setting f.world))
+
+-- memory ran out before the line was said
+pub line_wanted : (mac : Mac) (d : Deployment) (line : Line) (old : Kept) (before after : List Told) → after ≡ before → Wanted mac d old before after (line_part line)
+line_wanted mac d line old before after same = λ set h f.
+    record { front = []; rest = (line_part line set h).said; added = ap (λ xs. map said_of xs) same ∙ sym (append-nil (map said_of before)); prefix = refl }
+
+-- memory ran out while its items were said
+pub tell_wanted : {X E : Type 0} (mac : Mac) (d : Deployment) (r : Result X E) (line : Line) (old : Kept) (new : Held) (shown : List Item) (before among after : List Told)
+    → OnOk r (Acts (world_setting mac d old.world) line old.world new [] shown) → OnErr r (ActsInPart (world_setting mac d old.world) line old.world [] shown)
+    → map said_of among ≡ map said_of before ++ SaidLine line ∷ [] → SaysFront (map said_of among) (map said_of after) (map SaidItem shown)
+    → Wanted mac d old before after (line_part line)
+tell_wanted mac d r line old new shown before among after acted front said told = λ set h f.
+    let i = front_there mac d r line old new shown acted front set h f in
+    let due = (next set h.world line).items in
+    let more = map SaidItem i.0 in record {
+      front = SaidLine line ∷ told.front;
+      rest = told.rest ++ more;
+      added = told.added ∙ ap (λ xs. xs ++ told.front) said ∙ append_assoc (map said_of before) (SaidLine line ∷ []) told.front;
+      prefix = ap (λ xs. SaidLine line ∷ xs) (sym (append_assoc told.front told.rest more) ∙ ap (λ xs. xs ++ more) told.prefix
+          ∙ sym (map-append SaidItem shown i.0) ∙ ap (λ xs. map SaidItem xs) i.1);
+    }
+
+-- all of it was said; the act went well, or memory ran out in it
+pub line_does : {X E : Type 0} (mac : Mac) (d : Deployment) (r : Result X E) (line : Line) (old new : Kept) (before after : List Told)
+    → OnOk r (Acts (world_setting mac d old.world) line old.world new.world [] new.shown)
+    → OnErr r (ActsInPart (world_setting mac d old.world) line old.world [] new.shown)
+    → OnOk r (new.world.lines ≡ old.world.lines + 1) → old.world.lines < 65536
+    → new.world.sites ≡ old.world.sites → new.waiting ≡ old.waiting → new.long ≡ false
+    → map said_of after ≡ map said_of before ++ SaidLine line ∷ map SaidItem new.shown
+    → Does mac d r old new before after (line_part line)
+line_does mac d (Ok x) line old new before after acted front counts few sites waiting long told = λ set h f.
+    let due = next set h.world line in
+    let a : Stands set new.world due.world × (new.shown ≡ due.items) =
+    subst (λ (s : Setting). Stands s new.world (next s h.world line).world × (new.shown ≡ (next s h.world line).items)) (sym f.setting)
+    (acted h.world (subst (λ (s : Setting). Stands s old.world h.world) f.setting f.world)) in
+    let count : due.world.lines ≡ new.world.lines = stands_lines set new.world due.world a.0 in
+    let room : due.world.lines ≤ MOST_LINES = omega (arith, count, counts, few, most) in (
+      record {
+        setting = f.setting ∙ ap (λ (s : List Site). setting_at mac d s) (sym sites);
+        world = a.0;
+        waiting = waiting ∙ f.waiting;
+        shown = a.1;
+        long = long;
+        room = room;
+      },
+      told ∙ ap (λ items. map said_of before ++ SaidLine line ∷ map SaidItem items) a.1,
+    )
+line_does mac d (Err e) line old new before after acted front counts few sites waiting long told = λ set h f.
+    let i = part_there mac d line old new.shown front set h f in
+    let shown = new.shown in record {
+      front = SaidLine line ∷ map SaidItem shown;
+      rest = map SaidItem i.0;
+      added = told;
+      prefix = ap (λ xs. SaidLine line ∷ xs) (sym (map-append SaidItem shown i.0) ∙ ap (λ xs. map SaidItem xs) i.1);
+    }
+
+-- what was said with a line
+pub pushed : (x : Told) (before after : List Told) → after ≡ before ++ x ∷ [] → map said_of after ≡ map said_of before ++ said_of x ∷ []
+pushed x before after e = ap (λ xs. map said_of xs) e ∙ map-append said_of before (x ∷ [])
+
+pub line_told : (line : Line) (before among after : List Told) (shown : List Item) → map said_of among ≡ map said_of before ++ SaidLine line ∷ []
+    → map said_of after ≡ map said_of among ++ map SaidItem shown → map said_of after ≡ map said_of before ++ SaidLine line ∷ map SaidItem shown
+line_told line before among after shown e f = f ∙ ap (λ xs. xs ++ map SaidItem shown) e ∙ append_assoc (map said_of before) (SaidLine line ∷ []) (map SaidItem shown)
+
+-- whether a schedule has room
+
+no_or : (a b : Bool) → (a || b) ≡ false → (a ≡ false) × (b ≡ false)
+no_or false b e = (refl, e)
+no_or true b e = absurd cc
+
+same_number : (a b : ℕ) → a ≡ b → (a == b) ≡ true
+same_number a b e = grind (arith, nat_tests)
+
+other_lines : (n : ℕ) → (n == 65536) ≡ false → n ≢ 65536
+other_lines n e = λ same. absurd (let t : (n == 65536) ≡ true = same_number n 65536 same in let f : true ≡ false = sym t ∙ e in cc)
+
+pub is_short : (k : Kept) → is_full k ≡ false → k.long ≡ false
+is_short k e = (no_or k.long (k.world.lines == 65536) e).0
+
+pub has_room : (mac : Mac) (d : Deployment) (k : Kept) → GoesOn mac d k → is_full k ≡ false → k.world.lines < 65536
+has_room mac d k goes e =
+    let f = goes.follows in
+    let other = other_lines k.world.lines (no_or k.long (k.world.lines == 65536) e).1 in
+    let count : goes.honest.world.lines ≡ k.world.lines = stands_lines goes.set k.world goes.honest.world f.world in
+    let room : goes.honest.world.lines ≤ MOST_LINES = f.room in
+    omega (arith, count, room, other, most)
+
+-- the run itself says the same
+full_there : (mac : Mac) (d : Deployment) (k : Kept) (set : Setting) (h : Honest) → Follows mac d k set h → is_full k ≡ (h.long || (h.world.lines == MOST_LINES))
+full_there mac d k set h f =
+    ap (λ (b : Bool). b || (k.world.lines == 65536)) f.long
+    ∙ ap (λ (n : ℕ). h.long || (n == 65536)) (sym (stands_lines set k.world h.world f.world))
+    ∙ ap (λ (n : ℕ). h.long || (h.world.lines == n)) (sym most)
+
+-- a line that has no room is left out
+pub full_did : (mac : Mac) (d : Deployment) (line : Line) (old new : Kept) (before : List Told) → is_full old ≡ true → new ≡ left old
+    → Did mac d old new before before (λ set. says set line)
+full_did mac d line old new before full is = λ set h f.
+    let e : (h.long || (h.world.lines == MOST_LINES)) ≡ true = sym (full_there mac d old set h f) ∙ full in
+    let here : left_out h ≡ says set line h = ap (λ (b : Bool). if b then left_out h else line_part line set h) (sym e) in
+    subst (λ (a : Driven). Follows mac d new set a.honest × (map said_of before ≡ map said_of before ++ a.said)) here (
+      subst (λ (k : Kept). Follows mac d k set (left_out h).honest) (sym is)
+          (record { setting = f.setting; world = f.world; waiting = f.waiting; shown = refl; long = refl; room = f.room }),
+      sym (append-nil (map said_of before)),
+    )
+
+-- another is performed
+pub room_does : {X E : Type 0} (mac : Mac) (d : Deployment) (r : Result X E) (line : Line) (old new : Kept) (before after : List Told)
+    → is_full old ≡ false → Does mac d r old new before after (line_part line) → Does mac d r old new before after (λ set. says set line)
+room_does mac d r line old new before after room does =
+    does_same mac d r old new before after (line_part line) (λ set. says set line)
+    (λ set h f. ap (λ (b : Bool). if b then left_out h else line_part line set h) (sym (sym (full_there mac d old set h f) ∙ room))) does
+
+-- what was done leads on
+pub does_goes : {X E : Type 0} (mac : Mac) (d : Deployment) (r : Result X E) (old new : Kept) (before after : List Told) (act : Part)
+    → GoesOn mac d old → Does mac d r old new before after act → OnOk r (GoesOn mac d new)
+does_goes mac d (Ok x) old new before after act goes did = still_goes mac d old new before after act goes did
+does_goes mac d (Err e) old new before after act goes wanted = tt

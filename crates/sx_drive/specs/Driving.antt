@@ -1,0 +1,155 @@
+-- What the program keeps of an honest run, and what a call makes of it.
+use Rattle.std.specs.Prelude.{◌≡◌, ℕ, ◌<◌, ◌≤◌, ◌==◌, ◌||◌, Bool, false, true, List, [], ◌++◌}
+use Rattle.std.specs.Prelude.{length, map}
+use Rattle.std.specs.Prelude.{min, slice_get, Option, Some, None, IsSome, Result, Ok, Err}
+use Rattle.std.specs.List.{position_from}
+use Rattle.sx_tag.specs.Mac.{Mac}
+use Rattle.sx_mean.specs.Application.{PartTree, same_device}
+use Rattle.sx_trace.specs.declared.items.Item.{Item}
+use Rattle.sx_trace.specs.declared.items.Item.TheVariants.{Packet, Done}
+use Rattle.sx_sched.specs.Lines.{line_of}
+use Rattle.sx_deploy.specs.declared.deployment.Deployment.{Deployment}
+use Rattle.sx_run.specs.Setting.{Setting}
+use Rattle.sx_run.specs.Law.{IsSoundSetting}
+use Rattle.sx_world.specs.Held.{Held}
+use Rattle.sx_world.specs.InMemory.{world_setting}
+use Rattle.sx_world.specs.Standing.{Stands}
+use Rattle.sx_drive.specs.declared.said.Said.{Said as Told}
+use Rattle.sx_drive.specs.declared.said.Said.TheVariants as told
+use Rattle.sx_deploy.specs.Deployment.{Deployed}
+use Rattle.sx_drive.specs.declared.callee.Callee.{Callee as CodeCallee}
+use Rattle.sx_drive.specs.declared.said.Drove.{Drove}
+use Rattle.sx_drive.specs.declared.said.Drove.TheVariants as drove
+use Rattle.sx_drive.specs.Honest.{Said, SaidLine, SaidItem, Callee, Honest, Driven, MOST_LINES, reads}
+use Rattle.sx_drive.specs.Honest.{driver_of, packets_of}
+
+-- what a value of the code says
+abbrev pub said_of : Told → Said
+said_of (told.Line line) = SaidLine (line_of line)
+said_of (told.Item i) = SaidItem i
+
+-- the program's world, the packets that wait, what the last line showed, whether a line was left
+-- out, and whether memory ran out
+pub record Kept : Type 0 where
+  pub world : Held
+  pub waiting : List ℕ
+  pub shown : List Item
+  pub long : Bool
+  pub wanted : Bool
+
+-- the packets that the last line showed wait behind the others
+abbrev pub queued : Kept → Kept
+queued k = record {
+  world = k.world;
+  waiting = k.waiting ++ packets_of k.shown;
+  shown = k.shown;
+  long = k.long;
+  wanted = k.wanted;
+}
+
+-- with these packets waiting
+abbrev pub waits : Kept → List ℕ → Kept
+waits k ks = record {
+  world = k.world;
+  waiting = ks;
+  shown = k.shown;
+  long = k.long;
+  wanted = k.wanted;
+}
+
+-- a line was left out, or a schedule has no room for one more
+abbrev pub is_full : Kept → Bool
+is_full k = k.long || (k.world.lines == 65536)
+
+-- a line is left out
+abbrev pub left : Kept → Kept
+left k = record {
+  world = k.world;
+  waiting = k.waiting;
+  shown = [];
+  long = true;
+  wanted = k.wanted;
+}
+
+-- With the images of this setting it stands where an honest run does.
+pub record Follows (mac : Mac) (deployment : Deployment) (kept : Kept) (set : Setting)
+    (h : Honest) : Type 0 where
+  pub setting : set ≡ world_setting mac deployment kept.world
+  pub world : Stands set kept.world h.world
+  pub waiting : kept.waiting ≡ h.waiting
+  pub shown : kept.shown ≡ h.shown
+  pub long : kept.long ≡ h.long
+  pub room : h.world.lines ≤ MOST_LINES
+
+-- It stands where some honest run does, with images that realize their modules.
+pub record GoesOn (mac : Mac) (deployment : Deployment) (kept : Kept) : Type 0 where
+  pub set : Setting
+  pub honest : Honest
+  pub follows : Follows mac deployment kept set honest
+  pub sound : IsSoundSetting set
+
+-- what was said is a prefix of what is due, behind what was said before
+pub record SaysFront (before after due : List Said) : Type 0 where
+  pub front : List Said
+  pub rest : List Said
+  pub added : after ≡ before ++ front
+  pub prefix : front ++ rest ≡ due
+
+-- It stood where an honest run does, and stands where this leads, and all that this says was said.
+abbrev pub Did : Mac → Deployment → Kept → Kept → List Told → List Told
+    → (Setting → Honest → Driven) → Type 0
+Did mac deployment old new before after act =
+    (set : Setting) (h : Honest) → Follows mac deployment old set h
+    → Follows mac deployment new set (act set h).honest
+    × (map said_of after ≡ map said_of before ++ (act set h).said)
+
+-- Memory ran out: a part of what this says was said.
+abbrev pub Wanted : Mac → Deployment → Kept → List Told → List Told
+    → (Setting → Honest → Driven) → Type 0
+Wanted mac deployment old before after act =
+    (set : Setting) (h : Honest) → Follows mac deployment old set h
+    → SaysFront (map said_of before) (map said_of after) (act set h).said
+
+-- a call did this, or ran out of memory
+abbrev pub Does : {X E : Type 0} → Mac → Deployment → Result X E → Kept → Kept → List Told
+    → List Told → (Setting → Honest → Driven) → Type 0
+Does mac deployment (Ok x) old new before after act = Did mac deployment old new before after act
+Does mac deployment (Err e) old new before after act = Wanted mac deployment old before after act
+
+-- how far a run came
+abbrev pub drove_of : Bool → Drove
+drove_of false = drove.Done
+drove_of true = drove.Long
+
+-- a reading of this sensor with this value
+abbrev pub reading : ℕ → ℕ → Setting → Honest → Driven
+reading d v set = reads set (record { device = d; value = v })
+
+-- the device is a sensor that a module drives
+pub record IsDrivenSensor (d : Deployed) (device : ℕ) : Type 0 where
+  pub there : device < length d.names.devices
+  pub sensor : slice_get d.names.sensors device ≡ Some true
+  pub driven : IsSome (driver_of d.app device)
+
+-- the module is one of the deployment's, and so is its node
+pub record IsCallee (d : Deployed) (x : Callee) : Type 0 where
+  pub part : x.part < length d.names.modules
+  pub node : x.node < length d.names.nodes
+
+-- the index of the module that drives a device
+abbrev pub driver_at : List PartTree → ℕ → Option ℕ
+driver_at parts d = position_from (λ (q : PartTree). same_device (Some d) q.device) 0 parts
+
+-- the packet that an item shows
+abbrev pub packet_in : Item → Option ℕ
+packet_in (Packet k len) = Some k
+packet_in _ = None
+
+-- how many packets an item says that a call made
+abbrev pub pieces_in : Item → Option ℕ
+pieces_in (Done m status k) = Some (min k 16)
+pieces_in _ = None
+
+-- the callee as plain data
+abbrev pub callee_of : CodeCallee → Callee
+callee_of x = record { part = x.part; node = x.node }
