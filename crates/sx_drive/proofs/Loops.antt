@@ -2,13 +2,12 @@
 use Rattle.std.proofs.Common.{◌≡◌, ℕ, zero, suc, ◌+◌, ◌-◌, ◌<◌, ◌≤◌, ◌++◌, List, [], ◌∷◌, length, map, get_or, drop, refl, sym, subst, ap, ◌∙◌, arith}
 use Rattle.std.proofs.lemmas.List.{at_drop_more, at_drop_all, length-map}
 use Rattle.sx_tag.specs.Mac.{Mac}
-use Rattle.sx_deploy.specs.SeenDeployment.{deployed_as}
 use Rattle.sx_deploy.specs.declared.deployment.Deployment.{Deployment}
 use Rattle.sx_mean.specs.View.{part_as}
 use Rattle.sx_run.specs.Setting.{Setting}
 use Rattle.sx_drive.specs.declared.said.Said.{Said as Told}
 use Rattle.sx_drive.specs.Honest.{Honest, Driven, MOST_LINES, still, then_, each, made_by, takes_one, takes, collects, if_there, callee_at, sets_up, sets_up_from, setup, with_waiting, delivers, oldest, settles}
-use Rattle.sx_drive.specs.Driving.{Kept, Follows, GoesOn, Did, Wanted, said_of, waits}
+use Rattle.sx_drive.specs.Driving.{Kept, Follows, GoesOn, Did, Wanted, waits}
 use Rattle.sx_drive.proofs.Remains.{Part, Remains, remains_start, remains_on, remains_wanted, remains_none}
 
 -- the same is left, said otherwise

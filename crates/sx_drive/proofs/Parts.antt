@@ -8,7 +8,7 @@ use Rattle.sx_deploy.specs.SeenDeployment.{deployed_as}
 use Rattle.sx_deploy.specs.declared.deployment.Deployment.{Deployment}
 use Rattle.sx_run.specs.Setting.{Setting}
 use Rattle.sx_drive.specs.declared.said.Said.{Said as Told}
-use Rattle.sx_drive.specs.Honest.{Callee, Honest, Driven, still, then_, each, packets_of, if_there, receiver_of, queues}
+use Rattle.sx_drive.specs.Honest.{Callee, Honest, Driven, then_, each, packets_of, if_there, receiver_of, queues}
 use Rattle.sx_drive.specs.Driving.{Kept, Follows, GoesOn, SaysFront, Did, Wanted, Does, said_of, queued}
 use Rattle.sx_drive.proofs.Remains.{Part, remains_start, remains_on, remains_wanted, remains_last, does_err}
 

@@ -7,16 +7,16 @@ use Rattle.sx_trace.specs.declared.items.Item.{Item}
 use Rattle.sx_sched.specs.Lines.{Line}
 use Rattle.sx_deploy.specs.declared.deployment.Deployment.{Deployment}
 use Rattle.sx_run.specs.Setting.{Setting, Site}
-use Rattle.sx_run.specs.State.{World, Acted, switched_on}
+use Rattle.sx_run.specs.State.{World, switched_on}
 use Rattle.sx_run.specs.Run.{after_line, line_counted, run}
 use Rattle.sx_run.proofs.acts.Counting.{counts_lines}
-use Rattle.sx_world.specs.Held.{Held, IsFront, AddsFront}
+use Rattle.sx_world.specs.Held.{Held, IsFront}
 use Rattle.sx_world.specs.Standing.{Stands, IsGoing}
 use Rattle.sx_world.specs.Continued.{next, Acts, ActsInPart}
 use Rattle.sx_world.specs.InMemory.{setting_at, world_setting}
 use Rattle.sx_run.specs.Law.{IsSoundSetting}
 use Rattle.sx_drive.specs.declared.said.Said.{Said as Told}
-use Rattle.sx_drive.specs.Honest.{Said, SaidLine, SaidItem, Honest, Driven, MOST_LINES, left_out, performed, says}
+use Rattle.sx_drive.specs.Honest.{SaidLine, SaidItem, Honest, Driven, MOST_LINES, left_out, performed, says}
 use Rattle.sx_drive.specs.Driving.{Kept, Follows, GoesOn, SaysFront, Did, Wanted, Does, said_of, is_full, left}
 use Rattle.sx_drive.proofs.Remains.{Part, still_goes}
 use Rattle.sx_drive.proofs.Parts.{does_same}

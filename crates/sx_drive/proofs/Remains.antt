@@ -1,12 +1,12 @@
 -- What is left of a part of an honest run, and what was said so far.
-use Rattle.std.proofs.Common.{◌≡◌, ◌++◌, List, [], map, Result, Ok, Err, IsErr, OnOk, OnErr, refl, sym, subst, ap, ◌∙◌}
+use Rattle.std.proofs.Common.{◌≡◌, ◌++◌, List, [], map, Result, Ok, Err, IsErr, refl, sym, subst, ap, ◌∙◌}
 use Rattle.std.proofs.lemmas.List.{append_assoc, append-nil}
 use Rattle.sx_tag.specs.Mac.{Mac}
 use Rattle.sx_deploy.specs.declared.deployment.Deployment.{Deployment}
 use Rattle.sx_run.specs.Setting.{Setting}
 use Rattle.sx_drive.specs.declared.said.Said.{Said as Told}
 use Rattle.sx_drive.specs.Honest.{Said, Honest, Driven, still, then_}
-use Rattle.sx_drive.specs.Driving.{Kept, Follows, SaysFront, Did, Wanted, Does, GoesOn, said_of}
+use Rattle.sx_drive.specs.Driving.{Kept, Follows, Did, Wanted, Does, GoesOn, said_of}
 
 -- a part of an honest run
 abbrev pub Part : Type 0

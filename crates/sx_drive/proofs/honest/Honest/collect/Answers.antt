@@ -1,4 +1,4 @@
-use Rattle.std.proofs.Common.{refl, ap, arith, ◌∙◌}
+use Rattle.std.proofs.Common.{refl, ◌∙◌}
 use Rattle.sx_drive.specs.Honest.{made_by}
 use Rattle.sx_drive.proofs.Remains.{does_err}
 use Rattle.sx_drive.proofs.Loops.{collects_at, takes_first, takes_on, takes_wanted, takes_done, lower, upper}

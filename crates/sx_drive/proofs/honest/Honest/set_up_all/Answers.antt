@@ -1,4 +1,4 @@
-use Rattle.std.proofs.Common.{length, refl, arith, ◌∙◌}
+use Rattle.std.proofs.Common.{length, refl, ◌∙◌}
 use Rattle.sx_drive.specs.Honest.{setup}
 use Rattle.sx_drive.proofs.Remains.{does_err}
 use Rattle.sx_drive.proofs.Loops.{set_up_first, set_up_on, set_up_wanted, set_up_done, lower, upper}

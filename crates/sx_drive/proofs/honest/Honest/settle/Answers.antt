@@ -1,4 +1,4 @@
-use Rattle.std.proofs.Common.{refl, ap, arith, ◌∙◌}
+use Rattle.std.proofs.Common.{refl, ap, ◌∙◌}
 use Rattle.sx_drive.specs.Driving.{Kept}
 use Rattle.std.specs.Prelude.{drop}
 use Rattle.sx_drive.proofs.Remains.{does_err}
