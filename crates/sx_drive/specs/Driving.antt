@@ -1,7 +1,7 @@
 -- What the program keeps of an honest run, and what a call makes of it.
 use Rattle.std.specs.Prelude.{◌≡◌, ℕ, ◌<◌, ◌≤◌, ◌==◌, ◌||◌, Bool, false, true, List, [], ◌++◌}
-use Rattle.std.specs.Prelude.{length, map}
-use Rattle.std.specs.Prelude.{min, slice_get, Option, Some, None, IsSome, Result, Ok, Err}
+use Rattle.std.specs.Prelude.{length, map, min, slice_get, Option, Some, None, IsSome}
+use Rattle.std.specs.Prelude.{Result, Ok, Err}
 use Rattle.std.specs.List.{position_from}
 use Rattle.sx_tag.specs.Mac.{Mac}
 use Rattle.sx_mean.specs.Application.{PartTree, same_device}
@@ -9,6 +9,7 @@ use Rattle.sx_trace.specs.declared.items.Item.{Item}
 use Rattle.sx_trace.specs.declared.items.Item.TheVariants.{Packet, Done}
 use Rattle.sx_sched.specs.Lines.{line_of}
 use Rattle.sx_deploy.specs.declared.deployment.Deployment.{Deployment}
+use Rattle.sx_deploy.specs.Deployment.{Deployed}
 use Rattle.sx_run.specs.Setting.{Setting}
 use Rattle.sx_run.specs.Law.{IsSoundSetting}
 use Rattle.sx_world.specs.Held.{Held}
@@ -16,12 +17,11 @@ use Rattle.sx_world.specs.InMemory.{world_setting}
 use Rattle.sx_world.specs.Standing.{Stands}
 use Rattle.sx_drive.specs.declared.said.Said.{Said as Told}
 use Rattle.sx_drive.specs.declared.said.Said.TheVariants as told
-use Rattle.sx_deploy.specs.Deployment.{Deployed}
 use Rattle.sx_drive.specs.declared.callee.Callee.{Callee as CodeCallee}
 use Rattle.sx_drive.specs.declared.said.Drove.{Drove}
 use Rattle.sx_drive.specs.declared.said.Drove.TheVariants as drove
-use Rattle.sx_drive.specs.Honest.{Said, SaidLine, SaidItem, Callee, Honest, Driven, MOST_LINES, reads}
-use Rattle.sx_drive.specs.Honest.{driver_of, packets_of}
+use Rattle.sx_drive.specs.Honest.{Said, SaidLine, SaidItem, Callee, Honest, Driven, MOST_LINES}
+use Rattle.sx_drive.specs.Honest.{reads, driver_of, packets_of}
 
 -- what a value of the code says
 abbrev pub said_of : Told → Said

@@ -6,7 +6,8 @@ ghost use Rattle.sx_deploy.specs.SeenDeployment.{deployed_as};
 ghost use Rattle.sx_sched.specs.Lines.{Ask};
 ghost use Rattle.sx_drive.specs.Honest.{each, packets_of, says, then_};
 ghost use Rattle.sx_drive.specs.Honest as honest;
-ghost use Rattle.sx_drive.specs.Driving.{Does, GoesOn, IsCallee, IsDrivenSensor, callee_of, reading};
+ghost use Rattle.sx_drive.specs.Driving.{Does, GoesOn, IsCallee, IsDrivenSensor, callee_of};
+ghost use Rattle.sx_drive.specs.Driving.{reading};
 
 use crate::callee::{Callee, callee_at, driver_of};
 use crate::delivering::{OUT_WINDOW, packets_of};
