@@ -40,39 +40,26 @@ IsDestination (Reg r) = r < 16
 IsDestination (Indexed r x) = IsGeneral r × IsWord x
 IsDestination (Symbolic x) = IsWord x
 IsDestination (Absolute x) = IsWord x
-IsDestination (Indirect r) = ⊥
-IsDestination (Increment r) = ⊥
-IsDestination (Immediate x) = ⊥
-IsDestination (Const c) = ⊥
+IsDestination _ = ⊥
 
 -- whether the operation can be on bytes
 abbrev pub has_byte_form : Op1 → Bool
-has_byte_form Rrc = true
 has_byte_form Swpb = false
-has_byte_form Rra = true
 has_byte_form Sxt = false
-has_byte_form Push = true
 has_byte_form Call = false
+has_byte_form _ = true
 
 -- whether the result goes where the operand stands
 abbrev pub writes_back : Op1 → Bool
-writes_back Rrc = true
-writes_back Swpb = true
-writes_back Rra = true
-writes_back Sxt = true
 writes_back Push = false
 writes_back Call = false
+writes_back _ = true
 
 -- a constant or an immediate is a number and no place
 abbrev pub is_value : Operand → Bool
 is_value (Immediate x) = true
 is_value (Const c) = true
-is_value (Reg r) = false
-is_value (Indexed r x) = false
-is_value (Symbolic x) = false
-is_value (Absolute x) = false
-is_value (Indirect r) = false
-is_value (Increment r) = false
+is_value _ = false
 
 -- whether an operation on one operand has this form, at this operand
 abbrev pub is_allowed : Op1 → Bool → Operand → Bool

@@ -41,10 +41,14 @@ abbrev pub unless : {T : Type 0} → Option Refused → State → Shown T → Sh
 unless None s done = record { state = done.state; shown = Ok done.shown }
 unless (Some refused) s done = record { state = s; shown = Err refused }
 
+-- this state, where nothing is shown
+abbrev pub now : State → Shown (Unit {0})
+now s = record { state = s; shown = tt }
+
 -- bytes are put into memory from outside
 abbrev pub put : State → ℕ → List ℕ → Shown (Result (Unit {0}) Refused)
-put s at bytes = unless (put_refusal s at (length bytes)) s
-    (record { state = record s { mem = put_bytes s.mem at bytes }; shown = tt })
+put s at bytes =
+    unless (put_refusal s at (length bytes)) s (now (record s { mem = put_bytes s.mem at bytes }))
 
 -- bytes are taken from memory from outside
 abbrev pub take : State → ℕ → ℕ → Shown (Result (List ℕ) Refused)
@@ -53,22 +57,13 @@ take s at n = unless (take_refusal s at n) s (record { state = s; shown = bytes_
 -- a set of PC ends what was known of the last instruction
 abbrev pub set : State → ℕ → ℕ → Shown (Result (Unit {0}) Refused)
 set s r v =
-    unless (busy s) s (record {
-      state = record s {
-        regs = set_reg s.regs r v;
-        last = if r == 0 then
-            0 else s.last;
-      };
-      shown = tt;
-    })
+    unless (busy s) s
+    (now (record s { regs = set_reg s.regs r v; last = if r == 0 then 0 else s.last }))
 
 -- a sensor gets a value
 abbrev pub sense : State → ℕ → ℕ → Shown (Result (Unit {0}) Refused)
-sense s device v = unless (busy s) s (record {
-  state =
-      record s { devices = with_sample s.devices device v };
-  shown = tt;
-})
+sense s device v =
+    unless (busy s) s (now (record s { devices = with_sample s.devices device v }))
 
 -- GIE, bit 3 of SR, enables interrupts
 abbrev pub is_enabled : List ℕ → Bool

@@ -22,13 +22,9 @@ identity_at mem l = identity (bytes_from mem l.pub_from (l.pub_to - l.pub_from))
 -- R10 and R11 are the start and the end of the public section, R12 and R13 those of the private
 -- section
 abbrev pub layout_in : List ℕ → Layout
-layout_in regs = record {
-  pub_from = slice_index regs 10;
-  pub_to = slice_index regs 11;
-  priv_from =
-      slice_index regs 12;
-  priv_to = slice_index regs 13;
-}
+layout_in regs =
+    let at = slice_index regs in
+    record { pub_from = at 10; pub_to = at 11; priv_from = at 12; priv_to = at 13 }
 
 -- R9 is the provider
 abbrev pub provider_in : List ℕ → ℕ

@@ -52,30 +52,13 @@ computed op2.And wide s d f = alu.row calc.And wide s d f
 -- MOV doesn't read its destination
 abbrev pub reads : Op2 → Bool
 reads op2.Mov = false
-reads op2.Add = true
-reads op2.Addc = true
-reads op2.Subc = true
-reads op2.Sub = true
-reads op2.Cmp = true
-reads op2.Bit = true
-reads op2.Bic = true
-reads op2.Bis = true
-reads op2.Xor = true
-reads op2.And = true
+reads _ = true
 
 -- CMP and BIT write nothing
 abbrev pub writes : Op2 → Bool
 writes op2.Cmp = false
 writes op2.Bit = false
-writes op2.Mov = true
-writes op2.Add = true
-writes op2.Addc = true
-writes op2.Subc = true
-writes op2.Sub = true
-writes op2.Bic = true
-writes op2.Bis = true
-writes op2.Xor = true
-writes op2.And = true
+writes _ = true
 
 -- The end of an operation on a register: the flags, and then the result, which stands where the
 -- register is SR.
@@ -106,10 +89,7 @@ onto op wide (Reg r) s regs =
 onto op wide (Indexed r x) s regs = on_memory op wide (onward (reg regs r) x) s regs
 onto op wide (Symbolic x) s regs = on_memory op wide (onward (reg regs 0) (65534 + x)) s regs
 onto op wide (Absolute x) s regs = on_memory op wide x s regs
-onto op wide (Indirect r) s regs = Stop bad.Illegal
-onto op wide (Increment r) s regs = Stop bad.Illegal
-onto op wide (Immediate x) s regs = Stop bad.Illegal
-onto op wide (Const c) s regs = Stop bad.Illegal
+onto op wide _ s regs = Stop bad.Illegal
 
 -- an instruction with two operands; `next` is the address after it
 abbrev pub two : Op2 → Bool → Operand → Operand → List ℕ → ℕ → Plan
@@ -140,8 +120,7 @@ in_place kind wide (Absolute x) regs next = in_memory kind wide x (at_pc regs ne
 in_place kind wide (Indirect r) regs next = in_memory kind wide (reg regs r) (at_pc regs next)
 in_place kind wide (Increment r) regs next =
     in_memory kind wide (reg regs r) (at_pc (incremented wide regs r) next)
-in_place kind wide (Immediate x) regs next = Stop bad.Illegal
-in_place kind wide (Const c) regs next = Stop bad.Illegal
+in_place kind wide _ regs next = Stop bad.Illegal
 
 -- PUSH stores its operand. CALL stores the address after it, and goes to its operand.
 abbrev pub one : Op1 → Bool → Operand → List ℕ → ℕ → Plan

@@ -81,8 +81,7 @@ abbrev pub sampled : ℕ → Window → Moment → ℕ × Moment
 sampled device w x =
     if w.fresh then (
       0x8000 + w.value,
-      record {
-        mem = x.mem;
+      record x {
         devices = cleared x.devices device;
         touches = with_touch x.touches (DeviceRead device w.value);
       },

@@ -48,15 +48,4 @@ power_on key devices = record {
 
 -- a reset clears registers, memory, sections and the sensors' fresh marks, and counts
 abbrev pub reset : State → State
-reset s = record {
-  regs = replicate 16 0;
-  mem = blank 65536;
-  devices = all_stale s.devices;
-  sections = no_sections;
-  cur = 0;
-  last = 0;
-  caller = 0;
-  boot = s.boot + 1;
-  key = s.key;
-  exchange = no_exchange;
-}
+reset s = record (power_on s.key (all_stale s.devices)) { boot = s.boot + 1 }

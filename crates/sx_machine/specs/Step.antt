@@ -92,7 +92,7 @@ attempt mac s =
 
 -- The state after an instruction of `own`. The module still runs where PC is in its public section.
 abbrev pub state_after : State → ℕ → List ℕ → Moment → Sections → Exchange → State
-state_after s own regs x sections exchange = record {
+state_after s own regs x sections exchange = record s {
   regs = regs;
   mem = x.mem;
   devices = x.devices;
@@ -100,8 +100,6 @@ state_after s own regs x sections exchange = record {
   cur = if holder sections.live (slice_index regs 0) == own then own else 0;
   last = own;
   caller = entered_from s own;
-  boot = s.boot;
-  key = s.key;
   exchange = exchange;
 }
 
