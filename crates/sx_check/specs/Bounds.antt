@@ -33,13 +33,9 @@ abbrev mutual
 -- the most blocks that stand in one another, the block itself among them
 abbrev mutual
   pub statement_depth : Statement → ℕ
-  statement_depth (Defines x e) = 0
-  statement_depth (Assigns x e) = 0
-  statement_depth (Stores x i e) = 0
   statement_depth (Chooses e a b) = max (1 + inner_depth a) (1 + inner_depth b)
   statement_depth (Repeats n a) = 1 + inner_depth a
-  statement_depth (Sends x e) = 0
-  statement_depth (Emits e) = 0
+  statement_depth _ = 0
 
   -- the depth of the blocks in a block
   pub inner_depth : Block → ℕ
@@ -49,13 +45,9 @@ abbrev mutual
 -- the counts of its `repeat`s
 abbrev mutual
   pub statement_counts : Statement → List ℕ
-  statement_counts (Defines x e) = []
-  statement_counts (Assigns x e) = []
-  statement_counts (Stores x i e) = []
   statement_counts (Chooses e a b) = block_counts a ++ block_counts b
   statement_counts (Repeats n a) = n ∷ block_counts a
-  statement_counts (Sends x e) = []
-  statement_counts (Emits e) = []
+  statement_counts _ = []
 
   pub block_counts : Block → List ℕ
   block_counts Done = []
@@ -69,13 +61,10 @@ is_miscounted n = not (nat_le 1 n) || not (nat_le n 256)
 -- and a `repeat`'s block this many times
 abbrev mutual
   pub statement_sends_by : (List ℕ → ℕ) → Statement → ℕ
-  statement_sends_by count (Defines x e) = 0
-  statement_sends_by count (Assigns x e) = 0
-  statement_sends_by count (Stores x i e) = 0
   statement_sends_by count (Chooses e a b) = max (block_sends_by count a) (block_sends_by count b)
   statement_sends_by count (Repeats n a) = n * block_sends_by count a
   statement_sends_by count (Sends x e) = count x
-  statement_sends_by count (Emits e) = 0
+  statement_sends_by count _ = 0
 
   pub block_sends_by : (List ℕ → ℕ) → Block → ℕ
   block_sends_by count Done = 0
@@ -91,13 +80,10 @@ block_sends b = block_sends_by (λ x. 1) b
 -- an `emit` stands in it
 abbrev mutual
   pub statement_emits : Statement → Bool
-  statement_emits (Defines x e) = false
-  statement_emits (Assigns x e) = false
-  statement_emits (Stores x i e) = false
   statement_emits (Chooses e a b) = block_emits a || block_emits b
   statement_emits (Repeats n a) = block_emits a
-  statement_emits (Sends x e) = false
   statement_emits (Emits e) = true
+  statement_emits _ = false
 
   pub block_emits : Block → Bool
   block_emits Done = false
@@ -105,24 +91,15 @@ abbrev mutual
 
 -- a declaration of an input
 abbrev pub is_input : Decl → Bool
-is_input (Device kind) = false
 is_input (Input x) = true
-is_input (Output x) = false
-is_input (Var x n) = false
-is_input (Array x n) = false
+is_input _ = false
 
 -- a declaration of an output
 abbrev pub is_output : Decl → Bool
-is_output (Device kind) = false
-is_output (Input x) = false
 is_output (Output x) = true
-is_output (Var x n) = false
-is_output (Array x n) = false
+is_output _ = false
 
 -- an array's length isn't 1 to 1,024
 abbrev pub is_misfit : Decl → Bool
-is_misfit (Device kind) = false
-is_misfit (Input x) = false
-is_misfit (Output x) = false
-is_misfit (Var x n) = false
 is_misfit (Array x n) = not (nat_le 1 n) || not (nat_le n 1024)
+is_misfit _ = false

@@ -24,28 +24,17 @@ declares x (Array y n) = same x y
 -- a declaration of a device
 abbrev pub is_device : Decl → Bool
 is_device (Device kind) = true
-is_device (Input y) = false
-is_device (Output y) = false
-is_device (Var y n) = false
-is_device (Array y n) = false
+is_device _ = false
 
 -- a declaration of a sensor
 abbrev pub is_sensor : Decl → Bool
 is_sensor (Device Sensor) = true
-is_sensor (Device Actuator) = false
-is_sensor (Input y) = false
-is_sensor (Output y) = false
-is_sensor (Var y n) = false
-is_sensor (Array y n) = false
+is_sensor _ = false
 
 -- a declaration of an actuator
 abbrev pub is_actuator : Decl → Bool
-is_actuator (Device Sensor) = false
 is_actuator (Device Actuator) = true
-is_actuator (Input y) = false
-is_actuator (Output y) = false
-is_actuator (Var y n) = false
-is_actuator (Array y n) = false
+is_actuator _ = false
 
 -- a declaration has this name
 abbrev pub is_declared : List Decl → List ℕ → Bool
@@ -62,23 +51,15 @@ is_repeated ds (Array x n) = nat_lt 1 (count_by (declares x) ds)
 -- the names that a statement itself defines, none or one
 abbrev pub defined : Statement → List (List ℕ)
 defined (Defines x e) = x ∷ []
-defined (Assigns x e) = []
-defined (Stores x i e) = []
-defined (Chooses e a b) = []
-defined (Repeats n a) = []
-defined (Sends x e) = []
-defined (Emits e) = []
+defined _ = []
 
 -- the names that are defined in it at any depth
 abbrev mutual
   pub statement_lets : Statement → List (List ℕ)
   statement_lets (Defines x e) = x ∷ []
-  statement_lets (Assigns x e) = []
-  statement_lets (Stores x i e) = []
   statement_lets (Chooses e a b) = block_lets a ++ block_lets b
   statement_lets (Repeats n a) = block_lets a
-  statement_lets (Sends x e) = []
-  statement_lets (Emits e) = []
+  statement_lets _ = []
 
   pub block_lets : Block → List (List ℕ)
   block_lets Done = []
@@ -99,9 +80,8 @@ has_taken ds h = list_any (is_taken ds h) (locals h)
 -- two handlers are for the same event: the same input, or both for samples
 abbrev pub same_input : Option (List ℕ) → Option (List ℕ) → Bool
 same_input None None = true
-same_input None (Some y) = false
-same_input (Some x) None = false
 same_input (Some x) (Some y) = same x y
+same_input _ _ = false
 
 -- another handler is of the same input, or also of the samples
 unfoldable pub is_handled_twice : List HandlerTree → HandlerTree → Bool

@@ -69,9 +69,7 @@ is_seen seen x = list_any (same x) seen
 -- a local can be used as a word alone
 abbrev pub is_local : Role → List ℕ → List (List ℕ) → Bool
 is_local Word x seen = is_seen seen x
-is_local Element x seen = false
-is_local Sending x seen = false
-is_local Handling x seen = false
+is_local _ x seen = false
 
 -- the name is neither declared nor a local in sight
 abbrev pub is_unknown : List Decl → Use → Bool
