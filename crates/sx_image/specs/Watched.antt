@@ -26,15 +26,11 @@ marks_of_touches (t ∷ ts) = marks_of_touch t ++ marks_of_touches ts
 
 -- the mark of an event: a wrap or an unwrap, with the exchange after it
 abbrev pub marks_of_event : Event → Exchange → List Mark
-marks_of_event event.Quiet x = []
-marks_of_event (event.Reset v) x = []
-marks_of_event (event.Protected id) x = []
-marks_of_event (event.Removed id) x = []
 marks_of_event (event.Wrapped id) x =
     Wrapped (take x.ad_len x.ad) (take x.body_len x.body) x.own_key ∷ []
 marks_of_event (event.Unwrapped id) x =
     Unwrapped (take x.ad_len x.ad) (take x.body_len x.body) x.own_key ∷ []
-marks_of_event (event.Left id) x = []
+marks_of_event _ x = []
 
 -- the marks of a step, from what it shows and the exchange after it: the touches first, in order
 abbrev pub marks_of : Seen → Exchange → List Mark
@@ -48,13 +44,8 @@ pub record Watched : Type 0 where
 
 -- the violation of an event
 abbrev pub violation_of : Event → Option Violation
-violation_of event.Quiet = None
 violation_of (event.Reset v) = Some v
-violation_of (event.Protected id) = None
-violation_of (event.Removed id) = None
-violation_of (event.Wrapped id) = None
-violation_of (event.Unwrapped id) = None
-violation_of (event.Left id) = None
+violation_of _ = None
 
 -- what the step shows is added, or its violation ends the run
 abbrev pub watched_on : Watched → Shown Seen → Option Violation → Stepped Watched Violation

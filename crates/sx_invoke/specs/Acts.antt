@@ -13,10 +13,10 @@ use Rattle.sx_tag.specs.Wrap.{wrapped}
 use Rattle.sx_machine.specs.Run.{device_of}
 use Rattle.sx_invoke.specs.Protocol.{event_size, event_kind, last_number}
 use Rattle.sx_invoke.specs.Setup.{Setup, Call}
-use Rattle.sx_invoke.specs.ModuleState.{EndState, end_of, with_end}
+use Rattle.sx_invoke.specs.ModuleState.{EndState, end_of}
 use Rattle.sx_invoke.specs.Marks.{Wrapped, Actuated}
 use Rattle.sx_invoke.specs.Windows.{two, write_bytes}
-use Rattle.sx_invoke.specs.Progress.{Progress, Course, Going, Broken, and_on}
+use Rattle.sx_invoke.specs.Progress.{Progress, Course, Going, Broken, and_on, with_end_marked}
 
 -- Pieces. The packets stand in the out-window one after the other.
 
@@ -37,10 +37,9 @@ event_header e = event_kind ∷ 0 ∷ two e.field ++ two e.number
 
 -- the number rises, and the mark of the wrap comes before the copy
 abbrev pub wrap_counted : ℕ → EndState → ℕ → Progress → Progress
-wrap_counted k e v p = record p {
-  state = record p.state { ends = with_end p.state.ends k (record e { number = e.number + 1 }) };
-  marks = p.marks ++ Wrapped (event_header e) (two v) false ∷ [];
-}
+wrap_counted k e v p =
+    with_end_marked k (record e { number = e.number + 1 })
+    (Wrapped (event_header e) (two v) false) p
 
 -- the packet: its header, and the cipher and tag of the value
 abbrev pub event_packet : Setup → EndState → ℕ → List ℕ

@@ -15,10 +15,11 @@ use Rattle.sx_invoke.specs.Protocol.{all_done, other_kind, no_end, past_number, 
 use Rattle.sx_invoke.specs.Protocol.{no_sample, header_size, key_size, key_tag_at, value_size}
 use Rattle.sx_invoke.specs.Protocol.{value_tag_at, last_number}
 use Rattle.sx_invoke.specs.Setup.{Setup, Call}
-use Rattle.sx_invoke.specs.ModuleState.{EndState, end_of, with_end, epoch_of, link_of}
+use Rattle.sx_invoke.specs.ModuleState.{EndState, end_of, epoch_of, link_of}
 use Rattle.sx_invoke.specs.Marks.{Wrapped, Unwrapped, Sampled}
 use Rattle.sx_invoke.specs.Windows.{read_bytes}
 use Rattle.sx_invoke.specs.Progress.{Progress, Invoked, Returns, Violates, finished}
+use Rattle.sx_invoke.specs.Progress.{with_end_marked}
 use Rattle.sx_invoke.specs.Acts.{with_piece, own_window, handled}
 
 -- Which end a packet is for.
@@ -26,9 +27,8 @@ use Rattle.sx_invoke.specs.Acts.{with_piece, own_window, handled}
 -- the sides are the same
 abbrev pub has_side : Side → Side → Bool
 has_side From From = true
-has_side From To = false
-has_side To From = false
 has_side To To = true
+has_side _ _ = false
 
 -- the end is of this connection and side
 abbrev pub end_is : ℕ → Side → End → Bool
@@ -87,13 +87,9 @@ is_keyed e field = e.is_open && not (nat_lt (epoch_of e.field) (epoch_of field))
 
 -- step 10: the end is open with that key and field, and its next number is 0
 abbrev pub end_keyed : ℕ → List ℕ → List ℕ → Progress → Progress
-end_keyed k packet key p = record p {
-  state = record p.state {
-    ends = with_end p.state.ends k
-        (record { is_open = true; field = field_in packet; number = 0; key = key });
-  };
-  marks = p.marks ++ Unwrapped (header_in packet) key true ∷ [];
-}
+end_keyed k packet key p =
+    with_end_marked k (record { is_open = true; field = field_in packet; number = 0; key = key })
+    (Unwrapped (header_in packet) key true) p
 
 -- step 8: the tag
 abbrev pub key_opened : ℕ → List ℕ → Option (List ℕ) → Progress → Invoked
@@ -126,13 +122,9 @@ attest s c ask p =
 
 -- the number is taken: the next one is above it
 abbrev pub number_taken : ℕ → List ℕ → List ℕ → EndState → Progress → Progress
-number_taken k packet value e p = record p {
-  state = record p.state {
-    ends = with_end p.state.ends k
-        (record e { number = second_in packet + 1 });
-  };
-  marks = p.marks ++ Unwrapped (header_in packet) value false ∷ [];
-}
+number_taken k packet value e p =
+    with_end_marked k (record e { number = second_in packet + 1 })
+    (Unwrapped (header_in packet) value false) p
 
 -- steps 8 and 10: the tag, the next number, and the handler
 abbrev pub event_opened : Setup → Call → ℕ × End → List ℕ → Option (List ℕ) → Progress → Invoked

@@ -22,9 +22,8 @@ returns_inside s c = in_public s.section (even c.back)
 
 -- the module drives a sensor
 abbrev pub is_sensor_driver : Option DeviceKind → Bool
-is_sensor_driver None = false
 is_sensor_driver (Some Sensor) = true
-is_sensor_driver (Some Actuator) = false
+is_sensor_driver _ = false
 
 -- step 2: there is no such entry
 abbrev pub is_no_entry : Setup → Call → Bool

@@ -1,9 +1,9 @@
 -- How far an invocation is, and how it ends.
-use Rattle.std.specs.Prelude.{ℕ, ◌+◌, List, [], ◌∷◌, length}
+use Rattle.std.specs.Prelude.{ℕ, ◌+◌, List, [], ◌∷◌, ◌++◌, length}
 use Rattle.sx_rules.specs.declared.access.Violation.{Violation}
 use Rattle.sx_bus.specs.declared.devices.Window.{Window}
 use Rattle.sx_invoke.specs.Protocol.{all_done}
-use Rattle.sx_invoke.specs.ModuleState.{ModuleState}
+use Rattle.sx_invoke.specs.ModuleState.{EndState, ModuleState, with_end}
 use Rattle.sx_invoke.specs.Marks.{Mark}
 
 -- how far an invocation is: the module's state, the memory outside its private section, the node's
@@ -14,6 +14,13 @@ pub record Progress : Type 0 where
   pub devices : List Window
   pub marks : List Mark
   pub pieces : List (List ℕ)
+
+-- the k-th end is in this state, and a mark is made
+abbrev pub with_end_marked : ℕ → EndState → Mark → Progress → Progress
+with_end_marked k e mark p = record p {
+  state = record p.state { ends = with_end p.state.ends k e };
+  marks = p.marks ++ mark ∷ [];
+}
 
 -- How it ends: with a status, or with a violation. The last piece is then the one whose copy was
 -- refused.
