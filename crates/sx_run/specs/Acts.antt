@@ -19,7 +19,7 @@ use Rattle.sx_run.specs.Wire.{ask_packet}
 use Rattle.sx_run.specs.State.{World, Acted}
 use Rattle.sx_run.specs.Observation.{observed, unless_made}
 
--- nothing happens but the items
+-- this world, and these items
 abbrev pub only : World → List Item → Acted
 only w items = record { world = w; items = items }
 
@@ -29,14 +29,8 @@ then_ a rest = record { world = (rest a.world).world; items = a.items ++ (rest a
 
 -- the world with a node in this state, with this ledger and this many steps
 abbrev pub with_node : World → ℕ → State → List Made → ℕ → World
-with_node w n s ledger steps = record {
-  nodes = slice_set w.nodes n s;
-  packets = w.packets;
-  deployer = w.deployer;
-  ledger = ledger;
-  lines = w.lines;
-  steps = steps;
-}
+with_node w n s ledger steps =
+    record w { nodes = slice_set w.nodes n s; ledger = ledger; steps = steps }
 
 -- where there is such a node
 abbrev pub at_node : World → (State → Acted) → Option State → Acted
@@ -48,7 +42,7 @@ abbrev pub after_step : Setting → World → ℕ → State → Acted
 after_step set w n s =
     let r = step set.mac s in
     let o = observed set n (module_of set.sites n s (own_of s)) r.state r.shown w.ledger in
-    record { world = with_node w n r.state o.ledger (w.steps + 1); items = o.items }
+    only (with_node w n r.state o.ledger (w.steps + 1)) o.items
 
 -- the item of an act that a node refuses
 abbrev pub refused_item : ℕ → Refused → Item
@@ -63,21 +57,13 @@ or_refused n items (Err why) = refused_item n why ∷ []
 -- an act on a node from outside, with its item or that of its refusal
 abbrev pub done_on : World → ℕ → List Item → Shown (Result (Unit {0}) Refused) → Acted
 done_on w n items r =
-    record { world = with_node w n r.state w.ledger w.steps; items = or_refused n items r.shown }
+    only (with_node w n r.state w.ledger w.steps) (or_refused n items r.shown)
 
 -- the world with one more packet, and its item
 abbrev pub new_packet : World → List ℕ → Acted
-new_packet w bytes = record {
-  world = record {
-    nodes = w.nodes;
-    packets = w.packets ++ bytes ∷ [];
-    deployer = w.deployer;
-    ledger = w.ledger;
-    lines = w.lines;
-    steps = w.steps;
-  };
-  items = item.Packet (length w.packets) (length bytes) ∷ [];
-}
+new_packet w bytes =
+    only (record w { packets = w.packets ++ bytes ∷ [] })
+    (item.Packet (length w.packets) (length bytes) ∷ [])
 
 -- the bytes that were taken become a packet, or the refusal's item is shown
 abbrev pub after_take : World → ℕ → Result (List ℕ) Refused → Acted
@@ -88,29 +74,18 @@ after_take w n (Err why) = only w (refused_item n why ∷ [])
 abbrev pub after_interrupt : Setting → World → ℕ → State → Result Seen Refused → Acted
 after_interrupt set w n s (Ok seen) =
     let o = observed set n None s seen w.ledger in
-    record { world = with_node w n s o.ledger w.steps; items = o.items }
+    only (with_node w n s o.ledger w.steps) o.items
 after_interrupt set w n s (Err why) = only w (refused_item n why ∷ [])
 
 -- the world with the deployer in this state and this ledger
 abbrev pub with_deployer : World → DeployerState → List Made → World
-with_deployer w d ledger = record {
-  nodes = w.nodes;
-  packets = w.packets;
-  deployer = d;
-  ledger =
-      ledger;
-  lines = w.lines;
-  steps = w.steps;
-}
+with_deployer w d ledger = record w { deployer = d; ledger = ledger }
 
 -- the deployer asks a module
 abbrev pub ask : World → ℕ → Acted
 ask w m =
-    then_ (record {
-      world = with_deployer w (after_ask w.deployer m) w.ledger;
-      items =
-          item.Ask m w.deployer.asks ∷ [];
-    })
+    then_ (only (with_deployer w (after_ask w.deployer m) w.ledger)
+    (item.Ask m w.deployer.asks ∷ []))
     (λ v. new_packet v (ask_packet w.deployer.asks))
 
 -- one set-key packet, and its entry
@@ -129,11 +104,9 @@ keys_given set (g ∷ gs) w =
 abbrev pub attested : Setting → World → ℕ → ℕ → List ℕ → Option ℕ → Acted
 attested set w m boot ask last =
     let d = after_acceptance set.app.links w.deployer m boot last in
-    then_ (record {
-      world = with_deployer w d w.ledger;
-      items = unless_made None (is_made w.ledger (made_entry (maker.Module m) NO_TARGET boot ask
-          [])) (item.Attested m boot);
-    }) (keys_given set (grants_after set.app d m boot last))
+    let made = is_made w.ledger (made_entry (maker.Module m) NO_TARGET boot ask []) in
+    then_ (only (with_deployer w d w.ledger) (unless_made None made (item.Attested m boot)))
+    (keys_given set (grants_after set.app d m boot last))
 
 -- the deployer accepts no answer
 abbrev pub after_denial : World → ℕ → Acted

@@ -39,13 +39,8 @@ key_of set site boot =
 
 -- the module is asked
 abbrev pub after_ask : DeployerState → ℕ → DeployerState
-after_ask d m = record {
-  asks = d.asks + 1;
-  open_asks =
-      slice_set d.open_asks m (Some (ask_packet d.asks));
-  attested = d.attested;
-  epochs = d.epochs;
-}
+after_ask d m =
+    record d { asks = d.asks + 1; open_asks = slice_set d.open_asks m (Some (ask_packet d.asks)) }
 
 -- the tag that answers an ask at a boot
 abbrev pub expected : Setting → Site → ℕ → List ℕ → List ℕ
@@ -60,8 +55,7 @@ accepts set site d m boot answer (Some ask) last =
 
 -- acceptance closes the ask, and renews the connections of a module that was attested before
 abbrev pub after_acceptance : List Link → DeployerState → ℕ → ℕ → Option ℕ → DeployerState
-after_acceptance links d m boot last = record {
-  asks = d.asks;
+after_acceptance links d m boot last = record d {
   open_asks = slice_set d.open_asks m None;
   attested = slice_set d.attested m (Some boot);
   epochs = renewed m links last d.epochs;

@@ -139,11 +139,8 @@ after_line set w (Forge bytes) = new_packet w bytes
 after_line set w (Sense d v) = sense_at set w d v (slice_get set.app.devices d)
 after_line set w (Irq n line) = at_node w (λ s.
     after_interrupt set w n (irq s line).state (irq s line).shown) (slice_get w.nodes n)
-after_line set w (Reset n) = at_node w (λ s. record {
-  world =
-      with_node w n (reset s) w.ledger w.steps;
-  items = item.Reset n Asked ∷ [];
-})
+after_line set w (Reset n) = at_node w (λ s.
+    only (with_node w n (reset s) w.ledger w.steps) (item.Reset n Asked ∷ []))
     (slice_get w.nodes n)
 after_line set w (Ask m) = ask w m
 after_line set w (Answer m boot k) =
@@ -153,15 +150,7 @@ after_line set w (Call m e input output) = call set w e input output (slice_get 
 
 -- the world with one more line counted
 abbrev pub line_counted : World → World
-line_counted w = record {
-  nodes = w.nodes;
-  packets = w.packets;
-  deployer = w.deployer;
-  ledger =
-      w.ledger;
-  lines = w.lines + 1;
-  steps = w.steps;
-}
+line_counted w = record w { lines = w.lines + 1 }
 
 -- the run of a schedule's lines
 abbrev pub run : Setting → World → List Line → Acted
