@@ -3,6 +3,7 @@ use Rattle.std.proofs.Common.{◌≡◌, ℕ, zero, suc, ◌+◌, ◌-◌, ◌*�
 use Rattle.std.specs.Prelude.{Result, Ok, IsOk, is_ok, if◌then◌else◌}
 use Rattle.std.specs.List.{list_all}
 use Rattle.std.proofs.lemmas.List.{append-nil}
+use Rattle.sx_asm.specs.Assembled.{assembled}
 use Rattle.sx_io.specs.Numbers.{number_of}
 use Rattle.sx_lex.proofs.Found.{and_left, and_right}
 use Rattle.sx_sched.specs.declared.lines.LineError.{LineError}
@@ -15,14 +16,14 @@ use Rattle.sx_sched.proofs.Spaced.{is_word, spaced, words_read}
 use Rattle.sx_sched.proofs.Decimals.{decimal_word, number_said}
 
 abbrev IsGood : List ℕ → Type 0
-IsGood text = IsOk (said_line names text)
+IsGood text = IsOk (said_line assembled names text)
 
 -- a line of words, where they say one whatever text follows them
-good : (w : List ℕ) (ws : List (List ℕ)) → list_all is_word (w ∷ ws) ≡ true → ((t : List ℕ) → IsOk (said_in names t (w ∷ ws))) → IsGood (w ++ spaced ws)
+good : (w : List ℕ) (ws : List (List ℕ)) → list_all is_word (w ∷ ws) ≡ true → ((t : List ℕ) → IsOk (said_in assembled names t (w ∷ ws))) → IsGood (w ++ spaced ws)
 unfolding said_line
 good w ws words says =
     let text = w ++ spaced ws in
-    subst (λ (v : List (List ℕ)). IsOk (said_in names (text_behind 3 text) v)) (sym (words_read w ws words)) (says (text_behind 3 text))
+    subst (λ (v : List (List ℕ)). IsOk (said_in assembled names (text_behind 3 text) v)) (sym (words_read w ws words)) (says (text_behind 3 text))
 
 -- The lines that have a number are proved from their words, and the others are computed.
 
@@ -65,11 +66,11 @@ good_at those k no_more = blank
 good_at those zero (h also hs) = h
 good_at those (suc k) (◌also◌ {more = more} h hs) = good_at more k hs
 
-are_good : (those : List (List ℕ)) → list_all (λ text. is_ok (said_line names text)) those ≡ true → AreGood those
+are_good : (those : List (List ℕ)) → list_all (λ text. is_ok (said_line assembled names text)) those ≡ true → AreGood those
 are_good [] h = no_more
 are_good (text ∷ more) h =
-    let rest : Bool = list_all (λ text. is_ok (said_line names text)) more in
-    and_left (is_ok (said_line names text)) rest h also are_good more (and_right (is_ok (said_line names text)) rest h)
+    let rest : Bool = list_all (λ text. is_ok (said_line assembled names text)) more in
+    and_left (is_ok (said_line assembled names text)) rest h also are_good more (and_right (is_ok (said_line assembled names text)) rest h)
 
 setup_good : AreGood setup
 unfolding said_line words_of names number_of setup

@@ -1,5 +1,6 @@
 -- What follows for `gen` from what it wrote.
 use Rattle.std.proofs.Common.{◌≡◌, inl, inr, ℕ, ◌∙◌, Bool, List, [], refl, sym, ap, arith, Result, Ok, Err, ◌≤◌, ◌⊎◌, subst}
+use Rattle.sx_asm.specs.Assembled.{assembled}
 use Rattle.sx_io.specs.Streams.{SinkAt}
 use Rattle.sx_told.specs.Told.{CommandEnds, out_of_memory, Output, WroteSome, behind}
 use Rattle.sx_told.proofs.Laws.{ends-same, ends-behind}
@@ -58,18 +59,18 @@ told_status n a AtEnd = refl
 told_status n a sched.Unread = refl
 told_status n a (Breaks rule number) = refl
 
-gen_status : (mac : Mac) (texts : List (List ℕ)) (n : ℕ) (r : Result Deployed DeployFault) → (gen_found mac texts n r).status ≡ found_status r (workload n)
+gen_status : (mac : Mac) (texts : List (List ℕ)) (n : ℕ) (r : Result Deployed DeployFault) → (gen_found mac texts n r).status ≡ found_status assembled r (workload n)
 unfolding gen_run
 gen_status mac texts n (Ok d) =
     let set = setting_of mac d texts in
-    let x = schedule d.names 1 (workload n) in told_status n (run set (switched_on set) x.lines) x.stop
+    let x = schedule assembled d.names 1 (workload n) in told_status n (run set (switched_on set) x.lines) x.stop
 gen_status mac texts n (Err f) = refl
 
 is_or_not : (a b : ℕ) → (a ≡ b) ⊎ (a ≡ b → ⊥)
 is_or_not a b = grind arith
 
 exactly : {mac : Mac} {n : ℕ} {to_tell : Bool} {k0 k1 : SinkAt} {status : ℕ} (w : GenWith mac n to_tell k0 k1 status) (meaning : Meaning) → IsMeaning meaning
-    → (count.Rose k0.faults k1.faults → ⊥) → (status ≡ out_of_memory) ⊎ (status ≡ found_status (meaning bulk.head) (workload n))
+    → (count.Rose k0.faults k1.faults → ⊥) → (status ≡ out_of_memory) ⊎ (status ≡ found_status assembled (meaning bulk.head) (workload n))
 exactly {mac} {n} {to_tell} {k0} {k1} {status} w meaning is quiet =
     let e = w.ends meaning is in
     elim (is_or_not status out_of_memory) [

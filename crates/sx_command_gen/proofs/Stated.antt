@@ -2,6 +2,7 @@
 use Rattle.std.proofs.Common.{◌≡◌, ℕ, zero, suc, ◌+◌, ◌≤◌, false, nat_lt, List, refl, sym, subst, arith}
 use Rattle.std.specs.Prelude.{Result, Ok, Err, IsOk}
 use Rattle.std.proofs.lemmas.Bool.Decides.{nat_tests}
+use Rattle.sx_asm.specs.Assembled.{assembled}
 use Rattle.sx_trace.specs.Names.{NameLists}
 use Rattle.sx_stage.specs.declared.fault.DeployFault.{DeployFault}
 use Rattle.sx_deploy.specs.Deployment.{Deployed}
@@ -24,29 +25,29 @@ said_good : (r : Result Line LineError) → IsOk r → IsOk (or_rule r)
 said_good (Ok line) h = h
 said_good (Err e) h = absurd (cc)
 
-line_good : (number : ℕ) (text : List ℕ) → number ≤ 65536 → IsOk (said_line names text) → IsOk (judged_line names number text)
+line_good : (number : ℕ) (text : List ℕ) → number ≤ 65536 → IsOk (said_line assembled names text) → IsOk (judged_line assembled names number text)
 unfolding judged_line
 line_good number text few h =
     let within : nat_lt 65536 number ≡ false = grind (arith, nat_tests, few) in
-    rw within (said_good (said_line names text) h)
+    rw within (said_good (said_line assembled names text) h)
 
-lines_good : (more i number : ℕ) → number ≡ i + 1 → i + more ≤ 64026 → IsWellFormed names number (answers_from more i)
+lines_good : (more i number : ℕ) → number ≡ i + 1 → i + more ≤ 64026 → IsWellFormed assembled names number (answers_from more i)
 lines_good zero i number e h = tt
 lines_good (suc more) i number e h = (
   line_good number (bulk.line i) (omega (arith, e, h)) (good.well_formed i (omega (arith, h))),
   lines_good more (i + 1) (number + 1) (omega (arith, e)) (omega (arith, h)),
 )
 
-pub well_formed : (n : ℕ) → n ≤ 8000 → IsWellFormed names 1 (workload n)
+pub well_formed : (n : ℕ) → n ≤ 8000 → IsWellFormed assembled names 1 (workload n)
 unfolding workload
 well_formed n h = lines_good (bulk.lines n) 0 1 refl (omega (arith, h))
 
-pub is_good : (meaning : Meaning) → IsMeaning meaning → (n : ℕ) → n ≤ 8000 → IsGoodRun (meaning bulk.head) (workload n)
+pub is_good : (meaning : Meaning) → IsMeaning meaning → (n : ℕ) → n ≤ 8000 → IsGoodRun assembled (meaning bulk.head) (workload n)
 is_good meaning is n h =
     let same : Ok accepted.0 ≡ meaning bulk.head = one_meaning bulk.head (Ok accepted.0) (meaning bulk.head) accepted.1 (is bulk.head) in
-    let run : IsGoodRun (Ok accepted.0) (workload n) = subst (λ (names : NameLists). IsWellFormed names 1 (workload n)) (sym accepted.2) (well_formed n h) in
-    subst (λ (r : Result Deployed DeployFault). IsGoodRun r (workload n)) same run
+    let run : IsGoodRun assembled (Ok accepted.0) (workload n) = subst (λ (names : NameLists). IsWellFormed assembled names 1 (workload n)) (sym accepted.2) (well_formed n h) in
+    subst (λ (r : Result Deployed DeployFault). IsGoodRun assembled r (workload n)) same run
 
 -- so its status is 0
-pub status_zero : (meaning : Meaning) → IsMeaning meaning → (n : ℕ) → n ≤ 8000 → found_status (meaning bulk.head) (workload n) ≡ 0
+pub status_zero : (meaning : Meaning) → IsMeaning meaning → (n : ℕ) → n ≤ 8000 → found_status assembled (meaning bulk.head) (workload n) ≡ 0
 status_zero meaning is n h = good_zero meaning (Found bulk.head (workload n)) (is_good meaning is n h)

@@ -5,6 +5,7 @@ use Rattle.std.specs.List.{count_by}
 use Rattle.std.proofs.Math.Seq.{take-append_seam}
 use Rattle.std.proofs.lemmas.List.{append-nil}
 use Rattle.std.proofs.lemmas.List.Sums.{sum_by-append}
+use Rattle.sx_asm.specs.Assembled.{assembled}
 use Rattle.sx_io.specs.Reading.{Answer, End}
 use Rattle.sx_io.specs.Reading as answer
 use Rattle.sx_told.specs.Told.{Output}
@@ -49,21 +50,21 @@ left_by n set before w x = told_at n (record { world = (run set w x.lines).world
 
 -- from the line with this number on
 abbrev pub left_of : ℕ → NameLists → Setting → List Item → World → ℕ → List Answer → Output
-left_of n names set before w number answers = left_by n set before w (schedule names number answers)
+left_of n names set before w number answers = left_by n set before w (schedule assembled names number answers)
 
-left_line : (n : ℕ) (names : NameLists) (set : Setting) (before : List Item) (w : World) (number : ℕ) (text : List ℕ) (line : Line) (more : List Answer) → judged_line names number text ≡ Ok line
+left_line : (n : ℕ) (names : NameLists) (set : Setting) (before : List Item) (w : World) (number : ℕ) (text : List ℕ) (line : Line) (more : List Answer) → judged_line assembled names number text ≡ Ok line
     → left_of n names set before w number (answer.Line text ∷ more) ≡ left_of n names set (before ++ (after_next set w line).items) (after_next set w line).world (number + 1) more
 left_line n names set before w number text line more e =
-    let rest = schedule names (number + 1) more in
+    let rest = schedule assembled names (number + 1) more in
     let a = after_next set w line in
     let b = run set a.world rest.lines in
     ap (λ (r : Result Line ℕ). left_by n set before w (on_line number r rest)) e
     ∙ ap (λ (items : List Item). told_at n (record { world = b.world; items = items }) rest.stop) (sym (append_assoc before a.items b.items))
 
-left_breaks : (n : ℕ) (names : NameLists) (set : Setting) (before : List Item) (w : World) (number rule : ℕ) (text : List ℕ) (more : List Answer) → judged_line names number text ≡ Err rule
+left_breaks : (n : ℕ) (names : NameLists) (set : Setting) (before : List Item) (w : World) (number rule : ℕ) (text : List ℕ) (more : List Answer) → judged_line assembled names number text ≡ Err rule
     → left_of n names set before w number (answer.Line text ∷ more) ≡ broken_output rule number
 left_breaks n names set before w number rule text more e =
-    ap (λ (r : Result Line ℕ). left_by n set before w (on_line number r (schedule names (number + 1) more))) e
+    ap (λ (r : Result Line ℕ). left_by n set before w (on_line number r (schedule assembled names (number + 1) more))) e
 
 left_ended : (n : ℕ) (names : NameLists) (set : Setting) (before : List Item) (w : World) (number : ℕ)
     → left_of n names set before w number (End ∷ []) ≡ record { text = summary (bulk.lines n) (counts before) w.steps; status = 0 }
@@ -75,7 +76,7 @@ left_begun n names set = refl
 
 -- ---- a line
 
-pub acts_from : (names : NameLists) (set : Setting) (held left : Held) (number : ℕ) (text : List ℕ) (items : List Item) (line : Line) → judged_line names number text ≡ Ok line
+pub acts_from : (names : NameLists) (set : Setting) (held left : Held) (number : ℕ) (text : List ℕ) (items : List Item) (line : Line) → judged_line assembled names number text ≡ Ok line
     → Acts set line held left [] items → ActsFrom names set held left number text items
 acts_from names set held left number text items line e h = λ w st. record { line = line; keeps = e; stands = (h w st).0; made = (h w st).1 }
 
@@ -136,7 +137,7 @@ tally_goes_on n names set held left i c items s h a few =
     }
 
 pub tally_breaks : (n : ℕ) (names : NameLists) (set : Setting) (held : Held) (i : ℕ) (c : Counts) (rule : ℕ) → Tallied n names set held i c → i < bulk.lines n
-    → judged_line names (i + 1) (bulk.line i) ≡ Err rule → gen_run n names set ≡ broken_output rule (i + 1)
+    → judged_line assembled names (i + 1) (bulk.line i) ≡ Err rule → gen_run n names set ≡ broken_output rule (i + 1)
 tally_breaks n names set held i c rule s h e =
     sym s.left ∙ next_is n names set s.before s.world i h ∙ left_breaks n names set s.before s.world (i + 1) rule (bulk.line i) (answers_from (bulk.lines n - (i + 1)) (i + 1)) e
 

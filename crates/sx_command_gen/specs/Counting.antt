@@ -1,5 +1,6 @@
 -- What the parts of the command `gen` do.
 use Rattle.std.specs.Prelude.{ℕ, ◌≡◌, List, Result, Ok, Err}
+use Rattle.sx_asm.specs.Assembled.{assembled}
 use Rattle.sx_trace.specs.declared.items.Item.{Item}
 use Rattle.sx_trace.specs.Names.{NameLists}
 use Rattle.sx_sched.specs.Lines.{Line}
@@ -21,7 +22,7 @@ use Rattle.sx_command_gen.specs.Workload.{gen_run}
 pub record ActsIn (names : NameLists) (set : Setting) (left : Held) (number : ℕ) (text : List ℕ)
     (items : List Item) (w : World) : Type 0 where
   pub line : Line
-  pub keeps : judged_line names number text ≡ Ok line
+  pub keeps : judged_line assembled names number text ≡ Ok line
   pub stands : Stands set left (after_next set w line).world
   pub made : items ≡ (after_next set w line).items
 
@@ -33,7 +34,7 @@ ActsFrom names set held left number text items =
 -- the line with this number breaks this rule, or memory ran out
 abbrev pub LineStopsAt : NameLists → ℕ → List ℕ → Stopped → Type 0
 LineStopsAt names number text (Broken rule at) =
-    (judged_line names number text ≡ Err rule) × (at ≡ number)
+    (judged_line assembled names number text ≡ Err rule) × (at ≡ number)
 LineStopsAt names number text OutOfMemory = Unit {0}
 
 -- the end of a run of the workload, after this many steps, is reported; or memory ran out

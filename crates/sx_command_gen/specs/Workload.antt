@@ -1,5 +1,6 @@
 -- What the command `gen` writes: the images and, of the run of the workload of sx_bulk, counts.
 use Rattle.std.specs.Prelude.{ℕ, zero, suc, ◌+◌, ◌≡◌, ◌⊎◌, Bool, List, [], ◌∷◌, Result, Ok, Err}
+use Rattle.sx_asm.specs.Assembled.{assembled}
 use Rattle.sx_io.specs.Counts as count
 use Rattle.sx_io.specs.Reading.{Answer, Line, End}
 use Rattle.sx_io.specs.Streams.{SinkAt}
@@ -42,7 +43,7 @@ told_at n a (Breaks rule number) = broken_output rule number
 -- the workload's run where all is switched on
 unfoldable pub gen_run : ℕ → NameLists → Setting → Output
 gen_run n names set =
-    let x = schedule names 1 (workload n) in
+    let x = schedule assembled names 1 (workload n) in
     told_at n (run set (switched_on set) x.lines) x.stop
 
 -- the images, and what is written of the run
@@ -82,7 +83,8 @@ GenWrote mac n to_tell k0 k1 status =
 pub record GenTold (mac : Mac) (n : ℕ) (to_tell : Bool) (k0 k1 : SinkAt) (status : ℕ) : Type 0 where
   pub says : GenWrote mac n to_tell k0 k1 status
   pub exact : (meaning : Meaning) → IsMeaning meaning → (count.Rose k0.faults k1.faults → ⊥)
-      → (status ≡ out_of_memory) ⊎ (status ≡ found_status (meaning bulk.head) (workload n))
+      → (status ≡ out_of_memory)
+      ⊎ (status ≡ found_status assembled (meaning bulk.head) (workload n))
   pub good : (count.Rose k0.faults k1.faults → ⊥) → (status ≡ out_of_memory) ⊎ (status ≡ 0)
   pub write : status ≡ write_failed → k1.faults ≡ count.next_count k0.faults
   pub no_write : (status ≡ write_failed → ⊥) → k1.faults ≡ k0.faults

@@ -1,5 +1,6 @@
 -- How a run stands between two lines.
 use Rattle.std.proofs.Common.{ℕ, Bool, List}
+use Rattle.sx_asm.specs.Assembled.{assembled}
 use Rattle.sx_io.specs.Reading.{Answer, Limit}
 use Rattle.sx_io.specs.Next.{Ahead}
 use Rattle.sx_told.specs.Told.{Begun, CommandAt, Notes, Output}
@@ -16,5 +17,5 @@ pub record Between (tells to_tell : Bool) (m1 m2 : CommandAt) (old new : Ahead) 
   pub world : World
   pub stands : Stands set held world
   pub begun : (limit : Limit) (m0 : CommandAt) (defined : List Answer → Output) (aside : List Answer → List ℕ) (noted : List ℕ)
-      → Begun tells to_tell limit head_lines m0 m1 old defined (run_from names set (switched_on set) 1) (Notes aside noted)
-      → Begun tells to_tell limit head_lines m0 m2 new defined (run_from names set world number) (Notes aside noted)
+      → Begun tells to_tell limit head_lines m0 m1 old defined (run_from assembled names set (switched_on set) 1) (Notes aside noted)
+      → Begun tells to_tell limit head_lines m0 m2 new defined (run_from assembled names set world number) (Notes aside noted)

@@ -2,6 +2,7 @@
 use Rattle.std.proofs.Common.{◌≡◌, ◌∙◌, ℕ, ◌+◌, ◌≤◌, Bool, true, false, List, [], ◌∷◌, length, nat_lt, refl, sym, ap, subst, arith, Result, Ok, Err}
 use Rattle.std.proofs.lemmas.Bool.{ltb-false}
 use Rattle.std.specs.Prelude.{if◌then◌else◌}
+use Rattle.sx_asm.specs.Assembled.{assembled}
 use Rattle.sx_io.specs.Reading.{Answer, End, Long, Fault}
 use Rattle.sx_io.specs.Reading as answer
 use Rattle.sx_tag.specs.Mac.{Mac, IsTag}
@@ -22,17 +23,17 @@ record Kept (names : NameLists) (number : ℕ) (line : Line) : Type 0 where
   few : number ≤ 65536
   form : IsLine names line
 
-said_kept : (names : NameLists) (text : List ℕ) (line : Line) (r : Result Line LineError) → said_line names text ≡ r → or_rule r ≡ Ok line → IsLine names line
+said_kept : (names : NameLists) (text : List ℕ) (line : Line) (r : Result Line LineError) → said_line assembled names text ≡ r → or_rule r ≡ Ok line → IsLine names line
 said_kept names text line (Ok other) e h =
     let same : other ≡ line = cc in said_in_form names text line (e ∙ ap (λ (x : Line). Ok x) same)
 said_kept names text line (Err error) e h = absurd (cc h)
 
 kept_by : (names : NameLists) (number : ℕ) (text : List ℕ) (line : Line) (b : Bool) → nat_lt 65536 number ≡ b
-    → (if b then Err 2 else or_rule (said_line names text)) ≡ Ok line → Kept names number line
+    → (if b then Err 2 else or_rule (said_line assembled names text)) ≡ Ok line → Kept names number line
 kept_by names number text line true b h = absurd (cc h)
-kept_by names number text line false b h = record { few = ltb-false 65536 number b; form = said_kept names text line (said_line names text) refl h }
+kept_by names number text line false b h = record { few = ltb-false 65536 number b; form = said_kept names text line (said_line assembled names text) refl h }
 
-kept : (names : NameLists) (number : ℕ) (text : List ℕ) (line : Line) → judged_line names number text ≡ Ok line → Kept names number line
+kept : (names : NameLists) (number : ℕ) (text : List ℕ) (line : Line) → judged_line assembled names number text ≡ Ok line → Kept names number line
 unfolding judged_line
 kept names number text line h = kept_by names number text line (nat_lt 65536 number) refl h
 
@@ -47,7 +48,7 @@ none_kept names number x h e = record {
   form = subst (AreLines names) (sym e) tt;
 }
 
-line_kept : (names : NameLists) (number : ℕ) (text : List ℕ) (r : Result Line ℕ) (rest : Schedule) → judged_line names number text ≡ r → number ≤ 65537
+line_kept : (names : NameLists) (number : ℕ) (text : List ℕ) (r : Result Line ℕ) (rest : Schedule) → judged_line assembled names number text ≡ r → number ≤ 65537
     → (number + 1 ≤ 65537 → AreKept names (number + 1) rest) → AreKept names number (on_line number r rest)
 line_kept names number text (Err rule) rest e h f = none_kept names number _ h refl
 line_kept names number text (Ok line) rest e h f =
@@ -55,16 +56,16 @@ line_kept names number text (Ok line) rest e h f =
     let r = f (omega (arith, k.few)) in
     record { few = omega (arith, r.few); form = (k.form, r.form) }
 
-schedule_kept : (names : NameLists) (number : ℕ) (answers : List Answer) → number ≤ 65537 → AreKept names number (schedule names number answers)
+schedule_kept : (names : NameLists) (number : ℕ) (answers : List Answer) → number ≤ 65537 → AreKept names number (schedule assembled names number answers)
 schedule_kept names number [] h = none_kept names number _ h refl
 schedule_kept names number (End ∷ more) h = none_kept names number _ h refl
 schedule_kept names number (Long ∷ more) h = none_kept names number _ h refl
 schedule_kept names number (Fault ∷ more) h = none_kept names number _ h refl
 schedule_kept names number (answer.Line text ∷ more) h =
-    line_kept names number text (judged_line names number text) (schedule names (number + 1) more) refl h (schedule_kept names (number + 1) more)
+    line_kept names number text (judged_line assembled names number text) (schedule assembled names (number + 1) more) refl h (schedule_kept names (number + 1) more)
 
 pub items_legal : (mac : Mac) (text : List ℕ) (d : Deployed) (texts : List (List ℕ)) → IsTag mac → IsRead text (Ok d) → AreImages mac d texts
-    → (more : List Answer) → Legal d.app (before (items_of mac d texts more))
+    → (more : List Answer) → Legal d.app (before (items_of assembled mac d texts more))
 items_legal mac text d texts tag read images more =
     let k = schedule_kept d.names 1 more (omega arith) in
-    accepted_runs_legal text d read mac texts tag images (schedule d.names 1 more).lines (omega (arith, k.few)) k.form
+    accepted_runs_legal text d read mac texts tag images (schedule assembled d.names 1 more).lines (omega (arith, k.few)) k.form

@@ -1,6 +1,7 @@
 -- What follows for `run` from what it wrote and read.
 use Rattle.std.proofs.Common.{◌≡◌, ◌∙◌, ◌⊎◌, inl, inr, ℕ, Bool, List, [], sym, ap, arith, Option, Some, None}
 use Rattle.std.specs.Prelude.{IsTrue}
+use Rattle.sx_asm.specs.Assembled.{assembled}
 use Rattle.sx_io.specs.Streams.{SinkAt}
 use Rattle.sx_io.specs.Reading.{Answer, Broken, Ended, longest, scan}
 use Rattle.sx_told.specs.Told.{CommandAt, Told, out_of_memory}
@@ -25,39 +26,39 @@ use Rattle.sx_command_world.proofs.Stops.{good_zero, not_zero, not_four, not_two
 use Rattle.sx_command.proofs.Ends.{came, faults_of}
 
 legal_by : (mac : Mac) (deployment : Option (List ℕ)) (texts : List (List ℕ)) (d : Deployed) → IsTag mac → Deploys deployment d → AreImages mac d texts
-    → (schedule : List Answer) → Legal d.app (before (items_of mac d texts schedule))
+    → (schedule : List Answer) → Legal d.app (before (items_of assembled mac d texts schedule))
 legal_by mac None texts d tag deploys images schedule = absurd deploys
 legal_by mac (Some text) texts d tag deploys images schedule = items_legal mac text d texts tag deploys images schedule
 
 -- images that realize their modules, and what was told of the run with them
 pub runs_with : {tells to_tell : Bool} {m0 m1 : CommandAt} {status : ℕ} (mac : Mac) → IsTag mac → (deployment : Option (List ℕ)) (texts : List (List ℕ))
     → (deployment ≡ None → status ≡ out_of_memory → ⊥) → ((d : Deployed) → Deploys deployment d → AreImages mac d texts)
-    → ((meaning : Meaning) → IsMeaning meaning → Told tells to_tell head_lines m0 m1 status (run_all mac meaning texts) (λ answers. HasHead deployment (head answers)))
-    → RunsWith mac tells to_tell m0 m1 status
+    → ((meaning : Meaning) → IsMeaning meaning → Told tells to_tell head_lines m0 m1 status (run_all assembled mac meaning texts) (λ answers. HasHead deployment (head answers)))
+    → RunsWith assembled mac tells to_tell m0 m1 status
 runs_with {tells} {to_tell} {m0} {m1} {status} mac tag deployment texts headed realize told = record {
   deployment = deployment;
   texts = texts;
   headed = headed;
   realize = realize;
   told = told;
-  streams = λ meaning is. streams-by longest (run_all mac meaning texts) (due_all mac meaning texts) (told meaning is);
+  streams = λ meaning is. streams-by longest (run_all assembled mac meaning texts) (due_all mac meaning texts) (told meaning is);
   legal = λ d deploys schedule. legal_by mac deployment texts d tag deploys (realize d deploys) schedule;
   guarded = λ d lines. runs_guarded (setting_of mac d texts) lines;
   complete = λ meaning is t good quiet.
       let answers = scan head_lines Ended [] m0.source.rest in
-      came to_tell m0 m1 status (run_all mac meaning texts answers) (told-quiet (told meaning is) t quiet.0 quiet.1)
+      came to_tell m0 m1 status (run_all assembled mac meaning texts answers) (told-quiet (told meaning is) t quiet.0 quiet.1)
       (output_status mac meaning texts answers ∙ good_zero meaning (head answers) good);
 }
 
 with_faults : {tells to_tell : Bool} {m0 m1 : CommandAt} {status : ℕ} {also : List Answer → Type 0} (mac : Mac) (meaning : Meaning) (texts : List (List ℕ))
-    → Told tells to_tell head_lines m0 m1 status (run_all mac meaning texts) also → TellsFaults m0 m1 status
+    → Told tells to_tell head_lines m0 m1 status (run_all assembled mac meaning texts) also → TellsFaults m0 m1 status
 with_faults mac meaning texts told =
     faults_of (λ bytes e.
     let answers = scan head_lines Ended [] bytes in
     not_four meaning answers (faultless head_lines [] bytes) (sym (output_status mac meaning texts answers) ∙ e)) told
 
 with_all : {tells to_tell : Bool} {m0 m1 : CommandAt} {status : ℕ} {also : List Answer → Type 0} (mac : Mac) (meaning : Meaning) (texts : List (List ℕ))
-    → Told tells to_tell head_lines m0 m1 status (run_all mac meaning texts) also → status ≡ 0 → IsTrue tells → m1.source.rest ≡ []
+    → Told tells to_tell head_lines m0 m1 status (run_all assembled mac meaning texts) also → status ≡ 0 → IsTrue tells → m1.source.rest ≡ []
 with_all {tells} {to_tell} {m0} {m1} {status} {also} mac meaning texts told zero t =
     told-all told (λ five. omega (arith, zero, five)) (λ six. omega (arith, zero, six))
     (λ bytes e.
@@ -65,11 +66,11 @@ with_all {tells} {to_tell} {m0} {m1} {status} {also} mac meaning texts told zero
     not_zero meaning answers (unfinished head_lines [] bytes) (sym (output_status mac meaning texts answers) ∙ sym e ∙ zero)) t
 
 exactly : (status : ℕ) (A : Type 0) (mac : Mac) (meaning : Meaning) (texts : List (List ℕ)) (answers : List Answer)
-    → (status ≡ out_of_memory) ⊎ ((status ≡ (run_all mac meaning texts answers).status) × A) → (status ≡ out_of_memory) ⊎ (status ≡ run_status meaning answers)
+    → (status ≡ out_of_memory) ⊎ ((status ≡ (run_all assembled mac meaning texts answers).status) × A) → (status ≡ out_of_memory) ⊎ (status ≡ run_status assembled meaning answers)
 exactly status A mac meaning texts answers (inl six) = inl six
 exactly status A mac meaning texts answers (inr all) = inr (all.0 ∙ output_status mac meaning texts answers)
 
-pub says_starved : {tells : Bool} {m0 m1 : CommandAt} {status : ℕ} (mac : Mac) (to_tell : Bool) → Starved tells m0 m1 status → RunSays mac tells to_tell m0 m1 status
+pub says_starved : {tells : Bool} {m0 m1 : CommandAt} {status : ℕ} (mac : Mac) (to_tell : Bool) → Starved tells m0 m1 status → RunSays assembled mac tells to_tell m0 m1 status
 says_starved {tells} {m0} {m1} {status} mac to_tell s = record {
   says = inl s;
   faults = record {
@@ -81,7 +82,7 @@ says_starved {tells} {m0} {m1} {status} mac to_tell s = record {
   exact = λ meaning is t quiet. inl s.six;
 }
 
-pub says_with : {tells to_tell : Bool} {m0 m1 : CommandAt} {status : ℕ} (mac : Mac) → RunsWith mac tells to_tell m0 m1 status → RunSays mac tells to_tell m0 m1 status
+pub says_with : {tells to_tell : Bool} {m0 m1 : CommandAt} {status : ℕ} (mac : Mac) → RunsWith assembled mac tells to_tell m0 m1 status → RunSays assembled mac tells to_tell m0 m1 status
 says_with {tells} {to_tell} {m0} {m1} {status} mac r = record {
   says = inr r;
   faults = with_faults mac known r.texts (r.told known is_known);
@@ -93,13 +94,13 @@ says_with {tells} {to_tell} {m0} {m1} {status} mac r = record {
 
 -- a run that was told doesn't end with the status for other words
 with_not_two : {tells to_tell : Bool} {m0 m1 : CommandAt} {status : ℕ} {also : List Answer → Type 0} (mac : Mac) (meaning : Meaning) (texts : List (List ℕ))
-    → Told tells to_tell head_lines m0 m1 status (run_all mac meaning texts) also → status ≡ 2 → ⊥
+    → Told tells to_tell head_lines m0 m1 status (run_all assembled mac meaning texts) also → status ≡ 2 → ⊥
 with_not_two mac meaning texts told two =
     let w = told-some told in
     run_not_two meaning (head w.0)
     (sym (output_status mac meaning texts w.0) ∙ sym (w.1.0.whole (λ five. omega (arith, two, five)) (λ six. omega (arith, two, six))).0 ∙ two)
 
-pub says_not_two : {tells to_tell : Bool} {m0 m1 : CommandAt} {status : ℕ} (mac : Mac) → RunSays mac tells to_tell m0 m1 status → status ≡ 2 → ⊥
+pub says_not_two : {tells to_tell : Bool} {m0 m1 : CommandAt} {status : ℕ} (mac : Mac) → RunSays assembled mac tells to_tell m0 m1 status → status ≡ 2 → ⊥
 says_not_two mac run two =
     elim run.says [
       | inl starved ↦ omega (arith, starved.six, two)

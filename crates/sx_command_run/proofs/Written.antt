@@ -1,5 +1,6 @@
 -- What is written of a run, line by line.
 use Rattle.std.proofs.Common.{◌≡◌, ◌∙◌, ℕ, ◌+◌, List, [], ◌∷◌, ◌++◌, refl, sym, ap, subst, append_assoc, Result, Ok, Err}
+use Rattle.sx_asm.specs.Assembled.{assembled}
 use Rattle.sx_io.specs.Prefixes.{AppendsPrefix}
 use Rattle.sx_io.specs.Reading.{Answer}
 use Rattle.sx_io.specs.Reading as answer
@@ -49,29 +50,29 @@ written_line names set w line rest =
     ∙ append_assoc (items_text names a.items) (items_text names b.items) (stop_output rest.stop).text)
 
 -- a line's items are written, and then those of the rest
-pub run_line : (names : NameLists) (set : Setting) (w : World) (number : ℕ) (text : List ℕ) (line : Line) (more : List Answer) → judged_line names number text ≡ Ok line
-    → run_from names set w number (answer.Line text ∷ more) ≡ behind (items_text names (after_next set w line).items) (run_from names set (after_next set w line).world (number + 1) more)
+pub run_line : (names : NameLists) (set : Setting) (w : World) (number : ℕ) (text : List ℕ) (line : Line) (more : List Answer) → judged_line assembled names number text ≡ Ok line
+    → run_from assembled names set w number (answer.Line text ∷ more) ≡ behind (items_text names (after_next set w line).items) (run_from assembled names set (after_next set w line).world (number + 1) more)
 unfolding run_from
 run_line names set w number text line more e =
-    ap (λ (r : Result Line ℕ). schedule_output names set w (on_line number r (schedule names (number + 1) more))) e
-    ∙ written_line names set w line (schedule names (number + 1) more)
+    ap (λ (r : Result Line ℕ). schedule_output names set w (on_line number r (schedule assembled names (number + 1) more))) e
+    ∙ written_line names set w line (schedule assembled names (number + 1) more)
 
-pub run_breaks : (names : NameLists) (set : Setting) (w : World) (number rule : ℕ) (text : List ℕ) (more : List Answer) → judged_line names number text ≡ Err rule
-    → run_from names set w number (answer.Line text ∷ more) ≡ broken_output rule number
+pub run_breaks : (names : NameLists) (set : Setting) (w : World) (number rule : ℕ) (text : List ℕ) (more : List Answer) → judged_line assembled names number text ≡ Err rule
+    → run_from assembled names set w number (answer.Line text ∷ more) ≡ broken_output rule number
 unfolding run_from
 run_breaks names set w number rule text more e =
-    ap (λ (r : Result Line ℕ). schedule_output names set w (on_line number r (schedule names (number + 1) more))) e
+    ap (λ (r : Result Line ℕ). schedule_output names set w (on_line number r (schedule assembled names (number + 1) more))) e
 
 -- ---- the last answer
 
-pub run_ended : (names : NameLists) (set : Setting) (w : World) (number : ℕ) → run_from names set w number (answer.End ∷ []) ≡ record { text = end_line; status = 0 }
+pub run_ended : (names : NameLists) (set : Setting) (w : World) (number : ℕ) → run_from assembled names set w number (answer.End ∷ []) ≡ record { text = end_line; status = 0 }
 unfolding run_from
 run_ended names set w number = refl
 
-pub run_too_long : (names : NameLists) (set : Setting) (w : World) (number : ℕ) → run_from names set w number (answer.Long ∷ []) ≡ broken_output 1 number
+pub run_too_long : (names : NameLists) (set : Setting) (w : World) (number : ℕ) → run_from assembled names set w number (answer.Long ∷ []) ≡ broken_output 1 number
 unfolding run_from
 run_too_long names set w number = refl
 
-pub run_unread : (names : NameLists) (set : Setting) (w : World) (number : ℕ) → run_from names set w number (answer.Fault ∷ []) ≡ unread_output
+pub run_unread : (names : NameLists) (set : Setting) (w : World) (number : ℕ) → run_from assembled names set w number (answer.Fault ∷ []) ≡ unread_output
 unfolding run_from
 run_unread names set w number = refl

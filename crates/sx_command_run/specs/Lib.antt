@@ -2,3 +2,4 @@ pub mod Batch
 pub mod Run
 pub mod Runs
 pub mod Turns
+pub mod Afterwards

@@ -1,5 +1,6 @@
--- What the command `run` writes, and its exit status: a function of what texts of deployments mean,
--- of the texts of the modules' images, and of the answers that the lines of its input give.
+-- What the command `run` writes, and its exit status: a function of the assembler, of what texts of
+-- deployments mean, of the texts of the modules' images, and of the answers that the lines of its
+-- input give.
 use Rattle.std.specs.Prelude.{ℕ, List, ◌++◌, flat_map, Result, Ok, Err}
 use Rattle.sx_io.specs.Reading.{Answer}
 use Rattle.sx_told.specs.Told.{Output, behind, unread_output}
@@ -16,6 +17,7 @@ use Rattle.sx_run.specs.Setting.{Setting}
 use Rattle.sx_run.specs.State.{World, Acted, switched_on}
 use Rattle.sx_run.specs.Accepted.{setting_of}
 use Rattle.sx_run.specs.Run.{run}
+use Rattle.sx_sched.specs.Reading.{Assembler}
 use Rattle.sx_command.specs.Output.{line, trace_line, end_line}
 use Rattle.sx_command_head.specs.Meanings.{Meaning}
 use Rattle.sx_command_head.specs.Refused.{fault_output}
@@ -48,40 +50,45 @@ abbrev pub told_by : NameLists → Acted → (World → Output) → Output
 told_by names a more = behind (items_text names a.items) (more a.world)
 
 -- what the schedule from the line with this number on writes
-unfoldable pub run_from : NameLists → Setting → World → ℕ → List Answer → Output
-run_from names set w number answers = schedule_output names set w (schedule names number answers)
+unfoldable pub run_from : Assembler → NameLists → Setting → World → ℕ → List Answer → Output
+run_from assemble names set w number answers =
+    schedule_output names set w (schedule assemble names number answers)
 
 -- what a schedule writes where all is switched on
-abbrev pub run_at_start : NameLists → Setting → List Answer → Output
-run_at_start names set more = run_from names set (switched_on set) 1 more
+abbrev pub run_at_start : Assembler → NameLists → Setting → List Answer → Output
+run_at_start assemble names set more = run_from assemble names set (switched_on set) 1 more
 
 -- what the schedule of a deployment writes
-abbrev pub run_schedule : Mac → Deployed → List (List ℕ) → List Answer → Output
-run_schedule mac d texts more = run_at_start d.names (setting_of mac d texts) more
+abbrev pub run_schedule : Assembler → Mac → Deployed → List (List ℕ) → List Answer → Output
+run_schedule assemble mac d texts more =
+    run_at_start assemble d.names (setting_of mac d texts) more
 
 -- the images, `trace`, and what the schedule writes
-abbrev pub run_deployed : Mac → Deployed → List (List ℕ) → List Answer → Output
-run_deployed mac d texts more =
-    behind (images_text d.names.modules texts ++ trace_line) (run_schedule mac d texts more)
+abbrev pub run_deployed : Assembler → Mac → Deployed → List (List ℕ) → List Answer → Output
+run_deployed assemble mac d texts more =
+    behind (images_text d.names.modules texts ++ trace_line)
+    (run_schedule assemble mac d texts more)
 
 -- the run of a deployment, or the rule that it breaks
-abbrev pub run_found : Mac → List (List ℕ) → Result Deployed DeployFault → List Answer → Output
-run_found mac texts (Ok d) more = run_deployed mac d texts more
-run_found mac texts (Err f) more = fault_output f
+abbrev pub run_found : Assembler → Mac → List (List ℕ) → Result Deployed DeployFault → List Answer
+    → Output
+run_found assemble mac texts (Ok d) more = run_deployed assemble mac d texts more
+run_found assemble mac texts (Err f) more = fault_output f
 
 -- what `run` writes of an input's head
-abbrev pub run_head : Mac → Meaning → List (List ℕ) → Head → Output
-run_head mac meaning texts (Found text more) = run_found mac texts (meaning text) more
-run_head mac meaning texts TooLong = fault_output (fault 1 Nowhere)
-run_head mac meaning texts NoMark = fault_output (fault 2 Nowhere)
-run_head mac meaning texts Unread = unread_output
+abbrev pub run_head : Assembler → Mac → Meaning → List (List ℕ) → Head → Output
+run_head assemble mac meaning texts (Found text more) =
+    run_found assemble mac texts (meaning text) more
+run_head assemble mac meaning texts TooLong = fault_output (fault 1 Nowhere)
+run_head assemble mac meaning texts NoMark = fault_output (fault 2 Nowhere)
+run_head assemble mac meaning texts Unread = unread_output
 
 -- the command `run`
-abbrev pub run_all : Mac → Meaning → List (List ℕ) → List Answer → Output
-run_all mac meaning texts answers = run_head mac meaning texts (head answers)
+abbrev pub run_all : Assembler → Mac → Meaning → List (List ℕ) → List Answer → Output
+run_all assemble mac meaning texts answers = run_head assemble mac meaning texts (head answers)
 
 -- the items of the run of a schedule that these answers are
-abbrev pub items_of : Mac → Deployed → List (List ℕ) → List Answer → List Item
-items_of mac d texts more =
+abbrev pub items_of : Assembler → Mac → Deployed → List (List ℕ) → List Answer → List Item
+items_of assemble mac d texts more =
     let set = setting_of mac d texts in
-    (run set (switched_on set) (schedule d.names 1 more).lines).items
+    (run set (switched_on set) (schedule assemble d.names 1 more).lines).items

@@ -1,9 +1,9 @@
--- What the command `run` promises, of its streams at its start (m0) and at its end (m1).
+-- What the command `run` promises, of its streams at its start (m0) and at its end (m1). Of the
+-- assembler nothing is said here but that the code of an `asm` line is what it gives.
 use Rattle.std.specs.Prelude.{ℕ, ◌≡◌, ◌⊎◌, Bool, List, [], Option, Some, None, Ok, IsTrue}
 use Rattle.sx_io.specs.Reading.{Answer}
-use Rattle.sx_io.specs.Next.{Ahead}
 use Rattle.sx_told.specs.Reads.{Reads}
-use Rattle.sx_told.specs.Told.{CommandAt, Told, Rest, out_of_memory}
+use Rattle.sx_told.specs.Told.{CommandAt, Told, out_of_memory}
 use Rattle.sx_told.specs.Further.{Streams}
 use Rattle.sx_tag.specs.Mac.{Mac}
 use Rattle.sx_head.specs.Head.{Head, Found, TooLong, NoMark, Unread, head, head_lines}
@@ -15,20 +15,17 @@ use Rattle.sx_run.specs.Accepted.{AreImages, setting_of}
 use Rattle.sx_command_head.specs.Meanings.{Meaning, IsMeaning, input_of}
 use Rattle.sx_command.specs.Faults.{CameToItsEnd, IsFaultless, TellsFaults}
 use Rattle.sx_sched.specs.Lines.{Line}
+use Rattle.sx_sched.specs.Reading.{Assembler}
 use Rattle.sx_guard.specs.Guarded.{GuardedRun}
-use Rattle.sx_command_run.specs.Run.{run_all, run_found, items_of}
+use Rattle.sx_command_run.specs.Run.{run_all, items_of}
 use Rattle.sx_command_world.specs.WellFormed.{IsGoodInput, run_status}
 
 -- this head stands in the input, or none
 abbrev pub HasHead : Option (List ℕ) → Head → Type 0
 HasHead None (Found text more) = ⊥
-HasHead None TooLong = Unit {0}
-HasHead None NoMark = Unit {0}
-HasHead None Unread = Unit {0}
+HasHead None _ = Unit {0}
 HasHead (Some text) (Found found more) = found ≡ text
-HasHead (Some text) TooLong = ⊥
-HasHead (Some text) NoMark = ⊥
-HasHead (Some text) Unread = ⊥
+HasHead (Some text) _ = ⊥
 
 -- the head is the text of this deployment, which keeps the rules
 abbrev pub Deploys : Option (List ℕ) → Deployed → Type 0
@@ -41,23 +38,23 @@ Deploys (Some text) d = IsRead text (Ok d)
 -- that is forged; and its run is a script, in which each thing that happens leaves each private
 -- section alone (`guarded`). An input that keeps the rules is run to its end (`complete`). That
 -- there is no head is reported without memory (`headed`).
-pub record RunsWith (mac : Mac) (tells to_tell : Bool) (m0 m1 : CommandAt) (status : ℕ) : Type
-    0 where
+pub record RunsWith (assemble : Assembler) (mac : Mac) (tells to_tell : Bool) (m0 m1 : CommandAt)
+    (status : ℕ) : Type 0 where
   pub deployment : Option (List ℕ)
   pub texts : List (List ℕ)
   pub headed : deployment ≡ None → status ≡ out_of_memory → ⊥
   pub realize : (d : Deployed) → Deploys deployment d → AreImages mac d texts
   pub told : (meaning : Meaning) → IsMeaning meaning
-      → Told tells to_tell head_lines m0 m1 status (run_all mac meaning texts)
+      → Told tells to_tell head_lines m0 m1 status (run_all assemble mac meaning texts)
       (λ answers. HasHead deployment (head answers))
   pub streams : (meaning : Meaning) → IsMeaning meaning
-      → Streams tells to_tell head_lines m0 m1 (run_all mac meaning texts)
+      → Streams tells to_tell head_lines m0 m1 (run_all assemble mac meaning texts)
   pub legal : (d : Deployed) → Deploys deployment d → (schedule : List Answer)
-      → Legal d.app (before (items_of mac d texts schedule))
+      → Legal d.app (before (items_of assemble mac d texts schedule))
   pub guarded : (d : Deployed) (lines : List Line) → GuardedRun (setting_of mac d texts) lines
   pub complete : (meaning : Meaning) → IsMeaning meaning → IsTrue tells
-      → IsGoodInput meaning (head (input_of m0)) → IsFaultless m0 m1
-      → CameToItsEnd to_tell m0 m1 status (run_all mac meaning texts (input_of m0))
+      → IsGoodInput assemble meaning (head (input_of m0)) → IsFaultless m0 m1
+      → CameToItsEnd to_tell m0 m1 status (run_all assemble mac meaning texts (input_of m0))
 
 -- memory ran out after a head and before the images were made, and nothing was written
 pub record Starved (tells : Bool) (m0 m1 : CommandAt) (status : ℕ) : Type 0 where
@@ -69,37 +66,17 @@ pub record Starved (tells : Bool) (m0 m1 : CommandAt) (status : ℕ) : Type 0 wh
 
 -- The command `run`. Whatever the images are, its status is that of the input where no read and no
 -- write failed and memory sufficed; status 0 says that the input was read to its end.
-pub record RunSays (mac : Mac) (tells to_tell : Bool) (m0 m1 : CommandAt) (status : ℕ) : Type
-    0 where
-  pub says : Starved tells m0 m1 status ⊎ RunsWith mac tells to_tell m0 m1 status
+pub record RunSays (assemble : Assembler) (mac : Mac) (tells to_tell : Bool) (m0 m1 : CommandAt)
+    (status : ℕ) : Type 0 where
+  pub says : Starved tells m0 m1 status ⊎ RunsWith assemble mac tells to_tell m0 m1 status
   pub faults : TellsFaults m0 m1 status
   pub read_all : status ≡ 0 → IsTrue tells → m1.source.rest ≡ []
   pub exact : (meaning : Meaning) → IsMeaning meaning → IsTrue tells → IsFaultless m0 m1
-      → (status ≡ out_of_memory) ⊎ (status ≡ run_status meaning (input_of m0))
+      → (status ≡ out_of_memory) ⊎ (status ≡ run_status assemble meaning (input_of m0))
 
 -- What `run` promises, and beside it what a reader may take from each legal trace: that follows
 -- from what is legal.
-pub record RunTold (mac : Mac) (tells to_tell : Bool) (m0 m1 : CommandAt) (status : ℕ) : Type
-    0 where
-  pub says : RunSays mac tells to_tell m0 m1 status
+pub record RunTold (assemble : Assembler) (mac : Mac) (tells to_tell : Bool) (m0 m1 : CommandAt)
+    (status : ℕ) : Type 0 where
+  pub says : RunSays assemble mac tells to_tell m0 m1 status
   pub reader : (d : Deployed) (items : List Item) → Legal d.app items → TellsReader d.app items
-
--- What does the rest of the command after a head of this text: with these images, which realize its
--- modules, it writes what is defined for what is to come.
-pub record RunsBehind (mac : Mac) (tells to_tell : Bool) (now : Ahead) (m1 m2 : CommandAt)
-    (status : ℕ)
-    (text : List ℕ) : Type 0 where
-  pub texts : List (List ℕ)
-  pub realize : (d : Deployed) → IsRead text (Ok d) → AreImages mac d texts
-  pub rest : (meaning : Meaning) → IsMeaning meaning
-      → Rest tells to_tell head_lines now m1 m2 status (run_found mac texts (meaning text))
-
--- memory ran out before the images were made, and nothing was read or written
-pub record RanOut (m1 m2 : CommandAt) (status : ℕ) : Type 0 where
-  pub six : status ≡ out_of_memory
-  pub same : m2 ≡ m1
-
--- the rest of the command, or that memory ran out before the images were made
-abbrev pub RunsOrRanOut : Mac → Bool → Bool → Ahead → CommandAt → CommandAt → ℕ → List ℕ → Type 0
-RunsOrRanOut mac tells to_tell now m1 m2 status text =
-    RanOut m1 m2 status ⊎ RunsBehind mac tells to_tell now m1 m2 status text

@@ -1,5 +1,6 @@
 -- What a line of a schedule does to the program's world, and to its output.
 use Rattle.std.specs.Prelude.{ℕ, ◌+◌, ◌≡◌, ◌≢◌, Bool, false, List, length, ◌∷◌, ◌++◌, IsTrue}
+use Rattle.sx_asm.specs.Assembled.{assembled}
 use Rattle.sx_io.specs.Streams.{SinkAt}
 use Rattle.sx_io.specs.Reading.{Answer}
 use Rattle.sx_io.specs.Reading as answer
@@ -46,8 +47,9 @@ pub record TurnsLine (to_tell : Bool) (k0 k1 : SinkAt) (names : NameLists) (set 
     (number : ℕ) (text : List ℕ) (turned : Turned) (w : World) : Type 0 where
   pub next : World
   pub stands : turned ≡ On → Stands set left next
-  pub does : DoesPart to_tell k0 k1 (λ more. run_from names set w number (answer.Line text ∷ more))
-      turned (run_from names set next (number + 1))
+  pub does : DoesPart to_tell k0 k1
+      (λ more. run_from assembled names set w number (answer.Line text ∷ more))
+      turned (run_from assembled names set next (number + 1))
 
 -- whatever world it stood at
 abbrev pub TurnsFrom : Bool → SinkAt → SinkAt → NameLists → Setting → Held → Held → ℕ → List ℕ

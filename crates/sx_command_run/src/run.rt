@@ -2,6 +2,7 @@
 //! it reads it.
 
 ghost use Rattle.std.specs.Prelude.{◌≡◌, ℕ, List, IfErr, IfOk, IsTrue, OnErr, Ok, length};
+ghost use Rattle.sx_asm.specs.Assembled.{assembled};
 ghost use Rattle.sx_told.specs.Told.{Rest, command_at};
 ghost use Rattle.sx_head.specs.Head.{head_lines};
 ghost use Rattle.sx_trace.specs.Names.{are_valid};
@@ -12,7 +13,8 @@ ghost use Rattle.sx_run.specs.Accepted.{AreImages};
 ghost use Rattle.sx_world.specs.InMemory.{texts_of};
 ghost use Rattle.sx_command_head.specs.Refused.{EndsRefused};
 ghost use Rattle.sx_command_run.specs.Run.{run_deployed};
-ghost use Rattle.sx_command_run.specs.Runs.{RunTold, RunsOrRanOut};
+ghost use Rattle.sx_command_run.specs.Runs.{RunTold};
+ghost use Rattle.sx_command_run.specs.Afterwards.{RunsOrRanOut};
 
 use crate::schedule::run_built;
 use std::alloc::Global;
@@ -44,7 +46,7 @@ fn run_images<S: Source, K: Sink, T: Tag + Copy>(
     ensures { Rest S.tells K.tells head_lines lines.old
         (command_at (S.at input.old) (K.at output.old))
         (command_at (S.at input.new) (K.at output.new)) result
-        (run_deployed T.mac (deployed_as plan.now) (texts_of images.now)) }
+        (run_deployed assembled T.mac (deployed_as plan.now) (texts_of images.now)) }
 {
     match new_world(alloc, tag, plan, images) {
         Ok(mut world) => run_built(alloc, lines, input, output, plan, images, &mut world),
@@ -132,7 +134,8 @@ pub fn run_over<S: Source, K: Sink, T: Tag + Copy>(
     input: &mut S,
     output: &mut K,
 ) -> u8
-    ensures { RunTold T.mac S.tells K.tells (command_at (S.at input.old) (K.at output.old))
+    ensures { RunTold assembled T.mac S.tells K.tells
+        (command_at (S.at input.old) (K.at output.old))
         (command_at (S.at input.new) (K.at output.new)) result }
 {
     let mut lines = Lines::new();

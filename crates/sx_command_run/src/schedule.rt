@@ -2,6 +2,7 @@
 //! next is read.
 
 ghost use Rattle.std.specs.Prelude.{◌≡◌, ◌+◌, ◌<◌, ◌≤◌, [], IsTrue};
+ghost use Rattle.sx_asm.specs.Assembled.{assembled};
 ghost use Rattle.sx_trace.specs.Names.{are_valid};
 ghost use Rattle.sx_sched.specs.Lines.{line_of, IsLine};
 ghost use Rattle.sx_told.specs.Told.{Rest, command_at, out_of_memory};
@@ -83,7 +84,7 @@ fn turn<K: Sink, B: Copied, T: Tag>(
         (deployed_as plan.now).names (world_setting T.mac plan.now world.old) world.old world.new
         number said.now result }
     ensures memory { result ≡ Turned.Stop out_of_memory
-        → MayRunOut (judged_line (deployed_as plan.now).names number said.now) }
+        → MayRunOut (judged_line assembled (deployed_as plan.now).names number said.now) }
     ensures made { TellsMade K.tells (K.at output.old) (K.at output.new)
         (deployed_as plan.now).names world.old world.new items.new.items result }
     ensures few { result ≡ Turned.On → number ≤ 65536 }
@@ -116,7 +117,8 @@ pub(crate) fn run_lines<S: Source, K: Sink, B: Copied, T: Tag>(
     ensures { Rest S.tells K.tells head_lines lines.old
         (command_at (S.at input.old) (K.at output.old))
         (command_at (S.at input.new) (K.at output.new)) result
-        (run_at_start (deployed_as plan.now).names (world_setting T.mac plan.now world.old)) }
+        (run_at_start assembled (deployed_as plan.now).names
+        (world_setting T.mac plan.now world.old)) }
 {
     let mut into = [0; 4096];
     let mut items = Vec::new(alloc);
@@ -162,7 +164,7 @@ pub(crate) fn run_built<S: Source, K: Sink, B: Copied, T: Tag>(
     ensures { Rest S.tells K.tells head_lines lines.old
         (command_at (S.at input.old) (K.at output.old))
         (command_at (S.at input.new) (K.at output.new)) result
-        (run_deployed T.mac (deployed_as plan.now) (texts_of images.now)) }
+        (run_deployed assembled T.mac (deployed_as plan.now) (texts_of images.now)) }
 {
     match put_images(alloc, &plan.names, images, output) {
         Turned::Stop(status) => status,

@@ -7,7 +7,7 @@ use Rattle.sx_trace.specs.Names.{NameLists}
 use Rattle.sx_sched.specs.declared.lines.LineError.{LineError}
 use Rattle.sx_sched.specs.declared.lines.LineError.TheVariants as error
 use Rattle.sx_sched.specs.Lines.{Line}
-use Rattle.sx_sched.specs.Reading.{said_line}
+use Rattle.sx_sched.specs.Reading.{Assembler, said_line}
 
 -- where a schedule ends: at the end of the input, at a read that failed, or at the first line that
 -- breaks a rule
@@ -33,9 +33,9 @@ or_rule (Err e) = Err (rule_of e)
 
 -- The line with this number, counted from 1, or the first rule that it breaks. A schedule has at
 -- most 65,536 lines, blank ones counted.
-unfoldable pub judged_line : NameLists → ℕ → List ℕ → Result Line ℕ
-judged_line names number text =
-    if nat_lt 65536 number then Err 2 else or_rule (said_line names text)
+unfoldable pub judged_line : Assembler → NameLists → ℕ → List ℕ → Result Line ℕ
+judged_line assemble names number text =
+    if nat_lt 65536 number then Err 2 else or_rule (said_line assemble names text)
 
 -- a schedule that stops at once
 abbrev pub stops : Stop → Schedule
@@ -47,10 +47,11 @@ on_line number (Err rule) rest = stops (Breaks rule number)
 on_line number (Ok line) rest = record { lines = line ∷ rest.lines; stop = rest.stop }
 
 -- the schedule from the line with this number on
-abbrev pub schedule : NameLists → ℕ → List Answer → Schedule
-schedule names number [] = stops AtEnd
-schedule names number (End ∷ more) = stops AtEnd
-schedule names number (Long ∷ more) = stops (Breaks 1 number)
-schedule names number (Fault ∷ more) = stops Unread
-schedule names number (answer.Line text ∷ more) =
-    on_line number (judged_line names number text) (schedule names (number + 1) more)
+abbrev pub schedule : Assembler → NameLists → ℕ → List Answer → Schedule
+schedule assemble names number [] = stops AtEnd
+schedule assemble names number (End ∷ more) = stops AtEnd
+schedule assemble names number (Long ∷ more) = stops (Breaks 1 number)
+schedule assemble names number (Fault ∷ more) = stops Unread
+schedule assemble names number (answer.Line text ∷ more) =
+    on_line number (judged_line assemble names number text)
+    (schedule assemble names (number + 1) more)

@@ -1,6 +1,7 @@
 //! A schedule's lines by their numbers.
 
 ghost use Rattle.std.specs.Prelude.{◌≡◌, ◌≢◌, ℕ, ◌≤◌, Err, Ok, IfOk, OnOk, IsTrue};
+ghost use Rattle.sx_asm.specs.Assembled.{assembled};
 ghost use Rattle.sx_trace.specs.Names.{are_valid};
 ghost use Rattle.sx_sched.specs.Lines.{line_of, IsLine};
 ghost use Rattle.sx_told.specs.Told.{CommandEnds, out_of_memory};
@@ -30,13 +31,14 @@ const TOO_MANY: u8 = 2;
 #[tactic(auto, unfolding(crate::specs::Schedule::judged_line))]
 pub fn judge(alloc: Global, names: &Names, text: &[u8], number: u32) -> Result<Line, LineError>
     requires { IsTrue (are_valid names.now) }
-    ensures line { IfOk result (λ line. judged_line names.now number text.now ≡ Ok (line_of line)) }
+    ensures line { IfOk result (λ line.
+        judged_line assembled names.now number text.now ≡ Ok (line_of line)) }
     ensures form { IfOk result (λ line. IsLine names.now (line_of line)) }
     ensures few { OnOk result (number ≤ 65536) }
     ensures rule { (rule : ℕ) → result ≡ Err (LineError.Fault rule)
-        → judged_line names.now number text.now ≡ Err rule }
+        → judged_line assembled names.now number text.now ≡ Err rule }
     ensures memory { result ≡ Err LineError.OutOfMemory
-        → MayRunOut (judged_line names.now number text.now) }
+        → MayRunOut (judged_line assembled names.now number text.now) }
 {
     if number > MOST_LINES {
         return Err(LineError::Fault(TOO_MANY));

@@ -98,16 +98,16 @@ wanted view text meant (Err OutOfMemory) w h = w
 
 -- what the assembler gives for a text that is UTF-8
 pub code_given : {T : Type 0} (view : T → List ℕ) (at : ℕ) (text : List ℕ) (r : Result T LineError) → IsUtf8 text
-    → Answers view (λ said. Unit {0}) (code_in (assembled at text)) r → Answers view (CodeWants text) (code_of at text) r
+    → Answers view (λ said. Unit {0}) (code_in (assembled at text)) r → Answers view (CodeWants text) (code_of assembled at text) r
 code_given view at text r u h =
     let e : is_utf8 text ≡ true = is_utf8-from_IsUtf8 text u in
-    let same : code_in (assembled at text) ≡ code_of at text = rw e refl in
+    let same : code_in (assembled at text) ≡ code_of assembled at text = rw e refl in
     subst (λ (meant : Result (List ℕ) LineError). Answers view (CodeWants text) meant r) same
     (wanted view text (code_in (assembled at text)) r (may_want text (assembled at text) e) h)
 
-pub no_text : (at : ℕ) (text : List ℕ) → (IsUtf8 text → ⊥) → code_of at text ≡ Err no_code
+pub no_text : (at : ℕ) (text : List ℕ) → (IsUtf8 text → ⊥) → code_of assembled at text ≡ Err no_code
 no_text at text n = by_test (is_utf8 text) refl
   where
-    by_test : (t : Bool) → is_utf8 text ≡ t → code_of at text ≡ Err no_code
+    by_test : (t : Bool) → is_utf8 text ≡ t → code_of assembled at text ≡ Err no_code
     by_test false e = rw e refl
     by_test true e = absurd (n (IsUtf8-from_is_utf8 text e))

@@ -17,7 +17,8 @@ use Rattle.sx_trace.specs.Names.{NameLists, place_of, if_sensor, sensor_place}
 use Rattle.sx_sched.specs.declared.lines.Line.{Line as Read}
 use Rattle.sx_sched.specs.declared.lines.LineError.{LineError}
 use Rattle.sx_sched.specs.Lines.{Line, Blank, Run, Finish, Put, Set, Take, Give, Forge, Sense, Irq, Reset, Ask, Answer, Load, Call, line_of, AreFewBytes, IsLine}
-use Rattle.sx_sched.specs.Reading.{no_name, no_number, no_bytes, no_code, node_of, sensor_of, module_of, registers, register_in, register_of, at_least, number_in, number16, number32, decoded_bytes, bytes_of, code_in, code_of, one_word, two_words, three_words, four_words, two_before, one, two, three, four, code_line, Kind, kinds, said_by, is_comment, said_in, said_line, SaidInForm, MayWant, TakesMemory, Answers, ◌>>=◌}
+use Rattle.sx_sched.specs.InForm.{SaidInForm}
+use Rattle.sx_sched.specs.Reading.{no_name, no_number, no_bytes, no_code, node_of, sensor_of, module_of, registers, register_in, register_of, at_least, number_in, number16, number32, decoded_bytes, bytes_of, code_in, code_of, one_word, two_words, three_words, four_words, two_before, one, two, three, four, code_line, Kind, kinds, said_by, is_comment, said_in, said_line, MayWant, TakesMemory, Answers, ◌>>=◌}
 use Rattle.sx_sched.specs.Words.{words_of, text_behind}
 use Rattle.sx_lists.proofs.Truths.{and_true}
 
@@ -152,7 +153,7 @@ assembled_fit at text b h = by_result (assembled at text) refl h
     by_result (Err x) e f = absurd (cc)
     by_result (Ok b') e f = by_test b' (nat_le 1 (length b') && nat_le (length b') 1024) e refl f
 
-code_fits : (at : ℕ) (text b : List ℕ) → code_of at text ≡ Ok b → AreFewBytes 1024 b
+code_fits : (at : ℕ) (text b : List ℕ) → code_of assembled at text ≡ Ok b → AreFewBytes 1024 b
 code_fits at text b h = by_test (is_utf8 text) h
   where
     by_test : (t : Bool) → (if t then code_in (assembled at text) else Err no_code) ≡ Ok b → AreFewBytes 1024 b
@@ -206,13 +207,13 @@ call_fits n fields line e =
     let output = (number_fits 0 65535 w.0.3 d.0 d.1).1 in
     this_line n (Call a.0 b.0 c.0 d.0) line d.2 (place_fits n.modules w.0.0 a.0 a.1, omega (arith, entry), omega (arith, input), omega (arith, output))
 
-code_line_fits : (n : NameLists) (text : List ℕ) → KindFits n (code_line n text)
+code_line_fits : (n : NameLists) (text : List ℕ) → KindFits n (code_line assembled n text)
 code_line_fits n text fields line e =
     let w = bind_ok (two_before fields) (λ (word : List ℕ × List ℕ).
-    node_of n word.0 >>= (λ (a : ℕ). number16 word.1 >>= (λ (b : ℕ). code_of b text >>= (λ (c : List ℕ). Ok (Put a b c))))) line e in
-    let a = bind_ok (node_of n w.0.0) (λ (a : ℕ). number16 w.0.1 >>= (λ (b : ℕ). code_of b text >>= (λ (c : List ℕ). Ok (Put a b c)))) line w.2 in
-    let b = bind_ok (number16 w.0.1) (λ (b : ℕ). code_of b text >>= (λ (c : List ℕ). Ok (Put a.0 b c))) line a.2 in
-    let c = bind_ok (code_of b.0 text) (λ (c : List ℕ). Ok (Put a.0 b.0 c)) line b.2 in
+    node_of n word.0 >>= (λ (a : ℕ). number16 word.1 >>= (λ (b : ℕ). code_of assembled b text >>= (λ (c : List ℕ). Ok (Put a b c))))) line e in
+    let a = bind_ok (node_of n w.0.0) (λ (a : ℕ). number16 w.0.1 >>= (λ (b : ℕ). code_of assembled b text >>= (λ (c : List ℕ). Ok (Put a b c)))) line w.2 in
+    let b = bind_ok (number16 w.0.1) (λ (b : ℕ). code_of assembled b text >>= (λ (c : List ℕ). Ok (Put a.0 b c))) line a.2 in
+    let c = bind_ok (code_of assembled b.0 text) (λ (c : List ℕ). Ok (Put a.0 b.0 c)) line b.2 in
     let at = (number_fits 0 65535 w.0.1 b.0 b.1).1 in
     this_line n (Put a.0 b.0 c.0) line c.2 (place_fits n.nodes w.0.0 a.0 a.1, omega (arith, at), code_fits b.0 text c.0 c.1)
 
@@ -220,7 +221,7 @@ abbrev AreKindsFit : NameLists → List Kind → Type 0
 AreKindsFit n [] = Unit {0}
 AreKindsFit n (kind ∷ more) = KindFits n kind.1 × AreKindsFit n more
 
-kinds_fit : (n : NameLists) (text : List ℕ) → AreKindsFit n (kinds n text)
+kinds_fit : (n : NameLists) (text : List ℕ) → AreKindsFit n (kinds assembled n text)
 kinds_fit n text = (put, (forge, (code_line_fits n text, (run, (finish, (set_register, (take_bytes, (give, (sense, (irq, (reset, (ask, (answer, (load, (call_fits n, tt)))))))))))))))
   where
     put : KindFits n (three (node_of n) number16 (bytes_of 1024) Put)
@@ -277,11 +278,11 @@ said_fits n [] first fields line fit h = absurd (cc)
 said_fits n (kind ∷ more) first fields line fit h =
     either (bytes_eq first kind.0) (kind.1 fields) (said_by more first fields) line (fit.0 fields line) (said_fits n more first fields line fit.1) h
 
-in_words : (n : NameLists) (text : List ℕ) (words : List (List ℕ)) (line : Line) → said_in n text words ≡ Ok line → IsLine n line
+in_words : (n : NameLists) (text : List ℕ) (words : List (List ℕ)) (line : Line) → said_in assembled n text words ≡ Ok line → IsLine n line
 in_words n text [] line h = this_line n Blank line h tt
 in_words n text (first ∷ fields) line h =
-    either (is_comment first) (Ok Blank) (said_by (kinds n text) first fields) line (λ e. this_line n Blank line e tt)
-    (said_fits n (kinds n text) first fields line (kinds_fit n text)) h
+    either (is_comment first) (Ok Blank) (said_by (kinds assembled n text) first fields) line (λ e. this_line n Blank line e tt)
+    (said_fits n (kinds assembled n text) first fields line (kinds_fit n text)) h
 
 pub said_in_form : SaidInForm
 unfolding said_line
@@ -289,6 +290,6 @@ said_in_form n text line h = in_words n (text_behind 3 text) (words_of text) lin
 
 -- a line that is the answer is in form
 pub answered_in_form : (n : NameLists) (text first : List ℕ) (fields : List (List ℕ)) (r : Result Read LineError)
-    → Answers line_of (MayWant TakesMemory text) (said_by (kinds n text) first fields) r → IfOk r (λ line. IsLine n (line_of line))
-answered_in_form n text first fields (Ok line) h = said_fits n (kinds n text) first fields (line_of line) (kinds_fit n text) h
+    → Answers line_of (MayWant TakesMemory text) (said_by (kinds assembled n text) first fields) r → IfOk r (λ line. IsLine n (line_of line))
+answered_in_form n text first fields (Ok line) h = said_fits n (kinds assembled n text) first fields (line_of line) (kinds_fit n text) h
 answered_in_form n text first fields (Err e) h = tt

@@ -4,6 +4,7 @@ use Rattle.std.specs.Prelude.{option_and_then, slice_get, ok_or}
 use Rattle.std.specs.List.{list_all}
 use Rattle.std.proofs.lemmas.List.{append-nil}
 use Rattle.std.proofs.lemmas.Bool.Decides.{nat_tests}
+use Rattle.sx_asm.specs.Assembled.{assembled}
 use Rattle.sx_asm.specs.Shown.{hex}
 use Rattle.sx_lang.specs.Form.{is_lower, is_name, is_name_byte}
 use Rattle.sx_trace.specs.Names.{NameLists, are_valid, if_sensor}
@@ -110,13 +111,13 @@ joined w [] = sym (append-nil w)
 joined w (v ∷ vs) = ap (λ (text : List ℕ). w ++ 32 ∷ text) (joined v vs)
 
 -- a text of words says what they say, whatever text follows them
-said : (n : NameLists) (w : List ℕ) (ws : List (List ℕ)) (line : Line) → list_all is_word (w ∷ ws) ≡ true → ((t : List ℕ) → said_in n t (w ∷ ws) ≡ Ok line)
-    → said_line n (spaced_words (w ∷ ws)) ≡ Ok line
+said : (n : NameLists) (w : List ℕ) (ws : List (List ℕ)) (line : Line) → list_all is_word (w ∷ ws) ≡ true → ((t : List ℕ) → said_in assembled n t (w ∷ ws) ≡ Ok line)
+    → said_line assembled n (spaced_words (w ∷ ws)) ≡ Ok line
 unfolding said_line
 said n w ws line words says =
     let text = spaced_words (w ∷ ws) in
     let read : words_of text ≡ w ∷ ws = ap words_of (joined w ws) ∙ words_read w ws words in
-    subst (λ (v : List (List ℕ)). said_in n (text_behind 3 text) v ≡ Ok line) (sym read) (says (text_behind 3 text))
+    subst (λ (v : List (List ℕ)). said_in assembled n (text_behind 3 text) v ≡ Ok line) (sym read) (says (text_behind 3 text))
 
 pub text_is_said : TextIsSaid
 unfolding line_text

@@ -6,13 +6,12 @@ use Rattle.std.specs.Str.{bytes_eq, is_utf8}
 use Rattle.hex.specs.Hex.{decode_of}
 use Rattle.hex.specs.declared.error.FromHexError.{FromHexError}
 use Rattle.sx_asm.specs.declared.error.AsmError.{AsmError}
-use Rattle.sx_asm.specs.Assembled.{assembled}
 use Rattle.sx_io.specs.Numbers.{number_of}
 use Rattle.sx_trace.specs.Names.{NameLists, place_of, sensor_place}
 use Rattle.sx_sched.specs.declared.lines.Line.{Line as Read}
 use Rattle.sx_sched.specs.declared.lines.LineError.{LineError}
 use Rattle.sx_sched.specs.declared.lines.LineError.TheVariants.{Fault, OutOfMemory}
-use Rattle.sx_sched.specs.Lines.{line_of, IsLine, Line, Blank, Run, Finish, Put, Set, Take, Give}
+use Rattle.sx_sched.specs.Lines.{line_of, Line, Blank, Run, Finish, Put, Set, Take, Give}
 use Rattle.sx_sched.specs.Lines.{Forge, Sense, Irq, Reset, Ask, Answer, Load, Call}
 use Rattle.sx_sched.specs.Words.{words_of, text_behind}
 
@@ -124,9 +123,13 @@ code_in (Err e) = Err no_code
 code_in (Ok code) =
     if nat_le 1 (length code) && nat_le (length code) 1024 then Ok code else Err no_code
 
+-- an assembler: the code at an address of a text, or why there is none
+abbrev pub Assembler : Type 0
+Assembler = ℕ → List ℕ → Result (List ℕ) AsmError
+
 -- the code at an address of a text, which is UTF-8
-abbrev pub code_of : ℕ → List ℕ → Result (List ℕ) LineError
-code_of at text = if is_utf8 text then code_in (assembled at text) else Err no_code
+abbrev pub code_of : Assembler → ℕ → List ℕ → Result (List ℕ) LineError
+code_of assemble at text = if is_utf8 text then code_in (assemble at text) else Err no_code
 
 -- This many words, and what they say in order.
 
@@ -211,12 +214,12 @@ four f g h i make fields = do
   Ok (make a b c d)
 
 -- assembled code is put: a node, its address there, and the text, of a word or more
-abbrev pub code_line : NameLists → List ℕ → List (List ℕ) → Result Line LineError
-code_line n text fields = do
+abbrev pub code_line : Assembler → NameLists → List ℕ → List (List ℕ) → Result Line LineError
+code_line assemble n text fields = do
   word ← two_before fields
   node ← node_of n word.0
   at ← number16 word.1
-  code ← code_of at text
+  code ← code_of assemble at text
   Ok (Put node at code)
 
 -- The kinds of line: the first word, and what the words after it say. A kind may take the text
@@ -249,11 +252,11 @@ plain_kinds n =
     ∷ module_kinds n
 
 -- all kinds of line; `text` is the line's text, which an `asm` line reads as a whole
-abbrev pub kinds : NameLists → List ℕ → List Kind
-kinds n text =
+abbrev pub kinds : Assembler → NameLists → List ℕ → List Kind
+kinds assemble n text =
     (codes "put", three (node_of n) number16 (bytes_of 1024) Put)
     ∷ (codes "forge", one (bytes_of 384) Forge)
-    ∷ (codes "asm", code_line n text)
+    ∷ (codes "asm", code_line assemble n text)
     ∷ plain_kinds n
 
 -- what the kind of this first word says of the words after it
@@ -268,19 +271,14 @@ is_comment [] = false
 is_comment (c ∷ cs) = c == 35
 
 -- what words say; none say nothing, as a comment does
-abbrev pub said_in : NameLists → List ℕ → List (List ℕ) → Result Line LineError
-said_in n text [] = Ok Blank
-said_in n text (first ∷ fields) =
-    if is_comment first then Ok Blank else said_by (kinds n text) first fields
+abbrev pub said_in : Assembler → NameLists → List ℕ → List (List ℕ) → Result Line LineError
+said_in assemble n text [] = Ok Blank
+said_in assemble n text (first ∷ fields) =
+    if is_comment first then Ok Blank else said_by (kinds assemble n text) first fields
 
 -- what a text says: one line, or one broken rule
-unfoldable pub said_line : NameLists → List ℕ → Result Line LineError
-said_line n text = said_in n (text_behind 3 text) (words_of text)
-
--- what is said is in form
-abbrev pub SaidInForm : Type 0
-SaidInForm =
-    (n : NameLists) (text : List ℕ) (line : Line) → said_line n text ≡ Ok line → IsLine n line
+unfoldable pub said_line : Assembler → NameLists → List ℕ → Result Line LineError
+said_line assemble n text = said_in assemble n (text_behind 3 text) (words_of text)
 
 -- an answer of the code, its line seen as such
 abbrev pub seen_line : Result Read LineError → Result Line LineError
@@ -289,21 +287,9 @@ seen_line (Err e) = Err e
 
 -- lines whose bytes take memory
 abbrev pub TakesMemory : Line → Type 0
-TakesMemory Blank = ⊥
-TakesMemory (Run node steps) = ⊥
-TakesMemory (Finish node) = ⊥
 TakesMemory (Put node at bytes) = Unit {0}
-TakesMemory (Set node reg value) = ⊥
-TakesMemory (Take node at len) = ⊥
-TakesMemory (Give packet node at) = ⊥
 TakesMemory (Forge bytes) = Unit {0}
-TakesMemory (Sense device value) = ⊥
-TakesMemory (Irq node line) = ⊥
-TakesMemory (Reset node) = ⊥
-TakesMemory (Ask m) = ⊥
-TakesMemory (Answer m boot packet) = ⊥
-TakesMemory (Load m) = ⊥
-TakesMemory (Call m entry input output) = ⊥
+TakesMemory _ = ⊥
 
 -- bytes are said, for which memory may be needed
 abbrev pub AreSaid : Result (List ℕ) LineError → Type 0

@@ -1,5 +1,6 @@
 -- The lines that are written, and their texts.
 use Rattle.std.specs.Prelude.{◌≡◌, List, [], ◌∷◌, codes, decimal, ℕ, Ok, IsTrue}
+use Rattle.sx_asm.specs.Assembled.{assembled}
 use Rattle.sx_asm.specs.Shown.{hex}
 use Rattle.sx_trace.specs.Names.{NameLists, are_valid}
 use Rattle.sx_trace.specs.Items.{name_at, spaced_words}
@@ -39,4 +40,4 @@ line_text n line = spaced_words (line_words n line)
 -- the text of a line says the line
 abbrev pub TextIsSaid : Type 0
 TextIsSaid = (n : NameLists) (line : Line) → IsTrue (are_valid n) → IsWritten line → IsLine n line
-    → said_line n (line_text n line) ≡ Ok line
+    → said_line assembled n (line_text n line) ≡ Ok line

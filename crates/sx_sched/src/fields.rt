@@ -173,8 +173,8 @@ fn code_in(alloc: Global, at: u16, text: &str) -> Result<Vec<u8>, LineError>
 /// The code of a text at an address, 1 to 1,024 bytes. No memory is asked for where the text isn't
 /// UTF-8.
 pub fn code_of(alloc: Global, at: u16, text: &[u8]) -> Result<Vec<u8>, LineError>
-    ensures { Answers (λ v. v.items) (MayWant (λ code. Unit {0}) text.now) (code_of at text.now)
-        result }
+    ensures { Answers (λ v. v.items) (MayWant (λ code. Unit {0}) text.now)
+        (code_of assembled at text.now) result }
 {
     match str::from_utf8(text) {
         Ok(text) => code_in(alloc, at, text),

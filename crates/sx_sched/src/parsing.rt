@@ -1,6 +1,7 @@
 //! From a text to a line, kind by kind: first the number of words, then word by word.
 
 ghost use Rattle.std.specs.Prelude.{◌≡◌, IfOk, IfErr, IsTrue};
+ghost use Rattle.sx_asm.specs.Assembled.{assembled};
 ghost use Rattle.sx_trace.specs.Names.{are_valid};
 ghost use Rattle.sx_sched.specs.Words.{words_of, text_behind};
 ghost use Rattle.sx_sched.specs.Lines.{line_of, IsLine, Run, Finish, Put, Set, Take, Give, Forge};
@@ -264,7 +265,7 @@ fn forge_line(alloc: Global, fields: &[u8]) -> Result<Line, LineError>
 fn code_line(alloc: Global, names: &Names, fields: &[u8]) -> Result<Line, LineError>
     requires { IsTrue (are_valid names.now) }
     ensures { Answers line_of (MayWant TakesMemory (text_behind 2 fields.now))
-        (code_line names.now (text_behind 2 fields.now) (words_of fields.now)) result }
+        (code_line assembled names.now (text_behind 2 fields.now) (words_of fields.now)) result }
 {
     let (name, at, text) = two_before(fields)?;
     let node = node_of(names, name)?;
@@ -278,8 +279,8 @@ fn code_line(alloc: Global, names: &Names, fields: &[u8]) -> Result<Line, LineEr
 fn kind_line(alloc: Global, names: &Names, first: &[u8], fields: &[u8]) -> Result<Line, LineError>
     requires { IsTrue (are_valid names.now) }
     ensures { Answers line_of (MayWant TakesMemory (text_behind 2 fields.now))
-        (said_by (kinds names.now (text_behind 2 fields.now)) first.now (words_of fields.now))
-        result }
+        (said_by (kinds assembled names.now (text_behind 2 fields.now)) first.now
+        (words_of fields.now)) result }
 {
     if first == b"put".as_slice() {
         return put_line(alloc, names, fields);
@@ -311,7 +312,7 @@ fn is_comment(word: &[u8]) -> bool
 pub fn parse_line(alloc: Global, names: &Names, text: &[u8]) -> Result<Line, LineError>
     requires { IsTrue (are_valid names.now) }
     ensures answer { Answers line_of (MayWant TakesMemory (text_behind 3 text.now))
-        (said_line names.now text.now) result }
+        (said_line assembled names.now text.now) result }
     ensures in_form { IfOk result (λ line. IsLine names.now (line_of line)) }
 {
     let Some((first, fields)) = split_word(text) else {

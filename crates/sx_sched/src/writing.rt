@@ -1,6 +1,7 @@
 //! From a line to its text.
 
 ghost use Rattle.std.specs.Prelude.{◌≡◌, [], ◌∷◌, codes, decimal, take, IsTrue, Ok};
+ghost use Rattle.sx_asm.specs.Assembled.{assembled};
 ghost use Rattle.sx_asm.specs.Shown.{hex};
 ghost use Rattle.sx_trace.specs.Names.{are_valid};
 ghost use Rattle.sx_trace.specs.Items.{name_at, spaced_words, IsWrittenText};
@@ -124,7 +125,7 @@ pub fn write_line(names: &Names, line: &Line, into: &mut [u8; 128]) -> usize
     requires kind { IsWritten (line_of line.now) }
     requires in_form { IsLine names.now (line_of line.now) }
     ensures text { IsWrittenText (line_text names.now (line_of line.now)) into.old result into.new }
-    ensures said { said_line names.now (take result into.new) ≡ Ok (line_of line.now) }
+    ensures said { said_line assembled names.now (take result into.new) ≡ Ok (line_of line.now) }
 {
     write_text(names, line, into)
 }

@@ -2,6 +2,7 @@
 -- (m1).
 use Rattle.std.specs.Prelude.{ℕ, ◌≡◌, Bool, List, Option, Some, None}
 use Rattle.sx_told.specs.Told.{CommandEnds, CommandAt, out_of_memory}
+use Rattle.sx_asm.specs.Assembled.{assembled}
 use Rattle.sx_tag.specs.Mac.{Mac}
 use Rattle.sx_top.specs.declared.words.Command.{Command}
 use Rattle.sx_top.specs.declared.words.Command.TheVariants.{Run, Check, Explain, Snap, Gen, Asm}
@@ -31,7 +32,8 @@ pub record GenSays (mac : Mac) (n : ℕ) (to_tell : Bool) (m0 m1 : CommandAt) (s
 -- what a command promises
 abbrev pub CommandTold : Mac → Option Command → Bool → Bool → CommandAt → CommandAt → ℕ → Type 0
 CommandTold mac None tells to_tell m0 m1 status = MisusedTold to_tell m0 m1 status
-CommandTold mac (Some Run) tells to_tell m0 m1 status = RunTold mac tells to_tell m0 m1 status
+CommandTold mac (Some Run) tells to_tell m0 m1 status =
+    RunTold assembled mac tells to_tell m0 m1 status
 CommandTold mac (Some Check) tells to_tell m0 m1 status = CheckTold tells to_tell m0 m1 status
 CommandTold mac (Some Explain) tells to_tell m0 m1 status = ExplainSays tells to_tell m0 m1 status
 CommandTold mac (Some Snap) tells to_tell m0 m1 status = SnapSays mac tells to_tell m0 m1 status

@@ -1,4 +1,5 @@
 use Rattle.std.proofs.Common.{◌≡◌, ℕ, inl, inr, List, map, refl, subst, sym, Result, Ok}
+use Rattle.sx_asm.specs.Assembled.{assembled}
 use Rattle.sx_told.specs.Told.{Rest, command_at}
 use Rattle.sx_head.specs.Head.{head_lines}
 use Rattle.sx_deploy.specs.Deployment.{Deployed, IsRead}
@@ -34,7 +35,7 @@ returns-in-Ok g c = λ text read.
       rest = λ meaning is.
           let R : Result Deployed DeployFault → Type 0 = λ r. Rest g.S.Source.tells g.K.Sink.tells head_lines c.args.lines.now
           (command_at (g.S.Source.at c.args.input.now) (g.K.Sink.at c.args.output.now)) (command_at (g.S.Source.at c.run_images.new.input) (g.K.Sink.at c.run_images.new.output))
-          c.run_images.result (run_found mac texts r) in
+          c.run_images.result (run_found assembled mac texts r) in
           subst R (one_meaning text (Ok d) (meaning text) read (is text)) c.run_images.ensures;
     })
 

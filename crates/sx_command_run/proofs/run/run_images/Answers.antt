@@ -1,4 +1,5 @@
 use Rattle.std.proofs.Common.{List, map, refl, subst, sym, Ok}
+use Rattle.sx_asm.specs.Assembled.{assembled}
 use Rattle.sx_told.proofs.Laws.{told-stop, ends-out-of-memory, prefix-none}
 use Rattle.sx_deploy.specs.SeenDeployment.{deployed_as}
 use Rattle.sx_run.specs.Accepted.{setting}
@@ -26,4 +27,4 @@ run_built-requires-clause-stands g c =
 pub returns-in-Err : goal.returns-in-Err
 returns-in-Err g c = λ limit m0 defined aside noted b.
     let texts = map (λ i. i.text.items) c.args.images.now in
-    told-stop b (λ more. ends-out-of-memory _ _ _ (run_found g.T.Tag.mac texts (Ok (deployed_as c.args.plan.now)) more) (λ t. prefix-none _ _ _ refl) refl)
+    told-stop b (λ more. ends-out-of-memory _ _ _ (run_found assembled g.T.Tag.mac texts (Ok (deployed_as c.args.plan.now)) more) (λ t. prefix-none _ _ _ refl) refl)

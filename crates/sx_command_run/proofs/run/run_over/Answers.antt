@@ -1,7 +1,7 @@
 use Rattle.std.proofs.Common.{ℕ, List, subst}
 use Rattle.sx_told.specs.Told.{command_at}
 use Rattle.sx_model.proofs.Telling.{tells}
-use Rattle.sx_command_run.specs.Runs.{RunsOrRanOut}
+use Rattle.sx_command_run.specs.Afterwards.{RunsOrRanOut}
 use Rattle.sx_command_run.proofs.Behind.{says_headless, says_behind}
 use Rattle.sx_command_run.proofs.run.run_over.Goals as goal
 

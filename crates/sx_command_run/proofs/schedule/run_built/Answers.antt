@@ -1,4 +1,5 @@
 use Rattle.std.proofs.Common.{List, Ok, map, ap, sym}
+use Rattle.sx_asm.specs.Assembled.{assembled}
 use Rattle.sx_told.proofs.Laws.{begun-put, begun-same, told-stop}
 use Rattle.sx_deploy.specs.SeenDeployment.{deployed_as}
 use Rattle.sx_run.specs.Setting.{Site}
@@ -10,7 +11,7 @@ use Rattle.sx_command_run.proofs.schedule.run_built.Goals as goal
 pub returns-in-Stop : goal.returns-in-Stop
 returns-in-Stop g c = λ limit m0 defined aside noted b.
     let d = deployed_as c.args.plan.now in
-    told-stop b (c.in-Stop.ensures (run_schedule g.T.Tag.mac d (map (λ i. i.text.items) c.args.images.now)))
+    told-stop b (c.in-Stop.ensures (run_schedule assembled g.T.Tag.mac d (map (λ i. i.text.items) c.args.images.now)))
 
 pub returns-in-On : goal.returns-in-On
 returns-in-On g c = λ limit m0 defined aside noted b.
@@ -18,8 +19,8 @@ returns-in-On g c = λ limit m0 defined aside noted b.
     let mac = g.T.Tag.mac in
     let texts = map (λ i. i.text.items) c.args.images.now in
     let set = setting mac d c.args.world.now.sites in
-    let left = run_schedule mac d texts in
+    let left = run_schedule assembled mac d texts in
     c.run_lines.ensures limit m0 defined aside noted
-    (begun-same (run_from d.names set (switched_on set) 1)
-    (λ more. ap (λ (sites : List Site). run_from d.names (setting mac d sites) (switched_on (setting mac d sites)) 1 more) (sym c.requires.sites))
-    (begun-put (run_found mac texts (Ok d)) left b (c.in-On.ensures left)))
+    (begun-same (run_from assembled d.names set (switched_on set) 1)
+    (λ more. ap (λ (sites : List Site). run_from assembled d.names (setting mac d sites) (switched_on (setting mac d sites)) 1 more) (sym c.requires.sites))
+    (begun-put (run_found assembled mac texts (Ok d)) left b (c.in-On.ensures left)))

@@ -1,4 +1,5 @@
 use Rattle.std.proofs.Common.{◌∙◌, ◌+◌, ◌∷◌, ℕ, List, take, arith, ap, refl, subst, sym}
+use Rattle.sx_asm.specs.Assembled.{assembled}
 use Rattle.sx_io.specs.Reading.{Line}
 use Rattle.sx_told.specs.Told.{read_line}
 use Rattle.sx_told.specs.declared.turned.Turned.TheVariants.{On, Stop}
@@ -30,7 +31,7 @@ returns-in-End g c = λ limit m0 defined aside noted b.
     let d = deployed_as c.args.plan.now in
     let set = setting g.T.Tag.mac d c.args.world.now.sites in
     let st = c.lines.invariant.between in
-    told-end {f = run_from d.names set st.world c.lines.number} (run_unread d.names set st.world c.lines.number) (st.begun limit m0 defined aside noted b) c.in-End.ensures.next
+    told-end {f = run_from assembled d.names set st.world c.lines.number} (run_unread d.names set st.world c.lines.number) (st.begun limit m0 defined aside noted b) c.in-End.ensures.next
     (ends-same _ _ _ _ _ _ (run_ended d.names set st.world c.lines.number) c.finish.ensures.ends)
 
 pub returns-in-TooLong : goal.returns-in-TooLong
@@ -38,7 +39,7 @@ returns-in-TooLong g c = λ limit m0 defined aside noted b.
     let d = deployed_as c.args.plan.now in
     let set = setting g.T.Tag.mac d c.args.world.now.sites in
     let st = c.lines.invariant.between in
-    told-too-long {f = run_from d.names set st.world c.lines.number} (run_unread d.names set st.world c.lines.number) (st.begun limit m0 defined aside noted b)
+    told-too-long {f = run_from assembled d.names set st.world c.lines.number} (run_unread d.names set st.world c.lines.number) (st.begun limit m0 defined aside noted b)
     c.in-TooLong.ensures.next (ends-same _ _ _ _ _ _ (run_too_long d.names set st.world c.lines.number) c.break_off.ensures.ends)
 
 pub returns-in-Failed : goal.returns-in-Failed
@@ -47,7 +48,7 @@ returns-in-Failed g c = λ limit m0 defined aside noted b.
     let d = deployed_as c.args.plan.now in
     let set = setting g.T.Tag.mac d c.args.world.now.sites in
     let st = c.lines.invariant.between in
-    told-failed {f = run_from d.names set st.world c.lines.number} (run_unread d.names set st.world c.lines.number) (st.begun limit m0 defined aside noted b)
+    told-failed {f = run_from assembled d.names set st.world c.lines.number} (run_unread d.names set st.world c.lines.number) (st.begun limit m0 defined aside noted b)
     c.in-Failed.ensures.next (ends-same _ _ _ _ _ _ (run_unread d.names set st.world c.lines.number) c.finish-in-Failed.ensures.ends)
 
 pub turn-requires-clause-images : goal.turn-requires-clause-images
@@ -70,7 +71,7 @@ returns-in-Stop g c = λ limit m0 defined aside noted b.
     let P : List Site → Type 0 = λ sites. (w : World) → Stands (setting g.T.Tag.mac d sites) c.lines.world w
     → TurnsLine g.K.Sink.tells (g.K.Sink.at c.lines.output) (g.K.Sink.at c.turn.new.output) d.names (setting g.T.Tag.mac d sites)
     c.turn.new.world c.lines.number text (Stop c.in-Stop.status) w in
-    told-stop (begun-line (run_from d.names set st.world c.lines.number) (run_unread d.names set st.world c.lines.number) (st.begun limit m0 defined aside noted b) c.in-Text.ensures.next)
+    told-stop (begun-line (run_from assembled d.names set st.world c.lines.number) (run_unread d.names set st.world c.lines.number) (st.begun limit m0 defined aside noted b) c.in-Text.ensures.next)
     (subst P c.lines.invariant.sites c.in-Stop.ensures.turns st.world st.stands).does
 
 pub lines-preserved : goal.lines-preserved
@@ -90,8 +91,8 @@ lines-preserved g c =
         world = t.next;
         stands = t.stands refl;
         begun = λ limit m0 defined aside noted b.
-            begun-put (λ more. run_from d.names set st.world c.lines.number (Line text ∷ more)) (run_from d.names set t.next (c.lines.number + 1))
-            (begun-line (run_from d.names set st.world c.lines.number) (run_unread d.names set st.world c.lines.number) (st.begun limit m0 defined aside noted b) c.in-Text.ensures.next)
+            begun-put (λ more. run_from assembled d.names set st.world c.lines.number (Line text ∷ more)) (run_from assembled d.names set t.next (c.lines.number + 1))
+            (begun-line (run_from assembled d.names set st.world c.lines.number) (run_unread d.names set st.world c.lines.number) (st.begun limit m0 defined aside noted b) c.in-Text.ensures.next)
             t.does;
       };
     }

@@ -1,4 +1,5 @@
 use Rattle.std.proofs.Common.{◌∙◌, ◌+◌, ◌∷◌, ap, refl, Err}
+use Rattle.sx_asm.specs.Assembled.{assembled}
 use Rattle.sx_io.specs.Reading.{Line}
 use Rattle.sx_told.proofs.Laws.{does-same, ends-same, ends-out-of-memory, prefix-none}
 use Rattle.sx_sched.specs.Lines.{line_of}
@@ -17,7 +18,7 @@ returns-in-Ok-clause-turns g c = λ w shows.
       next = (after_next set w line).world;
       stands = λ on. c.tell.ensures.stands on w shows;
       does = does-same _ _ _ _ _ _ _ (λ more. run_line d.names set w c.args.number c.args.said.now line more c.in-Ok.ensures.line)
-          (c.tell.ensures.does w shows (λ v more. run_from d.names set v (c.args.number + 1) more));
+          (c.tell.ensures.does w shows (λ v more. run_from assembled d.names set v (c.args.number + 1) more));
     }
 
 pub returns-in-Err-Fault-clause-turns : goal.returns-in-Err-Fault-clause-turns
@@ -40,5 +41,5 @@ returns-in-Err-OutOfMemory-clause-turns g c = λ w shows.
       next = w;
       stands = λ on. absurd (cc on);
       does = λ more.
-          ends-out-of-memory _ _ _ (run_from d.names set w c.args.number (Line c.args.said.now ∷ more)) (λ t. prefix-none _ _ _ refl) refl;
+          ends-out-of-memory _ _ _ (run_from assembled d.names set w c.args.number (Line c.args.said.now ∷ more)) (λ t. prefix-none _ _ _ refl) refl;
     }
