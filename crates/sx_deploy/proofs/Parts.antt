@@ -4,7 +4,7 @@ use Rattle.std.specs.Prelude.{slice_get}
 use Rattle.sx_lang.specs.Words.{TreeHasWords}
 use Rattle.sx_check.specs.Rules.{first_broken}
 use Rattle.sx_grammar.proofs.SpelledWords.{spelled_words}
-use Rattle.sx_mean.specs.Application.{PartTree, is_valid}
+use Rattle.sx_mean.specs.Application.{PartTree, is_valid, is_sensor}
 use Rattle.sx_mean.specs.declared.apps.AppDevice.{AppDevice}
 use Rattle.sx_mean.proofs.ValidApplications.{valid_applications}
 use Rattle.sx_stage.proofs.Each.{Each}
@@ -12,7 +12,7 @@ use Rattle.sx_entries.specs.declared.entries.DeviceEntry.{DeviceEntry}
 use Rattle.sx_entries.specs.declared.entries.ModuleEntry.{ModuleEntry}
 use Rattle.sx_deploy.specs.Sources.{AreCoded, none_left, each, Coded}
 use Rattle.sx_deploy.specs.Ties.{app_device}
-use Rattle.sx_deploy.specs.Deployment.{Deployed, is_sensor, part_of}
+use Rattle.sx_deploy.specs.Deployment.{Deployed, part_of}
 use Rattle.sx_deploy.specs.Law.{IsDeployedPart}
 use Rattle.sx_deploy.proofs.Linked.{each-get}
 use Rattle.sx_deploy.proofs.ValidApp.{each-both, each-map}

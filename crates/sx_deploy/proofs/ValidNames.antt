@@ -6,7 +6,8 @@ use Rattle.sx_trace.specs.Names.{are_names, are_valid}
 use Rattle.sx_entries.specs.Law.{AreEntries, AreNamed}
 use Rattle.sx_entries.specs.Entries.{EntryLists}
 use Rattle.sx_entries.proofs.EntriesKeep.{entries_keep}
-use Rattle.sx_deploy.specs.Deployment.{Deployed, IsRead, names_of, is_sensor}
+use Rattle.sx_mean.specs.Application.{is_sensor}
+use Rattle.sx_deploy.specs.Deployment.{Deployed, IsRead, names_of}
 use Rattle.sx_deploy.proofs.Accepted.{accepted}
 use Rattle.sx_deploy.proofs.Few.{AreFew, few}
 use Rattle.sx_entries.specs.declared.entries.NodeEntry.{NodeEntry}

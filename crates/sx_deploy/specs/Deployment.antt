@@ -1,9 +1,7 @@
 -- The deployment that a text means, or the first rule that it breaks and where.
 use Rattle.std.specs.Prelude.{◌≡◌, ℕ, Bool, true, false, List, length, map, Result, Ok, Err}
 use Rattle.toml.specs.Data.{Members}
-use Rattle.sx_lang.specs.declared.tree.DeviceKind.{DeviceKind}
-use Rattle.sx_lang.specs.declared.tree.DeviceKind.TheVariants.{Sensor, Actuator}
-use Rattle.sx_mean.specs.Application.{AppTree, PartTree}
+use Rattle.sx_mean.specs.Application.{AppTree, PartTree, is_sensor}
 use Rattle.sx_mean.specs.declared.apps.Link.{Link}
 use Rattle.sx_rules.specs.declared.section.Layout.{Layout}
 use Rattle.sx_trace.specs.Names.{NameLists}
@@ -29,11 +27,6 @@ pub record Deployed : Type 0 where
   pub places : List ℕ
   pub layouts : List Layout
   pub providers : List ℕ
-
--- whether a kind is a sensor
-abbrev pub is_sensor : DeviceKind → Bool
-is_sensor Sensor = true
-is_sensor Actuator = false
 
 -- the names of a deployment's entries
 abbrev pub names_of : EntryLists → NameLists

@@ -1,12 +1,10 @@
 -- A module's ends in memory, where a connection's number is a byte.
-use Rattle.std.specs.Prelude.{◌≡◌, ℕ, ◌+◌, ◌≤◌, ◌==◌, if◌then◌else◌, List, [], ◌∷◌, length, map}
-use Rattle.std.specs.Prelude.{Option, Some, None}
+use Rattle.std.specs.Prelude.{◌≡◌, ℕ, ◌+◌, ◌≤◌, List, [], ◌∷◌, length, map}
 use Rattle.std.specs.List.{cons_option}
-use Rattle.sx_lang.specs.declared.sides.Side.TheVariants.{From, To}
 use Rattle.sx_mean.specs.declared.apps.Link.{Link}
 use Rattle.sx_mean.specs.declared.events.End.{End}
 use Rattle.sx_mean.specs.Application.{AppTree}
-use Rattle.sx_mean.specs.Ends.{ends_of}
+use Rattle.sx_mean.specs.Ends.{ends_of, receiving, sending}
 use Rattle.sx_deploy.specs.Ties.{byte}
 
 -- the end in memory: its connection's number fits where there are at most 256 connections
@@ -21,21 +19,11 @@ pub record AreHeld (app : AppTree) (p : ℕ) (ends : List End) : Type 0 where
 
 -- The form that the loop computes. Nobody has to believe it.
 
--- the sending end of a connection, where the module holds it
-abbrev pub sending : ℕ → ℕ → Link → Option End
-sending n module_place l = if l.from == module_place then
-    Some (record { link = byte n; side = From; port = l.output }) else None
-
--- the receiving end of a connection, where the module holds it
-abbrev pub receiving : ℕ → ℕ → Link → Option End
-receiving n module_place l = if l.to == module_place then
-    Some (record { link = byte n; side = To; port = l.input }) else None
-
 -- the ends that a module holds of the connections from the n-th on
 abbrev pub ends_after : ℕ → ℕ → List Link → List End
 ends_after n module_place [] = []
-ends_after n module_place (l ∷ ls) = cons_option (sending n module_place l)
-    (cons_option (receiving n module_place l) (ends_after (n + 1) module_place ls))
+ends_after n module_place (l ∷ ls) = cons_option (sending (byte n) module_place l)
+    (cons_option (receiving (byte n) module_place l) (ends_after (n + 1) module_place ls))
 
 -- the ends that a module holds, in connection order, a sending end before a receiving one
 abbrev pub ends_held : List Link → ℕ → List End

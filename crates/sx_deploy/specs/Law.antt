@@ -5,13 +5,14 @@ use Rattle.sx_lang.specs.Sizes.{module_weight, module_data_size}
 use Rattle.sx_lang.specs.Words.{IsWord, TreeHasWords}
 use Rattle.sx_check.specs.Rules.{first_broken}
 use Rattle.sx_mean.specs.Application.{PartTree, declared_kind, ends_from, ends_to, is_driven}
+use Rattle.sx_mean.specs.Application.{is_sensor}
 use Rattle.sx_mean.specs.Application.{sends_too_much}
 use Rattle.sx_mean.specs.declared.apps.AppDevice.{AppDevice}
 use Rattle.sx_rules.specs.declared.section.Layout.{Layout}
 use Rattle.sx_stage.specs.declared.fault.DeployFault.{DeployFault}
 use Rattle.sx_deploy.specs.declared.placing.Placement.{Placement}
 use Rattle.sx_deploy.specs.Places.{Span, span, text_of, data_of}
-use Rattle.sx_deploy.specs.Deployment.{Deployed, IsRead, is_sensor}
+use Rattle.sx_deploy.specs.Deployment.{Deployed, IsRead}
 
 -- no text has two meanings
 abbrev pub OneMeaning : Type 0

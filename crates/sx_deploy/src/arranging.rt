@@ -1,6 +1,7 @@
 //! The lists of a deployment, from its entries.
 ghost use Rattle.std.specs.Prelude.{◌≡◌, IfOk, length, map};
-ghost use Rattle.sx_deploy.specs.Deployment.{app_of, arranged, is_sensor, names_of, part_of};
+ghost use Rattle.sx_mean.specs.Application.{is_sensor};
+ghost use Rattle.sx_deploy.specs.Deployment.{app_of, arranged, names_of, part_of};
 ghost use Rattle.sx_deploy.specs.Seen.{checked_as};
 ghost use Rattle.sx_deploy.specs.SeenDeployment.{deployed_as};
 ghost use Rattle.sx_mean.specs.View.{app_as, part_as};
@@ -13,8 +14,7 @@ use crate::ties::{byte, start_device};
 use std::alloc::{AllocError, Global};
 use sx_entries::entries::{DeviceEntry, Entries, LinkEntry, ModuleEntry, NodeEntry};
 use sx_lang::names::Name;
-use sx_lang::tree::DeviceKind;
-use sx_mean::apps::{App, AppDevice, Link, Part};
+use sx_mean::apps::{App, AppDevice, Link, Part, is_sensor};
 use sx_rules::Layout;
 use sx_trace::names::Names;
 
@@ -38,15 +38,6 @@ fn device_names(alloc: Global, devices: &[DeviceEntry]) -> Result<Vec<Name>, All
     ensures { IfOk result (λ v. v.items ≡ map (λ d. d.name) devices.now) }
 {
     devices.iter().map(|d| d.name).collect(alloc)
-}
-
-fn is_sensor(kind: DeviceKind) -> bool
-    ensures { result ≡ is_sensor kind }
-{
-    match kind {
-        DeviceKind::Sensor => true,
-        DeviceKind::Actuator => false,
-    }
 }
 
 fn sensors(alloc: Global, devices: &[DeviceEntry]) -> Result<Vec<bool>, AllocError>

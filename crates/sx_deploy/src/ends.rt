@@ -2,40 +2,14 @@
 ghost use Rattle.std.specs.Prelude.{◌≡◌, ◌++◌, IfOk};
 ghost use Rattle.std.specs.Option.{option_to_list};
 ghost use Rattle.sx_mean.specs.View.{app_as};
-ghost use Rattle.sx_deploy.specs.Ends.{AreHeld, ends_held, receiving, sending};
+ghost use Rattle.sx_deploy.specs.Ends.{AreHeld, ends_held};
 
 use crate::deployment::Deployment;
 use crate::ties::byte;
 use std::alloc::{AllocError, Global};
-use sx_lang::sides::Side;
 use sx_mean::apps::Link;
+use sx_mean::connections::{receiving, sending};
 use sx_mean::events::End;
-
-fn sending(number: usize, place: u8, l: &Link) -> Option<End>
-    ensures { result ≡ sending number place l.now }
-{
-    if l.from != place {
-        return None;
-    }
-    Some(End {
-        link: byte(number),
-        side: Side::From,
-        port: l.output,
-    })
-}
-
-fn receiving(number: usize, place: u8, l: &Link) -> Option<End>
-    ensures { result ≡ receiving number place l.now }
-{
-    if l.to != place {
-        return None;
-    }
-    Some(End {
-        link: byte(number),
-        side: Side::To,
-        port: l.input,
-    })
-}
 
 fn push_end(ends: &mut Vec<End>, end: Option<End>) -> Result<(), AllocError>
     ensures { IfOk result (λ _. ends.new.items ≡ ends.old.items ++ option_to_list end) }
@@ -55,8 +29,8 @@ fn ends_in(alloc: Global, links: &[Link], place: u8) -> Result<Vec<End>, AllocEr
     let mut ends = Vec::new(alloc);
     for number in 0..links.len() {
         let link = &links[number];
-        push_end(&mut ends, sending(number, place, link))?;
-        push_end(&mut ends, receiving(number, place, link))?;
+        push_end(&mut ends, sending(byte(number), place, link))?;
+        push_end(&mut ends, receiving(byte(number), place, link))?;
     }
     Ok(ends)
 }

@@ -9,14 +9,14 @@ use Rattle.std.proofs.lemmas.Option.{slice_get_within}
 use Rattle.sx_mean.specs.declared.apps.AppDevice.{AppDevice}
 use Rattle.sx_mean.specs.declared.events.SourceEvent.{SourceEvent}
 use Rattle.sx_mean.specs.declared.events.SourceEvent.TheVariants as event
-use Rattle.sx_mean.specs.Application.{AppTree, PartTree, is_valid}
+use Rattle.sx_mean.specs.Application.{AppTree, PartTree, is_valid, is_sensor}
 use Rattle.sx_mean.specs.Ends.{ends_of}
 use Rattle.sx_mean.proofs.ValidApplications.{valid_applications}
 use Rattle.sx_trace.specs.declared.items.Item.{Item}
 use Rattle.sx_trace.specs.declared.items.Item.TheVariants as item
 use Rattle.sx_model.specs.State.{FIELDS, Model, Present, Reading, Standing, power_on}
 use Rattle.sx_model.specs.Reaction.{flow_of}
-use Rattle.sx_model.specs.Step.{is_fresh_with, is_sensor, kind_is, reacts, step, with_device}
+use Rattle.sx_model.specs.Step.{is_fresh_with, kind_is, reacts, step, with_device}
 use Rattle.sx_model.specs.Legal.{after}
 use Rattle.sx_honest.specs.Plain.{Plain, Sampling, Waiting, acts_emit, acts_send, reacted, reaction}
 use Rattle.sx_honest.specs.Course.{Course, IsSampling, acts_items, count_over, delivered, packet_items, packets_so_far, sensed, words_over}

@@ -5,7 +5,7 @@ use Rattle.std.proofs.lemmas.Bool.{eq-eqb}
 use Rattle.sx_mean.specs.declared.events.SourceEvent.{SourceEvent}
 use Rattle.sx_mean.specs.declared.events.SourceEvent.TheVariants as event
 use Rattle.sx_mean.specs.declared.apps.Link.{Link}
-use Rattle.sx_mean.specs.Application.{AppTree, PartTree}
+use Rattle.sx_mean.specs.Application.{AppTree, PartTree, is_sensor}
 use Rattle.sx_mean.specs.Ends.{ends_of}
 use Rattle.sx_mean.specs.React.{react}
 use Rattle.sx_lang.specs.declared.sides.Side.TheVariants.{To}
@@ -14,7 +14,7 @@ use Rattle.sx_trace.specs.declared.items.Item.TheVariants as item
 use Rattle.sx_model.specs.State.{EndView, Model, Present, Reading, Standing}
 use Rattle.sx_model.specs.Renewal.{takes}
 use Rattle.sx_model.specs.Reaction.{flow_of}
-use Rattle.sx_model.specs.Step.{◌>>?◌, changed_views, idle, is_fresh_with, is_sensor, kind_is, reacts, step, with_device, with_pending, with_present}
+use Rattle.sx_model.specs.Step.{◌>>?◌, changed_views, idle, is_fresh_with, kind_is, reacts, step, with_device, with_pending, with_present}
 use Rattle.sx_model.specs.Legal.{after}
 use Rattle.sx_honest.specs.Course.{packet_items}
 use Rattle.sx_lists.proofs.Lists.{get_same}

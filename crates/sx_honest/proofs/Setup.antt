@@ -12,7 +12,7 @@ use Rattle.sx_mean.specs.declared.apps.AppDevice.{AppDevice}
 use Rattle.sx_mean.specs.declared.apps.Link.{Link}
 use Rattle.sx_mean.specs.declared.events.End.{End}
 use Rattle.sx_mean.specs.Application.{AppTree, PartTree, is_valid}
-use Rattle.sx_mean.specs.Ends.{IsBefore, ends_of}
+use Rattle.sx_mean.specs.Ends.{IsBefore, ends_of, same_side}
 use Rattle.sx_mean.specs.Places.{initial_cells}
 use Rattle.sx_mean.proofs.Ends.{ends_hold}
 use Rattle.sx_mean.proofs.ValidApplications.{valid_applications}
@@ -20,7 +20,7 @@ use Rattle.sx_trace.specs.declared.items.Item.{Item}
 use Rattle.sx_trace.specs.declared.items.Item.TheVariants as item
 use Rattle.sx_model.specs.State.{EndView, FIELDS, Model, Present, Reading, Standing, power_on}
 use Rattle.sx_model.specs.Renewal.{may_open, opens}
-use Rattle.sx_model.specs.Step.{changed_views, first_present, idle, same_side, step, with_pending, with_present, with_standing}
+use Rattle.sx_model.specs.Step.{changed_views, first_present, idle, step, with_pending, with_present, with_standing}
 use Rattle.sx_model.specs.Legal.{after}
 use Rattle.sx_honest.specs.Plain.{plain_start}
 use Rattle.sx_honest.specs.Course.{open_items, packet_items, part_items, parts_items}

@@ -10,10 +10,10 @@ use Rattle.sx_lang.specs.declared.sides.Side.TheVariants.{From, To}
 use Rattle.sx_mean.specs.declared.apps.Link.{Link}
 use Rattle.sx_mean.specs.declared.events.End.{End}
 use Rattle.sx_mean.specs.Application.{AppTree}
-use Rattle.sx_mean.specs.Ends.{ends_after, ends_of, receiving, sending}
+use Rattle.sx_mean.specs.Ends.{ends_after, ends_of, receiving, sending, same_side}
 use Rattle.sx_model.specs.State.{EndView}
 use Rattle.sx_model.specs.Renewal.{takes}
-use Rattle.sx_model.specs.Step.{changed_views, same_side}
+use Rattle.sx_model.specs.Step.{changed_views}
 use Rattle.sx_honest.specs.Plain.{Waiting}
 use Rattle.sx_honest.specs.Course.{count_over, words_over}
 use Rattle.sx_honest.proofs.Agreement.{view_of}

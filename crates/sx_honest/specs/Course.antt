@@ -9,11 +9,11 @@ use Rattle.sx_mean.specs.declared.events.Act.{Act}
 use Rattle.sx_mean.specs.declared.events.End.{End}
 use Rattle.sx_mean.specs.declared.events.SourceEvent.{SourceEvent}
 use Rattle.sx_mean.specs.declared.events.SourceEvent.TheVariants as event
-use Rattle.sx_mean.specs.Application.{AppTree, PartTree, is_valid}
+use Rattle.sx_mean.specs.Application.{AppTree, PartTree, is_valid, is_sensor}
 use Rattle.sx_mean.specs.Ends.{ends_of}
 use Rattle.sx_trace.specs.declared.items.Item.{Item}
 use Rattle.sx_trace.specs.declared.items.Item.TheVariants as item
-use Rattle.sx_model.specs.Step.{is_sensor, kind_is}
+use Rattle.sx_model.specs.Step.{kind_is}
 use Rattle.sx_honest.specs.Plain.{MOST_DELIVERIES, Plain, Sampling, Waiting, acts_emit, acts_send}
 use Rattle.sx_honest.specs.Plain.{delivers, driver_of, is_still, oldest, plain_start, reaction}
 use Rattle.sx_honest.specs.Plain.{takes_reading}

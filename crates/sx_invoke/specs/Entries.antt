@@ -6,6 +6,7 @@ use Rattle.sx_lang.specs.declared.sides.Side.{Side}
 use Rattle.sx_lang.specs.declared.sides.Side.TheVariants.{From, To}
 use Rattle.sx_mean.specs.declared.events.End.{End}
 use Rattle.sx_mean.specs.declared.events.SourceEvent.TheVariants as event
+use Rattle.sx_mean.specs.Ends.{same_side}
 use Rattle.sx_rules.specs.declared.access.Violation.{Violation}
 use Rattle.sx_bus.specs.declared.devices.Window.{Window}
 use Rattle.sx_bus.specs.Devices.{cleared}
@@ -24,15 +25,9 @@ use Rattle.sx_invoke.specs.Acts.{with_piece, own_window, handled}
 
 -- Which end a packet is for.
 
--- the sides are the same
-abbrev pub has_side : Side → Side → Bool
-has_side From From = true
-has_side To To = true
-has_side _ _ = false
-
 -- the end is of this connection and side
 abbrev pub end_is : ℕ → Side → End → Bool
-end_is link side e = (e.link == link) && has_side side e.side
+end_is link side e = (e.link == link) && same_side side e.side
 
 -- the first such end from the k-th on, with its index
 abbrev pub end_found : ℕ → Side → ℕ → List End → Option (ℕ × End)

@@ -3,6 +3,7 @@ pub mod Kept
 pub mod Turns
 pub mod ValidApplications
 pub mod Ends
+pub mod LinkEnds
 pub mod Handlers
 pub mod Scope
 pub mod ActsGrow

@@ -34,6 +34,11 @@ declared_kind (Output x ∷ ds) = declared_kind ds
 declared_kind (Var x n ∷ ds) = declared_kind ds
 declared_kind (Array x n ∷ ds) = declared_kind ds
 
+-- the kind is a sensor's
+abbrev pub is_sensor : DeviceKind → Bool
+is_sensor Sensor = true
+is_sensor Actuator = false
+
 -- two kinds are equal
 abbrev pub same_kind : DeviceKind → DeviceKind → Bool
 same_kind Sensor Sensor = true

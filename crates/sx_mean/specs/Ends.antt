@@ -11,6 +11,12 @@ use Rattle.sx_mean.specs.declared.apps.Link.{Link}
 use Rattle.sx_mean.specs.declared.events.End.{End}
 use Rattle.sx_mean.specs.Application.{AppTree, PartTree, ends_from, ends_to, links_from, is_valid}
 
+-- two sides are the same
+abbrev pub same_side : Side → Side → Bool
+same_side From From = true
+same_side To To = true
+same_side _ _ = false
+
 -- the part's sending end of the n-th connection
 abbrev pub sending : ℕ → ℕ → Link → Option End
 sending n p l =

@@ -8,8 +8,8 @@ ghost use Rattle.sx_lang.specs.View.{block_of, handler_of, module_of, statement_
 ghost use Rattle.sx_mean.specs.Application.{any_part, block_packets, declared_kind, ends_from};
 ghost use Rattle.sx_mean.specs.Application.{ends_to, has_port, is_at, is_crowded, is_driven};
 ghost use Rattle.sx_mean.specs.Application.{is_loose, is_misplaced, is_overloaded, is_port};
-ghost use Rattle.sx_mean.specs.Application.{is_stray, is_too_large, is_valid, is_wrong, leaves};
-ghost use Rattle.sx_mean.specs.Application.{links_from, parts_at, parts_with, same_device};
+ghost use Rattle.sx_mean.specs.Application.{is_sensor, is_stray, is_too_large, is_valid, is_wrong};
+ghost use Rattle.sx_mean.specs.Application.{leaves, links_from, parts_at, parts_with, same_device};
 ghost use Rattle.sx_mean.specs.Application.{same_kind, sends_too_much, statement_packets};
 ghost use Rattle.sx_mean.specs.Places.{AreSizedDecls};
 ghost use Rattle.sx_mean.specs.View.{app_as, part_as};
@@ -25,6 +25,16 @@ pub struct AppDevice {
     pub node: u8,
     /// Whether it is a sensor or an actuator.
     pub kind: DeviceKind,
+}
+
+/// Whether the kind is a sensor's.
+pub fn is_sensor(kind: DeviceKind) -> bool
+    ensures { result ≡ is_sensor kind }
+{
+    match kind {
+        DeviceKind::Sensor => true,
+        DeviceKind::Actuator => false,
+    }
 }
 
 /// A module of an application, at its node.

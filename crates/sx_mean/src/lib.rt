@@ -16,6 +16,7 @@
 #![tactic(auto)]
 
 pub mod apps;
+pub mod connections;
 pub mod events;
 mod expressions;
 pub mod laws;

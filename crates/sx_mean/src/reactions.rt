@@ -19,7 +19,8 @@ use sx_check::checked::Checked;
 use sx_lang::names::Name;
 use sx_lang::tree::{Decl, Handler, Module};
 
-fn input_name(decls: &[Decl], number: u8) -> Option<Name>
+/// The name of the input of this number, none where the module has no such input.
+pub fn input_name(decls: &[Decl], number: u8) -> Option<Name>
     ensures { result ≡ nth (input_names decls.now) number }
 {
     let mut left = number;
@@ -34,7 +35,8 @@ fn input_name(decls: &[Decl], number: u8) -> Option<Name>
     None
 }
 
-fn handles(h: &Handler, input: &Option<Name>) -> bool
+/// The handler is the one of this input, or where there is none, of the sensor's samples.
+pub fn handles(h: &Handler, input: &Option<Name>) -> bool
     ensures { result ≡ same_input input.now h.now.input }
 {
     match (input, &h.input) {

@@ -5,7 +5,7 @@ use Rattle.std.proofs.lemmas.Option.{slice_get_cases, get_or_from_slice_get}
 use Rattle.std.proofs.lemmas.Bool.Decides.{nat_tests}
 use Rattle.sx_lang.specs.declared.sides.Side.{Side}
 use Rattle.sx_lang.specs.declared.sides.Side.TheVariants.{To}
-use Rattle.sx_mean.specs.Application.{AppTree, PartTree}
+use Rattle.sx_mean.specs.Application.{AppTree, PartTree, is_sensor}
 use Rattle.sx_mean.specs.declared.apps.Link.{Link}
 use Rattle.sx_mean.specs.declared.events.End.{End}
 use Rattle.sx_mean.specs.declared.events.SourceEvent.{SourceEvent}
@@ -15,7 +15,7 @@ use Rattle.sx_trace.specs.declared.items.Item.{Item}
 use Rattle.sx_trace.specs.declared.items.Item.TheVariants.{Reset, Protect, Sense, Read, Drain, Ask, Attested, Denied, Vouch, Open, Take, Out, Raw, Done, Packet, Forged, Busy, Skip, Budget}
 use Rattle.sx_model.specs.State.{EndView, Model, Pending, Present, Reading, Standing}
 use Rattle.sx_model.specs.Renewal.{boot_of, may_attest, may_open, opens, renewed, takes}
-use Rattle.sx_model.specs.Step.{◌>>?◌, changed_views, first_present, state_if, idle, is_fresh_with, is_nothing, is_sensor, is_vouched, is_word, kind_is, reacts, reset_at, step, is_undriven, waits, with_device, with_pending, with_present, with_standing, without_first}
+use Rattle.sx_model.specs.Step.{◌>>?◌, changed_views, first_present, state_if, idle, is_fresh_with, is_nothing, is_vouched, is_word, kind_is, reacts, reset_at, step, is_undriven, waits, with_device, with_pending, with_present, with_standing, without_first}
 use Rattle.sx_model.specs.Changes.{accepts_with, answers, at_index, finishes, if_so, is_accepted, is_end, is_finished, is_readable, is_refused, on_end, on_module, on_present, opens_ask, opens_end, opens_standing, protects, reacted, reads_from, refuses, resets, steps, takes_at, takes_fresh, takes_idle, vouches, with_stale, word_at, writes, writes_present}
 
 if_none : {A : Type 0} → (b : Bool) → if_so {A = A} b None ≡ None

@@ -4,13 +4,13 @@ use Rattle.std.specs.Prelude.{All, unwrap_or}
 use Rattle.std.proofs.lemmas.List.Elements.{All-set, All-weaker, All-get_or, All-replicate}
 use Rattle.std.proofs.lemmas.Option.{slice_get_cases, unwrap_or-slice_get}
 use Rattle.sx_lang.specs.Tree.{ModuleTree}
-use Rattle.sx_mean.specs.Application.{AppTree, PartTree}
+use Rattle.sx_mean.specs.Application.{AppTree, PartTree, is_sensor}
 use Rattle.sx_mean.specs.declared.events.End.{End}
 use Rattle.sx_mean.specs.declared.events.SourceEvent.{SourceEvent}
 use Rattle.sx_mean.specs.declared.events.SourceEvent.TheVariants as event
 use Rattle.sx_mean.specs.Ends.{ends_of}
 use Rattle.sx_model.specs.Reaction.{after_event, flow_of}
-use Rattle.sx_model.specs.Step.{◌>>?◌, absent_at, state_if, idle, is_sensor, is_word, kind_is, stale_at, is_undriven, waits, with_device}
+use Rattle.sx_model.specs.Step.{◌>>?◌, absent_at, state_if, idle, is_word, kind_is, stale_at, is_undriven, waits, with_device}
 use Rattle.sx_model.specs.Changes.{accepts, at_index, finishes, if_so, is_readable, is_refused, on_device, on_module, on_present, opens_ask, opens_standing, protects, puts, raised_at, reacted, reads_from, renewal, staled, steps, takes_at, takes_fresh, takes_present, vouches, with_module, with_stale, word_at, writes_present}
 use Rattle.sx_trace.specs.declared.items.Item.{Item}
 use Rattle.sx_trace.specs.declared.items.Item.TheVariants.{Reset, Protect, Sense, Read, Drain, Ask, Attested, Denied, Vouch, Open, Take, Out, Raw, Done, Packet, Forged, Busy, Skip, Budget}

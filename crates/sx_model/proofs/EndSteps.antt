@@ -8,12 +8,12 @@ use Rattle.sx_lang.specs.declared.sides.Side.{Side}
 use Rattle.sx_lang.specs.declared.sides.Side.TheVariants.{To}
 use Rattle.sx_mean.specs.declared.apps.Link.{Link}
 use Rattle.sx_mean.specs.Application.{AppTree, PartTree}
-use Rattle.sx_mean.specs.Ends.{ends_of}
+use Rattle.sx_mean.specs.Ends.{ends_of, same_side}
 use Rattle.sx_trace.specs.declared.items.Item.{Item}
 use Rattle.sx_trace.specs.declared.items.Item.TheVariants.{Open, Take}
 use Rattle.sx_model.specs.State.{EndView, Model, Present, Standing}
 use Rattle.sx_model.specs.Renewal.{boot_of, is_of, may_open, opens, renewed, takes}
-use Rattle.sx_model.specs.Step.{◌>>?◌, absent_at, changed_views, first_present, idle, is_vouched, same_side}
+use Rattle.sx_model.specs.Step.{◌>>?◌, absent_at, changed_views, first_present, idle, is_vouched}
 use Rattle.sx_model.proofs.EndViews.{changed_at, changed_other, first_closed, same_side-true, view_at}
 use Rattle.sx_model.proofs.HeldEnd.{Held, held_attested, held_opened, held_protected, held_raised, held_reset, held_taken, held_vouched, is_open}
 use Rattle.sx_model.proofs.Renewed.{renewed_at}

@@ -9,10 +9,10 @@ use Rattle.sx_lang.specs.declared.sides.Side.TheVariants.{From, To}
 use Rattle.sx_mean.specs.declared.apps.Link.{Link}
 use Rattle.sx_mean.specs.declared.events.End.{End}
 use Rattle.sx_mean.specs.Application.{AppTree}
-use Rattle.sx_mean.specs.Ends.{ends_after, ends_of, receiving}
+use Rattle.sx_mean.specs.Ends.{ends_after, ends_of, receiving, same_side}
 use Rattle.sx_model.specs.State.{EndView}
 use Rattle.sx_model.specs.Renewal.{is_of}
-use Rattle.sx_model.specs.Step.{◌>>?◌, changed_views, same_side}
+use Rattle.sx_model.specs.Step.{◌>>?◌, changed_views}
 
 -- the view of the end with this connection and side, if there is one
 abbrev pub view_at : ℕ → Side → List End → List EndView → Option EndView

@@ -7,11 +7,11 @@ use Rattle.sx_lang.specs.declared.sides.Side.{Side}
 use Rattle.sx_lang.specs.declared.sides.Side.TheVariants.{From, To}
 use Rattle.sx_mean.specs.declared.apps.Link.{Link}
 use Rattle.sx_mean.specs.Application.{AppTree, PartTree}
-use Rattle.sx_mean.specs.Ends.{ends_of}
+use Rattle.sx_mean.specs.Ends.{ends_of, same_side}
 use Rattle.sx_trace.specs.declared.items.Item.{Item}
 use Rattle.sx_trace.specs.declared.items.Item.TheVariants.{Open, Take}
 use Rattle.sx_model.specs.State.{Model, Standing, power_on}
-use Rattle.sx_model.specs.Step.{same_side, step}
+use Rattle.sx_model.specs.Step.{step}
 use Rattle.sx_model.specs.Legal.{Legal}
 use Rattle.sx_model.specs.Consequences.{OpensRise, TakesRise}
 use Rattle.sx_model.proofs.Along.{some_of, step_of}

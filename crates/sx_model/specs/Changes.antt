@@ -6,17 +6,17 @@ use Rattle.std.specs.Prelude.{nat_le, nat_lt, slice_get, slice_index, slice_set,
 use Rattle.std.specs.List.{position_from}
 use Rattle.sx_lang.specs.Tree.{ModuleTree}
 use Rattle.sx_lang.specs.declared.sides.Side.{Side}
-use Rattle.sx_mean.specs.Application.{AppTree, PartTree}
+use Rattle.sx_mean.specs.Application.{AppTree, PartTree, is_sensor}
 use Rattle.sx_mean.specs.declared.apps.Link.{Link}
 use Rattle.sx_mean.specs.declared.events.End.{End}
 use Rattle.sx_lang.specs.declared.sides.Side.TheVariants.{To}
 use Rattle.sx_mean.specs.declared.events.SourceEvent.{SourceEvent}
 use Rattle.sx_mean.specs.declared.events.SourceEvent.TheVariants as event
-use Rattle.sx_mean.specs.Ends.{ends_of}
+use Rattle.sx_mean.specs.Ends.{ends_of, same_side}
 use Rattle.sx_model.specs.Reaction.{after_event, flow_of}
 use Rattle.sx_model.specs.State.{EndView, Model, Pending, Present, Reading, Standing, Vouched}
 use Rattle.sx_model.specs.Step.{◌>>?◌, absent_at, first_present, idle, is_fresh_with, is_word}
-use Rattle.sx_model.specs.Step.{is_nothing, is_sensor, kind_is, is_vouched, same_side, after_sample}
+use Rattle.sx_model.specs.Step.{is_nothing, kind_is, is_vouched, after_sample}
 use Rattle.sx_model.specs.Step.{stale_at, is_undriven, waits, with_pending, without_first}
 use Rattle.sx_model.specs.Step.{wrote_raw}
 use Rattle.sx_trace.specs.declared.items.Item.{Item}

@@ -5,9 +5,8 @@ use Rattle.std.specs.Prelude.{slice_index, Option, Some, None, is_some, is_none,
 use Rattle.std.specs.List.{list_any}
 use Rattle.sx_lang.specs.Tree.{ModuleTree}
 use Rattle.sx_lang.specs.declared.tree.DeviceKind.{DeviceKind}
-use Rattle.sx_lang.specs.declared.tree.DeviceKind.TheVariants.{Sensor, Actuator}
 use Rattle.sx_lang.specs.declared.sides.Side.{Side}
-use Rattle.sx_lang.specs.declared.sides.Side.TheVariants.{From, To}
+use Rattle.sx_lang.specs.declared.sides.Side.TheVariants.{To}
 use Rattle.sx_mean.specs.Places.{initial_cells}
 use Rattle.sx_mean.specs.declared.apps.AppDevice.{AppDevice}
 use Rattle.sx_mean.specs.declared.events.End.{End}
@@ -15,11 +14,10 @@ use Rattle.sx_mean.specs.declared.events.SourceEvent.{SourceEvent}
 use Rattle.sx_mean.specs.declared.events.SourceEvent.TheVariants as event
 use Rattle.sx_trace.specs.declared.items.Item.{Item}
 use Rattle.sx_trace.specs.declared.items.Item.TheVariants.{Reset, Protect, Sense, Read, Drain, Ask}
-use Rattle.sx_trace.specs.declared.items.Item.TheVariants.{Attested, Denied, Vouch, Open, Take, Out}
-use Rattle.sx_trace.specs.declared.items.Item.TheVariants.{Raw, Done, Packet, Forged, Busy, Skip}
-use Rattle.sx_trace.specs.declared.items.Item.TheVariants.{Budget}
-use Rattle.sx_mean.specs.Application.{PartTree, AppTree}
-use Rattle.sx_mean.specs.Ends.{ends_of}
+use Rattle.sx_trace.specs.declared.items.Item.TheVariants.{Attested, Vouch, Open, Take, Out, Raw}
+use Rattle.sx_trace.specs.declared.items.Item.TheVariants.{Done}
+use Rattle.sx_mean.specs.Application.{PartTree, AppTree, is_sensor}
+use Rattle.sx_mean.specs.Ends.{ends_of, same_side}
 use Rattle.sx_model.specs.State.{Reading, EndView, Pending, Present, Vouched, Standing, Model}
 use Rattle.sx_model.specs.Renewal.{may_attest, renewed, boot_of, opens, may_open, takes}
 use Rattle.sx_model.specs.Reaction.{flow_of, after_event}
@@ -44,11 +42,6 @@ with_present s m x p = with_standing s m (record x { present = Some p })
 -- the state with another reading of a device
 abbrev pub with_device : Model → ℕ → Reading → Model
 with_device s d r = record s { devices = slice_set s.devices d r }
-
--- the kind is a sensor's
-abbrev pub is_sensor : DeviceKind → Bool
-is_sensor Sensor = true
-is_sensor Actuator = false
 
 -- the module is present, and nothing is pending
 abbrev pub idle : Standing → Option Present
@@ -186,13 +179,6 @@ was_attested app s m b =
           Some (record { boot = b; floors = epochs });
     })) { epochs = epochs })))
 
--- two sides are the same
-abbrev pub same_side : Side → Side → Bool
-same_side From From = true
-same_side From To = false
-same_side To From = false
-same_side To To = true
-
 -- the views of the ends, with a change of that of the end with this connection and side; none where
 -- there is no such end
 abbrev pub changed_views : (EndView → Option EndView) → ℕ → Side → List End → List EndView
@@ -285,15 +271,10 @@ step app s (Read m v) = has_read app s m v
 step app s (Drain d) = after_drain app s d
 step app s (Ask m a) = asked_of s m a
 step app s (Attested m b) = was_attested app s m b
-step app s (Denied m) = Some s
 step app s (Vouch m a) = has_vouched app s m a
 step app s (Open m c side epoch) = has_opened app s m c side epoch
 step app s (Take m c i v) = has_taken app s m c i v
 step app s (Out m v) = has_written s m v
 step app s (Raw d v) = wrote_raw app s d
 step app s (Done m status k) = is_done app s m status k
-step app s (Packet k n) = Some s
-step app s (Forged m) = Some s
-step app s (Busy n) = Some s
-step app s (Skip n) = Some s
-step app s (Budget n) = Some s
+step app s _ = Some s

@@ -3,22 +3,13 @@
 ghost use Rattle.std.specs.Prelude.{◌≡◌, ◌<◌, ◌&&◌, false, is_some, length, map, not, slice_get};
 ghost use Rattle.std.specs.Prelude.{slice_set, unwrap_or};
 ghost use Rattle.sx_mean.specs.View.{app_as, part_as};
-ghost use Rattle.sx_model.specs.Step.{after_drain, drives, is_sensor, is_stale, kind_is};
+ghost use Rattle.sx_mean.specs.Application.{is_sensor};
+ghost use Rattle.sx_model.specs.Step.{after_drain, drives, is_stale, kind_is};
 ghost use Rattle.sx_model.specs.Step.{after_sample, is_undriven, waits, wrote_raw};
 ghost use Rattle.sx_model.specs.Changes.{drains, takes_fresh};
 
 use crate::state::{Reading, Standing, State};
-use sx_lang::tree::DeviceKind;
-use sx_mean::apps::{App, AppDevice, Part};
-
-fn is_sensor(kind: DeviceKind) -> bool
-    ensures { result ≡ is_sensor kind }
-{
-    match kind {
-        DeviceKind::Sensor => true,
-        DeviceKind::Actuator => false,
-    }
-}
+use sx_mean::apps::{App, AppDevice, Part, is_sensor};
 
 /// Whether the device of this number is a sensor.
 pub(crate) fn has_sensor(devices: &[AppDevice], device: u8) -> bool

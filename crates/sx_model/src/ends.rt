@@ -1,73 +1,14 @@
-//! The ends of connections that a module holds, and how they open.
+//! The ends of connections that a module holds: which one a link and a side name, and how it opens.
 
-ghost use Rattle.std.specs.Prelude.{◌≡◌, ◌+◌, ◌<◌, ◌≤◌, ◌&&◌, ◌++◌, IfOk, OnOk, false, is_some};
-ghost use Rattle.std.specs.Prelude.{length, slice_index, unwrap_or};
-ghost use Rattle.std.specs.Option.{option_to_list};
-ghost use Rattle.sx_mean.specs.Ends.{ends_after, receiving, sending};
+ghost use Rattle.std.specs.Prelude.{◌≡◌, ◌+◌, ◌<◌, ◌≤◌, ◌&&◌, false, is_some, length, slice_index};
+ghost use Rattle.std.specs.Prelude.{unwrap_or};
+ghost use Rattle.sx_mean.specs.Ends.{same_side};
 ghost use Rattle.sx_model.specs.Changes.{at_index, end_at, is_end, on_end};
 ghost use Rattle.sx_model.specs.Renewal.{is_below, opens};
-ghost use Rattle.sx_model.specs.Step.{same_side};
 
 use crate::state::EndView;
-use std::alloc::{AllocError, Global};
 use sx_lang::sides::Side;
-use sx_mean::apps::Link;
 use sx_mean::events::End;
-
-fn sending(n: u8, m: u8, link: &Link) -> Option<End>
-    ensures { result ≡ sending n m link.now }
-{
-    if link.from == m {
-        Some(End {
-            link: n,
-            side: Side::From,
-            port: link.output,
-        })
-    } else {
-        None
-    }
-}
-
-fn receiving(n: u8, m: u8, link: &Link) -> Option<End>
-    ensures { result ≡ receiving n m link.now }
-{
-    if link.to == m {
-        Some(End {
-            link: n,
-            side: Side::To,
-            port: link.input,
-        })
-    } else {
-        None
-    }
-}
-
-fn add_end(ends: &mut Vec<End>, end: Option<End>) -> Result<(), AllocError>
-    ensures { OnOk result (ends.new.items ≡ ends.old.items ++ option_to_list «end») }
-{
-    match end {
-        Some(end) => {
-            ends.push(end)?;
-            Ok(())
-        }
-        None => Ok(()),
-    }
-}
-
-/// The ends that a module holds, in connection order, the sending one first.
-#[tactic(auto, using(crate::proofs::LinkEnds::both_ends))]
-pub(crate) fn ends_of(alloc: Global, links: &[Link], m: u8) -> Result<Vec<End>, AllocError>
-    requires { length links.now ≤ 256 }
-    ensures { IfOk result (λ ends. ends.items ≡ ends_after 0 m links.now) }
-{
-    let mut ends = Vec::new(alloc);
-    for n in 0..links.len() {
-        let link = &links[n];
-        add_end(&mut ends, sending(n as u8, m, link))?;
-        add_end(&mut ends, receiving(n as u8, m, link))?;
-    }
-    Ok(ends)
-}
 
 fn same_side(left: Side, right: Side) -> bool
     ensures { result ≡ same_side left right }

@@ -6,11 +6,12 @@ ghost use Rattle.sx_mean.specs.View.{app_as};
 ghost use Rattle.sx_model.specs.Changes.{on_module, opens_end, opens_in, opens_standing};
 ghost use Rattle.sx_model.specs.Renewal.{may_open};
 
-use crate::ends::{ends_of, open_end};
+use crate::ends::open_end;
 use crate::state::{Attestation, Pending, Present, Standing, State};
 use std::alloc::{AllocError, Global};
 use sx_lang::sides::Side;
 use sx_mean::apps::App;
+use sx_mean::connections::ends_of;
 use sx_mean::events::End;
 
 /// An end of a connection, and the epoch in which it is to open.

@@ -7,11 +7,11 @@ ghost use Rattle.sx_mean.specs.View.{app_as};
 ghost use Rattle.sx_model.specs.Changes.{on_module, protects, protects_in};
 ghost use Rattle.sx_model.specs.Step.{first_present};
 
-use crate::ends::ends_of;
 use crate::state::{EndView, Present, Standing, State};
 use std::alloc::{AllocError, Global};
 use sx_check::checked::Checked;
 use sx_mean::apps::App;
+use sx_mean::connections::ends_of;
 use sx_mean::events::End;
 use sx_mean::stores::Store;
 

@@ -14,12 +14,13 @@ ghost use Rattle.sx_model.specs.Renewal.{is_at, takes};
 ghost use Rattle.sx_model.specs.Step.{◌>>?◌, is_fresh_with, is_word};
 
 use crate::devices::has_sensor;
-use crate::ends::{end_at, ends_of};
+use crate::ends::end_at;
 use crate::reactions::{idle_copy, react_module};
 use crate::state::{EndView, Present, Reading, State, Words};
 use std::alloc::{AllocError, Global};
 use sx_lang::sides::Side;
 use sx_mean::apps::{App, Part};
+use sx_mean::connections::ends_of;
 use sx_mean::events::{End, SourceEvent};
 
 fn is_fresh_with(value: u16, reading: &Reading) -> bool

@@ -2,7 +2,7 @@
 use Rattle.std.specs.Prelude.{◌≡◌, ℕ, ◌+◌, ◌<◌, ◌≤◌, ◌⊎◌, List, [], ◌∷◌, length, slice_get, Some}
 use Rattle.std.specs.Prelude.{None, true}
 use Rattle.sx_lang.specs.Sizes.{module_data_size}
-use Rattle.sx_mean.specs.Application.{declared_kind, PartTree}
+use Rattle.sx_mean.specs.Application.{declared_kind, PartTree, is_sensor}
 use Rattle.sx_mean.specs.declared.apps.AppDevice.{AppDevice}
 use Rattle.sx_check.specs.Rules.{first_broken}
 use Rattle.sx_rules.specs.declared.section.Layout.{Layout}
@@ -15,7 +15,7 @@ use Rattle.sx_image.specs.Image.{Image}
 use Rattle.sx_image.specs.Realizes.{Realizes}
 use Rattle.sx_invoke.specs.Devices.{HasDevices}
 use Rattle.sx_mean.specs.Ends.{ends_of}
-use Rattle.sx_model.specs.Step.{is_sensor, kind_is}
+use Rattle.sx_model.specs.Step.{kind_is}
 use Rattle.sx_model.specs.Legal.{Legal, before}
 use Rattle.sx_run.specs.Setting.{Site, Setting, windows_at}
 use Rattle.sx_run.specs.State.{switched_on}

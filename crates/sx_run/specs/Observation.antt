@@ -20,8 +20,8 @@ use Rattle.sx_machine.specs.State.{State}
 use Rattle.sx_mean.specs.declared.apps.Link.{Link}
 use Rattle.sx_mean.specs.declared.events.End.{End}
 use Rattle.sx_mean.specs.Application.{AppTree}
-use Rattle.sx_mean.specs.Ends.{ends_of}
-use Rattle.sx_model.specs.Step.{drives, same_side}
+use Rattle.sx_mean.specs.Ends.{ends_of, same_side}
+use Rattle.sx_model.specs.Step.{drives}
 use Rattle.sx_model.specs.Consequences.{device_of}
 use Rattle.sx_run.specs.Setting.{Setting, module_of, device_number}
 use Rattle.sx_run.specs.Wire.{is_ask, is_set_key_header, is_event_header, challenge_in, link_in}

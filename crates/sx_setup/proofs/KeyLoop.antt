@@ -9,13 +9,14 @@ use Rattle.sx_mean.specs.declared.events.End.{End}
 use Rattle.sx_mean.specs.Application.{PartTree}
 use Rattle.sx_mean.specs.Ends.{ends_of}
 use Rattle.sx_machine.specs.State.{State}
-use Rattle.sx_invoke.specs.Entries.{end_found, end_is, has_side}
+use Rattle.sx_invoke.specs.Entries.{end_found, end_is}
+use Rattle.sx_mean.specs.Ends.{same_side}
 use Rattle.sx_invoke.specs.ModuleState.{EndState, ModuleState, closed_end, end_of, initial_ends, with_end}
 use Rattle.sx_run.specs.Setting.{Site, Setting}
 use Rattle.sx_run.specs.Deployer.{set_key_entry}
 use Rattle.sx_run.specs.Ledger.{is_made}
 use Rattle.sx_run.specs.State.{World}
-use Rattle.sx_run.proofs.tie.Ends.{has_link, has_side-same}
+use Rattle.sx_run.proofs.tie.Ends.{has_link, same_side-same}
 use Rattle.sx_lists.proofs.Lists.{get_same}
 use Rattle.sx_run.proofs.tie.Lists.{get_within}
 use Rattle.sx_run.proofs.steps.Stretch.{set_same}
@@ -46,12 +47,12 @@ map_more : (f : End → EndState) (xs ys : List End) → map f (xs ++ ys) ≡ ma
 map_more f [] ys = refl
 map_more f (x ∷ xs) ys = ap (λ r. f x ∷ r) (map_more f xs ys)
 
-side_self : (side : Side) → has_side side side ≡ true
+side_self : (side : Side) → same_side side side ≡ true
 side_self From = refl
 side_self To = refl
 
 end_self : (e : End) → end_is e.link e.side e ≡ true
-end_self e = and_from (e.link == e.link) (has_side e.side e.side) (eq-eqb e.link e.link refl) (side_self e.side)
+end_self e = and_from (e.link == e.link) (same_side e.side e.side) (eq-eqb e.link e.link refl) (side_self e.side)
 
 has_mid : (before es : List End) (e : End) → HasEnd (before ++ e ∷ es) e
 has_mid [] es e = inl refl
@@ -67,8 +68,8 @@ found_from [] es e k d =
 found_from (x ∷ before) es e k d =
     let next : k + 1 + length before ≡ k + suc (length before) = omega arith in
     let other : end_is e.link e.side x ≡ false = false_from_ne_true (end_is e.link e.side x) (λ t.
-    let p = and_parts (x.link == e.link) (has_side e.side x.side) t in
-    d.0 e (has_mid before es e) (sym (eqb-true x.link e.link p.0), sym (has_side-same e.side x.side p.1))) in
+    let p = and_parts (x.link == e.link) (same_side e.side x.side) t in
+    d.0 e (has_mid before es e) (sym (eqb-true x.link e.link p.0), sym (same_side-same e.side x.side p.1))) in
     ap (λ (b : Bool). if b then placed k x else end_found e.link e.side (k + 1) (before ++ e ∷ es)) other
     ∙ found_from before es e (k + 1) d.1 ∙ ap (λ (j : ℕ). placed j e) next
 

@@ -6,9 +6,10 @@ use Rattle.std.proofs.lemmas.Bool.Decides.{eqb_tells}
 use Rattle.sx_lang.specs.declared.sides.Side.{Side}
 use Rattle.sx_lang.specs.declared.sides.Side.TheVariants.{From, To}
 use Rattle.sx_mean.specs.declared.events.End.{End}
+use Rattle.sx_mean.specs.Ends.{same_side}
 use Rattle.sx_mean.specs.Offsets.{end_at}
 use Rattle.sx_machine.specs.Memory.{word}
-use Rattle.sx_invoke.specs.Entries.{end_is, end_found, has_side}
+use Rattle.sx_invoke.specs.Entries.{end_is, end_found}
 use Rattle.sx_ir.specs.Meaning.{element}
 use Rattle.sx_stub.specs.Stub.{Cases, find_any, is_to}
 use Rattle.sx_stub.proofs.Chain.{found_by, case_test, AreWords}
@@ -39,18 +40,18 @@ eq_link a b x y p q = go (eqb_tells (a + 256 * x) (b + 256 * y)) (eqb_tells b a)
     go (inr h) (inl f) (inr g) = rw (h.0, f.0, g.0) refl
     go (inr h) (inr f) g = rw (h.0, f.0) refl
 
-same_side : (a b : Side) → (truth (is_to a) == truth (is_to b)) ≡ has_side a b
-same_side From From = refl
-same_side From To = refl
-same_side To From = refl
-same_side To To = refl
+same_sides : (a b : Side) → (truth (is_to a) == truth (is_to b)) ≡ same_side a b
+same_sides From From = refl
+same_sides From To = refl
+same_sides To From = refl
+same_sides To To = refl
 
 -- set-key: the connection's number and the side
 pub any_same : (found link : ℕ) (side : Side) (es : List End) → FewLinks es → link < 256
     → found_by (case_test (find_any found) (link + 256 * truth (is_to side))) 0 es ≡ end_found link side 0 es
 any_same found link side es few lt =
     found_same (case_test (find_any found) (link + 256 * truth (is_to side))) link side es 0 few (λ j e p. eq_link link e.link (truth (is_to side)) (truth (is_to e.side)) lt p
-    ∙ ap (λ (b : Bool). (e.link == link) && b) (same_side side e.side))
+    ∙ ap (λ (b : Bool). (e.link == link) && b) (same_sides side e.side))
 
 -- what is found has a place among the ends, and passes the test
 abbrev Passes : (ℕ → End → Bool) → ℕ → ℕ → Option (ℕ × End) → Type 0

@@ -3,7 +3,6 @@
 ghost use Rattle.std.specs.Prelude.{◌≡◌, ◌≤◌, OnOk, Option, Some, None, length, map};
 ghost use Rattle.sx_lang.specs.View.{handler_of, module_of};
 ghost use Rattle.sx_check.specs.Names.{same_input};
-ghost use Rattle.sx_mean.specs.React.{input_names, nth};
 ghost use Rattle.sx_mean.specs.Handlers.{handler_number, number_of};
 ghost use Rattle.sx_stub.specs.Stub.{handled_by};
 ghost use Rattle.sx_stub.specs.Puts.{Puts};
@@ -13,34 +12,10 @@ use std::alloc::AllocError;
 use sx_invoke::protocol::ALL_DONE;
 use sx_ir::Ir;
 use sx_lang::names::Name;
-use sx_lang::tree::{Decl, Handler, Module};
+use sx_lang::tree::{Handler, Module};
 use sx_mean::events::SourceEvent;
 use sx_mean::offsets::PIECES;
-
-fn input_name(decls: &[Decl], number: u8) -> Option<Name>
-    ensures { result ≡ nth (input_names decls.now) number }
-{
-    let mut left = number;
-    for d in decls {
-        if let Decl::Input(x) = d {
-            if left == 0 {
-                return Some(*x);
-            }
-            left -= 1;
-        }
-    }
-    None
-}
-
-fn handles(h: &Handler, input: &Option<Name>) -> bool
-    ensures { result ≡ same_input input.now h.now.input }
-{
-    match (input, &h.input) {
-        (None, None) => true,
-        (Some(x), Some(y)) => x == y,
-        _ => false,
-    }
-}
+use sx_mean::reactions::{handles, input_name};
 
 fn handler_number(handlers: &[Handler], input: &Option<Name>) -> Option<u8>
     requires few { length handlers.now ≤ 256 }

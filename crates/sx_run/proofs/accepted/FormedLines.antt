@@ -6,9 +6,9 @@ use Rattle.sx_lang.specs.declared.tree.DeviceKind.TheVariants.{Sensor, Actuator}
 use Rattle.sx_mean.specs.declared.apps.AppDevice.{AppDevice}
 use Rattle.sx_tag.specs.Mac.{Mac}
 use Rattle.sx_sched.specs.Lines.{Line, IsLine, Blank, Run, Finish, Put, Set, Take, Give, Forge, Sense, Irq, Reset, Ask, Answer, Load, Call}
-use Rattle.sx_deploy.specs.Deployment as deploy
 use Rattle.sx_deploy.specs.Deployment.{Deployed}
-use Rattle.sx_model.specs.Step.{is_sensor, kind_is}
+use Rattle.sx_mean.specs.Application.{is_sensor}
+use Rattle.sx_model.specs.Step.{kind_is}
 use Rattle.sx_run.specs.Law.{LineInForm, LinesInForm}
 use Rattle.sx_run.proofs.tie.Lists.{some_inj}
 use Rattle.sx_deploy.specs.Law as deployment
@@ -16,11 +16,11 @@ use Rattle.sx_run.specs.Setting.{Site}
 use Rattle.sx_run.specs.Accepted.{setting}
 use Rattle.sx_run.specs.Accepted.{AreLines}
 
-sensor_at : (ds : List AppDevice) (d : ℕ) → slice_get (map (λ (x : AppDevice). deploy.is_sensor x.kind) ds) d ≡ Some true → kind_is is_sensor (slice_get ds d) ≡ true
+sensor_at : (ds : List AppDevice) (d : ℕ) → slice_get (map (λ (x : AppDevice). is_sensor x.kind) ds) d ≡ Some true → kind_is is_sensor (slice_get ds d) ≡ true
 sensor_at [] d e = absurd cc
 sensor_at (x ∷ ds) zero e = by_kind x.kind (some_inj _ true e)
   where
-    by_kind : (k : DeviceKind) → deploy.is_sensor k ≡ true → is_sensor k ≡ true
+    by_kind : (k : DeviceKind) → is_sensor k ≡ true → is_sensor k ≡ true
     by_kind Sensor h = refl
     by_kind Actuator h = absurd cc
 sensor_at (x ∷ ds) (suc d) e = sensor_at ds d e

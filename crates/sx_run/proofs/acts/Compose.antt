@@ -9,10 +9,11 @@ use Rattle.sx_mean.specs.declared.apps.AppDevice.{AppDevice}
 use Rattle.sx_machine.specs.declared.kinds.Refused.{Refused}
 use Rattle.sx_machine.specs.declared.kinds.Refused.TheVariants.{Busy, Guarded, Masked}
 use Rattle.sx_machine.specs.State.{State, reset as restarted}
+use Rattle.sx_mean.specs.Application.{is_sensor}
 use Rattle.sx_model.specs.State.{power_on, Model}
 use Rattle.sx_machine.specs.Step.{step as stepped_node}
 use Rattle.sx_machine.specs.Acts.{put as put_at, set as set_register, take as take_from, sense as sense_on, irq as interrupt}
-use Rattle.sx_model.specs.Step.{is_sensor, kind_is}
+use Rattle.sx_model.specs.Step.{kind_is}
 use Rattle.sx_model.specs.Legal.{Legal, before}
 use Rattle.sx_run.specs.Setting.{Site, Setting}
 use Rattle.sx_run.specs.State.{World, Acted, switched_on}

@@ -13,9 +13,9 @@ use Rattle.sx_machine.specs.declared.kinds.Refused.{Refused}
 use Rattle.sx_machine.specs.State.{State}
 use Rattle.sx_machine.specs.Acts.{busy, unless, sense as sense_on}
 use Rattle.sx_machine.proofs.Stays.{sense_is_node, busy_idle}
-use Rattle.sx_mean.specs.Application.{PartTree}
+use Rattle.sx_mean.specs.Application.{PartTree, is_sensor}
 use Rattle.sx_model.specs.State.{Reading, Standing, Model}
-use Rattle.sx_model.specs.Step.{is_sensor, with_device, after_sample as model_sensed}
+use Rattle.sx_model.specs.Step.{with_device, after_sample as model_sensed}
 use Rattle.sx_run.specs.Setting.{Site, Setting, devices_at, device_number}
 use Rattle.sx_run.specs.Ledger.{Made}
 use Rattle.sx_run.specs.State.{World}

@@ -20,7 +20,7 @@ use Rattle.sx_mean.specs.declared.events.Act.TheVariants.{Send, Emit}
 use Rattle.sx_mean.specs.declared.events.SourceEvent.{SourceEvent}
 use Rattle.sx_mean.specs.declared.events.SourceEvent.TheVariants as source
 use Rattle.sx_mean.specs.declared.apps.AppDevice.{AppDevice}
-use Rattle.sx_mean.specs.Application.{declared_kind, PartTree}
+use Rattle.sx_mean.specs.Application.{declared_kind, PartTree, is_sensor}
 use Rattle.sx_mean.specs.Meaning.{HandlerState as Run, value, local_place, forget, times, after_statement, after_block}
 use Rattle.sx_mean.specs.Places.{output_number, array_length}
 use Rattle.sx_mean.specs.React.{nth, input_names, handler_of_name, handler_at, value_of, start, run, react}
@@ -38,7 +38,7 @@ use Rattle.sx_invoke.specs.Acts.{own_window}
 use Rattle.sx_invoke.specs.Devices.{HasDevices}
 use Rattle.sx_image.specs.Image.{setup_at}
 use Rattle.sx_mean.specs.Ends.{ends_of}
-use Rattle.sx_model.specs.Step.{is_sensor, kind_is}
+use Rattle.sx_model.specs.Step.{kind_is}
 use Rattle.sx_run.specs.Setting.{Site, Setting, device_number, devices_at, windows_at}
 use Rattle.sx_run.specs.Run.{place_at}
 use Rattle.sx_run.specs.Law.{IsSoundSetting, IsDeployedModule, devices_of}

@@ -19,11 +19,11 @@ use Rattle.sx_invoke.specs.ModuleState.{EndState, ModuleState, end_of, with_end,
 use Rattle.sx_invoke.specs.Marks.{Mark, Wrapped, Unwrapped, Sampled, Actuated}
 use Rattle.sx_invoke.specs.Progress.{Progress, Invoked, Returns, Violates}
 use Rattle.sx_invoke.specs.Entries.{end_found}
-use Rattle.sx_mean.specs.Application.{PartTree, AppTree}
+use Rattle.sx_mean.specs.Application.{PartTree, AppTree, is_sensor}
 use Rattle.sx_mean.specs.Ends.{ends_of}
 use Rattle.sx_model.specs.State.{Reading, EndView, Pending, Present, Vouched as Vow, Attestation, Standing, Model, FIELDS}
 use Rattle.sx_model.specs.Reaction.{flow_of, after_event}
-use Rattle.sx_model.specs.Step.{idle, changed_views, is_word, has_taken, has_opened, has_vouched, has_written, has_read, kind_is, is_sensor, waits, is_done, is_vouched, step}
+use Rattle.sx_model.specs.Step.{idle, changed_views, is_word, has_taken, has_opened, has_vouched, has_written, has_read, kind_is, waits, is_done, is_vouched, step}
 use Rattle.sx_model.specs.Renewal.{takes, opens, is_below, may_open}
 use Rattle.sx_run.specs.Setting.{device_number}
 use Rattle.sx_run.specs.Wire.{begins, is_ask, is_set_key_header, is_event_header, challenge_in, link_in, epoch_in, last_in, value_in}

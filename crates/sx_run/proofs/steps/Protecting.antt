@@ -74,7 +74,7 @@ first_ends (e ∷ es) sent = (record { epoch = refl; field = λ o. absurd (true�
 
 none_open : (c : ℕ) (side : Side) (es : List End) → open_at c side es (map (λ e. record { epoch = None; next = 0 }) es) ≡ None
 none_open c side [] = refl
-none_open c side (e ∷ es) = either_none ((e.link == c) && Rattle.sx_model.specs.Step.same_side e.side side) (none_open c side es)
+none_open c side (e ∷ es) = either_none ((e.link == c) && Rattle.sx_mean.specs.Ends.same_side e.side side) (none_open c side es)
   where
     either_none : (b : Bool) → open_at c side es (map (λ e. record { epoch = None; next = 0 }) es) ≡ None
         → (if b then None else open_at c side es (map (λ e. record { epoch = None; next = 0 }) es)) ≡ None

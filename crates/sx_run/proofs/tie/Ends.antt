@@ -8,11 +8,11 @@ use Rattle.sx_lang.specs.declared.sides.Side.TheVariants.{From, To}
 use Rattle.sx_mean.specs.declared.apps.Link.{Link}
 use Rattle.sx_mean.specs.declared.events.End.{End}
 use Rattle.sx_invoke.specs.ModuleState.{EndState, end_of, with_end, epoch_of, link_of}
-use Rattle.sx_invoke.specs.Entries.{has_side, end_is, end_found}
+use Rattle.sx_invoke.specs.Entries.{end_is, end_found}
 use Rattle.sx_mean.specs.Application.{AppTree}
-use Rattle.sx_mean.specs.Ends.{receiving, ends_after, ends_of}
+use Rattle.sx_mean.specs.Ends.{receiving, ends_after, ends_of, same_side}
 use Rattle.sx_model.specs.State.{EndView}
-use Rattle.sx_model.specs.Step.{◌>>?◌, same_side, changed_views}
+use Rattle.sx_model.specs.Step.{◌>>?◌, changed_views}
 use Rattle.sx_model.specs.Renewal.{is_at, takes, is_below, opens}
 use Rattle.sx_run.specs.Observation.{is_end}
 use Rattle.sx_run.proofs.tie.Lists.{some_inj}
@@ -46,17 +46,17 @@ found_at link side es place e h =
     let r = found_from link side 0 es place e h in
     subst (λ j. FoundAt link side es j e) (sym (r.1 ∙ omega arith)) r.2
 
-pub same_sides : (a b : Side) → has_side a b ≡ same_side b a
+pub same_sides : (a b : Side) → same_side a b ≡ same_side b a
 same_sides From From = refl
 same_sides From To = refl
 same_sides To From = refl
 same_sides To To = refl
 
-pub has_side-same : (a b : Side) → has_side a b ≡ true → b ≡ a
-has_side-same From From e = refl
-has_side-same From To e = absurd (true≢false (sym e))
-has_side-same To From e = absurd (true≢false (sym e))
-has_side-same To To e = refl
+pub same_side-same : (a b : Side) → same_side a b ≡ true → b ≡ a
+same_side-same From From e = refl
+same_side-same From To e = absurd (true≢false (sym e))
+same_side-same To From e = absurd (true≢false (sym e))
+same_side-same To To e = refl
 
 pub end_is-same : (link : ℕ) (side : Side) (e : End) (b : Bool) → end_is link side e ≡ b → ((e.link == link) && same_side e.side side) ≡ b
 end_is-same link side e b h = ap (λ t. (e.link == link) && t) (sym (same_sides side e.side)) ∙ h
@@ -88,7 +88,7 @@ takes_open : (epoch i : ℕ) (v : EndView) → v.epoch ≡ Some epoch → v.next
 takes_open epoch i v e le = rw (e, same_number epoch, le-leb v.next i le) refl
 
 is_to : (link : ℕ) (e : End) → end_is link To e ≡ true → e.side ≡ To
-is_to link e h = has_side-same To e.side (and_parts (e.link == link) (has_side To e.side) h).1
+is_to link e h = same_side-same To e.side (and_parts (e.link == link) (same_side To e.side) h).1
 
 counts_to : (side : Side) (x : EndState) (v : EndView) (words : Option (List ℕ)) → side ≡ To → Counts side x v words → x.number ≡ v.next
 counts_to side x v words e h = subst (λ s. Counts s x v words) e h
@@ -118,10 +118,10 @@ takes_at link epoch i (x ∷ es) (a ∷ xs) (v ∷ vs) sent (suc j) e h f o same
 -- Opening.
 
 end_is-link : (link : ℕ) (side : Side) (e : End) → end_is link side e ≡ true → e.link ≡ link
-end_is-link link side e h = eqb-true e.link link (and_parts (e.link == link) (has_side side e.side) h).0
+end_is-link link side e h = eqb-true e.link link (and_parts (e.link == link) (same_side side e.side) h).0
 
 end_is-side : (link : ℕ) (side : Side) (e : End) → end_is link side e ≡ true → e.side ≡ side
-end_is-side link side e h = has_side-same side e.side (and_parts (e.link == link) (has_side side e.side) h).1
+end_is-side link side e h = same_side-same side e.side (and_parts (e.link == link) (same_side side e.side) h).1
 
 opens_below : (epoch : ℕ) (v : EndView) → is_below v.epoch epoch ≡ true → opens epoch v ≡ Some (record { epoch = Some epoch; next = 0 })
 opens_below epoch v e = rw e refl

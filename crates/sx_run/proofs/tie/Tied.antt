@@ -26,11 +26,11 @@ use Rattle.sx_invoke.specs.Entries.{end_found}
 use Rattle.sx_machine.specs.Node.{IsNode}
 use Rattle.sx_image.specs.Image.{private_bytes, setup_at}
 use Rattle.sx_image.specs.Realizes.{Underway, Aborted, Exited}
-use Rattle.sx_mean.specs.Application.{PartTree, AppTree}
-use Rattle.sx_mean.specs.Ends.{ends_of}
+use Rattle.sx_mean.specs.Application.{PartTree, AppTree, is_sensor}
+use Rattle.sx_mean.specs.Ends.{ends_of, same_side}
 use Rattle.sx_model.specs.State.{Reading, EndView, Present, Attestation, Standing, Model, FIELDS}
 use Rattle.sx_model.specs.Reaction.{flow_of, after_event}
-use Rattle.sx_model.specs.Step.{is_vouched, same_side, is_sensor, kind_is}
+use Rattle.sx_model.specs.Step.{is_vouched, kind_is}
 use Rattle.sx_model.specs.Renewal.{boot_of}
 use Rattle.sx_run.specs.Setting.{Site, Setting, is_at_site, device_number, windows_at}
 use Rattle.sx_run.specs.Wire.{ask_packet, set_key_header, is_ask, is_set_key_header, is_event_header, challenge_in, link_in, epoch_in, last_in, value_in}

@@ -7,10 +7,9 @@ use Rattle.sx_lang.specs.declared.sides.Side.{Side}
 use Rattle.sx_lang.specs.declared.sides.Side.TheVariants.{From, To}
 use Rattle.sx_mean.specs.declared.apps.Link.{Link}
 use Rattle.sx_mean.specs.declared.events.End.{End}
-use Rattle.sx_mean.specs.Ends.{receiving, ends_after}
+use Rattle.sx_mean.specs.Ends.{receiving, ends_after, same_side}
 use Rattle.sx_model.specs.State.{EndView}
 use Rattle.sx_model.specs.Reaction.{field_at}
-use Rattle.sx_model.specs.Step.{same_side}
 use Rattle.sx_run.proofs.tie.Tied.{HasEnd, open_at}
 use Rattle.sx_run.proofs.tie.Ends.{has_link}
 use Rattle.sx_run.proofs.tie.Flows.{AllSending}

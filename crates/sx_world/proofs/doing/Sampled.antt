@@ -15,7 +15,8 @@ use Rattle.sx_trace.specs.declared.items.Item.TheVariants.{Sense}
 use Rattle.sx_machine.specs.Acts.{sense}
 use Rattle.sx_machine.specs.State.{State}
 use Rattle.sx_machine.specs.Node.{shapes}
-use Rattle.sx_deploy.specs.Deployment.{Deployed, is_sensor}
+use Rattle.sx_mean.specs.Application.{is_sensor}
+use Rattle.sx_deploy.specs.Deployment.{Deployed}
 use Rattle.sx_deploy.specs.Law.{IsSoundDeployment}
 use Rattle.sx_run.specs.Setting.{Site, Setting, kind_of, windows_at}
 use Rattle.sx_run.specs.State.{Acted}
