@@ -1,4 +1,5 @@
 -- A private section that holds a source state: its locals and cells.
+use Rattle.std.specs.Prelude.{unwrap_or}
 use Rattle.std.proofs.Common.{◌≡◌, ◌≢◌, ℕ, ◌+◌, ◌-◌, ◌*◌, ◌%◌, ◌<◌, ◌≤◌, Bool, true, false, if◌then◌else◌, List, [], ◌∷◌, ◌++◌, length, get_or, take, nat_lt}
 use Rattle.std.proofs.Common.{refl, sym, ap, ◌∙◌, subst, arith, length-append}
 use Rattle.std.specs.Prelude.{All, slice_set}
@@ -7,7 +8,7 @@ use Rattle.sx_lang.specs.declared.tree.Decl.{Decl}
 use Rattle.sx_lang.specs.Tree.{Expression, Constant, Variable, Indexed, Applied, Combined}
 use Rattle.sx_lang.specs.Sizes.{declared_cells}
 use Rattle.sx_mean.specs.Places.{place, array_length, initial_cells}
-use Rattle.sx_mean.specs.Meaning.{HandlerState, or_cell, word, element, value, local_place, new_local, define, assign, assign_element, forget}
+use Rattle.sx_mean.specs.Meaning.{HandlerState, word, element, value, local_place, new_local, define, assign, assign_element, forget}
 use Rattle.sx_machine.specs.Memory as memory
 use Rattle.sx_machine.specs.Memory.{even, put_word}
 use Rattle.sx_mean.specs.Offsets.{event_at, local_at, cell_at}
@@ -41,7 +42,7 @@ module _ (ds : List Decl) (n : ℕ) (names : List (List ℕ)) (st : HandlerState
   read_local x is =
       let is2 = subst (λ ns. nat_lt (index_of ns x) (length ns) ≡ true) (sym h.named) is in
       let e : 72 + 2 * 0 + 2 * index_of (names_of st.locals) x ≡ 72 + 2 * index_of (names_of st.locals) x = omega arith in
-      sym (ap (λ o. or_cell o (get_or st.cells (place ds x) 0)) (look_at st.locals priv (local_at 0) x h.locals is2)
+      sym (ap (λ o. unwrap_or o (get_or st.cells (place ds x) 0)) (look_at st.locals priv (local_at 0) x h.locals is2)
       ∙ ap (memory.word priv) e
       ∙ ap (λ ns. memory.word priv (72 + 2 * index_of ns x)) h.named)
 
@@ -54,7 +55,7 @@ module _ (ds : List Decl) (n : ℕ) (names : List (List ℕ)) (st : HandlerState
       ∙ ap (λ a. (memory.word priv a + get_or (initial_cells ds) (place ds x) 0) % 65536) (sym e)
       ∙ sym r
       ∙ ap (λ l. get_or l (place ds x) 0) h.cells
-      ∙ sym (ap (λ o. or_cell o (get_or st.cells (place ds x) 0)) (look_past st.locals x is2))
+      ∙ sym (ap (λ o. unwrap_or o (get_or st.cells (place ds x) 0)) (look_past st.locals x is2))
 
   pub read_element : (x : List ℕ) (i : ℕ) → (if nat_lt i (array_length ds x) then memory.word priv (cell_at n (place ds x) + 2 * i) else 0) ≡ element ds st x i
   read_element x i = go (nat_lt i (array_length ds x)) refl

@@ -1,9 +1,10 @@
 -- The locals of a source state, where they stand in their slots.
+use Rattle.std.specs.Prelude.{unwrap_or}
 use Rattle.std.proofs.Common.{◌≡◌, ℕ, suc, ◌+◌, ◌*◌, ◌<◌, Bool, true, false, not, cond, if◌then◌else◌, List, [], ◌∷◌, length, Some, nat_lt, sym, ap, ◌∙◌, arith}
 use Rattle.std.proofs.lemmas.Bool.{ltb-true}
 use Rattle.sx_check.specs.Names.{same}
 use Rattle.sx_mean.specs.declared.moments.Local.{Local}
-use Rattle.sx_mean.specs.Meaning.{look_up, or_cell}
+use Rattle.sx_mean.specs.Meaning.{look_up}
 use Rattle.sx_mean.specs.Scope.{index_of, names_of}
 use Rattle.sx_machine.specs.Memory as memory
 use Rattle.sx_lower.proofs.Slots.{InSlots}
@@ -24,10 +25,10 @@ look_at (l ∷ ls) priv at x s h = go (same x l.name) h (look_at ls priv (at + 2
         more (sym (less_by_one (index_of (names_of ls) x) (length (names_of ls))) ∙ h) ∙ ap (λ n. Some (memory.word priv n)) e
 
 -- the value that is found is a word
-pub found_word : (ls : List Local) (priv : List ℕ) (at : ℕ) (x : List ℕ) (c : ℕ) → InSlots priv at ls → c < 65536 → or_cell (look_up ls x) c < 65536
+pub found_word : (ls : List Local) (priv : List ℕ) (at : ℕ) (x : List ℕ) (c : ℕ) → InSlots priv at ls → c < 65536 → unwrap_or (look_up ls x) c < 65536
 found_word [] priv at x c s h = h
 found_word (l ∷ ls) priv at x c s h = go (same x l.name) (found_word ls priv (at + 2) x c s.2 h)
   where
-    go : (t : Bool) → or_cell (look_up ls x) c < 65536 → or_cell (if t then Some l.value else look_up ls x) c < 65536
+    go : (t : Bool) → unwrap_or (look_up ls x) c < 65536 → unwrap_or (if t then Some l.value else look_up ls x) c < 65536
     go true more = s.1
     go false more = more

@@ -1,4 +1,5 @@
 -- Values, cells and acts are words.
+use Rattle.std.specs.Prelude.{unwrap_or}
 use Rattle.std.proofs.Common.{◌≡◌, ℕ, zero, suc, ◌+◌, ◌<◌, ◌≤◌, ◌==◌, Bool, true, false, if◌then◌else◌, List, [], ◌∷◌, length, get_or, nat_lt, nat_le, replicate, Option, Some, None, refl, ap, ◌∙◌, subst, arith, length-append}
 use Rattle.std.specs.Prelude.{All, slice_set}
 use Rattle.std.specs.List.{find}
@@ -21,7 +22,7 @@ use Rattle.sx_mean.specs.declared.events.SourceEvent.{SourceEvent}
 use Rattle.sx_mean.specs.declared.events.SourceEvent.TheVariants as event
 use Rattle.sx_mean.specs.declared.moments.Local.{Local}
 use Rattle.sx_mean.specs.Places.{place, array_length, initial_cells}
-use Rattle.sx_mean.specs.Meaning.{HandlerState, apply, combine, look_up, or_cell, value, local_place, new_local, act, assign, assign_element, define, forget, times, after_statement, after_block}
+use Rattle.sx_mean.specs.Meaning.{HandlerState, apply, combine, look_up, value, local_place, new_local, act, assign, assign_element, define, forget, times, after_statement, after_block}
 use Rattle.sx_mean.specs.React.{handler_at, handler_of_name, input_names, nth, run, start, value_of}
 use Rattle.sx_mean.specs.Words.{ActsOnWord, AreCells, IsLocalWord, ReactsInWords, StateHasWords}
 use Rattle.sx_lists.specs.Truth.{truth}
@@ -112,11 +113,11 @@ cell_word (c ∷ cells) (suc i) h = cell_word cells i (All-tail IsWord c cells h
 
 -- Values
 
-found_word : (ls : List Local) (x : List ℕ) (c : ℕ) → All IsLocalWord ls → IsWord c → IsWord (or_cell (look_up ls x) c)
+found_word : (ls : List Local) (x : List ℕ) (c : ℕ) → All IsLocalWord ls → IsWord c → IsWord (unwrap_or (look_up ls x) c)
 found_word [] x c s h = h
 found_word (l ∷ ls) x c s h = go (same x l.name) (found_word ls x c (All-tail IsLocalWord l ls s) h)
   where
-    go : (t : Bool) → IsWord (or_cell (look_up ls x) c) → IsWord (or_cell (if t then Some l.value else look_up ls x) c)
+    go : (t : Bool) → IsWord (unwrap_or (look_up ls x) c) → IsWord (unwrap_or (if t then Some l.value else look_up ls x) c)
     go true more = All-head IsLocalWord l ls s
     go false more = more
 

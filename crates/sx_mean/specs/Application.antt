@@ -3,7 +3,7 @@ use Rattle.std.specs.Prelude.{ℕ, ◌+◌, ◌-◌, if◌then◌else◌, Bool, 
 use Rattle.std.specs.Prelude.{[], ◌∷◌, Option, Some, None, ◌==◌, nat_lt, count_by, length}
 use Rattle.std.specs.List.{list_any}
 use Rattle.sx_lang.specs.declared.tree.Decl.{Decl}
-use Rattle.sx_lang.specs.declared.tree.Decl.TheVariants.{Device, Input, Output, Var, Array}
+use Rattle.sx_lang.specs.declared.tree.Decl.TheVariants.{Device}
 use Rattle.sx_lang.specs.declared.tree.DeviceKind.{DeviceKind}
 use Rattle.sx_lang.specs.declared.tree.DeviceKind.TheVariants.{Sensor, Actuator}
 use Rattle.sx_lang.specs.Tree.{Block, ModuleTree, Statement}
@@ -29,10 +29,7 @@ pub record AppTree : Type 0 where
 abbrev pub declared_kind : List Decl → Option DeviceKind
 declared_kind [] = None
 declared_kind (Device kind ∷ ds) = Some kind
-declared_kind (Input x ∷ ds) = declared_kind ds
-declared_kind (Output x ∷ ds) = declared_kind ds
-declared_kind (Var x n ∷ ds) = declared_kind ds
-declared_kind (Array x n ∷ ds) = declared_kind ds
+declared_kind (d ∷ ds) = declared_kind ds
 
 -- the kind is a sensor's
 abbrev pub is_sensor : DeviceKind → Bool
@@ -42,9 +39,8 @@ is_sensor Actuator = false
 -- two kinds are equal
 abbrev pub same_kind : DeviceKind → DeviceKind → Bool
 same_kind Sensor Sensor = true
-same_kind Sensor Actuator = false
-same_kind Actuator Sensor = false
 same_kind Actuator Actuator = true
+same_kind _ _ = false
 
 -- the device of a place among the devices is at this node, and of this kind
 abbrev pub is_at : List AppDevice → ℕ → ℕ → DeviceKind → Bool
@@ -55,15 +51,13 @@ is_at (e ∷ es) d node kind =
 -- a part has a device exactly where its module declares one, at its node and of the declared kind
 abbrev pub is_driven : List AppDevice → ℕ → Option ℕ → Option DeviceKind → Bool
 is_driven es node None None = true
-is_driven es node None (Some kind) = false
-is_driven es node (Some d) None = false
 is_driven es node (Some d) (Some kind) = is_at es d node kind
+is_driven es node _ _ = false
 
 -- two parts drive one device
 abbrev pub same_device : Option ℕ → Option ℕ → Bool
-same_device None d = false
-same_device (Some a) None = false
 same_device (Some a) (Some b) = a == b
+same_device _ _ = false
 
 -- how many packets it makes at most: each send counts once for each connection from its output
 abbrev pub statement_packets : (ℕ → ℕ) → List Decl → Statement → ℕ

@@ -1,7 +1,7 @@
 -- What expressions and statements mean, by cases on the source.
 use Rattle.std.specs.Prelude.{ℕ, zero, suc, ◌+◌, ◌*◌, ◌-◌, ◌%◌, Bool, List, [], ◌∷◌, ◌++◌, Option}
 use Rattle.std.specs.Prelude.{Some, None, ◌==◌, nat_lt, nat_le, if◌then◌else◌, length, take}
-use Rattle.std.specs.Prelude.{slice_index, slice_set, bit_and, bit_or, bit_xor}
+use Rattle.std.specs.Prelude.{slice_index, slice_set, unwrap_or, bit_and, bit_or, bit_xor}
 use Rattle.std.specs.List.{position_or_len}
 use Rattle.sx_lang.specs.declared.tree.Decl.{Decl}
 use Rattle.sx_lang.specs.declared.tree.UnOp.{UnOp}
@@ -51,14 +51,9 @@ abbrev pub look_up : List Local → List ℕ → Option ℕ
 look_up [] x = None
 look_up (l ∷ ls) x = if same x l.name then Some l.value else look_up ls x
 
--- a local's value, or else a cell's
-abbrev pub or_cell : Option ℕ → ℕ → ℕ
-or_cell None cell = cell
-or_cell (Some value) cell = value
-
 -- the value of a name: a local's, or else that of a variable's cell
 abbrev pub word : List Decl → HandlerState → List ℕ → ℕ
-word ds st x = or_cell (look_up st.locals x) (slice_index st.cells (place ds x))
+word ds st x = unwrap_or (look_up st.locals x) (slice_index st.cells (place ds x))
 
 -- the value of an array's element; past the array's end it is 0
 abbrev pub element : List Decl → HandlerState → List ℕ → ℕ → ℕ

@@ -2,7 +2,7 @@
 use Rattle.std.specs.Prelude.{ℕ, ◌-◌, ◌==◌, if◌then◌else◌, List, [], ◌∷◌, Option, Some, None}
 use Rattle.std.specs.List.{find}
 use Rattle.sx_lang.specs.declared.tree.Decl.{Decl}
-use Rattle.sx_lang.specs.declared.tree.Decl.TheVariants.{Device, Input, Output, Var, Array}
+use Rattle.sx_lang.specs.declared.tree.Decl.TheVariants.{Input}
 use Rattle.sx_lang.specs.Tree.{HandlerTree, ModuleTree}
 use Rattle.sx_check.specs.Names.{same_input}
 use Rattle.sx_mean.specs.declared.events.SourceEvent.{SourceEvent}
@@ -12,11 +12,8 @@ use Rattle.sx_mean.specs.Meaning.{HandlerState, new_local, in_block}
 -- the names of the inputs, in order of declaration
 abbrev pub input_names : List Decl → List (List ℕ)
 input_names [] = []
-input_names (Device kind ∷ ds) = input_names ds
 input_names (Input x ∷ ds) = x ∷ input_names ds
-input_names (Output x ∷ ds) = input_names ds
-input_names (Var x n ∷ ds) = input_names ds
-input_names (Array x n ∷ ds) = input_names ds
+input_names (d ∷ ds) = input_names ds
 
 -- the name at this index
 abbrev pub nth : List (List ℕ) → ℕ → Option (List ℕ)

@@ -4,7 +4,7 @@
 use Rattle.std.specs.Prelude.{◌≡◌, ℕ, ◌+◌, ◌<◌, false, if◌then◌else◌, List, [], ◌∷◌, ◌++◌, length}
 use Rattle.std.specs.Prelude.{get_or, nat_lt}
 use Rattle.sx_lang.specs.declared.tree.Decl.{Decl}
-use Rattle.sx_lang.specs.declared.tree.Decl.TheVariants.{Device, Input, Output, Var, Array}
+use Rattle.sx_lang.specs.declared.tree.Decl.TheVariants.{Var}
 use Rattle.sx_lang.specs.Sizes.{declared_cells}
 use Rattle.sx_lang.specs.Tree.{Expression, Constant, Variable, Indexed, Applied, Combined}
 use Rattle.sx_lang.specs.Tree.{Statement, Defines, Assigns, Stores, Chooses, Repeats, Sends, Emits}
@@ -16,11 +16,8 @@ use Rattle.sx_mean.specs.Scope.{index_of}
 
 -- the value that a declaration's first cell begins with
 abbrev pub own_value : Decl → ℕ
-own_value (Device kind) = 0
-own_value (Input y) = 0
-own_value (Output y) = 0
 own_value (Var y v) = v
-own_value (Array y n) = 0
+own_value _ = 0
 
 -- the first value of the variable of this name
 abbrev pub first_value : List Decl → List ℕ → ℕ

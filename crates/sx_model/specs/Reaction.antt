@@ -10,7 +10,7 @@ use Rattle.sx_mean.specs.declared.events.SourceEvent.{SourceEvent}
 use Rattle.sx_mean.specs.declared.events.Act.{Act}
 use Rattle.sx_mean.specs.declared.events.Act.TheVariants.{Send, Emit}
 use Rattle.sx_mean.specs.React.{react}
-use Rattle.sx_model.specs.State.{EndView, Present}
+use Rattle.sx_model.specs.State.{EndView, Present, owing}
 
 -- while acts are done: what was sent over each connection in each epoch, the emits, and how many
 -- pieces
@@ -52,11 +52,10 @@ sends output e view = is_from e.side && ((e.port == output) && is_some view.epoc
 
 -- a value is sent over each open connection of the output, in connection order
 abbrev pub sent_to : List End → List EndView → ℕ → ℕ → Flow → Flow
-sent_to [] views output v f = f
-sent_to (e ∷ es) [] output v f = f
 sent_to (e ∷ es) (view ∷ views) output v f =
     sent_to es views output v (if sends output e view then
     sent_over (field_of e view) v (slice_get f.sent (field_of e view)) f else f)
+sent_to _ _ output v f = f
 
 -- an act is done: a value is sent, or is one more emit
 abbrev pub done : List End → List EndView → Act → Flow → Flow
@@ -75,8 +74,5 @@ flow_of tree es event p sent = all_done es p.ends (react tree event p.cells).act
 
 -- the module after the event, with what it owes
 abbrev pub after_event : ModuleTree → SourceEvent → Flow → Present → Present
-after_event tree event f p = record p {
-  cells = (react tree event p.cells).cells;
-  pending =
-      Some (record { emits = f.emits; pieces = f.pieces });
-}
+after_event tree event f p =
+    record p { cells = (react tree event p.cells).cells; pending = owing f.emits f.pieces }

@@ -10,15 +10,13 @@ is_of m l = (l.from == m) || (l.to == m)
 
 -- the epochs with those of the module's connections raised by one
 abbrev pub raised_epochs : ℕ → List Link → List ℕ → List ℕ
-raised_epochs m [] es = es
-raised_epochs m (l ∷ ls) [] = []
 raised_epochs m (l ∷ ls) (e ∷ es) = (if is_of m l then e + 1 else e) ∷ raised_epochs m ls es
+raised_epochs m _ es = es
 
 -- one of the module's connections has the last epoch
 abbrev pub is_spent : ℕ → List Link → List ℕ → Bool
-is_spent m [] es = false
-is_spent m (l ∷ ls) [] = false
 is_spent m (l ∷ ls) (e ∷ es) = (is_of m l && nat_le 255 e) || is_spent m ls es
+is_spent m _ _ = false
 
 -- a module that was last attested at a boot, if any, may be attested at this one
 abbrev pub may_attest : ℕ → List Link → List ℕ → Option ℕ → ℕ → Bool

@@ -1,5 +1,5 @@
 -- Where a run of the source stands.
-use Rattle.std.specs.Prelude.{ℕ, false, List, [], Bool, Option, None, map, replicate}
+use Rattle.std.specs.Prelude.{ℕ, false, List, [], Bool, Option, Some, None, map, replicate}
 use Rattle.sx_mean.specs.Application.{AppTree}
 
 -- a device: its last value, and whether no one took it yet
@@ -17,6 +17,10 @@ pub record EndView : Type 0 where
 pub record Pending : Type 0 where
   pub emits : List ℕ
   pub pieces : ℕ
+
+-- these emits and this many pieces are owed
+abbrev pub owing : List ℕ → ℕ → Option Pending
+owing emits pieces = Some (record { emits = emits; pieces = pieces })
 
 -- a module that is present: its cells, its ends in their order, and the event that is pending, if
 -- any

@@ -19,6 +19,7 @@ use Rattle.sx_trace.specs.declared.items.Item.TheVariants.{Done}
 use Rattle.sx_mean.specs.Application.{PartTree, AppTree, is_sensor}
 use Rattle.sx_mean.specs.Ends.{ends_of, same_side}
 use Rattle.sx_model.specs.State.{Reading, EndView, Pending, Present, Vouched, Standing, Model}
+use Rattle.sx_model.specs.State.{owing}
 use Rattle.sx_model.specs.Renewal.{may_attest, renewed, boot_of, opens, may_open, takes}
 use Rattle.sx_model.specs.Reaction.{flow_of, after_event}
 
@@ -64,24 +65,21 @@ drives (Some x) d = x == d
 
 -- no driver of the device is present
 abbrev pub is_undriven : List PartTree → List Standing → ℕ → Bool
-is_undriven [] xs d = true
-is_undriven (q ∷ qs) [] d = true
 is_undriven (q ∷ qs) (x ∷ xs) d =
     not (drives q.device d && is_some x.present) && is_undriven qs xs d
+is_undriven _ _ d = true
 
 -- the node's modules are absent
 abbrev pub absent_at : ℕ → List PartTree → List Standing → List Standing
-absent_at n [] xs = xs
-absent_at n (q ∷ qs) [] = []
 absent_at n (q ∷ qs) (x ∷ xs) =
     (if q.node == n then record x { present = None } else x) ∷ absent_at n qs xs
+absent_at n _ xs = xs
 
 -- the node's devices aren't fresh
 abbrev pub stale_at : ℕ → List AppDevice → List Reading → List Reading
-stale_at n [] rs = rs
-stale_at n (d ∷ ds) [] = []
 stale_at n (d ∷ ds) (r ∷ rs) =
     (if d.node == n then record r { fresh = false } else r) ∷ stale_at n ds rs
+stale_at n _ rs = rs
 
 -- a node is reset: its modules are absent, its sensors aren't fresh, and its boot rises
 abbrev pub reset_at : AppTree → Model → ℕ → ℕ → Model
@@ -95,8 +93,7 @@ reset_at app s n boot = record s {
 abbrev pub first_present : ModuleTree → List End → Present
 first_present tree es = record {
   cells = initial_cells tree.decls;
-  ends =
-      map (λ e. record { epoch = None; next = 0 }) es;
+  ends = map (λ e. record { epoch = None; next = 0 }) es;
   pending = None;
 }
 
@@ -141,17 +138,12 @@ abbrev pub after_drain : AppTree → Model → ℕ → Option Model
 after_drain app s d =
     slice_get s.devices d >>? (λ r.
     state_if (r.fresh && (kind_is is_sensor (slice_get app.devices d)
-    && is_undriven app.parts s.modules d))
-    (with_device s d (record r { fresh = false })))
+    && is_undriven app.parts s.modules d)) (with_device s d (record r { fresh = false })))
 
 -- the deployer asks a module; the challenge is the number of asks before
 abbrev pub asked_of : Model → ℕ → ℕ → Option Model
-asked_of s m a =
-    slice_get s.modules m >>? (λ x.
-    state_if (a == s.asks) (record (with_standing s m (record x { asked = Some a })) {
-      asks =
-          s.asks + 1;
-    }))
+asked_of s m a = slice_get s.modules m >>? (λ x. state_if (a == s.asks)
+    (with_standing (record s { asks = s.asks + 1 }) m (record x { asked = Some a })))
 
 -- a module vouches for a challenge at its node's boot, in one piece
 abbrev pub has_vouched : AppTree → Model → ℕ → ℕ → Option Model
@@ -159,7 +151,7 @@ has_vouched app s m a =
     slice_get app.parts m >>? (λ q. slice_get s.modules m >>?
     (λ x. idle x >>? (λ p. slice_get s.boots q.node >>? (λ boot.
     Some (with_standing s m (record x {
-      present = Some (with_pending p (Some (record { emits = []; pieces = 1 })));
+      present = Some (with_pending p (owing [] 1));
       vouched = x.vouched ++ record { challenge = a; boot = boot } ∷ [];
     }))))))
 
@@ -173,21 +165,17 @@ was_attested app s m b =
     slice_get s.modules m >>? (λ x. x.asked >>? (λ a.
     let epochs = renewed m app.links (boot_of x.attested) s.epochs in
     state_if (is_vouched a b x.vouched && may_attest m app.links s.epochs (boot_of x.attested) b)
-    (record (with_standing s m (record x {
-      asked = None;
-      attested =
-          Some (record { boot = b; floors = epochs });
-    })) { epochs = epochs })))
+    (with_standing (record s { epochs = epochs }) m
+    (record x { asked = None; attested = Some (record { boot = b; floors = epochs }) }))))
 
 -- the views of the ends, with a change of that of the end with this connection and side; none where
 -- there is no such end
 abbrev pub changed_views : (EndView → Option EndView) → ℕ → Side → List End → List EndView
     → Option (List EndView)
-changed_views change c side [] views = None
-changed_views change c side (e ∷ es) [] = None
 changed_views change c side (e ∷ es) (view ∷ views) =
     if (e.link == c) && same_side e.side side then change view >>? (λ v. Some (v ∷ views))
     else changed_views change c side es views >>? (λ vs. Some (view ∷ vs))
+changed_views change c side _ _ = None
 
 -- a module opens an end in an epoch from its floor to the connection's
 abbrev pub has_opened : AppTree → Model → ℕ → ℕ → Side → ℕ → Option Model
@@ -196,11 +184,7 @@ has_opened app s m c side epoch =
     (λ x. idle x >>? (λ p. slice_get s.boots q.node >>? (λ boot.
     changed_views (opens epoch) c side (ends_of app m) p.ends >>? (λ views.
     state_if (may_open x.attested boot c epoch (slice_index s.epochs c))
-    (with_present s m x (record p {
-      ends = views;
-      pending =
-          Some (record { emits = []; pieces = 0 });
-    })))))))
+    (with_present s m x (record p { ends = views; pending = owing [] 0 })))))))
 
 -- the word is there, and is this one
 abbrev pub is_word : ℕ → Option ℕ → Bool
@@ -221,7 +205,7 @@ has_taken app s m c i v =
 -- the first of the emits that are owed, written
 abbrev pub without_first : ℕ → List ℕ → ℕ → Option Pending
 without_first v [] k = None
-without_first v (e ∷ es) k = if e == v then Some (record { emits = es; pieces = k }) else None
+without_first v (e ∷ es) k = if e == v then owing es k else None
 
 -- a module writes the first emit that it owes
 abbrev pub has_written : Model → ℕ → ℕ → Option Model
