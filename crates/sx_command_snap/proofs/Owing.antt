@@ -1,5 +1,6 @@
 -- What is due of some lines of an input of `snap` is due of more of them too.
 use Rattle.std.proofs.Common.{◌≡◌, ℕ, ◌+◌, List, [], ◌∷◌, ◌++◌, length, nat_lt, refl, arith, Result, Ok, Err, inl, inr, Bool, true, false}
+use Rattle.sx_asm.specs.Assembled.{assembled}
 use Rattle.sx_io.specs.Reading.{Answer, End, Long, Fault, newline}
 use Rattle.sx_io.specs.Reading as answer
 use Rattle.sx_told.specs.Told.{Output}
@@ -82,7 +83,7 @@ unfolding snap_from
 snap_long names set images before e = omega (arith, e)
 
 due_line : (names : NameLists) (set : Setting) (images : List ℕ) (before : List Line) (l : List ℕ) (ls : List (List ℕ)) (p : Bool) (r : Result Line ℕ) → is_mark l ≡ p
-    → judged_line names (length before + 1) l ≡ r → ((line : Line) → Due (λ more. snap_from names set images (before ++ line ∷ []) (lines_then ls more)))
+    → judged_line assembled names (length before + 1) l ≡ r → ((line : Line) → Due (λ more. snap_from names set images (before ++ line ∷ []) (lines_then ls more)))
     → Due (λ more. snap_from names set images before (answer.Line l ∷ lines_then ls more))
 due_line names set images before l ls true r x y f =
     due-behind (λ more. snap_from names set images before (answer.Line l ∷ lines_then ls more)) (λ more. answers_from names set before 1 (lines_then ls more)) images
@@ -104,7 +105,7 @@ due_snap names set images [] before =
       λ more. snap_ends names set images before more,
     )
 due_snap names set images (l ∷ ls) before =
-    due_line names set images before l ls (is_mark l) (judged_line names (length before + 1) l) refl refl (λ line. due_snap names set images ls (before ++ line ∷ []))
+    due_line names set images before l ls (is_mark l) (judged_line assembled names (length before + 1) l) refl refl (λ line. due_snap names set images ls (before ++ line ∷ []))
 
 due_found : (mac : Mac) (texts : List (List ℕ)) (r : Result Deployed DeployFault) (ls : List (List ℕ)) → Due (λ more. snap_found mac texts r (lines_then ls more))
 due_found mac texts (Err f) ls = inl (fault_output f, λ x. omega (arith, x), λ more. refl)

@@ -1,5 +1,6 @@
 -- The status of `snap` is that of the input, whatever the images are.
 use Rattle.std.proofs.Common.{◌≡◌, ℕ, ◌+◌, List, [], ◌∷◌, ◌++◌, length, nat_lt, refl, arith, Result, Ok, Err}
+use Rattle.sx_asm.specs.Assembled.{assembled}
 use Rattle.sx_io.specs.Reading.{Answer, End, Long, Fault}
 use Rattle.sx_io.specs.Reading as answer
 use Rattle.sx_told.specs.Told.{Output}
@@ -88,7 +89,7 @@ asking_not_zero names before (Long ∷ more) u e = omega (arith, e)
 asking_not_zero names before (Fault ∷ more) u e = omega (arith, e)
 asking_not_zero names before (answer.Line text ∷ more) u e =
     pick (is_mark text) (Asks before more) _ (λ x. asking_status names x ≡ 0 → ⊥) (queries_not_zero names (length before) 1 more u)
-    (line_not 0 names before (judged_line names (length before + 1) text) (λ lines. asking names lines more) (λ x. omega (arith, x)) (λ lines. asking_not_zero names lines more u)) e
+    (line_not 0 names before (judged_line assembled names (length before + 1) text) (λ lines. asking names lines more) (λ x. omega (arith, x)) (λ lines. asking_not_zero names lines more u)) e
 
 behind_not_zero : (meaning : Meaning) (text : List ℕ) (answers : List Answer) → Unfinished answers → head_status meaning (head_behind text answers) ≡ 0 → ⊥
 behind_not_zero meaning text [] u e = u
@@ -119,7 +120,7 @@ asking_not_four names before (Long ∷ more) u e = omega (arith, e)
 asking_not_four names before (Fault ∷ more) u e = u
 asking_not_four names before (answer.Line text ∷ more) u e =
     pick (is_mark text) (Asks before more) _ (λ x. asking_status names x ≡ 4 → ⊥) (queries_not_four names (length before) 1 more u)
-    (line_not 4 names before (judged_line names (length before + 1) text) (λ lines. asking names lines more) (λ x. omega (arith, x)) (λ lines. asking_not_four names lines more u)) e
+    (line_not 4 names before (judged_line assembled names (length before + 1) text) (λ lines. asking names lines more) (λ x. omega (arith, x)) (λ lines. asking_not_four names lines more u)) e
 
 behind_not_four : (meaning : Meaning) (text : List ℕ) (answers : List Answer) → Faultless answers → head_status meaning (head_behind text answers) ≡ 4 → ⊥
 behind_not_four meaning text [] u e = omega (arith, e)

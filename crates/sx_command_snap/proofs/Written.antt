@@ -1,6 +1,7 @@
 -- What is written of a schedule and its queries, line by line.
 use Rattle.std.specs.Prelude.{if◌then◌else◌, slice_get, Option, Some}
 use Rattle.std.proofs.Common.{◌≡◌, ◌∙◌, ℕ, ◌+◌, true, false, Bool, List, [], ◌∷◌, ◌++◌, length, take, refl, sym, ap, Result, Ok, Err}
+use Rattle.sx_asm.specs.Assembled.{assembled}
 use Rattle.sx_io.specs.Reading.{Answer}
 use Rattle.sx_io.specs.Reading as answer
 use Rattle.sx_io.specs.Streams.{SinkAt}
@@ -36,22 +37,22 @@ module _ (names : NameLists) (set : Setting) (images : List ℕ) (before : List 
 
   -- a line that is the mark or isn't
   line_by : (text : List ℕ) (more : List Answer) (b : Bool) → is_mark text ≡ b → snap_from names set images before (answer.Line text ∷ more)
-      ≡ asked_output names set images (if b then Asks before more else on_line before (judged_line names (length before + 1) text) (λ lines. asking names lines more))
+      ≡ asked_output names set images (if b then Asks before more else on_line before (judged_line assembled names (length before + 1) text) (λ lines. asking names lines more))
   unfolding snap_from
   line_by text more b e =
-      ap (λ (b : Bool). asked_output names set images (if b then Asks before more else on_line before (judged_line names (length before + 1) text) (λ lines. asking names lines more))) e
+      ap (λ (b : Bool). asked_output names set images (if b then Asks before more else on_line before (judged_line assembled names (length before + 1) text) (λ lines. asking names lines more))) e
 
   pub asks_mark : (text : List ℕ) (more : List Answer) → is_mark text ≡ true
       → snap_from names set images before (answer.Line text ∷ more) ≡ behind images (answers_from names set before 1 more)
   asks_mark text more e = line_by text more true e
 
-  pub asks_line : (text : List ℕ) (line : Line) (more : List Answer) → is_mark text ≡ false → judged_line names (length before + 1) text ≡ Ok line
+  pub asks_line : (text : List ℕ) (line : Line) (more : List Answer) → is_mark text ≡ false → judged_line assembled names (length before + 1) text ≡ Ok line
       → snap_from names set images before (answer.Line text ∷ more) ≡ snap_from names set images (before ++ line ∷ []) more
   unfolding snap_from
   asks_line text line more e h =
       line_by text more false e ∙ ap (λ (r : Result Line ℕ). asked_output names set images (on_line before r (λ lines. asking names lines more))) h
 
-  pub asks_breaks : (text : List ℕ) (rule : ℕ) (more : List Answer) → is_mark text ≡ false → judged_line names (length before + 1) text ≡ Err rule
+  pub asks_breaks : (text : List ℕ) (rule : ℕ) (more : List Answer) → is_mark text ≡ false → judged_line assembled names (length before + 1) text ≡ Err rule
       → snap_from names set images before (answer.Line text ∷ more) ≡ broken_output rule (length before + 1)
   asks_breaks text rule more e h =
       line_by text more false e ∙ ap (λ (r : Result Line ℕ). asked_output names set images (on_line before r (λ lines. asking names lines more))) h

@@ -1,5 +1,6 @@
 -- From the answers that the lines of an input give to a schedule and to what stands after its mark.
 use Rattle.std.specs.Prelude.{ℕ, ◌+◌, if◌then◌else◌, List, [], ◌∷◌, ◌++◌, length, Result, Ok, Err}
+use Rattle.sx_asm.specs.Assembled.{assembled}
 use Rattle.sx_io.specs.Reading.{Answer, End, Long, Fault}
 use Rattle.sx_io.specs.Reading as answer
 use Rattle.sx_head.specs.Head.{is_mark}
@@ -28,5 +29,5 @@ asking names before (Long ∷ more) = Breaks 1 (length before + 1)
 asking names before (Fault ∷ more) = Unread
 asking names before (answer.Line text ∷ more) =
     if is_mark text then Asks before more
-    else on_line before (judged_line names (length before + 1) text)
+    else on_line before (judged_line assembled names (length before + 1) text)
     (λ lines. asking names lines more)

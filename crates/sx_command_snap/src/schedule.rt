@@ -1,6 +1,7 @@
 //! The schedule: its lines are judged and kept to its end, and nothing is written before.
 
 ghost use Rattle.std.specs.Prelude.{◌≡◌, ℕ, ◌+◌, ◌≤◌, [], Err, IsTrue, OnOk, length};
+ghost use Rattle.sx_asm.specs.Assembled.{assembled};
 ghost use Rattle.sx_told.specs.Told.{CommandEnds, Rest, behind, command_at};
 ghost use Rattle.sx_head.specs.Head.{head_lines};
 ghost use Rattle.sx_trace.specs.Names.{are_valid};
@@ -49,7 +50,7 @@ fn keep<B: Copied, T: Tag + Copy>(
         timeline.old.lines timeline.new.lines) }
     ensures few { OnOk result (number ≤ 65536) }
     ensures rule { (rule : ℕ) → result ≡ Err (LineError.Fault rule)
-        → judged_line (deployed_as plan.now).names number said.now ≡ Err rule }
+        → judged_line assembled (deployed_as plan.now).names number said.now ≡ Err rule }
 {
     let line = judge(alloc, &plan.names, said, number)?;
     match timeline.push(plan, line) {

@@ -1,4 +1,5 @@
 use Rattle.std.proofs.Common.{◌∙◌, ap, ℕ}
+use Rattle.sx_asm.specs.Assembled.{assembled}
 use Rattle.sx_deploy.specs.SeenDeployment.{deployed_as}
 use Rattle.sx_sched.specs.Lines.{line_of}
 use Rattle.sx_command_world.specs.Schedule.{judged_line}
@@ -7,6 +8,6 @@ use Rattle.sx_command_snap.proofs.schedule.keep.Goals as goal
 pub returns-in-Ok-clause-keeps : goal.returns-in-Ok-clause-keeps
 returns-in-Ok-clause-keeps g c = record {
   line = line_of c.in_ok-line.line;
-  judged = ap (λ (n : ℕ). judged_line (deployed_as c.args.plan.now).names n c.args.said.now) c.requires.counted ∙ c.in_ok-line.ensures.line;
+  judged = ap (λ (n : ℕ). judged_line assembled (deployed_as c.args.plan.now).names n c.args.said.now) c.requires.counted ∙ c.in_ok-line.ensures.line;
   kept = c.in-Ok.ensures.added;
 }

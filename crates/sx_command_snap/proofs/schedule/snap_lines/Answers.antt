@@ -1,4 +1,5 @@
 use Rattle.std.proofs.Common.{◌≡◌, ◌∙◌, ◌+◌, ◌∷◌, ◌++◌, [], ℕ, List, length, length-append, take, arith, ap, refl, subst, sym, Err}
+use Rattle.sx_asm.specs.Assembled.{assembled}
 use Rattle.sx_io.specs.Reading.{Answer, Line}
 use Rattle.sx_told.specs.Told.{CommandEnds, Output, behind, read_line}
 use Rattle.sx_told.proofs.Laws.{begun-line, begun-same, ends-same, ends-out-of-memory, prefix-none, told-stop, told-end, told-too-long, told-failed}
@@ -88,8 +89,8 @@ returns-in-Err-Fault g c = λ limit m0 defined aside noted b.
     let before = c.lines.timeline.lines in
     let text = take c.in-Text.n c.next.new.into in
     let rule = c.in-Err-Fault.rule in
-    let judged : judged_line d.names (length before + 1) text ≡ Err rule =
-    ap (λ (n : ℕ). judged_line d.names n text) c.lines.invariant.counted ∙ c.keep.ensures.rule rule (c.in-Err-Fault.is ∙ ap Err c.in-Err-Fault.field-0-is) in
+    let judged : judged_line assembled d.names (length before + 1) text ≡ Err rule =
+    ap (λ (n : ℕ). judged_line assembled d.names n text) c.lines.invariant.counted ∙ c.keep.ensures.rule rule (c.in-Err-Fault.is ∙ ap Err c.in-Err-Fault.field-0-is) in
     let P : ℕ → Type 0 = λ rule. CommandEnds g.K.Sink.tells (g.K.Sink.at c.lines.output) (g.K.Sink.at c.break_off-in-Err-Fault.new.output) c.break_off-in-Err-Fault.result
     (broken_output rule c.lines.number) in
     told-stop (begun-line (snap_from d.names set images before) (asks_unread d.names set images before) (c.lines.invariant.begun limit m0 defined aside noted b) c.in-Text.ensures.next)
