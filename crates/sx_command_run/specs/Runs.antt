@@ -10,6 +10,7 @@ use Rattle.sx_head.specs.Head.{Head, Found, TooLong, NoMark, Unread, head, head_
 use Rattle.sx_trace.specs.declared.items.Item.{Item}
 use Rattle.sx_model.specs.Legal.{Legal, before}
 use Rattle.sx_model.specs.Consequences.{TellsReader}
+use Rattle.sx_explain.specs.Causes.{HasCauses}
 use Rattle.sx_deploy.specs.Deployment.{Deployed, IsRead}
 use Rattle.sx_run.specs.Accepted.{AreImages, setting_of}
 use Rattle.sx_command_head.specs.Meanings.{Meaning, IsMeaning, input_of}
@@ -75,8 +76,11 @@ pub record RunSays (assemble : Assembler) (mac : Mac) (tells to_tell : Bool) (m0
       → (status ≡ out_of_memory) ⊎ (status ≡ run_status assemble meaning (input_of m0))
 
 -- What `run` promises, and beside it what a reader may take from each legal trace: that follows
--- from what is legal.
+-- from what is legal. So does what each reading, taking and output in it rests on (`causes`): the
+-- word that is taken was sent by a handler of the module that the connection comes from.
 pub record RunTold (assemble : Assembler) (mac : Mac) (tells to_tell : Bool) (m0 m1 : CommandAt)
     (status : ℕ) : Type 0 where
   pub says : RunSays assemble mac tells to_tell m0 m1 status
   pub reader : (d : Deployed) (items : List Item) → Legal d.app items → TellsReader d.app items
+  pub causes : (text : List ℕ) (d : Deployed) → IsRead text (Ok d) → (items : List Item)
+      → Legal d.app items → HasCauses d.app items
