@@ -4,7 +4,9 @@ pub mod Found
 pub mod Fronts
 pub mod Heads
 pub mod Judged
+pub mod Owing
 pub mod Promised
 pub mod Starting
 pub mod Statuses
+pub mod Streaming
 pub mod Written

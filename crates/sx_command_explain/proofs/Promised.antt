@@ -2,7 +2,6 @@
 use Rattle.std.proofs.Common.{◌≡◌, ◌∙◌, ℕ, Bool, List, [], ◌++◌, sym, ap, subst, arith}
 use Rattle.std.specs.Prelude.{IsTrue}
 use Rattle.std.proofs.lemmas.List.{append-nil}
-use Rattle.sx_io.specs.Streams.{SourceAt}
 use Rattle.sx_io.specs.Reading.{Answer, Broken, Ended, scan}
 use Rattle.sx_told.specs.Reads.{AtEnd, AtFault, Decides, Enough, Left}
 use Rattle.sx_told.specs.Told.{CommandAt, CommandEnds, Told}
@@ -16,7 +15,9 @@ use Rattle.sx_command_explain.specs.Explain.{explain_all}
 use Rattle.sx_command_explain.specs.Explains.{ExplainSays, RunsOutBehindHead, input_of}
 use Rattle.sx_command_explain.specs.Trace.{explain_lines}
 use Rattle.sx_command_explain.proofs.Found.{are_meant, meant}
+use Rattle.sx_command_explain.proofs.Owing.{due_all}
 use Rattle.sx_command_explain.proofs.Statuses.{head_legal, head_not_two, head_zero, not_four, not_zero}
+use Rattle.sx_command_explain.proofs.Streaming.{streams_within}
 
 faults_are : {tells to_tell : Bool} {m0 m1 : CommandAt} {status : ℕ} {also : List Answer → Type 0} (means : Meanings)
     → Told tells to_tell explain_lines m0 m1 status (explain_all means) also → TellsFaults m0 m1 status
@@ -53,6 +54,7 @@ pub explain_promise : {tells to_tell : Bool} {m0 m1 : CommandAt} {status : ℕ}
     → ((means : Meanings) → AreMeanings means → Told tells to_tell explain_lines m0 m1 status (explain_all means) (RunsOutBehindHead status)) → ExplainSays tells to_tell m0 m1 status
 explain_promise {tells} {to_tell} {m0} {m1} {status} told = record {
   told = told;
+  streams = λ means is. streams_within explain_lines (explain_all means) (due_all means) (told means is);
   faults = faults_are meant (told meant are_meant);
   read_all = λ zero t.
       told-all (told meant are_meant) (λ five. omega (arith, zero, five)) (λ six. omega (arith, zero, six))

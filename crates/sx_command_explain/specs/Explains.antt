@@ -2,6 +2,7 @@
 use Rattle.std.specs.Prelude.{◌≡◌, ◌⊎◌, ℕ, ◌++◌, Bool, List, [], Option, Result, Ok, Err, IsTrue}
 use Rattle.sx_io.specs.Reading.{Answer, Ended, scan}
 use Rattle.sx_told.specs.Told.{CommandAt, Output, Told, out_of_memory}
+use Rattle.sx_told.specs.Further.{Streams}
 use Rattle.sx_stage.specs.declared.fault.DeployFault.{DeployFault}
 use Rattle.sx_head.specs.Head.{Head, Found, TooLong, NoMark, Unread, head}
 use Rattle.sx_trace.specs.declared.items.Item.{Item}
@@ -53,13 +54,15 @@ EndsAs to_tell m0 m1 status o = (status ≡ out_of_memory)
 
 -- The command `explain`, whatever texts of deployments and lines of traces are said to mean. What
 -- was written is what is defined for the lines that were taken, and nothing was read once the line
--- was whole at which it ended (`told`). Where no read and no write failed, all is as it is defined
--- for the whole input (`exact`). Status 0 says that the input was read to its end (`read_all`), and
--- that its trace is whole, and legal up to the first item that is forged (`legal`); and it comes
--- for each such input (`complete`).
+-- was whole at which it ended (`told`); no more was taken than must be (`streams`). Where no read
+-- and no write failed, all is as it is defined for the whole input (`exact`). Status 0 says that
+-- the input was read to its end (`read_all`), and that its trace is whole, and legal up to the
+-- first item that is forged (`legal`); and it comes for each such input (`complete`).
 pub record ExplainSays (tells to_tell : Bool) (m0 m1 : CommandAt) (status : ℕ) : Type 0 where
   pub told : (means : Meanings) → AreMeanings means
       → Told tells to_tell explain_lines m0 m1 status (explain_all means) (RunsOutBehindHead status)
+  pub streams : (means : Meanings) → AreMeanings means
+      → Streams tells to_tell explain_lines m0 m1 (explain_all means)
   pub faults : TellsFaults m0 m1 status
   pub read_all : status ≡ 0 → IsTrue tells → m1.source.rest ≡ []
   pub exact : (means : Meanings) → AreMeanings means → IsTrue tells → IsFaultless m0 m1
