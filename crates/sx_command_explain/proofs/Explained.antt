@@ -12,13 +12,13 @@ use Rattle.sx_model.specs.State.{Model, power_on}
 use Rattle.sx_model.specs.Step.{step}
 use Rattle.sx_model.specs.Legal.{Legal, after, before, is_forged}
 use Rattle.sx_explain.specs.Causes.{cause}
-use Rattle.sx_explain.specs.Judging.{judged, said}
+use Rattle.sx_explain.specs.Judging.{said}
 use Rattle.sx_explain.specs.declared.judge.Judged.TheVariants as verdict
 use Rattle.sx_explain.proofs.Following.{after_more, any_more, any_still}
 use Rattle.sx_explain.proofs.JudgesLegal.{allowed_next, is_not_none, judged_is, legal_front}
 use Rattle.sx_command_explain.specs.Explain.{explain_from, illegal_output, stop_output, told_item, told_items}
-use Rattle.sx_command_explain.specs.Laws.{IsExplained, Refused, TracesExplained, cause_line, causes_text}
-use Rattle.sx_command_explain.specs.Trace.{Trace, trace}
+use Rattle.sx_command_explain.specs.Laws.{Refused, TracesExplained, cause_line, causes_text}
+use Rattle.sx_command_explain.specs.Trace.{trace}
 
 joined : (a b : List ℕ) (o : Output) → behind a (behind b o) ≡ behind (a ++ b) o
 joined a b o = ap (λ (t : List ℕ). record { text = t; status = o.status }) (sym (append_assoc a b o.text))

@@ -1,13 +1,13 @@
 -- Which item has a line: there is one answer, and one alone.
-use Rattle.std.proofs.Common.{◌≡◌, ◌∙◌, ◌⊎◌, inl, inr, ◌<◌, ◌≤◌, ◌^◌, ℕ, Bool, true, false, List, length, Option, Some, None, sym, ap, refl, subst, arith}
-use Rattle.std.specs.Prelude.{if◌then◌else◌, IsTrue, MatchOption, option_map}
+use Rattle.std.proofs.Common.{◌≡◌, ◌∙◌, ◌⊎◌, inl, inr, ◌<◌, ◌^◌, ℕ, Bool, true, false, List, length, Option, Some, None, sym, ap, refl, subst, arith}
+use Rattle.std.specs.Prelude.{IsTrue, MatchOption}
 use Rattle.std.proofs.lemmas.Bool.{cases_lt}
 use Rattle.std.proofs.lemmas.Slice.Eq.{bytes_eq-Decides}
 use Rattle.std.specs.Str.{bytes_eq}
 use Rattle.sx_trace.specs.declared.items.Item.{Item}
 use Rattle.sx_trace.specs.declared.items.Item.TheVariants.{Reset, Protect, Sense, Read, Drain, Ask, Attested, Denied, Vouch, Open, Take, Out, Raw, Done, Packet, Forged, Busy, Skip, Budget}
 use Rattle.sx_trace.specs.Names.{NameLists, are_valid}
-use Rattle.sx_trace.specs.Items.{IsIndexOrNone, IsItem, IsNamedItem, IsNoItem, IsSizedItem, ItemsDiffer, item_text}
+use Rattle.sx_trace.specs.Items.{IsIndexOrNone, IsItem, IsNamedItem, IsNoItem, IsSizedItem, item_text}
 use Rattle.sx_trace.specs.Finding.{item_in}
 use Rattle.sx_trace.proofs.ItemsDiffer.{found_only, items_differ}
 use Rattle.sx_command_head.proofs.Known.{known, is_known}

@@ -1,11 +1,10 @@
 -- A line that is passed is known by its first bytes and its length.
-use Rattle.std.proofs.Common.{◌≡◌, ◌∙◌, ℕ, zero, suc, ◌<◌, ◌≤◌, inl, inr, ◌&&◌, Bool, true, false, if◌then◌else◌, List, [], ◌∷◌, length, take, refl, sym, ap, arith}
+use Rattle.std.proofs.Common.{◌≡◌, ◌∙◌, ℕ, zero, suc, ◌≤◌, inl, inr, ◌&&◌, Bool, true, false, if◌then◌else◌, List, [], ◌∷◌, length, take, refl, sym, ap, arith}
 use Rattle.std.specs.Prelude.{◌==◌, codes, nat_le}
 use Rattle.std.specs.Str.{bytes_eq}
-use Rattle.std.proofs.lemmas.Bool.{and_parts, cases_eq, cases_lt, eq-eqb, eqb-true}
+use Rattle.std.proofs.lemmas.Bool.{and_parts, cases_lt, eq-eqb, eqb-true}
 use Rattle.std.proofs.lemmas.List.{length-take-le, take_all, take-take}
 use Rattle.std.proofs.lemmas.Slice.Eq.{bytes_eq-Decides}
-use Rattle.sx_command_explain.specs.declared.images.ImageLine.{ImageLine}
 use Rattle.sx_command_explain.specs.declared.images.ImageLine.TheVariants as image
 use Rattle.sx_command_explain.specs.Trace.{image_line, is_image, is_trace, most_images}
 use Rattle.sx_command_explain.specs.Turns.{front_line}

@@ -4,7 +4,7 @@ use Rattle.std.proofs.Common.{◌≡◌, ◌∙◌, ℕ, ◌+◌, Bool, true, fa
 use Rattle.std.specs.Prelude.{◌==◌}
 use Rattle.std.proofs.lemmas.List.{append-nil}
 use Rattle.sx_io.specs.Streams.{SourceAt, SinkAt}
-use Rattle.sx_io.specs.Reading.{Answer, Ending, Ended, Broken, Line, End, Long, Fault, Limit, longest, newline, scan, without_return}
+use Rattle.sx_io.specs.Reading.{Answer, Ending, Ended, Broken, Line, End, Long, Limit, longest, newline, scan, without_return}
 use Rattle.sx_io.specs.Next.{Ahead}
 use Rattle.sx_io.specs.declared.lines.ReaderState.{ReaderState}
 use Rattle.sx_io.specs.declared.lines.ReaderState.TheVariants as reader

@@ -1,8 +1,8 @@
 -- One item that is judged, and what is written of it.
-use Rattle.std.proofs.Common.{◌≡◌, ◌∙◌, ℕ, ◌+◌, Bool, List, [], ◌∷◌, ◌++◌, length, refl, sym, ap, subst}
+use Rattle.std.proofs.Common.{◌≡◌, ℕ, ◌+◌, Bool, List, [], ◌∷◌, ◌++◌, length, refl, subst}
 use Rattle.std.specs.Prelude.{◌≢◌}
 use Rattle.sx_io.specs.Streams.{SinkAt}
-use Rattle.sx_told.specs.Told.{Output, out_of_memory}
+use Rattle.sx_told.specs.Told.{out_of_memory}
 use Rattle.sx_told.specs.declared.turned.Turned.{Turned}
 use Rattle.sx_told.specs.declared.turned.Turned.TheVariants.{On, Stop}
 use Rattle.sx_told.proofs.Laws.{ends-out-of-memory, prefix-none}

@@ -1,12 +1,12 @@
 -- From a deployment to its trace: the lines of images, and the start.
-use Rattle.std.proofs.Common.{◌≡◌, ◌∙◌, ◌≤◌, ◌&&◌, ℕ, ◌+◌, Bool, true, false, if◌then◌else◌, List, [], ◌∷◌, length, take, refl, sym, ap, subst, Option, Result, Ok, Err}
+use Rattle.std.proofs.Common.{◌≡◌, ◌&&◌, ℕ, ◌+◌, Bool, true, false, if◌then◌else◌, List, [], take, refl, ap, subst, Option, Result, Ok, Err}
 use Rattle.std.specs.Prelude.{IfErr, IfOk, OnErr, nat_le}
 use Rattle.sx_io.specs.Streams.{SourceAt, SinkAt}
-use Rattle.sx_io.specs.Reading.{Answer, Limit, Line, Fault, behind_line}
+use Rattle.sx_io.specs.Reading.{Answer, Limit}
 use Rattle.sx_io.specs.Next.{Ahead, Next}
 use Rattle.sx_io.specs.Passing.{longest_passed}
 use Rattle.sx_io.specs.declared.lines.LineRead.TheVariants as read
-use Rattle.sx_told.specs.Told.{Begun, CommandAt, Notes, Output, Rest, command_at}
+use Rattle.sx_told.specs.Told.{Begun, CommandAt, Output, Rest, command_at}
 use Rattle.sx_told.proofs.Laws.{begun-line, begun-same, ends-out-of-memory, ends-same, prefix-none, told-stop}
 use Rattle.sx_stage.specs.Fault.{GivesOne}
 use Rattle.sx_stage.specs.declared.fault.DeployError.{DeployError}
@@ -18,8 +18,7 @@ use Rattle.sx_deploy.specs.Deployment.{Deployed, IsRead}
 use Rattle.sx_deploy.specs.SeenDeployment.{deployed_as}
 use Rattle.sx_deploy.specs.declared.deployment.Deployment.{Deployment}
 use Rattle.sx_deploy.proofs.Meanings.{one_meaning}
-use Rattle.sx_command_head.specs.Refused.{EndsRefused, fault_output}
-use Rattle.sx_command_explain.specs.declared.images.ImageLine.{ImageLine}
+use Rattle.sx_command_head.specs.Refused.{EndsRefused}
 use Rattle.sx_command_explain.specs.declared.images.ImageLine.TheVariants as image
 use Rattle.sx_command_explain.specs.Meant.{AreMeanings, Meanings}
 use Rattle.sx_command_explain.specs.Explain.{explain_deployed, explain_found, explain_from, explain_start}

@@ -1,6 +1,5 @@
 -- The statuses of `explain`.
-use Rattle.std.proofs.Common.{◌≡◌, ◌∙◌, ℕ, ◌+◌, ◌⊎◌, inl, inr, List, [], ◌∷◌, ◌++◌, length, nat_lt, refl, sym, ap, subst, arith, append_assoc, Result, Ok, Err, Option, Some, None, Bool, true, false}
-use Rattle.std.specs.Prelude.{if◌then◌else◌}
+use Rattle.std.proofs.Common.{◌≡◌, ◌∙◌, ℕ, ◌+◌, ◌⊎◌, inl, inr, List, [], ◌∷◌, ◌++◌, length, nat_lt, refl, sym, ap, arith, append_assoc, Result, Ok, Err, Option}
 use Rattle.std.proofs.lemmas.List.{append-nil}
 use Rattle.sx_io.specs.Reading.{Answer, Line, End, Long, Fault, newline}
 use Rattle.sx_told.specs.Told.{Output}
@@ -10,7 +9,6 @@ use Rattle.sx_head.specs.Head.{Head, Found, TooLong, NoMark, head, head_behind, 
 use Rattle.sx_head.specs.Head as heads
 use Rattle.sx_trace.specs.declared.items.Item.{Item}
 use Rattle.sx_mean.specs.Application.{AppTree}
-use Rattle.sx_model.specs.Legal.{Legal, before}
 use Rattle.sx_deploy.specs.Deployment.{Deployed}
 use Rattle.sx_explain.specs.declared.judge.Judged.{Judged}
 use Rattle.sx_explain.specs.declared.judge.Judged.TheVariants as verdict

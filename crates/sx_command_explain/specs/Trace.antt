@@ -1,7 +1,7 @@
 -- From the answers that the lines of an input give behind a deployment to the items of a trace.
 -- Nothing is said here of what is written.
 use Rattle.std.specs.Prelude.{ℕ, ◌+◌, ◌&&◌, ◌||◌, nat_le, nat_lt, Bool, if◌then◌else◌, List, []}
-use Rattle.std.specs.Prelude.{◌∷◌, codes, is_none, option_map, take, Option, Some, None, Result, Ok, Err}
+use Rattle.std.specs.Prelude.{◌∷◌, codes, option_map, take, Option, Some, None, Result, Ok, Err}
 use Rattle.std.specs.Str.{bytes_eq}
 use Rattle.sx_io.specs.Reading.{Answer, End, Long, Fault, Limit, always, longest}
 use Rattle.sx_io.specs.Reading as answer

@@ -1,4 +1,4 @@
-use Rattle.std.proofs.Common.{◌≡◌, ◌∙◌, ◌+◌, ◌∷◌, [], ℕ, List, length, take, arith, ap, refl, sym}
+use Rattle.std.proofs.Common.{◌∙◌, ◌+◌, arith, ap, refl, sym}
 use Rattle.sx_told.specs.Told.{read_line}
 use Rattle.sx_told.proofs.Laws.{ends-same, told-stop, told-end, told-too-long, told-failed}
 use Rattle.sx_mean.specs.View.{app_as}

@@ -1,5 +1,5 @@
-use Rattle.std.proofs.Common.{◌∷◌, List, take, ap, refl, sym}
-use Rattle.sx_io.specs.Reading.{Answer, Line}
+use Rattle.std.proofs.Common.{List, ap, refl, sym}
+use Rattle.sx_io.specs.Reading.{Answer}
 use Rattle.sx_told.specs.Told.{Output, read_line}
 use Rattle.sx_told.proofs.Laws.{begun-line, ends-same, told-stop, told-end, told-too-long, told-failed}
 use Rattle.sx_command_explain.specs.Explain.{broken_output, stop_output}

@@ -1,7 +1,7 @@
-use Rattle.std.proofs.Common.{◌≡◌, ◌∙◌, ◌+◌, ◌∷◌, ◌++◌, ◌≤◌, [], ℕ, List, length, take, arith, ap, refl, subst, sym, Result, Err, Ok}
+use Rattle.std.proofs.Common.{◌≡◌, ◌∙◌, ◌+◌, ◌∷◌, ◌++◌, ◌≤◌, [], ℕ, length, take, arith, ap, refl, sym, Result, Err, Ok}
 use Rattle.std.specs.Prelude.{OnOk}
-use Rattle.sx_io.specs.Reading.{Answer, Line, End, Long, Fault}
-use Rattle.sx_told.specs.Told.{Output, read_line}
+use Rattle.sx_io.specs.Reading.{Line}
+use Rattle.sx_told.specs.Told.{read_line}
 use Rattle.sx_told.specs.declared.turned.Turned.TheVariants.{On, Stop}
 use Rattle.sx_told.proofs.Laws.{begun-line, begun-put, begun-same, does-same, ends-same, told-stop, told-end, told-too-long, told-failed}
 use Rattle.std.proofs.lemmas.List.{length-append}
