@@ -61,11 +61,16 @@ __attribute__((destructor)) static void tell(void) {
 }
 """
 
+LIGHTING = (TOP / "examples/lighting.txt").read_bytes()
+# A schedule behind the deployment, and a query of each kind.
+QUERIES = b"load logic\nreset a\n%%\nitems 2\nitems 1\nbytes a 0x6000 2 2\nregs a 1\nitems 3\n"
+
 LISTED = b"here: mov #9, &0x1000\nxor.b #1, &0x306\njmp here\n"
 
 CASES = [
-    (["run"], (TOP / "examples/lighting.txt").read_bytes()),
-    (["check"], (TOP / "examples/lighting.txt").read_bytes()),
+    (["run"], LIGHTING),
+    (["check"], LIGHTING),
+    (["snap"], LIGHTING.partition(b"%%\n")[0] + b"%%\n" + QUERIES),
     (["gen", "4"], b""),
     (["asm", "0x4000"], LISTED),
     (["dis", "0x4000"], b"26453040000000a0\n"),

@@ -38,6 +38,7 @@ answers "status 0" 0 $'trace\nend' "%%\n" run
 answers "status 1" 1 "fault deployment D2 -" "" check
 answers "status 3" 3 $'trace\nfault schedule S3 1' "%%\nfly n\n" run
 answers "status 10" 10 "fault hex B1 1" "2\n" dis 0
+answers "status 11" 11 "fault query Y3 1" "%%\n%%\nfly n\n" snap
 
 # A line's items come before the next line is there.
 coproc RUN { "$program" run; }
@@ -47,6 +48,15 @@ read -r -t 20 second <&"${RUN[0]}"
 expect "items come before the next line is read" "trace, reset n asked" "$first, $second"
 pid=$RUN_PID
 { exec {RUN[1]}>&-; } 2>/dev/null
+wait "$pid" 2>/dev/null
+
+# An answer comes before the next query is there.
+coproc SNAP { "$program" snap; }
+printf '%%%%\nreset n\n%%%%\nitems 1\n' >&"${SNAP[1]}"
+read -r -t 20 first <&"${SNAP[0]}"
+expect "an answer comes before the next query is read" "item 1 reset n asked" "$first"
+pid=$SNAP_PID
+{ exec {SNAP[1]}>&-; } 2>/dev/null
 wait "$pid" 2>/dev/null
 
 # No more than 4,096 bytes are read past a line.

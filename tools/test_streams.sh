@@ -21,7 +21,7 @@ if [[ ! -x "$program" ]]; then
   exit 125
 fi
 
-for command in run check "asm 0" "dis 0"; do
+for command in run check snap "asm 0" "dis 0"; do
   # shellcheck disable=SC2086
   output="$("$program" $command <"$top")"
   status=$?

@@ -1,0 +1,59 @@
+#!/usr/bin/env python3
+"""Counts how many lines of a schedule a query of `snap` performs again, and how long many queries take. No clause says it. Not a part of the gate.
+
+The program is ./sancus after a build, or PROGRAM in the environment; the count wants valgrind.
+"""
+
+import os
+import re
+import resource
+import shutil
+import subprocess
+import unittest
+from pathlib import Path
+
+TOP = Path(__file__).resolve().parent.parent
+BUILT = TOP / "crates" / "sancus_run" / "out" / "sancus_run"
+PROGRAM = os.environ.get("PROGRAM") or (str(BUILT) if BUILT.is_file() else "")
+EVERY = 8192  # after so many lines a checkpoint stands
+
+# Two lines, and then lines that each take 200 steps: an operation on a register, and a jump back to it. What else a query does takes less than one.
+FIRST = ["put n 0x4000 1553fe3f", "set n pc 0x4000"]
+STEPS = "run n 200"
+
+
+def asked(schedule, queries):
+    return ("\n".join(["%%", *schedule, "%%", *queries]) + "\n").encode()
+
+
+def instructions(at):
+    """The processor's instructions of the whole program, where one query asks for this line of a schedule of three checkpoints."""
+    text = asked(FIRST + [STEPS] * (3 * EVERY - len(FIRST)), [f"regs n {at}"])
+    call = ["valgrind", "--tool=callgrind", "--callgrind-out-file=/dev/null", PROGRAM, "snap"]
+    ended = subprocess.run(call, input=text, capture_output=True, check=True)
+    return int(re.search(rb"Collected : ([0-9]+)", ended.stderr).group(1))
+
+
+@unittest.skipIf(not PROGRAM, "there is no proved build")
+class Snap(unittest.TestCase):
+    @unittest.skipIf(shutil.which("valgrind") is None, "there is no valgrind")
+    def test_a_query_performs_fewer_lines_again_than_stand_between_checkpoints(self):
+        some = instructions(1000)
+        line = (instructions(3000) - some) / 2000
+        for at in (EVERY - 1, EVERY, EVERY + 1, 3 * EVERY - 1, 3 * EVERY):
+            again = round((instructions(at) - some) / line) + 1000
+            if at >= EVERY:  # then the first lines, which take no steps, aren't among them
+                again -= len(FIRST)
+            self.assertEqual(again, at % EVERY, f"line {at}")
+
+    def test_many_queries_take_less_than_a_second(self):
+        text = asked(["reset n"] * 20000, ["items 20000"] * 64)
+        before = resource.getrusage(resource.RUSAGE_CHILDREN)
+        ended = subprocess.run([PROGRAM, "snap"], input=text, capture_output=True, check=True)
+        after = resource.getrusage(resource.RUSAGE_CHILDREN)
+        self.assertEqual(ended.stdout, b"item 20000 reset n asked\n" * 64 + b"end\n")
+        self.assertLess(after.ru_utime + after.ru_stime - before.ru_utime - before.ru_stime, 1)
+
+
+if __name__ == "__main__":
+    unittest.main()
