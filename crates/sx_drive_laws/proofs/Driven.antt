@@ -1,0 +1,131 @@
+-- The program's honest run is the run of the honest schedule.
+use Rattle.std.proofs.Common.{◌≡◌, ℕ, ◌+◌, ◌<◌, ◌≤◌, inl, inr, false, List, [], ◌∷◌, ◌++◌, length, map, refl, sym, ◌∙◌, ap, subst, arith}
+use Rattle.std.specs.List.{All}
+use Rattle.std.proofs.lemmas.List.Elements.{All-cons, All-head, All-nil, All-tail}
+use Rattle.sx_trace.specs.declared.items.Item.{Item}
+use Rattle.sx_mean.specs.Application.{AppTree}
+use Rattle.sx_sched.specs.Lines.{Line}
+use Rattle.sx_run.specs.Setting.{Setting}
+use Rattle.sx_run.specs.State.{World, switched_on}
+use Rattle.sx_run.specs.Run.{run}
+use Rattle.sx_world.specs.Continued.{next}
+use Rattle.sx_honest.specs.Plain.{MOST_DELIVERIES, Sampling}
+use Rattle.sx_honest.specs.Course.{Course, IsSampling, course_start, lines_so_far}
+use Rattle.sx_honest.specs.Laws.{Delivers}
+use Rattle.sx_honest.proofs.Fuel.{deliveries_are_enough}
+use Rattle.sx_setup.specs.Schedule.{setup_schedule}
+use Rattle.sx_setup.proofs.Counting.{schedule_long}
+use Rattle.sx_deliver.specs.Schedule.{honest_schedule, readings_lines}
+use Rattle.sx_deliver.proofs.Fitting.{honest_fits}
+use Rattle.sx_deliver.proofs.Going.{Stands}
+use Rattle.sx_deliver.proofs.Joined.{honest_run_delivers, honest_shows, starts}
+use Rattle.sx_drive.specs.Honest.{Honest, MOST_LINES, Reading, Said, SaidItem, each, honest_run, reads, setup, start}
+use Rattle.sx_drive_laws.specs.Laws.{DrivenIsHonest, DrivesHonestly, HonestIsDriven, IsDriveable, IsReading, items_of, sampling_of, samplings_of, told}
+use Rattle.sx_drive_laws.proofs.Playing.{Fares, Waits, run_counts, then_fares}
+use Rattle.sx_drive_laws.proofs.Staying.{each_stay, reads_stay}
+use Rattle.sx_drive_laws.proofs.SettingUp.{setup_fares}
+use Rattle.sx_drive_laws.proofs.Tracking.{IsPlayed, Tracks, readings_fare}
+use Rattle.sx_drive_laws.proofs.Enough.{fewer_deliveries, same_lines}
+
+-- the items among what lines are told with
+items_told : (is : List Item) (said : List Said) → items_of (map SaidItem is ++ said) ≡ is ++ items_of said
+items_told [] said = refl
+items_told (i ∷ is) said = ap (λ (zs : List Item). i ∷ zs) (items_told is said)
+
+told_items : (set : Setting) (ls : List Line) (w : World) → items_of (told set w ls) ≡ (run set w ls).items
+told_items set [] w = refl
+told_items set (l ∷ ls) w =
+    let a = next set w l in
+    items_told a.items (told set a.world ls) ∙ ap (λ (zs : List Item). a.items ++ zs) (told_items set ls a.world)
+
+-- what holds of each reading
+
+are_samplings : (app : AppTree) (readings : List Reading) → All (IsReading app) readings → All (IsSampling app) (samplings_of readings)
+are_samplings app [] all = All-nil (IsSampling app)
+are_samplings app (r ∷ rs) all = All-cons (IsSampling app) (sampling_of r) (samplings_of rs) (All-head (IsReading app) r rs all).sampling (are_samplings app rs (All-tail (IsReading app) r rs all))
+
+abbrev IsLow : Sampling → Type 0
+IsLow r = r.value < 32768
+
+are_low : (app : AppTree) (readings : List Reading) → All (IsReading app) readings → All IsLow (samplings_of readings)
+are_low app [] all = All-nil IsLow
+are_low app (r ∷ rs) all = All-cons IsLow (sampling_of r) (samplings_of rs) (All-head (IsReading app) r rs all).low (are_low app rs (All-tail (IsReading app) r rs all))
+
+module _ (set : Setting) (readings : List Reading) (d : IsDriveable set readings) where
+  abbrev rs : List Sampling
+  rs = samplings_of readings
+
+  abbrev begin : Course
+  begin = course_start set.app
+
+  abbrev lines : List Line
+  lines = readings_lines set.app MOST_LINES rs begin
+
+  abbrev Comes : Honest → Type 0
+  Comes = IsPlayed set d.sound d.room d.words rs begin (0 + length rs)
+
+  begun : (h : Honest) → h.world ≡ (run set (switched_on set) (setup_schedule set.app)).world → h.waiting ≡ [] → Tracks set begin 0 h
+  begun h world waits =
+      let a = run_counts set (setup_schedule set.app) (switched_on set) in
+      let b = schedule_long set 0 0 set.app.parts in
+      let e : h.world.lines ≡ 0 + length (setup_schedule set.app) = ap (λ (w : World). w.lines) world ∙ a in
+      record {
+        stands = subst (λ (w : World). Stands set w begin) (sym world) (starts set d.sound d.room d.words);
+        waiting = waits;
+        count = omega (arith, b, e);
+        few = omega arith;
+      }
+
+  honest_fares : Fares set (switched_on set) (honest_run set readings) (setup_schedule set.app ++ lines) Comes
+  honest_fares =
+      then_fares set (switched_on set) (setup set (start set)) (each (reads set) readings) (setup_schedule set.app) lines (Waits []) Comes (setup_fares set d.sound d.room)
+      (each_stay (reads set) (reads_stay set) readings)
+      (λ played. readings_fare set d.sound d.room d.words readings begin 0 (setup set (start set)).honest played.whole (begun (setup set (start set)).honest played.world played.holds) d.are_readings)
+
+pub honest_is_driven : HonestIsDriven
+honest_is_driven set readings c d h =
+    let rs : List Sampling = samplings_of readings in
+    let w : World = switched_on set in
+    let same : setup_schedule set.app ++ readings_lines set.app MOST_LINES rs (course_start set.app) ≡ honest_schedule set.app rs =
+    ap (λ (ls : List Line). setup_schedule set.app ++ ls) (same_lines set.app MOST_DELIVERIES MOST_LINES rs (course_start set.app) c fewer_deliveries h.course) in
+    let long = ap (λ (ls : List Line). length ls) same ∙ (honest_fits set rs c h (are_low set.app readings d.are_readings)).lines in
+    let few = h.lines in
+    elim (honest_fares set readings d) [
+      | inl cut ↦ absurd (let many = cut.many in omega (arith, many, long, few))
+      | inr played ↦ drives played.whole.uncut (played.said ∙ ap (λ (ls : List Line). told set w ls) same)
+    ]
+  where
+    drives : (honest_run set readings).honest.long ≡ false → (honest_run set readings).said ≡ told set (switched_on set) (honest_schedule set.app (samplings_of readings)) → DrivesHonestly set readings c
+    drives uncut said =
+        let rs : List Sampling = samplings_of readings in
+        let low = are_low set.app readings d.are_readings in
+        let shown : items_of (honest_run set readings).said ≡ (run set (switched_on set) (honest_schedule set.app rs)).items =
+        ap items_of said ∙ told_items set (honest_schedule set.app rs) (switched_on set) in
+        record {
+          uncut = uncut;
+          said = said;
+          items = shown ∙ honest_shows set rs c d.sound d.room d.words h low;
+          delivers = subst (λ (items : List Item). Delivers set.app rs items) (sym shown) (honest_run_delivers set rs c d.sound d.room d.words h low);
+        }
+
+pub driven_is_honest : DrivenIsHonest
+driven_is_honest set readings d uncut = elim (honest_fares set readings d) [
+  | inl cut ↦ absurd (let long = cut.long in cc)
+  | inr played ↦
+      let rs : List Sampling = samplings_of readings in
+      let c : Course = played.holds.course in
+      let count : (honest_run set readings).honest.world.lines ≡ lines_so_far set.app (0 + length rs) c = played.holds.tracks.count in
+      let room = played.whole.room in
+      let zeroth : 0 + length rs ≡ length rs = omega arith in
+      let few : lines_so_far set.app (0 + length rs) c ≤ 65536 = omega (arith, count, room) in
+      let lines : lines_so_far set.app (length rs) c ≤ 65536 = subst (λ (i : ℕ). lines_so_far set.app i c ≤ 65536) zeroth few in
+      let same : MOST_DELIVERIES ≤ MOST_DELIVERIES = omega arith in (
+        c,
+        record {
+          valid = d.room.valid;
+          readings = are_samplings set.app readings d.are_readings;
+          course = deliveries_are_enough set.app MOST_LINES MOST_DELIVERIES rs c played.holds.comes lines same;
+          lines = lines;
+        },
+      )
+]

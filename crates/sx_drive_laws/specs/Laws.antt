@@ -1,0 +1,83 @@
+-- What holds of the honest run that the program makes: where no line is left out, its lines are
+-- those of the honest schedule, and they show what the source alone predicts.
+use Rattle.std.specs.Prelude.{ℕ, ◌≡◌, ◌<◌, false, List, [], ◌∷◌, ◌++◌, map, All, Ok}
+use Rattle.sx_trace.specs.declared.items.Item.{Item}
+use Rattle.sx_sched.specs.Lines.{Line}
+use Rattle.sx_tag.specs.Mac.{Mac, IsTag}
+use Rattle.sx_mean.specs.Application.{AppTree}
+use Rattle.sx_deploy.specs.Deployment.{Deployed, IsRead}
+use Rattle.sx_run.specs.Setting.{Setting}
+use Rattle.sx_run.specs.State.{World, switched_on}
+use Rattle.sx_run.specs.Law.{IsSoundSetting}
+use Rattle.sx_run.specs.Accepted.{AreImages, setting_of}
+use Rattle.sx_world.specs.Continued.{next}
+use Rattle.sx_honest.specs.Plain.{Sampling}
+use Rattle.sx_honest.specs.Course.{Course, IsHonest, IsSampling}
+use Rattle.sx_honest.specs.Laws.{Delivers}
+use Rattle.sx_setup.specs.Laws.{AreByteTexts, HasRoom}
+use Rattle.sx_deliver.specs.Laws.{HaveWords}
+use Rattle.sx_deliver.specs.Schedule.{honest_schedule}
+use Rattle.sx_drive.specs.Honest.{Reading, Said, SaidItem, SaidLine, honest_run}
+
+-- a reading, as the source has it
+abbrev pub sampling_of : Reading → Sampling
+sampling_of r = record { device = r.device; value = r.value }
+
+abbrev pub samplings_of : List Reading → List Sampling
+samplings_of readings = map sampling_of readings
+
+-- the items among what is said
+abbrev pub items_of : List Said → List Item
+items_of [] = []
+items_of (SaidLine line ∷ said) = items_of said
+items_of (SaidItem i ∷ said) = i ∷ items_of said
+
+-- each line of a run, and after it the items that it shows
+abbrev pub told : Setting → World → List Line → List Said
+told set w [] = []
+told set w (line ∷ lines) =
+    let a = next set w line in
+    SaidLine line ∷ map SaidItem a.items ++ told set a.world lines
+
+-- a reading is of a sensor that a module drives, and its value is below 32,768
+pub record IsReading (app : AppTree) (r : Reading) : Type 0 where
+  pub sampling : IsSampling app (sampling_of r)
+  pub low : r.value < 32768
+
+-- what is asked of a setting and its readings; each accepted deployment has the first three
+pub record IsDriveable (set : Setting) (readings : List Reading) : Type 0 where
+  pub sound : IsSoundSetting set
+  pub room : HasRoom set
+  pub words : HaveWords set.app
+  pub are_readings : All (IsReading set.app) readings
+
+-- The honest run of readings leaves no line out: it says the lines of the honest schedule with what
+-- they show, and that is what the source predicts, so it delivers.
+pub record DrivesHonestly (set : Setting) (readings : List Reading) (c : Course) : Type 0 where
+  pub uncut : (honest_run set readings).honest.long ≡ false
+  pub said : (honest_run set readings).said
+      ≡ told set (switched_on set) (honest_schedule set.app (samplings_of readings))
+  pub items : items_of (honest_run set readings).said ≡ c.items
+  pub delivers : Delivers set.app (samplings_of readings)
+      (items_of (honest_run set readings).said)
+
+-- so it is where the course has at most 65,536 lines
+abbrev pub HonestIsDriven : Type 0
+HonestIsDriven = (set : Setting) (readings : List Reading) (c : Course) → IsDriveable set readings
+    → IsHonest set.app (samplings_of readings) c → DrivesHonestly set readings c
+
+-- and where no line was left out there is such a course
+abbrev pub DrivenIsHonest : Type 0
+DrivenIsHonest = (set : Setting) (readings : List Reading) → IsDriveable set readings
+    → (honest_run set readings).honest.long ≡ false
+    → (c : Course) × IsHonest set.app (samplings_of readings) c
+
+-- From text on: for each accepted deployment, with images that realize its modules, a run of
+-- readings that leaves no line out is such a run.
+abbrev pub AcceptedIsDriven : Type 0
+AcceptedIsDriven = (text : List ℕ) (d : Deployed) → IsRead text (Ok d)
+    → (mac : Mac) (texts : List (List ℕ)) → IsTag mac → AreImages mac d texts → AreByteTexts texts
+    → (readings : List Reading) → All (IsReading d.app) readings
+    → (honest_run (setting_of mac d texts) readings).honest.long ≡ false
+    → (c : Course) × IsHonest d.app (samplings_of readings) c
+    × DrivesHonestly (setting_of mac d texts) readings c

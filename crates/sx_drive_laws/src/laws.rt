@@ -1,0 +1,20 @@
+//! What holds of the program's honest run. Each law is a function that does nothing: its contract
+//! is the law.
+
+ghost use Rattle.sx_drive_laws.specs.Laws.{AcceptedIsDriven, DrivenIsHonest, HonestIsDriven};
+
+/// Where the course of the readings has at most 65,536 lines, no line is left out: the run says the
+/// honest schedule with what its lines show, which is what the source predicts, and so it delivers.
+pub fn honest_is_driven()
+    ensures { HonestIsDriven }
+{}
+
+/// Where no line was left out, the readings have such a course.
+pub fn driven_is_honest()
+    ensures { DrivenIsHonest }
+{}
+
+/// So it is for each deployment that is accepted, with images that realize its modules.
+pub fn accepted_is_driven()
+    ensures { AcceptedIsDriven }
+{}
