@@ -1,5 +1,7 @@
 -- The program's honest run is the run of the honest schedule.
-use Rattle.std.proofs.Common.{◌≡◌, ℕ, ◌+◌, ◌<◌, ◌≤◌, inl, inr, false, List, [], ◌∷◌, ◌++◌, length, map, refl, sym, ◌∙◌, ap, subst, arith}
+use Rattle.std.proofs.Common.{◌≡◌, ℕ, ◌+◌, ◌<◌, ◌≤◌, inl, inr, List, [], ◌∷◌, ◌++◌, length, map, refl, sym, ◌∙◌, ap, subst, arith}
+use Rattle.std.proofs.Common.{le-ltb, lt-ltb, take, take_all}
+use Rattle.std.proofs.Math.Seq.{take-append_seam}
 use Rattle.std.specs.List.{All}
 use Rattle.std.proofs.lemmas.List.Elements.{All-cons, All-head, All-nil, All-tail}
 use Rattle.sx_trace.specs.declared.items.Item.{Item}
@@ -20,12 +22,12 @@ use Rattle.sx_deliver.proofs.Fitting.{honest_fits}
 use Rattle.sx_deliver.proofs.Going.{Stands}
 use Rattle.sx_deliver.proofs.Joined.{honest_run_delivers, honest_shows, starts}
 use Rattle.sx_drive.specs.Honest.{Honest, MOST_LINES, Reading, Said, SaidItem, each, honest_run, reads, setup, start}
-use Rattle.sx_drive_laws.specs.Laws.{DrivenIsHonest, DrivesHonestly, HonestIsDriven, IsDriveable, IsReading, items_of, sampling_of, samplings_of, told}
-use Rattle.sx_drive_laws.proofs.Playing.{Fares, Waits, run_counts, then_fares}
+use Rattle.sx_drive_laws.specs.Laws.{DrivenIsHonest, HonestIsDriven, IsDriveable, IsReading, ScheduleIsSaid, items_of, sampling_of, samplings_of, told}
+use Rattle.sx_drive_laws.proofs.Playing.{Fares, Waits, cut_many, run_counts, then_fares}
 use Rattle.sx_drive_laws.proofs.Staying.{each_stay, reads_stay}
 use Rattle.sx_drive_laws.proofs.SettingUp.{setup_fares}
 use Rattle.sx_drive_laws.proofs.Tracking.{IsPlayed, Tracks, readings_fare}
-use Rattle.sx_drive_laws.proofs.Enough.{fewer_deliveries, same_lines}
+use Rattle.sx_drive_laws.proofs.First.{both_many, few_same, first_same, schedules_alike}
 
 -- the items among what lines are told with
 items_told : (is : List Item) (said : List Said) → items_of (map SaidItem is ++ said) ≡ is ++ items_of said
@@ -82,31 +84,61 @@ module _ (set : Setting) (readings : List Reading) (d : IsDriveable set readings
       (each_stay (reads set) (reads_stay set) readings)
       (λ played. readings_fare set d.sound d.room d.words readings begin 0 (setup set (start set)).honest played.whole (begun (setup set (start set)).honest played.world played.holds) d.are_readings)
 
+most_is : MOST_LINES ≡ 65536
+unfolding MOST_LINES
+most_is = refl
+
+pub schedule_is_said : ScheduleIsSaid
+schedule_is_said set readings d =
+    let rs : List Sampling = samplings_of readings in
+    let w : World = switched_on set in
+    let xs : List Line = setup_schedule set.app ++ readings_lines set.app MOST_LINES rs (course_start set.app) in
+    let ys : List Line = honest_schedule set.app rs in
+    let most = most_is in
+    let few : MOST_LINES ≤ 65536 = omega (arith, most) in
+    let alike = schedules_alike set rs d.room.valid (are_samplings set.app readings d.are_readings) in
+    elim (honest_fares set readings d) [
+      | inl cut ↦
+          let more = cut_many set w (honest_run set readings) xs cut in
+          let many = both_many xs ys alike (omega (arith, more)) in
+          let full = cut.full in
+          let size : MOST_LINES ≡ length cut.front = omega (arith, full, most) in
+          let front : take MOST_LINES xs ≡ cut.front =
+          ap (λ (zs : List Line). take MOST_LINES zs) cut.lines ∙ ap (λ (k : ℕ). take k (cut.front ++ cut.rest)) size ∙ take-append_seam cut.front cut.rest in
+          record {
+            said = cut.said ∙ ap (λ (ls : List Line). told set w ls) (sym front ∙ first_same MOST_LINES xs ys few alike);
+            long = cut.long ∙ sym (lt-ltb MOST_LINES (length ys) (omega (arith, many, most)));
+          }
+      | inr played ↦
+          let room = played.whole.room in
+          let count : (honest_run set readings).honest.world.lines ≡ 0 + length xs = ap (λ (v : World). v.lines) played.world ∙ run_counts set xs w in
+          let same : xs ≡ ys = few_same xs ys alike (omega (arith, room, count)) in
+          let as_long : length xs ≡ length ys = ap (λ (zs : List Line). length zs) same in
+          let within : length ys ≤ MOST_LINES = omega (arith, room, count, as_long, most) in
+          record {
+            said = played.said ∙ ap (λ (ls : List Line). told set w ls) (same ∙ sym (take_all MOST_LINES ys within));
+            long = played.whole.uncut ∙ sym (le-ltb MOST_LINES (length ys) within);
+          }
+    ]
+
 pub honest_is_driven : HonestIsDriven
 honest_is_driven set readings c d h =
     let rs : List Sampling = samplings_of readings in
-    let w : World = switched_on set in
-    let same : setup_schedule set.app ++ readings_lines set.app MOST_LINES rs (course_start set.app) ≡ honest_schedule set.app rs =
-    ap (λ (ls : List Line). setup_schedule set.app ++ ls) (same_lines set.app MOST_DELIVERIES MOST_LINES rs (course_start set.app) c fewer_deliveries h.course) in
-    let long = ap (λ (ls : List Line). length ls) same ∙ (honest_fits set rs c h (are_low set.app readings d.are_readings)).lines in
+    let ls : List Line = honest_schedule set.app rs in
+    let low = are_low set.app readings d.are_readings in
+    let says = schedule_is_said set readings d in
+    let most = most_is in
     let few = h.lines in
-    elim (honest_fares set readings d) [
-      | inl cut ↦ absurd (let many = cut.many in omega (arith, many, long, few))
-      | inr played ↦ drives played.whole.uncut (played.said ∙ ap (λ (ls : List Line). told set w ls) same)
-    ]
-  where
-    drives : (honest_run set readings).honest.long ≡ false → (honest_run set readings).said ≡ told set (switched_on set) (honest_schedule set.app (samplings_of readings)) → DrivesHonestly set readings c
-    drives uncut said =
-        let rs : List Sampling = samplings_of readings in
-        let low = are_low set.app readings d.are_readings in
-        let shown : items_of (honest_run set readings).said ≡ (run set (switched_on set) (honest_schedule set.app rs)).items =
-        ap items_of said ∙ told_items set (honest_schedule set.app rs) (switched_on set) in
-        record {
-          uncut = uncut;
-          said = said;
-          items = shown ∙ honest_shows set rs c d.sound d.room d.words h low;
-          delivers = subst (λ (items : List Item). Delivers set.app rs items) (sym shown) (honest_run_delivers set rs c d.sound d.room d.words h low);
-        }
+    let long = (honest_fits set rs c h low).lines in
+    let within : length ls ≤ MOST_LINES = omega (arith, most, few, long) in
+    let said : (honest_run set readings).said ≡ told set (switched_on set) ls = says.said ∙ ap (λ (zs : List Line). told set (switched_on set) zs) (take_all MOST_LINES ls within) in
+    let shown : items_of (honest_run set readings).said ≡ (run set (switched_on set) ls).items = ap items_of said ∙ told_items set ls (switched_on set) in
+    record {
+      uncut = says.long ∙ le-ltb MOST_LINES (length ls) within;
+      said = said;
+      items = shown ∙ honest_shows set rs c d.sound d.room d.words h low;
+      delivers = subst (λ (items : List Item). Delivers set.app rs items) (sym shown) (honest_run_delivers set rs c d.sound d.room d.words h low);
+    }
 
 pub driven_is_honest : DrivenIsHonest
 driven_is_honest set readings d uncut = elim (honest_fares set readings d) [

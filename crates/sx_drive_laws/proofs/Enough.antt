@@ -1,16 +1,15 @@
 -- The number of deliveries is no limit: where nothing waits any more, or where lines are few.
-use Rattle.std.proofs.Common.{◌≡◌, ℕ, zero, suc, ◌+◌, ◌≤◌, ◌⊎◌, inl, inr, List, [], ◌∷◌, ◌++◌, length, length-append, Some, refl, ◌∙◌, ap, arith}
+use Rattle.std.proofs.Common.{◌≡◌, ℕ, zero, suc, ◌+◌, ◌*◌, ◌≤◌, ◌⊎◌, inl, inr, List, [], ◌∷◌, ◌++◌, length, length-append, append_assoc, refl, sym, ◌∙◌, ap, arith}
 use Rattle.sx_mean.specs.Application.{AppTree}
 use Rattle.sx_sched.specs.Lines.{Line}
-use Rattle.sx_honest.specs.Plain.{MOST_DELIVERIES, Sampling, Waiting, oldest}
-use Rattle.sx_honest.specs.Course.{Course, delivered, lines_so_far, played, sensed, settled}
-use Rattle.sx_honest.proofs.Course.{played_on}
-use Rattle.sx_deliver.specs.Schedule.{delivery_lines, reading_lines, readings_lines, settling_lines}
+use Rattle.sx_honest.specs.Plain.{MOST_DELIVERIES, Waiting, oldest}
+use Rattle.sx_honest.specs.Course.{Course, delivered, lines_so_far, settled}
+use Rattle.sx_deliver.specs.Schedule.{delivery_lines, settling_lines}
 use Rattle.sx_drive.specs.Honest.{MOST_LINES}
 
 -- Nothing waits after some deliveries, or as many were made.
 
-settled_or : (app : AppTree) (n : ℕ) (c : Course) → ((settled app n c).plain.waiting ≡ []) ⊎ (length (settled app n c).past ≡ length c.past + n)
+pub settled_or : (app : AppTree) (n : ℕ) (c : Course) → ((settled app n c).plain.waiting ≡ []) ⊎ (length (settled app n c).past ≡ length c.past + n)
 settled_or app zero c = inr (omega arith)
 settled_or app (suc n) c = go c.plain.waiting refl (λ d. settled_or app n d)
   where
@@ -43,7 +42,7 @@ none_more app (suc m) c e = record {
   lines = ap (λ (xs : List Waiting). oldest [] (λ x ws. delivery_lines app x c ++ settling_lines app m (delivered app x ws c)) xs) e;
 }
 
-same_settled : (app : AppTree) (n m : ℕ) (c : Course) → n ≤ m → (settled app n c).plain.waiting ≡ [] → Same app n m c
+pub same_settled : (app : AppTree) (n m : ℕ) (c : Course) → n ≤ m → (settled app n c).plain.waiting ≡ [] → Same app n m c
 same_settled app zero m c le still = none_more app m c still
 same_settled app (suc n) zero c le still = absurd (omega (arith, le))
 same_settled app (suc n) (suc m) c le still =
@@ -60,17 +59,26 @@ same_settled app (suc n) (suc m) c le still =
           ap (λ (ls : List Line). delivery_lines app x c ++ ls) same.lines,
         )
 
-pub same_lines : (app : AppTree) (n m : ℕ) (rs : List Sampling) (c d : Course) → n ≤ m → played app n rs c ≡ Some d → readings_lines app m rs c ≡ readings_lines app n rs c
-same_lines app n m [] c d le p = refl
-same_lines app n m (r ∷ rs) c d le p =
-    let s = sensed app r c in
-    let e = settled app n s in
-    let on = played_on app n rs e d p in
-    let same = same_settled app n m s le on.still in
-    ap (λ (ls : List Line). reading_lines app r c ++ ls ++ readings_lines app m rs (settled app m s)) same.lines
-    ∙ ap (λ (z : Course). reading_lines app r c ++ settling_lines app n s ++ readings_lines app m rs z) same.course
-    ∙ ap (λ (ls : List Line). reading_lines app r c ++ settling_lines app n s ++ ls) (same_lines app n m rs e d le on.more)
+-- at most m deliveries begin with at most n
+pub more_settling : (app : AppTree) (n m : ℕ) (c : Course) → n ≤ m → (right : List Line) × (settling_lines app m c ≡ settling_lines app n c ++ right)
+more_settling app zero m c le = (settling_lines app m c, refl)
+more_settling app (suc n) zero c le = absurd (omega (arith, le))
+more_settling app (suc n) (suc m) c le = go c.plain.waiting (λ d. more_settling app n m d (omega (arith, le)))
+  where
+    go : (xs : List Waiting) → ((d : Course) → (right : List Line) × (settling_lines app m d ≡ settling_lines app n d ++ right))
+        → (right : List Line) × (oldest [] (λ x ws. delivery_lines app x c ++ settling_lines app m (delivered app x ws c)) xs ≡ oldest [] (λ x ws. delivery_lines app x c ++ settling_lines app n (delivered app x ws c)) xs ++ right)
+    go [] more = ([], refl)
+    go (x ∷ ws) more =
+        let r = more (delivered app x ws c) in (
+          r.0,
+          ap (λ (ls : List Line). delivery_lines app x c ++ ls) r.1 ∙ sym (append_assoc (delivery_lines app x c) (settling_lines app n (delivered app x ws c)) r.0),
+        )
 
 pub fewer_deliveries : MOST_DELIVERIES ≤ MOST_LINES
 unfolding MOST_DELIVERIES MOST_LINES
 fewer_deliveries = omega arith
+
+-- three lines for each of them
+pub enough_deliveries : 65535 ≤ 3 * MOST_DELIVERIES
+unfolding MOST_DELIVERIES
+enough_deliveries = omega arith

@@ -66,7 +66,7 @@ take_fares : (set : Setting) (n i number : ℕ) (h : Honest) → IsWhole h → (
 take_fares set n i number h whole shown =
     let l : Line = Take n (0x80 + 24 * i) 24 in
     let g : Honest = (says set l h).honest in
-    then_fares set h.world (says set l h) queues (l ∷ []) [] (Shows h.waiting (next set h.world l).items) (Waits (h.waiting ++ number ∷ [])) (says_fares set l h whole) (λ g cut. cut)
+    then_fares set h.world (says set l h) queues (l ∷ []) [] (Shows h.waiting (next set h.world l).items) (Waits (h.waiting ++ number ∷ [])) (says_fares set l h whole) (λ g cut. record { said = refl; long = cut })
     (λ played. inr (record {
       said = refl;
       world = refl;

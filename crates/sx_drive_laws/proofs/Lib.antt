@@ -3,6 +3,7 @@ pub mod Staying
 pub mod Handing
 pub mod SettingUp
 pub mod Enough
+pub mod First
 pub mod Tracking
 pub mod Driven
 pub mod Accepted

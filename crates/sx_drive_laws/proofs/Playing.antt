@@ -25,17 +25,27 @@ pub record Plays (set : Setting) (w : World) (d : Driven) (ls : List Line) (P : 
   pub whole : IsWhole d.honest
   pub holds : P d.honest
 
--- one of these lines was left out, since a schedule has no room for all
-pub record IsCut (w : World) (d : Driven) (ls : List Line) : Type 0 where
+-- a schedule has no room for all of these lines: the first of them were said, each with what it shows, and the others were left out
+pub record IsCut (set : Setting) (w : World) (d : Driven) (ls : List Line) : Type 0 where
+  pub front : List Line
+  pub rest : List Line
+  pub lines : ls ≡ front ++ rest
+  pub full : w.lines + length front ≡ 65536
+  pub some : 0 < length rest
+  pub said : d.said ≡ told set w front
   pub long : d.honest.long ≡ true
-  pub many : 65536 < w.lines + length ls
 
 abbrev pub Fares : Setting → World → Driven → List Line → (Honest → Type 0) → Type 0
-Fares set w d ls P = IsCut w d ls ⊎ Plays set w d ls P
+Fares set w d ls P = IsCut set w d ls ⊎ Plays set w d ls P
 
--- once a line was left out, no part says anything more
+-- it says nothing, since a line was left out before
+pub record IsSilent (d : Driven) : Type 0 where
+  pub said : d.said ≡ []
+  pub long : d.honest.long ≡ true
+
+-- once a line was left out, it says nothing
 abbrev pub Stays : (Honest → Driven) → Type 0
-Stays f = (h : Honest) → h.long ≡ true → (f h).honest.long ≡ true
+Stays f = (h : Honest) → h.long ≡ true → IsSilent (f h)
 
 -- what waits
 abbrev pub Waits : List ℕ → Honest → Type 0
@@ -64,19 +74,38 @@ run_counts set (l ∷ ls) w =
     let rest : (run set a.world ls).world.lines ≡ a.world.lines + length ls = run_counts set ls a.world in
     omega (arith, one, rest)
 
-then_cut : (w : World) (a : Driven) (f : Honest → Driven) (xs ys : List Line) → Stays f → IsCut w a xs → IsCut w (then_ a f) (xs ++ ys)
-then_cut w a f xs ys stays cut =
-    let long = length-append xs ys in
-    let many = cut.many in
-    record { long = stays a.honest cut.long; many = omega (arith, many, long) }
-
 module _ (set : Setting) (w : World) (a : Driven) (f : Honest → Driven) (xs ys : List Line) (P Q : Honest → Type 0) where
-  later_cut : Plays set w a xs P → IsCut a.honest.world (f a.honest) ys → IsCut w (then_ a f) (xs ++ ys)
+  then_cut : Stays f → IsCut set w a xs → IsCut set w (then_ a f) (xs ++ ys)
+  then_cut stays cut =
+      let silent = stays a.honest cut.long in
+      let more = length-append cut.rest ys in
+      let some = cut.some in
+      record {
+        front = cut.front;
+        rest = cut.rest ++ ys;
+        lines = ap (λ (zs : List Line). zs ++ ys) cut.lines ∙ append_assoc cut.front cut.rest ys;
+        full = cut.full;
+        some = omega (arith, more, some);
+        said = ap (λ (zs : List Said). a.said ++ zs) silent.said ∙ append-nil a.said ∙ cut.said;
+        long = silent.long;
+      }
+
+  later_cut : Plays set w a xs P → IsCut set a.honest.world (f a.honest) ys → IsCut set w (then_ a f) (xs ++ ys)
   later_cut first cut =
-      let long = length-append xs ys in
-      let many = cut.many in
+      let long = length-append xs cut.front in
+      let full = cut.full in
       let count : a.honest.world.lines ≡ w.lines + length xs = ap (λ (v : World). v.lines) first.world ∙ run_counts set xs w in
-      record { long = cut.long; many = omega (arith, many, long, count) }
+      record {
+        front = xs ++ cut.front;
+        rest = cut.rest;
+        lines = ap (λ (zs : List Line). xs ++ zs) cut.lines ∙ sym (append_assoc xs cut.front cut.rest);
+        full = omega (arith, full, long, count);
+        some = cut.some;
+        said =
+            ap (λ (zs : List Said). zs ++ (f a.honest).said) first.said ∙ ap (λ (zs : List Said). told set w xs ++ zs) cut.said
+            ∙ ap (λ (v : World). told set w xs ++ told set v cut.front) first.world ∙ sym (told_append set xs cut.front w);
+        long = cut.long;
+      }
 
   both_play : Plays set w a xs P → Plays set a.honest.world (f a.honest) ys Q → Plays set w (then_ a f) (xs ++ ys) Q
   both_play first second = record {
@@ -90,9 +119,17 @@ module _ (set : Setting) (w : World) (a : Driven) (f : Honest → Driven) (xs ys
 
   pub then_fares : Fares set w a xs P → Stays f → (Plays set w a xs P → Fares set a.honest.world (f a.honest) ys Q) → Fares set w (then_ a f) (xs ++ ys) Q
   then_fares first stays more = elim first [
-    | inl cut ↦ inl (then_cut w a f xs ys stays cut)
+    | inl cut ↦ inl (then_cut stays cut)
     | inr played ↦ elim (more played) [ inl cut ↦ inl (later_cut played cut) | inr rest ↦ inr (both_play played rest) ]
   ]
+
+pub then_silent : (a : Driven) (f : Honest → Driven) → IsSilent a → Stays f → IsSilent (then_ a f)
+then_silent a f silent stays =
+    let rest = stays a.honest silent.long in
+    record { said = ap (λ (zs : List Said). zs ++ (f a.honest).said) silent.said ∙ rest.said; long = rest.long }
+
+pub still_silent : (h : Honest) → h.long ≡ true → IsSilent (still h)
+still_silent h cut = record { said = refl; long = cut }
 
 pub still_fares : (set : Setting) (h : Honest) (P : Honest → Type 0) → IsWhole h → P h → Fares set h.world (still h) [] P
 still_fares set h P whole holds = inr (record { said = refl; world = refl; whole = whole; holds = holds })
@@ -107,9 +144,17 @@ fares_as set w d ls P Q f x = elim x [
 pub each_one : {A : Type 0} (act : A → Honest → Driven) (x : A) (set : Setting) (h : Honest) (w : World) (ls : List Line) (P : Honest → Type 0)
     → Fares set w (act x h) ls P → Fares set w (each act (x ∷ []) h) ls P
 each_one act x set h w ls P fares = elim fares [
-  | inl cut ↦ inl (record { long = cut.long; many = cut.many })
+  | inl cut ↦
+      inl (record { front = cut.front; rest = cut.rest; lines = cut.lines; full = cut.full; some = cut.some; said = append-nil (act x h).said ∙ cut.said; long = cut.long })
   | inr played ↦ inr (record { said = append-nil (act x h).said ∙ played.said; world = played.world; whole = played.whole; holds = played.holds })
 ]
+
+pub cut_many : (set : Setting) (w : World) (d : Driven) (ls : List Line) → IsCut set w d ls → 65536 < w.lines + length ls
+cut_many set w d ls cut =
+    let all = ap (λ (zs : List Line). length zs) cut.lines ∙ length-append cut.front cut.rest in
+    let full = cut.full in
+    let some = cut.some in
+    omega (arith, all, full, some)
 
 -- One line.
 
@@ -121,7 +166,7 @@ below a b le apart = omega (arith, le, apart)
 
 either_way : (set : Setting) (l : Line) (h : Honest) → h.world.lines ≤ 65536 → (b : Bool) → (h.world.lines == 65536) ≡ b
     → Fares set h.world (if b then left_out h else performed l h (next set h.world l)) (l ∷ []) (Shows h.waiting (next set h.world l).items)
-either_way set l h room true e = let full : h.world.lines ≡ 65536 = eqb-true h.world.lines 65536 e in inl (record { long = refl; many = omega (arith, full) })
+either_way set l h room true e = let full : h.world.lines ≡ 65536 = eqb-true h.world.lines 65536 e in inl (record { front = []; rest = l ∷ []; lines = refl; full = omega (arith, full); some = omega arith; said = refl; long = refl })
 either_way set l h room false e =
     let a = next set h.world l in
     let one : a.world.lines ≡ h.world.lines + 1 = counts_lines set (line_counted h.world) l in

@@ -20,8 +20,8 @@ use Rattle.sx_setup.proofs.forms.ByLine.{keys_shown, part_shown, parts_shown, sh
 use Rattle.sx_setup.proofs.Runs.{shown_append}
 use Rattle.sx_setup.proofs.SetUp.{set_up_shown}
 use Rattle.sx_drive.specs.Honest.{Callee, Driven, Honest, answers, asks, callee_at, each, hands, if_there, opens, packets_of, says, sets_up, sets_up_from, setup, start, then_}
-use Rattle.sx_drive_laws.proofs.Playing.{Fares, IsWhole, Shows, Stays, Waits, each_one, fares_as, says_fares, still_fares, then_fares}
-use Rattle.sx_drive_laws.proofs.Staying.{answers_stay, each_stay, hands_stay, opens_stay, says_stays, sets_up_from_stays}
+use Rattle.sx_drive_laws.proofs.Playing.{Fares, IsWhole, Shows, Waits, each_one, fares_as, says_fares, still_fares, then_fares}
+use Rattle.sx_drive_laws.proofs.Staying.{asking_stays, each_stay, hand_each_stays, hands_stay, opening_stays, opens_stay, sets_up_from_stays}
 use Rattle.sx_drive_laws.proofs.Handing.{first_of, hands_fares, numbers, rest_of}
 
 packets_listed : (n len k : ℕ) → packets_of (packet_items n len k) ≡ numbers n k
@@ -59,12 +59,6 @@ module _ (set : Setting) (x : Callee) (number : ℕ) (h : Honest) (whole : IsWho
   abbrev gives : List Line
   gives = Give number x.node 0x40 ∷ Call x.part 1 0x40 0x80 ∷ []
 
-  handing_stays : Stays handing
-  handing_stays g cut = each_stay (hands set 1 x) (hands_stay set 1 x) (packets_of g.shown) g cut
-
-  asking_stays : Stays asking
-  asking_stays g cut = handing_stays (says set (Ask x.part) g).honest (says_stays set (Ask x.part) g cut)
-
   handed : (g : Honest) → IsWhole g → g.waiting ≡ h.waiting → packets_of g.shown ≡ number ∷ [] → Fares set g.world (handing g) gives (Waits h.waiting)
   handed g whole waits one =
       let p : List Item = (next set (next set g.world (Give number x.node 0x40)).world (Call x.part 1 0x40 0x80)).items in
@@ -75,9 +69,9 @@ module _ (set : Setting) (x : Callee) (number : ℕ) (h : Honest) (whole : IsWho
   asks_fares : Fares set h.world (asks set x h) (Load x.part ∷ Ask x.part ∷ gives) (Waits h.waiting)
   asks_fares =
       then_fares set h.world (says set (Load x.part) h) asking (Load x.part ∷ []) (Ask x.part ∷ gives) (Shows h.waiting (next set h.world (Load x.part)).items) (Waits h.waiting)
-      (says_fares set (Load x.part) h whole) asking_stays
+      (says_fares set (Load x.part) h whole) (asking_stays set x)
       (λ first. then_fares set h1.world (says set (Ask x.part) h1) handing (Ask x.part ∷ []) gives (Shows h1.waiting (next set h1.world (Ask x.part)).items) (Waits h.waiting)
-      (says_fares set (Ask x.part) h1 first.whole) handing_stays
+      (says_fares set (Ask x.part) h1 first.whole) (hand_each_stays set 1 x)
       (λ second. handed h2 second.whole (second.holds.waiting ∙ first.holds.waiting)
       (ap packets_of (second.holds.shown ∙ ap (λ (v : World). (next set v (Ask x.part)).items) first.world) ∙ asked)))
 
@@ -105,15 +99,6 @@ module _ (set : Setting) (x : Callee) (answer number k : ℕ) (h : Honest) (whol
   abbrev keys : List Line
   keys = key_lines x.part x.node number k
 
-  answering_stays : Stays answering
-  answering_stays g cut = each_stay (answers set x) (answers_stay set x) (packets_of g.shown) g cut
-
-  keying_stays : Stays keying
-  keying_stays g cut = each_stay (hands set 0 x) (hands_stay set 0 x) (packets_of g.shown) g cut
-
-  opening_stays : Stays opening
-  opening_stays g cut = keying_stays (answering g).honest (answering_stays g cut)
-
   answers_fare : (g : Honest) → IsWhole g → packets_of g.shown ≡ answer ∷ [] → Fares set g.world (answering g) (given ∷ []) (Shows g.waiting (next set g.world given).items)
   answers_fare g whole one =
       subst (λ (ks : List ℕ). Fares set g.world (each (answers set x) ks g) (given ∷ []) (Shows g.waiting (next set g.world given).items)) (sym one)
@@ -126,9 +111,9 @@ module _ (set : Setting) (x : Callee) (answer number k : ℕ) (h : Honest) (whol
 
   opens_fares : Fares set h.world (opens set x h) (take ∷ given ∷ keys) (Waits h.waiting)
   opens_fares =
-      then_fares set h.world (says set take h) opening (take ∷ []) (given ∷ keys) (Shows h.waiting (next set h.world take).items) (Waits h.waiting) (says_fares set take h whole) opening_stays
+      then_fares set h.world (says set take h) opening (take ∷ []) (given ∷ keys) (Shows h.waiting (next set h.world take).items) (Waits h.waiting) (says_fares set take h whole) (opening_stays set x)
       (λ first. then_fares set g1.world (answering g1) keying (given ∷ []) keys (Shows g1.waiting (next set g1.world given).items) (Waits h.waiting)
-      (answers_fare g1 first.whole (ap packets_of first.holds.shown ∙ taken)) keying_stays
+      (answers_fare g1 first.whole (ap packets_of first.holds.shown ∙ taken)) (hand_each_stays set 0 x)
       (λ second. keyed (answering g1).honest second.whole (second.holds.waiting ∙ first.holds.waiting)
       (ap packets_of (second.holds.shown ∙ ap (λ (v : World). (next set v given).items) first.world) ∙ answered)))
 

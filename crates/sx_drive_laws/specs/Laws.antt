@@ -1,6 +1,7 @@
--- What holds of the honest run that the program makes: where no line is left out, its lines are
--- those of the honest schedule, and they show what the source alone predicts.
-use Rattle.std.specs.Prelude.{ℕ, ◌≡◌, ◌<◌, false, List, [], ◌∷◌, ◌++◌, map, All, Ok}
+-- What holds of the honest run that the program makes: it says the lines of the honest schedule, and
+-- where no line is left out they show what the source alone predicts.
+use Rattle.std.specs.Prelude.{ℕ, ◌≡◌, ◌<◌, false, List, [], ◌∷◌, ◌++◌, length, map, take}
+use Rattle.std.specs.Prelude.{nat_lt, All, Ok}
 use Rattle.sx_trace.specs.declared.items.Item.{Item}
 use Rattle.sx_sched.specs.Lines.{Line}
 use Rattle.sx_tag.specs.Mac.{Mac, IsTag}
@@ -17,7 +18,7 @@ use Rattle.sx_honest.specs.Laws.{Delivers}
 use Rattle.sx_setup.specs.Laws.{AreByteTexts, HasRoom}
 use Rattle.sx_deliver.specs.Laws.{HaveWords}
 use Rattle.sx_deliver.specs.Schedule.{honest_schedule}
-use Rattle.sx_drive.specs.Honest.{Reading, Said, SaidItem, SaidLine, honest_run}
+use Rattle.sx_drive.specs.Honest.{MOST_LINES, Reading, Said, SaidItem, SaidLine, honest_run}
 
 -- a reading, as the source has it
 abbrev pub sampling_of : Reading → Sampling
@@ -50,6 +51,18 @@ pub record IsDriveable (set : Setting) (readings : List Reading) : Type 0 where
   pub room : HasRoom set
   pub words : HaveWords set.app
   pub are_readings : All (IsReading set.app) readings
+
+-- Whatever the readings are, the run says the first 65,536 lines of the honest schedule, each with
+-- what it shows; and a line is left out exactly where there are more.
+pub record SaysSchedule (set : Setting) (readings : List Reading) : Type 0 where
+  pub said : (honest_run set readings).said ≡ told set (switched_on set)
+      (take MOST_LINES (honest_schedule set.app (samplings_of readings)))
+  pub long : (honest_run set readings).honest.long
+      ≡ nat_lt MOST_LINES (length (honest_schedule set.app (samplings_of readings)))
+
+abbrev pub ScheduleIsSaid : Type 0
+ScheduleIsSaid = (set : Setting) (readings : List Reading) → IsDriveable set readings
+    → SaysSchedule set readings
 
 -- The honest run of readings leaves no line out: it says the lines of the honest schedule with what
 -- they show, and that is what the source predicts, so it delivers.
