@@ -2,7 +2,7 @@
 use Rattle.std.specs.Prelude.{ℕ, ◌+◌, ◌*◌, Bool, true, false, ◌||◌, not, List, [], ◌∷◌, ◌++◌, max}
 use Rattle.std.specs.Prelude.{nat_le}
 use Rattle.sx_lang.specs.declared.tree.Decl.{Decl}
-use Rattle.sx_lang.specs.declared.tree.Decl.TheVariants.{Device, Input, Output, Var, Array}
+use Rattle.sx_lang.specs.declared.tree.Decl.TheVariants.{Input, Output, Array}
 use Rattle.sx_lang.specs.Tree.{Expression, Constant, Variable, Indexed, Applied, Combined}
 use Rattle.sx_lang.specs.Tree.{Statement, Defines, Assigns, Stores, Chooses, Repeats, Sends, Emits}
 use Rattle.sx_lang.specs.Tree.{Block, Done, Then}

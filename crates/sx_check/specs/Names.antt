@@ -6,7 +6,7 @@ use Rattle.std.specs.List.{list_any}
 use Rattle.sx_lang.specs.declared.tree.DeviceKind.TheVariants.{Sensor, Actuator}
 use Rattle.sx_lang.specs.declared.tree.Decl.{Decl}
 use Rattle.sx_lang.specs.declared.tree.Decl.TheVariants.{Device, Input, Output, Var, Array}
-use Rattle.sx_lang.specs.Tree.{Statement, Defines, Assigns, Stores, Chooses, Repeats, Sends, Emits}
+use Rattle.sx_lang.specs.Tree.{Statement, Defines, Chooses, Repeats}
 use Rattle.sx_lang.specs.Tree.{Block, Done, Then, HandlerTree}
 
 -- two names are equal

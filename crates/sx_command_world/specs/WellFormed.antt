@@ -1,9 +1,9 @@
 -- The inputs that `run` takes to their end, and its exit status, whatever the images are.
-use Rattle.std.specs.Prelude.{ℕ, ◌+◌, List, [], ◌∷◌, Result, Ok, Err, IsOk}
-use Rattle.sx_io.specs.Reading.{Answer, Line, End, Long, Fault}
+use Rattle.std.specs.Prelude.{ℕ, ◌+◌, List, ◌∷◌, Result, Ok, Err, IsOk}
+use Rattle.sx_io.specs.Reading.{Answer, Line, End}
 use Rattle.sx_told.specs.Told.{read_failed}
 use Rattle.sx_stage.specs.declared.fault.DeployFault.{DeployFault}
-use Rattle.sx_head.specs.Head.{Head, Found, TooLong, NoMark, Unread, head}
+use Rattle.sx_head.specs.Head.{Head, Found, Unread, head}
 use Rattle.sx_trace.specs.Names.{NameLists}
 use Rattle.sx_sched.specs.Reading.{Assembler}
 use Rattle.sx_deploy.specs.Deployment.{Deployed}

@@ -1,9 +1,9 @@
 -- One invocation of a module, by the entry protocol (own): its steps in order, each as a
 -- definition.
 use Rattle.std.specs.Prelude.{◌==◌, nat_lt, Bool, true, false, ◌&&◌, ◌||◌, not, if◌then◌else◌}
-use Rattle.std.specs.Prelude.{Option, Some, None}
+use Rattle.std.specs.Prelude.{Option, Some}
 use Rattle.sx_lang.specs.declared.tree.DeviceKind.{DeviceKind}
-use Rattle.sx_lang.specs.declared.tree.DeviceKind.TheVariants.{Sensor, Actuator}
+use Rattle.sx_lang.specs.declared.tree.DeviceKind.TheVariants.{Sensor}
 use Rattle.sx_mean.specs.Application.{declared_kind}
 use Rattle.sx_rules.specs.declared.access.Violation.TheVariants as bad
 use Rattle.sx_rules.specs.Access.{in_public}

@@ -6,7 +6,7 @@ use Rattle.sx_isa.specs.declared.instruction.Operand.TheVariants.{Reg, Indexed, 
 use Rattle.sx_isa.specs.declared.instruction.Operand.TheVariants.{Symbolic, Absolute, Immediate}
 use Rattle.sx_isa.specs.declared.instruction.Operand.TheVariants.{Const}
 use Rattle.sx_isa.specs.declared.instruction.Op1.{Op1}
-use Rattle.sx_isa.specs.declared.instruction.Op1.TheVariants.{Rrc, Swpb, Rra, Sxt, Push, Call}
+use Rattle.sx_isa.specs.declared.instruction.Op1.TheVariants.{Swpb, Sxt, Push, Call}
 use Rattle.sx_isa.specs.declared.instruction.Instr.{Instr}
 use Rattle.sx_isa.specs.declared.instruction.Instr.TheVariants.{Two, One, Reti, Jump, Sancus}
 use Rattle.sx_isa.specs.Spelling.{spelling}
