@@ -29,7 +29,8 @@ use Rattle.sx_invoke.specs.ModuleState.{ModuleState}
 use Rattle.sx_invoke.specs.Marks.{Sampled}
 use Rattle.sx_invoke.specs.Acts.{own_window}
 use Rattle.sx_invoke.specs.Invocation.{is_sensor_driver}
-use Rattle.sx_model.specs.Step.{is_sensor, kind_is}
+use Rattle.sx_mean.specs.Application.{is_sensor}
+use Rattle.sx_model.specs.Step.{kind_is}
 use Rattle.sx_sched.specs.Lines.{Line, Sense, Call}
 use Rattle.sx_run.specs.Setting.{Site, Setting, device_number, devices_at, is_at_site, windows_at}
 use Rattle.sx_run.specs.State.{World, Acted}
