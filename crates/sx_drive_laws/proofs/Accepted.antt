@@ -4,8 +4,8 @@ use Rattle.std.specs.Prelude.{All, option_and_then}
 use Rattle.std.proofs.lemmas.Option.{same_Some}
 use Rattle.sx_mean.specs.declared.apps.AppDevice.{AppDevice}
 use Rattle.sx_tag.specs.Mac.{Mac, IsTag}
-use Rattle.sx_mean.specs.Application.{AppTree}
-use Rattle.sx_model.specs.Step.{is_sensor, kind_is}
+use Rattle.sx_mean.specs.Application.{AppTree, is_sensor}
+use Rattle.sx_model.specs.Step.{kind_is}
 use Rattle.sx_deploy.specs.Deployment.{Deployed, IsRead}
 use Rattle.sx_deploy.specs.Law.{IsSoundDeployment}
 use Rattle.sx_deploy.proofs.Sound.{sound}
