@@ -34,7 +34,7 @@ items_told : (is : List Item) (said : List Said) → items_of (map SaidItem is +
 items_told [] said = refl
 items_told (i ∷ is) said = ap (λ (zs : List Item). i ∷ zs) (items_told is said)
 
-told_items : (set : Setting) (ls : List Line) (w : World) → items_of (told set w ls) ≡ (run set w ls).items
+pub told_items : (set : Setting) (ls : List Line) (w : World) → items_of (told set w ls) ≡ (run set w ls).items
 told_items set [] w = refl
 told_items set (l ∷ ls) w =
     let a = next set w l in

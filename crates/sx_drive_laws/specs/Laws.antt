@@ -45,7 +45,8 @@ pub record IsReading (app : AppTree) (r : Reading) : Type 0 where
   pub sampling : IsSampling app (sampling_of r)
   pub low : r.value < 32768
 
--- what is asked of a setting and its readings; each accepted deployment has the first three
+-- what is asked of a setting and its readings; each accepted deployment, with images that realize its
+-- modules, has the first three
 pub record IsDriveable (set : Setting) (readings : List Reading) : Type 0 where
   pub sound : IsSoundSetting set
   pub room : HasRoom set
