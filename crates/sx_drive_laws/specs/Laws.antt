@@ -1,5 +1,5 @@
--- What holds of the honest run that the program makes: it says the lines of the honest schedule, and
--- where no line is left out they show what the source alone predicts.
+-- What holds of the honest run that the program makes: it says the lines of the honest schedule,
+-- and where no line is left out they show what the source alone predicts.
 use Rattle.std.specs.Prelude.{ℕ, ◌≡◌, ◌<◌, false, List, [], ◌∷◌, ◌++◌, length, map, take}
 use Rattle.std.specs.Prelude.{nat_lt, All, Ok}
 use Rattle.sx_trace.specs.declared.items.Item.{Item}
@@ -45,8 +45,8 @@ pub record IsReading (app : AppTree) (r : Reading) : Type 0 where
   pub sampling : IsSampling app (sampling_of r)
   pub low : r.value < 32768
 
--- what is asked of a setting and its readings; each accepted deployment, with images that realize its
--- modules, has the first three
+-- what is asked of a setting and its readings; each accepted deployment, with images that realize
+-- its modules, has the first three
 pub record IsDriveable (set : Setting) (readings : List Reading) : Type 0 where
   pub sound : IsSoundSetting set
   pub room : HasRoom set
