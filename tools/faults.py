@@ -71,6 +71,10 @@ READINGS = {
     "Q4": "the first word names no sensor with a driver",
     "Q5": "the value isn't a number below 32,768",
 }
+LONG = [
+    "the honest run of these readings takes more than 65,536 lines, the most of a schedule",
+    "often modules send in a circle without an end; else give it fewer readings",
+]
 QUERIES = {
     "Y1": "the line has more than 4,096 bytes",
     "Y2": "there are more than 64 lines",
@@ -463,6 +467,8 @@ def told(data, fault):
     words = fault.split()
     if words[:1] == ["illegal"] and len(words) == 2:
         return illegal(data, int(words[1]))
+    if words == ["fault", "drive", "long"]:
+        return LONG
     if words[:1] != ["fault"] or len(words) < 3:
         return []
     what, rule, place = words[1], words[2], words[3:]

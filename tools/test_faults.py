@@ -138,6 +138,7 @@ class Faults(unittest.TestCase):
         self.assertIn("line 5 of the file: none 2", "\n".join(told(Input(text), "fault trace E2 2")))
         self.assertIn("line 4 of the file: out eye 1", "\n".join(told(Input(text), "illegal 1")))
         self.assertIn("line 2 of the file: bulb 1", "\n".join(told(Input(b"%%\nbulb 1\n"), "fault reading Q4 1")))
+        self.assertIn("65,536 lines", "\n".join(told(Input(b"%%\nlight 1\n"), "fault drive long")))
         self.assertIn(
             "line 4 of the file: what", "\n".join(told(Input(b"%%\nload eye\n%%\nwhat\n"), "fault query Y3 1"))
         )

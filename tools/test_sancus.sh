@@ -64,7 +64,7 @@ expect "symlinks and other folders" 3 $'ran check\nin' "the proved build"
 
 # Words are judged before anything is built or started.
 fresh 'echo "rt was called" >&2; exit 1'
-for words in "" --help -h help "run a b" "gen 0" "gen 8001" "gen" "asm 0x10000" "asm 1x" "dis" "check a b" "drive" "build 3"; do
+for words in "" --help -h help "run a b" "gen 0" "gen 8001" "gen" "asm 0x10000" "asm 1x" "dis" "check a b" "drive a b" "build 3"; do
   # shellcheck disable=SC2086
   run "$repository/sancus" $words
   expect "words that are no command: $words" 2 "fault usage" "usage: sancus run [FILE]"
@@ -90,6 +90,8 @@ printf 'of a file\n' >"$work/file"
 built
 run "$repository/sancus" run "$work/file"
 expect "FILE is read" 3 $'ran run\nof a file' "the proved build"
+run "$repository/sancus" drive "$work/file"
+expect "FILE of readings is read" 3 $'ran drive\nof a file' "the proved build"
 run "$repository/sancus" asm 7 "$work/file"
 expect "FILE behind an address" 3 $'ran asm 7\nof a file' "the proved build"
 printf 'a deployment\r\n%%%%\r\nload eye\n' >"$work/both"
@@ -121,6 +123,14 @@ told="$(cat -- "$work/told")"
 expect "a fault in words, of a file as standard input" 1 "fault deployment D4 top" "must be 32 hexadecimal digits"
 run "$repository/sancus" check
 expect "a pipe can't be read twice" 1 "fault deployment D4 top" "the proved build"
+printf '%%%%\nlight 1\n' >"$work/file"
+program "$crate/out/sancus_run" 'cat >/dev/null; echo "fault reading Q4 1"; exit 3'
+run "$repository/sancus" drive "$work/file"
+expect "a fault of readings in words" 3 "fault reading Q4 1" "line 2 of the file: light 1"
+program "$crate/out/sancus_run" 'cat >/dev/null; echo "fault drive long"; exit 9'
+run "$repository/sancus" drive "$work/file"
+expect "a run without an end in words" 9 "fault drive long" "more than 65,536 lines"
+printf 'secret = 3\n%%%%\n' >"$work/file"
 fresh 'cat >/dev/null; echo "fault deployment D4 top"; echo "run=ended status=1 runners=1 proved=no" >&2; exit 1'
 run "$repository/sancus" check "$work/file"
 expect "a fault in words where no build stands" 1 "fault deployment D4 top" "must be 32 hexadecimal digits"
