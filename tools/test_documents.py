@@ -22,7 +22,8 @@ What else a block holds isn't looked at. Each link to a file of the repository, 
 each path in a crate that stands between backquotes must be that of a file or a folder, as of `sx_run/specs/Run.antt`, which
 may be written without its ending.
 
-Of an example the run must end well, and show each item that its first lines name between backquotes.
+Of an example the run must end well, and show each item that its first lines name between backquotes; it is one of `drive`,
+for the readings of an example whose first line names `./sancus drive`.
 """
 
 import argparse
@@ -210,6 +211,11 @@ def try_block(words, lines, room, say):
     return bool(wrong)
 
 
+def command_of(example):
+    """The command that an example is for."""
+    return "drive" if "`./sancus drive`" in example.read_text().partition("\n")[0] else "run"
+
+
 def named_items(text):
     """The items that the first lines of an example name."""
     lines = itertools.takewhile(lambda line: line.startswith("# "), text.splitlines())
@@ -219,7 +225,7 @@ def named_items(text):
 
 def try_example(file, room):
     """What is wrong with an example, or none."""
-    ran = bash(f"./sancus run {file}", room)
+    ran = bash(f"./sancus {command_of(file)} {file}", room)
     lines = ran.stdout.splitlines()
     if ran.returncode != 0:
         return f"status {ran.returncode}: {lines[-1:]} {ran.stderr}"

@@ -21,7 +21,7 @@ TOP = Path(__file__).resolve().parent.parent
 sys.path.insert(0, str(TOP / "tools"))
 from marked import marked  # noqa: E402
 from deployment import Input  # noqa: E402
-from view import page_of, texts_of_run, without_lines  # noqa: E402
+from view import page_of, texts_of_drive, texts_of_run, without_lines  # noqa: E402
 
 BUILT = TOP / "crates" / "sancus_run" / "out" / "sancus_run"
 PROGRAM = os.environ.get("PROGRAM") or (str(BUILT) if BUILT.is_file() else "")
@@ -337,8 +337,10 @@ class Viewer(unittest.TestCase):
     def test_examples(self):
         """The items of each line that the page finds are those of a marked run, or it says that it isn't sure."""
         for file in sorted((TOP / "examples").glob("*.txt")):
+            text = file.read_bytes()
+            if b"`./sancus drive`" in text.partition(b"\n")[0]:
+                continue
             with self.subTest(file.name):
-                text = file.read_bytes()
                 plain = subprocess.run([PROGRAM, "run"], input=text, capture_output=True).stdout
                 lines = b"".join(it + b"\n" for it in marked(Input(text), PROGRAM))
                 self.assertEqual(without_lines(lines), plain)
@@ -350,6 +352,16 @@ class Viewer(unittest.TestCase):
                 for one, other in zip(found, self.browser.value(split), strict=True):
                     self.assertEqual(one[0], other[0])
                     self.assertIn(one[1], (None, other[1]))
+
+    @unittest.skipUnless(PROGRAM, "there is no program to run")
+    def test_readings(self):
+        texts = texts_of_drive((TOP / "examples" / "readings.txt").read_bytes(), PROGRAM)
+        if texts["output"] == b"fault usage\n":
+            self.skipTest("the program has no `drive`")
+        self.show(texts)
+        self.assertEqual(self.texts("#notes div"), [])
+        rows = self.browser.value("page.run.rows.filter(row => row.kind === 'act').map(row => row.line.text)")
+        self.assertEqual((len(rows), rows[0], rows[-1]), (58, "load eye", "call lamp 2 0x40 0x80"))
 
     @unittest.skipUnless(PROGRAM, "there is no program to run")
     def test_causes_of_the_program(self):

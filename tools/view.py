@@ -2,6 +2,7 @@
 """Writes one HTML page that holds a run and draws it.
 
     tools/view.py INPUT [--page PAGE] [--program ./sancus]     runs the program
+    tools/view.py --drive INPUT ..                             the same for readings, by `drive`
     tools/view.py INPUT OUTPUT [CAUSES] [--page PAGE]          takes what was written before
 
 It opens without a connection, in any browser. Where the program is run, a marked run (tools/marked.py) tells which line gave
@@ -52,6 +53,20 @@ def texts_of_run(text, program):
     return {"input": text, "output": output, "causes": causes.stdout if has_causes else b""}
 
 
+def trace_of(driven):
+    """The output of `drive` as `run` writes it: without the lines of the schedule and the count of steps."""
+    lines = [it for it in driven.split(b"\n")[:-1] if not it.startswith((b"> ", b"steps "))]
+    images = [it for it in lines if it.startswith(b"image ")]
+    return b"".join(it + b"\n" for it in [*images, b"trace", *lines[len(images) :]])
+
+
+def texts_of_drive(text, program):
+    """The texts to hold of readings: the lines of their schedule stand in the output."""
+    output = run(program, "drive", text).stdout
+    causes = run(program, "explain", Input(text).head + b"%%\n" + trace_of(output))
+    return {"input": text, "output": output, "causes": causes.stdout if causes.returncode in (0, 8) else b""}
+
+
 def page_of(texts):
     held = "\n".join(f"{name} {base64.b64encode(text).decode()}" for name, text in texts.items() if text)
     return (TOP / "tools" / "viewer.html").read_text().replace(SLOT, SLOT + held, 1)
@@ -63,6 +78,7 @@ def main():
     parser.add_argument(
         "texts", nargs="*", metavar="OUTPUT", help="what `run` wrote, and perhaps what `explain` wrote"
     )
+    parser.add_argument("--drive", action="store_true", help="the input has readings in place of a schedule")
     parser.add_argument("--page", help="by default INPUT with the ending .html")
     parser.add_argument("--program", default=str(TOP / "sancus"))
     given = parser.parse_args()
@@ -70,7 +86,7 @@ def main():
     if given.texts:
         texts = {"input": text} | dict(zip(("output", "causes"), (Path(it).read_bytes() for it in given.texts)))
     else:
-        texts = texts_of_run(text, given.program)
+        texts = (texts_of_drive if given.drive else texts_of_run)(text, given.program)
     name = given.page or Path(given.input).with_suffix(".html")
     Path(name).write_text(page_of(texts | {"name": Path(given.input).name.encode()}))
     print(name)
