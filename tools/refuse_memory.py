@@ -69,6 +69,7 @@ LISTED = b"here: mov #9, &0x1000\nxor.b #1, &0x306\njmp here\n"
 
 CASES = [
     (["run"], LIGHTING),
+    (["drive"], LIGHTING.partition(b"%%\n")[0] + b"%%\nlight 120\n"),
     (["check"], LIGHTING),
     (["snap"], LIGHTING.partition(b"%%\n")[0] + b"%%\n" + QUERIES),
     (["gen", "4"], b""),
