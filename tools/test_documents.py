@@ -241,9 +241,13 @@ def make_room(room, program):
     if not program:
         script.symlink_to(TOP / "sancus")
         return
-    # The second of the words after `run` or `check` is the input's file.
+    # The second of the words after `run` or `check` is the input's file; `explain` may have a trace behind it.
     script.write_text(
         "#!/bin/bash\n"
+        'if [[ "$1 $#" == "explain 3" ]]; then\n'
+        f'  {{ sed "/^%%$/q" "$2"; cat "$3"; }} | {program} explain\n'
+        "  exit\n"
+        "fi\n"
         'case "$1 $2" in "asm "*|"dis "*) file="$3"; set -- "$1" "$2" ;; *) file="$2"; [[ "$1" == gen ]] || set -- "$1" ;; esac\n'
         f'[[ -z "$file" || "$file" == - || "$1" == gen ]] && exec {program} "$@"\n'
         f'exec {program} "$@" <"$file"\n'
