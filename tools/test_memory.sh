@@ -15,18 +15,30 @@ if [[ ! -x "$time" ]]; then
   exit 0
 fi
 
-# peak COUNT LINES [COMMAND MORE]: the most memory in KiB that `run`, or another command, takes for so many times these lines on one node, and
-# more lines after them.
-peak() {
+# room COMMAND: the most memory in KiB that the command takes for its input.
+room() {
   local report
   report="$(mktemp)"
+  "$time" -o "$report" -f %M "$program" "$1" >/dev/null
+  tail -n 1 "$report"
+  rm -f "$report"
+}
+
+# peak COUNT LINES [COMMAND MORE]: that of `run`, or another command, for so many times these lines on one node, and more lines after them.
+peak() {
   {
     printf '%%%%\n'
     yes "$2" | head -n "$1" | tr ';' '\n'
     printf '%s' "${4-}" | tr ';' '\n'
-  } | "$time" -o "$report" -f %M "$program" "${3-run}" >/dev/null
-  tail -n 1 "$report"
-  rm -f "$report"
+  } | room "${3-run}"
+}
+
+# readings COUNT: that of `drive` for so many readings of the lighting.
+readings() {
+  {
+    sed '/^%%$/q' "$top/examples/lighting.txt"
+    yes 'light 120' | head -n "$1"
+  } | room drive
 }
 
 # within NAME LIMIT GOT
@@ -47,6 +59,8 @@ within "65,536 lines that reset a node with a page of memory, beyond 100 lines" 
 # nine worlds and the one that is asked for, each with its own packets
 queries="%%;$(yes 'items 65536' | head -n 64 | tr '\n' ';')"
 within "65,536 packets of 384 bytes that snap is asked about" 262144 "$(peak 65536 'take n 0x400 384' snap "$queries")"
+# 16,010 packets of at most 38 bytes, as many entries of the ledger, and no items
+within "8,000 readings, beyond one" 6144 "$(("$(readings 8000)" - "$(readings 1)"))"
 
 if [[ "$failed" -gt 0 ]]; then
   echo "$failed failed"
