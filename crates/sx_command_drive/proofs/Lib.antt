@@ -1,0 +1,17 @@
+-- Read Written first: what is written reading by reading. Ways has the one induction over an honest
+-- run; Named, Quiet and Ran are what it shows. Playing leads from what a part says to what is
+-- written of it, Statuses has the exit status, Owing what is due of some lines, and Said what follows
+-- for the whole command.
+pub mod Behind
+pub mod Between
+pub mod Named
+pub mod Owing
+pub mod Playing
+pub mod Quiet
+pub mod Ran
+pub mod Said
+pub mod Sensors
+pub mod Statuses
+pub mod Telling
+pub mod Ways
+pub mod Written

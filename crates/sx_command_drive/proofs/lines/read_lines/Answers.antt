@@ -1,0 +1,69 @@
+use Rattle.std.proofs.Common.{◌∙◌, ◌+◌, ◌∷◌, ℕ, List, take, arith, ap, refl, sym}
+use Rattle.sx_io.specs.Reading.{Line}
+use Rattle.sx_told.specs.Told.{Output, read_line}
+use Rattle.sx_told.proofs.Laws.{begun-line, begun-put, ends-same, told-stop, told-end, told-too-long, told-failed}
+use Rattle.sx_deploy.specs.SeenDeployment.{deployed_as}
+use Rattle.sx_command_drive.specs.Drive.{drive_from, steps_text}
+use Rattle.sx_command_drive.proofs.Written.{drive_ended, drive_too_long, drive_unread}
+use Rattle.sx_command_drive.proofs.lines.read_lines.Goals as goal
+
+pub lines-init : goal.lines-init
+lines-init g c = record {
+  few = omega arith;
+  going = c.requires.going;
+  memory = c.requires.memory;
+  between = λ set h f s. record { honest = h; follows = f; short = s; begun = λ limit m0 defined aside noted b. b };
+}
+
+pub returns-in-End : goal.returns-in-End
+returns-in-End g c = λ set h f s limit m0 defined aside noted b.
+    let d = deployed_as c.args.deployment.now in
+    let st = c.lines.invariant.between set h f s in
+    told-end {f = drive_from d set st.honest c.lines.number} (drive_unread d set st.honest c.lines.number st.short) (st.begun limit m0 defined aside noted b) c.in-End.ensures.next
+    (ends-same _ _ _ _ _ _
+    (drive_ended d set st.honest c.lines.number st.short
+    ∙ ap (λ (n : ℕ). record { text = steps_text n; status = 0 }) (sym (c.steps.ensures ∙ st.follows.world.shows.steps))) c.end_run.ensures)
+
+pub returns-in-TooLong : goal.returns-in-TooLong
+returns-in-TooLong g c = λ set h f s limit m0 defined aside noted b.
+    let d = deployed_as c.args.deployment.now in
+    let st = c.lines.invariant.between set h f s in
+    told-too-long {f = drive_from d set st.honest c.lines.number} (drive_unread d set st.honest c.lines.number st.short) (st.begun limit m0 defined aside noted b)
+    c.in-TooLong.ensures.next (ends-same _ _ _ _ _ _ (drive_too_long d set st.honest c.lines.number st.short) c.break_reading.ensures)
+
+pub returns-in-Failed : goal.returns-in-Failed
+unfolding read_line
+returns-in-Failed g c = λ set h f s limit m0 defined aside noted b.
+    let d = deployed_as c.args.deployment.now in
+    let st = c.lines.invariant.between set h f s in
+    told-failed {f = drive_from d set st.honest c.lines.number} (drive_unread d set st.honest c.lines.number st.short) (st.begun limit m0 defined aside noted b)
+    c.in-Failed.ensures.next (ends-same _ _ _ _ _ _ (drive_unread d set st.honest c.lines.number st.short) c.finish.ensures.ends)
+
+pub returns-in-Stop : goal.returns-in-Stop
+returns-in-Stop g c = λ set h f s limit m0 defined aside noted b.
+    let d = deployed_as c.args.deployment.now in
+    let st = c.lines.invariant.between set h f s in
+    told-stop
+    (begun-line (drive_from d set st.honest c.lines.number) (drive_unread d set st.honest c.lines.number st.short) (st.begun limit m0 defined aside noted b) c.in-Text.ensures.next)
+    (c.in-Stop.ensures.turns set st.honest st.follows st.short).does
+
+pub lines-preserved : goal.lines-preserved
+lines-preserved g c = record {
+  few = omega (arith, c.in-On.ensures.few refl);
+  going = c.in-On.ensures.goes_on refl;
+  memory = c.in-On.ensures.memory refl;
+  between = λ set h f s.
+      let d = deployed_as c.args.deployment.now in
+      let st = c.lines.invariant.between set h f s in
+      let text = take c.in-Text.n c.next.new.into in
+      let t = c.in-On.ensures.turns set st.honest st.follows st.short in
+      record {
+        honest = t.next;
+        follows = t.follows refl;
+        short = t.short refl;
+        begun = λ limit m0 defined aside noted b.
+            begun-put (λ more. drive_from d set st.honest c.lines.number (Line text ∷ more)) (drive_from d set t.next (c.lines.number + 1))
+            (begun-line (drive_from d set st.honest c.lines.number) (drive_unread d set st.honest c.lines.number st.short) (st.begun limit m0 defined aside noted b) c.in-Text.ensures.next)
+            t.does;
+      };
+}

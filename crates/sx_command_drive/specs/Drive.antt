@@ -1,0 +1,105 @@
+-- What the command `drive` writes, and its exit status: a function of what texts of deployments
+-- mean, of the texts of the modules' images, and of the answers that the lines of its input give.
+use Rattle.std.specs.Prelude.{ℕ, if◌then◌else◌, List, ◌++◌, flat_map, codes, decimal}
+use Rattle.std.specs.Prelude.{Result, Ok, Err}
+use Rattle.sx_io.specs.Reading.{Answer}
+use Rattle.sx_told.specs.Told.{Output, behind, unread_output}
+use Rattle.sx_tag.specs.Mac.{Mac}
+use Rattle.sx_stage.specs.declared.fault.Place.TheVariants.{Nowhere}
+use Rattle.sx_stage.specs.declared.fault.DeployFault.{DeployFault}
+use Rattle.sx_stage.specs.Fault.{fault}
+use Rattle.sx_head.specs.Head.{Head, Found, TooLong, NoMark, head}
+use Rattle.sx_head.specs.Head as heads
+use Rattle.sx_trace.specs.Items.{item_text}
+use Rattle.sx_trace.specs.Names.{NameLists}
+use Rattle.sx_sched.specs.Written.{line_text}
+use Rattle.sx_deploy.specs.Deployment.{Deployed}
+use Rattle.sx_run.specs.Setting.{Setting}
+use Rattle.sx_run.specs.Accepted.{setting_of}
+use Rattle.sx_drive.specs.Honest.{Driven, Honest, Reading, Said, SaidItem, SaidLine, each, reads}
+use Rattle.sx_drive.specs.Honest.{honest_run}
+use Rattle.sx_command.specs.Output.{line, end_line, fault_output}
+use Rattle.sx_command_head.specs.Meanings.{Meaning}
+use Rattle.sx_command_head.specs.Refused as refused
+use Rattle.sx_command_world.specs.Images.{images_text}
+use Rattle.sx_command_world.specs.Schedule.{Stop, AtEnd, Unread, Breaks}
+use Rattle.sx_command_drive.specs.Readings.{Readings, readings_from}
+
+-- a line of the schedule stands after `> `, an item as a run writes it
+unfoldable pub said_line : NameLists → Said → List ℕ
+said_line names (SaidLine l) = line (codes "> " ++ line_text names l)
+said_line names (SaidItem i) = line (item_text names i)
+
+-- all that an honest run says
+abbrev pub said_text : NameLists → List Said → List ℕ
+said_text names said = flat_map (said_line names) said
+
+-- how many steps of nodes there were, and that this is the end
+unfoldable pub steps_text : ℕ → List ℕ
+steps_text steps = line (codes "steps " ++ decimal steps) ++ end_line
+
+-- the line of a run for which a schedule has no room
+unfoldable pub long_line : List ℕ
+long_line = line (codes "fault drive long")
+
+-- status 9: a line was due for which a schedule has no room
+abbrev pub long_output : Output
+long_output = record { text = long_line; status = 9 }
+
+-- status 3: this line is the first that breaks a rule, and this is the first rule that it breaks
+abbrev pub reading_fault : ℕ → ℕ → Output
+reading_fault rule number = fault_output (codes "fault reading Q") rule number 3
+
+-- what is written at the end of the readings, after so many steps of nodes
+abbrev pub stop_output : ℕ → Stop → Output
+stop_output steps AtEnd = record { text = steps_text steps; status = 0 }
+stop_output steps Unread = unread_output
+stop_output steps (Breaks rule number) = reading_fault rule number
+
+-- what is written behind a run that came here; what has no room ends it
+abbrev pub ended_output : Honest → Stop → Output
+ended_output h stop = if h.long then long_output else stop_output h.world.steps stop
+
+-- all that a run says, and how it ended
+abbrev pub told_run : NameLists → Driven → Stop → Output
+told_run names a stop = behind (said_text names a.said) (ended_output a.honest stop)
+
+-- what is written of these readings, from where a run came
+abbrev pub readings_output : NameLists → Setting → Honest → Readings → Output
+readings_output names set h x = told_run names (each (reads set) x.readings h) x.stop
+
+-- what is written of the readings from the line with this number on
+unfoldable pub drive_from : Deployed → Setting → Honest → ℕ → List Answer → Output
+drive_from d set h number answers =
+    readings_output d.names set h (readings_from d number answers)
+
+-- what is written of the honest run of the readings, from power-on
+unfoldable pub drive_readings : Deployed → Setting → List Answer → Output
+drive_readings d set answers =
+    let x = readings_from d 1 answers in told_run d.names (honest_run set x.readings) x.stop
+
+-- the images, and the honest run with them
+abbrev pub drive_deployed : Mac → Deployed → List (List ℕ) → List Answer → Output
+drive_deployed mac d texts more =
+    behind (images_text d.names.modules texts) (drive_readings d (setting_of mac d texts) more)
+
+-- the honest run of a deployment, or the rule that it breaks
+abbrev pub drive_found : Mac → List (List ℕ) → Result Deployed DeployFault → List Answer → Output
+drive_found mac texts (Ok d) more = drive_deployed mac d texts more
+drive_found mac texts (Err f) more = refused.fault_output f
+
+-- what `drive` writes of an input's head
+abbrev pub drive_head : Mac → Meaning → List (List ℕ) → Head → Output
+drive_head mac meaning texts (Found text more) = drive_found mac texts (meaning text) more
+drive_head mac meaning texts TooLong = refused.fault_output (fault 1 Nowhere)
+drive_head mac meaning texts NoMark = refused.fault_output (fault 2 Nowhere)
+drive_head mac meaning texts heads.Unread = unread_output
+
+-- the command `drive`
+abbrev pub drive_all : Mac → Meaning → List (List ℕ) → List Answer → Output
+drive_all mac meaning texts answers = drive_head mac meaning texts (head answers)
+
+-- the honest run of the readings that these answers are
+abbrev pub driven_of : Mac → Deployed → List (List ℕ) → List Answer → Driven
+driven_of mac d texts more =
+    honest_run (setting_of mac d texts) (readings_from d 1 more).readings

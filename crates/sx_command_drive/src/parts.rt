@@ -1,0 +1,101 @@
+//! Parts of an honest run: each is done, and then all that it says is written.
+
+ghost use Rattle.std.specs.Prelude.{◌≡◌, ◌<◌, [], false, IsTrue, Ok, map};
+ghost use Rattle.sx_trace.specs.Names.{are_valid};
+ghost use Rattle.sx_deploy.specs.Law.{IsSoundDeployment};
+ghost use Rattle.sx_deploy.specs.SeenDeployment.{deployed_as};
+ghost use Rattle.sx_drive.specs.Driving.{GoesOn, IsDrivenSensor, reading, said_of};
+ghost use Rattle.sx_drive.specs.Honest.{Driven, setup};
+ghost use Rattle.sx_command_drive.specs.Parts.{AreNamed, EndsPart, PlaysPart, SaysAll, TellsPart};
+
+use crate::saying::put_said;
+use std::alloc::AllocError;
+use sx_bus::Copied;
+use sx_deploy::deployment::Deployment;
+use sx_drive::honest::Honest;
+use sx_drive::said::{Drove, Said};
+use sx_io::Sink;
+use sx_tag::Tag;
+use sx_told::{OUT_OF_MEMORY, Turned, finish};
+use sx_trace::names::Names;
+
+/// The exit status for a run of which a line was left out.
+const LEFT_OUT: u8 = 9;
+
+/// Goes on behind a part of the run that was written; stops where a line of it was left out, or
+/// memory ran out.
+#[tactic(auto, unfolding(crate::specs::Drive::long_line))]
+fn end_part<K: Sink>(output: &mut K, drove: Result<Drove, AllocError>) -> Turned
+    ensures { EndsPart K.tells (K.at output.old) (K.at output.new) drove result }
+{
+    match drove {
+        Ok(Drove::Done) => Turned::On,
+        Ok(Drove::Long) => Turned::Stop(finish(output, b"fault drive long\n", LEFT_OUT)),
+        Err(_) => Turned::Stop(OUT_OF_MEMORY),
+    }
+}
+
+/// Writes what a part of the run said; where memory ran out, what was said before.
+fn tell<K: Sink>(
+    output: &mut K,
+    names: &Names,
+    said: &[Said],
+    drove: Result<Drove, AllocError>,
+) -> Turned
+    requires names { IsTrue (are_valid names.now) }
+    requires named { AreNamed names.now (map said_of said.now) }
+    ensures tells { (a : Driven) → SaysAll (map said_of said.now) drove a
+        → TellsPart K.tells (K.at output.old) (K.at output.new) names.now a result }
+    ensures on { result ≡ Turned.On → drove ≡ Ok Drove.Done }
+{
+    match put_said(output, names, said) {
+        Turned::On => end_part(output, drove),
+        Turned::Stop(status) => Turned::Stop(status),
+    }
+}
+
+/// Sets all modules up, and writes the lines of this with what they show.
+pub(crate) fn set_up<K: Sink, B: Copied, T: Tag>(
+    output: &mut K,
+    deployment: &Deployment,
+    honest: &mut Honest<B, T>,
+    said: &mut Vec<Said>,
+) -> Turned
+    requires sound { IsSoundDeployment (deployed_as deployment.now) }
+    requires names { IsTrue (are_valid (deployed_as deployment.now).names) }
+    requires going { GoesOn T.mac deployment.now honest.old }
+    requires memory { honest.old.wanted ≡ false }
+    requires none { said.old.items ≡ [] }
+    ensures plays { PlaysPart T.mac deployment.now K.tells (K.at output.old) (K.at output.new)
+        honest.old honest.new result setup }
+    ensures goes_on { result ≡ Turned.On → GoesOn T.mac deployment.now honest.new }
+    ensures memory { result ≡ Turned.On → honest.new.wanted ≡ false }
+{
+    let drove = honest.setup(deployment, said);
+    tell(output, &deployment.names, said, drove)
+}
+
+/// Does a reading, and writes the lines of this with what they show.
+pub(crate) fn read<K: Sink, B: Copied, T: Tag>(
+    output: &mut K,
+    deployment: &Deployment,
+    honest: &mut Honest<B, T>,
+    device: u8,
+    value: u16,
+    said: &mut Vec<Said>,
+) -> Turned
+    requires sound { IsSoundDeployment (deployed_as deployment.now) }
+    requires names { IsTrue (are_valid (deployed_as deployment.now).names) }
+    requires going { GoesOn T.mac deployment.now honest.old }
+    requires memory { honest.old.wanted ≡ false }
+    requires driven { IsDrivenSensor (deployed_as deployment.now) device }
+    requires value { value < 32768 }
+    requires none { said.old.items ≡ [] }
+    ensures plays { PlaysPart T.mac deployment.now K.tells (K.at output.old) (K.at output.new)
+        honest.old honest.new result (reading device value) }
+    ensures goes_on { result ≡ Turned.On → GoesOn T.mac deployment.now honest.new }
+    ensures memory { result ≡ Turned.On → honest.new.wanted ≡ false }
+{
+    let drove = honest.reading(deployment, device, value, said);
+    tell(output, &deployment.names, said, drove)
+}

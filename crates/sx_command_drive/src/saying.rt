@@ -1,0 +1,167 @@
+//! The lines that an honest run says: those of its schedule, and the items that they show.
+
+ghost use Rattle.std.specs.Prelude.{◌≡◌, ◌≢◌, ◌+◌, ◌≤◌, [], ◌++◌, IsTrue, List, OnOk, length, map};
+ghost use Rattle.sx_io.specs.Reading.{Answer};
+ghost use Rattle.sx_told.specs.Told.{DoesPart, Output, behind, out_of_memory};
+ghost use Rattle.sx_trace.specs.Names.{are_valid};
+ghost use Rattle.sx_sched.specs.Lines.{IsLine, line_of};
+ghost use Rattle.sx_sched.specs.Written.{IsWritten};
+ghost use Rattle.sx_drive.specs.Driving.{said_of};
+ghost use Rattle.sx_drive.specs.Honest.{SaidItem, SaidLine};
+ghost use Rattle.sx_command_run.specs.Batch.{Writes};
+ghost use Rattle.sx_command_drive.specs.Drive.{said_line, said_text};
+ghost use Rattle.sx_command_drive.specs.Parts.{AreNamed, IsNamed, IsNamedSaid};
+
+use arrayvec::ArrayVec;
+use sx_command::text::put;
+use sx_drive::said::Said;
+use sx_io::{Failed, Sink, put_all};
+use sx_sched::lines::Line;
+use sx_sched::write_line;
+use sx_told::{Turned, WRITE_FAILED};
+use sx_trace::items::Item;
+use sx_trace::names::Names;
+use sx_trace::writing::write_item;
+
+/// The most bytes that are written together. What a reading shows makes a batch of its own, so this
+/// is no more than most readings need.
+const MOST: usize = 512;
+
+/// The most bytes of a line, with what stands before it and its newline.
+const LONGEST_LINE: usize = 131;
+
+/// Lines that are written together.
+type Batch = ArrayVec<u8, MOST>;
+
+/// A line whose indices, lengths and values are in their ranges can be written: its other numbers
+/// are in those of their types.
+fn can_be_written(names: &Names, line: &Line)
+    requires { IsNamed names.now (line_of line.now) }
+    ensures kind { IsWritten (line_of line.now) }
+    ensures form { IsLine names.now (line_of line.now) }
+{
+    match line {
+        Line::Take { at, .. } => {
+            let _at = *at;
+        }
+        Line::Give { packet, at, .. } => {
+            let _numbers = (*packet, *at);
+        }
+        Line::Answer { boot, packet, .. } => {
+            let _numbers = (*boot, *packet);
+        }
+        Line::Call {
+            entry,
+            input,
+            output,
+            ..
+        } => {
+            let _numbers = (*entry, *input, *output);
+        }
+        _ => (),
+    }
+}
+
+/// Appends a line of the schedule, which there is room for.
+#[tactic(auto, unfolding(crate::specs::Drive::said_line))]
+fn push_line(batch: &mut Batch, names: &Names, line: &Line)
+    requires names { IsTrue (are_valid names.now) }
+    requires named { IsNamed names.now (line_of line.now) }
+    requires room { length batch.old.items + 131 ≤ 512 }
+    ensures { batch.new.items
+        ≡ batch.old.items ++ said_line names.now (SaidLine (line_of line.now)) }
+{
+    can_be_written(names, line);
+    let mut into = [0; 128];
+    let count = write_line(names, line, &mut into);
+    put(batch, b"> ");
+    put(batch, &into[..count]);
+    put(batch, b"\n");
+}
+
+/// Appends an item's line, which there is room for.
+#[tactic(auto, unfolding(crate::specs::Drive::said_line))]
+fn push_item(batch: &mut Batch, names: &Names, item: &Item)
+    requires { length batch.old.items + 131 ≤ 512 }
+    ensures { batch.new.items ≡ batch.old.items ++ said_line names.now (SaidItem item.now) }
+{
+    let mut into = [0; 128];
+    let count = write_item(names, item, &mut into);
+    put(batch, &into[..count]);
+    put(batch, b"\n");
+}
+
+/// Appends what was said, which there is room for.
+fn push_said(batch: &mut Batch, names: &Names, said: &Said)
+    requires names { IsTrue (are_valid names.now) }
+    requires named { IsNamedSaid names.now (said_of said.now) }
+    requires room { length batch.old.items + 131 ≤ 512 }
+    ensures { batch.new.items ≡ batch.old.items ++ said_line names.now (said_of said.now) }
+{
+    match said {
+        Said::Line(line) => push_line(batch, names, line),
+        Said::Item(item) => push_item(batch, names, item),
+    }
+}
+
+/// Writes a batch that a further line might not fit in.
+fn make_room<K: Sink>(output: &mut K, batch: &mut Batch) -> Result<(), Failed>
+    ensures room { OnOk result (length batch.new.items + 131 ≤ 512) }
+    ensures writes { Writes K.tells (K.at output.old) (K.at output.new) batch.old.items
+        batch.new.items result }
+{
+    if batch.len() <= MOST - LONGEST_LINE {
+        return Ok(());
+    }
+    put_all(output, batch.as_slice())?;
+    batch.clear();
+    Ok(())
+}
+
+/// Appends what was said to a batch, which may be written before.
+fn add_said<K: Sink>(
+    output: &mut K,
+    batch: &mut Batch,
+    names: &Names,
+    said: &Said,
+) -> Result<(), Failed>
+    requires names { IsTrue (are_valid names.now) }
+    requires named { IsNamedSaid names.now (said_of said.now) }
+    ensures { Writes K.tells (K.at output.old) (K.at output.new)
+        (batch.old.items ++ said_line names.now (said_of said.now)) batch.new.items result }
+{
+    make_room(output, batch)?;
+    push_said(batch, names, said);
+    Ok(())
+}
+
+/// Writes all that was said, several lines together.
+fn put_lines<K: Sink>(output: &mut K, names: &Names, said: &[Said]) -> Result<(), Failed>
+    requires names { IsTrue (are_valid names.now) }
+    requires named { AreNamed names.now (map said_of said.now) }
+    ensures { Writes K.tells (K.at output.old) (K.at output.new)
+        (said_text names.now (map said_of said.now)) [] result }
+{
+    let mut batch = Batch::new();
+    for one in said {
+        add_said(output, &mut batch, names, one)?;
+    }
+    put_all(output, batch.as_slice())
+}
+
+/// Writes all that was said, or stops with `WRITE_FAILED`. It takes no memory.
+pub(crate) fn put_said<K: Sink>(output: &mut K, names: &Names, said: &[Said]) -> Turned
+    requires names { IsTrue (are_valid names.now) }
+    requires named { AreNamed names.now (map said_of said.now) }
+    ensures does { (left : List Answer → Output) → DoesPart K.tells (K.at output.old)
+        (K.at output.new) (λ more. behind (said_text names.now (map said_of said.now)) (left more))
+        result left }
+    ensures whole { result ≡ Turned.On → IsTrue K.tells → (K.at output.new).written
+        ≡ (K.at output.old).written ++ said_text names.now (map said_of said.now) }
+    ensures memory { result ≢ Turned.Stop out_of_memory }
+{
+    match put_lines(output, names, said) {
+        Ok(()) => Turned::On,
+        Err(_) => Turned::Stop(WRITE_FAILED),
+    }
+}
