@@ -5,7 +5,7 @@ use Rattle.std.specs.Str.{bytes_eq}
 use Rattle.sx_io.specs.Numbers.{number_of}
 use Rattle.sx_top.specs.declared.words.Command.{Command}
 use Rattle.sx_top.specs.declared.words.Command.TheVariants.{Run, Check, Explain, Snap, Gen, Asm}
-use Rattle.sx_top.specs.declared.words.Command.TheVariants.{Dis}
+use Rattle.sx_top.specs.declared.words.Command.TheVariants.{Dis, Drive}
 
 -- the commands without a number
 abbrev pub plain_command : List ℕ → Option Command
@@ -13,6 +13,7 @@ plain_command word =
     if bytes_eq word (codes "run") then Some Run else
     if bytes_eq word (codes "check") then Some Check else
     if bytes_eq word (codes "explain") then Some Explain else
+    if bytes_eq word (codes "drive") then Some Drive else
     if bytes_eq word (codes "snap") then Some Snap else
     None
 
@@ -50,6 +51,7 @@ CarriesFew None = Unit {0}
 CarriesFew (Some Run) = Unit {0}
 CarriesFew (Some Check) = Unit {0}
 CarriesFew (Some Explain) = Unit {0}
+CarriesFew (Some Drive) = Unit {0}
 CarriesFew (Some Snap) = Unit {0}
 CarriesFew (Some (Gen n)) = n ≤ 8000
 CarriesFew (Some (Asm at)) = Unit {0}

@@ -13,6 +13,8 @@ pub(crate) enum Command {
     Run,
     Check,
     Explain,
+    /// The honest run of readings.
+    Drive,
     /// Answers about a run after any of its lines.
     Snap,
     /// The run of the workload that carries this many samples.
@@ -34,6 +36,8 @@ fn plain_command(word: &[u8]) -> Option<Command>
         Some(Command::Check)
     } else if word == b"explain".as_slice() {
         Some(Command::Explain)
+    } else if word == b"drive".as_slice() {
+        Some(Command::Drive)
     } else if word == b"snap".as_slice() {
         Some(Command::Snap)
     } else {

@@ -2,12 +2,13 @@ use Rattle.std.proofs.Common.{◌∙◌, arith, map, refl, sym, subst, ap, Optio
 use Rattle.std.specs.Prelude.{string_bytes}
 use Rattle.sx_tag.specs.Mac.{hmac_sha256}
 use Rattle.sx_top.specs.declared.words.Command.{Command}
-use Rattle.sx_top.specs.declared.words.Command.TheVariants.{Run, Check, Explain, Snap, Gen, Asm, Dis}
+use Rattle.sx_top.specs.declared.words.Command.TheVariants.{Run, Check, Explain, Drive, Snap, Gen, Asm, Dis}
 use Rattle.sx_top.specs.Commands.{CarriesFew}
 use Rattle.sx_command.specs.Output.{usage_line}
 use Rattle.sx_command_run.proofs.Said.{says_not_two}
 use Rattle.sx_command_check.proofs.Promised.{check_not_two}
 use Rattle.sx_command_explain.proofs.Promised.{explain_not_two}
+use Rattle.sx_command_drive.proofs.Said.{says_not_two as drive_not_two}
 use Rattle.sx_command_snap.proofs.Said.{says_not_two as snap_not_two}
 use Rattle.sx_command_gen.proofs.Generated.{gen_not_two}
 use Rattle.sx_command_asm.proofs.Statused.{asm_not_two, dis_not_two}
@@ -31,6 +32,12 @@ returns-in-Some-Explain-clause-told g c =
     program hmac_sha256 (map string_bytes c.args.words.now) (Some Explain)
     (sym c.command_of.ensures.command ∙ c.in-Some-Explain.is ∙ ap Some c.in-Some-Explain.field-0-is) c.explain_over.ensures
     (λ two. absurd (explain_not_two c.explain_over.ensures two))
+
+pub returns-in-Some-Drive-clause-told : goal.returns-in-Some-Drive-clause-told
+returns-in-Some-Drive-clause-told g c =
+    program hmac_sha256 (map string_bytes c.args.words.now) (Some Drive)
+    (sym c.command_of.ensures.command ∙ c.in-Some-Drive.is ∙ ap Some c.in-Some-Drive.field-0-is) c.drive_over.ensures
+    (λ two. absurd (drive_not_two hmac_sha256 c.drive_over.ensures two))
 
 pub returns-in-Some-Snap-clause-told : goal.returns-in-Some-Snap-clause-told
 returns-in-Some-Snap-clause-told g c =
