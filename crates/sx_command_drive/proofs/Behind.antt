@@ -5,7 +5,7 @@ use Rattle.sx_io.specs.Streams.{SourceAt, SinkAt}
 use Rattle.sx_io.specs.Next.{Ahead}
 use Rattle.sx_told.specs.Told.{CommandEnds, command_at, out_of_memory, Output, CommandAt, Notes, Told, unread_output}
 use Rattle.sx_told.proofs.Laws.{ends-same, told-stop, begun-got, told-reads}
-use Rattle.sx_tag.specs.Mac.{Mac}
+use Rattle.sx_tag.specs.Mac.{Mac, IsTag}
 use Rattle.sx_stage.specs.Fault.{GivesOne, fault}
 use Rattle.sx_stage.specs.declared.fault.DeployError.{DeployError}
 use Rattle.sx_stage.specs.declared.fault.DeployError.TheVariants.{Fault, OutOfMemory}
@@ -16,6 +16,7 @@ use Rattle.sx_deploy.specs.declared.deployment.Deployment.{Deployment}
 use Rattle.sx_deploy.proofs.Meanings.{one_meaning}
 use Rattle.sx_command_head.specs.Meanings.{Meaning}
 use Rattle.sx_command_head.specs.Refused.{EndsRefused, fault_output}
+use Rattle.sx_setup.specs.Laws.{AreByteTexts}
 use Rattle.sx_command_run.specs.Runs.{HasHead}
 use Rattle.sx_command_drive.specs.Drive.{drive_found, drive_head, drive_all}
 use Rattle.sx_command_drive.specs.Drives.{DrivesOrRanOut, DrivesBehind, DriveSays}
@@ -29,6 +30,9 @@ use Rattle.sx_head.specs.declared.head.HeadFault.TheVariants as none
 use Rattle.sx_command_head.specs.Headless.{EndsHeadless}
 use Rattle.sx_command_drive.proofs.Said.{drives_with, says_with, says_starved}
 
+no_bytes : AreByteTexts []
+no_bytes m t e = absurd (cc e)
+
 -- what `drive` does behind a head of a text
 pub drive_read : {tells to_tell : Bool} {now : Ahead} {s0 s1 : SourceAt} {k0 k1 : SinkAt} {status : ℕ} (mac : Mac) (text : List ℕ) (r : Result Deployment DeployError)
     → GivesOne deployed_as r (IsRead text)
@@ -39,6 +43,7 @@ drive_read {tells} {to_tell} {now} {s0} {s1} {k0} {k1} {status} mac text (Err (F
     rw same (inr (record {
       texts = [];
       realize = λ d other. absurd (cc (one_meaning text (Ok d) (Err f) other read));
+      bytes = no_bytes;
       rest = λ meaning is limit m0 defined aside noted b.
           told-stop b
           (λ more. ends-same _ _ _ _ _ _ (ap (λ (r : Result Deployed DeployFault). drive_found mac [] r more) (one_meaning text (meaning text) (Err f) (is text) read)) bad.0);
@@ -84,23 +89,23 @@ is_some : (text : List ℕ) → ◌≡◌ {A = Option (List ℕ)} (Some text) No
 is_some text e = cc
 
 -- a head was read, and the rest was done
-says_found : {tells to_tell : Bool} {s0 s1 : SourceAt} {k0 : SinkAt} {now : Ahead} {m2 : CommandAt} {status : ℕ} (mac : Mac) (text : List ℕ)
+says_found : {tells to_tell : Bool} {s0 s1 : SourceAt} {k0 : SinkAt} {now : Ahead} {m2 : CommandAt} {status : ℕ} (mac : Mac) (text : List ℕ) → IsTag mac
     → HeadRead tells s0 s1 now (Ok text) → DrivesBehind mac tells to_tell now (command_at s1 k0) m2 status text → DriveSays mac tells to_tell (command_at s0 k0) m2 status
-says_found {tells} {to_tell} {s0} {s1} {k0} {now} {m2} {status} mac text got drives =
+says_found {tells} {to_tell} {s0} {s1} {k0} {now} {m2} {status} mac text tag got drives =
     says_with mac
-    (drives_with mac (Some text) drives.texts (λ e six. is_some text e) drives.realize
+    (drives_with mac tag (Some text) drives.texts drives.bytes (λ e six. is_some text e) drives.realize
     (λ meaning is.
     told_also (λ answers. HasHead (Some text) (head answers)) (λ answers e. has_head (head answers) text e)
     (drives.rest meaning is head_lines (command_at s0 k0) (drive_all mac meaning drives.texts) marked_in (1 ∷ text)
     (begun-got (drive_head mac meaning drives.texts) refl (got-also (Notes marked_in (1 ∷ text)) (λ answers more e. ap marked e) got)))))
 
 -- there is none
-says_none : {tells to_tell : Bool} {s0 s1 : SourceAt} {k0 k1 : SinkAt} {status : ℕ} (mac : Mac) (h : Head) (o : Output) → HasHead None h
+says_none : {tells to_tell : Bool} {s0 s1 : SourceAt} {k0 k1 : SinkAt} {status : ℕ} (mac : Mac) (h : Head) (o : Output) → IsTag mac → HasHead None h
     → ((meaning : Meaning) → drive_head mac meaning [] h ≡ o) → Reads tells head_lines s0 s1 head Unread (λ answers. head answers ≡ h) → CommandEnds to_tell k0 k1 status o
     → (status ≡ out_of_memory → ⊥) → DriveSays mac tells to_tell (command_at s0 k0) (command_at s1 k1) status
-says_none {tells} {to_tell} {s0} {s1} {k0} {k1} {status} mac h o none e r w never =
+says_none {tells} {to_tell} {s0} {s1} {k0} {k1} {status} mac h o tag none e r w never =
     says_with mac
-    (drives_with mac None [] (λ n. never) (λ d deploys. absurd deploys)
+    (drives_with mac tag None [] no_bytes (λ n. never) (λ d deploys. absurd deploys)
     (λ meaning is.
     told-reads (drive_head mac meaning []) o refl r (λ answers q. (ap (drive_head mac meaning []) q ∙ e meaning, let P : Head → Type 0 = HasHead None in subst P (sym q) none)) w))
 
@@ -116,17 +121,17 @@ says_out_of_memory {tells} {to_tell} {s0} {s1} {k} {now} mac text got =
     })
 
 -- there is no head, or no memory for one
-pub says_headless : {tells to_tell : Bool} {s0 s1 : SourceAt} {k0 k1 : SinkAt} {status : ℕ} (mac : Mac) (now : Ahead) (why : HeadFault) → HeadRead tells s0 s1 now (Err why)
+pub says_headless : {tells to_tell : Bool} {s0 s1 : SourceAt} {k0 k1 : SinkAt} {status : ℕ} (mac : Mac) (now : Ahead) (why : HeadFault) → IsTag mac → HeadRead tells s0 s1 now (Err why)
     → EndsHeadless to_tell k0 k1 status why → DriveSays mac tells to_tell (command_at s0 k0) (command_at s1 k1) status
-says_headless {tells} {to_tell} {s0} {s1} {k0} {k1} {status} mac now none.TooLong r w =
-    says_none mac TooLong (fault_output (fault 1 Nowhere)) tt (λ meaning. refl) r w.0 w.1
-says_headless {tells} {to_tell} {s0} {s1} {k0} {k1} {status} mac now none.NoMark r w =
-    says_none mac NoMark (fault_output (fault 2 Nowhere)) tt (λ meaning. refl) r w.0 w.1
-says_headless {tells} {to_tell} {s0} {s1} {k0} {k1} {status} mac now none.Failed r w = says_none mac Unread unread_output tt (λ meaning. refl) r w.0 w.1
-says_headless {tells} {to_tell} {s0} {s1} {k0} {k1} {status} mac now none.OutOfMemory (text, got) w = rw (w.0, w.1) (says_out_of_memory {k = k0} {now = now} mac text got)
+says_headless {tells} {to_tell} {s0} {s1} {k0} {k1} {status} mac now none.TooLong tag r w =
+    says_none mac TooLong (fault_output (fault 1 Nowhere)) tag tt (λ meaning. refl) r w.0 w.1
+says_headless {tells} {to_tell} {s0} {s1} {k0} {k1} {status} mac now none.NoMark tag r w =
+    says_none mac NoMark (fault_output (fault 2 Nowhere)) tag tt (λ meaning. refl) r w.0 w.1
+says_headless {tells} {to_tell} {s0} {s1} {k0} {k1} {status} mac now none.Failed tag r w = says_none mac Unread unread_output tag tt (λ meaning. refl) r w.0 w.1
+says_headless {tells} {to_tell} {s0} {s1} {k0} {k1} {status} mac now none.OutOfMemory tag (text, got) w = rw (w.0, w.1) (says_out_of_memory {k = k0} {now = now} mac text got)
 
 -- a head was read, and the rest was done, or memory ran out for it
-pub says_behind : {tells to_tell : Bool} {s0 s1 : SourceAt} {k0 : SinkAt} {now : Ahead} {m2 : CommandAt} {status : ℕ} (mac : Mac) (text : List ℕ)
+pub says_behind : {tells to_tell : Bool} {s0 s1 : SourceAt} {k0 : SinkAt} {now : Ahead} {m2 : CommandAt} {status : ℕ} (mac : Mac) (text : List ℕ) → IsTag mac
     → HeadRead tells s0 s1 now (Ok text) → DrivesOrRanOut mac tells to_tell now (command_at s1 k0) m2 status text → DriveSays mac tells to_tell (command_at s0 k0) m2 status
-says_behind {tells} {to_tell} {s0} {s1} {k0} {now} {m2} {status} mac text got (inl out) = rw (out.six, out.same) (says_out_of_memory {k = k0} {now = now} mac text got)
-says_behind {tells} {to_tell} {s0} {s1} {k0} {now} {m2} {status} mac text got (inr drives) = says_found {now = now} mac text got drives
+says_behind {tells} {to_tell} {s0} {s1} {k0} {now} {m2} {status} mac text tag got (inl out) = rw (out.six, out.same) (says_out_of_memory {k = k0} {now = now} mac text got)
+says_behind {tells} {to_tell} {s0} {s1} {k0} {now} {m2} {status} mac text tag got (inr drives) = says_found {now = now} mac text tag got drives

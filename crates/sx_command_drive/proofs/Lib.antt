@@ -4,6 +4,7 @@
 -- for the whole command.
 pub mod Behind
 pub mod Between
+pub mod Bytes
 pub mod Named
 pub mod Owing
 pub mod Playing

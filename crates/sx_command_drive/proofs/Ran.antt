@@ -13,7 +13,8 @@ use Rattle.sx_run.specs.State.{Acted, World, switched_on}
 use Rattle.sx_guard.proofs.Performing.{runs_guarded}
 use Rattle.sx_world.specs.Continued.{next}
 use Rattle.sx_drive.specs.Honest.{Driven, Honest, MOST_LINES, Reading, Said, SaidItem, SaidLine, each, honest_run, left_out, performed, reads, says, setup, start}
-use Rattle.sx_command_drive.specs.Drives.{IsTheRun, items_in, lines_in}
+use Rattle.sx_drive_laws.specs.Laws.{items_of}
+use Rattle.sx_command_drive.specs.Drives.{IsTheRun, lines_in}
 use Rattle.sx_command_drive.specs.Parts.{IsNamed}
 use Rattle.sx_command_drive.proofs.Quiet.{AreReadings, readings_by}
 use Rattle.sx_command_drive.proofs.Ways.{AreThere, Ways, setup_by}
@@ -23,7 +24,7 @@ lines_append [] ys = refl
 lines_append (SaidLine line ∷ xs) ys = ap (λ (ls : List Line). line ∷ ls) (lines_append xs ys)
 lines_append (SaidItem i ∷ xs) ys = lines_append xs ys
 
-items_append : (xs ys : List Said) → items_in (xs ++ ys) ≡ items_in xs ++ items_in ys
+items_append : (xs ys : List Said) → items_of (xs ++ ys) ≡ items_of xs ++ items_of ys
 items_append [] ys = refl
 items_append (SaidLine line ∷ xs) ys = items_append xs ys
 items_append (SaidItem i ∷ xs) ys = ap (λ (is : List Item). i ∷ is) (items_append xs ys)
@@ -32,7 +33,7 @@ no_lines : (items : List Item) → lines_in (map SaidItem items) ≡ []
 no_lines [] = refl
 no_lines (i ∷ items) = no_lines items
 
-all_items : (items : List Item) → items_in (map SaidItem items) ≡ items
+all_items : (items : List Item) → items_of (map SaidItem items) ≡ items
 all_items [] = refl
 all_items (i ∷ items) = ap (λ (is : List Item). i ∷ is) (all_items items)
 
@@ -46,7 +47,7 @@ run_append set (x ∷ xs) ys w =
 -- the lines that were said lead there, and show these items
 pub record Ran (set : Setting) (h : Honest) (a : Driven) : Type 0 where
   pub world : a.honest.world ≡ (run set h.world (lines_in a.said)).world
-  pub items : items_in a.said ≡ (run set h.world (lines_in a.said)).items
+  pub items : items_of a.said ≡ (run set h.world (lines_in a.said)).items
 
 ran_line : (set : Setting) (line : Line) (h : Honest) → Ran set h (performed line h (next set h.world line))
 ran_line set line h =
@@ -71,7 +72,7 @@ ran_then set h a b p q =
     record {
       world = q.world ∙ ap (λ (r : Acted). r.world) there ∙ sym (ap (λ (r : Acted). r.world) all);
       items =
-          items_append a.said b.said ∙ ap (λ (is : List Item). is ++ items_in b.said) p.items
+          items_append a.said b.said ∙ ap (λ (is : List Item). is ++ items_of b.said) p.items
           ∙ ap (λ (is : List Item). (run set h.world xs).items ++ is) (q.items ∙ ap (λ (r : Acted). r.items) there)
           ∙ sym (ap (λ (r : Acted). r.items) all);
     }

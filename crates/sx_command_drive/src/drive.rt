@@ -1,7 +1,7 @@
 //! The command `drive`: it reads a deployment, makes its modules' images, and writes the honest run
 //! of the readings that follow.
 
-ghost use Rattle.std.specs.Prelude.{◌≡◌, ℕ, List, IfErr, IfOk, IsTrue, OnErr, Ok, false, length};
+ghost use Rattle.std.specs.Prelude.{◌≡◌, ◌<◌, ℕ, All, List, IfErr, IfOk, IsTrue, OnErr, Ok, false, length};
 ghost use Rattle.sx_told.specs.Told.{Rest, command_at};
 ghost use Rattle.sx_head.specs.Head.{head_lines};
 ghost use Rattle.sx_trace.specs.Names.{are_valid};
@@ -10,6 +10,7 @@ ghost use Rattle.sx_deploy.specs.Law.{IsSoundDeployment};
 ghost use Rattle.sx_deploy.specs.SeenDeployment.{deployed_as};
 ghost use Rattle.sx_run.specs.Accepted.{AreImages};
 ghost use Rattle.sx_world.specs.InMemory.{image_setting, texts_of};
+ghost use Rattle.sx_setup.specs.Laws.{AreByteTexts};
 ghost use Rattle.sx_drive.specs.Driving.{Follows, GoesOn};
 ghost use Rattle.sx_drive.specs.Honest.{start};
 ghost use Rattle.sx_command_head.specs.Refused.{EndsRefused};
@@ -50,6 +51,20 @@ fn new_honest<T: Tag + Copy>(
 {
     let nodes = nodes_of(alloc, tag, deployment)?;
     Honest::new(alloc, tag, deployment, images, nodes)
+}
+
+/// A text is a list of bytes, by its type.
+fn are_bytes(text: &[u8])
+    ensures { All (λ b. b < 256) text.now }
+{}
+
+/// So are the texts of images.
+fn have_bytes(images: &[Image])
+    ensures { AreByteTexts (texts_of images.now) }
+{
+    for image in images {
+        are_bytes(&image.text);
+    }
 }
 
 /// The images' lines, and the honest run.
@@ -122,7 +137,10 @@ fn drive_deployment<S: Source, K: Sink, T: Tag + Copy>(
         (command_at (S.at input.new) (K.at output.new)) result text }
 {
     match compile_all(alloc, &tag, deployment) {
-        Ok(images) => drive_images(alloc, tag, lines, input, output, deployment, &images),
+        Ok(images) => {
+            have_bytes(&images);
+            drive_images(alloc, tag, lines, input, output, deployment, &images)
+        }
         Err(_) => OUT_OF_MEMORY,
     }
 }
