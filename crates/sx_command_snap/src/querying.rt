@@ -1,8 +1,10 @@
 //! The queries behind the mark. Each is judged and answered before the next is read.
 
-ghost use Rattle.std.specs.Prelude.{◌≡◌, ◌+◌, ◌<◌, ◌≤◌, ◌∷◌, IfOk, IsTrue, List, length};
+ghost use Rattle.std.specs.Prelude.{◌≡◌, ◌≢◌, ◌+◌, ◌<◌, ◌≤◌, ◌∷◌, IfOk, IsOk, IsTrue, List};
+ghost use Rattle.std.specs.Prelude.{length};
 ghost use Rattle.sx_io.specs.Reading.{Answer, Line};
 ghost use Rattle.sx_told.specs.Told.{CommandEnds, DoesPart, Output, Rest, behind, command_at};
+ghost use Rattle.sx_told.specs.Told.{out_of_memory};
 ghost use Rattle.sx_head.specs.Head.{head_lines};
 ghost use Rattle.sx_trace.specs.Names.{are_valid};
 ghost use Rattle.sx_deploy.specs.Law.{IsSoundDeployment};
@@ -10,7 +12,7 @@ ghost use Rattle.sx_deploy.specs.SeenDeployment.{deployed_as};
 ghost use Rattle.sx_run.specs.Accepted.{setting};
 ghost use Rattle.sx_run.specs.Law.{IsSoundSetting};
 ghost use Rattle.sx_snap.specs.Timeline.{IsTimeline};
-ghost use Rattle.sx_command_snap.specs.Queries.{IsAsked};
+ghost use Rattle.sx_command_snap.specs.Queries.{IsAsked, judged_query};
 ghost use Rattle.sx_command_snap.specs.Answers.{answer_text};
 ghost use Rattle.sx_command_snap.specs.Snap.{answers_from, query_fault};
 
@@ -28,10 +30,11 @@ use sx_told::{OUT_OF_MEMORY, READ_FAILED, Turned, finish, put_text};
 /// The exit status for a query that breaks a rule.
 const BROKEN: u8 = 11;
 
-/// Writes which rule the query of this number breaks.
+/// Writes which rule the query of this number breaks. It takes no memory.
 fn break_query<K: Sink>(output: &mut K, rule: u8, number: u32) -> u8
-    ensures { CommandEnds K.tells (K.at output.old) (K.at output.new) result
+    ensures ends { CommandEnds K.tells (K.at output.old) (K.at output.new) result
         (query_fault rule number) }
+    ensures memory { result ≢ out_of_memory }
 {
     finish_fault(output, b"fault query Y", rule, number, BROKEN)
 }
@@ -178,6 +181,8 @@ fn turn<K: Sink, B: Copied, T: Tag + Copy>(
         DoesPart K.tells (K.at output.old) (K.at output.new)
         (λ more. ask number (Line said.now ∷ more)) result (ask (number + 1)) }
     ensures few { result ≡ Turned.On → number ≤ 64 }
+    ensures memory { result ≡ Turned.Stop out_of_memory → IsOk (judged_query
+        (deployed_as plan.now).names (length timeline.now.lines) number said.now) }
 {
     match judge_query(&plan.names, timeline.count() as u32, number, said) {
         Ok(query) => tell(alloc, output, plan, timeline, query),

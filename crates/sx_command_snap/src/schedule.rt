@@ -13,6 +13,7 @@ ghost use Rattle.sx_world.specs.InMemory.{texts_of};
 ghost use Rattle.sx_snap.specs.Timeline.{IsTimeline};
 ghost use Rattle.sx_command_world.specs.Images.{images_text};
 ghost use Rattle.sx_command_world.specs.Schedule.{judged_line};
+ghost use Rattle.sx_command_world.specs.Turning.{MayRunOut};
 ghost use Rattle.sx_command_snap.specs.Kept.{KeepsLine};
 ghost use Rattle.sx_command_snap.specs.Snap.{answers_from, ended_output, snap_from};
 
@@ -51,6 +52,8 @@ fn keep<B: Copied, T: Tag + Copy>(
     ensures few { OnOk result (number ≤ 65536) }
     ensures rule { (rule : ℕ) → result ≡ Err (LineError.Fault rule)
         → judged_line assembled (deployed_as plan.now).names number said.now ≡ Err rule }
+    ensures memory { result ≡ Err LineError.OutOfMemory
+        → MayRunOut (judged_line assembled (deployed_as plan.now).names number said.now) }
 {
     let line = judge(alloc, &plan.names, said, number)?;
     match timeline.push(plan, line) {

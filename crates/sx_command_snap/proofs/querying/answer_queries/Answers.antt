@@ -22,7 +22,7 @@ pub returns-in-TooLong : goal.returns-in-TooLong
 returns-in-TooLong g c = λ limit m0 defined aside noted b.
     let d = deployed_as c.args.plan.now in
     let ask = answers_from d.names (setting g.T.Tag.mac d c.args.timeline.now.sites) c.args.timeline.now.lines in
-    told-too-long {f = ask c.queries.number} refl (c.queries.invariant.begun limit m0 defined aside noted b) c.in-TooLong.ensures.next c.break_query.ensures
+    told-too-long {f = ask c.queries.number} refl (c.queries.invariant.begun limit m0 defined aside noted b) c.in-TooLong.ensures.next c.break_query.ensures.ends
 
 pub returns-in-Failed : goal.returns-in-Failed
 unfolding read_line

@@ -1,7 +1,9 @@
-use Rattle.std.proofs.Common.{◌≡◌, ◌∙◌, ◌+◌, ℕ, length, ap, subst, sym, Ok, Err}
+use Rattle.std.proofs.Common.{◌≡◌, ◌∙◌, ◌+◌, ℕ, length, ap, refl, subst, sym, Result, Ok, Err}
+use Rattle.std.specs.Prelude.{IsOk}
 use Rattle.sx_told.proofs.Laws.{does-same, ends-same}
 use Rattle.sx_deploy.specs.SeenDeployment.{deployed_as}
 use Rattle.sx_run.specs.Accepted.{setting}
+use Rattle.sx_command_snap.specs.declared.queries.Query.{Query}
 use Rattle.sx_command_snap.specs.Queries.{IsAsked, judged_query}
 use Rattle.sx_command_snap.specs.Snap.{answers_from}
 use Rattle.sx_command_snap.proofs.Written.{query_line}
@@ -32,4 +34,12 @@ returns-in-Err-clause-does g c = λ more.
     let said = c.args.said.now in
     let judged : judged_query d.names (length lines) n said ≡ Err c.in-Err.rule =
     ap (λ (k : ℕ). judged_query d.names k n said) (sym c.count.ensures) ∙ sym c.in-Err.ensures.query in
-    ends-same _ _ _ _ _ _ (query_line d.names set lines n said (Err c.in-Err.rule) more judged) c.break_query.ensures
+    ends-same _ _ _ _ _ _ (query_line d.names set lines n said (Err c.in-Err.rule) more judged) c.break_query.ensures.ends
+
+pub returns-in-Ok-clause-memory : goal.returns-in-Ok-clause-memory
+returns-in-Ok-clause-memory g c = λ six.
+    let P : Result Query ℕ → Type 0 = IsOk in
+    let d = deployed_as c.args.plan.now in
+    let judged : judged_query d.names (length c.args.timeline.now.lines) c.args.number c.args.said.now ≡ Ok c.in-Ok.query =
+    ap (λ (k : ℕ). judged_query d.names k c.args.number c.args.said.now) (sym c.count.ensures) ∙ sym c.in-Ok.ensures.query in
+    subst P (sym judged) refl
