@@ -15,8 +15,7 @@ fn gives_each_page(rt: &impl Abort, arena: &mut Arena) {
         }
     }
     assert!(rt; taken.iter().all(|t| *t));
-    assert!(rt; arena.take() == None);
-    assert_eq!(rt; arena.free(), 0);
+    assert!(rt; arena.take() == None && arena.free() == 0);
 }
 
 #[test]
@@ -35,13 +34,12 @@ fn gives_zeros_again(rt: &impl Abort, arena: &mut Arena) {
     if arena.live(5) {
         arena.write(5, 0, 9);
         arena.release(5);
-        assert!(rt; !arena.live(5));
-        assert_eq!(rt; arena.free(), 1);
+        assert!(rt; !arena.live(5) && arena.free() == 1);
         assert!(rt; arena.take() == Some(5));
     }
     assert!(rt; arena.live(5));
     if arena.live(5) {
-        assert_eq!(rt; arena.read(5, 0), 0);
+        assert!(rt; arena.read(5, 0) == 0);
     }
 }
 
@@ -52,26 +50,35 @@ fn a_released_page_is_taken_again_as_zeros(rt: HostRuntime) -> Result<(), Fail> 
     Ok(())
 }
 
+/// Takes a page, and writes a byte of it.
+fn takes_a_page(arena: &mut Arena) -> u8 {
+    let page = arena.take().unwrap_or(0);
+    if arena.live(page) {
+        arena.write(page, 255, 3);
+    }
+    page
+}
+
 /// Writes a byte of a page that both have in the second alone.
 fn writes_the_copy(rt: &impl Abort, arena: &Arena, copy: &mut Arena, page: u8) {
     assert!(rt; arena.live(page) && copy.live(page));
     if arena.live(page) && copy.live(page) {
         copy.write(page, 255, 4);
-        assert_eq!(rt; arena.read(page, 255), 3);
-        assert_eq!(rt; copy.read(page, 255), 4);
+        assert!(rt; [arena.read(page, 255), copy.read(page, 255)] == [3, 4]);
     }
+}
+
+fn take_alike(rt: &impl Abort, arena: &mut Arena, copy: &mut Arena) {
+    let next = arena.take();
+    assert!(rt; next.is_some() && copy.take() == next);
 }
 
 #[test]
 fn a_copy_shares_no_page(rt: HostRuntime) -> Result<(), Fail> {
     let mut arena = Arena::new(rt.alloc())?;
-    let page = arena.take().unwrap_or(0);
-    if arena.live(page) {
-        arena.write(page, 255, 3);
-    }
+    let page = takes_a_page(&mut arena);
     let mut copy = arena.copy(rt.alloc())?;
     writes_the_copy(&rt, &arena, &mut copy, page);
-    let next = arena.take();
-    assert!(rt; next.is_some() && copy.take() == next);
+    take_alike(&rt, &mut arena, &mut copy);
     Ok(())
 }

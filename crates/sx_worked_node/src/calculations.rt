@@ -1,87 +1,64 @@
 //! Rows of the calculation table worked by hand, and flags in status registers.
 
-use sx_alu::{Calc, Flags, StatusBits, calc};
+ghost use Rattle.std.specs.Prelude.{◌≡◌};
+ghost use Rattle.sx_alu.specs.Table.{has_width};
 
-const CLEAR: Flags = Flags {
-    c: false,
-    z: false,
-    n: false,
-    v: false,
-};
+use sx_alu::{Calc, StatusBits, calc};
 
-// A result, and the flags as the letters of those that are set.
-fn shown(found: (u16, Flags)) -> (u16, [bool; 4]) {
-    let (result, f) = found;
-    (result, [f.c, f.z, f.n, f.v])
+/// A calculation, whether it is on words, its operands and the status register before it, and the
+/// result and the flags after it, as a status register has them.
+type Row = (Calc, bool, [u16; 3], [u16; 2]);
+
+/// Rows of TI's tables, worked by hand: one at least for each calculation.
+const ROWS: [Row; 14] = [
+    (Calc::Add, true, [0x7fff, 1, 0], [0x8000, 0x104]),
+    (Calc::Add, false, [0xff, 0x1201, 0], [0, 3]),
+    (Calc::AddCarry, true, [0xffff, 0, 1], [0, 3]),
+    (Calc::Sub, true, [3, 3, 0], [0, 3]),
+    (Calc::Sub, true, [1, 0x8000, 0], [0x7fff, 0x101]),
+    (Calc::SubCarry, true, [0, 0, 0], [0xffff, 4]),
+    (Calc::And, true, [0xff00, 0x8180, 1], [0x8100, 5]),
+    (Calc::AndNot, false, [0x0f, 0x3ff, 1], [0xf0, 1]),
+    (Calc::Or, true, [0x0f, 0xf0, 1], [0xff, 1]),
+    (Calc::Xor, true, [0x8001, 0x8001, 0], [0, 0x102]),
+    (Calc::Rrc, true, [1, 0, 1], [0x8000, 5]),
+    (Calc::Rra, false, [0x81, 0, 0], [0xc0, 5]),
+    (Calc::Swap, true, [0x1234, 0, 0], [0x3412, 0]),
+    (Calc::Extend, true, [0x1280, 0, 0], [0xff80, 5]),
+];
+
+fn has_width(kind: Calc, wide: bool) -> bool
+    ensures { result ≡ has_width kind wide }
+{
+    match kind {
+        Calc::Swap | Calc::Extend => wide,
+        _ => true,
+    }
 }
 
-// Rows of TI's tables, worked by hand: one at least for each calculation.
+/// Whether a row's calculation gives what the row says.
+fn is_given(row: &Row) -> bool {
+    let (kind, wide, [src, dst, before], want) = *row;
+    if !has_width(kind, wide) {
+        return false;
+    }
+    let (result, flags) = calc(kind, wide, src, dst, StatusBits::of_status(before).flags());
+    [result, StatusBits::of_flags(flags).in_status(0)] == want
+}
+
 #[test]
 fn worked_rows(rt: HostRuntime) {
-    let carry = Flags { c: true, ..CLEAR };
-    assert_eq!(rt;
-        shown(calc(Calc::Add, true, 0x7fff, 1, CLEAR)),
-        (0x8000, [false, false, true, true])
-    );
-    assert_eq!(rt;
-        shown(calc(Calc::Add, false, 0xff, 0x1201, CLEAR)),
-        (0, [true, true, false, false])
-    );
-    assert_eq!(rt;
-        shown(calc(Calc::AddCarry, true, 0xffff, 0, carry)),
-        (0, [true, true, false, false])
-    );
-    assert_eq!(rt;
-        shown(calc(Calc::Sub, true, 3, 3, CLEAR)),
-        (0, [true, true, false, false])
-    );
-    assert_eq!(rt;
-        shown(calc(Calc::Sub, true, 1, 0x8000, CLEAR)),
-        (0x7fff, [true, false, false, true])
-    );
-    assert_eq!(rt;
-        shown(calc(Calc::SubCarry, true, 0, 0, CLEAR)),
-        (0xffff, [false, false, true, false])
-    );
-    assert_eq!(rt;
-        shown(calc(Calc::And, true, 0xff00, 0x8180, carry)),
-        (0x8100, [true, false, true, false])
-    );
-    assert_eq!(rt;
-        shown(calc(Calc::AndNot, false, 0x0f, 0x3ff, carry)),
-        (0xf0, [true, false, false, false])
-    );
-    assert_eq!(rt;
-        shown(calc(Calc::Or, true, 0x0f, 0xf0, carry)),
-        (0xff, [true, false, false, false])
-    );
-    assert_eq!(rt;
-        shown(calc(Calc::Xor, true, 0x8001, 0x8001, CLEAR)),
-        (0, [false, true, false, true])
-    );
-    assert_eq!(rt;
-        shown(calc(Calc::Rrc, true, 1, 0, carry)),
-        (0x8000, [true, false, true, false])
-    );
-    assert_eq!(rt;
-        shown(calc(Calc::Rra, false, 0x81, 0, CLEAR)),
-        (0xc0, [true, false, true, false])
-    );
-    assert_eq!(rt;
-        shown(calc(Calc::Swap, true, 0x1234, 0, CLEAR)),
-        (0x3412, [false; 4])
-    );
-    assert_eq!(rt;
-        shown(calc(Calc::Extend, true, 0x1280, 0, CLEAR)),
-        (0xff80, [true, false, true, false])
-    );
+    for row in ROWS.as_slice() {
+        assert!(rt; is_given(row));
+    }
 }
 
 // C is bit 0, Z bit 1, N bit 2 and V bit 8 of the status register.
 #[test]
 fn status_bits(rt: HostRuntime) {
-    let flags = StatusBits::of_status(0x0109);
-    assert_eq!(rt; shown((0, flags.flags())), (0, [true, false, false, true]));
-    assert_eq!(rt; flags.in_status(0x02f6), 0x03f1);
-    assert_eq!(rt; StatusBits::of_flags(CLEAR).in_status(0xffff), 0xfef8);
+    let flags = StatusBits::of_status(0x0109).flags();
+    assert!(rt; flags.c && !flags.z && !flags.n && flags.v);
+    let bits = StatusBits::of_flags(flags);
+    assert!(rt; [bits.in_status(0x02f6), bits.in_status(0)] == [0x03f1, 0x101]);
+    assert!(rt; StatusBits::of_status(0).in_status(0xffff) == 0xfef8);
 }

@@ -65,7 +65,7 @@ fn at_row(alloc: Global, words: &[u16], start: [u16; 3]) -> Result<Executor<Flat
 fn ends(rt: &impl Abort, executor: &mut Executor<FlatBus>, end: &[u16; 6]) {
     assert!(rt; stepped(executor) == Ok([Touch::Quiet; 2]));
     let [pc, sp, sr, _, r4, _, r6, ..] = *executor.regs();
-    assert_eq!(rt; [pc, sp, r4, r6, sr, word(executor, 0x3FE)], *end);
+    assert!(rt; [pc, sp, r4, r6, sr, word(executor, 0x3FE)] == *end);
 }
 
 fn works(rt: &impl Abort, alloc: Global, rows: &[Row]) -> Result<(), Fail> {
@@ -283,12 +283,8 @@ fn is_interrupted(rt: &impl Abort, executor: &mut Executor<FlatBus>) {
     executor.begin(0);
     assert!(rt; interrupt(executor, 3).is_ok());
     assert!(rt; executor.touches() == [Touch::Quiet; 2]);
-    assert_eq!(rt;
-        *executor.regs(),
-        [0x4400, 0x3FC, 0, 0, 0x200, 0, 0, 0, 0, 0, 0, 0, 0, 0, 0, 0]
-    );
-    assert_eq!(rt; word(executor, 0x3FE), 0x1000);
-    assert_eq!(rt; word(executor, 0x3FC), 9);
+    assert!(rt; *executor.regs() == [0x4400, 0x3FC, 0, 0, 0x200, 0, 0, 0, 0, 0, 0, 0, 0, 0, 0, 0]);
+    assert!(rt; [word(executor, 0x3FE), word(executor, 0x3FC)] == [0x1000, 9]);
 }
 
 #[test]
