@@ -38,31 +38,33 @@ fn is_sound_in(code: &Code, public: u16, private: u16) -> bool {
     }
 }
 
-fn has_entry_templates_exit_and_routines(rt: &impl Abort, code: &Code) -> Result<(), Fail> {
+fn has_entry_templates_exit_and_routines(rt: &impl Abort, code: &Code) {
     assert!(rt; code.ops.len() == 5);
-    assert_eq!(rt; bytes(code), 24 + 26 + 34 + 64 + 2 * 112 + 2);
-    assert_eq!(rt; offset(code, 3), 24 + 12);
-    Ok(())
+    assert!(rt; bytes(code) == 24 + 26 + 34 + 64 + 2 * 112 + 2);
+    assert!(rt; offset(code, 3) == 24 + 12);
 }
 
 #[test]
 fn a_text_is_entry_templates_exit_and_routines(rt: HostRuntime) -> Result<(), Fail> {
     let code = two_packets(rt.alloc())?;
-    has_entry_templates_exit_and_routines(&rt, &code)
+    has_entry_templates_exit_and_routines(&rt, &code);
+    Ok(())
 }
 
-fn are_sound_in(rt: &impl Abort, code: &Code, rows: [(u16, u16, bool); 3]) -> Result<(), Fail> {
-    for (public, private, want) in rows {
-        assert_eq!(rt; is_sound_in(code, public, private), want);
+/// Sizes of the two sections, and whether the code is sound in them.
+const ROOMS: [(u16, u16, bool); 3] = [(374, 608, true), (373, 608, false), (374, 607, false)];
+
+fn has_room(rt: &impl Abort, code: &Code) {
+    for (public, private, want) in ROOMS.as_slice() {
+        assert!(rt; is_sound_in(code, *public, *private) == *want);
     }
-    Ok(())
 }
 
 #[test]
 fn sound_code_has_room_for_its_text_and_slots(rt: HostRuntime) -> Result<(), Fail> {
     let code = two_packets(rt.alloc())?;
-    let rows = [(374, 608, true), (373, 608, false), (374, 607, false)];
-    are_sound_in(&rt, &code, rows)
+    has_room(&rt, &code);
+    Ok(())
 }
 
 /// Code that writes the word at this offset.
@@ -78,17 +80,20 @@ fn may_be_stored(alloc: Global, at: u16) -> Result<bool, AllocError> {
     Ok(is_sound_in(&code, 400, 512))
 }
 
+/// Offsets, and whether code that writes there is sound.
+const STORES: [(u16, bool); 6] = [
+    (4, true),
+    (6, false),
+    (12, false),
+    (16, true),
+    (102, true),
+    (104, false),
+];
+
 #[test]
 fn code_that_writes_a_saved_register_is_not_sound(rt: HostRuntime) -> Result<(), Fail> {
-    for (at, want) in [
-        (4, true),
-        (6, false),
-        (12, false),
-        (16, true),
-        (102, true),
-        (104, false),
-    ] {
-        assert_eq!(rt; may_be_stored(rt.alloc(), at)?, want);
+    for (at, want) in STORES.as_slice() {
+        assert!(rt; may_be_stored(rt.alloc(), *at)? == *want);
     }
     Ok(())
 }
@@ -109,17 +114,17 @@ fn joined(alloc: Global, stub: &Code, bodies: &Code) -> Result<Code, Fail> {
     }
 }
 
-fn stands_behind_two_operations(rt: &impl Abort, code: &Code) -> Result<(), Fail> {
-    assert_eq!(rt; code.ops.len(), 7);
+fn stands_behind_two_operations(rt: &impl Abort, code: &Code) {
+    assert!(rt; code.ops.len() == 7);
     assert!(rt; code.ops.get(1) == Some(&Ir::Jump(0)));
     assert!(rt; code.ops.get(5) == Some(&Ir::JumpZero(2)));
     assert!(rt; code.parts.first() == Some(&(2, 7)));
-    Ok(())
 }
 
 #[test]
 fn handlers_move_behind_the_entry_protocol(rt: HostRuntime) -> Result<(), Fail> {
     let alloc = rt.alloc();
     let code = joined(alloc, &calling(alloc)?, &two_packets(alloc)?)?;
-    stands_behind_two_operations(&rt, &code)
+    stands_behind_two_operations(&rt, &code);
+    Ok(())
 }

@@ -10,69 +10,25 @@ use std::alloc::{AllocError, Global};
 use std::test::Fail;
 use sx_check::checked::Checked;
 use sx_check::checks::check;
-use sx_lang::names::Name;
 use sx_lang::sides::Side;
-use sx_lang::tree::{BinOp, Decl, DeviceKind, Expr, Handler, Module, Stmt};
 use sx_mean::apps::{Link, sends_too_much};
 use sx_mean::events::End;
+use sx_parse::parse::parse;
 
 #[derive(Debug, Drop)]
 pub(crate) struct NotMade;
 
-fn name(text: &str) -> Result<Name, NotMade> {
-    Name::new(text.as_bytes()).ok_or(NotMade)
-}
+pub(crate) const EYE: &str = "sensor; output level; sample(v) { send level(v); }";
 
-fn checked(m: Module) -> Result<Checked, NotMade> {
-    match check(m) {
+pub(crate) const LOGIC: &str = "input level; output bright; var limit = 100; \
+    on level(v) { if v > limit { send bright(1); } else { send bright(0); } }";
+
+/// The module of a text that keeps the rules.
+pub(crate) fn checked(alloc: Global, text: &str) -> Result<Checked, Fail> {
+    match check(parse(alloc, text)?) {
         Ok(checked) => Ok(checked),
-        Err(_) => Err(NotMade),
+        Err(_) => Err(NotMade.into()),
     }
-}
-
-/// `input level; output bright; var limit = 100;`
-/// `on level(v) { if v > limit { send bright(1); } else { send bright(0); } }`
-pub(crate) fn logic(alloc: Global) -> Result<Checked, Fail> {
-    let (level, bright, limit) = (name("level")?, name("bright")?, name("limit")?);
-    let v = Box::new(alloc, Expr::Read(name("v")?))?;
-    let test = Expr::Binary(BinOp::Gt, v, Box::new(alloc, Expr::Read(limit))?);
-    let lit = vec![in alloc; Stmt::Send(bright, Expr::Number(1))]?;
-    let dark = vec![in alloc; Stmt::Send(bright, Expr::Number(0))]?;
-    let handler = Handler {
-        input: Some(level),
-        param: name("v")?,
-        body: vec![in alloc; Stmt::If(test, lit, dark)]?,
-    };
-    Ok(checked(Module {
-        decls: vec![in alloc;
-            Decl::Input(level),
-            Decl::Output(bright),
-            Decl::Var(limit, 100),
-        ]?,
-        handlers: vec![in alloc; handler]?,
-    })?)
-}
-
-/// `device sensor; output level; on sample(v) { send level(v); }`
-pub(crate) fn eye(alloc: Global) -> Result<Checked, Fail> {
-    let level = name("level")?;
-    let handler = Handler {
-        input: None,
-        param: name("v")?,
-        body: vec![in alloc; Stmt::Send(level, Expr::Read(name("v")?))]?,
-    };
-    Ok(checked(Module {
-        decls: vec![in alloc; Decl::Device(DeviceKind::Sensor), Decl::Output(level)]?,
-        handlers: vec![in alloc; handler]?,
-    })?)
-}
-
-/// A module that declares nothing.
-pub(crate) fn empty(alloc: Global) -> Result<Checked, Fail> {
-    Ok(checked(Module {
-        decls: Vec::new(alloc),
-        handlers: Vec::new(alloc),
-    })?)
 }
 
 pub(crate) fn end(link: u8, side: Side) -> End {

@@ -2,11 +2,10 @@
 
 ghost use Rattle.std.specs.Prelude.{◌≤◌, length};
 
-use crate::modules::{empty, end, eye, logic};
+use crate::modules::{EYE, LOGIC, checked, end};
 use std::alloc::Global;
 use std::process::Abort;
 use std::test::Fail;
-use sx_check::checked::Checked;
 use sx_ir::{Code, Ir, bytes, sound};
 use sx_lang::sides::Side;
 use sx_mean::events::End;
@@ -22,80 +21,71 @@ const LEAST: Layout = Layout {
     priv_to: 0x2200,
 };
 
-fn stub_of(alloc: Global, m: &Checked, ends: &[End]) -> Result<Code, Fail>
+/// The entry protocol of a module with these ends.
+fn protocol(alloc: Global, text: &str, ends: &[End]) -> Result<Code, Fail>
     requires { length ends.now ≤ 16 }
 {
-    Ok(stub(alloc, &Hmac, m, ends, &LEAST)?)
+    let m = checked(alloc, text)?;
+    Ok(stub(alloc, &Hmac, &m, ends, &LEAST)?)
 }
 
-fn logic_stub(alloc: Global) -> Result<Code, Fail> {
-    let m = logic(alloc)?;
-    stub_of(alloc, &m, [end(0, Side::To), end(1, Side::From)].as_slice())
-}
-
-/// These operations stand at these places.
-fn has_operations(rt: &impl Abort, code: &Code, rows: &[(usize, Ir)]) -> Result<(), Fail> {
-    for row in rows {
-        assert!(rt; code.ops.get(row.0) == Some(&row.1));
-    }
-    Ok(())
-}
-
-fn takes_an_input(rt: &impl Abort, code: &Code) -> Result<(), Fail> {
-    // 39 before the entries, 16 + 24 + 14 + 15 in them, 2 * 7 + 3 for the search, 3 after it, 41 +
-    // 21 for the packet, 29 + 2 * 9 for the key, and 3
-    assert_eq!(rt; code.ops.len(), 240);
-    assert!(rt; code.parts.is_empty());
-    let rows = [
+/// How many operations the protocol of the logic has, and some at their places: 39 before the
+/// entries, 16 + 24 + 14 + 15 in them, 2 * 7 + 3 for the search, 3 after it, 41 + 21 for the
+/// packet, 29 + 2 * 9 for the key, and 3.
+const OF_LOGIC: (usize, &[(usize, Ir)]) = (
+    240,
+    &[
         (108, Ir::Load(72)),
         (109, Ir::Push(256)),
         (116, Ir::Push(1)),
         (174, Ir::Open(520, 16, 6, 56, 2)),
         (186, Ir::Handler(0)),
-    ];
-    has_operations(rt, code, rows.as_slice())
+    ],
+);
+
+/// As above, with 17 operations of a sample, 7 + 3 for the search, 41 for the packet and 29 + 9 for
+/// the key.
+const OF_EYE: (usize, &[(usize, Ir)]) = (
+    204,
+    &[(11, Ir::Push(0)), (39, Ir::Sense), (52, Ir::Handler(0))],
+);
+
+const OF_EMPTY: (usize, &[(usize, Ir)]) = (187, &[(11, Ir::Push(1))]);
+
+/// Whether so many operations are there, with these at these places.
+fn has_operations(code: &Code, want: &(usize, &[(usize, Ir)])) -> bool {
+    for (at, op) in want.1 {
+        if code.ops.get(*at) != Some(op) {
+            return false;
+        }
+    }
+    code.ops.len() == want.0
 }
 
 #[test]
-fn an_input_is_taken_at_its_end(rt: HostRuntime) -> Result<(), Fail> {
-    let code = logic_stub(rt.alloc())?;
-    takes_an_input(&rt, &code)
-}
-
-fn eye_stub(alloc: Global) -> Result<Code, Fail> {
-    let m = eye(alloc)?;
-    stub_of(alloc, &m, [end(0, Side::From)].as_slice())
-}
-
-fn reads_a_sample(rt: &impl Abort, code: &Code) -> Result<(), Fail> {
-    // as above, with 17 operations of a sample, 7 + 3 for the search, 41 for the packet and 29 + 9
-    // for the key
-    assert_eq!(rt; code.ops.len(), 204);
-    let rows = [(11, Ir::Push(0)), (39, Ir::Sense), (52, Ir::Handler(0))];
-    has_operations(rt, code, rows.as_slice())
-}
-
-#[test]
-fn a_sample_is_read_and_handled(rt: HostRuntime) -> Result<(), Fail> {
-    let code = eye_stub(rt.alloc())?;
-    reads_a_sample(&rt, &code)
-}
-
-fn empty_stub(alloc: Global) -> Result<Code, Fail> {
-    let m = empty(alloc)?;
-    stub_of(alloc, &m, &[])
-}
-
-fn fits_the_least_sections(rt: &impl Abort, code: &Code) -> Result<(), Fail> {
-    assert_eq!(rt; code.ops.len(), 187);
-    assert_eq!(rt; code.ops[11], Ir::Push(1));
-    assert!(rt; bytes(code) <= 2048);
-    assert!(rt; sound(code, &LEAST));
+fn a_protocol_with_an_input(rt: HostRuntime) -> Result<(), Fail> {
+    let ends = [end(0, Side::To), end(1, Side::From)];
+    let code = protocol(rt.alloc(), LOGIC, ends.as_slice())?;
+    assert!(rt; code.parts.is_empty() && has_operations(&code, &OF_LOGIC));
     Ok(())
 }
 
 #[test]
-fn a_stub_alone_is_sound_in_the_least_sections(rt: HostRuntime) -> Result<(), Fail> {
-    let code = empty_stub(rt.alloc())?;
-    fits_the_least_sections(&rt, &code)
+fn a_protocol_with_a_sensor(rt: HostRuntime) -> Result<(), Fail> {
+    let code = protocol(rt.alloc(), EYE, [end(0, Side::From)].as_slice())?;
+    assert!(rt; has_operations(&code, &OF_EYE));
+    Ok(())
+}
+
+/// The protocol alone is sound in the least sections.
+fn fits_the_least_sections(rt: &impl Abort, code: &Code) {
+    assert!(rt; code.ops.len() < 256 && has_operations(code, &OF_EMPTY));
+    assert!(rt; bytes(code) <= 2048 && sound(code, &LEAST));
+}
+
+#[test]
+fn a_protocol_alone(rt: HostRuntime) -> Result<(), Fail> {
+    let code = protocol(rt.alloc(), "", &[])?;
+    fits_the_least_sections(&rt, &code);
+    Ok(())
 }
