@@ -1,145 +1,16 @@
 //! The lighting application's runs, as their traces are written.
 
+use crate::lamps::lamps;
 use std::alloc::{AllocError, Global};
 use std::process::Abort;
 use std::test::Fail;
-use sx_check::checked::Checked;
-use sx_check::checks::check;
-use sx_lang::names::Name;
-use sx_lang::tree::{BinOp, Decl, DeviceKind, Expr, Handler, Module, Stmt};
-use sx_mean::apps::{App, AppDevice, Link, Part};
+use sx_deploy::deployment::Deployment;
 use sx_model::model::Model;
 use sx_trace::items::Item;
-use sx_trace::names::Names;
 use sx_trace::reading::read_item;
 
 #[derive(Debug, Drop)]
-struct NotMade;
-
-fn name(text: &str) -> Result<Name, NotMade> {
-    Name::new(text.as_bytes()).ok_or(NotMade)
-}
-
-fn names_of(alloc: Global, texts: &[&str]) -> Result<Vec<Name>, Fail> {
-    let mut names = Vec::new(alloc);
-    for text in texts {
-        names.push(name(text)?)?;
-    }
-    Ok(names)
-}
-
-/// Nodes a and b, the sensor light, the actuator bulb, modules eye, logic and lamp, connections up
-/// and down.
-fn lighting_names(alloc: Global) -> Result<Names, Fail> {
-    let nodes = names_of(alloc, &["a", "b"])?;
-    let devices = names_of(alloc, &["light", "bulb"])?;
-    let sensors = vec![in alloc; true, false]?;
-    let modules = names_of(alloc, &["eye", "logic", "lamp"])?;
-    let links = names_of(alloc, &["up", "down"])?;
-    Ok(Names::new(alloc, nodes, devices, sensors, modules, links)?)
-}
-
-fn checked(m: Module) -> Result<Checked, NotMade> {
-    match check(m) {
-        Ok(checked) => Ok(checked),
-        Err(_) => Err(NotMade),
-    }
-}
-
-fn handling(alloc: Global, x: Name, body: Vec<Stmt>) -> Result<Vec<Handler>, Fail> {
-    Ok(vec![in alloc;
-        Handler {
-            input: Some(x),
-            param: name("v")?,
-            body
-        },
-    ]?)
-}
-
-fn compared(alloc: Global, op: BinOp, left: Expr, right: Expr) -> Result<Expr, AllocError> {
-    Ok(Expr::Binary(op, Box::new(alloc, left)?, Box::new(alloc, right)?))
-}
-
-/// `sensor; output level; sample(v) { send level(v); }`
-fn eye(alloc: Global) -> Result<Checked, Fail> {
-    let level = name("level")?;
-    let body = vec![in alloc; Stmt::Send(level, Expr::Read(name("v")?))]?;
-    Ok(checked(Module {
-        decls: vec![in alloc; Decl::Device(DeviceKind::Sensor), Decl::Output(level)]?,
-        handlers: vec![in alloc;
-            Handler {
-                input: None,
-                param: name("v")?,
-                body
-            },
-        ]?,
-    })?)
-}
-
-/// `input level; output bright; var limit = 100;`
-/// `on level(v) { if v > limit { send bright(1); } else { send bright(0); } }`
-fn logic(alloc: Global) -> Result<Checked, Fail> {
-    let (level, bright, limit) = (name("level")?, name("bright")?, name("limit")?);
-    let test = compared(alloc, BinOp::Gt, Expr::Read(name("v")?), Expr::Read(limit))?;
-    let lit = vec![in alloc; Stmt::Send(bright, Expr::Number(1))]?;
-    let dark = vec![in alloc; Stmt::Send(bright, Expr::Number(0))]?;
-    let body = vec![in alloc; Stmt::If(test, lit, dark)]?;
-    Ok(checked(Module {
-        decls: vec![in alloc;
-            Decl::Input(level),
-            Decl::Output(bright),
-            Decl::Var(limit, 100),
-        ]?,
-        handlers: handling(alloc, level, body)?,
-    })?)
-}
-
-/// `actuator; input show; on show(v) { emit v; }`
-fn lamp(alloc: Global) -> Result<Checked, Fail> {
-    let show = name("show")?;
-    let body = vec![in alloc; Stmt::Emit(Expr::Read(name("v")?))]?;
-    Ok(checked(Module {
-        decls: vec![in alloc; Decl::Device(DeviceKind::Actuator), Decl::Input(show)]?,
-        handlers: handling(alloc, show, body)?,
-    })?)
-}
-
-fn part(node: u8, device: Option<u8>, code: Checked) -> Part {
-    Part { node, device, code }
-}
-
-fn link(from: u8, to: u8) -> Link {
-    Link {
-        from,
-        output: 0,
-        to,
-        input: 0,
-    }
-}
-
-/// Eye and logic at node a, lamp at node b.
-fn lighting(alloc: Global) -> Result<App, Fail> {
-    let devices = vec![in alloc;
-        AppDevice {
-            node: 0,
-            kind: DeviceKind::Sensor
-        },
-        AppDevice {
-            node: 1,
-            kind: DeviceKind::Actuator
-        },
-    ]?;
-    let mut parts = Vec::new(alloc);
-    parts.push(part(0, Some(0), eye(alloc)?))?;
-    parts.push(part(0, None, logic(alloc)?))?;
-    parts.push(part(1, Some(1), lamp(alloc)?))?;
-    Ok(App {
-        nodes: 2,
-        devices,
-        parts,
-        links: vec![in alloc; link(0, 1), link(1, 2)]?,
-    })
-}
+struct NoItem;
 
 /// The modules are loaded, attested and connected, and a reading of 120 reaches the lamp.
 const CONNECTED: &str = "protect a eye
@@ -221,140 +92,102 @@ take lamp down 65536 0
 out lamp 0
 done lamp 1 0";
 
-fn item(names: &Names, line: &str) -> Result<Item, NotMade> {
-    if names.valid() {
-        read_item(names, line.as_bytes()).ok_or(NotMade)
-    } else {
-        Err(NotMade)
-    }
-}
-
-fn items_among(alloc: Global, names: &Names, text: &str) -> Result<Vec<Item>, Fail> {
+/// The items of a text's lines.
+fn items(alloc: Global, d: &Deployment, text: &str) -> Result<Vec<Item>, Fail> {
     let mut items = Vec::new(alloc);
     for line in text.lines() {
-        items.push(item(names, line)?)?;
+        if d.names.valid() {
+            items.push(read_item(&d.names, line.as_bytes()).ok_or(NoItem)?)?;
+        }
     }
     Ok(items)
 }
 
-/// The items of a text's lines.
-fn items(alloc: Global, text: &str) -> Result<Vec<Item>, Fail> {
-    items_among(alloc, &lighting_names(alloc)?, text)
-}
-
 /// Takes an item, and says whether it's allowed.
-fn takes(model: &mut Model, app: &App, item: &Item) -> Result<bool, Fail> {
-    if app.valid() && model.taken() <= 1_000 {
-        Ok(model.step(app, item)?)
+fn takes(model: &mut Model, d: &Deployment, item: &Item) -> Result<bool, AllocError> {
+    if d.app.valid() && model.taken() <= 1_000 {
+        model.step(&d.app, item)
     } else {
-        Err(NotMade.into())
+        Ok(false)
     }
 }
 
-fn takes_all(model: &mut Model, app: &App, items: &[Item]) -> Result<bool, Fail> {
+/// Takes items up to the first that isn't allowed, and says how many it took.
+fn taken(model: &mut Model, d: &Deployment, items: &[Item]) -> Result<u64, AllocError> {
+    let before = model.taken();
     for item in items {
-        if !takes(model, app, item)? {
-            return Ok(false);
+        if !takes(model, d, item)? {
+            break;
         }
     }
-    Ok(true)
-}
-
-/// Whether all of the lines' items are allowed.
-fn follows(alloc: Global, model: &mut Model, text: &str) -> Result<bool, Fail> {
-    let items = items(alloc, text)?;
-    takes_all(model, &lighting(alloc)?, &items)
-}
-
-/// The lighting application's model at power-on.
-fn at_power_on(alloc: Global) -> Result<Model, Fail> {
-    Ok(Model::new(alloc, &lighting(alloc)?)?)
-}
-
-/// All of the lines' items are allowed.
-fn allowed(rt: &impl Abort, alloc: Global, model: &mut Model, text: &str) -> Result<(), Fail> {
-    assert!(rt; follows(alloc, model, text)?);
-    Ok(())
-}
-
-/// One of the lines' items isn't allowed.
-fn refused(rt: &impl Abort, alloc: Global, model: &mut Model, text: &str) -> Result<(), Fail> {
-    assert!(rt; !follows(alloc, model, text)?);
-    Ok(())
-}
-
-/// How many words went over `up`, and over `down` in two epochs.
-fn has_sent(rt: &impl Abort, model: &Model, want: [u32; 3]) {
-    assert_eq!(rt;
-        [model.sent(0, 0), model.sent(1, 0), model.sent(1, 1)],
-        want
-    );
+    Ok(model.taken().wrapping_sub(before))
 }
 
 /// With which epochs the logic's two ends and the lamp's end are open.
-fn is_open(rt: &impl Abort, model: &Model, want: [Option<u8>; 3]) {
-    let epochs = [
+fn epochs(model: &Model) -> [Option<u8>; 3] {
+    [
         model.open_epoch(1, 0),
         model.open_epoch(1, 1),
         model.open_epoch(2, 0),
-    ];
-    assert_eq!(rt; epochs, want);
+    ]
 }
 
-fn lit(rt: &impl Abort, alloc: Global, model: &mut Model) -> Result<(), Fail> {
-    is_open(rt, model, [None, None, None]);
-    allowed(rt, alloc, model, CONNECTED)?;
-    allowed(rt, alloc, model, LIT)?;
-    assert_eq!(rt; model.taken(), 43);
-    has_sent(rt, model, [1, 1, 0]);
-    is_open(rt, model, [Some(0), Some(0), Some(0)]);
-    assert_eq!(rt; model.open_epoch(2, 1), None);
+/// How many words went over `up`, and over `down` in two epochs.
+fn sent(model: &Model) -> [u32; 3] {
+    [model.sent(0, 0), model.sent(1, 0), model.sent(1, 1)]
+}
+
+/// Lines that follow one another, how many of their items are allowed, and the epochs and words
+/// after them.
+type Step<'a> = (&'a str, u64, [Option<u8>; 3], [u32; 3]);
+
+const LIT_ONCE: [Option<u8>; 3] = [Some(0), Some(0), Some(0)];
+
+/// The lamp is lit and put out.
+const RENEWAL: [Step; 7] = [
+    ("", 0, [None, None, None], [0, 0, 0]),
+    (CONNECTED, 41, LIT_ONCE, [1, 1, 0]),
+    // another value than the one that was taken
+    ("out lamp 2", 0, LIT_ONCE, [1, 1, 0]),
+    ("done lamp 1 0", 0, LIT_ONCE, [1, 1, 0]),
+    (LIT, 2, LIT_ONCE, [1, 1, 0]),
+    (RENEWED, 24, [Some(0), Some(1), Some(1)], [2, 1, 1]),
+    (
+        "take lamp down 1 1",
+        0,
+        [Some(0), Some(1), Some(1)],
+        [2, 1, 1],
+    ),
+];
+
+const REPLAY: [Step; 4] = [
+    (CONNECTED, 41, LIT_ONCE, [1, 1, 0]),
+    (LIT, 2, LIT_ONCE, [1, 1, 0]),
+    (REPLAYED, 4, [Some(0), Some(0), None], [1, 1, 0]),
+    ("open lamp down to", 0, [Some(0), Some(0), None], [1, 1, 0]),
+];
+
+/// Whether a step's lines do so.
+fn does(alloc: Global, d: &Deployment, model: &mut Model, step: &Step) -> Result<bool, Fail> {
+    let items = items(alloc, d, step.0)?;
+    let count = taken(model, d, &items)?;
+    Ok(count == step.1 && epochs(model) == step.2 && sent(model) == step.3)
+}
+
+fn runs(rt: &impl Abort, alloc: Global, d: &Deployment, steps: &[Step]) -> Result<(), Fail> {
+    let mut model = Model::new(alloc, &d.app)?;
+    for step in steps {
+        assert!(rt; does(alloc, d, &mut model, step)?);
+    }
     Ok(())
 }
 
-#[test]
-fn the_lamp_is_lit(rt: HostRuntime) -> Result<(), Fail> {
-    lit(&rt, rt.alloc(), &mut at_power_on(rt.alloc())?)
-}
-
-fn kept(rt: &impl Abort, alloc: Global, model: &mut Model) -> Result<(), Fail> {
-    allowed(rt, alloc, model, CONNECTED)?;
-    refused(rt, alloc, model, "out lamp 2")?;
-    refused(rt, alloc, model, "done lamp 1 0")?;
-    assert_eq!(rt; model.taken(), 41);
-    allowed(rt, alloc, model, LIT)?;
-    assert_eq!(rt; model.taken(), 43);
-    Ok(())
+fn both_run(rt: &impl Abort, alloc: Global, d: &Deployment) -> Result<(), Fail> {
+    runs(rt, alloc, d, &RENEWAL)?;
+    runs(rt, alloc, d, &REPLAY)
 }
 
 #[test]
-fn another_value_changes_nothing(rt: HostRuntime) -> Result<(), Fail> {
-    kept(&rt, rt.alloc(), &mut at_power_on(rt.alloc())?)
-}
-
-fn replayed(rt: &impl Abort, alloc: Global, model: &mut Model) -> Result<(), Fail> {
-    allowed(rt, alloc, model, CONNECTED)?;
-    allowed(rt, alloc, model, LIT)?;
-    allowed(rt, alloc, model, REPLAYED)?;
-    is_open(rt, model, [Some(0), Some(0), None]);
-    refused(rt, alloc, model, "open lamp down to")
-}
-
-#[test]
-fn old_packets_are_refused(rt: HostRuntime) -> Result<(), Fail> {
-    replayed(&rt, rt.alloc(), &mut at_power_on(rt.alloc())?)
-}
-
-fn renewed(rt: &impl Abort, alloc: Global, model: &mut Model) -> Result<(), Fail> {
-    allowed(rt, alloc, model, CONNECTED)?;
-    allowed(rt, alloc, model, LIT)?;
-    allowed(rt, alloc, model, RENEWED)?;
-    has_sent(rt, model, [2, 1, 1]);
-    is_open(rt, model, [Some(0), Some(1), Some(1)]);
-    refused(rt, alloc, model, "take lamp down 1 1")
-}
-
-#[test]
-fn a_connection_is_renewed(rt: HostRuntime) -> Result<(), Fail> {
-    renewed(&rt, rt.alloc(), &mut at_power_on(rt.alloc())?)
+fn runs_of_the_lighting(rt: HostRuntime) -> Result<(), Fail> {
+    both_run(&rt, rt.alloc(), &lamps(rt.alloc())?)
 }

@@ -5,52 +5,152 @@ ghost use Rattle.sx_trace.specs.Names.{are_valid};
 ghost use Rattle.sx_sched.specs.Lines.{line_of, IsLine};
 ghost use Rattle.sx_sched.specs.Written.{IsWritten};
 
-use std::alloc::Global;
+use crate::lamps::lamps;
+use std::alloc::{AllocError, Global};
 use std::process::Abort;
 use std::test::Fail;
-use sx_lang::names::Name;
 use sx_sched::lines::{Line, LineError};
 use sx_sched::{parse_line, write_line};
 use sx_trace::names::Names;
 
-#[derive(Debug, Drop)]
-struct NoName;
+/// Lines and the rules that they break first.
+const RULES: [(&[u8], Option<u8>); 48] = [
+    (b"run b 65535", None),
+    (b" finish\ta ", None),
+    (b"set a r15 0xFFFF", None),
+    (b"take a 0x400 384", None),
+    (b"give 4294967295 b 0x300", None),
+    (b"sense light 32767", None),
+    (b"irq b 14", None),
+    (b"reset b", None),
+    (b"ask lamp", None),
+    (b"answer eye 0 4294967295", None),
+    (b"load logic", None),
+    (b"call lamp 2 0x300 0x400", None),
+    (b"# call lamp", None),
+    (b" \t", None),
+    (b"walk a", Some(3)),
+    (b"Run a 1", Some(3)),
+    (b"run c 0", Some(4)),
+    (b"set a r3 x", Some(4)),
+    (b"set a r16 0", Some(4)),
+    (b"sense bulb 1", Some(4)),
+    (b"ask light", Some(4)),
+    (b"put c 65536 0", Some(4)),
+    (b"asm c x mov r5", Some(4)),
+    (b"run a 0", Some(5)),
+    (b"run a 65536", Some(5)),
+    (b"put a 65536 0", Some(5)),
+    (b"take a 0 0", Some(5)),
+    (b"take a 0 385", Some(5)),
+    (b"give 4294967296 c 0", Some(5)),
+    (b"sense light 32768", Some(5)),
+    (b"irq a 15", Some(5)),
+    (b"call eye 0 0x 0", Some(5)),
+    (b"asm a 65536 mov r5", Some(5)),
+    (b"put a 0 0", Some(6)),
+    (b"put a 0 0g", Some(6)),
+    (b"forge 0x00", Some(6)),
+    (b"run", Some(7)),
+    (b"run c", Some(7)),
+    (b"run c 0 0", Some(7)),
+    (b"reset a # now", Some(7)),
+    (b"asm", Some(7)),
+    (b"asm c x", Some(7)),
+    (b"asm a 0x800 \t", Some(7)),
+    (b"asm a 0x800 mov r5", Some(8)),
+    (b"asm a 0x800 // x", Some(8)),
+    (b"asm a 0x801 reti", Some(8)),
+    (b"asm a 0x800 jmp 0", Some(8)),
+    (b"asm a 0x800 reti // \xff", Some(8)),
+];
 
-fn names_of(alloc: Global, texts: &[&str]) -> Result<Vec<Name>, Fail> {
-    let mut names = Vec::new(alloc);
-    for text in texts {
-        names.push(Name::new(text.as_bytes()).ok_or(NoName)?)?;
+/// The rule that a line breaks. Without memory it is answered as 0, which no rule is.
+fn rule(alloc: Global, names: &Names, text: &[u8]) -> Option<u8>
+    requires { IsTrue (are_valid names.now) }
+{
+    match parse_line(alloc, names, text) {
+        Ok(_) => None,
+        Err(LineError::Fault(rule)) => Some(rule),
+        Err(LineError::OutOfMemory) => Some(0),
     }
-    Ok(names)
 }
 
-/// Nodes a and b, the sensor light, the actuator bulb, modules eye, logic and lamp, connections up
-/// and down.
-fn lighting(alloc: Global) -> Result<Names, Fail> {
-    let nodes = names_of(alloc, &["a", "b"])?;
-    let devices = names_of(alloc, &["light", "bulb"])?;
-    let sensors = vec![in alloc; true, false]?;
-    let modules = names_of(alloc, &["eye", "logic", "lamp"])?;
-    let links = names_of(alloc, &["up", "down"])?;
-    Ok(Names::new(alloc, nodes, devices, sensors, modules, links)?)
-}
-
-fn said_among(alloc: Global, names: &Names, text: &[u8]) -> Result<Result<Line, LineError>, Fail> {
-    if names.valid() {
-        Ok(parse_line(alloc, names, text))
-    } else {
-        Err(NoName.into())
+fn break_rules(rt: &impl Abort, alloc: Global, names: &Names) -> Result<(), Fail>
+    requires { IsTrue (are_valid names.now) }
+{
+    for (text, want) in RULES.as_slice() {
+        assert!(rt; rule(alloc, names, text) == *want);
     }
+    Ok(())
 }
 
-/// The line that a text says, or why it says none.
-fn said(alloc: Global, text: &[u8]) -> Result<Result<Line, LineError>, Fail> {
-    said_among(alloc, &lighting(alloc)?, text)
+#[test]
+fn first_broken_rules(rt: HostRuntime) -> Result<(), Fail> {
+    break_rules(&rt, rt.alloc(), &lamps(rt.alloc())?.names)
 }
 
-fn line(alloc: Global, text: &[u8]) -> Result<Line, Fail> {
-    Ok(said(alloc, text)??)
+/// A line's start, what follows it so many times, and the rule that this breaks.
+const BOUNDS: [(&[u8], &[u8], u16, Option<u8>); 4] = [
+    (b"forge ", b"aB", 384, None),
+    (b"forge ", b"aB", 385, Some(6)),
+    (b"asm a 0 .word 0", b",1", 511, None),
+    (b"asm a 0 .word 0", b",1", 512, Some(8)),
+];
+
+fn repeated(alloc: Global, first: &[u8], piece: &[u8], times: u16) -> Result<Vec<u8>, AllocError> {
+    let mut bytes = Vec::new(alloc);
+    bytes.extend_from_slice(first)?;
+    for _time in 0..times {
+        bytes.extend_from_slice(piece)?;
+    }
+    Ok(bytes)
 }
+
+/// The rule that a line breaks with a piece so many times.
+fn rule_of_repeated(
+    alloc: Global,
+    names: &Names,
+    parts: (&[u8], &[u8], u16),
+) -> Result<Option<u8>, AllocError>
+    requires { IsTrue (are_valid names.now) }
+{
+    let text = repeated(alloc, parts.0, parts.1, parts.2)?;
+    Ok(rule(alloc, names, &text))
+}
+
+fn have_bounds(rt: &impl Abort, alloc: Global, names: &Names) -> Result<(), Fail>
+    requires { IsTrue (are_valid names.now) }
+{
+    for (first, piece, times, want) in BOUNDS.as_slice() {
+        assert!(rt; rule_of_repeated(alloc, names, (first, piece, *times))? == *want);
+    }
+    Ok(())
+}
+
+#[test]
+fn lines_up_to_the_limit(rt: HostRuntime) -> Result<(), Fail> {
+    have_bounds(&rt, rt.alloc(), &lamps(rt.alloc())?.names)
+}
+
+/// Lines that put bytes into a node's memory, with the node, the address and the bytes.
+const PUTS: [(&[u8], u8, u16, &[u8]); 4] = [
+    (b"put a 0x4000 7Cc0", 0, 0x4000, &[0x7c, 0xc0]),
+    (b"asm a 0x800 mov @r5, r6", 0, 0x800, &[0x26, 0x45]),
+    (
+        b"\tasm  b 0x4000 \there: jmp here; reti // # ",
+        1,
+        0x4000,
+        &[0xff, 0x3f, 0x00, 0x13],
+    ),
+    // the distance from the word at 0x802
+    (
+        b"asm a 0x800 br: mov 0x900, pc",
+        0,
+        0x800,
+        &[0x10, 0x40, 0xfe, 0x00],
+    ),
+];
 
 /// Whether the line writes these bytes to this address of a node.
 fn is_put(line: &Line, to: (u8, u16), want: &[u8]) -> bool {
@@ -60,257 +160,32 @@ fn is_put(line: &Line, to: (u8, u16), want: &[u8]) -> bool {
     }
 }
 
-fn is_forge(line: &Line, want: &[u8]) -> bool {
-    match line {
-        Line::Forge { bytes } => bytes.as_slice() == want,
-        _ => false,
+/// Whether a text puts these bytes there.
+fn puts(
+    alloc: Global,
+    names: &Names,
+    text: &[u8],
+    to: (u8, u16),
+    bytes: &[u8],
+) -> Result<bool, LineError>
+    requires { IsTrue (are_valid names.now) }
+{
+    let line = parse_line(alloc, names, text)?;
+    Ok(is_put(&line, to, bytes))
+}
+
+fn put_bytes(rt: &impl Abort, alloc: Global, names: &Names) -> Result<(), Fail>
+    requires { IsTrue (are_valid names.now) }
+{
+    for (text, node, at, bytes) in PUTS.as_slice() {
+        assert!(rt; puts(alloc, names, text, (*node, *at), bytes)?);
     }
-}
-
-/// Each of the texts breaks this rule.
-fn all_break(rt: &impl Abort, alloc: Global, rule: u8, texts: &[&[u8]]) -> Result<(), Fail> {
-    for text in texts {
-        assert_eq!(rt; said(alloc, text)?.err(), Some(LineError::Fault(rule)));
-    }
-    Ok(())
-}
-
-/// These bytes, and after them a piece so many times.
-fn repeated(alloc: Global, first: &[u8], times: u16, piece: &[u8]) -> Result<Vec<u8>, Fail> {
-    let mut bytes = Vec::new(alloc);
-    bytes.extend_from_slice(first)?;
-    for _time in 0..times {
-        bytes.extend_from_slice(piece)?;
-    }
-    Ok(bytes)
-}
-
-#[test]
-fn steps(rt: HostRuntime) -> Result<(), Fail> {
-    let alloc = rt.alloc();
-    let run = line(alloc, b"run b 65535")?;
-    assert!(rt;
-        matches!(
-            run,
-            Line::Run {
-                node: 1,
-                steps: 65535
-            }
-        )
-    );
-    let finish = line(alloc, b" finish\ta ")?;
-    assert!(rt; matches!(finish, Line::Finish { node: 0 }));
-    Ok(())
-}
-
-#[test]
-fn registers_and_memory(rt: HostRuntime) -> Result<(), Fail> {
-    let alloc = rt.alloc();
-    let set = line(alloc, b"set a r15 0xFFFF")?;
-    assert!(rt;
-        matches!(
-            set,
-            Line::Set {
-                node: 0,
-                reg: 15,
-                value: 65535
-            }
-        )
-    );
-    let take = line(alloc, b"take a 0x400 16")?;
-    assert!(rt;
-        matches!(
-            take,
-            Line::Take {
-                node: 0,
-                at: 0x400,
-                len: 16
-            }
-        )
-    );
-    Ok(())
-}
-
-#[test]
-fn packets_and_sensors(rt: HostRuntime) -> Result<(), Fail> {
-    let alloc = rt.alloc();
-    let give = line(alloc, b"give 10 b 0x300")?;
-    assert!(rt;
-        matches!(
-            give,
-            Line::Give {
-                packet: 10,
-                node: 1,
-                at: 0x300
-            }
-        )
-    );
-    let sense = line(alloc, b"sense light 120")?;
-    assert!(rt;
-        matches!(
-            sense,
-            Line::Sense {
-                device: 0,
-                value: 120
-            }
-        )
-    );
-    Ok(())
-}
-
-#[test]
-fn interrupts_and_resets(rt: HostRuntime) -> Result<(), Fail> {
-    let alloc = rt.alloc();
-    let irq = line(alloc, b"irq b 14")?;
-    assert!(rt; matches!(irq, Line::Irq { node: 1, line: 14 }));
-    let reset = line(alloc, b"reset b")?;
-    assert!(rt; matches!(reset, Line::Reset { node: 1 }));
-    Ok(())
-}
-
-#[test]
-fn asks_and_answers(rt: HostRuntime) -> Result<(), Fail> {
-    let alloc = rt.alloc();
-    let ask = line(alloc, b"ask lamp")?;
-    assert!(rt; matches!(ask, Line::Ask { module: 2 }));
-    let answer = line(alloc, b"answer eye 0 4294967295")?;
-    assert!(rt;
-        matches!(
-            answer,
-            Line::Answer {
-                module: 0,
-                boot: 0,
-                packet: 4294967295
-            }
-        )
-    );
-    Ok(())
-}
-
-#[test]
-fn loads_and_calls(rt: HostRuntime) -> Result<(), Fail> {
-    let alloc = rt.alloc();
-    let load = line(alloc, b"load logic")?;
-    assert!(rt; matches!(load, Line::Load { module: 1 }));
-    let call = line(alloc, b"call lamp 2 0x300 0x400")?;
-    assert!(rt;
-        matches!(
-            call,
-            Line::Call {
-                module: 2,
-                entry: 2,
-                input: 0x300,
-                output: 0x400
-            }
-        )
-    );
-    Ok(())
-}
-
-#[test]
-fn blanks(rt: HostRuntime) -> Result<(), Fail> {
-    let alloc = rt.alloc();
-    assert!(rt; matches!(line(alloc, b"# call lamp")?, Line::Blank));
-    assert!(rt; matches!(line(alloc, b" \t")?, Line::Blank));
     Ok(())
 }
 
 #[test]
 fn lines_with_bytes(rt: HostRuntime) -> Result<(), Fail> {
-    let alloc = rt.alloc();
-    let put = line(alloc, b"put a 0x4000 7Cc0")?;
-    assert!(rt; is_put(&put, (0, 0x4000), &[0x7c, 0xc0]));
-    let forge = line(alloc, b"forge 00ff")?;
-    assert!(rt; is_forge(&forge, &[0, 255]));
-    Ok(())
-}
-
-#[test]
-fn lines_with_code(rt: HostRuntime) -> Result<(), Fail> {
-    let alloc = rt.alloc();
-    let one = line(alloc, b"asm a 0x800 mov @r5, r6")?;
-    assert!(rt; is_put(&one, (0, 0x800), &[0x26, 0x45]));
-    let two = line(alloc, b"\tasm  b 0x4000 \there: jmp here; reti // # ")?;
-    assert!(rt; is_put(&two, (1, 0x4000), &[0xff, 0x3f, 0x00, 0x13]));
-    // the distance from the word at 0x802
-    let branch = line(alloc, b"asm a 0x800 br: mov 0x900, pc")?;
-    assert!(rt; is_put(&branch, (0, 0x800), &[0x10, 0x40, 0xfe, 0x00]));
-    Ok(())
-}
-
-/// Wrong numbers of words.
-const WRONG_COUNTS: [&[u8]; 7] = [
-    b"run",
-    b"run c",
-    b"run c 0 0",
-    b"reset a # now",
-    b"asm",
-    b"asm c x",
-    b"asm a 0x800 \t",
-];
-
-/// Words in the place of names and registers that are none.
-const NO_NAMES: [&[u8]; 7] = [
-    b"run c 0",
-    b"set a r3 x",
-    b"set a r16 0",
-    b"sense bulb 1",
-    b"ask light",
-    b"put c 65536 0",
-    b"asm c x mov r5",
-];
-
-/// Numbers that are none or out of range.
-const NO_NUMBERS: [&[u8]; 10] = [
-    b"run a 0",
-    b"run a 65536",
-    b"put a 65536 0",
-    b"take a 0 0",
-    b"take a 0 385",
-    b"give 4294967296 c 0",
-    b"sense light 32768",
-    b"irq a 15",
-    b"call eye 0 0x 0",
-    b"asm a 65536 mov r5",
-];
-
-/// Texts that aren't assembled.
-const NO_CODES: [&[u8]; 5] = [
-    b"asm a 0x800 mov r5",
-    b"asm a 0x800 // x",
-    b"asm a 0x801 reti",
-    b"asm a 0x800 jmp 0",
-    b"asm a 0x800 reti // \xff",
-];
-
-#[test]
-fn broken_rules(rt: HostRuntime) -> Result<(), Fail> {
-    let alloc = rt.alloc();
-    all_break(&rt, alloc, 3, &[b"walk a", b"Run a 1"])?;
-    all_break(&rt, alloc, 7, &WRONG_COUNTS)?;
-    all_break(&rt, alloc, 4, &NO_NAMES)?;
-    all_break(&rt, alloc, 5, &NO_NUMBERS)?;
-    all_break(&rt, alloc, 6, &[b"put a 0 0", b"put a 0 0g", b"forge 0x00"])?;
-    all_break(&rt, alloc, 8, &NO_CODES)
-}
-
-#[test]
-fn too_many_bytes(rt: HostRuntime) -> Result<(), Fail> {
-    let alloc = rt.alloc();
-    let most = repeated(alloc, b"forge ", 384, b"aB")?;
-    assert!(rt; said(alloc, &most)?.is_ok());
-    let more = repeated(alloc, &most, 1, b"00")?;
-    all_break(&rt, alloc, 6, &[&more])
-}
-
-#[test]
-fn too_much_code(rt: HostRuntime) -> Result<(), Fail> {
-    let alloc = rt.alloc();
-    let most = repeated(alloc, b"asm a 0 .word 0", 511, b",1")?;
-    let code = repeated(alloc, &[0, 0], 511, &[1, 0])?;
-    assert!(rt; is_put(&line(alloc, &most)?, (0, 0), &code));
-    let more = repeated(alloc, &most, 1, b",2")?;
-    all_break(&rt, alloc, 8, &[&more])
+    put_bytes(&rt, rt.alloc(), &lamps(rt.alloc())?.names)
 }
 
 /// Whether the line is written as this text.
@@ -377,8 +252,8 @@ fn a_sense_is_written(rt: &impl Abort, names: &Names) {
 
 #[test]
 fn lines_that_are_written(rt: HostRuntime) -> Result<(), Fail> {
-    let names = lighting(rt.alloc())?;
-    are_written(&rt, &names);
-    a_sense_is_written(&rt, &names);
+    let d = lamps(rt.alloc())?;
+    are_written(&rt, &d.names);
+    a_sense_is_written(&rt, &d.names);
     Ok(())
 }
