@@ -23,7 +23,7 @@ use Rattle.sx_head.specs.Head.{Head, Found, TooLong, NoMark, Unread, head, head_
 use Rattle.sx_head.specs.declared.head.HeadFault.{HeadFault}
 use Rattle.sx_head.specs.declared.head.HeadFault.TheVariants as none
 use Rattle.sx_command_head.specs.Headless.{EndsHeadless}
-use Rattle.sx_command_check.specs.Promise.{IsFound, RunsOutBehindHead}
+use Rattle.sx_command_head.specs.Begun.{IsFound, RunsOutBehindHead}
 
 -- what `check` writes of a text
 pub check_read : {to_tell : Bool} {k0 k1 : SinkAt} {status : ℕ} (text : List ℕ) (r : Result Deployment DeployError) → GivesOne deployed_as r (IsRead text)

@@ -4,9 +4,10 @@ use Rattle.std.specs.Prelude.{length}
 use Rattle.sx_stage.specs.declared.fault.DeployFault.{DeployFault}
 use Rattle.sx_head.specs.Head.{Head, Found, TooLong, NoMark, Unread, head, head_lines}
 use Rattle.sx_deploy.specs.Deployment.{Deployed}
+use Rattle.sx_command_head.specs.Begun.{RunsOutBehindHead}
 use Rattle.sx_command_head.specs.Meanings.{Meaning, IsMeaning, input_of}
-use Rattle.sx_io.specs.Reading.{Answer, Ending, longest, scan}
-use Rattle.sx_told.specs.Told.{CommandAt, Told, out_of_memory}
+use Rattle.sx_io.specs.Reading.{Ending, longest, scan}
+use Rattle.sx_told.specs.Told.{CommandAt, Told}
 use Rattle.sx_told.specs.Further.{HasEnd}
 use Rattle.sx_command_check.specs.Check.{check_all}
 use Rattle.sx_command.specs.Faults.{CameToItsEnd, IsFaultless, TellsFaults}
@@ -29,17 +30,6 @@ IsHead bytes text =
     HasEnd bytes
     × ((e : Ending) (more : List ℕ)
     → head (scan head_lines e [] (bytes ++ more)) ≡ Found text (scan head_lines e [] more))
-
--- the input has a head
-abbrev pub IsFound : Head → Type 0
-IsFound (Found text more) = Unit {0}
-IsFound TooLong = ⊥
-IsFound NoMark = ⊥
-IsFound Unread = ⊥
-
--- memory runs out only where there is a head: that there is none is reported without memory
-abbrev pub RunsOutBehindHead : ℕ → List Answer → Type 0
-RunsOutBehindHead status answers = status ≡ out_of_memory → IsFound (head answers)
 
 -- The command `check`, whatever a deployment's text is said to mean. At most 4,096 bytes after the
 -- line `%%` are taken.

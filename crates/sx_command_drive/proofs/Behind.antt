@@ -17,7 +17,7 @@ use Rattle.sx_deploy.proofs.Meanings.{one_meaning}
 use Rattle.sx_command_head.specs.Meanings.{Meaning}
 use Rattle.sx_command_head.specs.Refused.{EndsRefused, fault_output}
 use Rattle.sx_setup.specs.Laws.{AreByteTexts}
-use Rattle.sx_command_run.specs.Runs.{HasHead}
+use Rattle.sx_command_head.specs.Begun.{HasHead}
 use Rattle.sx_command_drive.specs.Drive.{drive_found, drive_head, drive_all}
 use Rattle.sx_command_drive.specs.Drives.{DrivesOrRanOut, DrivesBehind, DriveSays}
 use Rattle.sx_io.specs.Reading.{Answer}

@@ -18,7 +18,7 @@ use Rattle.sx_command.specs.Faults.{CameToItsEnd, TellsFaults}
 use Rattle.sx_command.proofs.Ends.{faults_of}
 use Rattle.sx_command_head.specs.Meanings.{Meaning, IsMeaning}
 use Rattle.sx_command_head.proofs.Known.{known, is_known}
-use Rattle.sx_command_run.specs.Runs.{Deploys, HasHead, Starved}
+use Rattle.sx_command_head.specs.Begun.{Deploys, HasHead, Starved}
 use Rattle.sx_command_drive.specs.Drive.{drive_all, driven_of}
 use Rattle.sx_setup.specs.Laws.{AreByteTexts}
 use Rattle.sx_drive.specs.Honest.{Reading}

@@ -1,13 +1,11 @@
 -- What the command `drive` promises, of its streams at its start (m0) and at its end (m1).
-use Rattle.std.specs.Prelude.{ℕ, ◌≡◌, ◌⊎◌, Bool, false, List, [], ◌∷◌, Option, Some, None, Ok}
-use Rattle.std.specs.Prelude.{IsTrue}
+use Rattle.std.specs.Prelude.{ℕ, ◌≡◌, ◌⊎◌, Bool, false, List, [], ◌∷◌, Option, None, Ok, IsTrue}
 use Rattle.sx_io.specs.Reading.{Answer}
 use Rattle.sx_io.specs.Next.{Ahead}
-use Rattle.sx_told.specs.Reads.{Reads}
 use Rattle.sx_told.specs.Told.{CommandAt, Told, Rest, out_of_memory}
 use Rattle.sx_told.specs.Further.{Streams}
 use Rattle.sx_tag.specs.Mac.{Mac}
-use Rattle.sx_head.specs.Head.{Head, Found, TooLong, NoMark, Unread, head, head_lines}
+use Rattle.sx_head.specs.Head.{head, head_lines}
 use Rattle.sx_sched.specs.Lines.{Line}
 use Rattle.sx_deploy.specs.Deployment.{Deployed, IsRead}
 use Rattle.sx_run.specs.Setting.{Setting}
@@ -22,9 +20,8 @@ use Rattle.sx_setup.specs.Laws.{AreByteTexts}
 use Rattle.sx_drive.specs.Honest.{Driven, Reading, Said, SaidItem, SaidLine}
 use Rattle.sx_drive_laws.specs.Laws.{items_of, samplings_of}
 use Rattle.sx_command.specs.Faults.{CameToItsEnd, IsFaultless, TellsFaults}
+use Rattle.sx_command_head.specs.Begun.{Deploys, HasHead, RanOut, Starved}
 use Rattle.sx_command_head.specs.Meanings.{Meaning, IsMeaning, input_of}
-use Rattle.sx_command_run.specs.Runs.{Deploys, HasHead, Starved}
-use Rattle.sx_command_run.specs.Afterwards.{RanOut}
 use Rattle.sx_command_drive.specs.Drive.{drive_all, drive_found, driven_of}
 use Rattle.sx_command_drive.specs.Readings.{readings_from}
 use Rattle.sx_command_drive.specs.Statuses.{drive_status}

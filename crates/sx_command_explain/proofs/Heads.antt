@@ -22,7 +22,7 @@ use Rattle.sx_command_head.specs.Refused.{fault_output}
 use Rattle.sx_command_explain.specs.Meant.{Meanings}
 use Rattle.sx_command_explain.specs.Trace.{explain_lines, image_lines}
 use Rattle.sx_command_explain.specs.Explain.{explain_all, explain_found, explain_head}
-use Rattle.sx_command_explain.specs.Explains.{HasHead, RunsOutBehindHead}
+use Rattle.sx_command_head.specs.Begun.{IsFound, RunsOutBehindHead}
 
 -- ---- longer lines
 
@@ -217,7 +217,7 @@ marked Unread = []
 abbrev marked_in : List Answer → List ℕ
 marked_in answers = marked (head answers)
 
-has_head : (h : Head) → marked h ≡ 1 ∷ [] → HasHead h
+has_head : (h : Head) → marked h ≡ 1 ∷ [] → IsFound h
 has_head (Found found more) e = tt
 has_head TooLong e = absurd (cc e)
 has_head NoMark e = absurd (cc e)

@@ -10,6 +10,7 @@ use Rattle.sx_mean.specs.Application.{AppTree}
 use Rattle.sx_model.specs.Legal.{Legal, before}
 use Rattle.sx_deploy.specs.Deployment.{Deployed}
 use Rattle.sx_command.specs.Faults.{CameToItsEnd, IsFaultless, TellsFaults}
+use Rattle.sx_command_head.specs.Begun.{RunsOutBehindHead}
 use Rattle.sx_command_explain.specs.Meant.{Meanings, AreMeanings}
 use Rattle.sx_command_explain.specs.Explain.{explain_all}
 use Rattle.sx_command_explain.specs.Trace.{Start, Behind, Missing, Whole, explain_lines, start}
@@ -31,17 +32,6 @@ IsLegalInput means (Found text more) = IsLegalOf means (means.deployment text) m
 IsLegalInput means TooLong = ⊥
 IsLegalInput means NoMark = ⊥
 IsLegalInput means Unread = ⊥
-
--- the input has a head
-abbrev pub HasHead : Head → Type 0
-HasHead (Found text more) = Unit {0}
-HasHead TooLong = ⊥
-HasHead NoMark = ⊥
-HasHead Unread = ⊥
-
--- memory runs out only where there is a head: that there is none is reported without memory
-abbrev pub RunsOutBehindHead : ℕ → List Answer → Type 0
-RunsOutBehindHead status answers = status ≡ out_of_memory → HasHead (head answers)
 
 -- the answers of all lines of the input, as it stood at the start
 abbrev pub input_of : CommandAt → List Answer

@@ -9,7 +9,8 @@ ghost use Rattle.sx_mean.specs.Application.{is_valid};
 ghost use Rattle.sx_mean.specs.View.{app_as};
 ghost use Rattle.sx_command_head.specs.Refused.{EndsRefused};
 ghost use Rattle.sx_command_explain.specs.Explain.{explain_all, explain_deployed, explain_found};
-ghost use Rattle.sx_command_explain.specs.Explains.{ExplainSays, RunsOutBehindHead};
+ghost use Rattle.sx_command_head.specs.Begun.{RunsOutBehindHead};
+ghost use Rattle.sx_command_explain.specs.Explains.{ExplainSays};
 ghost use Rattle.sx_command_explain.specs.Meant.{AreMeanings, Meanings};
 ghost use Rattle.sx_command_explain.specs.Trace.{explain_lines, image_lines};
 

@@ -1,3 +1,4 @@
+pub mod Begun
 pub mod Headless
 pub mod Meanings
 pub mod Refused

@@ -18,7 +18,8 @@ use Rattle.sx_deploy.proofs.Meanings.{one_meaning}
 use Rattle.sx_command_head.specs.Meanings.{Meaning}
 use Rattle.sx_command_head.specs.Refused.{EndsRefused, fault_output}
 use Rattle.sx_command_run.specs.Run.{run_found, run_head, run_all}
-use Rattle.sx_command_run.specs.Runs.{HasHead, RunSays}
+use Rattle.sx_command_head.specs.Begun.{HasHead}
+use Rattle.sx_command_run.specs.Runs.{RunSays}
 use Rattle.sx_command_run.specs.Afterwards.{RunsOrRanOut, RunsBehind}
 use Rattle.sx_io.specs.Reading.{Answer}
 use Rattle.sx_told.specs.Reads.{Reads, Got, anything}

@@ -17,7 +17,8 @@ use Rattle.sx_command_head.specs.Meanings.{Meaning, IsMeaning}
 use Rattle.sx_command.specs.Faults.{TellsFaults}
 use Rattle.sx_command_run.specs.Run.{run_all, items_of}
 use Rattle.sx_command_world.specs.WellFormed.{run_status}
-use Rattle.sx_command_run.specs.Runs.{HasHead, Deploys, RunsWith, Starved, RunSays}
+use Rattle.sx_command_head.specs.Begun.{HasHead, Deploys, Starved}
+use Rattle.sx_command_run.specs.Runs.{RunsWith, RunSays}
 use Rattle.sx_command_head.proofs.Known.{known, is_known}
 use Rattle.sx_guard.proofs.Performing.{runs_guarded}
 use Rattle.sx_command_run.proofs.Legality.{items_legal}

@@ -2,11 +2,12 @@
 use Rattle.std.specs.Prelude.{ℕ, ◌≡◌, ◌⊎◌, Bool, List, Ok}
 use Rattle.sx_asm.specs.Assembled.{assembled}
 use Rattle.sx_io.specs.Next.{Ahead}
-use Rattle.sx_told.specs.Told.{CommandAt, Rest, out_of_memory}
+use Rattle.sx_told.specs.Told.{CommandAt, Rest}
 use Rattle.sx_tag.specs.Mac.{Mac}
 use Rattle.sx_head.specs.Head.{head_lines}
 use Rattle.sx_deploy.specs.Deployment.{Deployed, IsRead}
 use Rattle.sx_run.specs.Accepted.{AreImages}
+use Rattle.sx_command_head.specs.Begun.{RanOut}
 use Rattle.sx_command_head.specs.Meanings.{Meaning, IsMeaning}
 use Rattle.sx_command_run.specs.Run.{run_found}
 
@@ -20,11 +21,6 @@ pub record RunsBehind (mac : Mac) (tells to_tell : Bool) (now : Ahead) (m1 m2 : 
   pub rest : (meaning : Meaning) → IsMeaning meaning
       → Rest tells to_tell head_lines now m1 m2 status
       (run_found assembled mac texts (meaning text))
-
--- memory ran out before the images were made, and nothing was read or written
-pub record RanOut (m1 m2 : CommandAt) (status : ℕ) : Type 0 where
-  pub six : status ≡ out_of_memory
-  pub same : m2 ≡ m1
 
 -- the rest of the command, or that memory ran out before the images were made
 abbrev pub RunsOrRanOut : Mac → Bool → Bool → Ahead → CommandAt → CommandAt → ℕ → List ℕ → Type 0

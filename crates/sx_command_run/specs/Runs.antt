@@ -1,18 +1,18 @@
 -- What the command `run` promises, of its streams at its start (m0) and at its end (m1). Of the
 -- assembler nothing is said here but that the code of an `asm` line is what it gives.
-use Rattle.std.specs.Prelude.{ℕ, ◌≡◌, ◌⊎◌, Bool, List, [], Option, Some, None, Ok, IsTrue}
+use Rattle.std.specs.Prelude.{ℕ, ◌≡◌, ◌⊎◌, Bool, List, [], Option, None, Ok, IsTrue}
 use Rattle.sx_io.specs.Reading.{Answer}
-use Rattle.sx_told.specs.Reads.{Reads}
 use Rattle.sx_told.specs.Told.{CommandAt, Told, out_of_memory}
 use Rattle.sx_told.specs.Further.{Streams}
 use Rattle.sx_tag.specs.Mac.{Mac}
-use Rattle.sx_head.specs.Head.{Head, Found, Unread, head, head_lines}
+use Rattle.sx_head.specs.Head.{head, head_lines}
 use Rattle.sx_trace.specs.declared.items.Item.{Item}
 use Rattle.sx_model.specs.Legal.{Legal, before}
 use Rattle.sx_model.specs.Consequences.{TellsReader}
 use Rattle.sx_explain.specs.Causes.{HasCauses}
 use Rattle.sx_deploy.specs.Deployment.{Deployed, IsRead}
 use Rattle.sx_run.specs.Accepted.{AreImages, setting_of}
+use Rattle.sx_command_head.specs.Begun.{Deploys, HasHead, Starved}
 use Rattle.sx_command_head.specs.Meanings.{Meaning, IsMeaning, input_of}
 use Rattle.sx_command.specs.Faults.{CameToItsEnd, IsFaultless, TellsFaults}
 use Rattle.sx_sched.specs.Lines.{Line}
@@ -20,18 +20,6 @@ use Rattle.sx_sched.specs.Reading.{Assembler}
 use Rattle.sx_guard.specs.Guarded.{GuardedRun}
 use Rattle.sx_command_run.specs.Run.{run_all, items_of}
 use Rattle.sx_command_world.specs.WellFormed.{IsGoodInput, run_status}
-
--- this head stands in the input, or none
-abbrev pub HasHead : Option (List ℕ) → Head → Type 0
-HasHead None (Found text more) = ⊥
-HasHead None _ = Unit {0}
-HasHead (Some text) (Found found more) = found ≡ text
-HasHead (Some text) _ = ⊥
-
--- the head is the text of this deployment, which keeps the rules
-abbrev pub Deploys : Option (List ℕ) → Deployed → Type 0
-Deploys None d = ⊥
-Deploys (Some text) d = IsRead text (Ok d)
 
 -- There are images, each of which realizes its module of the deployment that was read, and what was
 -- written is the text of the run with these images (`told`); no more was taken than must be
@@ -56,14 +44,6 @@ pub record RunsWith (assemble : Assembler) (mac : Mac) (tells to_tell : Bool) (m
   pub complete : (meaning : Meaning) → IsMeaning meaning → IsTrue tells
       → IsGoodInput assemble meaning (head (input_of m0)) → IsFaultless m0 m1
       → CameToItsEnd to_tell m0 m1 status (run_all assemble mac meaning texts (input_of m0))
-
--- memory ran out after a head and before the images were made, and nothing was written
-pub record Starved (tells : Bool) (m0 m1 : CommandAt) (status : ℕ) : Type 0 where
-  pub six : status ≡ out_of_memory
-  pub sink : m1.sink ≡ m0.sink
-  pub text : List ℕ
-  pub reads : Reads tells head_lines m0.source m1.source head Unread
-      (λ answers. HasHead (Some text) (head answers))
 
 -- The command `run`. Whatever the images are, its status is that of the input where no read and no
 -- write failed and memory sufficed; status 0 says that the input was read to its end.

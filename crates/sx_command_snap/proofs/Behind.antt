@@ -17,7 +17,8 @@ use Rattle.sx_deploy.proofs.Meanings.{one_meaning}
 use Rattle.sx_command_head.specs.Meanings.{Meaning}
 use Rattle.sx_command_head.specs.Refused.{EndsRefused, fault_output}
 use Rattle.sx_command_snap.specs.Snap.{snap_found, snap_head, snap_all}
-use Rattle.sx_command_snap.specs.Snaps.{SnapsOrRanOut, HasHead, SnapsBehind, SnapSays}
+use Rattle.sx_command_head.specs.Begun.{HasHead}
+use Rattle.sx_command_snap.specs.Snaps.{SnapsOrRanOut, SnapsBehind, SnapSays}
 use Rattle.sx_io.specs.Reading.{Answer}
 use Rattle.sx_told.specs.Reads.{Reads, Got, anything}
 use Rattle.sx_told.proofs.Takings.{decides-map, got-also, reads-map, reads-stop}

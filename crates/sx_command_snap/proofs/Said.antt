@@ -15,7 +15,8 @@ use Rattle.sx_command_head.specs.Meanings.{Meaning, IsMeaning}
 use Rattle.sx_command.specs.Faults.{TellsFaults}
 use Rattle.sx_command_snap.specs.Snap.{snap_all}
 use Rattle.sx_command_snap.specs.Statuses.{snap_status}
-use Rattle.sx_command_snap.specs.Snaps.{HasHead, Deploys, SnapsWith, Starved, SnapSays}
+use Rattle.sx_command_head.specs.Begun.{HasHead, Deploys, Starved}
+use Rattle.sx_command_snap.specs.Snaps.{SnapsWith, SnapSays}
 use Rattle.sx_command_head.proofs.Known.{known, is_known}
 use Rattle.sx_command_snap.proofs.Owing.{due_all}
 use Rattle.sx_command_snap.proofs.Statuses.{output_status, not_zero, not_four, not_two as snap_not_two}

@@ -1,33 +1,17 @@
 -- What the command `snap` promises, of its streams at its start (m0) and at its end (m1).
-use Rattle.std.specs.Prelude.{ℕ, ◌≡◌, ◌⊎◌, Bool, List, [], Option, Some, None, Ok, IsTrue}
+use Rattle.std.specs.Prelude.{ℕ, ◌≡◌, ◌⊎◌, Bool, List, [], Option, None, Ok, IsTrue}
 use Rattle.sx_io.specs.Next.{Ahead}
-use Rattle.sx_told.specs.Reads.{Reads}
 use Rattle.sx_told.specs.Told.{CommandAt, Told, Rest, out_of_memory}
 use Rattle.sx_told.specs.Further.{Streams}
 use Rattle.sx_tag.specs.Mac.{Mac}
-use Rattle.sx_head.specs.Head.{Head, Found, TooLong, NoMark, Unread, head, head_lines}
+use Rattle.sx_head.specs.Head.{head, head_lines}
 use Rattle.sx_deploy.specs.Deployment.{Deployed, IsRead}
 use Rattle.sx_run.specs.Accepted.{AreImages}
+use Rattle.sx_command_head.specs.Begun.{Deploys, HasHead, RanOut, Starved}
 use Rattle.sx_command_head.specs.Meanings.{Meaning, IsMeaning, input_of}
 use Rattle.sx_command.specs.Faults.{CameToItsEnd, IsFaultless, TellsFaults}
 use Rattle.sx_command_snap.specs.Snap.{snap_all, snap_found}
 use Rattle.sx_command_snap.specs.Statuses.{snap_status}
-
--- this head stands in the input, or none
-abbrev pub HasHead : Option (List ℕ) → Head → Type 0
-HasHead None (Found text more) = ⊥
-HasHead None TooLong = Unit {0}
-HasHead None NoMark = Unit {0}
-HasHead None Unread = Unit {0}
-HasHead (Some text) (Found found more) = found ≡ text
-HasHead (Some text) TooLong = ⊥
-HasHead (Some text) NoMark = ⊥
-HasHead (Some text) Unread = ⊥
-
--- the head is the text of this deployment, which keeps the rules
-abbrev pub Deploys : Option (List ℕ) → Deployed → Type 0
-Deploys None d = ⊥
-Deploys (Some text) d = IsRead text (Ok d)
 
 -- There are images, each of which realizes its module of the deployment that was read, and what was
 -- written is the images and the answers about the run with them (`told`); no more was taken than
@@ -48,14 +32,6 @@ pub record SnapsWith (mac : Mac) (tells to_tell : Bool) (m0 m1 : CommandAt) (sta
       → snap_status meaning (input_of m0) ≡ 0 → IsFaultless m0 m1
       → CameToItsEnd to_tell m0 m1 status (snap_all mac meaning texts (input_of m0))
 
--- memory ran out after a head and before the images were made, and nothing was written
-pub record Starved (tells : Bool) (m0 m1 : CommandAt) (status : ℕ) : Type 0 where
-  pub six : status ≡ out_of_memory
-  pub sink : m1.sink ≡ m0.sink
-  pub text : List ℕ
-  pub reads : Reads tells head_lines m0.source m1.source head Unread
-      (λ answers. HasHead (Some text) (head answers))
-
 -- The command `snap`. Whatever the images are, its status is that of the input where no read and no
 -- write failed and memory sufficed; status 0 says that the input was read to its end.
 pub record SnapSays (mac : Mac) (tells to_tell : Bool) (m0 m1 : CommandAt) (status : ℕ) : Type
@@ -75,11 +51,6 @@ pub record SnapsBehind (mac : Mac) (tells to_tell : Bool) (now : Ahead) (m1 m2 :
   pub realize : (d : Deployed) → IsRead text (Ok d) → AreImages mac d texts
   pub rest : (meaning : Meaning) → IsMeaning meaning
       → Rest tells to_tell head_lines now m1 m2 status (snap_found mac texts (meaning text))
-
--- memory ran out before the images were made, and nothing was read or written
-pub record RanOut (m1 m2 : CommandAt) (status : ℕ) : Type 0 where
-  pub six : status ≡ out_of_memory
-  pub same : m2 ≡ m1
 
 -- the rest of the command, or that memory ran out before the images were made
 abbrev pub SnapsOrRanOut : Mac → Bool → Bool → Ahead → CommandAt → CommandAt → ℕ → List ℕ → Type 0
