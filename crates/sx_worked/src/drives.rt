@@ -1,4 +1,5 @@
-//! Readings of applications, and their honest runs, worked by hand from the rules.
+//! Readings of applications, and their honest runs. The lines are worked from the rules, and their
+//! items read against the sources; `run` shows the same items for the same lines.
 
 use crate::commands::{Framed, framed};
 use crate::inputs::{IMAGES, does, done, first_lines, joined, lighting, says, sink, source, words};
