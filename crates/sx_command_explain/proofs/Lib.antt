@@ -8,5 +8,4 @@ pub mod Owing
 pub mod Promised
 pub mod Starting
 pub mod Statuses
-pub mod Streaming
 pub mod Written

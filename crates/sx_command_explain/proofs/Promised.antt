@@ -5,6 +5,7 @@ use Rattle.std.proofs.lemmas.List.{append-nil}
 use Rattle.sx_io.specs.Reading.{Answer, Broken, Ended, scan}
 use Rattle.sx_told.specs.Reads.{AtEnd, AtFault, Decides, Enough, Left}
 use Rattle.sx_told.specs.Told.{CommandAt, CommandEnds, Told}
+use Rattle.sx_told.proofs.Due.{streams-within}
 use Rattle.sx_told.proofs.Laws.{told-all, told-fault, told-no-write-fault, told-quiet, told-some, told-write-fault}
 use Rattle.sx_told.proofs.Endings.{faultless, unfinished}
 use Rattle.sx_head.specs.Head.{head}
@@ -18,7 +19,6 @@ use Rattle.sx_command_explain.specs.Trace.{explain_lines}
 use Rattle.sx_command_explain.proofs.Found.{are_meant, meant}
 use Rattle.sx_command_explain.proofs.Owing.{due_all}
 use Rattle.sx_command_explain.proofs.Statuses.{head_legal, head_not_two, head_zero, not_four, not_zero}
-use Rattle.sx_command_explain.proofs.Streaming.{streams_within}
 
 faults_are : {tells to_tell : Bool} {m0 m1 : CommandAt} {status : ℕ} {also : List Answer → Type 0} (means : Meanings)
     → Told tells to_tell explain_lines m0 m1 status (explain_all means) also → TellsFaults m0 m1 status
@@ -55,7 +55,7 @@ pub explain_promise : {tells to_tell : Bool} {m0 m1 : CommandAt} {status : ℕ}
     → ((means : Meanings) → AreMeanings means → Told tells to_tell explain_lines m0 m1 status (explain_all means) (RunsOutBehindHead status)) → ExplainSays tells to_tell m0 m1 status
 explain_promise {tells} {to_tell} {m0} {m1} {status} told = record {
   told = told;
-  streams = λ means is. streams_within explain_lines (explain_all means) (due_all means) (told means is);
+  streams = λ means is. streams-within explain_lines (explain_all means) (due_all means) (told means is);
   faults = faults_are meant (told meant are_meant);
   read_all = λ zero t.
       told-all (told meant are_meant) (λ five. omega (arith, zero, five)) (λ six. omega (arith, zero, six))

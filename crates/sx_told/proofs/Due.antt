@@ -1,8 +1,8 @@
 -- What is due of some lines is due of more of them too.
-use Rattle.std.proofs.Common.{ℕ, ◌≤◌, ◌+◌, ◌≡◌, ◌∙◌, ◌⊎◌, inl, inr, Bool, true, false, List, [], ◌∷◌, ◌++◌, length, refl, sym, ap, arith, append_assoc}
-use Rattle.std.specs.Prelude.{◌==◌, if◌then◌else◌, IsTrue}
+use Rattle.std.proofs.Common.{ℕ, ◌≡◌, ◌∙◌, ◌⊎◌, inl, inr, Bool, true, false, List, [], ◌∷◌, ◌++◌, length, refl, sym, ap, arith, append_assoc}
+use Rattle.std.specs.Prelude.{◌==◌, if◌then◌else◌}
 use Rattle.std.proofs.lemmas.List.{append-nil, append_cancel_right}
-use Rattle.sx_io.specs.Reading.{Ending, Broken, Answer, Line, Long, Fault, always, scan, newline, without_return}
+use Rattle.sx_io.specs.Reading.{Ending, Broken, Answer, Line, Long, Fault, Limit, always, behind_line, scan, newline, without_return}
 use Rattle.sx_told.specs.Told.{Output, CommandAt, Told, behind, unread_output, read_line, read_failed}
 use Rattle.sx_told.specs.Further.{HasEnd, Streams}
 use Rattle.sx_told.proofs.Further.{no-further}
@@ -13,40 +13,45 @@ abbrev pub lines_then : List (List ℕ) → List Answer → List Answer
 lines_then [] more = more
 lines_then (l ∷ ls) more = Line l ∷ lines_then ls more
 
--- the answers of whole lines, or of those before one that is too long
-abbrev pub Whole : ℕ → List ℕ → List ℕ → Type 0
-Whole n begun bytes = ((ls : List (List ℕ)) × ((e : Ending) (more : List ℕ) → scan (always n) e begun (bytes ++ more) ≡ lines_then ls (scan (always n) e [] more)))
-    ⊎ ((ls : List (List ℕ)) × ((e : Ending) (more : List ℕ) → scan (always n) e begun (bytes ++ more) ≡ lines_then ls (Long ∷ [])))
+-- the answers of whole lines, with the limits behind them, or of those before one that is too long
+abbrev Whole : Limit → List ℕ → List ℕ → Type 0
+Whole limit begun bytes =
+    ((ls : List (List ℕ)) × (next : Limit) × ((e : Ending) (more : List ℕ) → scan limit e begun (bytes ++ more) ≡ lines_then ls (scan next e [] more)))
+    ⊎ ((ls : List (List ℕ)) × ((e : Ending) (more : List ℕ) → scan limit e begun (bytes ++ more) ≡ lines_then ls (Long ∷ [])))
 
-scan-step : (n : ℕ) (e : Ending) (begun : List ℕ) (b : ℕ) (more : List ℕ) (p q : Bool) → (b == newline) ≡ p → (length begun == n) ≡ q
-    → scan (always n) e begun (b ∷ more) ≡ (if p then Line (without_return begun) ∷ scan (always n) e [] more else if q then Long ∷ [] else scan (always n) e (begun ++ b ∷ []) more)
-scan-step n e begun b more p q x y = rw (x, y) refl
+scan-step : (limit : Limit) (e : Ending) (begun : List ℕ) (b : ℕ) (more : List ℕ) (p q : Bool) → (b == newline) ≡ p → (length begun == limit []) ≡ q
+    → scan limit e begun (b ∷ more) ≡ (if p then Line (without_return begun) ∷ scan (behind_line (without_return begun) limit) e [] more else if q then Long ∷ [] else scan limit e (begun ++ b ∷ []) more)
+scan-step limit e begun b more p q x y = rw (x, y) refl
 
-whole-line : (n : ℕ) (begun bytes : List ℕ) (b : ℕ) (q : Bool) → (b == newline) ≡ true → (length begun == n) ≡ q → Whole n [] bytes → Whole n begun (b ∷ bytes)
-whole-line n begun bytes b q x y (inl w) =
-    inl (without_return begun ∷ w.0, λ e more. scan-step n e begun b (bytes ++ more) true q x y ∙ ap (λ (t : List Answer). Line (without_return begun) ∷ t) (w.1 e more))
-whole-line n begun bytes b q x y (inr w) =
-    inr (without_return begun ∷ w.0, λ e more. scan-step n e begun b (bytes ++ more) true q x y ∙ ap (λ (t : List Answer). Line (without_return begun) ∷ t) (w.1 e more))
+whole-line : (limit : Limit) (begun bytes : List ℕ) (b : ℕ) (q : Bool) → (b == newline) ≡ true → (length begun == limit []) ≡ q → Whole (behind_line (without_return begun) limit) [] bytes
+    → Whole limit begun (b ∷ bytes)
+whole-line limit begun bytes b q x y (inl w) =
+    inl (without_return begun ∷ w.0, w.1, λ e more. scan-step limit e begun b (bytes ++ more) true q x y ∙ ap (λ (t : List Answer). Line (without_return begun) ∷ t) (w.2 e more))
+whole-line limit begun bytes b q x y (inr w) =
+    inr (without_return begun ∷ w.0, λ e more. scan-step limit e begun b (bytes ++ more) true q x y ∙ ap (λ (t : List Answer). Line (without_return begun) ∷ t) (w.1 e more))
 
-whole-byte : (n : ℕ) (begun bytes : List ℕ) (b : ℕ) → (b == newline) ≡ false → (length begun == n) ≡ false → Whole n (begun ++ b ∷ []) bytes → Whole n begun (b ∷ bytes)
-whole-byte n begun bytes b x y (inl w) = inl (w.0, λ e more. scan-step n e begun b (bytes ++ more) false false x y ∙ w.1 e more)
-whole-byte n begun bytes b x y (inr w) = inr (w.0, λ e more. scan-step n e begun b (bytes ++ more) false false x y ∙ w.1 e more)
+whole-byte : (limit : Limit) (begun bytes : List ℕ) (b : ℕ) → (b == newline) ≡ false → (length begun == limit []) ≡ false → Whole limit (begun ++ b ∷ []) bytes → Whole limit begun (b ∷ bytes)
+whole-byte limit begun bytes b x y (inl w) = inl (w.0, w.1, λ e more. scan-step limit e begun b (bytes ++ more) false false x y ∙ w.2 e more)
+whole-byte limit begun bytes b x y (inr w) = inr (w.0, λ e more. scan-step limit e begun b (bytes ++ more) false false x y ∙ w.1 e more)
 
-whole-long : (n : ℕ) (begun bytes : List ℕ) (b : ℕ) → (b == newline) ≡ false → (length begun == n) ≡ true → Whole n begun (b ∷ bytes)
-whole-long n begun bytes b x y = inr ([], λ e more. scan-step n e begun b (bytes ++ more) false true x y)
+whole-long : (limit : Limit) (begun bytes : List ℕ) (b : ℕ) → (b == newline) ≡ false → (length begun == limit []) ≡ true → Whole limit begun (b ∷ bytes)
+whole-long limit begun bytes b x y = inr ([], λ e more. scan-step limit e begun b (bytes ++ more) false true x y)
 
-eqb-true : (b : ℕ) → b ≡ newline → (b == newline) ≡ true
-eqb-true b e = grind arith
+whole-by : (limit : Limit) (begun bytes : List ℕ) (b : ℕ) (p q : Bool) → (b == newline) ≡ p → (length begun == limit []) ≡ q → Whole (behind_line (without_return begun) limit) [] bytes
+    → Whole limit (begun ++ b ∷ []) bytes → Whole limit begun (b ∷ bytes)
+whole-by limit begun bytes b true q x y w v = whole-line limit begun bytes b q x y w
+whole-by limit begun bytes b false true x y w v = whole-long limit begun bytes b x y
+whole-by limit begun bytes b false false x y w v = whole-byte limit begun bytes b x y v
 
-whole-by : (n : ℕ) (begun bytes : List ℕ) (b : ℕ) (p q : Bool) → (b == newline) ≡ p → (length begun == n) ≡ q → Whole n [] bytes → Whole n (begun ++ b ∷ []) bytes → Whole n begun (b ∷ bytes)
-whole-by n begun bytes b true q x y w v = whole-line n begun bytes b q x y w
-whole-by n begun bytes b false true x y w v = whole-long n begun bytes b x y
-whole-by n begun bytes b false false x y w v = whole-byte n begun bytes b x y v
+is-newline : (b : ℕ) → b ≡ newline → (b == newline) ≡ true
+is-newline b e = grind arith
 
-pub whole : (n : ℕ) (begun bytes : List ℕ) → HasEnd bytes → Whole n begun bytes
-whole n begun [] h = absurd h
-whole n begun (b ∷ []) h = whole-line n begun [] b (length begun == n) (eqb-true b h) refl (inl ([], λ e more. refl))
-whole n begun (b ∷ c ∷ rest) h = whole-by n begun (c ∷ rest) b (b == newline) (length begun == n) refl refl (whole n [] (c ∷ rest) h) (whole n (begun ++ b ∷ []) (c ∷ rest) h)
+whole : (limit : Limit) (begun bytes : List ℕ) → HasEnd bytes → Whole limit begun bytes
+whole limit begun [] h = absurd h
+whole limit begun (b ∷ []) h =
+    whole-line limit begun [] b (length begun == limit []) (is-newline b h) refl (inl ([], behind_line (without_return begun) limit, λ e more. refl))
+whole limit begun (b ∷ c ∷ rest) h =
+    whole-by limit begun (c ∷ rest) b (b == newline) (length begun == limit []) refl refl (whole (behind_line (without_return begun) limit) [] (c ∷ rest) h) (whole limit (begun ++ b ∷ []) (c ∷ rest) h)
 
 -- ---- what is written of them
 
@@ -90,22 +95,27 @@ pub due-long : (G : List Answer → Output) (said : List ℕ) → Due G → G (L
 due-long G said (inl (o, n, c)) a = n (status-of o said (sym (c (Long ∷ [])) ∙ a))
 due-long G said (inr (t, g, c, u, l, f)) a = l (status-of (behind t (g (Long ∷ []))) said (sym (c (Long ∷ [])) ∙ a))
 
-due-whole : (n : ℕ) (F : List Answer → Output) (bytes y said said' : List ℕ) → ((ls : List (List ℕ)) → Due (λ more. F (lines_then ls more))) → Whole n [] bytes
-    → F (scan (always n) Broken [] bytes) ≡ behind said unread_output → F (scan (always n) Broken [] (bytes ++ y)) ≡ behind said' unread_output → (w : List ℕ) × (said' ≡ said ++ w)
-due-whole n F bytes y said said' due (inl (ls, c)) a b =
-    due-more (λ more. F (lines_then ls more)) said said' (scan (always n) Broken [] y) (due ls)
-    (ap F (sym (c Broken [])) ∙ ap (λ (t : List ℕ). F (scan (always n) Broken [] t)) (append-nil bytes) ∙ a)
-    (ap F (sym (c Broken y)) ∙ b)
-due-whole n F bytes y said said' due (inr (ls, c)) a b =
-    absurd (due-long (λ more. F (lines_then ls more)) said (due ls)
-    (ap F (sym (c Broken [])) ∙ ap (λ (t : List ℕ). F (scan (always n) Broken [] t)) (append-nil bytes) ∙ a))
+due-whole : (limit : Limit) (F : List Answer → Output) (bytes y said next : List ℕ) → ((ls : List (List ℕ)) → Due (λ more. F (lines_then ls more))) → Whole limit [] bytes
+    → F (scan limit Broken [] bytes) ≡ behind said unread_output → F (scan limit Broken [] (bytes ++ y)) ≡ behind next unread_output → (w : List ℕ) × (next ≡ said ++ w)
+due-whole limit F bytes y said next due (inl w) a b =
+    due-more (λ more. F (lines_then w.0 more)) said next (scan w.1 Broken [] y) (due w.0)
+    (ap F (sym (w.2 Broken [])) ∙ ap (λ (t : List ℕ). F (scan limit Broken [] t)) (append-nil bytes) ∙ a)
+    (ap F (sym (w.2 Broken y)) ∙ b)
+due-whole limit F bytes y said next due (inr w) a b =
+    absurd (due-long (λ more. F (lines_then w.0 more)) said (due w.0)
+    (ap F (sym (w.1 Broken [])) ∙ ap (λ (t : List ℕ). F (scan limit Broken [] t)) (append-nil bytes) ∙ a))
 
 -- a command of which more is due of more lines reads no further than it must
-pub streams-by : {tells to_tell : Bool} {m0 m1 : CommandAt} {status : ℕ} {also : List Answer → Type 0} (n : ℕ) (F : List Answer → Output) → ((ls : List (List ℕ)) → Due (λ more. F (lines_then ls more)))
-    → Told tells to_tell (always n) m0 m1 status F also → Streams tells to_tell (always n) m0 m1 F
-streams-by {tells} {to_tell} {m0} {m1} {status} {also} n F due told bytes rest said t k e h d none =
+pub streams-within : {tells to_tell : Bool} {m0 m1 : CommandAt} {status : ℕ} {also : List Answer → Type 0} (limit : Limit) (F : List Answer → Output)
+    → ((ls : List (List ℕ)) → Due (λ more. F (lines_then ls more))) → Told tells to_tell limit m0 m1 status F also → Streams tells to_tell limit m0 m1 F
+streams-within {tells} {to_tell} {m0} {m1} {status} {also} limit F due told bytes rest said t k e h d none =
     no-further bytes rest told.reads t e h
     (λ y q.
-    let w = due-whole n F bytes y said told.said due (whole n [] bytes h) d q in
+    let w = due-whole limit F bytes y said told.said due (whole limit [] bytes h) d q in
     none (w.0 ++ told.part)
     (told.wrote k ∙ ap (λ (v : List ℕ). m0.sink.written ++ v) (ap (λ (v : List ℕ). v ++ told.part) w.1 ∙ append_assoc said w.0 told.part)))
+
+-- the same where all lines have one limit
+pub streams-by : {tells to_tell : Bool} {m0 m1 : CommandAt} {status : ℕ} {also : List Answer → Type 0} (n : ℕ) (F : List Answer → Output) → ((ls : List (List ℕ)) → Due (λ more. F (lines_then ls more)))
+    → Told tells to_tell (always n) m0 m1 status F also → Streams tells to_tell (always n) m0 m1 F
+streams-by n F due told = streams-within (always n) F due told
