@@ -4,7 +4,7 @@ use Rattle.std.proofs.lemmas.Bool.Decides.{nat_tests}
 use Rattle.std.proofs.lemmas.List.{length-map}
 use Rattle.std.proofs.lemmas.List.Quantifiers.{position-Some}
 use Rattle.std.specs.Prelude.{IsSome, cond, if◌then◌else◌, is_some, nat_le, nat_lt, ok_or, option_and_then, option_map, slice_get, unwrap_or}
-use Rattle.std.specs.List.{list_any, position_from}
+use Rattle.std.specs.List.{position_from}
 use Rattle.std.specs.Str.{bytes_eq}
 use Rattle.sx_io.specs.Numbers.{number_of, up_to, written_number}
 use Rattle.sx_io.specs.Reading.{Answer, End, Long, Fault}
@@ -14,7 +14,7 @@ use Rattle.sx_mean.specs.declared.apps.Part.{Part}
 use Rattle.sx_mean.specs.View.{part_as}
 use Rattle.sx_trace.specs.Names.{NameLists, if_sensor, place_of, sensor_place}
 use Rattle.sx_sched.specs.Reading.{is_comment}
-use Rattle.sx_sched.specs.Words.{words_of}
+use Rattle.sx_sched.specs.Words.{one_word, words_of}
 use Rattle.sx_deploy.specs.Deployment.{Deployed}
 use Rattle.sx_deploy.specs.SeenDeployment.{deployed_as}
 use Rattle.sx_deploy.specs.declared.deployment.Deployment.{Deployment}
@@ -24,7 +24,7 @@ use Rattle.sx_drive.specs.Driving.{IsDrivenSensor}
 use Rattle.sx_command_drive.specs.declared.readings.ReadingLine.{ReadingLine}
 use Rattle.sx_command_drive.specs.declared.readings.ReadingLine.TheVariants as says
 use Rattle.sx_command_drive.specs.Parts.{IsGiven, drives, is_driven}
-use Rattle.sx_command_drive.specs.Readings.{◌>>=◌, Readings, if_driven, judged_reading, no_sensor, no_value, on_line, one_word, reading_in, readings_from, said_in, sensor_in, value_in}
+use Rattle.sx_command_drive.specs.Readings.{◌>>=◌, Readings, if_driven, judged_reading, no_sensor, no_value, on_line, reading_in, readings_from, said_in, sensor_in, value_in, wrong_count}
 use Rattle.sx_command_drive.proofs.Quiet.{AreReadings}
 
 -- ---- words
@@ -88,7 +88,7 @@ value_given word value h = let few : value ≤ 32767 = number_within word 32767 
 -- ---- lines
 
 reading_given : (d : Deployed) (first : List ℕ) (words : List (List ℕ)) (r : ReadingLine) → reading_in d first words ≡ Ok r → IsGiven d r
-reading_given d first words r h = by_word (one_word words) h
+reading_given d first words r h = by_word (ok_or (one_word words) wrong_count) h
   where
     by_value : (device : ℕ) (v : Result ℕ ℕ) → IsDrivenSensor d device → ((value : ℕ) → v ≡ Ok value → value < 32768)
         → (v >>= (λ value. Ok (says.Reading device value))) ≡ Ok r → IsGiven d r

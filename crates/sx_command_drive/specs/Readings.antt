@@ -7,7 +7,7 @@ use Rattle.sx_io.specs.Reading.{Answer, End, Long, Fault}
 use Rattle.sx_io.specs.Reading as answer
 use Rattle.sx_mean.specs.Application.{AppTree}
 use Rattle.sx_trace.specs.Names.{sensor_place}
-use Rattle.sx_sched.specs.Words.{words_of}
+use Rattle.sx_sched.specs.Words.{words_of, one_word}
 use Rattle.sx_sched.specs.Reading.{is_comment}
 use Rattle.sx_deploy.specs.Deployment.{Deployed}
 use Rattle.sx_drive.specs.Honest.{Callee, Reading, driver_of}
@@ -37,16 +37,6 @@ abbrev pub ◌>>=◌ : {A B : Type 0} → Result A ℕ → (A → Result B ℕ) 
 Ok x >>= f = f x
 Err rule >>= f = Err rule
 
--- there is no word
-abbrev pub no_word : List (List ℕ) → Result (Unit {0}) ℕ
-no_word [] = Ok tt
-no_word (a ∷ rest) = Err wrong_count
-
--- exactly one word
-abbrev pub one_word : List (List ℕ) → Result (List ℕ) ℕ
-one_word [] = Err wrong_count
-one_word (a ∷ rest) = no_word rest >>= (λ none. Ok a)
-
 -- the device, where a module drives it
 abbrev pub if_driven : AppTree → ℕ → Option ℕ
 if_driven app device = option_map (λ (driver : Callee). device) (driver_of app device)
@@ -62,7 +52,7 @@ value_in word = ok_or (number_of word 32767) no_value
 -- a sensor and its value
 abbrev pub reading_in : Deployed → List ℕ → List (List ℕ) → Result ReadingLine ℕ
 reading_in d first words = do
-  second ← one_word words
+  second ← ok_or (one_word words) wrong_count
   device ← sensor_in d first
   value ← value_in second
   Ok (says.Reading device value)

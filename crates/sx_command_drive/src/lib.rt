@@ -16,6 +16,5 @@ mod lines;
 mod parts;
 mod readings;
 mod saying;
-mod words;
 
 pub use drive::drive_over;

@@ -2,7 +2,6 @@
 
 ghost use Rattle.std.specs.Prelude.{◌≡◌, ◌<◌, ◌≤◌, IfOk, IsTrue, OnOk};
 ghost use Rattle.sx_trace.specs.Names.{are_valid};
-ghost use Rattle.sx_sched.specs.Reading.{is_comment};
 ghost use Rattle.sx_sched.specs.Words.{words_of};
 ghost use Rattle.sx_deploy.specs.Law.{IsSoundDeployment};
 ghost use Rattle.sx_deploy.specs.SeenDeployment.{deployed_as};
@@ -10,16 +9,19 @@ ghost use Rattle.sx_drive.specs.Driving.{IsDrivenSensor};
 ghost use Rattle.sx_command_drive.specs.Parts.{IsGiven, drives, is_driven};
 ghost use Rattle.sx_command_drive.specs.Readings.{judged_reading, reading_in, sensor_in, value_in};
 
-use crate::words::{one_word, split_word};
 use sx_deploy::deployment::Deployment;
 use sx_io::number;
 use sx_mean::apps::Part;
+use sx_sched::words::{is_comment, one_word, split_word};
 
 /// A line has more than 4,096 bytes.
 pub(crate) const TOO_LONG: u8 = 1;
 
 /// 65,536 lines stand before it.
 const TOO_MANY: u8 = 2;
+
+/// The number of words is wrong.
+const WRONG_COUNT: u8 = 3;
 
 /// The first word names no sensor that a module drives.
 const NO_SENSOR: u8 = 4;
@@ -93,19 +95,10 @@ fn reading_in(deployment: &Deployment, first: &[u8], words: &[u8]) -> Result<Rea
         ≡ reading_in (deployed_as deployment.now) first.now (words_of words.now) }
     ensures given { IfOk result (IsGiven (deployed_as deployment.now)) }
 {
-    let second = one_word(words)?;
+    let second = one_word(words).ok_or(WRONG_COUNT)?;
     let device = sensor_in(deployment, first)?;
     let value = value_in(second)?;
     Ok(ReadingLine::Reading { device, value })
-}
-
-fn is_comment(word: &[u8]) -> bool
-    ensures { result ≡ is_comment word.now }
-{
-    match word {
-        [first, ..] => *first == b'#',
-        [] => false,
-    }
 }
 
 /// What the line with this number, counted from 1, says; or the first rule that it breaks.

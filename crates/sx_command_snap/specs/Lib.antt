@@ -5,4 +5,3 @@ pub mod Reading
 pub mod Snap
 pub mod Snaps
 pub mod Statuses
-pub mod Words

@@ -4,11 +4,10 @@ use Rattle.std.specs.Prelude.{length, codes, Result, Ok, Err, ok_or}
 use Rattle.std.specs.Str.{bytes_eq}
 use Rattle.sx_io.specs.Numbers.{number_of}
 use Rattle.sx_trace.specs.Names.{NameLists, place_of}
-use Rattle.sx_sched.specs.Words.{words_of}
+use Rattle.sx_sched.specs.Words.{words_of, one_word, two_words, four_words}
 use Rattle.sx_sched.specs.Reading.{at_least, is_comment}
 use Rattle.sx_command_snap.specs.declared.queries.Query.{Query}
 use Rattle.sx_command_snap.specs.declared.queries.Query.TheVariants.{Blank, Registers, Bytes, Items}
-use Rattle.sx_command_snap.specs.Words.{◌>>=◌, one_word, two_words, four_words}
 
 -- rule 2: 64 lines stand before it
 abbrev pub too_many : ℕ
@@ -18,6 +17,10 @@ too_many = 2
 abbrev pub no_kind : ℕ
 no_kind = 3
 
+-- rule 4: there are too many or too few words
+abbrev pub wrong_count : ℕ
+wrong_count = 4
+
 -- rule 5: a word is no name of a node
 abbrev pub no_name : ℕ
 no_name = 5
@@ -25,6 +28,12 @@ no_name = 5
 -- rule 6: a word is no number in its range
 abbrev pub no_number : ℕ
 no_number = 6
+
+-- the first answer, and what is made of it
+infixl 10 ◌>>=◌
+abbrev pub ◌>>=◌ : {A B : Type 0} → Result A ℕ → (A → Result B ℕ) → Result B ℕ
+Ok x >>= f = f x
+Err rule >>= f = Err rule
 
 -- the index of a node
 abbrev pub node_of : NameLists → List ℕ → Result ℕ ℕ
@@ -42,7 +51,7 @@ within_memory node from len at =
 -- a node, and how many lines were performed
 abbrev pub registers_query : NameLists → ℕ → List (List ℕ) → Result Query ℕ
 registers_query names last words = do
-  word ← two_words words
+  word ← ok_or (two_words words) wrong_count
   node ← node_of names word.0
   at ← number_in 0 last word.1
   Ok (Registers node at)
@@ -50,7 +59,7 @@ registers_query names last words = do
 -- a node, an address, 1 to 64 bytes, and how many lines were performed
 abbrev pub bytes_query : NameLists → ℕ → List (List ℕ) → Result Query ℕ
 bytes_query names last words = do
-  word ← four_words words
+  word ← ok_or (four_words words) wrong_count
   node ← node_of names word.0
   from ← number_in 0 65535 word.1
   len ← number_in 1 64 word.2
@@ -60,7 +69,7 @@ bytes_query names last words = do
 -- the number of a line
 abbrev pub items_query : ℕ → List (List ℕ) → Result Query ℕ
 items_query last words = do
-  word ← one_word words
+  word ← ok_or (one_word words) wrong_count
   at ← number_in 1 last word
   Ok (Items at)
 

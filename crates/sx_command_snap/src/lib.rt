@@ -17,6 +17,5 @@ mod queries;
 mod querying;
 mod schedule;
 mod snap;
-mod words;
 
 pub use snap::snap_over;

@@ -3,12 +3,11 @@
 ghost use Rattle.std.specs.Prelude.{◌≡◌, ◌+◌, ◌<◌, ◌≤◌, IfOk, IsTrue, OnOk, length};
 ghost use Rattle.sx_trace.specs.Names.{NameLists, are_valid};
 ghost use Rattle.sx_sched.specs.Words.{words_of};
-ghost use Rattle.sx_sched.specs.Reading.{is_comment};
 ghost use Rattle.sx_command_snap.specs.Queries.{IsAsked, bytes_query, items_query, judged_query};
 ghost use Rattle.sx_command_snap.specs.Queries.{node_of, number_in, query_of_kind, registers_query};
 
-use crate::words::{four_words, one_word, split_word, two_words};
 use sx_io::number;
+use sx_sched::words::{four_words, is_comment, one_word, split_word, two_words};
 use sx_trace::names::Names;
 
 /// A line has more than 4,096 bytes.
@@ -19,6 +18,9 @@ const TOO_MANY: u8 = 2;
 
 /// The first word is none of the kinds of query.
 const NO_KIND: u8 = 3;
+
+/// The number of words is wrong.
+const WRONG_COUNT: u8 = 4;
 
 /// A word is no name of a node.
 const NO_NAME: u8 = 5;
@@ -78,7 +80,7 @@ fn registers_query(names: &Names, last: u32, words: &[u8]) -> Result<Query, u8>
     ensures query { result ≡ registers_query names.now last (words_of words.now) }
     ensures asked { IfOk result (IsAsked names.now last) }
 {
-    let (name, at) = two_words(words)?;
+    let (name, at) = two_words(words).ok_or(WRONG_COUNT)?;
     let node = node_of(names, name)?;
     let at = number_in(0, last, at)?;
     Ok(Query::Registers { node, at })
@@ -89,7 +91,7 @@ fn bytes_query(names: &Names, last: u32, words: &[u8]) -> Result<Query, u8>
     ensures query { result ≡ bytes_query names.now last (words_of words.now) }
     ensures asked { IfOk result (IsAsked names.now last) }
 {
-    let (name, from, len, at) = four_words(words)?;
+    let (name, from, len, at) = four_words(words).ok_or(WRONG_COUNT)?;
     let node = node_of(names, name)?;
     let from = number_in(0, 65_535, from)?;
     let len = number_in(1, 64, len)?;
@@ -109,7 +111,7 @@ fn items_query(last: u32, words: &[u8]) -> Result<Query, u8>
     ensures query { result ≡ items_query last (words_of words.now) }
     ensures asked { (names : NameLists) → IfOk result (IsAsked names last) }
 {
-    let word = one_word(words)?;
+    let word = one_word(words).ok_or(WRONG_COUNT)?;
     let at = number_in(1, last, word)?;
     Ok(Query::Items { at })
 }
@@ -130,15 +132,6 @@ fn query_of_kind(names: &Names, last: u32, first: &[u8], words: &[u8]) -> Result
         return items_query(last, words);
     }
     Err(NO_KIND)
-}
-
-fn is_comment(word: &[u8]) -> bool
-    ensures { result ≡ is_comment word.now }
-{
-    match word {
-        [first, ..] => *first == b'#',
-        [] => false,
-    }
 }
 
 /// The query of the line with this number, counted from 1, about a schedule with so many lines; or

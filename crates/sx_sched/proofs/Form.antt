@@ -18,8 +18,8 @@ use Rattle.sx_sched.specs.declared.lines.Line.{Line as Read}
 use Rattle.sx_sched.specs.declared.lines.LineError.{LineError}
 use Rattle.sx_sched.specs.Lines.{Line, Blank, Run, Finish, Put, Set, Take, Give, Forge, Sense, Irq, Reset, Ask, Answer, Load, Call, line_of, AreFewBytes, IsLine}
 use Rattle.sx_sched.specs.InForm.{SaidInForm}
-use Rattle.sx_sched.specs.Reading.{no_name, no_number, no_bytes, no_code, node_of, sensor_of, module_of, registers, register_in, register_of, at_least, number_in, number16, number32, decoded_bytes, bytes_of, code_in, code_of, one_word, two_words, three_words, four_words, two_before, one, two, three, four, code_line, Kind, kinds, said_by, is_comment, said_in, said_line, MayWant, TakesMemory, Answers, ◌>>=◌}
-use Rattle.sx_sched.specs.Words.{words_of, text_behind}
+use Rattle.sx_sched.specs.Reading.{no_name, no_number, no_bytes, wrong_count, no_code, node_of, sensor_of, module_of, registers, register_in, register_of, at_least, number_in, number16, number32, decoded_bytes, bytes_of, code_in, code_of, one, two, three, four, code_line, Kind, kinds, said_by, is_comment, said_in, said_line, MayWant, TakesMemory, Answers, ◌>>=◌}
+use Rattle.sx_sched.specs.Words.{words_of, text_behind, one_word, two_words, three_words, four_words, two_before}
 use Rattle.sx_lists.proofs.Truths.{and_true}
 
 bind_ok : {A B : Type 0} (r : Result A LineError) (g : A → Result B LineError) (y : B) → (r >>= g) ≡ Ok y → (x : A) × (r ≡ Ok x) × (g x ≡ Ok y)
@@ -168,7 +168,7 @@ KindFits n row = (fields : List (List ℕ)) (line : Line) → row fields ≡ Ok 
 one_fits : {A : Type 0} (n : NameLists) (f : List ℕ → Result A LineError) (make : A → Line) (F : A → Type 0)
     → ((w : List ℕ) (a : A) → f w ≡ Ok a → F a) → ((a : A) → F a → IsLine n (make a)) → KindFits n (one f make)
 one_fits {A} n f make F ff fits fields line h =
-    let w = bind_ok (one_word fields) (λ (word : List ℕ). f word >>= (λ (a : A). Ok (make a))) line h in
+    let w = bind_ok (ok_or (one_word fields) wrong_count) (λ (word : List ℕ). f word >>= (λ (a : A). Ok (make a))) line h in
     let a = bind_ok (f w.0) (λ (a : A). Ok (make a)) line w.2 in
     this_line n (make a.0) line a.2 (fits a.0 (ff w.0 a.0 a.1))
 
@@ -176,7 +176,7 @@ two_fits : {A B : Type 0} (n : NameLists) (f : List ℕ → Result A LineError) 
     → ((w : List ℕ) (a : A) → f w ≡ Ok a → F a) → ((w : List ℕ) (b : B) → g w ≡ Ok b → G b)
     → ((a : A) (b : B) → F a → G b → IsLine n (make a b)) → KindFits n (two f g make)
 two_fits {A} {B} n f g make F G ff gg fits fields line h =
-    let w = bind_ok (two_words fields) (λ (word : List ℕ × List ℕ). f word.0 >>= (λ (a : A). g word.1 >>= (λ (b : B). Ok (make a b)))) line h in
+    let w = bind_ok (ok_or (two_words fields) wrong_count) (λ (word : List ℕ × List ℕ). f word.0 >>= (λ (a : A). g word.1 >>= (λ (b : B). Ok (make a b)))) line h in
     let a = bind_ok (f w.0.0) (λ (a : A). g w.0.1 >>= (λ (b : B). Ok (make a b))) line w.2 in
     let b = bind_ok (g w.0.1) (λ (b : B). Ok (make a.0 b)) line a.2 in
     this_line n (make a.0 b.0) line b.2 (fits a.0 b.0 (ff w.0.0 a.0 a.1) (gg w.0.1 b.0 b.1))
@@ -186,7 +186,7 @@ three_fits : {A B C : Type 0} (n : NameLists) (f : List ℕ → Result A LineErr
     → ((w : List ℕ) (a : A) → f w ≡ Ok a → F a) → ((w : List ℕ) (b : B) → g w ≡ Ok b → G b) → ((w : List ℕ) (c : C) → h w ≡ Ok c → H c)
     → ((a : A) (b : B) (c : C) → F a → G b → H c → IsLine n (make a b c)) → KindFits n (three f g h make)
 three_fits {A} {B} {C} n f g h make F G H ff gg hh fits fields line e =
-    let w = bind_ok (three_words fields) (λ (word : List ℕ × List ℕ × List ℕ).
+    let w = bind_ok (ok_or (three_words fields) wrong_count) (λ (word : List ℕ × List ℕ × List ℕ).
     f word.0 >>= (λ (a : A). g word.1 >>= (λ (b : B). h word.2 >>= (λ (c : C). Ok (make a b c))))) line e in
     let a = bind_ok (f w.0.0) (λ (a : A). g w.0.1 >>= (λ (b : B). h w.0.2 >>= (λ (c : C). Ok (make a b c)))) line w.2 in
     let b = bind_ok (g w.0.1) (λ (b : B). h w.0.2 >>= (λ (c : C). Ok (make a.0 b c))) line a.2 in
@@ -195,7 +195,7 @@ three_fits {A} {B} {C} n f g h make F G H ff gg hh fits fields line e =
 
 call_fits : (n : NameLists) → KindFits n (four (module_of n) number16 number16 number16 Call)
 call_fits n fields line e =
-    let w = bind_ok (four_words fields) (λ (word : List ℕ × List ℕ × List ℕ × List ℕ).
+    let w = bind_ok (ok_or (four_words fields) wrong_count) (λ (word : List ℕ × List ℕ × List ℕ × List ℕ).
     module_of n word.0 >>= (λ (a : ℕ). number16 word.1 >>= (λ (b : ℕ). number16 word.2 >>= (λ (c : ℕ). number16 word.3 >>= (λ (d : ℕ). Ok (Call a b c d)))))) line e in
     let a = bind_ok (module_of n w.0.0) (λ (a : ℕ).
     number16 w.0.1 >>= (λ (b : ℕ). number16 w.0.2 >>= (λ (c : ℕ). number16 w.0.3 >>= (λ (d : ℕ). Ok (Call a b c d))))) line w.2 in
@@ -209,7 +209,7 @@ call_fits n fields line e =
 
 code_line_fits : (n : NameLists) (text : List ℕ) → KindFits n (code_line assembled n text)
 code_line_fits n text fields line e =
-    let w = bind_ok (two_before fields) (λ (word : List ℕ × List ℕ).
+    let w = bind_ok (ok_or (two_before fields) wrong_count) (λ (word : List ℕ × List ℕ).
     node_of n word.0 >>= (λ (a : ℕ). number16 word.1 >>= (λ (b : ℕ). code_of assembled b text >>= (λ (c : List ℕ). Ok (Put a b c))))) line e in
     let a = bind_ok (node_of n w.0.0) (λ (a : ℕ). number16 w.0.1 >>= (λ (b : ℕ). code_of assembled b text >>= (λ (c : List ℕ). Ok (Put a b c)))) line w.2 in
     let b = bind_ok (number16 w.0.1) (λ (b : ℕ). code_of assembled b text >>= (λ (c : List ℕ). Ok (Put a.0 b c))) line a.2 in

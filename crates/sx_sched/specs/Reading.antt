@@ -13,7 +13,8 @@ use Rattle.sx_sched.specs.declared.lines.LineError.{LineError}
 use Rattle.sx_sched.specs.declared.lines.LineError.TheVariants.{Fault, OutOfMemory}
 use Rattle.sx_sched.specs.Lines.{line_of, Line, Blank, Run, Finish, Put, Set, Take, Give}
 use Rattle.sx_sched.specs.Lines.{Forge, Sense, Irq, Reset, Ask, Answer, Load, Call}
-use Rattle.sx_sched.specs.Words.{words_of, text_behind}
+use Rattle.sx_sched.specs.Words.{words_of, text_behind, one_word, two_words, three_words, four_words}
+use Rattle.sx_sched.specs.Words.{two_before}
 
 -- rule 3: the first word is none of the kinds of line
 abbrev pub no_kind : LineError
@@ -131,53 +132,13 @@ Assembler = ℕ → List ℕ → Result (List ℕ) AsmError
 abbrev pub code_of : Assembler → ℕ → List ℕ → Result (List ℕ) LineError
 code_of assemble at text = if is_utf8 text then code_in (assemble at text) else Err no_code
 
--- This many words, and what they say in order.
-
--- there is no word
-abbrev pub no_word : List (List ℕ) → Result (Unit {0}) LineError
-no_word [] = Ok tt
-no_word (a ∷ rest) = Err wrong_count
-
--- exactly one word
-abbrev pub one_word : List (List ℕ) → Result (List ℕ) LineError
-one_word [] = Err wrong_count
-one_word (a ∷ rest) = no_word rest >>= (λ none. Ok a)
-
--- exactly two words
-abbrev pub two_words : List (List ℕ) → Result (List ℕ × List ℕ) LineError
-two_words [] = Err wrong_count
-two_words (a ∷ rest) = one_word rest >>= (λ b. Ok (a, b))
-
--- exactly three words
-abbrev pub three_words : List (List ℕ) → Result (List ℕ × List ℕ × List ℕ) LineError
-three_words [] = Err wrong_count
-three_words (a ∷ rest) = two_words rest >>= (λ w. Ok (a, w.0, w.1))
-
--- exactly four words
-abbrev pub four_words : List (List ℕ) → Result (List ℕ × List ℕ × List ℕ × List ℕ) LineError
-four_words [] = Err wrong_count
-four_words (a ∷ rest) = three_words rest >>= (λ w. Ok (a, w.0, w.1, w.2))
-
--- some words
-abbrev pub some_word : List (List ℕ) → Result (Unit {0}) LineError
-some_word [] = Err wrong_count
-some_word (a ∷ rest) = Ok tt
-
--- one word before others
-abbrev pub one_before : List (List ℕ) → Result (List ℕ) LineError
-one_before [] = Err wrong_count
-one_before (a ∷ rest) = some_word rest >>= (λ some. Ok a)
-
--- two words before others
-abbrev pub two_before : List (List ℕ) → Result (List ℕ × List ℕ) LineError
-two_before [] = Err wrong_count
-two_before (a ∷ rest) = one_before rest >>= (λ b. Ok (a, b))
+-- What this many words say in order.
 
 -- a line of one field, which is read by the first function
 abbrev pub one : {A : Type 0} → (List ℕ → Result A LineError) → (A → Line) → List (List ℕ)
     → Result Line LineError
 one f make fields = do
-  word ← one_word fields
+  word ← ok_or (one_word fields) wrong_count
   a ← f word
   Ok (make a)
 
@@ -185,7 +146,7 @@ one f make fields = do
 abbrev pub two : {A B : Type 0} → (List ℕ → Result A LineError) → (List ℕ → Result B LineError)
     → (A → B → Line) → List (List ℕ) → Result Line LineError
 two f g make fields = do
-  word ← two_words fields
+  word ← ok_or (two_words fields) wrong_count
   a ← f word.0
   b ← g word.1
   Ok (make a b)
@@ -195,7 +156,7 @@ abbrev pub three : {A B C : Type 0} → (List ℕ → Result A LineError) → (L
     → (List ℕ → Result C LineError)
     → (A → B → C → Line) → List (List ℕ) → Result Line LineError
 three f g h make fields = do
-  word ← three_words fields
+  word ← ok_or (three_words fields) wrong_count
   a ← f word.0
   b ← g word.1
   c ← h word.2
@@ -206,7 +167,7 @@ abbrev pub four : {A B C D : Type 0} → (List ℕ → Result A LineError) → (
     → (List ℕ → Result C LineError)
     → (List ℕ → Result D LineError) → (A → B → C → D → Line) → List (List ℕ) → Result Line LineError
 four f g h i make fields = do
-  word ← four_words fields
+  word ← ok_or (four_words fields) wrong_count
   a ← f word.0
   b ← g word.1
   c ← h word.2
@@ -216,7 +177,7 @@ four f g h i make fields = do
 -- assembled code is put: a node, its address there, and the text, of a word or more
 abbrev pub code_line : Assembler → NameLists → List ℕ → List (List ℕ) → Result Line LineError
 code_line assemble n text fields = do
-  word ← two_before fields
+  word ← ok_or (two_before fields) wrong_count
   node ← node_of n word.0
   at ← number16 word.1
   code ← code_of assemble at text

@@ -1,5 +1,6 @@
--- The words of a schedule's line, and the text after some of them.
+-- The words of a line, and the text after some of them.
 use Rattle.std.specs.Prelude.{ℕ, zero, suc, if◌then◌else◌, List, [], ◌∷◌, ◌++◌}
+use Rattle.std.specs.Prelude.{Option, Some, None}
 use Rattle.sx_lex.specs.Lexed.{is_space}
 
 -- a word that has begun, before the words after it
@@ -32,3 +33,30 @@ past_word (b ∷ bs) = if is_space b then b ∷ bs else past_word bs
 abbrev pub text_behind : ℕ → List ℕ → List ℕ
 text_behind zero text = past_blanks text
 text_behind (suc k) text = text_behind k (past_word (past_blanks text))
+
+-- This many words: where there are as many, these.
+
+-- exactly one word
+abbrev pub one_word : List (List ℕ) → Option (List ℕ)
+one_word (a ∷ []) = Some a
+one_word words = None
+
+-- exactly two words
+abbrev pub two_words : List (List ℕ) → Option (List ℕ × List ℕ)
+two_words (a ∷ b ∷ []) = Some (a, b)
+two_words words = None
+
+-- exactly three words
+abbrev pub three_words : List (List ℕ) → Option (List ℕ × List ℕ × List ℕ)
+three_words (a ∷ b ∷ c ∷ []) = Some (a, b, c)
+three_words words = None
+
+-- exactly four words
+abbrev pub four_words : List (List ℕ) → Option (List ℕ × List ℕ × List ℕ × List ℕ)
+four_words (a ∷ b ∷ c ∷ d ∷ []) = Some (a, b, c, d)
+four_words words = None
+
+-- two words before others
+abbrev pub two_before : List (List ℕ) → Option (List ℕ × List ℕ)
+two_before (a ∷ b ∷ c ∷ more) = Some (a, b)
+two_before words = None

@@ -5,6 +5,7 @@
 //! number or one out of range, 6, no hexadecimal text of as many bytes as are allowed; and last 8,
 //! a text that isn't assembled to 1 to 1,024 bytes. A line that it gives is in form for the names.
 //! `write_line` writes a line that has no bytes of its own, and what it writes says this line.
+//! `words` parts a line into words, for other inputs too whose lines are made of words.
 //!
 //! `specs/Reading.antt` has what each kind of line says, `specs/Words.antt` what a word is, and
 //! `specs/Lines.antt` when a line is in form, and `specs/Written.antt` the texts that are written.
@@ -15,7 +16,7 @@ mod fields;
 pub mod laws;
 pub mod lines;
 mod parsing;
-mod words;
+pub mod words;
 mod writing;
 
 pub use parsing::parse_line;

@@ -9,14 +9,16 @@ ghost use Rattle.sx_sched.specs.Lines.{Sense, Irq, Reset, Ask, Answer, Load, Cal
 ghost use Rattle.sx_sched.specs.Reading.{IsBrokenRule, node_of, sensor_of, module_of, register_of};
 ghost use Rattle.sx_sched.specs.Reading.{number_in, number16, number32, bytes_of, one, two, three};
 ghost use Rattle.sx_sched.specs.Reading.{four, code_line, module_kinds, plain_kinds, kinds};
-ghost use Rattle.sx_sched.specs.Reading.{said_by, is_comment, said_line, seen_line, TakesMemory};
+ghost use Rattle.sx_sched.specs.Reading.{said_by, said_line, seen_line, TakesMemory};
 ghost use Rattle.sx_sched.specs.Reading.{MayWant, Answers};
 
 use crate::fields::{
     bytes_of, code_of, module_of, node_of, number_in, number16, number32, register_of, sensor_of,
 };
-use crate::lines::{Line, LineError, NO_KIND};
-use crate::words::{four_words, one_word, split_word, three_words, two_before, two_words};
+use crate::lines::{Line, LineError, NO_KIND, WRONG_COUNT};
+use crate::words::{
+    four_words, is_comment, one_word, split_word, three_words, two_before, two_words,
+};
 use std::alloc::Global;
 use sx_trace::names::Names;
 
@@ -26,7 +28,7 @@ fn run_line(names: &Names, fields: &[u8]) -> Result<Line, LineError>
         (words_of fields.now) }
     ensures fault { IfErr result IsBrokenRule }
 {
-    let (name, count) = two_words(fields)?;
+    let (name, count) = two_words(fields).ok_or(WRONG_COUNT)?;
     let node = node_of(names, name)?;
     let steps = number_in(1, 65535, count)?;
     Ok(Line::Run {
@@ -40,7 +42,7 @@ fn finish_line(names: &Names, fields: &[u8]) -> Result<Line, LineError>
     ensures line { seen_line result ≡ one (node_of names.now) Finish (words_of fields.now) }
     ensures fault { IfErr result IsBrokenRule }
 {
-    let name = one_word(fields)?;
+    let name = one_word(fields).ok_or(WRONG_COUNT)?;
     let node = node_of(names, name)?;
     Ok(Line::Finish { node })
 }
@@ -51,7 +53,7 @@ fn set_line(names: &Names, fields: &[u8]) -> Result<Line, LineError>
         (words_of fields.now) }
     ensures fault { IfErr result IsBrokenRule }
 {
-    let (name, reg, value) = three_words(fields)?;
+    let (name, reg, value) = three_words(fields).ok_or(WRONG_COUNT)?;
     let node = node_of(names, name)?;
     let reg = register_of(reg)?;
     let value = number16(value)?;
@@ -64,7 +66,7 @@ fn take_line(names: &Names, fields: &[u8]) -> Result<Line, LineError>
         (words_of fields.now) }
     ensures fault { IfErr result IsBrokenRule }
 {
-    let (name, at, len) = three_words(fields)?;
+    let (name, at, len) = three_words(fields).ok_or(WRONG_COUNT)?;
     let node = node_of(names, name)?;
     let at = number16(at)?;
     let len = number_in(1, 384, len)?;
@@ -81,7 +83,7 @@ fn give_line(names: &Names, fields: &[u8]) -> Result<Line, LineError>
         (words_of fields.now) }
     ensures fault { IfErr result IsBrokenRule }
 {
-    let (packet, name, at) = three_words(fields)?;
+    let (packet, name, at) = three_words(fields).ok_or(WRONG_COUNT)?;
     let packet = number32(packet)?;
     let node = node_of(names, name)?;
     let at = number16(at)?;
@@ -94,7 +96,7 @@ fn sense_line(names: &Names, fields: &[u8]) -> Result<Line, LineError>
         (words_of fields.now) }
     ensures fault { IfErr result IsBrokenRule }
 {
-    let (name, value) = two_words(fields)?;
+    let (name, value) = two_words(fields).ok_or(WRONG_COUNT)?;
     let device = sensor_of(names, name)?;
     let value = number_in(0, 32767, value)?;
     Ok(Line::Sense {
@@ -109,7 +111,7 @@ fn irq_line(names: &Names, fields: &[u8]) -> Result<Line, LineError>
         (words_of fields.now) }
     ensures fault { IfErr result IsBrokenRule }
 {
-    let (name, line) = two_words(fields)?;
+    let (name, line) = two_words(fields).ok_or(WRONG_COUNT)?;
     let node = node_of(names, name)?;
     let line = number_in(0, 14, line)?;
     Ok(Line::Irq {
@@ -123,7 +125,7 @@ fn reset_line(names: &Names, fields: &[u8]) -> Result<Line, LineError>
     ensures line { seen_line result ≡ one (node_of names.now) Reset (words_of fields.now) }
     ensures fault { IfErr result IsBrokenRule }
 {
-    let name = one_word(fields)?;
+    let name = one_word(fields).ok_or(WRONG_COUNT)?;
     let node = node_of(names, name)?;
     Ok(Line::Reset { node })
 }
@@ -133,7 +135,7 @@ fn ask_line(names: &Names, fields: &[u8]) -> Result<Line, LineError>
     ensures line { seen_line result ≡ one (module_of names.now) Ask (words_of fields.now) }
     ensures fault { IfErr result IsBrokenRule }
 {
-    let name = one_word(fields)?;
+    let name = one_word(fields).ok_or(WRONG_COUNT)?;
     let module = module_of(names, name)?;
     Ok(Line::Ask { module })
 }
@@ -144,7 +146,7 @@ fn answer_line(names: &Names, fields: &[u8]) -> Result<Line, LineError>
         (words_of fields.now) }
     ensures fault { IfErr result IsBrokenRule }
 {
-    let (name, boot, packet) = three_words(fields)?;
+    let (name, boot, packet) = three_words(fields).ok_or(WRONG_COUNT)?;
     let module = module_of(names, name)?;
     let boot = number32(boot)?;
     let packet = number32(packet)?;
@@ -160,7 +162,7 @@ fn load_line(names: &Names, fields: &[u8]) -> Result<Line, LineError>
     ensures line { seen_line result ≡ one (module_of names.now) Load (words_of fields.now) }
     ensures fault { IfErr result IsBrokenRule }
 {
-    let name = one_word(fields)?;
+    let name = one_word(fields).ok_or(WRONG_COUNT)?;
     let module = module_of(names, name)?;
     Ok(Line::Load { module })
 }
@@ -171,7 +173,7 @@ fn call_line(names: &Names, fields: &[u8]) -> Result<Line, LineError>
         (words_of fields.now) }
     ensures fault { IfErr result IsBrokenRule }
 {
-    let (name, entry, input, output) = four_words(fields)?;
+    let (name, entry, input, output) = four_words(fields).ok_or(WRONG_COUNT)?;
     let module = module_of(names, name)?;
     let entry = number16(entry)?;
     let input = number16(input)?;
@@ -245,7 +247,7 @@ fn put_line(alloc: Global, names: &Names, fields: &[u8]) -> Result<Line, LineErr
     ensures { Answers line_of (MayWant TakesMemory (text_behind 2 fields.now))
         (three (node_of names.now) number16 (bytes_of 1024) Put (words_of fields.now)) result }
 {
-    let (name, at, text) = three_words(fields)?;
+    let (name, at, text) = three_words(fields).ok_or(WRONG_COUNT)?;
     let node = node_of(names, name)?;
     let at = number16(at)?;
     let bytes = bytes_of(alloc, 1024, text)?;
@@ -256,7 +258,7 @@ fn forge_line(alloc: Global, fields: &[u8]) -> Result<Line, LineError>
     ensures { Answers line_of (MayWant TakesMemory (text_behind 2 fields.now))
         (one (bytes_of 384) Forge (words_of fields.now)) result }
 {
-    let text = one_word(fields)?;
+    let text = one_word(fields).ok_or(WRONG_COUNT)?;
     let bytes = bytes_of(alloc, 384, text)?;
     Ok(Line::Forge { bytes })
 }
@@ -267,7 +269,7 @@ fn code_line(alloc: Global, names: &Names, fields: &[u8]) -> Result<Line, LineEr
     ensures { Answers line_of (MayWant TakesMemory (text_behind 2 fields.now))
         (code_line assembled names.now (text_behind 2 fields.now) (words_of fields.now)) result }
 {
-    let (name, at, text) = two_before(fields)?;
+    let (name, at, text) = two_before(fields).ok_or(WRONG_COUNT)?;
     let node = node_of(names, name)?;
     let at = number16(at)?;
     let bytes = code_of(alloc, at, text)?;
@@ -292,15 +294,6 @@ fn kind_line(alloc: Global, names: &Names, first: &[u8], fields: &[u8]) -> Resul
         return code_line(alloc, names, fields);
     }
     plain_line(names, first, fields)
-}
-
-fn is_comment(word: &[u8]) -> bool
-    ensures { result ≡ is_comment word.now }
-{
-    match word {
-        [first, ..] => *first == b'#',
-        [] => false,
-    }
 }
 
 /// The line that a text says. An `asm` says the `put` of its code: what is assembled is all that

@@ -1,15 +1,13 @@
-//! The words of a schedule line, the longest runs of bytes other than spaces and tabs, and the text
-//! after some of them.
+//! The words of a line, the longest runs of bytes other than spaces and tabs, and the text after
+//! some of them. The lines of a schedule are made of them, and lines of other inputs that are read
+//! like it: so a wrong number of words is None here, and each reader has a rule of its own for it.
 
 ghost use Rattle.std.specs.Prelude.{◌≡◌, ◌<◌, ◌≤◌, ℕ, true, false, [], ◌∷◌, length, slice_index};
-ghost use Rattle.std.specs.Prelude.{None, Some, MatchOption, IfSome, Ok, Err, MatchResult, IfOk};
-ghost use Rattle.std.specs.Prelude.{IfErr};
+ghost use Rattle.std.specs.Prelude.{None, Some, MatchOption, IfSome};
 ghost use Rattle.sx_lex.specs.Lexed.{is_space};
-ghost use Rattle.sx_sched.specs.Words.{words_of, past_blanks, past_word, text_behind};
-ghost use Rattle.sx_sched.specs.Reading.{IsBrokenRule, no_word, one_word, two_words, three_words};
-ghost use Rattle.sx_sched.specs.Reading.{four_words, some_word, one_before, two_before};
-
-use crate::lines::{LineError, WRONG_COUNT};
+ghost use Rattle.sx_sched.specs.Words.{words_of, past_blanks, past_word, text_behind, one_word};
+ghost use Rattle.sx_sched.specs.Words.{two_words, three_words, four_words, two_before};
+ghost use Rattle.sx_sched.specs.Reading.{is_comment};
 
 /// Whether a byte separates words.
 fn is_space(byte: u8) -> bool
@@ -55,7 +53,7 @@ fn word_length(text: &[u8]) -> usize
     text.len()
 }
 
-/// The first word and what follows it; None exactly where there is no word.
+/// The first word of a text and what follows it; None exactly where the text has no word.
 pub fn split_word(text: &[u8]) -> Option<(&[u8], &[u8])>
     ensures words { MatchOption result (words_of text.now ≡ [])
         (λ split. words_of text.now ≡ split.0.now ∷ words_of split.1.now) }
@@ -68,121 +66,69 @@ pub fn split_word(text: &[u8]) -> Option<(&[u8], &[u8])>
     Some(begun.split_at(word_length(begun)))
 }
 
-/// Nothing, where there is no word left.
-fn no_word(text: &[u8]) -> Result<(), LineError>
-    ensures words { result ≡ no_word (words_of text.now) }
-    ensures fault { IfErr result IsBrokenRule }
+/// Whether a word begins a comment, which is the rest of its line: its first byte is `#`.
+pub fn is_comment(word: &[u8]) -> bool
+    ensures { result ≡ is_comment word.now }
 {
-    match split_word(text) {
-        None => Ok(()),
-        Some(_) => Err(WRONG_COUNT),
+    match word {
+        [first, ..] => *first == b'#',
+        [] => false,
     }
 }
 
-/// The one word. The error is rule 7.
-pub fn one_word(text: &[u8]) -> Result<&[u8], LineError>
-    ensures word { MatchResult result (λ a. one_word (words_of text.now) ≡ Ok a.now)
-        (λ e. one_word (words_of text.now) ≡ Err e) }
-    ensures fault { IfErr result IsBrokenRule }
+/// The word of a text that has exactly one.
+pub fn one_word(text: &[u8]) -> Option<&[u8]>
+    ensures { MatchOption result (one_word (words_of text.now) ≡ None)
+        (λ a. one_word (words_of text.now) ≡ Some a.now) }
 {
-    match split_word(text) {
-        None => Err(WRONG_COUNT),
-        Some((a, rest)) => {
-            no_word(rest)?;
-            Ok(a)
-        }
+    let (a, rest) = split_word(text)?;
+    match split_word(rest) {
+        None => Some(a),
+        Some(_) => None,
     }
 }
 
-/// The two words. The error is rule 7.
-pub fn two_words(text: &[u8]) -> Result<(&[u8], &[u8]), LineError>
-    ensures words { MatchResult result (λ w. two_words (words_of text.now) ≡ Ok (w.0.now, w.1.now))
-        (λ e. two_words (words_of text.now) ≡ Err e) }
-    ensures fault { IfErr result IsBrokenRule }
+/// The words of a text that has exactly two, in order.
+pub fn two_words(text: &[u8]) -> Option<(&[u8], &[u8])>
+    ensures { MatchOption result (two_words (words_of text.now) ≡ None)
+        (λ w. two_words (words_of text.now) ≡ Some (w.0.now, w.1.now)) }
 {
-    match split_word(text) {
-        None => Err(WRONG_COUNT),
-        Some((a, rest)) => {
-            let b = one_word(rest)?;
-            Ok((a, b))
-        }
-    }
+    let (a, rest) = split_word(text)?;
+    let b = one_word(rest)?;
+    Some((a, b))
 }
 
-/// The three words. The error is rule 7.
-pub fn three_words(text: &[u8]) -> Result<(&[u8], &[u8], &[u8]), LineError>
-    ensures words { MatchResult result (λ w. three_words (words_of text.now)
-        ≡ Ok (w.0.now, w.1.now, w.2.now))
-        (λ e. three_words (words_of text.now) ≡ Err e) }
-    ensures fault { IfErr result IsBrokenRule }
+/// The words of a text that has exactly three, in order.
+pub fn three_words(text: &[u8]) -> Option<(&[u8], &[u8], &[u8])>
+    ensures { MatchOption result (three_words (words_of text.now) ≡ None)
+        (λ w. three_words (words_of text.now) ≡ Some (w.0.now, w.1.now, w.2.now)) }
 {
-    match split_word(text) {
-        None => Err(WRONG_COUNT),
-        Some((a, rest)) => {
-            let (b, c) = two_words(rest)?;
-            Ok((a, b, c))
-        }
-    }
+    let (a, rest) = split_word(text)?;
+    let (b, c) = two_words(rest)?;
+    Some((a, b, c))
 }
 
-/// The four words. The error is rule 7.
-pub fn four_words(text: &[u8]) -> Result<(&[u8], &[u8], &[u8], &[u8]), LineError>
-    ensures words { MatchResult result (λ w. four_words (words_of text.now)
-        ≡ Ok (w.0.now, w.1.now, w.2.now, w.3.now))
-        (λ e. four_words (words_of text.now) ≡ Err e) }
-    ensures fault { IfErr result IsBrokenRule }
+/// The words of a text that has exactly four, in order.
+pub fn four_words(text: &[u8]) -> Option<(&[u8], &[u8], &[u8], &[u8])>
+    ensures { MatchOption result (four_words (words_of text.now) ≡ None)
+        (λ w. four_words (words_of text.now) ≡ Some (w.0.now, w.1.now, w.2.now, w.3.now)) }
 {
-    match split_word(text) {
-        None => Err(WRONG_COUNT),
-        Some((a, rest)) => {
-            let (b, c, d) = three_words(rest)?;
-            Ok((a, b, c, d))
-        }
-    }
+    let (a, rest) = split_word(text)?;
+    let (b, c, d) = three_words(rest)?;
+    Some((a, b, c, d))
 }
 
-/// The text, which has a word, after the blanks that it begins with.
-fn some_text(text: &[u8]) -> Result<&[u8], LineError>
-    ensures words { MatchResult result (λ begun. some_word (words_of text.now) ≡ Ok tt)
-        (λ e. some_word (words_of text.now) ≡ Err e) }
-    ensures text { IfOk result (λ begun. begun.now ≡ text_behind 0 text.now) }
-    ensures fault { IfErr result IsBrokenRule }
+/// Two words, and the text after them and the blanks that follow them, which has a word too; None
+/// exactly where there are fewer than three.
+pub fn two_before(text: &[u8]) -> Option<(&[u8], &[u8], &[u8])>
+    ensures words { MatchOption result (two_before (words_of text.now) ≡ None)
+        (λ w. two_before (words_of text.now) ≡ Some (w.0.now, w.1.now)) }
+    ensures text { IfSome result (λ w. w.2.now ≡ text_behind 2 text.now) }
 {
-    match split_word(text) {
-        None => Err(WRONG_COUNT),
-        Some(_) => Ok(past_blanks(text)),
-    }
-}
-
-/// A word, and the text after it and the blanks that follow it, which has a word.
-fn one_before(text: &[u8]) -> Result<(&[u8], &[u8]), LineError>
-    ensures words { MatchResult result (λ w. one_before (words_of text.now) ≡ Ok w.0.now)
-        (λ e. one_before (words_of text.now) ≡ Err e) }
-    ensures text { IfOk result (λ w. w.1.now ≡ text_behind 1 text.now) }
-    ensures fault { IfErr result IsBrokenRule }
-{
-    match split_word(text) {
-        None => Err(WRONG_COUNT),
-        Some((a, rest)) => {
-            let begun = some_text(rest)?;
-            Ok((a, begun))
-        }
-    }
-}
-
-/// Two words, and the text after them and the blanks that follow them, which has a word. The error
-/// is rule 7.
-pub fn two_before(text: &[u8]) -> Result<(&[u8], &[u8], &[u8]), LineError>
-    ensures words { MatchResult result (λ w. two_before (words_of text.now) ≡ Ok (w.0.now, w.1.now))
-        (λ e. two_before (words_of text.now) ≡ Err e) }
-    ensures text { IfOk result (λ w. w.2.now ≡ text_behind 2 text.now) }
-    ensures fault { IfErr result IsBrokenRule }
-{
-    match split_word(text) {
-        None => Err(WRONG_COUNT),
-        Some((a, rest)) => {
-            let (b, begun) = one_before(rest)?;
-            Ok((a, b, begun))
-        }
+    let (a, rest) = split_word(text)?;
+    let (b, rest) = split_word(rest)?;
+    match split_word(rest) {
+        None => None,
+        Some(_) => Some((a, b, past_blanks(rest))),
     }
 }
