@@ -1,5 +1,5 @@
 -- The lines of an honest run can be written.
-use Rattle.std.proofs.Common.{◌≡◌, ◌∙◌, ◌==◌, ◌||◌, ℕ, zero, suc, ◌<◌, ◌^◌, Bool, true, false, List, [], ◌∷◌, ◌++◌, length, map, Option, Some, None, Result, Ok, Err, refl, sym, ap, subst, arith}
+use Rattle.std.proofs.Common.{◌≡◌, ◌∙◌, ◌==◌, ◌||◌, ℕ, zero, suc, ◌<◌, Bool, true, false, List, [], ◌∷◌, ◌++◌, length, map, Option, Some, None, Result, Ok, Err, refl, sym, ap, subst, arith}
 use Rattle.std.specs.Prelude.{IfSome, if◌then◌else◌, option_map, slice_get}
 use Rattle.sx_tag.specs.Mac.{Mac}
 use Rattle.sx_mean.specs.Application.{AppTree, PartTree}
@@ -14,7 +14,7 @@ use Rattle.sx_run.specs.Setting.{Setting}
 use Rattle.sx_run.proofs.tie.Lists.{get_within}
 use Rattle.sx_world.specs.Continued.{next}
 use Rattle.sx_drive.specs.declared.said.Said.{Said as Told}
-use Rattle.sx_drive.specs.Honest.{Callee, Driven, Honest, MOST_LINES, Said, SaidItem, SaidLine, callee_at, left_out, performed, reads, says, setup}
+use Rattle.sx_drive.specs.Honest.{Driven, Honest, MOST_LINES, Said, SaidItem, callee_at, left_out, performed, setup}
 use Rattle.sx_drive.specs.Driving.{Does, Follows, GoesOn, IsDrivenSensor, Kept, SaysFront, reading, said_of}
 use Rattle.sx_command_drive.specs.Parts.{AreNamed, IsNamed, IsNamedSaid}
 use Rattle.sx_command_drive.proofs.Ways.{AreThere, IsThere, Ways, reads_by, setup_by}

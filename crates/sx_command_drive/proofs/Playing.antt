@@ -1,9 +1,9 @@
 -- From what a part of the run says to what is written of it.
-use Rattle.std.proofs.Common.{◌≡◌, ◌∙◌, ℕ, Bool, true, false, List, [], ◌∷◌, ◌++◌, map, Result, Ok, Err, refl, sym, ap, subst}
-use Rattle.std.specs.Prelude.{IfOk, IsTrue, OnErr, OnOk, if◌then◌else◌}
+use Rattle.std.proofs.Common.{◌≡◌, ◌∙◌, ℕ, Bool, true, false, List, [], ◌++◌, map, Result, Ok, Err, refl, sym, ap}
+use Rattle.std.specs.Prelude.{IfOk, IsTrue, OnOk, if◌then◌else◌}
 use Rattle.sx_io.specs.Streams.{SinkAt}
 use Rattle.sx_io.specs.Reading.{Answer}
-use Rattle.sx_told.specs.Told.{CommandEnds, DoesPart, Output, WroteSome, behind, out_of_memory}
+use Rattle.sx_told.specs.Told.{CommandEnds, Output, WroteSome, behind, out_of_memory}
 use Rattle.sx_told.specs.declared.turned.Turned.{Turned}
 use Rattle.sx_told.specs.declared.turned.Turned.TheVariants.{On, Stop}
 use Rattle.sx_told.proofs.Laws.{does-same, ends-behind, ends-out-of-memory, ends-same, prefix-all}
@@ -17,7 +17,7 @@ use Rattle.sx_drive.specs.declared.said.Drove.TheVariants.{Done, Long}
 use Rattle.sx_drive.specs.Honest.{Driven, Honest, Said}
 use Rattle.sx_drive.specs.Driving.{Does, Follows, Kept, drove_of, said_of}
 use Rattle.sx_command_drive.specs.Drive.{long_output, said_text}
-use Rattle.sx_command_drive.specs.Parts.{EndsPart, PlaysPart, SaysAll, StopsLong, TellsPart, part_output}
+use Rattle.sx_command_drive.specs.Parts.{EndsPart, SaysAll, TellsPart, part_output}
 use Rattle.sx_command_drive.proofs.Telling.{prefix_said, said_front}
 
 -- ---- what a call said, and whether a line was left out

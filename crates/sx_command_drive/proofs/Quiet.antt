@@ -1,5 +1,5 @@
 -- A run of which a line was left out says nothing more.
-use Rattle.std.proofs.Common.{◌≡◌, ◌∙◌, ◌==◌, ◌||◌, ◌<◌, Bool, true, false, List, [], ◌∷◌, ◌++◌, refl, sym, ap}
+use Rattle.std.proofs.Common.{◌≡◌, ◌∙◌, ◌==◌, ◌||◌, ◌<◌, Bool, true, false, List, [], ◌∷◌, ◌++◌, refl, ap}
 use Rattle.std.specs.Prelude.{if◌then◌else◌}
 use Rattle.sx_trace.specs.Names.{NameLists}
 use Rattle.sx_sched.specs.Lines.{Line}
@@ -8,9 +8,7 @@ use Rattle.sx_world.specs.Continued.{next}
 use Rattle.sx_drive.specs.Honest.{Driven, Honest, MOST_LINES, Reading, Said, each, left_out, performed, reads, says}
 use Rattle.sx_drive.specs.Driving.{IsDrivenSensor}
 use Rattle.sx_deploy.specs.Deployment.{Deployed}
-use Rattle.sx_deploy.specs.Law.{IsSoundDeployment}
-use Rattle.sx_command_drive.specs.Parts.{IsNamed}
-use Rattle.sx_command_drive.proofs.Ways.{AreThere, Ways, each_by, reads_by}
+use Rattle.sx_command_drive.proofs.Ways.{AreThere, Ways, reads_by}
 
 -- what a part says where a line was left out: nothing, and no line comes to have room
 pub record Quiet (a : Driven) : Type 0 where

@@ -1,20 +1,19 @@
 -- What is written of an honest run, reading by reading.
-use Rattle.std.proofs.Common.{◌≡◌, ◌∙◌, ℕ, ◌+◌, ◌<◌, Bool, true, false, List, [], ◌∷◌, ◌++◌, refl, sym, ap, append_assoc, Result, Ok, Err}
+use Rattle.std.proofs.Common.{◌≡◌, ◌∙◌, ℕ, ◌+◌, Bool, true, false, List, [], ◌∷◌, ◌++◌, refl, ap, append_assoc, Result, Ok, Err}
 use Rattle.std.specs.Prelude.{if◌then◌else◌}
-use Rattle.std.proofs.lemmas.List.{append-nil}
 use Rattle.sx_io.specs.Reading.{Answer}
 use Rattle.sx_io.specs.Reading as answer
 use Rattle.sx_told.specs.Told.{Output, behind, unread_output}
 use Rattle.sx_trace.specs.Names.{NameLists}
 use Rattle.sx_deploy.specs.Deployment.{Deployed}
 use Rattle.sx_run.specs.Setting.{Setting}
-use Rattle.sx_drive.specs.Honest.{Driven, Honest, Reading, Said, each, honest_run, reads, setup, start}
+use Rattle.sx_drive.specs.Honest.{Driven, Honest, Reading, Said, each, reads, setup, start}
 use Rattle.sx_drive.specs.Driving.{reading}
 use Rattle.sx_command_world.specs.Schedule.{Stop, AtEnd, Unread, Breaks}
 use Rattle.sx_command_drive.specs.declared.readings.ReadingLine.{ReadingLine}
 use Rattle.sx_command_drive.specs.declared.readings.ReadingLine.TheVariants as says
 use Rattle.sx_command_drive.specs.Drive.{drive_from, drive_readings, ended_output, long_output, reading_fault, readings_output, said_text, steps_text, stop_output, told_run}
-use Rattle.sx_command_drive.specs.Parts.{IsGiven, part_output}
+use Rattle.sx_command_drive.specs.Parts.{part_output}
 use Rattle.sx_command_drive.specs.Readings.{Readings, judged_reading, on_line, readings_from}
 use Rattle.sx_command_drive.proofs.Quiet.{AreReadings, Quiet, quiet_readings}
 use Rattle.sx_command_drive.proofs.Sensors.{readings_given}

@@ -16,7 +16,7 @@ use Rattle.sx_sched.specs.Written.{line_text}
 use Rattle.sx_deploy.specs.Deployment.{Deployed}
 use Rattle.sx_run.specs.Setting.{Setting}
 use Rattle.sx_run.specs.Accepted.{setting_of}
-use Rattle.sx_drive.specs.Honest.{Driven, Honest, Reading, Said, SaidItem, SaidLine, each, reads}
+use Rattle.sx_drive.specs.Honest.{Driven, Honest, Said, SaidItem, SaidLine, each, reads}
 use Rattle.sx_drive.specs.Honest.{honest_run}
 use Rattle.sx_command.specs.Output.{line, end_line, fault_output}
 use Rattle.sx_command_head.specs.Meanings.{Meaning}

@@ -1,7 +1,7 @@
 //! The lines of readings. Each is judged, and what its reading shows is written, before the next is
 //! read.
 
-ghost use Rattle.std.specs.Prelude.{◌≡◌, ◌+◌, ◌≤◌, ◌++◌, false, IsTrue, codes, decimal};
+ghost use Rattle.std.specs.Prelude.{◌≡◌, ◌+◌, ◌≤◌, false, IsTrue};
 ghost use Rattle.sx_told.specs.Told.{CommandEnds, Rest, command_at};
 ghost use Rattle.sx_head.specs.Head.{head_lines};
 ghost use Rattle.sx_trace.specs.Names.{are_valid};

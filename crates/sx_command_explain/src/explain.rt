@@ -1,7 +1,7 @@
 //! The command `explain`: it reads a deployment and a trace, and judges the trace while it reads
 //! it.
 
-ghost use Rattle.std.specs.Prelude.{◌≡◌, IfErr, IfOk, IsTrue, List, OnErr, ℕ};
+ghost use Rattle.std.specs.Prelude.{◌≡◌, IfErr, IfOk, IsTrue, OnErr};
 ghost use Rattle.sx_told.specs.Told.{Rest, Told, command_at};
 ghost use Rattle.sx_trace.specs.Names.{are_valid};
 ghost use Rattle.sx_deploy.specs.SeenDeployment.{deployed_as};

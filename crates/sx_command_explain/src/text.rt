@@ -1,7 +1,6 @@
 //! The lines that `explain` writes. None of them takes memory.
 
-ghost use Rattle.std.specs.Prelude.{◌≡◌, ◌≢◌, ◌+◌, ◌≤◌, ◌++◌, codes, decimal, length, List, Some};
-ghost use Rattle.sx_io.specs.Reading.{Answer};
+ghost use Rattle.std.specs.Prelude.{◌≡◌, ◌≢◌, ◌+◌, ◌≤◌, ◌++◌, decimal, length, List, Some};
 ghost use Rattle.sx_told.specs.Told.{CommandEnds, Output, out_of_memory};
 ghost use Rattle.sx_trace.specs.declared.items.Item.{Item as Listed};
 ghost use Rattle.sx_mean.specs.Application.{AppTree};

@@ -1,7 +1,7 @@
 //! The lines of a trace. Each is judged, and what is said of it is written, before the next is
 //! read.
 
-ghost use Rattle.std.specs.Prelude.{◌≡◌, ◌+◌, ◌<◌, ◌≤◌, [], IsTrue, List, length, true};
+ghost use Rattle.std.specs.Prelude.{◌≡◌, ◌+◌, ◌<◌, [], IsTrue, List, true};
 ghost use Rattle.sx_told.specs.Told.{Rest, command_at};
 ghost use Rattle.sx_trace.specs.declared.items.Item.{Item as Listed};
 ghost use Rattle.sx_trace.specs.Names.{are_valid};

@@ -1,5 +1,5 @@
 -- The text of a line says the line.
-use Rattle.std.proofs.Common.{◌≡◌, ℕ, ◌^◌, ◌<◌, ◌≤◌, Bool, true, false, ◌&&◌, ◌==◌, not, nat_le, List, [], ◌∷◌, ◌++◌, length, codes, decimal, Option, Some, Result, Ok, refl, sym, ap, subst, ◌∙◌, arith, IsTrue}
+use Rattle.std.proofs.Common.{◌≡◌, ℕ, ◌^◌, ◌<◌, Bool, true, false, ◌&&◌, ◌==◌, nat_le, List, [], ◌∷◌, ◌++◌, length, codes, decimal, Option, Some, Result, Ok, refl, sym, ap, subst, ◌∙◌, arith, IsTrue}
 use Rattle.std.specs.Prelude.{option_and_then, slice_get, ok_or}
 use Rattle.std.specs.List.{list_all}
 use Rattle.std.proofs.lemmas.List.{append-nil}
@@ -11,10 +11,10 @@ use Rattle.sx_trace.specs.Names.{NameLists, are_valid, if_sensor}
 use Rattle.sx_trace.specs.Items.{name_at, spaced_words}
 use Rattle.sx_trace.proofs.Known.{known_node, known_device, known_module, lower_byte}
 use Rattle.sx_sched.specs.declared.lines.LineError.{LineError}
-use Rattle.sx_sched.specs.Lines.{Line, Blank, Run, Finish, Put, Set, Take, Give, Forge, Sense, Irq, Reset, Ask, Answer, Load, Call, IsLine}
+use Rattle.sx_sched.specs.Lines.{Line, Blank, Run, Finish, Put, Set, Take, Give, Forge, Sense, Irq, Reset, Ask, Answer, Load, Call}
 use Rattle.sx_sched.specs.Reading.{no_name, node_of, sensor_of, module_of, number_in, number16, number32, one, two, three, four, said_in, said_line}
 use Rattle.sx_sched.specs.Words.{words_of, text_behind}
-use Rattle.sx_sched.specs.Written.{IsWritten, line_text, TextIsSaid}
+use Rattle.sx_sched.specs.Written.{line_text, TextIsSaid}
 use Rattle.sx_sched.proofs.Decimals.{decimal_word, number_between, number_said}
 use Rattle.sx_sched.proofs.Hexadecimals.{hex_said, hex_word}
 use Rattle.sx_sched.proofs.Spaced.{is_plain, is_word, spaced, words_read}

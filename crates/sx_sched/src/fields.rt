@@ -1,6 +1,6 @@
 //! What one word of a line says, and what a text does.
 
-ghost use Rattle.std.specs.Prelude.{◌≡◌, ◌≤◌, ◌<◌, ◌^◌, ℕ, List, map, nat_le, ◌&&◌, Ok, Err, Some};
+ghost use Rattle.std.specs.Prelude.{◌≡◌, ◌≤◌, ◌<◌, map, nat_le, ◌&&◌, Ok, Err, Some};
 ghost use Rattle.std.specs.Prelude.{None, IsTrue, IfOk, IfErr};
 ghost use Rattle.std.specs.List.{list_all};
 ghost use Rattle.hex.specs.Hex.{is_hex_digit};

@@ -1,5 +1,5 @@
 -- Answers that a failed read ends, and answers that the end of the input does.
-use Rattle.std.proofs.Common.{◌≡◌, ℕ, Bool, true, false, List, [], ◌∷◌, ◌++◌, length}
+use Rattle.std.proofs.Common.{ℕ, Bool, true, false, List, [], ◌∷◌, ◌++◌, length}
 use Rattle.std.specs.Prelude.{◌==◌, if◌then◌else◌}
 use Rattle.sx_io.specs.Reading.{Ended, Broken, Answer, Line, End, Long, Fault, Limit, behind_line, scan, newline, without_return}
 

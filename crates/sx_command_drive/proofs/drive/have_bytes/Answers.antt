@@ -1,4 +1,4 @@
-use Rattle.std.proofs.Common.{ℕ, List, ◌<◌, arith, subst, sym}
+use Rattle.std.proofs.Common.{ℕ, List, ◌<◌, arith, subst}
 use Rattle.std.specs.Prelude.{All}
 use Rattle.sx_command_drive.proofs.Bytes.{all_bytes, one_more}
 use Rattle.sx_command_drive.proofs.drive.have_bytes.Goals as goal

@@ -1,6 +1,6 @@
-use Rattle.std.proofs.Common.{◌∙◌, ◌+◌, ◌∷◌, ℕ, List, take, arith, ap, refl, sym}
+use Rattle.std.proofs.Common.{◌∙◌, ◌+◌, ◌∷◌, ℕ, take, arith, ap, refl, sym}
 use Rattle.sx_io.specs.Reading.{Line}
-use Rattle.sx_told.specs.Told.{Output, read_line}
+use Rattle.sx_told.specs.Told.{read_line}
 use Rattle.sx_told.proofs.Laws.{begun-line, begun-put, ends-same, told-stop, told-end, told-too-long, told-failed}
 use Rattle.sx_deploy.specs.SeenDeployment.{deployed_as}
 use Rattle.sx_command_drive.specs.Drive.{drive_from, steps_text}

@@ -1,5 +1,4 @@
 use Rattle.std.proofs.Common.{map, subst, sym, List}
-use Rattle.sx_deploy.specs.SeenDeployment.{deployed_as}
 use Rattle.sx_drive.specs.declared.said.Said.{Said as Told}
 use Rattle.sx_drive.specs.Driving.{GoesOn, said_of}
 use Rattle.sx_drive.specs.Driving.{reading}

@@ -1,9 +1,7 @@
-use Rattle.std.proofs.Common.{◌≡◌, ◌∙◌, ℕ, List, Option, Result, Ok, Err, ap, sym}
-use Rattle.std.specs.Prelude.{ok_or, option_and_then}
+use Rattle.std.proofs.Common.{◌∙◌, List, ap, sym}
 use Rattle.sx_deploy.specs.SeenDeployment.{deployed_as}
 use Rattle.sx_mean.specs.declared.apps.Part.{Part}
 use Rattle.sx_command_drive.specs.Parts.{is_driven}
-use Rattle.sx_command_drive.specs.Readings.{if_driven}
 use Rattle.sx_command_drive.proofs.Sensors.{given_there, is_driven_there, not_driven_there, not_given, sensor_given}
 use Rattle.sx_command_drive.proofs.readings.sensor_in.Goals as goal
 
