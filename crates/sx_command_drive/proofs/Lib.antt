@@ -2,9 +2,7 @@
 -- run; Named, Quiet and Ran are what it shows. Playing leads from what a part says to what is
 -- written of it, Statuses has the exit status, Owing what is due of some lines, and Said what follows
 -- for the whole command.
-pub mod Behind
 pub mod Between
-pub mod Bytes
 pub mod Named
 pub mod Owing
 pub mod Playing

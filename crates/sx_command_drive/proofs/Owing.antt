@@ -1,31 +1,29 @@
--- What is due of some lines of an input of `drive` is due of more of them too.
-use Rattle.std.proofs.Common.{◌≡◌, ◌∙◌, ℕ, ◌+◌, List, [], ◌∷◌, ◌++◌, length, nat_lt, refl, sym, ap, arith, Result, Ok, Err, inl, inr, Bool, true, false}
+-- What `drive` owes behind the head of a deployment.
+use Rattle.std.proofs.Common.{◌≡◌, ◌∙◌, ◌⊎◌, ℕ, ◌+◌, ◌<◌, List, [], ◌∷◌, refl, sym, ap, arith, Result, Ok, Err, inl, inr, Bool, true, false}
 use Rattle.std.specs.Prelude.{if◌then◌else◌}
-use Rattle.sx_io.specs.Reading.{Answer, Long, newline}
+use Rattle.sx_io.specs.Reading.{Answer, Long}
 use Rattle.sx_io.specs.Reading as answer
-use Rattle.sx_told.specs.Told.{Output, behind}
+use Rattle.sx_told.specs.Told.{Output, behind, out_of_memory}
 use Rattle.sx_told.proofs.Due.{lines_then, EndsUnread, Due, due-behind, behind-ends}
 use Rattle.sx_tag.specs.Mac.{Mac}
-use Rattle.sx_stage.specs.declared.fault.DeployFault.{DeployFault}
-use Rattle.sx_stage.specs.declared.fault.Place.TheVariants.{Nowhere}
-use Rattle.sx_stage.specs.Fault.{fault}
-use Rattle.sx_head.specs.Head.{Head, Found, TooLong, NoMark, head_behind, is_mark, most_bytes}
-use Rattle.sx_head.specs.Head as heads
 use Rattle.sx_deploy.specs.Deployment.{Deployed}
+use Rattle.sx_deploy.proofs.Sound.{sound}
 use Rattle.sx_run.specs.Setting.{Setting}
 use Rattle.sx_run.specs.Accepted.{setting_of}
 use Rattle.sx_drive.specs.Honest.{Driven, Honest, each, honest_run, reads, setup, start}
 use Rattle.sx_drive.specs.Driving.{reading}
-use Rattle.sx_command_head.specs.Meanings.{Meaning}
-use Rattle.sx_command_head.specs.Refused.{fault_output}
+use Rattle.sx_command_deploy.proofs.Owing.{Owes}
 use Rattle.sx_command_world.specs.Images.{images_text}
 use Rattle.sx_command_world.specs.Schedule.{Stop, AtEnd, Unread, Breaks}
 use Rattle.sx_command_drive.specs.declared.readings.ReadingLine.{ReadingLine}
 use Rattle.sx_command_drive.specs.declared.readings.ReadingLine.TheVariants as says
-use Rattle.sx_command_drive.specs.Drive.{drive_all, drive_found, drive_from, drive_head, drive_readings, ended_output, long_output, reading_fault, said_text, stop_output, told_run}
+use Rattle.sx_command_drive.specs.Drive.{drive_deployed, drive_from, drive_readings, ended_output, long_output, reading_fault, said_text, stop_output, told_run}
+use Rattle.sx_command_drive.specs.Drives.{drive_part, left_out}
 use Rattle.sx_command_drive.specs.Parts.{part_output}
 use Rattle.sx_command_drive.specs.Readings.{judged_reading, readings_from}
+use Rattle.sx_command_drive.proofs.Named.{are_there}
 use Rattle.sx_command_drive.proofs.Playing.{follows_long, follows_short}
+use Rattle.sx_command_drive.proofs.Statuses.{deployed_same, not_zero, not_four, not_two}
 use Rattle.sx_command_drive.proofs.Ways.{AreThere}
 use Rattle.sx_command_drive.proofs.Written.{drive_blank, drive_breaks, drive_reading, drive_set_up, drive_too_long, drive_unread}
 
@@ -53,16 +51,9 @@ unfolding drive_readings
 start_ends d set more e =
     let x = readings_from d 1 more in run_ends d (honest_run set x.readings) x.stop e
 
-found_ends : (mac : Mac) (texts : List (List ℕ)) (r : Result Deployed DeployFault) (more : List Answer) → EndsUnread (drive_found mac texts r more)
-found_ends mac texts (Err f) more e = absurd (omega (arith, e))
-found_ends mac texts (Ok d) more e =
+deployed_ends : (mac : Mac) (d : Deployed) (texts : List (List ℕ)) (more : List Answer) → EndsUnread (drive_deployed mac d texts more)
+deployed_ends mac d texts more e =
     behind-ends (images_text d.names.modules texts) (drive_readings d (setting_of mac d texts) more) (start_ends d (setting_of mac d texts) more) e
-
-head_ends : (mac : Mac) (meaning : Meaning) (texts : List (List ℕ)) (h : Head) → EndsUnread (drive_head mac meaning texts h)
-head_ends mac meaning texts (Found text more) e = found_ends mac texts (meaning text) more e
-head_ends mac meaning texts TooLong e = absurd (omega (arith, e))
-head_ends mac meaning texts NoMark e = absurd (omega (arith, e))
-head_ends mac meaning texts heads.Unread e = ([], refl)
 
 -- ---- line by line
 
@@ -114,43 +105,24 @@ due_start d set ls there =
     due_part d a (λ g. drive_from d set g 1) (λ more. drive_readings d set (lines_then ls more)) ls a.honest.long refl (λ more. drive_set_up d set (lines_then ls more) there)
     (λ s. due_drive d set ls there a.honest 1 s)
 
--- the modules of a deployment that is meant have names
-abbrev pub HaveNames : Mac → List (List ℕ) → Result Deployed DeployFault → Type 0
-HaveNames mac texts (Ok d) = AreThere d.names (setting_of mac d texts)
-HaveNames mac texts (Err f) = Unit {0}
-
-due_found : (mac : Mac) (texts : List (List ℕ)) (r : Result Deployed DeployFault) (ls : List (List ℕ)) → HaveNames mac texts r → Due (λ more. drive_found mac texts r (lines_then ls more))
-due_found mac texts (Err f) ls there = inl (fault_output f, λ x. omega (arith, x), λ more. refl)
-due_found mac texts (Ok d) ls there =
-    due-behind (λ more. drive_found mac texts (Ok d) (lines_then ls more)) (λ more. drive_readings d (setting_of mac d texts) (lines_then ls more))
+due_deployed : (mac : Mac) (d : Deployed) (texts : List (List ℕ)) (ls : List (List ℕ)) → AreThere d.names (setting_of mac d texts) → Due (λ more. drive_deployed mac d texts (lines_then ls more))
+due_deployed mac d texts ls there =
+    due-behind (λ more. drive_deployed mac d texts (lines_then ls more)) (λ more. drive_readings d (setting_of mac d texts) (lines_then ls more))
     (images_text d.names.modules texts) (λ more. refl) (due_start d (setting_of mac d texts) ls there)
 
-due_head_line : (mac : Mac) (meaning : Meaning) (texts : List (List ℕ)) (text l : List ℕ) (ls : List (List ℕ)) (p q : Bool) → HaveNames mac texts (meaning text) → is_mark l ≡ p
-    → nat_lt most_bytes (length text + length l + 1) ≡ q → Due (λ more. drive_head mac meaning texts (head_behind (text ++ l ++ newline ∷ []) (lines_then ls more)))
-    → Due (λ more. drive_head mac meaning texts (head_behind text (answer.Line l ∷ lines_then ls more)))
-due_head_line mac meaning texts text l ls true q there x y d =
-    due-behind (λ more. drive_head mac meaning texts (head_behind text (answer.Line l ∷ lines_then ls more))) (λ more. drive_found mac texts (meaning text) (lines_then ls more)) []
-    (λ more. rw x refl) (due_found mac texts (meaning text) ls there)
-due_head_line mac meaning texts text l ls false true there x y d = inl (fault_output (fault 1 Nowhere), λ e. omega (arith, e), λ more. rw (x, y) refl)
-due_head_line mac meaning texts text l ls false false there x y d =
-    due-behind (λ more. drive_head mac meaning texts (head_behind text (answer.Line l ∷ lines_then ls more)))
-    (λ more. drive_head mac meaning texts (head_behind (text ++ l ++ newline ∷ []) (lines_then ls more))) [] (λ more. rw (x, y) refl) d
+-- memory ran out, or a line was left out: with a status above 4
+cut_above : (n : ℕ) → n < 5 → (n ≡ out_of_memory) ⊎ (n ≡ left_out) → ⊥
+cut_above n few (inl six) = omega (arith, few, six)
+cut_above n few (inr nine) = omega (arith, few, nine)
 
-due_head : (mac : Mac) (meaning : Meaning) (texts : List (List ℕ)) → ((text : List ℕ) → HaveNames mac texts (meaning text)) → (ls : List (List ℕ)) (text : List ℕ)
-    → Due (λ more. drive_head mac meaning texts (head_behind text (lines_then ls more)))
-due_head mac meaning texts there [] text =
-    inr (
-      [],
-      λ more. drive_head mac meaning texts (head_behind text more),
-      λ more. refl,
-      refl,
-      λ e. omega (arith, e),
-      λ more. head_ends mac meaning texts (head_behind text more),
-    )
-due_head mac meaning texts there (l ∷ ls) text =
-    due_head_line mac meaning texts text l ls (is_mark l) (nat_lt most_bytes (length text + length l + 1)) (there text) refl refl
-    (due_head mac meaning texts there ls (text ++ l ++ newline ∷ []))
-
-pub due_all : (mac : Mac) (meaning : Meaning) (texts : List (List ℕ)) → ((text : List ℕ) → HaveNames mac texts (meaning text)) → (ls : List (List ℕ))
-    → Due (λ more. drive_all mac meaning texts (lines_then ls more))
-due_all mac meaning texts there ls = due_head mac meaning texts there ls []
+pub drive_owes : (mac : Mac) → Owes (drive_part mac)
+drive_owes mac = record {
+  due = λ text d read texts ls. due_deployed mac d texts ls (are_there d (setting_of mac d texts) (sound text d read) refl);
+  ends = λ d texts more. deployed_ends mac d texts more;
+  status = λ d texts more. deployed_same mac d texts more;
+  starved = inl refl;
+  cut = λ n few cut. cut_above n few cut;
+  not_zero = λ d answers u. not_zero d answers u;
+  not_four = λ d answers u. not_four d answers u;
+  not_two = λ d answers. not_two d answers;
+}

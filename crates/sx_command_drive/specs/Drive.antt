@@ -1,15 +1,9 @@
--- What the command `drive` writes, and its exit status: a function of what texts of deployments
--- mean, of the texts of the modules' images, and of the answers that the lines of its input give.
+-- What the command `drive` writes behind the head of a deployment, and its exit status: a function
+-- of the texts of the modules' images, and of the answers that the lines of its input give.
 use Rattle.std.specs.Prelude.{ℕ, if◌then◌else◌, List, ◌++◌, flat_map, codes, decimal}
-use Rattle.std.specs.Prelude.{Result, Ok, Err}
 use Rattle.sx_io.specs.Reading.{Answer}
 use Rattle.sx_told.specs.Told.{Output, behind, unread_output}
 use Rattle.sx_tag.specs.Mac.{Mac}
-use Rattle.sx_stage.specs.declared.fault.Place.TheVariants.{Nowhere}
-use Rattle.sx_stage.specs.declared.fault.DeployFault.{DeployFault}
-use Rattle.sx_stage.specs.Fault.{fault}
-use Rattle.sx_head.specs.Head.{Head, Found, TooLong, NoMark, head}
-use Rattle.sx_head.specs.Head as heads
 use Rattle.sx_trace.specs.Items.{item_text}
 use Rattle.sx_trace.specs.Names.{NameLists}
 use Rattle.sx_sched.specs.Written.{line_text}
@@ -19,8 +13,6 @@ use Rattle.sx_run.specs.Accepted.{setting_of}
 use Rattle.sx_drive.specs.Honest.{Driven, Honest, Said, SaidItem, SaidLine, each, reads}
 use Rattle.sx_drive.specs.Honest.{honest_run}
 use Rattle.sx_command.specs.Output.{line, end_line, fault_output}
-use Rattle.sx_command_head.specs.Meanings.{Meaning}
-use Rattle.sx_command_head.specs.Refused as refused
 use Rattle.sx_command_world.specs.Images.{images_text}
 use Rattle.sx_command_world.specs.Schedule.{Stop, AtEnd, Unread, Breaks}
 use Rattle.sx_command_drive.specs.Readings.{Readings, readings_from}
@@ -82,22 +74,6 @@ drive_readings d set answers =
 abbrev pub drive_deployed : Mac → Deployed → List (List ℕ) → List Answer → Output
 drive_deployed mac d texts more =
     behind (images_text d.names.modules texts) (drive_readings d (setting_of mac d texts) more)
-
--- the honest run of a deployment, or the rule that it breaks
-abbrev pub drive_found : Mac → List (List ℕ) → Result Deployed DeployFault → List Answer → Output
-drive_found mac texts (Ok d) more = drive_deployed mac d texts more
-drive_found mac texts (Err f) more = refused.fault_output f
-
--- what `drive` writes of an input's head
-abbrev pub drive_head : Mac → Meaning → List (List ℕ) → Head → Output
-drive_head mac meaning texts (Found text more) = drive_found mac texts (meaning text) more
-drive_head mac meaning texts TooLong = refused.fault_output (fault 1 Nowhere)
-drive_head mac meaning texts NoMark = refused.fault_output (fault 2 Nowhere)
-drive_head mac meaning texts heads.Unread = unread_output
-
--- the command `drive`
-abbrev pub drive_all : Mac → Meaning → List (List ℕ) → List Answer → Output
-drive_all mac meaning texts answers = drive_head mac meaning texts (head answers)
 
 -- the honest run of the readings that these answers are
 abbrev pub driven_of : Mac → Deployed → List (List ℕ) → List Answer → Driven

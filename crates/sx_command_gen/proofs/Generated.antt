@@ -25,9 +25,10 @@ use Rattle.sx_run.specs.State.{Acted, switched_on}
 use Rattle.sx_command_world.specs.Turning.{broken_output}
 use Rattle.sx_command_world.specs.Schedule.{Stop, AtEnd, Breaks, schedule}
 use Rattle.sx_command_world.specs.Schedule as sched
-use Rattle.sx_command_world.specs.WellFormed.{found_status, stop_status}
+use Rattle.sx_command_world.specs.WellFormed.{schedule_status, stop_status}
+use Rattle.sx_command_deploy.specs.Deploy.{found_status}
 use Rattle.sx_command_head.proofs.Known.{known, is_known}
-use Rattle.sx_command_world.proofs.Stops.{found_not_two}
+use Rattle.sx_command_deploy.proofs.Good.{found_not_two}
 use Rattle.sx_command_gen.proofs.Stated.{status_zero}
 
 -- what `gen` writes where its deployment isn't read
@@ -59,7 +60,7 @@ told_status n a AtEnd = refl
 told_status n a sched.Unread = refl
 told_status n a (Breaks rule number) = refl
 
-gen_status : (mac : Mac) (texts : List (List ℕ)) (n : ℕ) (r : Result Deployed DeployFault) → (gen_found mac texts n r).status ≡ found_status assembled r (workload n)
+gen_status : (mac : Mac) (texts : List (List ℕ)) (n : ℕ) (r : Result Deployed DeployFault) → (gen_found mac texts n r).status ≡ found_status (schedule_status assembled) r (workload n)
 unfolding gen_run
 gen_status mac texts n (Ok d) =
     let set = setting_of mac d texts in
@@ -70,7 +71,7 @@ is_or_not : (a b : ℕ) → (a ≡ b) ⊎ (a ≡ b → ⊥)
 is_or_not a b = grind arith
 
 exactly : {mac : Mac} {n : ℕ} {to_tell : Bool} {k0 k1 : SinkAt} {status : ℕ} (w : GenWith mac n to_tell k0 k1 status) (meaning : Meaning) → IsMeaning meaning
-    → (count.Rose k0.faults k1.faults → ⊥) → (status ≡ out_of_memory) ⊎ (status ≡ found_status assembled (meaning bulk.head) (workload n))
+    → (count.Rose k0.faults k1.faults → ⊥) → (status ≡ out_of_memory) ⊎ (status ≡ found_status (schedule_status assembled) (meaning bulk.head) (workload n))
 exactly {mac} {n} {to_tell} {k0} {k1} {status} w meaning is quiet =
     let e = w.ends meaning is in
     elim (is_or_not status out_of_memory) [

@@ -10,16 +10,16 @@ use Rattle.sx_deploy.proofs.Meanings.{one_meaning}
 use Rattle.sx_sched.specs.declared.lines.LineError.{LineError}
 use Rattle.sx_sched.specs.Lines.{Line}
 use Rattle.sx_sched.specs.Reading.{said_line}
-use Rattle.sx_head.specs.Head.{Found}
 use Rattle.sx_bulk.specs.Bulk as bulk
 use Rattle.sx_bulk.specs.Laws.{names}
 use Rattle.sx_bulk.proofs.Accepts.{accepted}
 use Rattle.sx_bulk.proofs.WellFormed as good
 use Rattle.sx_command_head.specs.Meanings.{Meaning, IsMeaning}
 use Rattle.sx_command_world.specs.Schedule.{judged_line, or_rule}
-use Rattle.sx_command_world.specs.WellFormed.{IsWellFormed, IsGoodRun, found_status}
+use Rattle.sx_command_world.specs.WellFormed.{IsWellFormed, IsGoodRun, schedule_status}
 use Rattle.sx_command_gen.specs.Workload.{answers_from, workload}
-use Rattle.sx_command_world.proofs.Stops.{good_zero}
+use Rattle.sx_command_deploy.specs.Deploy.{found_status}
+use Rattle.sx_command_deploy.proofs.Good.{found_zero}
 
 said_good : (r : Result Line LineError) → IsOk r → IsOk (or_rule r)
 said_good (Ok line) h = h
@@ -49,5 +49,5 @@ is_good meaning is n h =
     subst (λ (r : Result Deployed DeployFault). IsGoodRun assembled r (workload n)) same run
 
 -- so its status is 0
-pub status_zero : (meaning : Meaning) → IsMeaning meaning → (n : ℕ) → n ≤ 8000 → found_status assembled (meaning bulk.head) (workload n) ≡ 0
-status_zero meaning is n h = good_zero meaning (Found bulk.head (workload n)) (is_good meaning is n h)
+pub status_zero : (meaning : Meaning) → IsMeaning meaning → (n : ℕ) → n ≤ 8000 → found_status (schedule_status assembled) (meaning bulk.head) (workload n) ≡ 0
+status_zero meaning is n h = found_zero (meaning bulk.head) (workload n) (is_good meaning is n h)

@@ -22,7 +22,8 @@ use Rattle.sx_command_world.specs.Turning.{broken_output}
 use Rattle.sx_command_world.specs.Images.{images_text}
 use Rattle.sx_command_world.specs.Schedule.{Stop, AtEnd, Breaks, schedule}
 use Rattle.sx_command_world.specs.Schedule as sched
-use Rattle.sx_command_world.specs.WellFormed.{found_status}
+use Rattle.sx_command_world.specs.WellFormed.{schedule_status}
+use Rattle.sx_command_deploy.specs.Deploy.{found_status}
 
 -- the answers of this many of the workload's lines, from the i-th on, and the end after them
 abbrev pub answers_from : ℕ → ℕ → List Answer
@@ -84,7 +85,7 @@ pub record GenTold (mac : Mac) (n : ℕ) (to_tell : Bool) (k0 k1 : SinkAt) (stat
   pub says : GenWrote mac n to_tell k0 k1 status
   pub exact : (meaning : Meaning) → IsMeaning meaning → (count.Rose k0.faults k1.faults → ⊥)
       → (status ≡ out_of_memory)
-      ⊎ (status ≡ found_status assembled (meaning bulk.head) (workload n))
+      ⊎ (status ≡ found_status (schedule_status assembled) (meaning bulk.head) (workload n))
   pub good : (count.Rose k0.faults k1.faults → ⊥) → (status ≡ out_of_memory) ⊎ (status ≡ 0)
   pub write : status ≡ write_failed → k1.faults ≡ count.next_count k0.faults
   pub no_write : (status ≡ write_failed → ⊥) → k1.faults ≡ k0.faults

@@ -1,9 +1,8 @@
 //! The command `gen`: it makes the images of the workload's modules, runs its lines, and tells what
 //! it counted.
 
-ghost use Rattle.std.specs.Prelude.{◌≡◌, ℕ, ◌≤◌, IfOk, IsTrue, List, Ok, length};
-ghost use Rattle.sx_io.specs.Reading.{Answer};
-ghost use Rattle.sx_told.specs.Told.{DoesPart, CommandEnds, Output, behind};
+ghost use Rattle.std.specs.Prelude.{◌≡◌, ◌≤◌, IsTrue, Ok, length};
+ghost use Rattle.sx_told.specs.Told.{CommandEnds};
 ghost use Rattle.sx_trace.specs.Names.{are_valid};
 ghost use Rattle.sx_deploy.specs.Deployment.{IsRead};
 ghost use Rattle.sx_deploy.specs.Law as deployment;
@@ -15,7 +14,6 @@ ghost use Rattle.sx_world.specs.Standing.{Stands};
 ghost use Rattle.sx_run.specs.State.{switched_on};
 ghost use Rattle.sx_bulk.specs.Bulk as bulk;
 ghost use Rattle.sx_command_gen.specs.Counts.{summary};
-ghost use Rattle.sx_command_world.specs.Images.{images_text};
 ghost use Rattle.sx_command_gen.specs.Workload.{GenTold, GenWrote, gen_deployed, gen_run};
 
 use crate::counting::{Stopped, run_workload};
@@ -25,15 +23,14 @@ use sx_bulk::{MOST_SAMPLES, head, lines};
 use sx_bus::Copied;
 use sx_command_head::refusing::refuse;
 use sx_command_world::compiling::compile_all;
-use sx_command_world::images::image_lines;
+use sx_command_world::images::put_images;
 use sx_command_world::judging::break_off;
 use sx_command_world::worlds::new_world;
 use sx_deploy::deployment::{Deployment, read_deployment};
 use sx_image::Image;
 use sx_io::Sink;
 use sx_tag::Tag;
-use sx_told::{OUT_OF_MEMORY, Turned, finish, put_text};
-use sx_trace::names::Names;
+use sx_told::{OUT_OF_MEMORY, Turned, finish};
 use sx_world::world::World;
 
 /// Ends the command with what was counted.
@@ -70,18 +67,6 @@ fn tell_run<K: Sink, B: Copied, T: Tag>(
         Ok(counts) => tell(alloc, samples, &counts, world.steps(), output),
         Err(Stopped::Broken { rule, number }) => break_off(output, rule, number),
         Err(Stopped::OutOfMemory) => OUT_OF_MEMORY,
-    }
-}
-
-/// Writes the lines of all images.
-fn put_images<K: Sink>(alloc: Global, names: &Names, images: &[Image], output: &mut K) -> Turned
-    ensures { (left : List Answer → Output) → DoesPart K.tells (K.at output.old) (K.at output.new)
-        (λ more. behind (images_text names.now.modules (texts_of images.now)) (left more))
-        result left }
-{
-    match image_lines(alloc, &names.modules, images) {
-        Ok(text) => put_text(output, &text),
-        Err(_) => Turned::Stop(OUT_OF_MEMORY),
     }
 }
 

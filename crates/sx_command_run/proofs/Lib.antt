@@ -1,5 +1,4 @@
 pub mod Batches
-pub mod Behind
 pub mod Between
 pub mod Legality
 pub mod Owing

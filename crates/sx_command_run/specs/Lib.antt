@@ -2,4 +2,3 @@ pub mod Batch
 pub mod Run
 pub mod Runs
 pub mod Turns
-pub mod Afterwards

@@ -1,14 +1,10 @@
--- What the command `run` writes, and its exit status: a function of the assembler, of what texts of
--- deployments mean, of the texts of the modules' images, and of the answers that the lines of its
+-- What the command `run` writes behind the head of a deployment, and its exit status: a function
+-- of the assembler, of the texts of the modules' images, and of the answers that the lines of its
 -- input give.
-use Rattle.std.specs.Prelude.{ℕ, List, ◌++◌, flat_map, Result, Ok, Err}
+use Rattle.std.specs.Prelude.{ℕ, List, ◌++◌, flat_map}
 use Rattle.sx_io.specs.Reading.{Answer}
 use Rattle.sx_told.specs.Told.{Output, behind, unread_output}
 use Rattle.sx_tag.specs.Mac.{Mac}
-use Rattle.sx_stage.specs.declared.fault.Place.TheVariants.{Nowhere}
-use Rattle.sx_stage.specs.declared.fault.DeployFault.{DeployFault}
-use Rattle.sx_stage.specs.Fault.{fault}
-use Rattle.sx_head.specs.Head.{Head, Found, TooLong, NoMark, Unread, head}
 use Rattle.sx_trace.specs.declared.items.Item.{Item}
 use Rattle.sx_trace.specs.Names.{NameLists}
 use Rattle.sx_trace.specs.Items.{item_text}
@@ -19,8 +15,6 @@ use Rattle.sx_run.specs.Accepted.{setting_of}
 use Rattle.sx_run.specs.Run.{run}
 use Rattle.sx_sched.specs.Reading.{Assembler}
 use Rattle.sx_command.specs.Output.{line, trace_line, end_line}
-use Rattle.sx_command_head.specs.Meanings.{Meaning}
-use Rattle.sx_command_head.specs.Refused.{fault_output}
 use Rattle.sx_command_world.specs.Schedule.{Stop, AtEnd, Breaks, Schedule, schedule}
 use Rattle.sx_command_world.specs.Schedule as sched
 use Rattle.sx_command_world.specs.Images.{images_text}
@@ -58,34 +52,11 @@ run_from assemble names set w number answers =
 abbrev pub run_at_start : Assembler → NameLists → Setting → List Answer → Output
 run_at_start assemble names set more = run_from assemble names set (switched_on set) 1 more
 
--- what the schedule of a deployment writes
-abbrev pub run_schedule : Assembler → Mac → Deployed → List (List ℕ) → List Answer → Output
-run_schedule assemble mac d texts more =
-    run_at_start assemble d.names (setting_of mac d texts) more
-
 -- the images, `trace`, and what the schedule writes
 abbrev pub run_deployed : Assembler → Mac → Deployed → List (List ℕ) → List Answer → Output
 run_deployed assemble mac d texts more =
     behind (images_text d.names.modules texts ++ trace_line)
-    (run_schedule assemble mac d texts more)
-
--- the run of a deployment, or the rule that it breaks
-abbrev pub run_found : Assembler → Mac → List (List ℕ) → Result Deployed DeployFault → List Answer
-    → Output
-run_found assemble mac texts (Ok d) more = run_deployed assemble mac d texts more
-run_found assemble mac texts (Err f) more = fault_output f
-
--- what `run` writes of an input's head
-abbrev pub run_head : Assembler → Mac → Meaning → List (List ℕ) → Head → Output
-run_head assemble mac meaning texts (Found text more) =
-    run_found assemble mac texts (meaning text) more
-run_head assemble mac meaning texts TooLong = fault_output (fault 1 Nowhere)
-run_head assemble mac meaning texts NoMark = fault_output (fault 2 Nowhere)
-run_head assemble mac meaning texts Unread = unread_output
-
--- the command `run`
-abbrev pub run_all : Assembler → Mac → Meaning → List (List ℕ) → List Answer → Output
-run_all assemble mac meaning texts answers = run_head assemble mac meaning texts (head answers)
+    (run_at_start assemble d.names (setting_of mac d texts) more)
 
 -- the items of the run of a schedule that these answers are
 abbrev pub items_of : Assembler → Mac → Deployed → List (List ℕ) → List Answer → List Item

@@ -21,7 +21,7 @@ ghost use Rattle.sx_command_world.specs.Turning.{MayRunOut};
 use crate::trace::put_items;
 use std::alloc::Global;
 use sx_bus::Copied;
-use sx_command_world::images::put_images;
+use sx_command_world::images::begin_trace;
 use sx_command_world::judging::{TOO_LONG, break_off, judge};
 use sx_deploy::deployment::Deployment;
 use sx_image::Image;
@@ -166,7 +166,7 @@ pub(crate) fn run_built<S: Source, K: Sink, B: Copied, T: Tag>(
         (command_at (S.at input.new) (K.at output.new)) result
         (run_deployed assembled T.mac (deployed_as plan.now) (texts_of images.now)) }
 {
-    match put_images(alloc, &plan.names, images, output) {
+    match begin_trace(alloc, &plan.names, images, output) {
         Turned::Stop(status) => status,
         Turned::On => run_lines(alloc, lines, input, output, plan, world),
     }

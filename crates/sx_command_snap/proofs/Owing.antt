@@ -1,23 +1,17 @@
--- What is due of some lines of an input of `snap` is due of more of them too.
-use Rattle.std.proofs.Common.{◌≡◌, ℕ, ◌+◌, List, [], ◌∷◌, ◌++◌, length, nat_lt, refl, arith, Result, Ok, Err, inl, inr, Bool, true, false}
+-- What `snap` owes behind the head of a deployment.
+use Rattle.std.proofs.Common.{◌≡◌, ℕ, ◌+◌, List, [], ◌∷◌, ◌++◌, length, refl, arith, Result, Ok, Err, inl, inr, Bool, true, false}
 use Rattle.sx_asm.specs.Assembled.{assembled}
-use Rattle.sx_io.specs.Reading.{Answer, End, Long, Fault, newline}
+use Rattle.sx_io.specs.Reading.{Answer, End, Long, Fault}
 use Rattle.sx_io.specs.Reading as answer
 use Rattle.sx_told.specs.Told.{Output}
 use Rattle.sx_told.proofs.Due.{lines_then, EndsUnread, Due, due-behind, behind-ends}
 use Rattle.sx_tag.specs.Mac.{Mac}
-use Rattle.sx_stage.specs.declared.fault.DeployFault.{DeployFault}
-use Rattle.sx_stage.specs.declared.fault.Place.TheVariants.{Nowhere}
-use Rattle.sx_stage.specs.Fault.{fault}
-use Rattle.sx_head.specs.Head.{Head, Found, TooLong, NoMark, head_behind, is_mark, most_bytes}
-use Rattle.sx_head.specs.Head as heads
+use Rattle.sx_head.specs.Head.{is_mark}
 use Rattle.sx_trace.specs.Names.{NameLists}
 use Rattle.sx_sched.specs.Lines.{Line}
-use Rattle.sx_deploy.specs.Deployment.{Deployed}
 use Rattle.sx_run.specs.Setting.{Setting}
 use Rattle.sx_run.specs.Accepted.{setting_of}
-use Rattle.sx_command_head.specs.Meanings.{Meaning}
-use Rattle.sx_command_head.specs.Refused.{fault_output}
+use Rattle.sx_command_deploy.proofs.Owing.{Owes}
 use Rattle.sx_command_world.specs.Schedule.{judged_line}
 use Rattle.sx_command_world.specs.Images.{images_text}
 use Rattle.sx_command_world.specs.Turning.{broken_output}
@@ -25,7 +19,9 @@ use Rattle.sx_command_snap.specs.declared.queries.Query.{Query}
 use Rattle.sx_command_snap.specs.Queries.{judged_query}
 use Rattle.sx_command_snap.specs.Answers.{answer_text}
 use Rattle.sx_command_snap.specs.Reading.{Asking, Asks, Breaks, Unread, asking}
-use Rattle.sx_command_snap.specs.Snap.{answers_from, asked_output, on_query, query_fault, snap_all, snap_found, snap_from, snap_head}
+use Rattle.sx_command_snap.specs.Snap.{answers_from, asked_output, on_query, query_fault, snap_from}
+use Rattle.sx_command_snap.specs.Snaps.{snap_part}
+use Rattle.sx_command_snap.proofs.Statuses.{deployed_same, not_zero, not_four, not_two}
 use Rattle.sx_command_snap.proofs.Written.{asks_breaks, asks_line, asks_mark, asks_unread, query_line}
 
 -- ---- where a read failed, its line is the last
@@ -51,16 +47,6 @@ asked_ends names set images Unread e = ([], refl)
 snap_ends : (names : NameLists) (set : Setting) (images : List ℕ) (before : List Line) (more : List Answer) → EndsUnread (snap_from names set images before more)
 unfolding snap_from
 snap_ends names set images before more e = asked_ends names set images (asking names before more) e
-
-found_ends : (mac : Mac) (texts : List (List ℕ)) (r : Result Deployed DeployFault) (more : List Answer) → EndsUnread (snap_found mac texts r more)
-found_ends mac texts (Err f) more e = absurd (omega (arith, e))
-found_ends mac texts (Ok d) more e = snap_ends d.names (setting_of mac d texts) (images_text d.names.modules texts) [] more e
-
-head_ends : (mac : Mac) (meaning : Meaning) (texts : List (List ℕ)) (h : Head) → EndsUnread (snap_head mac meaning texts h)
-head_ends mac meaning texts (Found text more) e = found_ends mac texts (meaning text) more e
-head_ends mac meaning texts TooLong e = absurd (omega (arith, e))
-head_ends mac meaning texts NoMark e = absurd (omega (arith, e))
-head_ends mac meaning texts heads.Unread e = ([], refl)
 
 -- ---- line by line
 
@@ -107,35 +93,14 @@ due_snap names set images [] before =
 due_snap names set images (l ∷ ls) before =
     due_line names set images before l ls (is_mark l) (judged_line assembled names (length before + 1) l) refl refl (λ line. due_snap names set images ls (before ++ line ∷ []))
 
-due_found : (mac : Mac) (texts : List (List ℕ)) (r : Result Deployed DeployFault) (ls : List (List ℕ)) → Due (λ more. snap_found mac texts r (lines_then ls more))
-due_found mac texts (Err f) ls = inl (fault_output f, λ x. omega (arith, x), λ more. refl)
-due_found mac texts (Ok d) ls = due_snap d.names (setting_of mac d texts) (images_text d.names.modules texts) ls []
-
-due_head_line : (mac : Mac) (meaning : Meaning) (texts : List (List ℕ)) (text l : List ℕ) (ls : List (List ℕ)) (p q : Bool) → is_mark l ≡ p
-    → nat_lt most_bytes (length text + length l + 1) ≡ q → Due (λ more. snap_head mac meaning texts (head_behind (text ++ l ++ newline ∷ []) (lines_then ls more)))
-    → Due (λ more. snap_head mac meaning texts (head_behind text (answer.Line l ∷ lines_then ls more)))
-due_head_line mac meaning texts text l ls true q x y d =
-    due-behind (λ more. snap_head mac meaning texts (head_behind text (answer.Line l ∷ lines_then ls more))) (λ more. snap_found mac texts (meaning text) (lines_then ls more)) []
-    (λ more. rw x refl) (due_found mac texts (meaning text) ls)
-due_head_line mac meaning texts text l ls false true x y d = inl (fault_output (fault 1 Nowhere), λ e. omega (arith, e), λ more. rw (x, y) refl)
-due_head_line mac meaning texts text l ls false false x y d =
-    due-behind (λ more. snap_head mac meaning texts (head_behind text (answer.Line l ∷ lines_then ls more)))
-    (λ more. snap_head mac meaning texts (head_behind (text ++ l ++ newline ∷ []) (lines_then ls more))) [] (λ more. rw (x, y) refl) d
-
-due_head : (mac : Mac) (meaning : Meaning) (texts : List (List ℕ)) (ls : List (List ℕ)) (text : List ℕ)
-    → Due (λ more. snap_head mac meaning texts (head_behind text (lines_then ls more)))
-due_head mac meaning texts [] text =
-    inr (
-      [],
-      λ more. snap_head mac meaning texts (head_behind text more),
-      λ more. refl,
-      refl,
-      λ e. omega (arith, e),
-      λ more. head_ends mac meaning texts (head_behind text more),
-    )
-due_head mac meaning texts (l ∷ ls) text =
-    due_head_line mac meaning texts text l ls (is_mark l) (nat_lt most_bytes (length text + length l + 1)) refl refl
-    (due_head mac meaning texts ls (text ++ l ++ newline ∷ []))
-
-pub due_all : (mac : Mac) (meaning : Meaning) (texts : List (List ℕ)) (ls : List (List ℕ)) → Due (λ more. snap_all mac meaning texts (lines_then ls more))
-due_all mac meaning texts ls = due_head mac meaning texts ls []
+pub snap_owes : (mac : Mac) → Owes (snap_part mac)
+snap_owes mac = record {
+  due = λ text d read texts ls. due_snap d.names (setting_of mac d texts) (images_text d.names.modules texts) ls [];
+  ends = λ d texts more. snap_ends d.names (setting_of mac d texts) (images_text d.names.modules texts) [] more;
+  status = λ d texts more. inr (deployed_same mac d texts more);
+  starved = refl;
+  cut = λ n few six. let e : n ≡ 6 = six in omega (arith, few, e);
+  not_zero = λ d answers u. not_zero d answers u;
+  not_four = λ d answers u. not_four d answers u;
+  not_two = λ d answers. not_two d answers;
+}

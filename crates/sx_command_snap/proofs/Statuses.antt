@@ -1,27 +1,24 @@
 -- The status of `snap` is that of the input, whatever the images are.
-use Rattle.std.proofs.Common.{◌≡◌, ℕ, ◌+◌, List, [], ◌∷◌, ◌++◌, length, nat_lt, refl, arith, Result, Ok, Err}
+use Rattle.std.proofs.Common.{◌≡◌, ℕ, ◌+◌, List, [], ◌∷◌, ◌++◌, length, refl, arith, Result, Ok, Err}
 use Rattle.sx_asm.specs.Assembled.{assembled}
 use Rattle.sx_io.specs.Reading.{Answer, End, Long, Fault}
 use Rattle.sx_io.specs.Reading as answer
 use Rattle.sx_told.specs.Told.{Output}
 use Rattle.sx_told.proofs.Endings.{pick, Unfinished, Faultless}
 use Rattle.sx_tag.specs.Mac.{Mac}
-use Rattle.sx_stage.specs.declared.fault.DeployFault.{DeployFault}
-use Rattle.sx_head.specs.Head.{Head, Found, TooLong, NoMark, head, head_behind, is_mark, most_bytes}
-use Rattle.sx_head.specs.Head as heads
+use Rattle.sx_head.specs.Head.{is_mark}
 use Rattle.sx_trace.specs.Names.{NameLists}
 use Rattle.sx_sched.specs.Lines.{Line}
 use Rattle.sx_deploy.specs.Deployment.{Deployed}
 use Rattle.sx_run.specs.Setting.{Setting}
 use Rattle.sx_run.specs.Accepted.{setting_of}
-use Rattle.sx_command_head.specs.Meanings.{Meaning}
 use Rattle.sx_command_world.specs.Schedule.{judged_line}
 use Rattle.sx_command_world.specs.Images.{images_text}
 use Rattle.sx_command_snap.specs.declared.queries.Query.{Query}
 use Rattle.sx_command_snap.specs.Queries.{judged_query}
 use Rattle.sx_command_snap.specs.Reading.{Asking, Asks, Breaks, Unread, asking, on_line}
-use Rattle.sx_command_snap.specs.Snap.{answers_from, asked_output, on_query, snap_all, snap_found, snap_from, snap_head}
-use Rattle.sx_command_snap.specs.Statuses.{asking_status, found_status, head_status, queries_status, query_status, snap_status}
+use Rattle.sx_command_snap.specs.Snap.{answers_from, asked_output, on_query, snap_deployed, snap_from}
+use Rattle.sx_command_snap.specs.Statuses.{asking_status, queries_status, query_status, snap_status}
 
 query_same : (names : NameLists) (set : Setting) (lines : List Line) (number : ℕ) (r : Result Query ℕ) (rest : Output) (n : ℕ) → rest.status ≡ n
     → (on_query names set lines number r rest).status ≡ query_status r n
@@ -43,19 +40,9 @@ asked_same names set images (Asks lines more) = answers_same names set lines 1 m
 asked_same names set images (Breaks rule number) = refl
 asked_same names set images Unread = refl
 
-found_same : (mac : Mac) (texts : List (List ℕ)) (r : Result Deployed DeployFault) (more : List Answer) → (snap_found mac texts r more).status ≡ found_status r more
+pub deployed_same : (mac : Mac) (d : Deployed) (texts : List (List ℕ)) (more : List Answer) → (snap_deployed mac d texts more).status ≡ snap_status d more
 unfolding snap_from
-found_same mac texts (Ok d) more = asked_same d.names (setting_of mac d texts) (images_text d.names.modules texts) (asking d.names [] more)
-found_same mac texts (Err f) more = refl
-
-head_same : (mac : Mac) (meaning : Meaning) (texts : List (List ℕ)) (h : Head) → (snap_head mac meaning texts h).status ≡ head_status meaning h
-head_same mac meaning texts (Found text more) = found_same mac texts (meaning text) more
-head_same mac meaning texts TooLong = refl
-head_same mac meaning texts NoMark = refl
-head_same mac meaning texts heads.Unread = refl
-
-pub output_status : (mac : Mac) (meaning : Meaning) (texts : List (List ℕ)) (answers : List Answer) → (snap_all mac meaning texts answers).status ≡ snap_status meaning answers
-output_status mac meaning texts answers = head_same mac meaning texts (head answers)
+deployed_same mac d texts more = asked_same d.names (setting_of mac d texts) (images_text d.names.modules texts) (asking d.names [] more)
 
 -- ---- statuses that answers of a kind don't give
 
@@ -67,11 +54,6 @@ line_not : (n : ℕ) (names : NameLists) (before : List Line) (r : Result Line �
     → ((lines : List Line) → asking_status names (rest lines) ≡ n → ⊥) → asking_status names (on_line before r rest) ≡ n → ⊥
 line_not n names before (Err rule) rest three h e = three e
 line_not n names before (Ok line) rest three h e = h (before ++ line ∷ []) e
-
-found_not : (n : ℕ) (r : Result Deployed DeployFault) (more : List Answer) → (1 ≡ n → ⊥) → ((names : NameLists) → asking_status names (asking names [] more) ≡ n → ⊥)
-    → found_status r more ≡ n → ⊥
-found_not n (Ok d) more one h e = h d.names e
-found_not n (Err f) more one h e = one e
 
 -- answers that no end of the input ends don't give status 0
 queries_not_zero : (names : NameLists) (last number : ℕ) (answers : List Answer) → Unfinished answers → queries_status names last number answers ≡ 0 → ⊥
@@ -91,18 +73,8 @@ asking_not_zero names before (answer.Line text ∷ more) u e =
     pick (is_mark text) (Asks before more) _ (λ x. asking_status names x ≡ 0 → ⊥) (queries_not_zero names (length before) 1 more u)
     (line_not 0 names before (judged_line assembled names (length before + 1) text) (λ lines. asking names lines more) (λ x. omega (arith, x)) (λ lines. asking_not_zero names lines more u)) e
 
-behind_not_zero : (meaning : Meaning) (text : List ℕ) (answers : List Answer) → Unfinished answers → head_status meaning (head_behind text answers) ≡ 0 → ⊥
-behind_not_zero meaning text [] u e = u
-behind_not_zero meaning text (End ∷ more) u e = u
-behind_not_zero meaning text (Long ∷ more) u e = omega (arith, e)
-behind_not_zero meaning text (Fault ∷ more) u e = omega (arith, e)
-behind_not_zero meaning text (answer.Line line ∷ more) u e =
-    pick (is_mark line) (Found text more) _ (λ h. head_status meaning h ≡ 0 → ⊥)
-    (found_not 0 (meaning text) more (λ x. omega (arith, x)) (λ names. asking_not_zero names [] more u))
-    (pick (nat_lt most_bytes (length text + length line + 1)) TooLong _ (λ h. head_status meaning h ≡ 0 → ⊥) (λ x. omega (arith, x)) (behind_not_zero meaning _ more u)) e
-
-pub not_zero : (meaning : Meaning) (answers : List Answer) → Unfinished answers → snap_status meaning answers ≡ 0 → ⊥
-not_zero meaning answers u = behind_not_zero meaning [] answers u
+pub not_zero : (d : Deployed) (answers : List Answer) → Unfinished answers → snap_status d answers ≡ 0 → ⊥
+not_zero d answers u e = asking_not_zero d.names [] answers u e
 
 -- answers without a read that failed don't give status 4
 queries_not_four : (names : NameLists) (last number : ℕ) (answers : List Answer) → Faultless answers → queries_status names last number answers ≡ 4 → ⊥
@@ -122,18 +94,8 @@ asking_not_four names before (answer.Line text ∷ more) u e =
     pick (is_mark text) (Asks before more) _ (λ x. asking_status names x ≡ 4 → ⊥) (queries_not_four names (length before) 1 more u)
     (line_not 4 names before (judged_line assembled names (length before + 1) text) (λ lines. asking names lines more) (λ x. omega (arith, x)) (λ lines. asking_not_four names lines more u)) e
 
-behind_not_four : (meaning : Meaning) (text : List ℕ) (answers : List Answer) → Faultless answers → head_status meaning (head_behind text answers) ≡ 4 → ⊥
-behind_not_four meaning text [] u e = omega (arith, e)
-behind_not_four meaning text (End ∷ more) u e = omega (arith, e)
-behind_not_four meaning text (Long ∷ more) u e = omega (arith, e)
-behind_not_four meaning text (Fault ∷ more) u e = u
-behind_not_four meaning text (answer.Line line ∷ more) u e =
-    pick (is_mark line) (Found text more) _ (λ h. head_status meaning h ≡ 4 → ⊥)
-    (found_not 4 (meaning text) more (λ x. omega (arith, x)) (λ names. asking_not_four names [] more u))
-    (pick (nat_lt most_bytes (length text + length line + 1)) TooLong _ (λ h. head_status meaning h ≡ 4 → ⊥) (λ x. omega (arith, x)) (behind_not_four meaning _ more u)) e
-
-pub not_four : (meaning : Meaning) (answers : List Answer) → Faultless answers → snap_status meaning answers ≡ 4 → ⊥
-not_four meaning answers u = behind_not_four meaning [] answers u
+pub not_four : (d : Deployed) (answers : List Answer) → Faultless answers → snap_status d answers ≡ 4 → ⊥
+not_four d answers u e = asking_not_four d.names [] answers u e
 
 -- no answers give status 2
 queries_not_two : (names : NameLists) (last number : ℕ) (answers : List Answer) → queries_status names last number answers ≡ 2 → ⊥
@@ -149,8 +111,5 @@ asking_not_two names (Asks lines more) e = queries_not_two names (length lines) 
 asking_not_two names (Breaks rule number) e = omega (arith, e)
 asking_not_two names Unread e = omega (arith, e)
 
-pub not_two : (meaning : Meaning) (h : Head) → head_status meaning h ≡ 2 → ⊥
-not_two meaning (Found text more) e = found_not 2 (meaning text) more (λ x. omega (arith, x)) (λ names. asking_not_two names (asking names [] more)) e
-not_two meaning TooLong e = omega (arith, e)
-not_two meaning NoMark e = omega (arith, e)
-not_two meaning heads.Unread e = omega (arith, e)
+pub not_two : (d : Deployed) (answers : List Answer) → snap_status d answers ≡ 2 → ⊥
+not_two d answers e = asking_not_two d.names (asking d.names [] answers) e

@@ -1,23 +1,16 @@
--- What the command `snap` writes, and its exit status: a function of what texts of deployments
--- mean, of the texts of the modules' images, and of the answers that the lines of its input give.
+-- What the command `snap` writes behind the head of a deployment, and its exit status: a function
+-- of the texts of the modules' images, and of the answers that the lines of its input give.
 use Rattle.std.specs.Prelude.{ℕ, ◌+◌, List, [], ◌∷◌, length, codes, Result, Ok, Err}
 use Rattle.sx_io.specs.Reading.{Answer, End, Long, Fault}
 use Rattle.sx_io.specs.Reading as answer
 use Rattle.sx_told.specs.Told.{Output, behind, unread_output}
 use Rattle.sx_tag.specs.Mac.{Mac}
-use Rattle.sx_stage.specs.declared.fault.Place.TheVariants.{Nowhere}
-use Rattle.sx_stage.specs.declared.fault.DeployFault.{DeployFault}
-use Rattle.sx_stage.specs.Fault.{fault}
-use Rattle.sx_head.specs.Head.{Head, Found, TooLong, NoMark, head}
-use Rattle.sx_head.specs.Head as heads
 use Rattle.sx_trace.specs.Names.{NameLists}
 use Rattle.sx_sched.specs.Lines.{Line}
 use Rattle.sx_deploy.specs.Deployment.{Deployed}
 use Rattle.sx_run.specs.Setting.{Setting}
 use Rattle.sx_run.specs.Accepted.{setting_of}
 use Rattle.sx_command.specs.Output.{end_line, fault_output}
-use Rattle.sx_command_head.specs.Meanings.{Meaning}
-use Rattle.sx_command_head.specs.Refused as refused
 use Rattle.sx_command_world.specs.Images.{images_text}
 use Rattle.sx_command_world.specs.Turning.{broken_output}
 use Rattle.sx_command_snap.specs.declared.queries.Query.{Query}
@@ -66,19 +59,3 @@ snap_from names set images before answers =
 abbrev pub snap_deployed : Mac → Deployed → List (List ℕ) → List Answer → Output
 snap_deployed mac d texts more =
     snap_from d.names (setting_of mac d texts) (images_text d.names.modules texts) [] more
-
--- the answers about a deployment, or the rule that it breaks
-abbrev pub snap_found : Mac → List (List ℕ) → Result Deployed DeployFault → List Answer → Output
-snap_found mac texts (Ok d) more = snap_deployed mac d texts more
-snap_found mac texts (Err f) more = refused.fault_output f
-
--- what `snap` writes of an input's head
-abbrev pub snap_head : Mac → Meaning → List (List ℕ) → Head → Output
-snap_head mac meaning texts (Found text more) = snap_found mac texts (meaning text) more
-snap_head mac meaning texts TooLong = refused.fault_output (fault 1 Nowhere)
-snap_head mac meaning texts NoMark = refused.fault_output (fault 2 Nowhere)
-snap_head mac meaning texts heads.Unread = unread_output
-
--- the command `snap`
-abbrev pub snap_all : Mac → Meaning → List (List ℕ) → List Answer → Output
-snap_all mac meaning texts answers = snap_head mac meaning texts (head answers)

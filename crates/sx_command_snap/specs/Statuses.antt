@@ -2,12 +2,8 @@
 use Rattle.std.specs.Prelude.{ℕ, ◌+◌, List, [], ◌∷◌, length, Result, Ok, Err}
 use Rattle.sx_io.specs.Reading.{Answer, Line, End, Long, Fault}
 use Rattle.sx_told.specs.Told.{read_failed}
-use Rattle.sx_stage.specs.declared.fault.DeployFault.{DeployFault}
-use Rattle.sx_head.specs.Head.{Head, Found, TooLong, NoMark, head}
-use Rattle.sx_head.specs.Head as heads
 use Rattle.sx_trace.specs.Names.{NameLists}
 use Rattle.sx_deploy.specs.Deployment.{Deployed}
-use Rattle.sx_command_head.specs.Meanings.{Meaning}
 use Rattle.sx_command_snap.specs.declared.queries.Query.{Query}
 use Rattle.sx_command_snap.specs.Queries.{judged_query}
 use Rattle.sx_command_snap.specs.Reading.{Asking, Asks, Breaks, Unread, asking}
@@ -33,18 +29,6 @@ asking_status names (Asks lines more) = queries_status names (length lines) 1 mo
 asking_status names (Breaks rule number) = 3
 asking_status names Unread = read_failed
 
--- the exit status by the deployment, the schedule and the queries
-abbrev pub found_status : Result Deployed DeployFault → List Answer → ℕ
-found_status (Ok d) more = asking_status d.names (asking d.names [] more)
-found_status (Err f) more = 1
-
--- the exit status by an input's head
-abbrev pub head_status : Meaning → Head → ℕ
-head_status meaning (Found text more) = found_status (meaning text) more
-head_status meaning TooLong = 1
-head_status meaning NoMark = 1
-head_status meaning heads.Unread = read_failed
-
--- the status of `snap`, of the answers alone
-abbrev pub snap_status : Meaning → List Answer → ℕ
-snap_status meaning answers = head_status meaning (head answers)
+-- the exit status behind the head of a deployment
+abbrev pub snap_status : Deployed → List Answer → ℕ
+snap_status d more = asking_status d.names (asking d.names [] more)

@@ -17,10 +17,10 @@ ghost use Rattle.sx_command_world.specs.Turning.{MayRunOut};
 ghost use Rattle.sx_command_snap.specs.Kept.{KeepsLine};
 ghost use Rattle.sx_command_snap.specs.Snap.{answers_from, ended_output, snap_from};
 
-use crate::images::put_images;
 use crate::querying::answer_queries;
 use std::alloc::Global;
 use sx_bus::Copied;
+use sx_command_world::images::put_images;
 use sx_command_world::judging::{TOO_LONG, break_off, judge};
 use sx_deploy::deployment::Deployment;
 use sx_head::is_mark;

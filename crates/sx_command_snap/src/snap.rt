@@ -1,28 +1,19 @@
-//! The command `snap`: it reads a deployment, makes its modules' images, keeps a schedule, and
-//! answers queries about where its run stands after any line.
+//! The command `snap`: behind the head it keeps a schedule, and answers queries about where its run
+//! stands after any line.
 
-ghost use Rattle.std.specs.Prelude.{◌≡◌, ℕ, List, IfErr, IfOk, IsTrue, OnErr, Ok, [], length};
-ghost use Rattle.sx_told.specs.Told.{Rest, command_at};
-ghost use Rattle.sx_head.specs.Head.{head_lines};
-ghost use Rattle.sx_trace.specs.Names.{are_valid};
-ghost use Rattle.sx_deploy.specs.Deployment.{IsRead};
+ghost use Rattle.std.specs.Prelude.{◌≡◌, IfOk, [], length};
+ghost use Rattle.sx_told.specs.Told.{command_at};
 ghost use Rattle.sx_deploy.specs.Law.{IsSoundDeployment};
 ghost use Rattle.sx_deploy.specs.SeenDeployment.{deployed_as};
-ghost use Rattle.sx_run.specs.Accepted.{AreImages};
-ghost use Rattle.sx_world.specs.InMemory.{image_setting, texts_of};
+ghost use Rattle.sx_world.specs.InMemory.{image_setting};
 ghost use Rattle.sx_snap.specs.Timeline.{IsTimeline};
-ghost use Rattle.sx_command_head.specs.Refused.{EndsRefused};
-ghost use Rattle.sx_command_snap.specs.Snap.{snap_deployed};
-ghost use Rattle.sx_command_snap.specs.Snaps.{SnapSays, SnapsOrRanOut};
+ghost use Rattle.sx_command_snap.specs.Snaps.{SnapSays};
 
 use crate::schedule::snap_lines;
 use std::alloc::{AllocError, Global};
-use sx_command_head::refusing::{refuse, refuse_head};
-use sx_command_world::compiling::compile_all;
+use sx_command_deploy::{Deploys, deploy_over};
 use sx_command_world::nodes::nodes_of;
-use sx_deploy::DeployError;
-use sx_deploy::deployment::{Deployment, read_deployment};
-use sx_head::read_head;
+use sx_deploy::deployment::Deployment;
 use sx_image::Image;
 use sx_io::{Lines, Sink, Source};
 use sx_paged::PagedBus;
@@ -50,100 +41,31 @@ fn new_timeline<T: Tag + Copy>(
     Timeline::new(alloc, tag, plan, images, nodes, EVERY)
 }
 
-/// Answers the queries about a deployment with these images of its modules.
-fn snap_images<S: Source, K: Sink, T: Tag + Copy>(
-    alloc: Global,
-    tag: T,
-    lines: &mut Lines,
-    input: &mut S,
-    output: &mut K,
-    plan: &Deployment,
-    images: &[Image],
-) -> u8
-    requires sound { IsSoundDeployment (deployed_as plan.now) }
-    requires names { IsTrue (are_valid (deployed_as plan.now).names) }
-    requires many { length images.now ≡ length plan.now.app.parts.items }
-    requires images { AreImages T.mac (deployed_as plan.now) (texts_of images.now) }
-    ensures { Rest S.tells K.tells head_lines lines.old
-        (command_at (S.at input.old) (K.at output.old))
-        (command_at (S.at input.new) (K.at output.new)) result
-        (snap_deployed T.mac (deployed_as plan.now) (texts_of images.now)) }
-{
-    match new_timeline(alloc, tag, plan, images) {
-        Ok(mut timeline) => snap_lines(alloc, lines, input, output, plan, images, &mut timeline),
-        Err(_) => OUT_OF_MEMORY,
-    }
-}
+/// The command `snap`, as one that deploys.
+struct SnapCommand;
 
-/// Makes the images of a deployment's modules, and answers the queries about it.
-fn snap_deployment<S: Source, K: Sink, T: Tag + Copy>(
-    alloc: Global,
-    tag: T,
-    lines: &mut Lines,
-    input: &mut S,
-    output: &mut K,
-    plan: &Deployment,
-) -> u8
-    requires sound { IsSoundDeployment (deployed_as plan.now) }
-    requires names { IsTrue (are_valid (deployed_as plan.now).names) }
-    ensures { (text : List ℕ) → IsRead text (Ok (deployed_as plan.now))
-        → SnapsOrRanOut T.mac S.tells K.tells lines.old
-        (command_at (S.at input.old) (K.at output.old))
-        (command_at (S.at input.new) (K.at output.new)) result text }
-{
-    match compile_all(alloc, &tag, plan) {
-        Ok(images) => snap_images(alloc, tag, lines, input, output, plan, &images),
-        Err(_) => OUT_OF_MEMORY,
-    }
-}
+impl Deploys for SnapCommand {
+    ghost use Rattle.sx_command_snap.specs.Snap.{snap_deployed};
 
-/// Does what follows the head of a text by what reading the text gave. To say which rule it breaks
-/// takes no memory, and reads nothing.
-fn snap_read<S: Source, K: Sink, T: Tag + Copy>(
-    alloc: Global,
-    tag: T,
-    read: Result<Deployment, DeployError>,
-    lines: &mut Lines,
-    input: &mut S,
-    output: &mut K,
-) -> u8
-    requires sound { IfOk read (λ plan. IsSoundDeployment (deployed_as plan)) }
-    requires names { IfOk read (λ plan. IsTrue (are_valid (deployed_as plan).names)) }
-    ensures snaps { IfOk read (λ plan. (text : List ℕ) → IsRead text (Ok (deployed_as plan))
-        → SnapsOrRanOut T.mac S.tells K.tells lines.old
-        (command_at (S.at input.old) (K.at output.old))
-        (command_at (S.at input.new) (K.at output.new)) result text) }
-    ensures refused { IfErr read (λ error.
-        EndsRefused K.tells (K.at output.old) (K.at output.new) result error) }
-    ensures unread { OnErr read (S.at input.new ≡ S.at input.old) }
-{
-    match read {
-        Ok(plan) => snap_deployment(alloc, tag, lines, input, output, &plan),
-        Err(error) => refuse(error, output),
-    }
-}
+    ghost behind = { snap_deployed };
 
-/// Does what follows the head of this text.
-fn snap_text<S: Source, K: Sink, T: Tag + Copy>(
-    alloc: Global,
-    tag: T,
-    text: &[u8],
-    lines: &mut Lines,
-    input: &mut S,
-    output: &mut K,
-) -> u8
-    ensures { SnapsOrRanOut T.mac S.tells K.tells lines.old
-        (command_at (S.at input.old) (K.at output.old))
-        (command_at (S.at input.new) (K.at output.new)) result text.now }
-{
-    snap_read(
-        alloc,
-        tag,
-        read_deployment(alloc, text),
-        lines,
-        input,
-        output,
-    )
+    /// Answers the queries about a deployment with these images of its modules.
+    fn perform<S: Source, K: Sink, T: Tag + Copy>(
+        alloc: Global,
+        tag: T,
+        lines: &mut Lines,
+        input: &mut S,
+        output: &mut K,
+        plan: &Deployment,
+        images: &[Image],
+    ) -> u8 {
+        match new_timeline(alloc, tag, plan, images) {
+            Ok(mut timeline) => {
+                snap_lines(alloc, lines, input, output, plan, images, &mut timeline)
+            }
+            Err(_) => OUT_OF_MEMORY,
+        }
+    }
 }
 
 /// The command `snap` over any tag: a deployment, the line `%%`, a schedule, a second line `%%` and
@@ -159,9 +81,5 @@ pub fn snap_over<S: Source, K: Sink, T: Tag + Copy>(
     ensures { SnapSays T.mac S.tells K.tells (command_at (S.at input.old) (K.at output.old))
         (command_at (S.at input.new) (K.at output.new)) result }
 {
-    let mut lines = Lines::new();
-    match read_head(alloc, &mut lines, input) {
-        Ok(text) => snap_text(alloc, tag, &text, &mut lines, input, output),
-        Err(fault) => refuse_head(fault, output),
-    }
+    deploy_over::<SnapCommand, S, K, T>(alloc, tag, input, output)
 }

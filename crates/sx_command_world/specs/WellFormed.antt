@@ -1,9 +1,10 @@
--- The inputs that `run` takes to their end, and its exit status, whatever the images are.
+-- The exit status of a schedule, whatever the images are, and the inputs that `run` takes to their
+-- end.
 use Rattle.std.specs.Prelude.{ℕ, ◌+◌, List, ◌∷◌, Result, Ok, Err, IsOk}
 use Rattle.sx_io.specs.Reading.{Answer, Line, End}
 use Rattle.sx_told.specs.Told.{read_failed}
 use Rattle.sx_stage.specs.declared.fault.DeployFault.{DeployFault}
-use Rattle.sx_head.specs.Head.{Head, Found, Unread, head}
+use Rattle.sx_head.specs.Head.{Head, Found}
 use Rattle.sx_trace.specs.Names.{NameLists}
 use Rattle.sx_sched.specs.Reading.{Assembler}
 use Rattle.sx_deploy.specs.Deployment.{Deployed}
@@ -34,17 +35,6 @@ stop_status AtEnd = 0
 stop_status sched.Unread = read_failed
 stop_status (Breaks rule number) = 3
 
--- the exit status by the deployment and the schedule
-abbrev pub found_status : Assembler → Result Deployed DeployFault → List Answer → ℕ
-found_status assemble (Ok d) more = stop_status (schedule assemble d.names 1 more).stop
-found_status assemble (Err f) more = 1
-
--- the exit status by an input's head
-abbrev pub head_status : Assembler → Meaning → Head → ℕ
-head_status assemble meaning (Found text more) = found_status assemble (meaning text) more
-head_status assemble meaning Unread = read_failed
-head_status assemble meaning _ = 1
-
--- the status of `run`, of the answers alone
-abbrev pub run_status : Assembler → Meaning → List Answer → ℕ
-run_status assemble meaning answers = head_status assemble meaning (head answers)
+-- the exit status behind the head of a deployment
+abbrev pub schedule_status : Assembler → Deployed → List Answer → ℕ
+schedule_status assemble d more = stop_status (schedule assemble d.names 1 more).stop

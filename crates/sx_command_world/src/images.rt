@@ -35,7 +35,7 @@ fn push_image(
 }
 
 /// The lines of all images.
-pub fn image_lines(alloc: Global, names: &[Name], images: &[Image]) -> Result<Vec<u8>, AllocError>
+fn image_lines(alloc: Global, names: &[Name], images: &[Image]) -> Result<Vec<u8>, AllocError>
     ensures { IfOk result (λ text. text.items ≡ images_text names.now (texts_of images.now)) }
 {
     let mut text = Vec::new(alloc);
@@ -58,8 +58,25 @@ fn images_text(alloc: Global, names: &Names, images: &[Image]) -> Result<Vec<u8>
     Ok(text)
 }
 
-/// Writes the lines of all images, and `trace`.
+/// Writes the lines of all images.
 pub fn put_images<K: Sink>(alloc: Global, names: &Names, images: &[Image], output: &mut K) -> Turned
+    ensures { (left : List Answer → Output) → DoesPart K.tells (K.at output.old) (K.at output.new)
+        (λ more. behind (images_text names.now.modules (texts_of images.now)) (left more))
+        result left }
+{
+    match image_lines(alloc, &names.modules, images) {
+        Ok(text) => put_text(output, &text),
+        Err(_) => Turned::Stop(OUT_OF_MEMORY),
+    }
+}
+
+/// Writes the lines of all images, and `trace`.
+pub fn begin_trace<K: Sink>(
+    alloc: Global,
+    names: &Names,
+    images: &[Image],
+    output: &mut K,
+) -> Turned
     ensures { (left : List Answer → Output) → DoesPart K.tells (K.at output.old) (K.at output.new)
         (λ more. behind (images_text names.now.modules (texts_of images.now) ++ trace_line)
         (left more)) result left }

@@ -1,8 +1,7 @@
-use Rattle.std.proofs.Common.{Ok}
 use Rattle.sx_told.proofs.Laws.{begun-put, told-stop}
 use Rattle.sx_deploy.specs.SeenDeployment.{deployed_as}
 use Rattle.sx_world.specs.InMemory.{image_setting, texts_of}
-use Rattle.sx_command_drive.specs.Drive.{drive_found, drive_readings}
+use Rattle.sx_command_drive.specs.Drive.{drive_deployed, drive_readings}
 use Rattle.sx_command_drive.proofs.drive.drive_built.Goals as goal
 
 pub returns-in-Stop : goal.returns-in-Stop
@@ -17,4 +16,4 @@ returns-in-On g c = λ limit m0 defined aside noted b.
     let set = image_setting mac c.args.deployment.now c.args.images.now in
     let left = drive_readings d set in
     c.drive_run.ensures set c.requires.starts limit m0 defined aside noted
-    (begun-put (drive_found mac (texts_of c.args.images.now) (Ok d)) left b (c.in-On.ensures left))
+    (begun-put (drive_deployed mac d (texts_of c.args.images.now)) left b (c.in-On.ensures left))

@@ -1,0 +1,134 @@
+//! What a command that deploys does before its own part: it reads the head, judges the deployment,
+//! and makes the images.
+
+ghost use Rattle.std.specs.Prelude.{◌≡◌, ◌<◌, ℕ, All, List, IfErr, IfOk, IsTrue, OnErr, Ok};
+ghost use Rattle.sx_told.specs.Told.{command_at};
+ghost use Rattle.sx_trace.specs.Names.{are_valid};
+ghost use Rattle.sx_deploy.specs.Deployment.{IsRead};
+ghost use Rattle.sx_deploy.specs.Law.{IsSoundDeployment};
+ghost use Rattle.sx_deploy.specs.SeenDeployment.{deployed_as};
+ghost use Rattle.sx_world.specs.InMemory.{texts_of};
+ghost use Rattle.sx_setup.specs.Laws.{AreByteTexts};
+ghost use Rattle.sx_command_head.specs.Refused.{EndsRefused};
+ghost use Rattle.sx_command_deploy.specs.Afterwards.{DeployTold, DeploysOrRanOut};
+
+use crate::deploys::Deploys;
+use std::alloc::Global;
+use sx_command_head::refusing::{refuse, refuse_head};
+use sx_command_world::compiling::compile_all;
+use sx_deploy::DeployError;
+use sx_deploy::deployment::{Deployment, read_deployment};
+use sx_head::read_head;
+use sx_image::Image;
+use sx_io::{Lines, Sink, Source};
+use sx_tag::Tag;
+use sx_told::OUT_OF_MEMORY;
+
+/// A text is a list of bytes, by its type.
+fn are_bytes(text: &[u8])
+    ensures { All (λ b. b < 256) text.now }
+{}
+
+/// So are the texts of images.
+fn have_bytes(images: &[Image])
+    ensures { AreByteTexts (texts_of images.now) }
+{
+    for image in images {
+        are_bytes(&image.text);
+    }
+}
+
+/// Makes the images of a deployment's modules, and does the command's own part with them.
+fn deploy_modules<C: Deploys, S: Source, K: Sink, T: Tag + Copy>(
+    alloc: Global,
+    tag: T,
+    lines: &mut Lines,
+    input: &mut S,
+    output: &mut K,
+    plan: &Deployment,
+) -> u8
+    requires sound { IsSoundDeployment (deployed_as plan.now) }
+    requires names { IsTrue (are_valid (deployed_as plan.now).names) }
+    ensures { (text : List ℕ) → IsRead text (Ok (deployed_as plan.now))
+        → DeploysOrRanOut T.mac (C.behind T.mac) S.tells K.tells lines.old
+        (command_at (S.at input.old) (K.at output.old))
+        (command_at (S.at input.new) (K.at output.new)) result text }
+{
+    match compile_all(alloc, &tag, plan) {
+        Ok(images) => {
+            have_bytes(&images);
+            C::perform(alloc, tag, lines, input, output, plan, &images)
+        }
+        Err(_) => OUT_OF_MEMORY,
+    }
+}
+
+/// Does what follows the head of a text by what reading the text gave. To say which rule it breaks
+/// takes no memory, and reads nothing.
+fn deploy_read<C: Deploys, S: Source, K: Sink, T: Tag + Copy>(
+    alloc: Global,
+    tag: T,
+    read: Result<Deployment, DeployError>,
+    lines: &mut Lines,
+    input: &mut S,
+    output: &mut K,
+) -> u8
+    requires sound { IfOk read (λ plan. IsSoundDeployment (deployed_as plan)) }
+    requires names { IfOk read (λ plan. IsTrue (are_valid (deployed_as plan).names)) }
+    ensures deploys { IfOk read (λ plan. (text : List ℕ) → IsRead text (Ok (deployed_as plan))
+        → DeploysOrRanOut T.mac (C.behind T.mac) S.tells K.tells lines.old
+        (command_at (S.at input.old) (K.at output.old))
+        (command_at (S.at input.new) (K.at output.new)) result text) }
+    ensures refused { IfErr read (λ error.
+        EndsRefused K.tells (K.at output.old) (K.at output.new) result error) }
+    ensures unread { OnErr read (S.at input.new ≡ S.at input.old) }
+{
+    match read {
+        Ok(plan) => deploy_modules::<C, S, K, T>(alloc, tag, lines, input, output, &plan),
+        Err(error) => refuse(error, output),
+    }
+}
+
+/// Does what follows the head of this text.
+fn deploy_text<C: Deploys, S: Source, K: Sink, T: Tag + Copy>(
+    alloc: Global,
+    tag: T,
+    text: &[u8],
+    lines: &mut Lines,
+    input: &mut S,
+    output: &mut K,
+) -> u8
+    ensures { DeploysOrRanOut T.mac (C.behind T.mac) S.tells K.tells lines.old
+        (command_at (S.at input.old) (K.at output.old))
+        (command_at (S.at input.new) (K.at output.new)) result text.now }
+{
+    deploy_read::<C, S, K, T>(
+        alloc,
+        tag,
+        read_deployment(alloc, text),
+        lines,
+        input,
+        output,
+    )
+}
+
+/// A command that deploys, over any tag: the input is a deployment, the line `%%`, and what the
+/// command's own part reads behind it. Gives the exit status: 1 where the deployment breaks a rule
+/// or there is no head, 4 where a read failed, 5 where a write failed, 6 where memory ran out, and
+/// else that of the own part.
+pub fn deploy_over<C: Deploys, S: Source, K: Sink, T: Tag + Copy>(
+    alloc: Global,
+    tag: T,
+    input: &mut S,
+    output: &mut K,
+) -> u8
+    ensures { DeployTold T.mac (C.behind T.mac) S.tells K.tells
+        (command_at (S.at input.old) (K.at output.old))
+        (command_at (S.at input.new) (K.at output.new)) result }
+{
+    let mut lines = Lines::new();
+    match read_head(alloc, &mut lines, input) {
+        Ok(text) => deploy_text::<C, S, K, T>(alloc, tag, &text, &mut lines, input, output),
+        Err(fault) => refuse_head(fault, output),
+    }
+}

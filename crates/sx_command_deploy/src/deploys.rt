@@ -1,0 +1,44 @@
+//! The trait of commands that deploy.
+
+ghost use Rattle.std.specs.Prelude.{◌≡◌, IsTrue, length};
+ghost use Rattle.sx_tag.specs.Mac.{Mac};
+ghost use Rattle.sx_told.specs.Told.{Rest, command_at};
+ghost use Rattle.sx_head.specs.Head.{head_lines};
+ghost use Rattle.sx_trace.specs.Names.{are_valid};
+ghost use Rattle.sx_deploy.specs.Law.{IsSoundDeployment};
+ghost use Rattle.sx_deploy.specs.SeenDeployment.{deployed_as};
+ghost use Rattle.sx_run.specs.Accepted.{AreImages};
+ghost use Rattle.sx_world.specs.InMemory.{texts_of};
+ghost use Rattle.sx_command_deploy.specs.Deploy.{Behind};
+
+use std::alloc::Global;
+use sx_deploy::deployment::Deployment;
+use sx_image::Image;
+use sx_io::{Lines, Sink, Source};
+use sx_tag::Tag;
+
+/// A command that deploys, by what is its own.
+pub trait Deploys {
+    // What is written behind the head of a deployment, for a tag.
+    ghost behind: { Mac → Behind };
+
+    /// Does what follows the head, with these images of the deployment's modules. Gives the exit
+    /// status.
+    fn perform<S: Source, K: Sink, T: Tag + Copy>(
+        alloc: Global,
+        tag: T,
+        lines: &mut Lines,
+        input: &mut S,
+        output: &mut K,
+        plan: &Deployment,
+        images: &[Image],
+    ) -> u8
+        requires sound { IsSoundDeployment (deployed_as plan.now) }
+        requires names { IsTrue (are_valid (deployed_as plan.now).names) }
+        requires many { length images.now ≡ length plan.now.app.parts.items }
+        requires images { AreImages T.mac (deployed_as plan.now) (texts_of images.now) }
+        ensures { Rest S.tells K.tells head_lines lines.old
+            (command_at (S.at input.old) (K.at output.old))
+            (command_at (S.at input.new) (K.at output.new)) result
+            (behind T.mac (deployed_as plan.now) (texts_of images.now)) };
+}

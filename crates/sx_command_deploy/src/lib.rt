@@ -1,0 +1,16 @@
+//! The way of the commands that deploy, `run`, `drive` and `snap`: the head of the input, its
+//! deployment, the images of its modules, and behind these what is the command's own.
+//!
+//! A command gives its own part as an `impl` of `Deploys`, and `deploy_over` does the rest. What it
+//! promises then, where its own part owes as it must, is `DeploySays` of specs/Deploys.antt: what
+//! is written, and the exit status, are `deploy_output` and `deploy_status` (specs/Deploy.antt) of
+//! the input: of its head (sx_head), of what the deployment in it means (sx_deploy), and of what
+//! the own part writes. The images are any that realize their modules, and those that are made are
+//! such.
+#![tactic(auto)]
+
+mod deploying;
+mod deploys;
+
+pub use deploying::deploy_over;
+pub use deploys::Deploys;

@@ -1,0 +1,24 @@
+use Rattle.std.proofs.Common.{map, refl}
+use Rattle.sx_told.proofs.Laws.{told-stop, ends-out-of-memory, prefix-none}
+use Rattle.sx_deploy.specs.SeenDeployment.{deployed_as}
+use Rattle.sx_run.proofs.accepted.Settled.{settled}
+use Rattle.sx_world.specs.InMemory.{image_setting}
+use Rattle.sx_drive.specs.Honest.{start}
+use Rattle.sx_command_drive.specs.Drive.{drive_deployed}
+use Rattle.sx_command_drive.proofs.drive.DriveCommandDeploys.perform.Goals as goal
+
+pub drive_built-requires-clause-going : goal.drive_built-requires-clause-going
+drive_built-requires-clause-going g c =
+    let mac = g.T.Tag.mac in
+    let d = deployed_as c.args.plan.now in
+    let set = image_setting mac c.args.plan.now c.args.images.now in record {
+      set = set;
+      honest = start set;
+      follows = c.in-Ok.ensures.starts;
+      sound = settled mac d (map (λ i. i.text.items) c.args.images.now) c.requires.sound c.requires.images g.met.T.Tag.is_tag;
+    }
+
+pub returns-in-Err : goal.returns-in-Err
+returns-in-Err g c = λ limit m0 defined aside noted b.
+    let texts = map (λ i. i.text.items) c.args.images.now in
+    told-stop b (λ more. ends-out-of-memory _ _ _ (drive_deployed g.T.Tag.mac (deployed_as c.args.plan.now) texts more) (λ t. prefix-none _ _ _ refl) refl)

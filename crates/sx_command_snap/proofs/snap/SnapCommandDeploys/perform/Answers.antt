@@ -1,0 +1,32 @@
+use Rattle.std.proofs.Common.{List, [], map, refl, subst, sym, ap}
+use Rattle.sx_told.proofs.Laws.{begun-same, told-stop, ends-out-of-memory, prefix-none}
+use Rattle.sx_deploy.specs.SeenDeployment.{deployed_as}
+use Rattle.sx_run.specs.Accepted.{setting}
+use Rattle.sx_run.specs.Law.{IsSoundSetting}
+use Rattle.sx_run.specs.Setting.{Site}
+use Rattle.sx_run.proofs.accepted.Settled.{settled}
+use Rattle.sx_command_world.specs.Images.{images_text}
+use Rattle.sx_command_snap.specs.Snap.{snap_deployed, snap_from}
+use Rattle.sx_command_snap.proofs.snap.SnapCommandDeploys.perform.Goals as goal
+
+pub snap_lines-requires-clause-images : goal.snap_lines-requires-clause-images
+snap_lines-requires-clause-images g c =
+    let d = deployed_as c.args.plan.now in
+    let texts = map (λ i. i.text.items) c.args.images.now in
+    let P : List Site → Type 0 = λ sites. IsSoundSetting (setting g.T.Tag.mac d sites) in
+    subst P (sym c.in-Ok.ensures.sites) (settled g.T.Tag.mac d texts c.requires.sound c.requires.images g.met.T.Tag.is_tag)
+
+pub returns-in-Ok : goal.returns-in-Ok
+returns-in-Ok g c = λ limit m0 defined aside noted b.
+    let mac = g.T.Tag.mac in
+    let d = deployed_as c.args.plan.now in
+    let texts = map (λ i. i.text.items) c.args.images.now in
+    let set = setting mac d c.in-Ok.timeline.sites in
+    c.snap_lines.ensures limit m0 defined aside noted
+    (begun-same (snap_from d.names set (images_text d.names.modules texts) [])
+    (λ more. ap (λ (sites : List Site). snap_from d.names (setting mac d sites) (images_text d.names.modules texts) [] more) (sym c.in-Ok.ensures.sites)) b)
+
+pub returns-in-Err : goal.returns-in-Err
+returns-in-Err g c = λ limit m0 defined aside noted b.
+    let texts = map (λ i. i.text.items) c.args.images.now in
+    told-stop b (λ more. ends-out-of-memory _ _ _ (snap_deployed g.T.Tag.mac (deployed_as c.args.plan.now) texts more) (λ t. prefix-none _ _ _ refl) refl)
