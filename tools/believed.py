@@ -3,6 +3,8 @@
 
     tools/believed.py [CRATE.FILE.NAME..]      from these definitions on, where some are named
 
+What else stands in the files of specs/ that are reached is shown too, by name: no file should hold any.
+
 A definition is reached where its name stands in one that is reached. Its lines count without comments and imports;
 the kit's own definitions don't count. Two tiers: the core is about runs, for every sound setting and every list of
 lines in form; the rest is what leads there from the text that is read, and to the text that is written.
@@ -22,11 +24,13 @@ CORE = SOURCE + [
     "sx_trace.Items.item_words", "sx_trace.Items.spaced_words",
     "sx_tag.Mac.hmac_sha256",
 ]
-# The record of the command `run`, and what the whole program promises.
-HEADLINE = ["*.Runs.RunSays"]
+# The record of the command `run` with the moments that it is about, and what the whole program promises.
+HEADLINE = ["*.Runs.RunSays", "sx_told.Told.command_at"]
 PROGRAM = ["*.Promises.ProgramTold"]
 
 WORD = re.compile(r"[^\s(){}\[\],;:.=→λ∷×⊎≡≤<+*/%&|?!«»]+")
+# The operator `>>=`, which a `do` block stands for, as WORD finds it.
+BLOCK = ">>"
 HEAD = re.compile(r"^(?:(?:abbrev|unfoldable|pub|record|data|opaque)\s+)*(\S+)")
 IMPORT = re.compile(r"(?:pub )?use Rattle\.([\w.]+?)(?:\.\{([^}]*)\}| as (\w+))?$")
 
@@ -172,6 +176,7 @@ class Repository:
                 if (module, m.group(1)) in self.modules:
                     yield self.find(self.modules[module, m.group(1)], m.group(2))
             for word in WORD.findall(code):
+                word = BLOCK if word == "do" else word
                 if word in self.names[module]:
                     yield self.names[module][word]
                 elif word in self.imports[module]:
@@ -195,6 +200,12 @@ class Repository:
                 seen.add(key)
                 left += self.named(key)
         return seen
+
+    def beside(self, keys):
+        """The definitions of specs/ that stand in a file with one of these, and are none of them."""
+        places = {self.definitions[key].place for key in keys}
+        return [key for key, it in self.definitions.items()
+                if it.place in places and "/specs/" in it.place and key not in keys]
 
     def lines(self, keys):
         return sum(self.definitions[key].lines for key in keys)
@@ -220,6 +231,8 @@ def main():
     repository.show("The core, beside it", core - source)
     repository.show("From the text on", headline - core)
     repository.show("What a reader may take from a trace, and the other commands", program - headline)
+    for key in repository.beside(program):
+        print(f"not reached: {key[1]} in {repository.definitions[key].place}")
     print(f"core {repository.lines(core)}, headline {repository.lines(headline)}, program {repository.lines(program)} lines")
 
 

@@ -1,7 +1,7 @@
 -- What each calculation gives, and what it does to the flags (TI, MSP430x2xx Family User's Guide,
 -- "Instruction Set"). V after a rotation through the carry is 0 here, where TI's guides differ.
-use Rattle.std.specs.Prelude.{ℕ, ℤ, pos, negsuc, ◌+◌, ◌*◌, ◌-◌, ◌/◌, ◌%◌, ◌==◌, Bool, true, false}
-use Rattle.std.specs.Prelude.{◌&&◌, not, nat_le, if◌then◌else◌, bit_and, bit_or, bit_xor}
+use Rattle.std.specs.Prelude.{ℕ, ◌+◌, ◌*◌, ◌-◌, ◌/◌, ◌%◌, ◌==◌, Bool, false, ◌&&◌, not, nat_le}
+use Rattle.std.specs.Prelude.{if◌then◌else◌, bit_and, bit_or, bit_xor}
 use Rattle.sx_alu.specs.declared.flags.Flags.{Flags}
 use Rattle.sx_alu.specs.declared.calculation.Calc.{Calc}
 use Rattle.sx_alu.specs.declared.calculation.Calc.TheVariants.{Add, AddCarry, Sub, SubCarry, And}
@@ -20,10 +20,6 @@ half wide = if wide then 32768 else 128
 -- whether the top bit is set, so that the value is negative as a signed number
 abbrev pub is_negative : Bool → ℕ → Bool
 is_negative wide x = nat_le (half wide) x
-
--- a word or a byte as a signed number, in two's complement
-abbrev pub signed : Bool → ℕ → ℤ
-signed wide x = if is_negative wide x then negsuc (limit wide - 1 - x) else pos x
 
 -- every bit the other way
 abbrev pub inverse : Bool → ℕ → ℕ
@@ -83,18 +79,3 @@ row Rrc wide s d f = shifted wide s f.c
 row Rra wide s d f = shifted wide s (is_negative wide s)
 row Swap wide s d f = (s % 256 * 256 + s / 256, f)
 row Extend wide s d f = tested wide (extended s) false
-
--- the exchange of a word's bytes and the extension of a sign are of words alone
-abbrev pub has_width : Calc → Bool → Bool
-has_width Swap wide = wide
-has_width Extend wide = wide
-has_width Add wide = true
-has_width AddCarry wide = true
-has_width Sub wide = true
-has_width SubCarry wide = true
-has_width And wide = true
-has_width AndNot wide = true
-has_width Or wide = true
-has_width Xor wide = true
-has_width Rrc wide = true
-has_width Rra wide = true

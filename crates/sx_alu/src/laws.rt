@@ -4,7 +4,8 @@
 ghost use Rattle.std.specs.Prelude.{◌≡◌, ◌↔◌, ℕ, ◌<◌, ◌≤◌, ◌+◌, ◌-◌, ◌/◌, ◌%◌, Bool, IsTrue, ◌<ℤ◌};
 ghost use Rattle.std.specs.Prelude.{◌+ℤ◌, ◌-ℤ◌, pos, false};
 ghost use Rattle.sx_alu.specs.Status.{flags_of, with_flags_in};
-ghost use Rattle.sx_alu.specs.Table.{limit, row, signed, differ, sum_row, difference_row};
+ghost use Rattle.sx_alu.specs.Table.{limit, row, differ, sum_row, difference_row};
+ghost use Rattle.sx_alu.specs.Widths.{signed};
 ghost use Rattle.sx_alu.specs.declared.flags.Flags.{Flags};
 ghost use Rattle.sx_alu.specs.declared.calculation.Calc.TheVariants.{Sub};
 ghost use Rattle.sx_lists.specs.Truth.{truth};

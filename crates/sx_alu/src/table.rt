@@ -1,7 +1,8 @@
 //! The result and the flags of each calculation.
 
 ghost use Rattle.std.specs.Prelude.{◌≡◌, ◌%◌, ◌<◌, ◌&&◌, IsTrue};
-ghost use Rattle.sx_alu.specs.Table.{limit, half, is_negative, row, has_width, sum_row};
+ghost use Rattle.sx_alu.specs.Table.{limit, half, is_negative, row, sum_row};
+ghost use Rattle.sx_alu.specs.Widths.{has_width};
 ghost use Rattle.sx_alu.specs.Table.{difference_row, carried, differ, tested, shifted, extended};
 ghost use Rattle.sx_alu.specs.Table.{with_flags};
 ghost use Rattle.sx_lists.specs.Truth.{truth};

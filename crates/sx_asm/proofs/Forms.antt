@@ -7,8 +7,10 @@ use Rattle.sx_isa.specs.declared.instruction.Operand.TheVariants.{Reg, Indexed, 
 use Rattle.sx_isa.specs.declared.instruction.Op1.{Op1}
 use Rattle.sx_isa.specs.declared.instruction.Op2.{Op2}
 use Rattle.sx_isa.specs.declared.instruction.Instr.TheVariants.{Two, One}
-use Rattle.sx_isa.specs.Legal.{is_constant, IsSource, IsDestination, IsInstruction, is_allowed}
-use Rattle.sx_isa.specs.Legal.{is_value, IsOffset}
+use Rattle.sx_isa.specs.Legal.{is_allowed}
+use Rattle.sx_isa.specs.Spelling.{is_constant}
+use Rattle.sx_isa.specs.Instructions.{IsSource, IsDestination, IsInstruction, IsOffset}
+use Rattle.sx_isa.specs.Legal.{is_value}
 use Rattle.sx_asm.specs.declared.written.Value.TheVariants.{Number, Name}
 use Rattle.sx_asm.specs.declared.written.Written.{Written}
 use Rattle.sx_asm.specs.declared.written.Written.TheVariants as written

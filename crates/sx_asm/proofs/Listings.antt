@@ -16,7 +16,8 @@ use Rattle.sx_asm.specs.Tokens.{tokens_of}
 use Rattle.sx_asm.specs.Reading.{◌>>=◌, is_newline, parts, onto_first, taken, items_of, line_fits, read_lines, read}
 use Rattle.sx_asm.specs.Meaning.{further, size, labels_of, bytes_of, code_of}
 use Rattle.sx_asm.specs.Assembled.{formed, named, reached, fitted, stands, code_with, code_or_fault, assembled}
-use Rattle.sx_asm.specs.Shown.{word_text, word_from, line_of, listed, listing}
+use Rattle.sx_asm.specs.Shown.{word_text, word_from, line_of, listed}
+use Rattle.sx_asm.specs.Listing.{listing}
 use Rattle.sx_asm.specs.Laws.{EachByte}
 use Rattle.sx_asm.proofs.Parts.{no}
 use Rattle.sx_asm.proofs.Forms.{and_both}

@@ -9,7 +9,8 @@ use Rattle.sx_isa.specs.declared.instruction.Op1.{Op1}
 use Rattle.sx_isa.specs.declared.instruction.Op2.{Op2}
 use Rattle.sx_isa.specs.declared.instruction.Instr.{Instr}
 use Rattle.sx_isa.specs.declared.instruction.Instr.TheVariants as instr
-use Rattle.sx_isa.specs.Legal.{IsSource, IsDestination, IsInstruction, IsOffset, is_allowed}
+use Rattle.sx_isa.specs.Legal.{is_allowed}
+use Rattle.sx_isa.specs.Instructions.{IsSource, IsDestination, IsInstruction, IsOffset}
 use Rattle.sx_isa.specs.Spelling.{spelling, place_of}
 use Rattle.sx_asm.specs.declared.written.Token.{Token}
 use Rattle.sx_asm.specs.declared.written.Token.TheVariants as token

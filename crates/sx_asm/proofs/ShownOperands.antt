@@ -6,8 +6,8 @@ use Rattle.std.specs.List.{list_all}
 use Rattle.std.proofs.lemmas.Bool.Decides.{nat_tests}
 use Rattle.sx_isa.specs.declared.instruction.Operand.{Operand}
 use Rattle.sx_isa.specs.declared.instruction.Operand.TheVariants as operand
-use Rattle.sx_isa.specs.Spelling.{constant}
-use Rattle.sx_isa.specs.Legal.{IsSource, IsDestination, IsWord, is_constant}
+use Rattle.sx_isa.specs.Spelling.{constant, is_constant}
+use Rattle.sx_isa.specs.Instructions.{IsSource, IsDestination, IsWord}
 use Rattle.sx_asm.specs.declared.written.Token.{Token}
 use Rattle.sx_asm.specs.declared.written.Token.TheVariants as token
 use Rattle.sx_asm.specs.declared.written.Value.TheVariants.{Number}

@@ -3,7 +3,7 @@ use Rattle.std.proofs.Common.{◌≡◌, ℕ, ◌≤◌, Bool, true, false, List
 use Rattle.std.proofs.lemmas.List.{length-take}
 use Rattle.std.specs.Prelude.{Ok}
 use Rattle.sx_isa.specs.declared.instruction.Instr.{Instr}
-use Rattle.sx_isa.specs.Legal.{BeginsWith}
+use Rattle.sx_isa.specs.Instructions.{BeginsWith}
 use Rattle.sx_asm.specs.declared.written.Entry.{Entry}
 use Rattle.sx_asm.specs.declared.written.Label.{Label}
 use Rattle.sx_asm.specs.Meaning.{further, size, bytes_of, words_at, code_of}

@@ -1,9 +1,10 @@
 -- The code of a text, or the first rule that it breaks and the first line that breaks it.
-use Rattle.std.specs.Prelude.{◌≡◌, ℕ, ◌+◌, ◌-◌, ◌%◌, ◌==◌, min, Bool, true, false, ◌&&◌, ◌||◌, not}
-use Rattle.std.specs.Prelude.{nat_le, nat_lt, if◌then◌else◌, List, [], ◌∷◌, take, Result, Ok, Err, IsOk}
+use Rattle.std.specs.Prelude.{ℕ, ◌+◌, ◌-◌, ◌%◌, ◌==◌, min, Bool, true, false, ◌&&◌, ◌||◌, not}
+use Rattle.std.specs.Prelude.{nat_le, nat_lt, if◌then◌else◌, List, [], ◌∷◌, take, Result, Ok, Err}
 use Rattle.sx_isa.specs.declared.instruction.Operand.{Operand}
 use Rattle.sx_isa.specs.declared.instruction.Operand.TheVariants as operand
-use Rattle.sx_isa.specs.Legal.{is_constant, is_allowed}
+use Rattle.sx_isa.specs.Legal.{is_allowed}
+use Rattle.sx_isa.specs.Spelling.{is_constant}
 use Rattle.sx_asm.specs.declared.written.Value.{Value}
 use Rattle.sx_asm.specs.declared.written.Value.TheVariants.{Number, Name}
 use Rattle.sx_asm.specs.declared.written.Written.{Written}
@@ -15,7 +16,7 @@ use Rattle.sx_asm.specs.declared.written.Item.TheVariants.{Sancus}
 use Rattle.sx_asm.specs.declared.written.Entry.{Entry}
 use Rattle.sx_asm.specs.declared.written.Label.{Label as Placed}
 use Rattle.sx_asm.specs.declared.error.AsmError.{AsmError}
-use Rattle.sx_asm.specs.declared.error.AsmError.TheVariants.{Fault, OutOfMemory}
+use Rattle.sx_asm.specs.declared.error.AsmError.TheVariants.{Fault}
 use Rattle.sx_asm.specs.Reading.{◌>>=◌, read}
 use Rattle.sx_asm.specs.Meaning.{size, further, distance, number, is_label, operand_at, labels_of}
 use Rattle.sx_asm.specs.Meaning.{code_of}
@@ -153,15 +154,3 @@ code_or_fault at es = code_with (labels_of at es) at es
 -- breaks it
 unfoldable pub assembled : ℕ → List ℕ → Result (List ℕ) AsmError
 assembled at text = read text >>= code_or_fault at
-
--- the answer is the right one, unless memory runs out
-abbrev pub AnswersMeant : {T V : Type 0} → (T → V) → Result V AsmError → Result T AsmError → Type 0
-AnswersMeant view meant (Ok x) = meant ≡ Ok (view x)
-AnswersMeant view meant (Err (Fault rule line)) = meant ≡ Err (Fault rule line)
-AnswersMeant view meant (Err OutOfMemory) = Unit {0}
-
--- memory runs out only where there is no fault
-abbrev pub HidesNoFault : {T V : Type 0} → Result V AsmError → Result T AsmError → Type 0
-HidesNoFault meant (Ok x) = Unit {0}
-HidesNoFault meant (Err (Fault rule line)) = Unit {0}
-HidesNoFault meant (Err OutOfMemory) = IsOk meant

@@ -3,7 +3,7 @@ use Rattle.sx_isa.specs.declared.instruction.Operand.{Operand}
 use Rattle.sx_isa.specs.declared.instruction.Operand.TheVariants.{Reg, Indexed, Indirect, Increment}
 use Rattle.sx_isa.specs.declared.instruction.Operand.TheVariants.{Symbolic, Absolute, Immediate}
 use Rattle.sx_isa.specs.declared.instruction.Operand.TheVariants.{Const}
-use Rattle.sx_isa.specs.Legal.{IsWord}
+use Rattle.sx_isa.specs.Instructions.{IsWord}
 
 -- an extension word is a word
 abbrev pub HasWord : Operand → Type 0

@@ -3,12 +3,13 @@ use Rattle.std.specs.Prelude.{◌≡◌, ◌↔◌, true, ℕ, ◌<◌, List, []
 use Rattle.std.specs.Prelude.{length, Ok}
 use Rattle.sx_isa.specs.declared.instruction.Instr.{Instr}
 use Rattle.sx_isa.specs.declared.instruction.Operand.{Operand}
-use Rattle.sx_isa.specs.Legal.{IsSource, IsDestination, IsInstruction}
+use Rattle.sx_isa.specs.Instructions.{IsSource, IsDestination, IsInstruction}
 use Rattle.sx_asm.specs.Forms.{HasWord}
 use Rattle.sx_isa.specs.Spelling.{spelling}
 use Rattle.sx_asm.specs.Meaning.{bytes_of}
 use Rattle.sx_asm.specs.Assembled.{is_source, is_destination, assembled}
-use Rattle.sx_asm.specs.Shown.{shown, listed, listing}
+use Rattle.sx_asm.specs.Shown.{shown, listed}
+use Rattle.sx_asm.specs.Listing.{listing}
 
 -- the tests of operands are what an instruction can read and write
 abbrev pub Operands : Type 0

@@ -3,10 +3,13 @@ pub mod Forms
 pub mod Adding
 pub mod Words
 pub mod Tokens
+pub mod Entries
 pub mod Grammar
 pub mod Reading
 pub mod Meaning
 pub mod Assembled
+pub mod Answers
 pub mod Shown
+pub mod Listing
 pub mod Laws
 pub mod Faults

@@ -7,8 +7,7 @@ use Rattle.sx_isa.specs.declared.instruction.Op1.{Op1}
 use Rattle.sx_isa.specs.declared.instruction.Op2.{Op2}
 use Rattle.sx_isa.specs.declared.instruction.Instr.{Instr}
 use Rattle.sx_isa.specs.declared.instruction.Instr.TheVariants as instr
-use Rattle.sx_isa.specs.Legal.{is_constant}
-use Rattle.sx_isa.specs.Spelling.{spelling}
+use Rattle.sx_isa.specs.Spelling.{is_constant, spelling}
 use Rattle.sx_asm.specs.declared.written.Value.{Value}
 use Rattle.sx_asm.specs.declared.written.Value.TheVariants.{Number, Name}
 use Rattle.sx_asm.specs.declared.written.Written.{Written}

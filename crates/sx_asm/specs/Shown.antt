@@ -1,16 +1,15 @@
 -- The text of an instruction.
-use Rattle.std.specs.Prelude.{zero, suc, drop, ◌-◌, nat_le, slice_index, ℕ, ◌+◌, ◌*◌, ◌/◌, ◌%◌}
-use Rattle.std.specs.Prelude.{nat_lt, if◌then◌else◌, ℤ, pos, negsuc, List, [], ◌∷◌, ◌++◌, codes}
-use Rattle.std.specs.Prelude.{length, Option, Some, None}
+use Rattle.std.specs.Prelude.{◌-◌, nat_le, slice_index, ℕ, ◌+◌, ◌*◌, ◌/◌, ◌%◌, nat_lt}
+use Rattle.std.specs.Prelude.{if◌then◌else◌, ℤ, pos, negsuc, List, [], ◌∷◌, ◌++◌, codes, length}
+use Rattle.std.specs.Prelude.{Option, Some, None}
 use Rattle.sx_isa.specs.declared.instruction.Operand.{Operand}
 use Rattle.sx_isa.specs.declared.instruction.Operand.TheVariants.{Reg, Indexed, Indirect, Increment}
 use Rattle.sx_isa.specs.declared.instruction.Operand.TheVariants.{Symbolic, Absolute, Immediate}
 use Rattle.sx_isa.specs.declared.instruction.Operand.TheVariants.{Const}
 use Rattle.sx_isa.specs.declared.instruction.Instr.{Instr}
 use Rattle.sx_isa.specs.declared.instruction.Instr.TheVariants.{Two, One, Reti, Jump, Sancus}
-use Rattle.sx_isa.specs.Legal.{is_constant}
+use Rattle.sx_isa.specs.Spelling.{is_constant, place_of}
 use Rattle.sx_isa.specs.Reading.{instruction_at}
-use Rattle.sx_isa.specs.Spelling.{place_of}
 use Rattle.sx_asm.specs.Words.{op2_name, op1_name, sized, jump_name, sancus_name, register_name}
 use Rattle.sx_asm.specs.Meaning.{further}
 
@@ -91,12 +90,3 @@ line_of at bytes (Some f) =
 unfoldable pub listed : ℕ → List ℕ → ListedLine
 listed at bytes =
     line_of at bytes (instruction_at (word_from bytes 0) (word_from bytes 2) (word_from bytes 4))
-
--- the listing of bytes from an address on, a line for each instruction; at most this many lines,
--- and no last byte alone
-abbrev pub listing : ℕ → ℕ → List ℕ → List ℕ
-listing zero at bytes = []
-listing (suc k) at bytes =
-    if nat_lt (length bytes) 2 then [] else (
-    let line = listed at bytes in line.0 ++ (10 ∷ listing k (further at line.1) (drop line.1 bytes))
-    )

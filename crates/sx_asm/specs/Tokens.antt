@@ -1,7 +1,6 @@
 -- The tokens of a line.
 use Rattle.std.specs.Prelude.{ℕ, ◌==◌, Bool, false, ◌&&◌, ◌||◌, nat_le, if◌then◌else◌, List, []}
 use Rattle.std.specs.Prelude.{◌∷◌, Option, Some, None, bytes_eq}
-use Rattle.std.specs.Borrow.{Bor}
 use Rattle.sx_lex.specs.Words.{kind_of}
 use Rattle.sx_lex.specs.Lexed.{is_space, begins_comment}
 use Rattle.sx_lex.specs.declared.tokens.Kind.{Kind}
@@ -68,7 +67,3 @@ tokens_in (run ∷ more) =
 -- the tokens of a line
 unfoldable pub tokens_of : List ℕ → List Token
 tokens_of line = tokens_in (runs line)
-
--- an entry of a table as code has it
-abbrev pub entry_of : Bor (List ℕ) × Token → List ℕ × Token
-entry_of entry = (entry.0.now, entry.1)

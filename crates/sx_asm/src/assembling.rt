@@ -3,13 +3,14 @@
 ghost use Rattle.std.specs.Prelude.{◌≡◌, ◌<◌, ◌≤◌, ◌&&◌, ◌++◌, ◌%◌, ◌/◌, [], ◌∷◌, true, take};
 ghost use Rattle.std.specs.Prelude.{length, Ok, IfOk, IfErr, OnOk, IsTrue};
 ghost use Rattle.sx_isa.specs.Spelling.{spelling};
-ghost use Rattle.sx_isa.specs.Legal.{IsInstruction};
+ghost use Rattle.sx_isa.specs.Instructions.{IsInstruction};
 ghost use Rattle.sx_asm.specs.declared.error.AsmError.TheVariants.{OutOfMemory, Fault};
 ghost use Rattle.sx_asm.specs.Faults.{IsFault};
 ghost use Rattle.sx_asm.specs.Meaning.{words_at, bytes_of, code_of};
 ghost use Rattle.sx_asm.specs.Assembled.{is_known, operand_known, names_known, named, formed};
 ghost use Rattle.sx_asm.specs.Assembled.{has_form, reaches, reached, fitted, stands, assembled};
-ghost use Rattle.sx_asm.specs.Assembled.{AnswersMeant, HidesNoFault, code_with, label_count};
+ghost use Rattle.sx_asm.specs.Assembled.{code_with, label_count};
+ghost use Rattle.sx_asm.specs.Answers.{AnswersMeant, HidesNoFault};
 
 use crate::error::AsmError;
 use crate::meaning::{

@@ -9,7 +9,8 @@ ghost use Rattle.sx_asm.specs.Fronts.{number_of};
 ghost use Rattle.sx_lex.specs.Lexed.{is_space, begins_comment};
 ghost use Rattle.sx_asm.specs.Words.{signs, registers, instructions};
 ghost use Rattle.sx_asm.specs.Tokens.{is_word_byte, joins, runs, found_in, value_token, token_of};
-ghost use Rattle.sx_asm.specs.Tokens.{is_gap, tokens_of, entry_of};
+ghost use Rattle.sx_asm.specs.Tokens.{is_gap, tokens_of};
+ghost use Rattle.sx_asm.specs.Entries.{entry_of};
 
 use crate::written::Token;
 use std::alloc::{AllocError, Global};

@@ -3,8 +3,9 @@
 ghost use Rattle.std.specs.Prelude.{◌≡◌, ◌<◌, ◌≤◌, ◌&&◌, ◌++◌, [], true, take, length, IfOk, IfErr};
 ghost use Rattle.std.specs.Prelude.{IsTrue};
 ghost use Rattle.sx_asm.specs.declared.error.AsmError.TheVariants.{OutOfMemory};
-ghost use Rattle.sx_isa.specs.Legal.{IsSource, IsDestination, IsInstruction, is_allowed};
-ghost use Rattle.sx_isa.specs.Legal.{is_constant};
+ghost use Rattle.sx_isa.specs.Legal.{is_allowed};
+ghost use Rattle.sx_isa.specs.Instructions.{IsSource, IsDestination, IsInstruction};
+ghost use Rattle.sx_isa.specs.Spelling.{is_constant};
 ghost use Rattle.sx_asm.specs.Forms.{HasWord};
 ghost use Rattle.sx_asm.specs.Meaning.{hash_words, extension, size, further, distance, is_label};
 ghost use Rattle.sx_asm.specs.Meaning.{address_of, number, hash_operand, operand_at, offset};

@@ -7,7 +7,7 @@ ghost use Rattle.sx_asm.specs.Fronts.{behind};
 ghost use Rattle.sx_asm.specs.Adding.{AddsEntries};
 ghost use Rattle.sx_asm.specs.Reading.{not_written, parts, items_in, items_of, is_newline, taken};
 ghost use Rattle.sx_asm.specs.Reading.{line_fits, read};
-ghost use Rattle.sx_asm.specs.Assembled.{AnswersMeant};
+ghost use Rattle.sx_asm.specs.Answers.{AnswersMeant};
 ghost use Rattle.sx_asm.specs.declared.error.AsmError.TheVariants.{OutOfMemory};
 
 use crate::error::AsmError;

@@ -5,7 +5,7 @@ ghost use Rattle.std.specs.Prelude.{IfSome};
 ghost use Rattle.sx_isa.specs.declared.instruction.Operand.TheVariants.{Indexed, Indirect};
 ghost use Rattle.sx_isa.specs.declared.instruction.Operand.TheVariants.{Increment, Immediate};
 ghost use Rattle.sx_isa.specs.declared.instruction.Instr.TheVariants.{Two, One, Jump};
-ghost use Rattle.sx_isa.specs.Legal.{IsInstruction, IsOffset};
+ghost use Rattle.sx_isa.specs.Instructions.{IsInstruction, IsOffset};
 ghost use Rattle.sx_isa.specs.Reading.{instruction_at};
 ghost use Rattle.sx_asm.specs.Words.{op2_name, op1_name, sized, jump_name, sancus_name};
 ghost use Rattle.sx_asm.specs.Words.{register_name};

@@ -8,7 +8,8 @@ use Rattle.sx_lex.specs.declared.tokens.Kind.{Kind}
 use Rattle.sx_lex.specs.declared.tokens.Kind.TheVariants.{Number, Name}
 use Rattle.sx_lex.specs.declared.tokens.Place.{Place}
 use Rattle.sx_lex.specs.declared.tokens.Placed.{Placed}
-use Rattle.sx_lex.specs.Words.{is_lower, is_digit, name_front, number_front, value, found_in, keywords, signs, or_else, NoHexadecimal}
+use Rattle.sx_lex.specs.Words.{is_lower, is_digit, value, found_in, keywords, signs, or_else}
+use Rattle.sx_lex.specs.Progress.{name_front, number_front, NoHexadecimal}
 use Rattle.sx_lex.specs.Lexed.{Lexed, at_end, space, newline, token, along, below, start, is_space}
 use Rattle.sx_lex.proofs.Names.{longest_name}
 use Rattle.sx_lex.proofs.Numbers as numbers

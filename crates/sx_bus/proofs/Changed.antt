@@ -3,7 +3,8 @@ use Rattle.std.proofs.Common.{◌≡◌, ℕ, zero, suc, ◌<◌, true, false, L
 use Rattle.std.proofs.lemmas.List.Elements.{All-nil, All-cons, All-head, All-tail}
 use Rattle.sx_bus.specs.declared.devices.Kind.{Kind}
 use Rattle.sx_bus.specs.declared.devices.Window.{Window}
-use Rattle.sx_bus.specs.Devices.{AreNew, HaveSamples, with_changed, powered_on, places_of, stale, with_sample, cleared, all_stale}
+use Rattle.sx_bus.specs.Devices.{HaveSamples, with_changed, powered_on, places_of, stale, with_sample, cleared, all_stale}
+use Rattle.sx_bus.specs.Windows.{AreNew}
 
 pub set_changed : (change : Window → Window) (windows : List Window) (device : ℕ) (d w : Window) →
     device < length windows → w ≡ change (get_or windows device d) → set windows device w ≡ with_changed change windows device

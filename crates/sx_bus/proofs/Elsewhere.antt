@@ -4,7 +4,8 @@ use Rattle.std.specs.List.{position_from}
 use Rattle.std.proofs.lemmas.Bool.{leb-true, ltb-true, eqb-false, and_parts, or_parts, false_from_ne_true, cond-false}
 use Rattle.std.proofs.lemmas.List.Elements.{All-head, All-tail}
 use Rattle.sx_bus.specs.declared.devices.Window.{Window}
-use Rattle.sx_bus.specs.Devices.{on_word, places_of, has_place}
+use Rattle.sx_bus.specs.Devices.{on_word, places_of}
+use Rattle.sx_bus.specs.Windows.{has_place}
 
 abbrev pub IsEven : ℕ → Type 0
 IsEven place = place % 2 ≡ 0

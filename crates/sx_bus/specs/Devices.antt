@@ -1,14 +1,12 @@
 -- The devices of a node, each of which is one word of its memory (own profile).
 --     ArePlaces      where devices may stand
 --     HaveSamples      what values devices have
---     powered_on, AreNew      a list of devices as the node is switched on, and that none was used
+--     powered_on      a list of devices as the node is switched on
 --     places_of, device_at      the devices' places, and the device at a byte
---     has_place, IsIndex      whether a device stands on a page, and what is kept of that
 --     sensed, cleared, all_stale      the devices after a sample, a read of it, and a reset
-use Rattle.std.specs.Prelude.{◌≡◌, ◌≢◌, ℕ, zero, suc, ◌+◌, ◌/◌, ◌%◌, ◌==◌, ◌<◌, ◌≤◌, nat_lt, nat_le}
-use Rattle.std.specs.Prelude.{Bool, true, false, ◌&&◌, List, [], ◌∷◌, length, map, slice_index_or}
-use Rattle.std.specs.Prelude.{All, AllPairs, Option}
-use Rattle.std.specs.List.{position_from, list_any}
+use Rattle.std.specs.Prelude.{◌≡◌, ◌≢◌, ℕ, zero, suc, ◌+◌, ◌%◌, ◌<◌, ◌≤◌, nat_lt, nat_le, Bool}
+use Rattle.std.specs.Prelude.{true, false, ◌&&◌, List, [], ◌∷◌, length, map, All, AllPairs, Option}
+use Rattle.std.specs.List.{position_from}
 use Rattle.sx_bus.specs.declared.devices.Kind.{Kind}
 use Rattle.sx_bus.specs.declared.devices.Window.{Window}
 
@@ -23,10 +21,6 @@ pub record ArePlaces (places : List ℕ) : Type 0 where
 abbrev pub powered_on : List (ℕ × Kind) → List Window
 powered_on devices = map (λ d. record { at = d.0; kind = d.1; value = 0; fresh = false }) devices
 
--- each device has the value 0 and isn't fresh
-abbrev pub AreNew : List Window → Type 0
-AreNew windows = All (λ w. (w.value ≡ 0) × (w.fresh ≡ false)) windows
-
 -- the addresses of the devices
 abbrev pub places_of : List Window → List ℕ
 places_of windows = map (λ w. w.at) windows
@@ -38,15 +32,6 @@ on_word at w = nat_le w.at at && nat_lt at (w.at + 2)
 -- the index of the first device whose word holds the byte
 abbrev pub device_at : List Window → ℕ → Option ℕ
 device_at windows at = position_from (on_word at) 0 windows
-
--- one of the places lies on the page, which is 256 bytes from a multiple of 256 on
-abbrev pub has_place : ℕ → List ℕ → Bool
-has_place page places = list_any (λ place. place / 256 == page) places
-
--- what is kept for each of the 256 pages: whether a device stands there
-abbrev pub IsDeviceIndex : List Bool → List ℕ → Type 0
-IsDeviceIndex pages places =
-    (page : ℕ) → page < 256 → slice_index_or pages page false ≡ has_place page places
 
 -- each value is one that a sensor can give
 abbrev pub HaveSamples : List Window → Type 0

@@ -1,3 +1,4 @@
 pub mod Memory
 pub mod FlatBus
 pub mod Devices
+pub mod Windows

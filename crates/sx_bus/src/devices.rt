@@ -3,8 +3,9 @@
 ghost use Rattle.std.specs.Prelude.{◌≡◌, ℕ, ◌<◌, ◌≤◌, true, false, length, map, IfOk, IfSome};
 ghost use Rattle.std.specs.Prelude.{slice_get, slice_index_or, Option, Some};
 ghost use Rattle.sx_bus.specs.declared.devices.Kind.TheVariants.{Sensor};
-ghost use Rattle.sx_bus.specs.Devices.{ArePlaces, AreNew, on_word, powered_on, places_of};
-ghost use Rattle.sx_bus.specs.Devices.{device_at, has_place, with_sample, cleared, all_stale};
+ghost use Rattle.sx_bus.specs.Devices.{ArePlaces, on_word, powered_on, places_of};
+ghost use Rattle.sx_bus.specs.Windows.{AreNew, has_place};
+ghost use Rattle.sx_bus.specs.Devices.{device_at, with_sample, cleared, all_stale};
 
 use std::alloc::{AllocError as OutOfMemory, Global};
 use std::marker::Model;
@@ -59,7 +60,8 @@ impl Model for Windows {
 
     ghost Value = { List Window };
 
-    ghost use Rattle.sx_bus.specs.Devices.{ArePlaces, HaveSamples, IsDeviceIndex, places_of};
+    ghost use Rattle.sx_bus.specs.Devices.{ArePlaces, HaveSamples, places_of};
+    ghost use Rattle.sx_bus.specs.Windows.{IsDeviceIndex};
 
     ghost view = { λ w. w.windows.items };
 

@@ -12,7 +12,7 @@ use Rattle.sx_rules.specs.Admission.{good_bounds}
 use Rattle.sx_trace.specs.declared.items.Item.TheVariants as item
 use Rattle.sx_machine.specs.declared.kinds.Event.{Event}
 use Rattle.sx_machine.specs.State.{State, reset}
-use Rattle.sx_machine.specs.Node.{shapes}
+use Rattle.sx_machine.specs.NodeLaws.{shapes}
 use Rattle.sx_invoke.specs.Setup.{Call}
 use Rattle.sx_invoke.specs.ModuleState.{state_of}
 use Rattle.sx_invoke.specs.Marks.{Mark}

@@ -13,7 +13,8 @@ use Rattle.sx_bus.specs.Devices.{device_at}
 use Rattle.sx_machine.specs.declared.kinds.Event.{Event}
 use Rattle.sx_machine.specs.declared.kinds.Event.TheVariants as event
 use Rattle.sx_machine.specs.State.{State}
-use Rattle.sx_machine.specs.Node.{IsNode, shapes}
+use Rattle.sx_machine.specs.Node.{IsNode}
+use Rattle.sx_machine.specs.NodeLaws.{shapes}
 use Rattle.sx_machine.specs.Run.{device_of}
 use Rattle.sx_machine.specs.Step.{pc_of}
 use Rattle.sx_machine.proofs.Devices.{device_at_same, window_same, device_of_parts}

@@ -6,7 +6,7 @@ use Rattle.sx_tag.specs.Mac.{Mac}
 use Rattle.sx_machine.specs.State.{State}
 use Rattle.sx_machine.specs.Step.{step, own_of}
 use Rattle.sx_machine.specs.Node.{IsNode}
-use Rattle.sx_machine.specs.Guard.{Step}
+use Rattle.sx_machine.specs.Acting.{Step}
 use Rattle.sx_machine.proofs.Stays.{acted_key}
 use Rattle.sx_machine.proofs.StepGuard.{step_guarded}
 use Rattle.sx_invoke.specs.Marks.{Mark}

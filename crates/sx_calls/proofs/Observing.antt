@@ -12,7 +12,7 @@ use Rattle.sx_machine.specs.declared.kinds.Event.TheVariants as event
 use Rattle.sx_machine.specs.declared.kinds.Exchange.{Exchange}
 use Rattle.sx_machine.specs.declared.kinds.Seen.{Seen}
 use Rattle.sx_machine.specs.State.{State}
-use Rattle.sx_machine.specs.Node.{shapes}
+use Rattle.sx_machine.specs.NodeLaws.{shapes}
 use Rattle.sx_machine.specs.Touches.{Replays}
 use Rattle.sx_invoke.specs.Marks.{Mark, Wrapped, Unwrapped, Sampled, Actuated}
 use Rattle.sx_image.specs.Watched.{marks_of_touches, marks_of_event, marks_of}

@@ -10,7 +10,8 @@ use Rattle.sx_rules.specs.declared.section.Section.{Section}
 use Rattle.sx_rules.specs.Access.{Lives}
 use Rattle.sx_machine.specs.Registers.{set_reg}
 use Rattle.sx_machine.specs.State.{State, reset}
-use Rattle.sx_machine.specs.Node.{IsNode, shapes}
+use Rattle.sx_machine.specs.Node.{IsNode}
+use Rattle.sx_machine.specs.NodeLaws.{shapes}
 use Rattle.sx_invoke.specs.Setup.{Setup, Call}
 use Rattle.sx_invoke.specs.ModuleState.{ModuleState, state_of}
 use Rattle.sx_invoke.specs.Marks.{Mark}

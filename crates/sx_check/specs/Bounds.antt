@@ -70,10 +70,6 @@ abbrev mutual
   block_sends_by count Done = 0
   block_sends_by count (Then s b) = statement_sends_by count s + block_sends_by count b
 
--- how often it can send
-abbrev pub statement_sends : Statement → ℕ
-statement_sends s = statement_sends_by (λ x. 1) s
-
 abbrev pub block_sends : Block → ℕ
 block_sends b = block_sends_by (λ x. 1) b
 

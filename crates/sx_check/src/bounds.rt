@@ -7,7 +7,7 @@ ghost use Rattle.sx_lang.specs.View.{block_of, expression_of, handler_of, module
 ghost use Rattle.sx_check.specs.Bounds.{block_counts, block_emits, block_height, block_sends};
 ghost use Rattle.sx_check.specs.Bounds.{height, inner_depth, is_miscounted, statement_counts};
 ghost use Rattle.sx_check.specs.Bounds.{statement_depth, statement_emits, statement_height};
-ghost use Rattle.sx_check.specs.Bounds.{statement_sends};
+ghost use Rattle.sx_check.specs.Bounds.{statement_sends_by};
 ghost use Rattle.sx_check.specs.Names.{block_lets, locals, statement_lets};
 ghost use Rattle.sx_check.specs.Rules.{breaks_cells, breaks_cost, breaks_depth, breaks_locals};
 ghost use Rattle.sx_check.specs.Rules.{breaks_nodes, breaks_packets, breaks_repeat, is_too_deep};
@@ -183,7 +183,7 @@ fn sends_of_turns(turns: u16, sends: u64) -> u64
 
 #[cycle(sends)]
 fn sends_in_statement(s: &Stmt) -> u64
-    ensures { result ≡ min (statement_sends (statement_of s.now)) CUT }
+    ensures { result ≡ min (statement_sends_by (λ x. 1) (statement_of s.now)) CUT }
 {
     match s {
         Stmt::If(_, then, otherwise) => sends_in_block(then).max(sends_in_block(otherwise)),

@@ -4,7 +4,8 @@ use Rattle.sx_io.specs.Reading.{Answer, Ended, always, longest, scan}
 use Rattle.sx_told.specs.Told.{CommandAt, Output, Told, out_of_memory, write_failed}
 use Rattle.std.specs.Prelude.{IsTrue}
 use Rattle.sx_told.proofs.Laws.{told-fault, told-write-fault, told-no-write-fault}
-use Rattle.sx_command.specs.Faults.{CameToItsEnd, TellsFaults}
+use Rattle.sx_command.specs.Faults.{TellsFaults}
+use Rattle.sx_command.specs.Ended.{CameToItsEnd}
 use Rattle.std.proofs.lemmas.List.{append-nil}
 
 -- a status that `finish` gives isn't that of lack of memory

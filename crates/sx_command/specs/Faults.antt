@@ -1,15 +1,9 @@
 -- What commands say of reads and writes that fail, of their streams at the start (m0) and at the
 -- end (m1).
-use Rattle.std.specs.Prelude.{ℕ, ◌≡◌, ◌⊎◌, Bool, ◌++◌, IsTrue}
+use Rattle.std.specs.Prelude.{ℕ, ◌≡◌}
 use Rattle.sx_io.specs.Counts.{next_count, Rose}
 use Rattle.sx_io.specs.Streams.{OneReadFault}
-use Rattle.sx_told.specs.Told.{CommandAt, Output, out_of_memory, read_failed, write_failed}
-
--- the status is 0 and all that is defined was written, or memory ran out
-abbrev pub CameToItsEnd : Bool → CommandAt → CommandAt → ℕ → Output → Type 0
-CameToItsEnd to_tell m0 m1 status o =
-    (status ≡ out_of_memory)
-    ⊎ ((status ≡ 0) × (IsTrue to_tell → m1.sink.written ≡ m0.sink.written ++ o.text))
+use Rattle.sx_told.specs.Told.{CommandAt, read_failed, write_failed}
 
 -- no read and no write failed: neither count rose, nor stands at its last value
 abbrev pub IsFaultless : CommandAt → CommandAt → Type 0

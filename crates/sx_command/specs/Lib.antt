@@ -1,3 +1,5 @@
 pub mod Address
 pub mod Faults
+pub mod Ended
 pub mod Output
+pub mod Refusals

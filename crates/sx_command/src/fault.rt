@@ -2,7 +2,7 @@
 
 ghost use Rattle.std.specs.Prelude.{◌≡◌, ◌∷◌, [], ◌++◌, codes, decimal};
 ghost use Rattle.sx_told.specs.Told.{CommandEnds, write_failed};
-ghost use Rattle.sx_command.specs.Output.{fault_output};
+ghost use Rattle.sx_command.specs.Refusals.{fault_output};
 
 use crate::text::{Text, put};
 use itoa::Buffer;

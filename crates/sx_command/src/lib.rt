@@ -1,7 +1,7 @@
 //! What all commands share: texts that take no memory, addresses, and the last line of a fault.
 //!
-//! `specs/Output.antt` has the lines that they write at their end, and `specs/Faults.antt` what they
-//! say of reads and writes that fail.
+//! `specs/Output.antt` and `specs/Refusals.antt` have the lines that they write at their end, and
+//! `specs/Faults.antt` what they say of reads and writes that fail.
 #![tactic(auto)]
 
 pub mod address;

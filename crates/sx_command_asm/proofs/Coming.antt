@@ -10,7 +10,8 @@ use Rattle.sx_io.specs.Reading.{Answer, Line, longest}
 use Rattle.sx_io.specs.Next.{Ahead, Next}
 use Rattle.sx_io.specs.declared.lines.LineRead.TheVariants as read
 use Rattle.sx_io.specs.declared.lines.ReaderState.TheVariants.{Open}
-use Rattle.sx_told.specs.Reads.{Got, anything}
+use Rattle.sx_told.specs.Reads.{anything}
+use Rattle.sx_told.specs.Got.{Got}
 use Rattle.sx_told.proofs.Takings.{got-new, got-line, got-same}
 use Rattle.sx_told.proofs.Takings.{reads-end, reads-failed, reads-stop, reads-too-long}
 use Rattle.sx_head.proofs.Turns.{alone}

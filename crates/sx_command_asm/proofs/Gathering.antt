@@ -10,7 +10,8 @@ use Rattle.sx_io.specs.Reading.{Answer, Line, longest, newline}
 use Rattle.sx_io.specs.Next.{Ahead, Next}
 use Rattle.sx_io.specs.declared.lines.LineRead.TheVariants as read
 use Rattle.sx_io.specs.declared.lines.ReaderState.TheVariants.{Open}
-use Rattle.sx_told.specs.Reads.{Got, Reads, anything}
+use Rattle.sx_told.specs.Reads.{Reads, anything}
+use Rattle.sx_told.specs.Got.{Got}
 use Rattle.sx_told.proofs.Takings.{got-new, got-line, got-same, reads-map, reads-stop, reads-end, reads-too-long, reads-failed}
 use Rattle.sx_head.proofs.Turns.{alone}
 use Rattle.sx_command_asm.specs.declared.assembling.GatheredText.{GatheredText}

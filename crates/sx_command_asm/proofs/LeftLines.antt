@@ -7,7 +7,8 @@ use Rattle.sx_command.specs.Address.{address}
 use Rattle.std.proofs.lemmas.Bool.Decides.{nat_tests}
 use Rattle.std.proofs.Math.Seq.{take-append_seam}
 use Rattle.sx_io.specs.Streams.{SinkAt}
-use Rattle.sx_told.specs.Told.{Output, CommandEnds, WroteSome, behind}
+use Rattle.sx_told.specs.Told.{Output, CommandEnds, behind}
+use Rattle.sx_told.specs.Parts.{WroteSome}
 use Rattle.sx_told.proofs.Laws.{ends-behind, ends-same}
 use Rattle.sx_io.specs.Reading.{Answer}
 use Rattle.sx_asm.specs.Meaning.{further}

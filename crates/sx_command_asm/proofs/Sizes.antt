@@ -8,9 +8,9 @@ use Rattle.sx_isa.specs.declared.instruction.Op2.{Op2}
 use Rattle.sx_isa.specs.declared.instruction.Op1.{Op1}
 use Rattle.sx_isa.specs.declared.instruction.Instr.{Instr}
 use Rattle.sx_isa.specs.declared.instruction.Instr.TheVariants as instr
-use Rattle.sx_isa.specs.Legal.{is_allowed, is_constant}
+use Rattle.sx_isa.specs.Legal.{is_allowed}
+use Rattle.sx_isa.specs.Spelling.{is_constant, Place, constant, place_of}
 use Rattle.sx_isa.specs.Reading.{two_of, one_of, two_at, one_at, instruction_at, takes_word}
-use Rattle.sx_isa.specs.Spelling.{Place, constant, place_of}
 use Rattle.sx_isa.proofs.Formats.{by_format}
 use Rattle.sx_asm.specs.declared.error.AsmError.{AsmError}
 use Rattle.sx_asm.specs.declared.written.Value.{Value}

@@ -11,9 +11,11 @@ use Rattle.sx_told.specs.Told.{Output, CommandAt, Told, out_of_memory, unread_ou
 use Rattle.sx_asm.specs.declared.error.AsmError.{AsmError}
 use Rattle.sx_asm.specs.declared.error.AsmError.TheVariants as error
 use Rattle.sx_asm.specs.Assembled.{assembled}
-use Rattle.sx_command.specs.Faults.{CameToItsEnd, IsFaultless, TellsFaults}
+use Rattle.sx_command.specs.Faults.{IsFaultless, TellsFaults}
+use Rattle.sx_command.specs.Ended.{CameToItsEnd}
 use Rattle.sx_command_asm.specs.Listing.{listing}
-use Rattle.sx_command.specs.Output.{end_line, fault_output}
+use Rattle.sx_command.specs.Output.{end_line}
+use Rattle.sx_command.specs.Refusals.{fault_output}
 
 -- From the answers to a text.
 

@@ -10,7 +10,8 @@ use Rattle.sx_told.specs.Reads.{anything}
 use Rattle.sx_told.specs.Told.{CommandAt, Output, Told, out_of_memory, unread_output}
 use Rattle.sx_command.specs.Faults.{IsFaultless, TellsFaults}
 use Rattle.sx_command_asm.specs.Listing.{listing}
-use Rattle.sx_command.specs.Output.{line, end_line, fault_output}
+use Rattle.sx_command.specs.Output.{line, end_line}
+use Rattle.sx_command.specs.Refusals.{fault_output}
 
 -- each line has at most 4,096 bytes before its newline
 abbrev pub dis_lines : Limit

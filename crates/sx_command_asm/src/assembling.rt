@@ -4,7 +4,7 @@ ghost use Rattle.std.specs.Prelude.{◌≡◌, ◌+◌, ◌≤◌, ◌==◌, if�
 ghost use Rattle.std.specs.Prelude.{OnOk};
 ghost use Rattle.sx_told.specs.Told.{CommandEnds, Told, command_at};
 ghost use Rattle.sx_told.specs.Reads.{anything};
-ghost use Rattle.sx_asm.specs.Assembled.{AnswersMeant};
+ghost use Rattle.sx_asm.specs.Answers.{AnswersMeant};
 ghost use Rattle.sx_command_asm.specs.Assembling.{AsmTold, asm_all, asm_lines, broken_at, code_at};
 ghost use Rattle.sx_command_asm.specs.Assembling.{most_bytes, told_code, with_line};
 ghost use Rattle.sx_command_asm.specs.Gathering.{Gathers, gathered_bytes};

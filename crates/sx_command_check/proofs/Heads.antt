@@ -5,7 +5,8 @@ use Rattle.sx_io.specs.Streams.{SourceAt, SinkAt}
 use Rattle.sx_io.specs.Next.{Ahead}
 use Rattle.sx_told.specs.Told.{CommandEnds, command_at, out_of_memory, Output, Told, unread_output}
 use Rattle.sx_told.proofs.Laws.{ends-same, ends-out-of-memory, prefix-none, told-stop, begun-got, told-reads}
-use Rattle.sx_stage.specs.Fault.{GivesOne, fault}
+use Rattle.sx_stage.specs.Fault.{fault}
+use Rattle.sx_stage.specs.Gives.{GivesOne}
 use Rattle.sx_stage.specs.declared.fault.DeployError.{DeployError}
 use Rattle.sx_stage.specs.declared.fault.DeployError.TheVariants.{Fault, OutOfMemory}
 use Rattle.sx_deploy.specs.Deployment.{IsRead}
@@ -14,16 +15,19 @@ use Rattle.sx_deploy.specs.declared.deployment.Deployment.{Deployment}
 use Rattle.sx_deploy.proofs.Meanings.{one_meaning}
 use Rattle.sx_command_head.specs.Meanings.{Meaning, IsMeaning}
 use Rattle.sx_command_check.specs.Check.{check_output, check_head, check_all}
-use Rattle.sx_command_head.specs.Refused.{EndsRefused, fault_output}
+use Rattle.sx_command_head.specs.Refused.{fault_output}
+use Rattle.sx_command_head.specs.Ends.{EndsRefused}
 use Rattle.sx_io.specs.Reading.{Answer}
-use Rattle.sx_told.specs.Reads.{Reads, Got, anything}
+use Rattle.sx_told.specs.Reads.{Reads, anything}
+use Rattle.sx_told.specs.Got.{Got}
 use Rattle.sx_told.proofs.Takings.{got-also}
 use Rattle.sx_stage.specs.declared.fault.Place.TheVariants.{Nowhere}
-use Rattle.sx_head.specs.Head.{Head, Found, TooLong, NoMark, Unread, head, head_lines, HeadRead}
+use Rattle.sx_head.specs.Head.{Head, Found, TooLong, NoMark, Unread, head, head_lines}
+use Rattle.sx_head.specs.HeadRead.{HeadRead}
 use Rattle.sx_head.specs.declared.head.HeadFault.{HeadFault}
 use Rattle.sx_head.specs.declared.head.HeadFault.TheVariants as none
 use Rattle.sx_command_head.specs.Headless.{EndsHeadless}
-use Rattle.sx_command_head.specs.Begun.{IsFound, RunsOutBehindHead}
+use Rattle.sx_command_head.specs.Found.{IsFound, RunsOutBehindHead}
 
 -- what `check` writes of a text
 pub check_read : {to_tell : Bool} {k0 k1 : SinkAt} {status : ℕ} (text : List ℕ) (r : Result Deployment DeployError) → GivesOne deployed_as r (IsRead text)

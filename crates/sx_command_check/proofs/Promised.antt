@@ -9,7 +9,7 @@ use Rattle.sx_told.proofs.Further.{no-further}
 use Rattle.sx_head.specs.Head.{Head, head, head_lines}
 use Rattle.sx_command_head.specs.Meanings.{Meaning, IsMeaning}
 use Rattle.sx_command_check.specs.Check.{check_head, check_all}
-use Rattle.sx_command_head.specs.Begun.{RunsOutBehindHead}
+use Rattle.sx_command_head.specs.Found.{RunsOutBehindHead}
 use Rattle.sx_command_check.specs.Promise.{CheckTold, IsHead}
 use Rattle.sx_command_head.proofs.Known.{known, is_known}
 use Rattle.sx_command.proofs.Ends.{came, faults_of}

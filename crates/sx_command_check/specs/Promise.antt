@@ -4,13 +4,14 @@ use Rattle.std.specs.Prelude.{length}
 use Rattle.sx_stage.specs.declared.fault.DeployFault.{DeployFault}
 use Rattle.sx_head.specs.Head.{Head, Found, TooLong, NoMark, Unread, head, head_lines}
 use Rattle.sx_deploy.specs.Deployment.{Deployed}
-use Rattle.sx_command_head.specs.Begun.{RunsOutBehindHead}
+use Rattle.sx_command_head.specs.Found.{RunsOutBehindHead}
 use Rattle.sx_command_head.specs.Meanings.{Meaning, IsMeaning, input_of}
 use Rattle.sx_io.specs.Reading.{Ending, longest, scan}
 use Rattle.sx_told.specs.Told.{CommandAt, Told}
 use Rattle.sx_told.specs.Further.{HasEnd}
 use Rattle.sx_command_check.specs.Check.{check_all}
-use Rattle.sx_command.specs.Faults.{CameToItsEnd, IsFaultless, TellsFaults}
+use Rattle.sx_command.specs.Faults.{IsFaultless, TellsFaults}
+use Rattle.sx_command.specs.Ended.{CameToItsEnd}
 
 -- the text means a deployment
 abbrev pub IsAcceptedDeployment : Result Deployed DeployFault → Type 0

@@ -9,9 +9,9 @@ ghost use Rattle.sx_command.specs.Output.{end_line};
 ghost use Rattle.sx_command_head.specs.Meanings.{Meaning, IsMeaning};
 ghost use Rattle.sx_command_check.specs.Check.{module_line, module_lines, check_output};
 ghost use Rattle.sx_command_check.specs.Check.{check_all};
-ghost use Rattle.sx_command_head.specs.Begun.{RunsOutBehindHead};
+ghost use Rattle.sx_command_head.specs.Found.{RunsOutBehindHead};
 ghost use Rattle.sx_command_check.specs.Promise.{CheckTold};
-ghost use Rattle.sx_command_head.specs.Refused.{EndsRefused};
+ghost use Rattle.sx_command_head.specs.Ends.{EndsRefused};
 
 use std::alloc::{AllocError, Global};
 use sx_command::address::address;

@@ -4,17 +4,21 @@ use Rattle.std.specs.Prelude.{IfErr, IfOk, OnErr}
 use Rattle.sx_io.specs.Streams.{SourceAt, SinkAt}
 use Rattle.sx_io.specs.Next.{Ahead}
 use Rattle.sx_io.specs.Reading.{Answer}
-use Rattle.sx_told.specs.Told.{CommandEnds, command_at, out_of_memory, Output, CommandAt, Notes, Told, unread_output}
-use Rattle.sx_told.specs.Reads.{Reads, Got, anything}
+use Rattle.sx_told.specs.Told.{CommandEnds, command_at, out_of_memory, Output, CommandAt, Told, unread_output}
+use Rattle.sx_told.specs.Parts.{Notes}
+use Rattle.sx_told.specs.Reads.{Reads, anything}
+use Rattle.sx_told.specs.Got.{Got}
 use Rattle.sx_told.proofs.Laws.{ends-same, told-stop, begun-got, told-reads}
 use Rattle.sx_told.proofs.Takings.{decides-map, got-also, reads-map, reads-stop}
 use Rattle.sx_tag.specs.Mac.{Mac}
-use Rattle.sx_stage.specs.Fault.{GivesOne, fault}
+use Rattle.sx_stage.specs.Fault.{fault}
+use Rattle.sx_stage.specs.Gives.{GivesOne}
 use Rattle.sx_stage.specs.declared.fault.DeployError.{DeployError}
 use Rattle.sx_stage.specs.declared.fault.DeployError.TheVariants.{Fault, OutOfMemory}
 use Rattle.sx_stage.specs.declared.fault.DeployFault.{DeployFault}
 use Rattle.sx_stage.specs.declared.fault.Place.TheVariants.{Nowhere}
-use Rattle.sx_head.specs.Head.{Head, Found, TooLong, NoMark, Unread, head, head_lines, HeadRead}
+use Rattle.sx_head.specs.Head.{Head, Found, TooLong, NoMark, Unread, head, head_lines}
+use Rattle.sx_head.specs.HeadRead.{HeadRead}
 use Rattle.sx_head.specs.declared.head.HeadFault.{HeadFault}
 use Rattle.sx_head.specs.declared.head.HeadFault.TheVariants as none
 use Rattle.sx_deploy.specs.Deployment.{Deployed, IsRead}
@@ -25,7 +29,8 @@ use Rattle.sx_setup.specs.Laws.{AreByteTexts}
 use Rattle.sx_command_head.specs.Begun.{HasHead}
 use Rattle.sx_command_head.specs.Headless.{EndsHeadless}
 use Rattle.sx_command_head.specs.Meanings.{Meaning}
-use Rattle.sx_command_head.specs.Refused.{EndsRefused, fault_output}
+use Rattle.sx_command_head.specs.Refused.{fault_output}
+use Rattle.sx_command_head.specs.Ends.{EndsRefused}
 use Rattle.sx_command_deploy.specs.Afterwards.{DeployTold, DeploysBehind, DeploysOrRanOut, found_output, head_output}
 use Rattle.sx_command_deploy.specs.Deploy.{Behind, deploy_output}
 

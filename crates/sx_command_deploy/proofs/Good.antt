@@ -6,7 +6,8 @@ use Rattle.sx_stage.specs.declared.fault.DeployFault.{DeployFault}
 use Rattle.sx_head.specs.Head.{Head, Found, TooLong, NoMark, Unread}
 use Rattle.sx_deploy.specs.Deployment.{Deployed}
 use Rattle.sx_command_head.specs.Meanings.{Meaning}
-use Rattle.sx_command_world.specs.WellFormed.{IsGoodInput, IsGoodRun, schedule_status}
+use Rattle.sx_command_world.specs.WellFormed.{IsGoodInput, IsGoodRun}
+use Rattle.sx_command_world.specs.Statuses.{schedule_status}
 use Rattle.sx_command_world.proofs.Stops.{good_zero, not_two}
 use Rattle.sx_command_deploy.specs.Afterwards.{head_status}
 use Rattle.sx_command_deploy.specs.Deploy.{found_status}

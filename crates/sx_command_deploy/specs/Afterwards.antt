@@ -3,7 +3,8 @@
 use Rattle.std.specs.Prelude.{ℕ, ◌≡◌, ◌⊎◌, Bool, List, Option, None, Result, Ok}
 use Rattle.sx_io.specs.Reading.{Answer}
 use Rattle.sx_io.specs.Next.{Ahead}
-use Rattle.sx_told.specs.Told.{CommandAt, Output, Rest, Told, out_of_memory, read_failed}
+use Rattle.sx_told.specs.Told.{CommandAt, Output, Told, out_of_memory, read_failed}
+use Rattle.sx_told.specs.Parts.{Rest}
 use Rattle.sx_told.specs.Told.{unread_output}
 use Rattle.sx_stage.specs.declared.fault.DeployFault.{DeployFault}
 use Rattle.sx_tag.specs.Mac.{Mac}
@@ -11,7 +12,8 @@ use Rattle.sx_head.specs.Head.{Head, head, head_lines}
 use Rattle.sx_deploy.specs.Deployment.{Deployed, IsRead}
 use Rattle.sx_run.specs.Accepted.{AreImages}
 use Rattle.sx_setup.specs.Laws.{AreByteTexts}
-use Rattle.sx_command_head.specs.Begun.{Deploys, HasHead, RanOut, Starved}
+use Rattle.sx_command_head.specs.Begun.{Deploys, HasHead, Starved}
+use Rattle.sx_command_head.specs.Ends.{RanOut}
 use Rattle.sx_command_head.specs.Meanings.{Meaning, IsMeaning}
 use Rattle.sx_command_head.specs.Refused.{fault_output}
 use Rattle.sx_command_deploy.specs.Deploy.{Behind, by_deployment, by_head, deploy_output}

@@ -3,13 +3,13 @@
 
 ghost use Rattle.std.specs.Prelude.{◌≡◌, ◌<◌, ℕ, All, List, IfErr, IfOk, IsTrue, OnErr, Ok};
 ghost use Rattle.sx_told.specs.Told.{command_at};
-ghost use Rattle.sx_trace.specs.Names.{are_valid};
+ghost use Rattle.sx_trace.specs.ValidNames.{are_valid};
 ghost use Rattle.sx_deploy.specs.Deployment.{IsRead};
 ghost use Rattle.sx_deploy.specs.Law.{IsSoundDeployment};
 ghost use Rattle.sx_deploy.specs.SeenDeployment.{deployed_as};
 ghost use Rattle.sx_world.specs.InMemory.{texts_of};
 ghost use Rattle.sx_setup.specs.Laws.{AreByteTexts};
-ghost use Rattle.sx_command_head.specs.Refused.{EndsRefused};
+ghost use Rattle.sx_command_head.specs.Ends.{EndsRefused};
 ghost use Rattle.sx_command_deploy.specs.Afterwards.{DeployTold, DeploysOrRanOut};
 
 use crate::deploys::Deploys;

@@ -2,7 +2,8 @@
 use Rattle.std.proofs.Common.{◌≡◌, ℕ, Bool, false, List}
 use Rattle.sx_io.specs.Reading.{Answer, Limit}
 use Rattle.sx_io.specs.Next.{Ahead}
-use Rattle.sx_told.specs.Told.{Begun, CommandAt, Notes, Output}
+use Rattle.sx_told.specs.Told.{CommandAt, Output}
+use Rattle.sx_told.specs.Parts.{Begun, Notes}
 use Rattle.sx_tag.specs.Mac.{Mac}
 use Rattle.sx_head.specs.Head.{head_lines}
 use Rattle.sx_deploy.specs.SeenDeployment.{deployed_as}
@@ -10,7 +11,7 @@ use Rattle.sx_deploy.specs.declared.deployment.Deployment.{Deployment}
 use Rattle.sx_run.specs.Setting.{Setting}
 use Rattle.sx_drive.specs.Honest.{Honest}
 use Rattle.sx_drive.specs.Driving.{Follows, Kept}
-use Rattle.sx_command_drive.specs.Drive.{drive_from}
+use Rattle.sx_command_drive.specs.Parts.{drive_from}
 
 -- a run stands, of which no line was left out, and what is left is what is defined from the next line on in it
 pub record Between (tells to_tell : Bool) (m1 m2 : CommandAt) (old new : Ahead) (mac : Mac) (d : Deployment) (set : Setting) (first : Honest) (kept : Kept) (number : ℕ) : Type 0 where

@@ -12,7 +12,7 @@ use Rattle.sx_deploy.specs.SeenDeployment.{deployed_as}
 use Rattle.sx_deploy.specs.declared.deployment.Deployment.{Deployment}
 use Rattle.sx_run.specs.Setting.{Setting}
 use Rattle.sx_run.proofs.tie.Lists.{get_within}
-use Rattle.sx_world.specs.Continued.{next}
+use Rattle.sx_world.specs.Whole.{next}
 use Rattle.sx_drive.specs.declared.said.Said.{Said as Told}
 use Rattle.sx_drive.specs.Honest.{Driven, Honest, MOST_LINES, Said, SaidItem, callee_at, left_out, performed, setup}
 use Rattle.sx_drive.specs.Driving.{Does, Follows, GoesOn, IsDrivenSensor, Kept, SaysFront, reading, said_of}

@@ -17,9 +17,9 @@ use Rattle.sx_command_world.specs.Images.{images_text}
 use Rattle.sx_command_world.specs.Schedule.{Stop, AtEnd, Unread, Breaks}
 use Rattle.sx_command_drive.specs.declared.readings.ReadingLine.{ReadingLine}
 use Rattle.sx_command_drive.specs.declared.readings.ReadingLine.TheVariants as says
-use Rattle.sx_command_drive.specs.Drive.{drive_deployed, drive_from, drive_readings, ended_output, long_output, reading_fault, said_text, stop_output, told_run}
+use Rattle.sx_command_drive.specs.Drive.{drive_deployed, drive_readings, ended_output, long_output, reading_fault, said_text, stop_output, told_run}
+use Rattle.sx_command_drive.specs.Parts.{drive_from, part_output}
 use Rattle.sx_command_drive.specs.Drives.{drive_part, left_out}
-use Rattle.sx_command_drive.specs.Parts.{part_output}
 use Rattle.sx_command_drive.specs.Readings.{judged_reading, readings_from}
 use Rattle.sx_command_drive.proofs.Named.{are_there}
 use Rattle.sx_command_drive.proofs.Playing.{follows_long, follows_short}

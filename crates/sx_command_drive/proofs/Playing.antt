@@ -3,7 +3,8 @@ use Rattle.std.proofs.Common.{◌≡◌, ◌∙◌, ℕ, Bool, true, false, List
 use Rattle.std.specs.Prelude.{IfOk, IsTrue, OnOk, if◌then◌else◌}
 use Rattle.sx_io.specs.Streams.{SinkAt}
 use Rattle.sx_io.specs.Reading.{Answer}
-use Rattle.sx_told.specs.Told.{CommandEnds, Output, WroteSome, behind, out_of_memory}
+use Rattle.sx_told.specs.Told.{CommandEnds, Output, behind, out_of_memory}
+use Rattle.sx_told.specs.Parts.{WroteSome}
 use Rattle.sx_told.specs.declared.turned.Turned.{Turned}
 use Rattle.sx_told.specs.declared.turned.Turned.TheVariants.{On, Stop}
 use Rattle.sx_told.proofs.Laws.{does-same, ends-behind, ends-out-of-memory, ends-same, prefix-all}

@@ -4,7 +4,7 @@ use Rattle.std.specs.Prelude.{if◌then◌else◌}
 use Rattle.sx_trace.specs.Names.{NameLists}
 use Rattle.sx_sched.specs.Lines.{Line}
 use Rattle.sx_run.specs.Setting.{Setting}
-use Rattle.sx_world.specs.Continued.{next}
+use Rattle.sx_world.specs.Whole.{next}
 use Rattle.sx_drive.specs.Honest.{Driven, Honest, MOST_LINES, Reading, Said, each, left_out, performed, reads, says}
 use Rattle.sx_drive.specs.Driving.{IsDrivenSensor}
 use Rattle.sx_deploy.specs.Deployment.{Deployed}

@@ -11,9 +11,9 @@ use Rattle.sx_run.specs.Run.{after_line, line_counted, run}
 use Rattle.sx_run.specs.Setting.{Setting}
 use Rattle.sx_run.specs.State.{Acted, World}
 use Rattle.sx_guard.proofs.Performing.{runs_guarded}
-use Rattle.sx_world.specs.Continued.{next}
+use Rattle.sx_world.specs.Whole.{next}
 use Rattle.sx_drive.specs.Honest.{Driven, Honest, MOST_LINES, Reading, Said, SaidItem, SaidLine, each, honest_run, left_out, performed, reads, setup, start}
-use Rattle.sx_drive_laws.specs.Laws.{items_of}
+use Rattle.sx_drive_laws.specs.Samplings.{items_of}
 use Rattle.sx_command_drive.specs.Drives.{IsTheRun, lines_in}
 use Rattle.sx_command_drive.proofs.Quiet.{AreReadings, readings_by}
 use Rattle.sx_command_drive.proofs.Ways.{AreThere, Ways, setup_by}

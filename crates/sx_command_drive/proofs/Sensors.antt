@@ -9,7 +9,8 @@ use Rattle.std.specs.Str.{bytes_eq}
 use Rattle.sx_io.specs.Numbers.{number_of, up_to, written_number}
 use Rattle.sx_io.specs.Reading.{Answer, End, Long, Fault}
 use Rattle.sx_io.specs.Reading as answer
-use Rattle.sx_mean.specs.Application.{AppTree, PartTree, same_device}
+use Rattle.sx_mean.specs.Application.{AppTree, PartTree}
+use Rattle.sx_mean.specs.Validity.{same_device}
 use Rattle.sx_mean.specs.declared.apps.Part.{Part}
 use Rattle.sx_mean.specs.View.{part_as}
 use Rattle.sx_trace.specs.Names.{NameLists, if_sensor, place_of, sensor_place}

@@ -9,7 +9,7 @@ use Rattle.sx_deploy.specs.Deployment.{Deployed}
 use Rattle.sx_run.specs.Accepted.{setting_of}
 use Rattle.sx_drive.specs.Honest.{Honest, honest_run}
 use Rattle.sx_command_world.specs.Schedule.{Stop, AtEnd, Unread, Breaks}
-use Rattle.sx_command_world.specs.WellFormed.{stop_status}
+use Rattle.sx_command_world.specs.Statuses.{stop_status}
 use Rattle.sx_command_world.proofs.Stops.{stop_not_two}
 use Rattle.sx_command_deploy.proofs.Owing.{CutOr}
 use Rattle.sx_command_drive.specs.declared.readings.ReadingLine.{ReadingLine}

@@ -3,7 +3,8 @@ use Rattle.std.proofs.Common.{◌≡◌, ℕ, zero, suc, ◌+◌, ◌*◌, ◌<�
 use Rattle.std.specs.Prelude.{IfSome, option_and_then, slice_get}
 use Rattle.std.specs.List.{position_from}
 use Rattle.sx_mean.specs.declared.apps.Link.{Link}
-use Rattle.sx_mean.specs.Application.{PartTree, same_device}
+use Rattle.sx_mean.specs.Application.{PartTree}
+use Rattle.sx_mean.specs.Validity.{same_device}
 use Rattle.sx_trace.specs.Names.{NameLists}
 use Rattle.sx_sched.specs.Lines.{Line, Take, Give, Sense, Ask, Answer, Load, Call}
 use Rattle.sx_run.specs.Setting.{Setting}

@@ -12,8 +12,8 @@ use Rattle.sx_drive.specs.Driving.{reading}
 use Rattle.sx_command_world.specs.Schedule.{Stop, AtEnd, Unread, Breaks}
 use Rattle.sx_command_drive.specs.declared.readings.ReadingLine.{ReadingLine}
 use Rattle.sx_command_drive.specs.declared.readings.ReadingLine.TheVariants as says
-use Rattle.sx_command_drive.specs.Drive.{drive_from, drive_readings, ended_output, long_output, reading_fault, readings_output, said_text, steps_text, stop_output, told_run}
-use Rattle.sx_command_drive.specs.Parts.{part_output}
+use Rattle.sx_command_drive.specs.Drive.{drive_readings, ended_output, long_output, reading_fault, said_text, steps_text, stop_output, told_run}
+use Rattle.sx_command_drive.specs.Parts.{drive_from, readings_output, part_output}
 use Rattle.sx_command_drive.specs.Readings.{Readings, judged_reading, on_line, readings_from}
 use Rattle.sx_command_drive.proofs.Quiet.{AreReadings, Quiet, quiet_readings}
 use Rattle.sx_command_drive.proofs.Sensors.{readings_given}

@@ -10,12 +10,12 @@ use Rattle.sx_sched.specs.Written.{line_text}
 use Rattle.sx_deploy.specs.Deployment.{Deployed}
 use Rattle.sx_run.specs.Setting.{Setting}
 use Rattle.sx_run.specs.Accepted.{setting_of}
-use Rattle.sx_drive.specs.Honest.{Driven, Honest, Said, SaidItem, SaidLine, each, reads}
-use Rattle.sx_drive.specs.Honest.{honest_run}
-use Rattle.sx_command.specs.Output.{line, end_line, fault_output}
+use Rattle.sx_drive.specs.Honest.{Driven, Honest, Said, SaidItem, SaidLine, honest_run}
+use Rattle.sx_command.specs.Output.{line, end_line}
+use Rattle.sx_command.specs.Refusals.{fault_output}
 use Rattle.sx_command_world.specs.Images.{images_text}
 use Rattle.sx_command_world.specs.Schedule.{Stop, AtEnd, Unread, Breaks}
-use Rattle.sx_command_drive.specs.Readings.{Readings, readings_from}
+use Rattle.sx_command_drive.specs.Readings.{readings_from}
 
 -- a line of the schedule stands after `> `, an item as a run writes it
 unfoldable pub said_line : NameLists → Said → List ℕ
@@ -55,15 +55,6 @@ ended_output h stop = if h.long then long_output else stop_output h.world.steps 
 -- all that a run says, and how it ended
 abbrev pub told_run : NameLists → Driven → Stop → Output
 told_run names a stop = behind (said_text names a.said) (ended_output a.honest stop)
-
--- what is written of these readings, from where a run came
-abbrev pub readings_output : NameLists → Setting → Honest → Readings → Output
-readings_output names set h x = told_run names (each (reads set) x.readings h) x.stop
-
--- what is written of the readings from the line with this number on
-unfoldable pub drive_from : Deployed → Setting → Honest → ℕ → List Answer → Output
-drive_from d set h number answers =
-    readings_output d.names set h (readings_from d number answers)
 
 -- what is written of the honest run of the readings, from power-on
 unfoldable pub drive_readings : Deployed → Setting → List Answer → Output

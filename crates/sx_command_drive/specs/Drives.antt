@@ -12,9 +12,9 @@ use Rattle.sx_run.specs.Run.{run}
 use Rattle.sx_guard.specs.Guarded.{GuardedRun}
 use Rattle.sx_mean.specs.Application.{AppTree}
 use Rattle.sx_honest.specs.Course.{Course, IsHonest}
-use Rattle.sx_honest.specs.Laws.{Delivers}
+use Rattle.sx_honest.specs.Delivers.{Delivers}
 use Rattle.sx_drive.specs.Honest.{Driven, Reading, Said, SaidItem, SaidLine}
-use Rattle.sx_drive_laws.specs.Laws.{items_of, samplings_of}
+use Rattle.sx_drive_laws.specs.Samplings.{items_of, samplings_of}
 use Rattle.sx_command_head.specs.Begun.{Deploys}
 use Rattle.sx_command_deploy.specs.Deploys.{DeploySays, OwnPart}
 use Rattle.sx_command_drive.specs.Drive.{drive_deployed, driven_of}

@@ -1,17 +1,18 @@
 -- What a part of an honest run does to the program's run, and to its output. Nobody has to believe
 -- this file: the promise doesn't cite it.
-use Rattle.std.specs.Prelude.{ℕ, ◌+◌, ◌≡◌, ◌<◌, ◌≤◌, ◌^◌, Bool, true, false, if◌then◌else◌}
-use Rattle.std.specs.Prelude.{List, [], ◌∷◌, ◌++◌, length, slice_get, Some, Result, Ok, Err}
+use Rattle.std.specs.Prelude.{ℕ, ◌+◌, ◌≡◌, ◌<◌, ◌≤◌, ◌^◌, Bool, true, false, if◌then◌else◌, List}
+use Rattle.std.specs.Prelude.{[], ◌∷◌, ◌++◌, length, slice_get, Some, Result, Ok, Err}
 use Rattle.std.specs.List.{list_any}
 use Rattle.sx_io.specs.Streams.{SinkAt}
 use Rattle.sx_io.specs.Reading.{Answer, Line}
-use Rattle.sx_told.specs.Told.{CommandEnds, DoesPart, Output, behind, out_of_memory}
+use Rattle.sx_told.specs.Told.{CommandEnds, Output, behind, out_of_memory}
+use Rattle.sx_told.specs.Parts.{DoesPart}
 use Rattle.sx_told.specs.declared.turned.Turned.{Turned}
 use Rattle.sx_told.specs.declared.turned.Turned.TheVariants.{On, Stop}
 use Rattle.sx_tag.specs.Mac.{Mac}
 use Rattle.sx_trace.specs.Names.{NameLists}
 use Rattle.sx_sched.specs.Lines as lines
-use Rattle.sx_mean.specs.Application.{same_device}
+use Rattle.sx_mean.specs.Validity.{same_device}
 use Rattle.sx_mean.specs.declared.apps.Part.{Part}
 use Rattle.sx_deploy.specs.Deployment.{Deployed}
 use Rattle.sx_deploy.specs.SeenDeployment.{deployed_as}
@@ -19,11 +20,22 @@ use Rattle.sx_deploy.specs.declared.deployment.Deployment.{Deployment}
 use Rattle.sx_run.specs.Setting.{Setting}
 use Rattle.sx_drive.specs.declared.said.Drove.{Drove}
 use Rattle.sx_drive.specs.declared.said.Drove.TheVariants.{Done, Long}
-use Rattle.sx_drive.specs.Honest.{Driven, Honest, Said, SaidItem, SaidLine}
+use Rattle.sx_drive.specs.Honest.{Driven, Honest, Said, SaidItem, SaidLine, each, reads}
 use Rattle.sx_drive.specs.Driving.{Follows, IsDrivenSensor, Kept, drove_of}
 use Rattle.sx_command_drive.specs.declared.readings.ReadingLine.{ReadingLine}
 use Rattle.sx_command_drive.specs.declared.readings.ReadingLine.TheVariants as says
-use Rattle.sx_command_drive.specs.Drive.{drive_from, long_output, said_text}
+use Rattle.sx_command_drive.specs.Drive.{long_output, said_text, told_run}
+use Rattle.sx_command.specs.Output.{line}
+use Rattle.sx_command_drive.specs.Readings.{Readings, readings_from}
+
+-- what is written of these readings, from where a run came
+abbrev pub readings_output : NameLists → Setting → Honest → Readings → Output
+readings_output names set h x = told_run names (each (reads set) x.readings h) x.stop
+
+-- what is written of the readings from the line with this number on
+unfoldable pub drive_from : Deployed → Setting → Honest → ℕ → List Answer → Output
+drive_from d set h number answers =
+    readings_output d.names set h (readings_from d number answers)
 
 -- a module drives a device
 abbrev pub drives : ℕ → Part → Bool

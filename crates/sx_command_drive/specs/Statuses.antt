@@ -2,7 +2,7 @@
 use Rattle.std.specs.Prelude.{ℕ, List}
 use Rattle.sx_io.specs.Reading.{Answer}
 use Rattle.sx_deploy.specs.Deployment.{Deployed}
-use Rattle.sx_command_world.specs.WellFormed.{stop_status}
+use Rattle.sx_command_world.specs.Statuses.{stop_status}
 use Rattle.sx_command_drive.specs.Readings.{readings_from}
 
 -- the exit status behind the head of a deployment

@@ -1,9 +1,10 @@
 //! The command `drive`: behind the head it writes the honest run of the readings that follow.
 
 ghost use Rattle.std.specs.Prelude.{◌≡◌, IfOk, IsTrue, false, length};
-ghost use Rattle.sx_told.specs.Told.{Rest, command_at};
+ghost use Rattle.sx_told.specs.Told.{command_at};
+ghost use Rattle.sx_told.specs.Parts.{Rest};
 ghost use Rattle.sx_head.specs.Head.{head_lines};
-ghost use Rattle.sx_trace.specs.Names.{are_valid};
+ghost use Rattle.sx_trace.specs.ValidNames.{are_valid};
 ghost use Rattle.sx_deploy.specs.Law.{IsSoundDeployment};
 ghost use Rattle.sx_deploy.specs.SeenDeployment.{deployed_as};
 ghost use Rattle.sx_world.specs.InMemory.{image_setting, texts_of};

@@ -2,16 +2,17 @@
 //! read.
 
 ghost use Rattle.std.specs.Prelude.{◌≡◌, ◌+◌, ◌≤◌, false, IsTrue};
-ghost use Rattle.sx_told.specs.Told.{CommandEnds, Rest, command_at};
+ghost use Rattle.sx_told.specs.Told.{CommandEnds, command_at};
+ghost use Rattle.sx_told.specs.Parts.{Rest};
 ghost use Rattle.sx_head.specs.Head.{head_lines};
-ghost use Rattle.sx_trace.specs.Names.{are_valid};
+ghost use Rattle.sx_trace.specs.ValidNames.{are_valid};
 ghost use Rattle.sx_deploy.specs.Law.{IsSoundDeployment};
 ghost use Rattle.sx_deploy.specs.SeenDeployment.{deployed_as};
 ghost use Rattle.sx_run.specs.Setting.{Setting};
 ghost use Rattle.sx_drive.specs.Driving.{Follows, GoesOn};
 ghost use Rattle.sx_drive.specs.Honest.{Honest as Driving, start};
-ghost use Rattle.sx_command_drive.specs.Drive.{drive_from, drive_readings, reading_fault, steps_text};
-ghost use Rattle.sx_command_drive.specs.Parts.{TurnsFrom};
+ghost use Rattle.sx_command_drive.specs.Drive.{drive_readings, reading_fault, steps_text};
+ghost use Rattle.sx_command_drive.specs.Parts.{drive_from, TurnsFrom};
 
 use crate::parts::{read, set_up};
 use crate::readings::{ReadingLine, TOO_LONG, judge_reading};

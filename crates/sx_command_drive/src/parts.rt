@@ -1,7 +1,7 @@
 //! Parts of an honest run: each is done, and then all that it says is written.
 
 ghost use Rattle.std.specs.Prelude.{◌≡◌, ◌<◌, [], false, IsTrue, Ok, map};
-ghost use Rattle.sx_trace.specs.Names.{are_valid};
+ghost use Rattle.sx_trace.specs.ValidNames.{are_valid};
 ghost use Rattle.sx_deploy.specs.Law.{IsSoundDeployment};
 ghost use Rattle.sx_deploy.specs.SeenDeployment.{deployed_as};
 ghost use Rattle.sx_drive.specs.Driving.{GoesOn, IsDrivenSensor, reading, said_of};

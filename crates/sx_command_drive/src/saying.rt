@@ -2,10 +2,11 @@
 
 ghost use Rattle.std.specs.Prelude.{◌≡◌, ◌≢◌, ◌+◌, ◌≤◌, [], ◌++◌, IsTrue, List, OnOk, length, map};
 ghost use Rattle.sx_io.specs.Reading.{Answer};
-ghost use Rattle.sx_told.specs.Told.{DoesPart, Output, behind, out_of_memory};
-ghost use Rattle.sx_trace.specs.Names.{are_valid};
-ghost use Rattle.sx_sched.specs.Lines.{IsLine, line_of};
-ghost use Rattle.sx_sched.specs.Written.{IsWritten};
+ghost use Rattle.sx_told.specs.Told.{Output, behind, out_of_memory};
+ghost use Rattle.sx_told.specs.Parts.{DoesPart};
+ghost use Rattle.sx_trace.specs.ValidNames.{are_valid};
+ghost use Rattle.sx_sched.specs.InForm.{IsLine, IsWritten};
+ghost use Rattle.sx_sched.specs.Seen.{line_of};
 ghost use Rattle.sx_drive.specs.Driving.{said_of};
 ghost use Rattle.sx_drive.specs.Honest.{SaidItem, SaidLine};
 ghost use Rattle.sx_command_run.specs.Batch.{Writes};

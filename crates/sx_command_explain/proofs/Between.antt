@@ -2,7 +2,8 @@
 use Rattle.std.proofs.Common.{◌≡◌, ◌≤◌, ℕ, ◌+◌, Bool, List, [], length}
 use Rattle.sx_io.specs.Reading.{Answer, Limit}
 use Rattle.sx_io.specs.Next.{Ahead}
-use Rattle.sx_told.specs.Told.{Begun, CommandAt, Notes, Output}
+use Rattle.sx_told.specs.Told.{CommandAt, Output}
+use Rattle.sx_told.specs.Parts.{Begun, Notes}
 use Rattle.sx_trace.specs.declared.items.Item.{Item}
 use Rattle.sx_trace.specs.Names.{NameLists}
 use Rattle.sx_mean.specs.Application.{AppTree}

@@ -6,8 +6,10 @@ use Rattle.std.proofs.lemmas.Slice.Eq.{bytes_eq-Decides}
 use Rattle.std.specs.Str.{bytes_eq}
 use Rattle.sx_trace.specs.declared.items.Item.{Item}
 use Rattle.sx_trace.specs.declared.items.Item.TheVariants.{Reset, Protect, Sense, Read, Drain, Ask, Attested, Denied, Vouch, Open, Take, Out, Raw, Done, Packet, Forged, Busy, Skip, Budget}
-use Rattle.sx_trace.specs.Names.{NameLists, are_valid}
-use Rattle.sx_trace.specs.Items.{IsIndexOrNone, IsItem, IsNamedItem, IsNoItem, IsSizedItem, item_text}
+use Rattle.sx_trace.specs.Names.{NameLists}
+use Rattle.sx_trace.specs.ValidNames.{are_valid}
+use Rattle.sx_trace.specs.Items.{item_text}
+use Rattle.sx_trace.specs.KnownItems.{IsIndexOrNone, IsItem, IsNamedItem, IsNoItem, IsSizedItem}
 use Rattle.sx_trace.specs.Finding.{item_in}
 use Rattle.sx_trace.proofs.ItemsDiffer.{found_only, items_differ}
 use Rattle.sx_command_head.proofs.Known.{known, is_known}

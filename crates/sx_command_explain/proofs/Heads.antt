@@ -8,13 +8,16 @@ use Rattle.sx_io.specs.Reading.{Answer, Ending, Ended, Broken, Line, End, Long, 
 use Rattle.sx_io.specs.Next.{Ahead}
 use Rattle.sx_io.specs.declared.lines.ReaderState.{ReaderState}
 use Rattle.sx_io.specs.declared.lines.ReaderState.TheVariants as reader
-use Rattle.sx_told.specs.Reads.{AtEnd, AtFault, Decides, Enough, Follows, Got, HoldsBehind, Left, Reads, anything}
-use Rattle.sx_told.specs.Told.{CommandAt, CommandEnds, Notes, Output, Rest, Told, command_at, out_of_memory, unread_output}
+use Rattle.sx_told.specs.Reads.{AtEnd, AtFault, Decides, Enough, Left, Reads, anything}
+use Rattle.sx_told.specs.Got.{Follows, Got, HoldsBehind}
+use Rattle.sx_told.specs.Told.{CommandAt, CommandEnds, Output, Told, command_at, out_of_memory, unread_output}
+use Rattle.sx_told.specs.Parts.{Notes, Rest}
 use Rattle.sx_told.proofs.Laws.{begun-got, ends-out-of-memory, prefix-none, told-reads, told-stop}
 use Rattle.sx_told.proofs.Takings.{decides-map, got-also}
 use Rattle.sx_stage.specs.declared.fault.Place.TheVariants.{Nowhere}
 use Rattle.sx_stage.specs.Fault.{fault}
-use Rattle.sx_head.specs.Head.{Head, Found, TooLong, NoMark, Unread, HeadRead, head, head_behind, head_lines, is_mark, most_bytes}
+use Rattle.sx_head.specs.Head.{Head, Found, TooLong, NoMark, Unread, head, head_behind, head_lines, is_mark, most_bytes}
+use Rattle.sx_head.specs.HeadRead.{HeadRead}
 use Rattle.sx_head.specs.declared.head.HeadFault.{HeadFault}
 use Rattle.sx_head.specs.declared.head.HeadFault.TheVariants as none
 use Rattle.sx_command_head.specs.Headless.{EndsHeadless}
@@ -22,7 +25,7 @@ use Rattle.sx_command_head.specs.Refused.{fault_output}
 use Rattle.sx_command_explain.specs.Meant.{Meanings}
 use Rattle.sx_command_explain.specs.Trace.{explain_lines, image_lines}
 use Rattle.sx_command_explain.specs.Explain.{explain_all, explain_found, explain_head}
-use Rattle.sx_command_head.specs.Begun.{IsFound, RunsOutBehindHead}
+use Rattle.sx_command_head.specs.Found.{IsFound, RunsOutBehindHead}
 
 -- ---- longer lines
 

@@ -10,8 +10,8 @@ use Rattle.sx_trace.specs.declared.items.Item.{Item}
 use Rattle.sx_mean.specs.Application.{AppTree}
 use Rattle.sx_explain.specs.declared.judge.Judged.{Judged}
 use Rattle.sx_explain.specs.declared.judge.Judged.TheVariants as verdict
-use Rattle.sx_explain.specs.Followed.{Follows, Seen}
-use Rattle.sx_explain.specs.Judging.{items_after, judged}
+use Rattle.sx_explain.specs.Followed.{Follows, Seen, items_after}
+use Rattle.sx_explain.specs.Judging.{judged}
 use Rattle.sx_command_explain.specs.Explain.{told_item}
 use Rattle.sx_command_explain.specs.Turns.{JudgesItem, TellsItem}
 

@@ -13,7 +13,7 @@ use Rattle.sx_command.specs.Faults.{TellsFaults}
 use Rattle.sx_command.proofs.Ends.{came}
 use Rattle.sx_command_explain.specs.Meant.{AreMeanings, Meanings}
 use Rattle.sx_command_explain.specs.Explain.{explain_all}
-use Rattle.sx_command_head.specs.Begun.{RunsOutBehindHead}
+use Rattle.sx_command_head.specs.Found.{RunsOutBehindHead}
 use Rattle.sx_command_explain.specs.Explains.{ExplainSays, input_of}
 use Rattle.sx_command_explain.specs.Trace.{explain_lines}
 use Rattle.sx_command_explain.proofs.Found.{are_meant, meant}

@@ -4,11 +4,12 @@ use Rattle.std.specs.Prelude.{IfErr, IfOk, OnErr, nat_le}
 use Rattle.sx_io.specs.Streams.{SourceAt, SinkAt}
 use Rattle.sx_io.specs.Reading.{Answer, Limit}
 use Rattle.sx_io.specs.Next.{Ahead, Next}
-use Rattle.sx_io.specs.Passing.{longest_passed}
+use Rattle.sx_io.specs.Passed.{longest_passed}
 use Rattle.sx_io.specs.declared.lines.LineRead.TheVariants as read
-use Rattle.sx_told.specs.Told.{Begun, CommandAt, Output, Rest, command_at}
+use Rattle.sx_told.specs.Told.{CommandAt, Output, command_at}
+use Rattle.sx_told.specs.Parts.{Begun, Rest}
 use Rattle.sx_told.proofs.Laws.{begun-line, begun-same, ends-out-of-memory, ends-same, prefix-none, told-stop}
-use Rattle.sx_stage.specs.Fault.{GivesOne}
+use Rattle.sx_stage.specs.Gives.{GivesOne}
 use Rattle.sx_stage.specs.declared.fault.DeployError.{DeployError}
 use Rattle.sx_stage.specs.declared.fault.DeployError.TheVariants as error
 use Rattle.sx_stage.specs.declared.fault.DeployFault.{DeployFault}
@@ -18,7 +19,7 @@ use Rattle.sx_deploy.specs.Deployment.{Deployed, IsRead}
 use Rattle.sx_deploy.specs.SeenDeployment.{deployed_as}
 use Rattle.sx_deploy.specs.declared.deployment.Deployment.{Deployment}
 use Rattle.sx_deploy.proofs.Meanings.{one_meaning}
-use Rattle.sx_command_head.specs.Refused.{EndsRefused}
+use Rattle.sx_command_head.specs.Ends.{EndsRefused}
 use Rattle.sx_command_explain.specs.declared.images.ImageLine.TheVariants as image
 use Rattle.sx_command_explain.specs.Meant.{AreMeanings, Meanings}
 use Rattle.sx_command_explain.specs.Explain.{explain_deployed, explain_found, explain_from, explain_start}

@@ -16,9 +16,8 @@ use Rattle.sx_deploy.specs.Deployment.{Deployed}
 use Rattle.sx_explain.specs.declared.judge.Judged.{Judged}
 use Rattle.sx_explain.specs.declared.judge.Judged.TheVariants.{Because, Fine, Illegal, Forged}
 use Rattle.sx_explain.specs.declared.judge.Judged.TheVariants.{Unjudged}
-use Rattle.sx_explain.specs.Judging.{judged}
-use Rattle.sx_explain.specs.Followed.{first_forged}
-use Rattle.sx_command.specs.Output as command
+use Rattle.sx_explain.specs.Judging.{judged, first_forged}
+use Rattle.sx_command.specs.Refusals as refusals
 use Rattle.sx_command.specs.Output.{line, end_line}
 use Rattle.sx_command_head.specs.Refused.{fault_output}
 use Rattle.sx_command_explain.specs.Meant.{Meanings}
@@ -46,7 +45,7 @@ legal_text items = line (codes "legal " ++ decimal (length (before items)))
 
 -- status 3: this line is the first that breaks a rule, and this is the first rule that it breaks
 abbrev pub broken_output : ℕ → ℕ → Output
-broken_output rule number = command.fault_output (codes "fault trace E") rule number 3
+broken_output rule number = refusals.fault_output (codes "fault trace E") rule number 3
 
 -- the last lines, and the status
 abbrev pub stop_output : List Item → Stop → Output

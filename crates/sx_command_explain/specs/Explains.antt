@@ -9,8 +9,9 @@ use Rattle.sx_trace.specs.declared.items.Item.{Item}
 use Rattle.sx_mean.specs.Application.{AppTree}
 use Rattle.sx_model.specs.Legal.{Legal, before}
 use Rattle.sx_deploy.specs.Deployment.{Deployed}
-use Rattle.sx_command.specs.Faults.{CameToItsEnd, IsFaultless, TellsFaults}
-use Rattle.sx_command_head.specs.Begun.{RunsOutBehindHead}
+use Rattle.sx_command.specs.Faults.{IsFaultless, TellsFaults}
+use Rattle.sx_command.specs.Ended.{CameToItsEnd}
+use Rattle.sx_command_head.specs.Found.{RunsOutBehindHead}
 use Rattle.sx_command_explain.specs.Meant.{Meanings, AreMeanings}
 use Rattle.sx_command_explain.specs.Explain.{explain_all}
 use Rattle.sx_command_explain.specs.Trace.{Start, Behind, Missing, Whole, explain_lines, start}

@@ -1,8 +1,10 @@
 -- What texts of deployments mean, and the lines of traces.
 use Rattle.std.specs.Prelude.{◌≡◌, ℕ, List, Option, MatchOption, IsTrue}
 use Rattle.sx_trace.specs.declared.items.Item.{Item}
-use Rattle.sx_trace.specs.Names.{NameLists, are_valid}
-use Rattle.sx_trace.specs.Items.{IsItem, IsNoItem, item_text}
+use Rattle.sx_trace.specs.Names.{NameLists}
+use Rattle.sx_trace.specs.ValidNames.{are_valid}
+use Rattle.sx_trace.specs.Items.{item_text}
+use Rattle.sx_trace.specs.KnownItems.{IsItem, IsNoItem}
 use Rattle.sx_command_head.specs.Meanings.{Meaning, IsMeaning}
 
 -- the deployment of a text, and the item that has a line

@@ -5,7 +5,7 @@ use Rattle.std.specs.Prelude.{◌∷◌, codes, option_map, take, Option, Some, 
 use Rattle.std.specs.Str.{bytes_eq}
 use Rattle.sx_io.specs.Reading.{Answer, End, Long, Fault, Limit, always, longest}
 use Rattle.sx_io.specs.Reading as answer
-use Rattle.sx_io.specs.Passing.{longest_passed}
+use Rattle.sx_io.specs.Passed.{longest_passed}
 use Rattle.sx_head.specs.Head.{is_mark}
 use Rattle.sx_trace.specs.declared.items.Item.{Item}
 use Rattle.sx_command_explain.specs.declared.images.ImageLine.{ImageLine}

@@ -5,7 +5,8 @@ use Rattle.std.specs.Prelude.{◌++◌, codes, length, take}
 use Rattle.std.specs.Str.{bytes_eq}
 use Rattle.sx_io.specs.Streams.{SinkAt}
 use Rattle.sx_io.specs.Reading.{Answer}
-use Rattle.sx_told.specs.Told.{DoesPart, Output}
+use Rattle.sx_told.specs.Told.{Output}
+use Rattle.sx_told.specs.Parts.{DoesPart}
 use Rattle.sx_told.specs.declared.turned.Turned.{Turned}
 use Rattle.sx_told.specs.declared.turned.Turned.TheVariants.{On}
 use Rattle.sx_trace.specs.declared.items.Item.{Item}

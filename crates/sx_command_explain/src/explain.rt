@@ -2,14 +2,15 @@
 //! it.
 
 ghost use Rattle.std.specs.Prelude.{◌≡◌, IfErr, IfOk, IsTrue, OnErr};
-ghost use Rattle.sx_told.specs.Told.{Rest, Told, command_at};
-ghost use Rattle.sx_trace.specs.Names.{are_valid};
+ghost use Rattle.sx_told.specs.Told.{Told, command_at};
+ghost use Rattle.sx_told.specs.Parts.{Rest};
+ghost use Rattle.sx_trace.specs.ValidNames.{are_valid};
 ghost use Rattle.sx_deploy.specs.SeenDeployment.{deployed_as};
-ghost use Rattle.sx_mean.specs.Application.{is_valid};
+ghost use Rattle.sx_mean.specs.Validity.{is_valid};
 ghost use Rattle.sx_mean.specs.View.{app_as};
-ghost use Rattle.sx_command_head.specs.Refused.{EndsRefused};
+ghost use Rattle.sx_command_head.specs.Ends.{EndsRefused};
 ghost use Rattle.sx_command_explain.specs.Explain.{explain_all, explain_deployed, explain_found};
-ghost use Rattle.sx_command_head.specs.Begun.{RunsOutBehindHead};
+ghost use Rattle.sx_command_head.specs.Found.{RunsOutBehindHead};
 ghost use Rattle.sx_command_explain.specs.Explains.{ExplainSays};
 ghost use Rattle.sx_command_explain.specs.Meant.{AreMeanings, Meanings};
 ghost use Rattle.sx_command_explain.specs.Trace.{explain_lines, image_lines};

@@ -1,10 +1,11 @@
 //! The lines before a trace. Those of images are passed, whatever they say.
 
 ghost use Rattle.std.specs.Prelude.{◌≡◌, ◌≤◌, IsTrue, length, true};
-ghost use Rattle.sx_told.specs.Told.{Rest, command_at};
-ghost use Rattle.sx_trace.specs.Names.{are_valid};
+ghost use Rattle.sx_told.specs.Told.{command_at};
+ghost use Rattle.sx_told.specs.Parts.{Rest};
+ghost use Rattle.sx_trace.specs.ValidNames.{are_valid};
 ghost use Rattle.sx_deploy.specs.SeenDeployment.{deployed_as};
-ghost use Rattle.sx_mean.specs.Application.{is_valid};
+ghost use Rattle.sx_mean.specs.Validity.{is_valid};
 ghost use Rattle.sx_mean.specs.View.{app_as};
 ghost use Rattle.sx_command_explain.specs.Explain.{explain_deployed};
 ghost use Rattle.sx_command_explain.specs.Meant.{AreMeanings, Meanings};

@@ -1,7 +1,7 @@
 //! The lines of a trace.
 
 ghost use Rattle.std.specs.Prelude.{◌≡◌, ◌≤◌, IsTrue, OnOk};
-ghost use Rattle.sx_trace.specs.Names.{are_valid};
+ghost use Rattle.sx_trace.specs.ValidNames.{are_valid};
 ghost use Rattle.sx_command_explain.specs.Meant.{AreMeanings, Meanings};
 ghost use Rattle.sx_command_explain.specs.Trace.{is_last, judged_line, line_of, rule_behind};
 ghost use Rattle.sx_command_explain.specs.Trace.{said_by};

@@ -2,10 +2,11 @@
 //! read.
 
 ghost use Rattle.std.specs.Prelude.{◌≡◌, ◌+◌, ◌<◌, [], IsTrue, List, true};
-ghost use Rattle.sx_told.specs.Told.{Rest, command_at};
+ghost use Rattle.sx_told.specs.Told.{command_at};
+ghost use Rattle.sx_told.specs.Parts.{Rest};
 ghost use Rattle.sx_trace.specs.declared.items.Item.{Item as Listed};
-ghost use Rattle.sx_trace.specs.Names.{are_valid};
-ghost use Rattle.sx_mean.specs.Application.{is_valid};
+ghost use Rattle.sx_trace.specs.ValidNames.{are_valid};
+ghost use Rattle.sx_mean.specs.Validity.{is_valid};
 ghost use Rattle.sx_mean.specs.View.{app_as};
 ghost use Rattle.sx_explain.specs.Followed.{Follows};
 ghost use Rattle.sx_command_explain.specs.Explain.{explain_from, stop_output};

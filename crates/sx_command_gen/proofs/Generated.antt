@@ -2,10 +2,11 @@
 use Rattle.std.proofs.Common.{◌≡◌, inl, inr, ℕ, ◌∙◌, Bool, List, [], refl, sym, ap, arith, Result, Ok, Err, ◌≤◌, ◌⊎◌, subst}
 use Rattle.sx_asm.specs.Assembled.{assembled}
 use Rattle.sx_io.specs.Streams.{SinkAt}
-use Rattle.sx_told.specs.Told.{CommandEnds, out_of_memory, Output, WroteSome, behind}
+use Rattle.sx_told.specs.Told.{CommandEnds, out_of_memory, Output, behind}
+use Rattle.sx_told.specs.Parts.{WroteSome}
 use Rattle.sx_told.proofs.Laws.{ends-same, ends-behind}
 use Rattle.sx_tag.specs.Mac.{Mac}
-use Rattle.sx_stage.specs.Fault.{GivesOne}
+use Rattle.sx_stage.specs.Gives.{GivesOne}
 use Rattle.sx_stage.specs.declared.fault.DeployError.{DeployError}
 use Rattle.sx_stage.specs.declared.fault.DeployError.TheVariants.{Fault, OutOfMemory}
 use Rattle.sx_stage.specs.declared.fault.DeployFault.{DeployFault}
@@ -15,17 +16,17 @@ use Rattle.sx_deploy.specs.declared.deployment.Deployment.{Deployment}
 use Rattle.sx_deploy.proofs.Meanings.{one_meaning}
 use Rattle.sx_bulk.specs.Bulk as bulk
 use Rattle.sx_command_head.specs.Meanings.{Meaning, IsMeaning}
-use Rattle.sx_command_head.specs.Refused.{EndsRefused}
+use Rattle.sx_command_head.specs.Ends.{EndsRefused}
 use Rattle.sx_command_gen.specs.Workload.{GenWrote, gen_found, GenTold, GenWith, gen_run, told_at, workload}
 use Rattle.sx_io.specs.Counts as count
 use Rattle.sx_io.specs.Reading.{Answer}
 use Rattle.sx_run.specs.Accepted.{setting_of}
 use Rattle.sx_run.specs.Run.{run}
 use Rattle.sx_run.specs.State.{Acted, switched_on}
-use Rattle.sx_command_world.specs.Turning.{broken_output}
+use Rattle.sx_command_world.specs.Broken.{broken_output}
 use Rattle.sx_command_world.specs.Schedule.{Stop, AtEnd, Breaks, schedule}
 use Rattle.sx_command_world.specs.Schedule as sched
-use Rattle.sx_command_world.specs.WellFormed.{schedule_status, stop_status}
+use Rattle.sx_command_world.specs.Statuses.{schedule_status, stop_status}
 use Rattle.sx_command_deploy.specs.Deploy.{found_status}
 use Rattle.sx_command_head.proofs.Known.{known, is_known}
 use Rattle.sx_command_deploy.proofs.Good.{found_not_two}

@@ -16,7 +16,8 @@ use Rattle.sx_bulk.proofs.Accepts.{accepted}
 use Rattle.sx_bulk.proofs.WellFormed as good
 use Rattle.sx_command_head.specs.Meanings.{Meaning, IsMeaning}
 use Rattle.sx_command_world.specs.Schedule.{judged_line, or_rule}
-use Rattle.sx_command_world.specs.WellFormed.{IsWellFormed, IsGoodRun, schedule_status}
+use Rattle.sx_command_world.specs.WellFormed.{IsWellFormed, IsGoodRun}
+use Rattle.sx_command_world.specs.Statuses.{schedule_status}
 use Rattle.sx_command_gen.specs.Workload.{answers_from, workload}
 use Rattle.sx_command_deploy.specs.Deploy.{found_status}
 use Rattle.sx_command_deploy.proofs.Good.{found_zero}

@@ -20,13 +20,14 @@ use Rattle.sx_run.specs.State.{World, switched_on}
 use Rattle.sx_run.specs.Run.{run}
 use Rattle.sx_bulk.specs.Bulk as bulk
 use Rattle.sx_command_gen.specs.declared.counts.Counts.{Counts}
-use Rattle.sx_command_gen.specs.Counts.{is_output, is_lit, counts, plus, summary}
-use Rattle.sx_command_world.specs.Turning.{broken_output, after_next}
+use Rattle.sx_command_gen.specs.Counts.{is_output, is_lit, counts, summary}
+use Rattle.sx_command_gen.specs.Counting.{plus, ActsIn, ActsFrom, EndsAs, LineStopsAt}
+use Rattle.sx_command_world.specs.Turning.{after_next}
+use Rattle.sx_command_world.specs.Broken.{broken_output}
 use Rattle.sx_command_world.specs.Schedule.{Schedule, AtEnd, judged_line, on_line, schedule}
 use Rattle.sx_command_gen.specs.Workload.{answers_from, gen_run, told_at, workload}
 use Rattle.sx_command_gen.specs.declared.counting.Stopped.{Stopped}
 use Rattle.sx_command_gen.specs.declared.counting.Stopped.TheVariants.{Broken, OutOfMemory}
-use Rattle.sx_command_gen.specs.Counting.{ActsIn, ActsFrom, EndsAs, LineStopsAt}
 
 -- ---- counts of more items
 

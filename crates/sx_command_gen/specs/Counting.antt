@@ -1,5 +1,5 @@
 -- What the parts of the command `gen` do.
-use Rattle.std.specs.Prelude.{ℕ, ◌≡◌, List, Result, Ok, Err}
+use Rattle.std.specs.Prelude.{ℕ, ◌≡◌, List, Result, Ok, Err, ◌+◌}
 use Rattle.sx_asm.specs.Assembled.{assembled}
 use Rattle.sx_trace.specs.declared.items.Item.{Item}
 use Rattle.sx_trace.specs.Names.{NameLists}
@@ -13,9 +13,16 @@ use Rattle.sx_command_gen.specs.declared.counts.Counts.{Counts}
 use Rattle.sx_command_gen.specs.declared.counting.Stopped.{Stopped}
 use Rattle.sx_command_gen.specs.declared.counting.Stopped.TheVariants.{Broken, OutOfMemory}
 use Rattle.sx_command_gen.specs.Counts.{summary}
-use Rattle.sx_command_world.specs.Turning.{broken_output, after_next}
+use Rattle.sx_command_world.specs.Turning.{after_next}
+use Rattle.sx_command_world.specs.Broken.{broken_output}
 use Rattle.sx_command_world.specs.Schedule.{judged_line}
 use Rattle.sx_command_gen.specs.Workload.{gen_run}
+use Rattle.sx_command.specs.Output.{line}
+
+-- the sums of two counts
+abbrev pub plus : Counts → Counts → Counts
+plus a b =
+    record { items = a.items + b.items; outputs = a.outputs + b.outputs; lit = a.lit + b.lit }
 
 -- The line with this number keeps the rules, and was performed in the world w: the program's world
 -- stands at the next one, and these are the line's items.

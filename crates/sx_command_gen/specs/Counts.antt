@@ -21,11 +21,6 @@ abbrev pub counts : List Item → Counts
 counts items =
     record { items = length items; outputs = count_by is_output items; lit = count_by is_lit items }
 
--- the sums of two counts
-abbrev pub plus : Counts → Counts → Counts
-plus a b =
-    record { items = a.items + b.items; outputs = a.outputs + b.outputs; lit = a.lit + b.lit }
-
 -- a word and a number
 unfoldable pub numbered : List ℕ → ℕ → List ℕ
 numbered word n = line (word ++ codes " " ++ decimal n)

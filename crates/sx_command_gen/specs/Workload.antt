@@ -18,11 +18,11 @@ use Rattle.sx_bulk.specs.Bulk as bulk
 use Rattle.sx_command_head.specs.Meanings.{Meaning, IsMeaning}
 use Rattle.sx_command_head.specs.Refused.{fault_output}
 use Rattle.sx_command_gen.specs.Counts.{counts, summary}
-use Rattle.sx_command_world.specs.Turning.{broken_output}
+use Rattle.sx_command_world.specs.Broken.{broken_output}
 use Rattle.sx_command_world.specs.Images.{images_text}
 use Rattle.sx_command_world.specs.Schedule.{Stop, AtEnd, Breaks, schedule}
 use Rattle.sx_command_world.specs.Schedule as sched
-use Rattle.sx_command_world.specs.WellFormed.{schedule_status}
+use Rattle.sx_command_world.specs.Statuses.{schedule_status}
 use Rattle.sx_command_deploy.specs.Deploy.{found_status}
 
 -- the answers of this many of the workload's lines, from the i-th on, and the end after them

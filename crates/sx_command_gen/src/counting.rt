@@ -2,8 +2,9 @@
 //! counted, before the next is made.
 
 ghost use Rattle.std.specs.Prelude.{◌≡◌, ℕ, ◌+◌, ◌<◌, ◌≤◌, [], IfErr, OnOk, IsTrue};
-ghost use Rattle.sx_trace.specs.Names.{are_valid};
-ghost use Rattle.sx_sched.specs.Lines.{line_of, IsLine};
+ghost use Rattle.sx_trace.specs.ValidNames.{are_valid};
+ghost use Rattle.sx_sched.specs.Seen.{line_of};
+ghost use Rattle.sx_sched.specs.InForm.{IsLine};
 ghost use Rattle.sx_deploy.specs.SeenDeployment.{deployed_as};
 ghost use Rattle.sx_deploy.specs.Law as deployment;
 ghost use Rattle.sx_world.specs.Continued.{Acts};

@@ -1,7 +1,8 @@
 //! Counts of a run's items, and the lines that tell them.
 
 ghost use Rattle.std.specs.Prelude.{◌≡◌, ◌+◌, ◌^◌, ◌<◌, ◌≤◌, ◌++◌, IfOk, OnOk, [], length};
-ghost use Rattle.sx_command_gen.specs.Counts.{counts, is_lit, is_output, numbered, plus, summary};
+ghost use Rattle.sx_command_gen.specs.Counts.{counts, is_lit, is_output, numbered, summary};
+ghost use Rattle.sx_command_gen.specs.Counting.{plus};
 
 use itoa::Buffer;
 use std::alloc::{AllocError, Global};

@@ -3,7 +3,7 @@
 
 ghost use Rattle.std.specs.Prelude.{◌≡◌, ◌≤◌, IsTrue, Ok, length};
 ghost use Rattle.sx_told.specs.Told.{CommandEnds};
-ghost use Rattle.sx_trace.specs.Names.{are_valid};
+ghost use Rattle.sx_trace.specs.ValidNames.{are_valid};
 ghost use Rattle.sx_deploy.specs.Deployment.{IsRead};
 ghost use Rattle.sx_deploy.specs.Law as deployment;
 ghost use Rattle.sx_deploy.specs.SeenDeployment.{deployed_as};

@@ -1,19 +1,9 @@
 -- How a command that deploys begins: by the head of its input, and where memory runs out behind it.
 use Rattle.std.specs.Prelude.{ℕ, ◌≡◌, Bool, List, Option, Some, None, Ok}
-use Rattle.sx_io.specs.Reading.{Answer}
 use Rattle.sx_told.specs.Reads.{Reads}
 use Rattle.sx_told.specs.Told.{CommandAt, out_of_memory}
 use Rattle.sx_head.specs.Head.{Head, Found, Unread, head, head_lines}
 use Rattle.sx_deploy.specs.Deployment.{Deployed, IsRead}
-
--- the input has a head
-abbrev pub IsFound : Head → Type 0
-IsFound (Found text more) = Unit {0}
-IsFound _ = ⊥
-
--- memory runs out only where there is a head: that there is none is reported without memory
-abbrev pub RunsOutBehindHead : ℕ → List Answer → Type 0
-RunsOutBehindHead status answers = status ≡ out_of_memory → IsFound (head answers)
 
 -- this head stands in the input, or none
 abbrev pub HasHead : Option (List ℕ) → Head → Type 0
@@ -34,8 +24,3 @@ pub record Starved (tells : Bool) (m0 m1 : CommandAt) (status : ℕ) : Type 0 wh
   pub text : List ℕ
   pub reads : Reads tells head_lines m0.source m1.source head Unread
       (λ answers. HasHead (Some text) (head answers))
-
--- memory ran out before the images were made, and nothing was read or written
-pub record RanOut (m1 m2 : CommandAt) (status : ℕ) : Type 0 where
-  pub six : status ≡ out_of_memory
-  pub same : m2 ≡ m1

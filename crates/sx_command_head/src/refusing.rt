@@ -5,7 +5,7 @@ ghost use Rattle.std.specs.Prelude.{◌≡◌, ◌+◌, ◌≤◌, ◌++◌, cod
 ghost use Rattle.sx_stage.specs.Text.{place_text, sort_text};
 ghost use Rattle.sx_command_head.specs.Refused.{fault_line};
 ghost use Rattle.sx_command_head.specs.Headless.{EndsHeadless};
-ghost use Rattle.sx_command_head.specs.Refused.{EndsRefused};
+ghost use Rattle.sx_command_head.specs.Ends.{EndsRefused};
 
 use itoa::Buffer;
 use sx_command::text::{Text, put};

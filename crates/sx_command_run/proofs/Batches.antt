@@ -7,7 +7,8 @@ use Rattle.sx_io.specs.Prefixes.{AppendsPrefix}
 use Rattle.sx_io.specs.Reading.{Answer}
 use Rattle.sx_io.specs.Streams.{SinkAt}
 use Rattle.sx_io.specs.declared.outside.Failed.{Failed}
-use Rattle.sx_told.specs.Told.{Output, WroteSome, behind}
+use Rattle.sx_told.specs.Told.{Output, behind}
+use Rattle.sx_told.specs.Parts.{WroteSome}
 use Rattle.sx_told.proofs.Laws.{prefix-behind, prefix-more}
 use Rattle.sx_trace.specs.declared.items.Item.{Item}
 use Rattle.sx_trace.specs.Names.{NameLists}

@@ -3,7 +3,8 @@ use Rattle.std.proofs.Common.{ℕ, Bool, List}
 use Rattle.sx_asm.specs.Assembled.{assembled}
 use Rattle.sx_io.specs.Reading.{Answer, Limit}
 use Rattle.sx_io.specs.Next.{Ahead}
-use Rattle.sx_told.specs.Told.{Begun, CommandAt, Notes, Output}
+use Rattle.sx_told.specs.Told.{CommandAt, Output}
+use Rattle.sx_told.specs.Parts.{Begun, Notes}
 use Rattle.sx_head.specs.Head.{head_lines}
 use Rattle.sx_trace.specs.Names.{NameLists}
 use Rattle.sx_run.specs.Setting.{Setting}

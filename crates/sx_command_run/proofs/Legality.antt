@@ -8,12 +8,14 @@ use Rattle.sx_io.specs.Reading as answer
 use Rattle.sx_tag.specs.Mac.{Mac, IsTag}
 use Rattle.sx_trace.specs.Names.{NameLists}
 use Rattle.sx_sched.specs.declared.lines.LineError.{LineError}
-use Rattle.sx_sched.specs.Lines.{Line, IsLine}
+use Rattle.sx_sched.specs.Lines.{Line}
+use Rattle.sx_sched.specs.InForm.{IsLine}
 use Rattle.sx_sched.specs.Reading.{said_line}
 use Rattle.sx_sched.proofs.Form.{said_in_form}
 use Rattle.sx_deploy.specs.Deployment.{Deployed, IsRead}
 use Rattle.sx_model.specs.Legal.{Legal, before}
-use Rattle.sx_run.specs.Accepted.{AreImages, AreLines}
+use Rattle.sx_run.specs.Accepted.{AreImages}
+use Rattle.sx_run.specs.AcceptedLaw.{AreLines}
 use Rattle.sx_run.proofs.AcceptedRunsLegal.{accepted_runs_legal}
 use Rattle.sx_command_world.specs.Schedule.{Schedule, or_rule, judged_line, on_line, schedule}
 use Rattle.sx_command_run.specs.Run.{items_of}

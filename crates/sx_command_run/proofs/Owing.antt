@@ -10,7 +10,7 @@ use Rattle.sx_command_world.specs.Schedule.{Stop, AtEnd, Breaks, judged_line, sc
 use Rattle.sx_command_world.specs.Schedule as sched
 use Rattle.sx_command_run.specs.Run.{stop_output, run_from, run_deployed, items_text, run_at_start}
 use Rattle.sx_command_run.specs.Runs.{run_part}
-use Rattle.sx_command_world.specs.WellFormed.{schedule_status, stop_status}
+use Rattle.sx_command_world.specs.Statuses.{schedule_status, stop_status}
 use Rattle.sx_command_world.proofs.Stops.{not_zero, not_four, not_two}
 use Rattle.sx_told.proofs.Due.{lines_then, EndsUnread, Due, due-behind, behind-ends}
 use Rattle.sx_run.specs.Setting.{Setting}
@@ -20,7 +20,8 @@ use Rattle.sx_run.specs.Run.{run}
 use Rattle.sx_command.specs.Output.{trace_line}
 use Rattle.sx_command_deploy.proofs.Owing.{Owes}
 use Rattle.sx_command_world.specs.Images.{images_text}
-use Rattle.sx_command_world.specs.Turning.{broken_output, after_next}
+use Rattle.sx_command_world.specs.Turning.{after_next}
+use Rattle.sx_command_world.specs.Broken.{broken_output}
 use Rattle.sx_command_run.proofs.Written.{run_line, run_breaks, run_unread}
 
 stop_same : (x : Stop) → (stop_output x).status ≡ stop_status x

@@ -15,7 +15,8 @@ use Rattle.sx_run.specs.Run.{run}
 use Rattle.sx_command.specs.Output.{end_line}
 use Rattle.sx_command_world.specs.Schedule.{Schedule, judged_line, on_line, schedule}
 use Rattle.sx_command_run.specs.Run.{item_line, items_text, schedule_output, run_from, stop_output}
-use Rattle.sx_command_world.specs.Turning.{broken_output, after_next}
+use Rattle.sx_command_world.specs.Turning.{after_next}
+use Rattle.sx_command_world.specs.Broken.{broken_output}
 
 pub items_text_append : (names : NameLists) (xs ys : List Item) → items_text names (xs ++ ys) ≡ items_text names xs ++ items_text names ys
 items_text_append names [] ys = refl

@@ -10,7 +10,7 @@ use Rattle.sx_trace.specs.Names.{NameLists}
 use Rattle.sx_trace.specs.Items.{item_text}
 use Rattle.sx_deploy.specs.Deployment.{Deployed}
 use Rattle.sx_run.specs.Setting.{Setting}
-use Rattle.sx_run.specs.State.{World, Acted, switched_on}
+use Rattle.sx_run.specs.State.{World, switched_on}
 use Rattle.sx_run.specs.Accepted.{setting_of}
 use Rattle.sx_run.specs.Run.{run}
 use Rattle.sx_sched.specs.Reading.{Assembler}
@@ -18,7 +18,7 @@ use Rattle.sx_command.specs.Output.{line, trace_line, end_line}
 use Rattle.sx_command_world.specs.Schedule.{Stop, AtEnd, Breaks, Schedule, schedule}
 use Rattle.sx_command_world.specs.Schedule as sched
 use Rattle.sx_command_world.specs.Images.{images_text}
-use Rattle.sx_command_world.specs.Turning.{broken_output}
+use Rattle.sx_command_world.specs.Broken.{broken_output}
 
 -- the line of an item
 unfoldable pub item_line : NameLists → Item → List ℕ
@@ -38,10 +38,6 @@ stop_output (Breaks rule number) = broken_output rule number
 abbrev pub schedule_output : NameLists → Setting → World → Schedule → Output
 schedule_output names set w x =
     behind (items_text names (run set w x.lines).items) (stop_output x.stop)
-
--- a line's items, and what follows from the world that it leaves
-abbrev pub told_by : NameLists → Acted → (World → Output) → Output
-told_by names a more = behind (items_text names a.items) (more a.world)
 
 -- what the schedule from the line with this number on writes
 unfoldable pub run_from : Assembler → NameLists → Setting → World → ℕ → List Answer → Output

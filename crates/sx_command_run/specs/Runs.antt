@@ -16,7 +16,7 @@ use Rattle.sx_sched.specs.Lines.{Line}
 use Rattle.sx_sched.specs.Reading.{Assembler}
 use Rattle.sx_guard.specs.Guarded.{GuardedRun}
 use Rattle.sx_command_run.specs.Run.{items_of, run_deployed}
-use Rattle.sx_command_world.specs.WellFormed.{schedule_status}
+use Rattle.sx_command_world.specs.Statuses.{schedule_status}
 
 -- Whatever the schedule is, the items of its run with these images are legal up to the first that
 -- is forged (`legal`); and its run is a script, in which each thing that happens leaves each

@@ -4,18 +4,24 @@ use Rattle.sx_asm.specs.Assembled.{assembled}
 use Rattle.sx_io.specs.Streams.{SinkAt}
 use Rattle.sx_io.specs.Reading.{Answer}
 use Rattle.sx_io.specs.Reading as answer
-use Rattle.sx_told.specs.Told.{Output, DoesPart, out_of_memory}
+use Rattle.sx_told.specs.Told.{Output, out_of_memory, behind}
+use Rattle.sx_told.specs.Parts.{DoesPart}
 use Rattle.sx_told.specs.declared.turned.Turned.{Turned}
 use Rattle.sx_told.specs.declared.turned.Turned.TheVariants.{On, Stop}
 use Rattle.sx_trace.specs.declared.items.Item.{Item}
 use Rattle.sx_trace.specs.Names.{NameLists}
 use Rattle.sx_sched.specs.Lines.{Line}
 use Rattle.sx_run.specs.Setting.{Setting}
-use Rattle.sx_run.specs.State.{World}
+use Rattle.sx_run.specs.State.{World, Acted}
 use Rattle.sx_world.specs.Held.{Held}
 use Rattle.sx_world.specs.Standing.{Stands}
 use Rattle.sx_command_world.specs.Turning.{after_next}
-use Rattle.sx_command_run.specs.Run.{items_text, told_by, run_from}
+use Rattle.sx_command_run.specs.Run.{items_text, run_from}
+use Rattle.sx_command.specs.Output.{line}
+
+-- a line's items, and what follows from the world that it leaves
+abbrev pub told_by : NameLists → Acted → (World → Output) → Output
+told_by names a more = behind (items_text names a.items) (more a.world)
 
 -- whatever world it stood at, it stands at the next one
 abbrev pub Advances : Setting → Line → Held → Held → Type 0

@@ -5,7 +5,8 @@ ghost use Rattle.sx_asm.specs.Assembled.{assembled};
 ghost use Rattle.sx_io.specs.Reading.{Answer};
 ghost use Rattle.sx_head.specs.Head.{head};
 ghost use Rattle.sx_command_head.specs.Meanings.{Meaning};
-ghost use Rattle.sx_command_world.specs.WellFormed.{IsGoodInput, schedule_status};
+ghost use Rattle.sx_command_world.specs.WellFormed.{IsGoodInput};
+ghost use Rattle.sx_command_world.specs.Statuses.{schedule_status};
 ghost use Rattle.sx_command_deploy.specs.Deploy.{deploy_status};
 
 /// A deployment that keeps the rules, the line `%%` and a schedule that does have status 0. So

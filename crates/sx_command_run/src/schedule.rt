@@ -3,9 +3,11 @@
 
 ghost use Rattle.std.specs.Prelude.{◌≡◌, ◌+◌, ◌<◌, ◌≤◌, [], IsTrue};
 ghost use Rattle.sx_asm.specs.Assembled.{assembled};
-ghost use Rattle.sx_trace.specs.Names.{are_valid};
-ghost use Rattle.sx_sched.specs.Lines.{line_of, IsLine};
-ghost use Rattle.sx_told.specs.Told.{Rest, command_at, out_of_memory};
+ghost use Rattle.sx_trace.specs.ValidNames.{are_valid};
+ghost use Rattle.sx_sched.specs.Seen.{line_of};
+ghost use Rattle.sx_sched.specs.InForm.{IsLine};
+ghost use Rattle.sx_told.specs.Told.{command_at, out_of_memory};
+ghost use Rattle.sx_told.specs.Parts.{Rest};
 ghost use Rattle.sx_head.specs.Head.{head_lines};
 ghost use Rattle.sx_deploy.specs.SeenDeployment.{deployed_as};
 ghost use Rattle.sx_deploy.specs.Law as deployment;

@@ -2,7 +2,8 @@
 
 ghost use Rattle.std.specs.Prelude.{◌≡◌, ◌≢◌, ◌+◌, ◌≤◌, [], ◌++◌, length, IsTrue, List, OnOk};
 ghost use Rattle.sx_io.specs.Reading.{Answer};
-ghost use Rattle.sx_told.specs.Told.{DoesPart, Output, behind, out_of_memory};
+ghost use Rattle.sx_told.specs.Told.{Output, behind, out_of_memory};
+ghost use Rattle.sx_told.specs.Parts.{DoesPart};
 ghost use Rattle.sx_command_run.specs.Batch.{Writes};
 ghost use Rattle.sx_command_run.specs.Run.{item_line, items_text};
 

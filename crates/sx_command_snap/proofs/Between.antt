@@ -2,7 +2,8 @@
 use Rattle.std.proofs.Common.{ℕ, Bool, List}
 use Rattle.sx_io.specs.Reading.{Answer, Limit}
 use Rattle.sx_io.specs.Next.{Ahead}
-use Rattle.sx_told.specs.Told.{Begun, CommandAt, Notes, Output}
+use Rattle.sx_told.specs.Told.{CommandAt, Output}
+use Rattle.sx_told.specs.Parts.{Begun, Notes}
 use Rattle.sx_head.specs.Head.{head_lines}
 
 -- whatever came before, of what was left at first this is left now

@@ -14,7 +14,7 @@ use Rattle.sx_run.specs.Accepted.{setting_of}
 use Rattle.sx_command_deploy.proofs.Owing.{Owes}
 use Rattle.sx_command_world.specs.Schedule.{judged_line}
 use Rattle.sx_command_world.specs.Images.{images_text}
-use Rattle.sx_command_world.specs.Turning.{broken_output}
+use Rattle.sx_command_world.specs.Broken.{broken_output}
 use Rattle.sx_command_snap.specs.declared.queries.Query.{Query}
 use Rattle.sx_command_snap.specs.Queries.{judged_query}
 use Rattle.sx_command_snap.specs.Answers.{answer_text}

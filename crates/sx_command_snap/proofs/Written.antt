@@ -5,19 +5,21 @@ use Rattle.sx_asm.specs.Assembled.{assembled}
 use Rattle.sx_io.specs.Reading.{Answer}
 use Rattle.sx_io.specs.Reading as answer
 use Rattle.sx_io.specs.Streams.{SinkAt}
-use Rattle.sx_told.specs.Told.{CommandEnds, Output, WroteSome, behind, unread_output}
+use Rattle.sx_told.specs.Told.{CommandEnds, Output, behind, unread_output}
+use Rattle.sx_told.specs.Parts.{WroteSome}
 use Rattle.sx_told.proofs.Laws.{ends-behind, ends-same}
 use Rattle.sx_head.specs.Head.{is_mark}
 use Rattle.sx_trace.specs.Names.{NameLists}
 use Rattle.sx_sched.specs.Lines.{Line}
 use Rattle.sx_run.specs.Setting.{Setting}
 use Rattle.sx_command_world.specs.Schedule.{judged_line}
-use Rattle.sx_command_world.specs.Turning.{broken_output}
+use Rattle.sx_command_world.specs.Broken.{broken_output}
 use Rattle.sx_command_snap.specs.declared.queries.Query.{Query}
 use Rattle.sx_command_snap.specs.Queries.{judged_query}
 use Rattle.sx_machine.specs.State.{State}
 use Rattle.sx_world.specs.Held.{Held}
-use Rattle.sx_snap.specs.Timeline.{StandsAfter, world_at}
+use Rattle.sx_snap.specs.Timeline.{world_at}
+use Rattle.sx_snap.specs.Checkpoints.{StandsAfter}
 use Rattle.sx_command_snap.specs.Answers.{of_node}
 use Rattle.sx_command_snap.specs.Reading.{Asks, asking, on_line}
 use Rattle.sx_command_snap.specs.Snap.{answers_from, asked_output, ended_output, on_query, snap_from}

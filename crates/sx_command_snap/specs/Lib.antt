@@ -1,6 +1,7 @@
 pub mod Answers
 pub mod Kept
 pub mod Queries
+pub mod Asked
 pub mod Reading
 pub mod Snap
 pub mod Snaps

@@ -1,6 +1,6 @@
 -- What a text says as a query: a query, or the first rule that it breaks.
-use Rattle.std.specs.Prelude.{ℕ, ◌+◌, ◌<◌, ◌≤◌, nat_lt, if◌then◌else◌, List, [], ◌∷◌}
-use Rattle.std.specs.Prelude.{length, codes, Result, Ok, Err, ok_or}
+use Rattle.std.specs.Prelude.{ℕ, ◌+◌, nat_lt, if◌then◌else◌, List, [], ◌∷◌, codes, Result, Ok, Err}
+use Rattle.std.specs.Prelude.{ok_or}
 use Rattle.std.specs.Str.{bytes_eq}
 use Rattle.sx_io.specs.Numbers.{number_of}
 use Rattle.sx_trace.specs.Names.{NameLists, place_of}
@@ -92,11 +92,3 @@ said_in names last (first ∷ words) =
 unfoldable pub judged_query : NameLists → ℕ → ℕ → List ℕ → Result Query ℕ
 judged_query names last number text =
     if nat_lt 64 number then Err too_many else said_in names last (words_of text)
-
--- what is asked for is there
-abbrev pub IsAsked : NameLists → ℕ → Query → Type 0
-IsAsked names last Blank = Unit {0}
-IsAsked names last (Registers node at) = (node < length names.nodes) × (at ≤ last)
-IsAsked names last (Bytes node from len at) =
-    (node < length names.nodes) × (from + len ≤ 65536) × (at ≤ last)
-IsAsked names last (Items at) = (1 ≤ at) × (at ≤ last)

@@ -10,9 +10,10 @@ use Rattle.sx_sched.specs.Lines.{Line}
 use Rattle.sx_deploy.specs.Deployment.{Deployed}
 use Rattle.sx_run.specs.Setting.{Setting}
 use Rattle.sx_run.specs.Accepted.{setting_of}
-use Rattle.sx_command.specs.Output.{end_line, fault_output}
+use Rattle.sx_command.specs.Output.{end_line}
+use Rattle.sx_command.specs.Refusals.{fault_output}
 use Rattle.sx_command_world.specs.Images.{images_text}
-use Rattle.sx_command_world.specs.Turning.{broken_output}
+use Rattle.sx_command_world.specs.Broken.{broken_output}
 use Rattle.sx_command_snap.specs.declared.queries.Query.{Query}
 use Rattle.sx_command_snap.specs.Queries.{judged_query}
 use Rattle.sx_command_snap.specs.Answers.{answer_text}

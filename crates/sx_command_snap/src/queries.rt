@@ -1,9 +1,11 @@
 //! From a text to a query: first the number of words, then word by word.
 
 ghost use Rattle.std.specs.Prelude.{◌≡◌, ◌+◌, ◌<◌, ◌≤◌, IfOk, IsTrue, OnOk, length};
-ghost use Rattle.sx_trace.specs.Names.{NameLists, are_valid};
+ghost use Rattle.sx_trace.specs.Names.{NameLists};
+ghost use Rattle.sx_trace.specs.ValidNames.{are_valid};
 ghost use Rattle.sx_sched.specs.Words.{words_of};
-ghost use Rattle.sx_command_snap.specs.Queries.{IsAsked, bytes_query, items_query, judged_query};
+ghost use Rattle.sx_command_snap.specs.Queries.{bytes_query, items_query, judged_query};
+ghost use Rattle.sx_command_snap.specs.Asked.{IsAsked};
 ghost use Rattle.sx_command_snap.specs.Queries.{node_of, number_in, query_of_kind, registers_query};
 
 use sx_io::number;

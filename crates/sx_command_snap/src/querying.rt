@@ -3,16 +3,18 @@
 ghost use Rattle.std.specs.Prelude.{◌≡◌, ◌≢◌, ◌+◌, ◌<◌, ◌≤◌, ◌∷◌, IfOk, IsOk, IsTrue, List};
 ghost use Rattle.std.specs.Prelude.{length};
 ghost use Rattle.sx_io.specs.Reading.{Answer, Line};
-ghost use Rattle.sx_told.specs.Told.{CommandEnds, DoesPart, Output, Rest, behind, command_at};
+ghost use Rattle.sx_told.specs.Told.{CommandEnds, Output, behind, command_at};
+ghost use Rattle.sx_told.specs.Parts.{DoesPart, Rest};
 ghost use Rattle.sx_told.specs.Told.{out_of_memory};
 ghost use Rattle.sx_head.specs.Head.{head_lines};
-ghost use Rattle.sx_trace.specs.Names.{are_valid};
+ghost use Rattle.sx_trace.specs.ValidNames.{are_valid};
 ghost use Rattle.sx_deploy.specs.Law.{IsSoundDeployment};
 ghost use Rattle.sx_deploy.specs.SeenDeployment.{deployed_as};
 ghost use Rattle.sx_run.specs.Accepted.{setting};
 ghost use Rattle.sx_run.specs.Law.{IsSoundSetting};
-ghost use Rattle.sx_snap.specs.Timeline.{IsTimeline};
-ghost use Rattle.sx_command_snap.specs.Queries.{IsAsked, judged_query};
+ghost use Rattle.sx_snap.specs.Checkpoints.{IsTimeline};
+ghost use Rattle.sx_command_snap.specs.Queries.{judged_query};
+ghost use Rattle.sx_command_snap.specs.Asked.{IsAsked};
 ghost use Rattle.sx_command_snap.specs.Answers.{answer_text};
 ghost use Rattle.sx_command_snap.specs.Snap.{answers_from, query_fault};
 

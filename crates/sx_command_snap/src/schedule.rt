@@ -2,15 +2,16 @@
 
 ghost use Rattle.std.specs.Prelude.{◌≡◌, ℕ, ◌+◌, ◌≤◌, [], Err, IsTrue, OnOk, length};
 ghost use Rattle.sx_asm.specs.Assembled.{assembled};
-ghost use Rattle.sx_told.specs.Told.{CommandEnds, Rest, behind, command_at};
+ghost use Rattle.sx_told.specs.Told.{CommandEnds, behind, command_at};
+ghost use Rattle.sx_told.specs.Parts.{Rest};
 ghost use Rattle.sx_head.specs.Head.{head_lines};
-ghost use Rattle.sx_trace.specs.Names.{are_valid};
+ghost use Rattle.sx_trace.specs.ValidNames.{are_valid};
 ghost use Rattle.sx_deploy.specs.Law.{IsSoundDeployment};
 ghost use Rattle.sx_deploy.specs.SeenDeployment.{deployed_as};
 ghost use Rattle.sx_run.specs.Accepted.{setting};
 ghost use Rattle.sx_run.specs.Law.{IsSoundSetting};
 ghost use Rattle.sx_world.specs.InMemory.{texts_of};
-ghost use Rattle.sx_snap.specs.Timeline.{IsTimeline};
+ghost use Rattle.sx_snap.specs.Checkpoints.{IsTimeline};
 ghost use Rattle.sx_command_world.specs.Images.{images_text};
 ghost use Rattle.sx_command_world.specs.Schedule.{judged_line};
 ghost use Rattle.sx_command_world.specs.Turning.{MayRunOut};

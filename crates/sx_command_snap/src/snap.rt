@@ -6,7 +6,7 @@ ghost use Rattle.sx_told.specs.Told.{command_at};
 ghost use Rattle.sx_deploy.specs.Law.{IsSoundDeployment};
 ghost use Rattle.sx_deploy.specs.SeenDeployment.{deployed_as};
 ghost use Rattle.sx_world.specs.InMemory.{image_setting};
-ghost use Rattle.sx_snap.specs.Timeline.{IsTimeline};
+ghost use Rattle.sx_snap.specs.Checkpoints.{IsTimeline};
 ghost use Rattle.sx_command_snap.specs.Snaps.{SnapSays};
 
 use crate::schedule::snap_lines;

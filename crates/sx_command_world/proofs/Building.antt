@@ -7,8 +7,10 @@ use Rattle.sx_lang.specs.Tree.{Statement, Defines, Assigns, Stores, Chooses, Rep
 use Rattle.sx_lang.specs.declared.tree.Decl.{Decl}
 use Rattle.sx_rules.specs.declared.section.Layout.{Layout}
 use Rattle.sx_tag.specs.Mac.{Mac}
-use Rattle.sx_mean.specs.Application.{PartTree, statement_packets, block_packets, links_from}
-use Rattle.sx_mean.specs.Ends.{ends_of, senders}
+use Rattle.sx_mean.specs.Application.{PartTree, block_packets, links_from}
+use Rattle.sx_mean.specs.Packets.{statement_packets}
+use Rattle.sx_mean.specs.Ends.{ends_of}
+use Rattle.sx_mean.specs.EndLaws.{senders}
 use Rattle.sx_mean.specs.View.{part_as}
 use Rattle.sx_mean.specs.declared.apps.Part.{Part}
 use Rattle.sx_mean.proofs.Ends.{ends_counted}
@@ -17,7 +19,8 @@ use Rattle.sx_deploy.specs.Law.{IsSoundDeployment, IsLaid}
 use Rattle.sx_deploy.specs.SeenDeployment.{deployed_as}
 use Rattle.sx_deploy.specs.declared.deployment.Deployment.{Deployment}
 use Rattle.sx_image.specs.declared.image.Image.{Image as Made}
-use Rattle.sx_image.specs.Image.{Image, plain}
+use Rattle.sx_image.specs.Image.{Image}
+use Rattle.sx_image.specs.InMemory.{plain}
 use Rattle.sx_image.specs.Realizes.{Realizes}
 use Rattle.sx_lower.specs.Lowering.{SendFew}
 use Rattle.sx_compile.specs.Compiled.{HasSections}

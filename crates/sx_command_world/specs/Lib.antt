@@ -1,5 +1,7 @@
 pub mod Built
 pub mod Images
 pub mod Schedule
+pub mod Broken
 pub mod Turning
 pub mod WellFormed
+pub mod Statuses

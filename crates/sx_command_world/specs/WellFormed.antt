@@ -1,16 +1,13 @@
--- The exit status of a schedule, whatever the images are, and the inputs that `run` takes to their
--- end.
+-- The inputs that `run` takes to their end.
 use Rattle.std.specs.Prelude.{ℕ, ◌+◌, List, ◌∷◌, Result, Ok, Err, IsOk}
 use Rattle.sx_io.specs.Reading.{Answer, Line, End}
-use Rattle.sx_told.specs.Told.{read_failed}
 use Rattle.sx_stage.specs.declared.fault.DeployFault.{DeployFault}
 use Rattle.sx_head.specs.Head.{Head, Found}
 use Rattle.sx_trace.specs.Names.{NameLists}
 use Rattle.sx_sched.specs.Reading.{Assembler}
 use Rattle.sx_deploy.specs.Deployment.{Deployed}
 use Rattle.sx_command_head.specs.Meanings.{Meaning}
-use Rattle.sx_command_world.specs.Schedule.{Stop, AtEnd, Breaks, judged_line, schedule}
-use Rattle.sx_command_world.specs.Schedule as sched
+use Rattle.sx_command_world.specs.Schedule.{judged_line}
 
 -- each line from this number on, up to the end of the input, keeps the rules
 abbrev pub IsWellFormed : Assembler → NameLists → ℕ → List Answer → Type 0
@@ -28,13 +25,3 @@ IsGoodRun assemble (Err f) more = ⊥
 abbrev pub IsGoodInput : Assembler → Meaning → Head → Type 0
 IsGoodInput assemble meaning (Found text more) = IsGoodRun assemble (meaning text) more
 IsGoodInput assemble meaning _ = ⊥
-
--- the exit status by where a schedule stops
-abbrev pub stop_status : Stop → ℕ
-stop_status AtEnd = 0
-stop_status sched.Unread = read_failed
-stop_status (Breaks rule number) = 3
-
--- the exit status behind the head of a deployment
-abbrev pub schedule_status : Assembler → Deployed → List Answer → ℕ
-schedule_status assemble d more = stop_status (schedule assemble d.names 1 more).stop

@@ -3,10 +3,11 @@
 ghost use Rattle.std.specs.Prelude.{◌≡◌, ◌<◌, ◌≤◌, IfOk, OnOk, length, map, slice_get, Some};
 ghost use Rattle.sx_lower.specs.Lowering.{SendFew};
 ghost use Rattle.sx_check.specs.Source.{source_tree};
-ghost use Rattle.sx_mean.specs.Ends.{ends_of, senders};
+ghost use Rattle.sx_mean.specs.Ends.{ends_of};
+ghost use Rattle.sx_mean.specs.EndLaws.{senders};
 ghost use Rattle.sx_deploy.specs.Law.{IsSoundDeployment};
 ghost use Rattle.sx_deploy.specs.SeenDeployment.{deployed_as};
-ghost use Rattle.sx_image.specs.Image.{plain};
+ghost use Rattle.sx_image.specs.InMemory.{plain};
 ghost use Rattle.sx_compile.specs.Compiled.{HasSections};
 ghost use Rattle.sx_command_world.specs.Built.{BuiltAt, AreBuilt};
 

@@ -2,10 +2,11 @@
 
 ghost use Rattle.std.specs.Prelude.{◌≡◌, ◌≢◌, ℕ, ◌≤◌, Err, Ok, IfOk, OnOk, IsTrue};
 ghost use Rattle.sx_asm.specs.Assembled.{assembled};
-ghost use Rattle.sx_trace.specs.Names.{are_valid};
-ghost use Rattle.sx_sched.specs.Lines.{line_of, IsLine};
+ghost use Rattle.sx_trace.specs.ValidNames.{are_valid};
+ghost use Rattle.sx_sched.specs.Seen.{line_of};
+ghost use Rattle.sx_sched.specs.InForm.{IsLine};
 ghost use Rattle.sx_told.specs.Told.{CommandEnds, out_of_memory};
-ghost use Rattle.sx_command_world.specs.Turning.{broken_output};
+ghost use Rattle.sx_command_world.specs.Broken.{broken_output};
 ghost use Rattle.sx_command_world.specs.Schedule.{judged_line};
 ghost use Rattle.sx_command_world.specs.Turning.{MayRunOut};
 
@@ -47,7 +48,7 @@ pub fn judge(alloc: Global, names: &Names, text: &[u8], number: u32) -> Result<L
 }
 
 /// Writes which rule the line of this number breaks. It takes no memory.
-#[tactic(auto, unfolding(crate::specs::Turning::broken_line))]
+#[tactic(auto, unfolding(crate::specs::Broken::broken_line))]
 pub fn break_off<K: Sink>(output: &mut K, rule: u8, number: u32) -> u8
     ensures ends { CommandEnds K.tells (K.at output.old) (K.at output.new) result
         (broken_output rule number) }

@@ -12,7 +12,8 @@ use Rattle.sx_mean.specs.declared.events.Act.{Act}
 use Rattle.sx_mean.specs.declared.events.Act.TheVariants.{Send, Emit}
 use Rattle.sx_mean.specs.declared.events.SourceEvent.{SourceEvent}
 use Rattle.sx_mean.specs.declared.events.SourceEvent.TheVariants as event
-use Rattle.sx_mean.specs.Application.{block_packets, statement_packets}
+use Rattle.sx_mean.specs.Application.{block_packets}
+use Rattle.sx_mean.specs.Packets.{statement_packets}
 use Rattle.sx_mean.specs.Places.{place, array_length, output_number}
 use Rattle.sx_mean.specs.Meaning.{HandlerState, assign, assign_element, after_statement, after_block, times, forget, value, local_place, define, act}
 use Rattle.sx_mean.specs.React.{react, run, handler_at, value_of, handler_of_name, handler_of_input, input_names, nth}
@@ -30,7 +31,7 @@ use Rattle.sx_mean.specs.Ends.{is_sending}
 use Rattle.sx_invoke.specs.Entries.{attest, sample_read, number_taken, end_keyed}
 use Rattle.sx_invoke.specs.Protocol.{event_size, key_size, value_size, last_number}
 use Rattle.sx_invoke.proofs.ByEntry.{by_entry}
-use Rattle.sx_mean.specs.Ends.{senders}
+use Rattle.sx_mean.specs.EndLaws.{senders}
 use Rattle.sx_lower.proofs.Packets.{senders-cons}
 use Rattle.sx_compile.specs.Laws.{FewPieces}
 use Rattle.sx_lower.specs.Lowering.{SendFew}

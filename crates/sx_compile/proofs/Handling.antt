@@ -14,7 +14,8 @@ use Rattle.sx_machine.specs.Memory.{word}
 use Rattle.sx_machine.specs.State.{State}
 use Rattle.sx_reach.specs.Reach.{Comes, Ends, Here, Next, Stops}
 use Rattle.sx_reach.proofs.Reaching.{and_then, weaken}
-use Rattle.sx_invoke.specs.Marks.{HasPrefix, Mark, made_bytes}
+use Rattle.sx_invoke.specs.Marks.{HasPrefix, Mark}
+use Rattle.sx_invoke.specs.Pieces.{made_bytes}
 use Rattle.sx_invoke.specs.Progress.{Broken, Course, Going, Progress, Violates, bytes_in, finished, marks_in, pieces_in}
 use Rattle.sx_invoke.specs.Setup.{Call, Setup}
 use Rattle.sx_invoke.proofs.PiecesMarked.{OnCourse, handled_made}

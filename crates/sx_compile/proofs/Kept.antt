@@ -8,6 +8,7 @@ use Rattle.sx_lang.specs.declared.tree.UnOp.TheVariants as unary
 use Rattle.sx_lang.specs.declared.tree.BinOp.TheVariants as binary
 use Rattle.sx_mean.specs.Meaning.{apply, combine}
 use Rattle.sx_mean.specs.Offsets as offsets
+use Rattle.sx_mean.specs.Working as working
 use Rattle.sx_rules.specs.declared.access.Violation.{Violation}
 use Rattle.sx_rules.specs.declared.access.Violation.TheVariants as bad
 use Rattle.sx_rules.specs.Access.{in_public}
@@ -248,8 +249,8 @@ module _ (s : Setup) (handle : ℕ → Conf → OperationResult) (handles : (h :
 
   set_end_kept : (c : Conf) (k : ℕ) → KeptAfter c (m.set_end c k)
   set_end_kept c k =
-      let field = word c.priv (offsets.packet_at + 2) in
-      let key = bytes_from c.priv offsets.plain_at 16 in
+      let field = word c.priv (working.packet_at + 2) in
+      let key = bytes_from c.priv working.plain_at 16 in
       let p1 = put_word c.priv (offsets.end_at k) field in
       let p2 = put_word p1 (offsets.end_number_at k) 0 in
       let p3 = put_word p2 (offsets.end_open_at k) 1 in

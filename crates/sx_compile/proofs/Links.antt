@@ -10,7 +10,8 @@ use Rattle.sx_lang.specs.Tree.{HandlerTree, ModuleTree}
 use Rattle.sx_mean.specs.declared.apps.Link.{Link}
 use Rattle.sx_mean.specs.declared.events.End.{End}
 use Rattle.sx_mean.specs.Application.{block_packets, leaves, links_from, sends_too_much}
-use Rattle.sx_mean.specs.Ends.{is_sending, senders}
+use Rattle.sx_mean.specs.Ends.{is_sending}
+use Rattle.sx_mean.specs.EndLaws.{senders}
 use Rattle.sx_mean.proofs.Ends.{count_by-cons}
 use Rattle.sx_lower.specs.Lowering.{SendFew}
 

@@ -7,7 +7,7 @@ use Rattle.sx_lang.specs.Tree.{HandlerTree, ModuleTree}
 use Rattle.sx_mean.specs.Application.{declared_kind}
 use Rattle.sx_mean.specs.declared.events.End.{End}
 use Rattle.sx_mean.specs.declared.events.SourceEvent.{SourceEvent}
-use Rattle.sx_mean.specs.Offsets.{event_at, pieces_at, saved_at, stack_to}
+use Rattle.sx_mean.specs.Working.{event_at, pieces_at, saved_at, stack_to}
 use Rattle.sx_mean.specs.React.{handler_at, value_of}
 use Rattle.sx_rules.specs.declared.access.Violation.{Violation}
 use Rattle.sx_rules.specs.declared.section.Layout.{Layout}

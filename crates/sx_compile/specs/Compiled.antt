@@ -6,7 +6,8 @@ use Rattle.sx_mean.specs.declared.events.End.{End}
 use Rattle.sx_rules.specs.declared.section.Layout.{Layout}
 use Rattle.sx_tag.specs.Mac.{Mac}
 use Rattle.sx_image.specs.declared.image.Image.{Image as Built}
-use Rattle.sx_image.specs.Image.{Image, plain}
+use Rattle.sx_image.specs.Image.{Image}
+use Rattle.sx_image.specs.InMemory.{plain}
 use Rattle.sx_image.specs.Realizes.{Realizes}
 use Rattle.sx_ir.specs.declared.ir.Code.{Code}
 use Rattle.sx_ir.specs.declared.ir.Ir.{Ir}

@@ -3,7 +3,7 @@
 ghost use Rattle.std.specs.Prelude.{◌≡◌, ◌<◌, IfOk, IsTrue, length, map};
 ghost use Rattle.std.specs.List.{list_all};
 ghost use Rattle.sx_check.specs.Source.{source_tree};
-ghost use Rattle.sx_mean.specs.Ends.{senders};
+ghost use Rattle.sx_mean.specs.EndLaws.{senders};
 ghost use Rattle.sx_ir.specs.Sizes.{bytes, offset};
 ghost use Rattle.sx_ir.specs.Sound.{is_sound_part};
 ghost use Rattle.sx_lower.specs.Lowering.{SendFew};

@@ -3,7 +3,7 @@
 ghost use Rattle.std.specs.Prelude.{All, ◌≡◌, ℕ, ◌+◌, ◌<◌, ◌≤◌, ◌++◌, IfOk, OnOk, length};
 ghost use Rattle.std.specs.Prelude.{replicate};
 ghost use Rattle.sx_check.specs.Source.{source_tree};
-ghost use Rattle.sx_mean.specs.Ends.{senders};
+ghost use Rattle.sx_mean.specs.EndLaws.{senders};
 ghost use Rattle.sx_lower.specs.Lowering.{IsLowerable, SendFew};
 ghost use Rattle.sx_compile.specs.Compiled.{CompilesTo, HasSections, IsCompiled, padded_to};
 

@@ -2,7 +2,7 @@
 
 ghost use Rattle.std.specs.Prelude.{◌≤◌, IfOk, length};
 ghost use Rattle.sx_check.specs.Source.{source_tree};
-ghost use Rattle.sx_mean.specs.Ends.{senders};
+ghost use Rattle.sx_mean.specs.EndLaws.{senders};
 ghost use Rattle.sx_lower.specs.Lowering.{SendFew};
 ghost use Rattle.sx_compile.specs.Body.{IsBody};
 ghost use Rattle.sx_compile.specs.Compiled.{HasSections};

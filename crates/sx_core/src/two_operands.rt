@@ -1,7 +1,8 @@
 //! Instructions with two operands.
 
 ghost use Rattle.std.specs.Prelude.{◌≡◌, ◌<◌, IsTrue};
-ghost use Rattle.sx_alu.specs.Table.{has_width, limit, row};
+ghost use Rattle.sx_alu.specs.Table.{limit, row};
+ghost use Rattle.sx_alu.specs.Widths.{has_width};
 ghost use Rattle.sx_machine.specs.Rows.{computed, reads, writes, two};
 ghost use Rattle.sx_machine.specs.Rows.{into_register, into_memory, on_memory, onto};
 ghost use Rattle.sx_executor.specs.Machine.{RunsPlan};

@@ -10,7 +10,8 @@ use Rattle.sx_trace.specs.declared.items.Item.TheVariants as item
 use Rattle.sx_ledger.specs.Made.{Made}
 use Rattle.sx_tag.specs.Mac.{IsTag}
 use Rattle.sx_machine.specs.State.{State}
-use Rattle.sx_machine.specs.Node.{IsNode, shapes}
+use Rattle.sx_machine.specs.Node.{IsNode}
+use Rattle.sx_machine.specs.NodeLaws.{shapes}
 use Rattle.sx_image.specs.Image.{private_bytes, public_bytes}
 use Rattle.sx_invoke.specs.Windows.{two}
 use Rattle.sx_invoke.specs.Acts.{event_header}

@@ -7,8 +7,10 @@ use Rattle.sx_mean.specs.declared.events.Act.{Act}
 use Rattle.sx_mean.specs.declared.events.Act.TheVariants.{Send, Emit}
 use Rattle.sx_mean.specs.declared.events.End.{End}
 use Rattle.sx_mean.specs.declared.events.SourceEvent.{SourceEvent}
-use Rattle.sx_mean.specs.Application.{AppTree, PartTree, is_valid}
-use Rattle.sx_mean.specs.Ends.{ends_of, is_sending, senders}
+use Rattle.sx_mean.specs.Application.{AppTree, PartTree}
+use Rattle.sx_mean.specs.Validity.{is_valid}
+use Rattle.sx_mean.specs.Ends.{ends_of, is_sending}
+use Rattle.sx_mean.specs.EndLaws.{senders}
 use Rattle.sx_mean.specs.React.{react}
 use Rattle.sx_mean.proofs.ValidApplications.{valid_applications}
 use Rattle.sx_trace.specs.declared.items.Item.{Item}

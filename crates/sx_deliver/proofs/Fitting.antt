@@ -5,7 +5,8 @@ use Rattle.std.proofs.lemmas.List.Elements.{All-head, All-tail}
 use Rattle.std.proofs.lemmas.Option.{same_Some}
 use Rattle.sx_mean.specs.declared.events.SourceEvent.{SourceEvent}
 use Rattle.sx_mean.specs.declared.events.SourceEvent.TheVariants as event
-use Rattle.sx_mean.specs.Application.{AppTree, PartTree, is_valid}
+use Rattle.sx_mean.specs.Application.{AppTree, PartTree}
+use Rattle.sx_mean.specs.Validity.{is_valid}
 use Rattle.sx_trace.specs.declared.items.Item.TheVariants as item
 use Rattle.sx_sched.specs.Lines.{Line, Sense, Give}
 use Rattle.sx_run.specs.Setting.{Setting}

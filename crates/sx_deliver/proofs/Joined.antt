@@ -4,7 +4,8 @@ use Rattle.std.specs.List.{All}
 use Rattle.std.proofs.lemmas.List.{append-nil}
 use Rattle.std.proofs.lemmas.List.Elements.{All-head, All-tail}
 use Rattle.std.proofs.lemmas.Option.{same_Some}
-use Rattle.sx_mean.specs.Application.{AppTree, is_valid}
+use Rattle.sx_mean.specs.Application.{AppTree}
+use Rattle.sx_mean.specs.Validity.{is_valid}
 use Rattle.sx_trace.specs.declared.items.Item.{Item}
 use Rattle.sx_run.specs.Setting.{Setting}
 use Rattle.sx_run.specs.State.{World, Acted, switched_on}
@@ -12,7 +13,7 @@ use Rattle.sx_run.specs.Run.{run}
 use Rattle.sx_run.specs.Law.{IsSoundSetting}
 use Rattle.sx_honest.specs.Plain.{MOST_DELIVERIES, Sampling, Waiting, oldest}
 use Rattle.sx_honest.specs.Course.{Course, IsSampling, course_start, delivered, lines_so_far, played, sensed, settled, setup_lines}
-use Rattle.sx_honest.specs.Laws.{Delivers}
+use Rattle.sx_honest.specs.Delivers.{Delivers}
 use Rattle.sx_honest.proofs.AsPlain.{told_delivered, told_sensed, told_start}
 use Rattle.sx_honest.proofs.Course.{played_on}
 use Rattle.sx_honest.proofs.Honest.{honest_delivers}

@@ -14,7 +14,8 @@ use Rattle.sx_mean.specs.declared.events.Act.{Act}
 use Rattle.sx_mean.specs.declared.events.Act.TheVariants.{Send, Emit}
 use Rattle.sx_mean.specs.declared.events.End.{End}
 use Rattle.sx_mean.specs.Application.{PartTree}
-use Rattle.sx_mean.specs.Ends.{IsBefore, ends_after, ends_of, is_sending}
+use Rattle.sx_mean.specs.Ends.{ends_after, ends_of, is_sending}
+use Rattle.sx_mean.specs.EndLaws.{IsBefore}
 use Rattle.sx_rules.specs.declared.section.Section.{Section}
 use Rattle.sx_bus.specs.declared.devices.Window.{Window}
 use Rattle.sx_ledger.specs.declared.entry.Maker.TheVariants as maker

@@ -10,8 +10,10 @@ use Rattle.sx_mean.specs.declared.events.Act.{Act}
 use Rattle.sx_mean.specs.declared.events.End.{End}
 use Rattle.sx_mean.specs.declared.events.SourceEvent.{SourceEvent}
 use Rattle.sx_mean.specs.declared.events.SourceEvent.TheVariants as event
-use Rattle.sx_mean.specs.Application.{PartTree, is_valid}
-use Rattle.sx_mean.specs.Ends.{IsBefore, ends_of}
+use Rattle.sx_mean.specs.Application.{PartTree}
+use Rattle.sx_mean.specs.Validity.{is_valid}
+use Rattle.sx_mean.specs.Ends.{ends_of}
+use Rattle.sx_mean.specs.EndLaws.{IsBefore}
 use Rattle.sx_mean.specs.React.{react}
 use Rattle.sx_mean.proofs.Ends.{ends_hold}
 use Rattle.sx_rules.specs.declared.section.Section.{Section}

@@ -9,8 +9,10 @@ use Rattle.sx_lang.specs.declared.tree.DeviceKind.TheVariants.{Sensor, Actuator}
 use Rattle.sx_mean.specs.declared.events.Act.{Act}
 use Rattle.sx_mean.specs.declared.events.SourceEvent.{SourceEvent}
 use Rattle.sx_mean.specs.declared.events.SourceEvent.TheVariants as event
-use Rattle.sx_mean.specs.Application.{PartTree, declared_kind, is_valid}
-use Rattle.sx_mean.specs.Ends.{IsBefore, ends_of}
+use Rattle.sx_mean.specs.Application.{PartTree, declared_kind}
+use Rattle.sx_mean.specs.Validity.{is_valid}
+use Rattle.sx_mean.specs.Ends.{ends_of}
+use Rattle.sx_mean.specs.EndLaws.{IsBefore}
 use Rattle.sx_mean.specs.React.{react}
 use Rattle.sx_mean.proofs.Ends.{ends_hold}
 use Rattle.sx_rules.specs.declared.section.Section.{Section}
@@ -20,7 +22,7 @@ use Rattle.sx_trace.specs.declared.items.Item.{Item}
 use Rattle.sx_trace.specs.declared.items.Item.TheVariants as item
 use Rattle.sx_machine.specs.declared.kinds.Refused.TheVariants.{Busy}
 use Rattle.sx_machine.specs.Acts.{sense, unless}
-use Rattle.sx_machine.specs.Node.{shapes}
+use Rattle.sx_machine.specs.NodeLaws.{shapes}
 use Rattle.sx_machine.specs.State.{State}
 use Rattle.sx_machine.proofs.Devices.{same_places, sensed_shapes}
 use Rattle.sx_machine.proofs.Stays.{sense_is_node}

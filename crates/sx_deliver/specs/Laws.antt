@@ -11,7 +11,7 @@ use Rattle.sx_run.specs.Run.{run}
 use Rattle.sx_run.specs.Law.{IsSoundSetting, LinesInForm}
 use Rattle.sx_honest.specs.Plain.{Sampling}
 use Rattle.sx_honest.specs.Course.{Course, IsHonest, lines_so_far}
-use Rattle.sx_honest.specs.Laws.{Delivers}
+use Rattle.sx_honest.specs.Delivers.{Delivers}
 use Rattle.sx_setup.specs.Laws.{AreByteTexts, HasRoom}
 use Rattle.sx_deliver.specs.Schedule.{honest_schedule}
 

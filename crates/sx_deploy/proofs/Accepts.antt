@@ -1,9 +1,9 @@
 -- What an accepted text's deployment in memory satisfies.
 use Rattle.std.proofs.Common.{ℕ, List, Result, Ok, Err, IfOk, IsTrue, refl}
-use Rattle.sx_mean.specs.Application.{is_valid}
+use Rattle.sx_mean.specs.Validity.{is_valid}
 use Rattle.sx_mean.specs.View.{app_as}
-use Rattle.sx_trace.specs.Names.{are_valid}
-use Rattle.sx_stage.specs.Fault.{GivesOne}
+use Rattle.sx_trace.specs.ValidNames.{are_valid}
+use Rattle.sx_stage.specs.Gives.{GivesOne}
 use Rattle.sx_stage.specs.declared.fault.DeployError.{DeployError}
 use Rattle.sx_deploy.specs.Deployment.{IsRead}
 use Rattle.sx_deploy.specs.SeenDeployment.{deployed_as}

@@ -2,7 +2,8 @@
 use Rattle.std.proofs.Common.{◌≡◌, ℕ, ◌+◌, ◌-◌, ◌<◌, ◌≤◌, ◌==◌, if◌then◌else◌, Bool, true, false, ◌&&◌, cond, List, [], ◌∷◌, length, map, count_by, min, Option, Some, None, refl, sym, ap, subst, ◌∙◌, ◌⊎◌, inl, inr, arith}
 use Rattle.sx_lang.specs.Sizes.{module_data_size}
 use Rattle.sx_lang.specs.declared.tree.DeviceKind.{DeviceKind}
-use Rattle.sx_mean.specs.Application.{declared_kind, is_at, is_driven, same_device, same_kind}
+use Rattle.sx_mean.specs.Application.{declared_kind, is_at, is_driven, same_kind}
+use Rattle.sx_mean.specs.Validity.{same_device}
 use Rattle.sx_mean.specs.declared.apps.AppDevice.{AppDevice}
 use Rattle.sx_mean.specs.declared.apps.Link.{Link}
 use Rattle.sx_stage.proofs.Each.{Each}

@@ -9,7 +9,7 @@ use Rattle.sx_lang.specs.declared.tree.Decl.{Decl}
 use Rattle.sx_lang.specs.declared.tree.Decl.TheVariants as decl
 use Rattle.sx_check.specs.Rules.{first_broken}
 use Rattle.sx_check.proofs.Distinct.{count_by-cons}
-use Rattle.sx_mean.specs.Application.{has_port, is_port}
+use Rattle.sx_mean.specs.Validity.{has_port, is_port}
 use Rattle.sx_mean.specs.declared.apps.Link.{Link}
 use Rattle.sx_stage.specs.Stage.{made_after}
 use Rattle.sx_stage.specs.declared.fault.Sort.TheVariants.{Connection}

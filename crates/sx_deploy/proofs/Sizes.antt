@@ -4,7 +4,7 @@ use Rattle.sx_lang.specs.Sizes.{declared_cells, module_nodes, module_weight, mod
 use Rattle.sx_lang.specs.Tree.{ModuleTree}
 use Rattle.sx_check.specs.Rules.{first_broken}
 use Rattle.sx_check.proofs.Accepted.{accepted}
-use Rattle.sx_mean.specs.Application.{is_port}
+use Rattle.sx_mean.specs.Validity.{is_port}
 
 pub small_weight : (m : ModuleTree) (ends : ℕ) → first_broken m ≡ None → ends ≤ 255 → module_weight m ends ≤ 131072
 small_weight m ends h e = let few : module_nodes m ≤ 512 = (accepted m h).nodes in omega arith

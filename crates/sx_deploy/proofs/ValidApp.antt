@@ -3,7 +3,8 @@ use Rattle.std.proofs.Common.{◌≡◌, ℕ, zero, suc, ◌+◌, ◌<◌, ◌�
 use Rattle.std.specs.List.{list_any, All}
 use Rattle.std.proofs.lemmas.Bool.Decides.{nat_tests}
 use Rattle.std.proofs.lemmas.List.{length-map}
-use Rattle.sx_mean.specs.Application.{AppTree, PartTree, any_part, declared_kind, ends_from, ends_to, is_crowded, is_driven, is_loose, is_misplaced, is_overloaded, is_stray, is_too_large, is_valid, is_wrong, same_device, sends_too_much}
+use Rattle.sx_mean.specs.Application.{AppTree, PartTree, declared_kind, ends_from, ends_to, is_driven, sends_too_much}
+use Rattle.sx_mean.specs.Validity.{any_part, is_crowded, is_loose, is_misplaced, is_overloaded, is_stray, is_too_large, is_valid, is_wrong, same_device}
 use Rattle.sx_mean.specs.declared.apps.AppDevice.{AppDevice}
 use Rattle.sx_mean.specs.declared.apps.Link.{Link}
 use Rattle.sx_stage.specs.Fault.{passes}

@@ -2,7 +2,7 @@
 use Rattle.std.proofs.Common.{◌≡◌, ℕ, ◌≤◌, ◌==◌, List, length, map, true, nat_le, Ok, refl, sym, subst, ◌∙◌, arith}
 use Rattle.std.proofs.lemmas.Bool.Decides.{nat_tests}
 use Rattle.std.proofs.lemmas.List.{length-map}
-use Rattle.sx_trace.specs.Names.{are_names, are_valid}
+use Rattle.sx_trace.specs.ValidNames.{are_names, are_valid}
 use Rattle.sx_entries.specs.Law.{AreEntries, AreNamed}
 use Rattle.sx_entries.specs.Entries.{EntryLists}
 use Rattle.sx_entries.proofs.EntriesKeep.{entries_keep}

@@ -1,5 +1,6 @@
 pub mod Counts
 pub mod Sources
+pub mod SourceErrors
 pub mod Checks
 pub mod Seen
 pub mod Ties

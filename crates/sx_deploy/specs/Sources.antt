@@ -6,10 +6,6 @@ use Rattle.sx_grammar.specs.Text.{Spells, IsFirstFault}
 use Rattle.sx_stage.specs.Fault.{cut, fault}
 use Rattle.sx_stage.specs.declared.fault.Place.TheVariants.{Source}
 use Rattle.sx_stage.specs.declared.fault.DeployFault.{DeployFault}
-use Rattle.sx_stage.specs.declared.fault.DeployError.{DeployError}
-use Rattle.sx_stage.specs.declared.fault.DeployError.TheVariants as deploy
-use Rattle.sx_parse.specs.declared.error.ParseError.{ParseError}
-use Rattle.sx_parse.specs.declared.error.ParseError.TheVariants as parse
 use Rattle.sx_entries.specs.declared.entries.ModuleEntry.{ModuleEntry}
 use Rattle.sx_entries.specs.declared.entries.Start.{Start}
 
@@ -40,11 +36,6 @@ abbrev pub IsCoded : ℕ → ModuleEntry → Result Coded DeployFault → Type 0
 IsCoded n m (Ok c) = (tree : ModuleTree) × Spells m.source tree × (c ≡ coded m tree)
 IsCoded n m (Err f) =
     (at : Place) × IsFirstFault m.source at × (f ≡ fault 7 (Source (cut n) at.line at.column))
-
--- why the n-th module has no tree: its source breaks rule 7 at this place, or memory ran out
-abbrev pub source_error : ℕ → ParseError → DeployError
-source_error n (parse.Fault f) = deploy.Fault (fault 7 (Source (cut n) f.line f.column))
-source_error n parse.OutOfMemory = deploy.OutOfMemory
 
 -- what the modules become from the n-th on: each has a tree, or the first that has none is the
 -- fault

@@ -1,6 +1,6 @@
 //! Rule 8: each source keeps the rules of the language.
 ghost use Rattle.std.specs.Prelude.{◌≡◌, map};
-ghost use Rattle.sx_stage.specs.Fault.{Gives, TakesNoMemory};
+ghost use Rattle.sx_stage.specs.Gives.{Gives, TakesNoMemory};
 ghost use Rattle.sx_deploy.specs.Checks.{checked_all, checked_nth, number};
 ghost use Rattle.sx_deploy.specs.Seen.{checked_as, parsed_as};
 

@@ -2,10 +2,10 @@
 ghost use Rattle.std.specs.Prelude.{◌≡◌, IfOk, IsTrue, false, map};
 ghost use Rattle.std.specs.Str.{is_utf8};
 ghost use Rattle.toml.specs.View.{table_view};
-ghost use Rattle.sx_mean.specs.Application.{is_valid};
+ghost use Rattle.sx_mean.specs.Validity.{is_valid};
 ghost use Rattle.sx_mean.specs.View.{app_as};
-ghost use Rattle.sx_trace.specs.Names.{are_valid};
-ghost use Rattle.sx_stage.specs.Fault.{Gives, GivesOne, TakesNoMemory};
+ghost use Rattle.sx_trace.specs.ValidNames.{are_valid};
+ghost use Rattle.sx_stage.specs.Gives.{Gives, GivesOne, TakesNoMemory};
 ghost use Rattle.sx_deploy.specs.Deployment.{counted, counted_in, deployed, IsFrom, IsRead};
 ghost use Rattle.sx_deploy.specs.Law.{IsSoundDeployment};
 ghost use Rattle.sx_deploy.specs.Seen.{parsed_as};

@@ -3,7 +3,7 @@ ghost use Rattle.std.specs.Prelude.{◌≡◌, ◌≤◌, ◌^◌, [], map};
 ghost use Rattle.std.specs.List.{list_any};
 ghost use Rattle.sx_lang.specs.Sizes.{module_data_size, module_weight};
 ghost use Rattle.sx_check.specs.Source.{source_tree};
-ghost use Rattle.sx_stage.specs.Fault.{Gives};
+ghost use Rattle.sx_stage.specs.Gives.{Gives};
 ghost use Rattle.sx_stage.specs.Stage.{made_after};
 ghost use Rattle.sx_deploy.specs.Places.{drives, holds_word, is_bad_place, is_misplaced};
 ghost use Rattle.sx_deploy.specs.Places.{is_outside, is_own, is_taken, meet, meets_module};

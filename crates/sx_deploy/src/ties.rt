@@ -3,7 +3,7 @@ ghost use Rattle.std.specs.Prelude.{◌≡◌, ◌+◌, [], map, nat_lt, option_
 ghost use Rattle.std.specs.Option.{option_copied};
 ghost use Rattle.sx_mean.specs.Application.{ends_from, ends_to, sends_too_much};
 ghost use Rattle.sx_check.specs.Source.{source_tree};
-ghost use Rattle.sx_stage.specs.Fault.{Gives};
+ghost use Rattle.sx_stage.specs.Gives.{Gives};
 ghost use Rattle.sx_stage.specs.Lines.{entries};
 ghost use Rattle.sx_stage.specs.Stage.{made_after};
 ghost use Rattle.sx_stage.specs.declared.fault.Sort.TheVariants.{Module};

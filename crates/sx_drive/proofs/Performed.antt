@@ -12,7 +12,8 @@ use Rattle.sx_run.specs.Run.{after_line, line_counted, run}
 use Rattle.sx_run.proofs.acts.Counting.{counts_lines}
 use Rattle.sx_world.specs.Held.{Held, IsFront}
 use Rattle.sx_world.specs.Standing.{Stands, IsGoing}
-use Rattle.sx_world.specs.Continued.{next, Acts, ActsInPart}
+use Rattle.sx_world.specs.Continued.{Acts, ActsInPart}
+use Rattle.sx_world.specs.Whole.{next}
 use Rattle.sx_world.specs.InMemory.{setting_at, world_setting}
 use Rattle.sx_run.specs.Law.{IsSoundSetting}
 use Rattle.sx_drive.specs.declared.said.Said.{Said as Told}

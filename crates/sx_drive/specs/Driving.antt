@@ -4,10 +4,11 @@ use Rattle.std.specs.Prelude.{length, map, min, slice_get, Option, Some, None, I
 use Rattle.std.specs.Prelude.{Result, Ok, Err}
 use Rattle.std.specs.List.{position_from}
 use Rattle.sx_tag.specs.Mac.{Mac}
-use Rattle.sx_mean.specs.Application.{PartTree, same_device}
+use Rattle.sx_mean.specs.Application.{PartTree}
+use Rattle.sx_mean.specs.Validity.{same_device}
 use Rattle.sx_trace.specs.declared.items.Item.{Item}
 use Rattle.sx_trace.specs.declared.items.Item.TheVariants.{Packet, Done}
-use Rattle.sx_sched.specs.Lines.{line_of}
+use Rattle.sx_sched.specs.Seen.{line_of}
 use Rattle.sx_deploy.specs.declared.deployment.Deployment.{Deployment}
 use Rattle.sx_deploy.specs.Deployment.{Deployed}
 use Rattle.sx_run.specs.Setting.{Setting}

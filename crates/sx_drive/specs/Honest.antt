@@ -9,10 +9,11 @@ use Rattle.sx_trace.specs.declared.items.Item.{Item}
 use Rattle.sx_trace.specs.declared.items.Item.TheVariants.{Packet, Done}
 use Rattle.sx_sched.specs.Lines.{Line, Take, Give, Sense, Ask, Answer, Load, Call}
 use Rattle.sx_mean.specs.declared.apps.Link.{Link}
-use Rattle.sx_mean.specs.Application.{AppTree, PartTree, same_device}
+use Rattle.sx_mean.specs.Application.{AppTree, PartTree}
+use Rattle.sx_mean.specs.Validity.{same_device}
 use Rattle.sx_run.specs.Setting.{Setting}
 use Rattle.sx_run.specs.State.{World, Acted, switched_on}
-use Rattle.sx_world.specs.Continued.{next}
+use Rattle.sx_world.specs.Whole.{next}
 
 -- what an honest run says: a line of its schedule, and each item that the line showed
 pub data Said : Type 0 where

@@ -3,7 +3,7 @@
 ghost use Rattle.std.specs.Prelude.{◌≡◌, ◌≤◌, length, map, option_map, IfSome, Some};
 ghost use Rattle.sx_deploy.specs.Law.{IsSoundDeployment};
 ghost use Rattle.sx_deploy.specs.SeenDeployment.{deployed_as};
-ghost use Rattle.sx_mean.specs.Application.{same_device};
+ghost use Rattle.sx_mean.specs.Validity.{same_device};
 ghost use Rattle.sx_mean.specs.View.{part_as};
 ghost use Rattle.sx_drive.specs.Honest.{callee_at, driver_of, receiver_of, target_of};
 ghost use Rattle.sx_drive.specs.Driving.{IsCallee, callee_of, driver_at};

@@ -3,8 +3,10 @@
 ghost use Rattle.std.specs.Prelude.{◌≡◌, ◌<◌, ◌+◌, ◌++◌, [], false, map, OnErr, OnOk};
 ghost use Rattle.sx_deploy.specs.Law.{IsSoundDeployment};
 ghost use Rattle.sx_deploy.specs.SeenDeployment.{deployed_as};
-ghost use Rattle.sx_sched.specs.Lines.{IsLine, line_of};
-ghost use Rattle.sx_world.specs.Continued.{next, Acts, ActsInPart};
+ghost use Rattle.sx_sched.specs.InForm.{IsLine};
+ghost use Rattle.sx_sched.specs.Seen.{line_of};
+ghost use Rattle.sx_world.specs.Continued.{Acts, ActsInPart};
+ghost use Rattle.sx_world.specs.Whole.{next};
 ghost use Rattle.sx_world.specs.InMemory.{world_setting};
 ghost use Rattle.sx_drive.specs.Honest.{SaidItem, performed, says};
 ghost use Rattle.sx_drive.specs.Driving.{Does, GoesOn, SaysFront, is_full, left, said_of};

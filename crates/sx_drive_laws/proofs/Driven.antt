@@ -10,10 +10,10 @@ use Rattle.sx_sched.specs.Lines.{Line}
 use Rattle.sx_run.specs.Setting.{Setting}
 use Rattle.sx_run.specs.State.{World, switched_on}
 use Rattle.sx_run.specs.Run.{run}
-use Rattle.sx_world.specs.Continued.{next}
+use Rattle.sx_world.specs.Whole.{next}
 use Rattle.sx_honest.specs.Plain.{MOST_DELIVERIES, Sampling}
 use Rattle.sx_honest.specs.Course.{Course, IsSampling, course_start, lines_so_far}
-use Rattle.sx_honest.specs.Laws.{Delivers}
+use Rattle.sx_honest.specs.Delivers.{Delivers}
 use Rattle.sx_honest.proofs.Fuel.{deliveries_are_enough}
 use Rattle.sx_setup.specs.Schedule.{setup_schedule}
 use Rattle.sx_setup.proofs.Counting.{schedule_long}
@@ -22,7 +22,8 @@ use Rattle.sx_deliver.proofs.Fitting.{honest_fits}
 use Rattle.sx_deliver.proofs.Going.{Stands}
 use Rattle.sx_deliver.proofs.Joined.{honest_run_delivers, honest_shows, starts}
 use Rattle.sx_drive.specs.Honest.{Honest, MOST_LINES, Reading, Said, SaidItem, each, honest_run, reads, setup, start}
-use Rattle.sx_drive_laws.specs.Laws.{DrivenIsHonest, HonestIsDriven, IsDriveable, IsReading, ScheduleIsSaid, items_of, sampling_of, samplings_of, told}
+use Rattle.sx_drive_laws.specs.Laws.{DrivenIsHonest, HonestIsDriven, IsDriveable, IsReading, ScheduleIsSaid, told}
+use Rattle.sx_drive_laws.specs.Samplings.{items_of, sampling_of, samplings_of}
 use Rattle.sx_drive_laws.proofs.Playing.{Fares, Waits, cut_many, run_counts, then_fares}
 use Rattle.sx_drive_laws.proofs.Staying.{each_stay, reads_stay}
 use Rattle.sx_drive_laws.proofs.SettingUp.{setup_fares}

@@ -3,7 +3,8 @@ use Rattle.std.proofs.Common.{◌≡◌, ℕ, ◌+◌, ◌*◌, ◌<◌, ◌≤�
 use Rattle.std.specs.List.{All}
 use Rattle.std.proofs.lemmas.List.{take-append-le}
 use Rattle.std.proofs.lemmas.List.Elements.{All-head, All-tail}
-use Rattle.sx_mean.specs.Application.{AppTree, is_valid}
+use Rattle.sx_mean.specs.Application.{AppTree}
+use Rattle.sx_mean.specs.Validity.{is_valid}
 use Rattle.sx_sched.specs.Lines.{Line}
 use Rattle.sx_run.specs.Setting.{Setting}
 use Rattle.sx_honest.specs.Plain.{MOST_DELIVERIES, Sampling}

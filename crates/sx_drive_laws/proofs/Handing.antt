@@ -7,7 +7,7 @@ use Rattle.sx_trace.specs.declared.items.Item.TheVariants as item
 use Rattle.sx_sched.specs.Lines.{Line, Call, Give, Take}
 use Rattle.sx_run.specs.Setting.{Setting}
 use Rattle.sx_run.specs.State.{World}
-use Rattle.sx_world.specs.Continued.{next}
+use Rattle.sx_world.specs.Whole.{next}
 use Rattle.sx_setup.proofs.forms.ByLine.{shown_by}
 use Rattle.sx_deliver.specs.Schedule.{take_lines}
 use Rattle.sx_deliver.proofs.ByLine.{call_shown, packets_shown}

@@ -8,7 +8,7 @@ use Rattle.sx_run.specs.Setting.{Setting}
 use Rattle.sx_run.specs.State.{World, Acted}
 use Rattle.sx_run.specs.Run.{line_counted, run}
 use Rattle.sx_run.proofs.acts.Counting.{counts_lines}
-use Rattle.sx_world.specs.Continued.{next}
+use Rattle.sx_world.specs.Whole.{next}
 use Rattle.sx_setup.proofs.Runs.{run_append}
 use Rattle.sx_drive.specs.Honest.{Driven, Honest, MOST_LINES, Said, SaidItem, SaidLine, each, left_out, performed, says, still, then_}
 use Rattle.sx_drive_laws.specs.Laws.{told}

@@ -12,7 +12,7 @@ use Rattle.sx_run.specs.Setting.{Setting}
 use Rattle.sx_run.specs.State.{World, switched_on}
 use Rattle.sx_run.specs.Run.{run}
 use Rattle.sx_run.specs.Law.{IsSoundSetting}
-use Rattle.sx_world.specs.Continued.{next}
+use Rattle.sx_world.specs.Whole.{next}
 use Rattle.sx_honest.specs.Course.{packet_items}
 use Rattle.sx_setup.specs.Laws.{HasRoom}
 use Rattle.sx_setup.specs.Schedule.{key_lines, part_lines, parts_schedule, setup_schedule}

@@ -8,7 +8,8 @@ use Rattle.sx_mean.specs.declared.apps.Link.{Link}
 use Rattle.sx_mean.specs.declared.events.Act.{Act}
 use Rattle.sx_mean.specs.declared.events.SourceEvent.{SourceEvent}
 use Rattle.sx_mean.specs.declared.events.SourceEvent.TheVariants as event
-use Rattle.sx_mean.specs.Application.{AppTree, PartTree, is_valid, same_device}
+use Rattle.sx_mean.specs.Application.{AppTree, PartTree}
+use Rattle.sx_mean.specs.Validity.{is_valid, same_device}
 use Rattle.sx_model.specs.Step.{drives}
 use Rattle.sx_trace.specs.declared.items.Item.{Item}
 use Rattle.sx_trace.specs.declared.items.Item.TheVariants as item
@@ -16,7 +17,7 @@ use Rattle.sx_sched.specs.Lines.{Line, Call, Give, Sense}
 use Rattle.sx_run.specs.Setting.{Setting}
 use Rattle.sx_run.specs.State.{World, Acted}
 use Rattle.sx_run.specs.Law.{IsSoundSetting}
-use Rattle.sx_world.specs.Continued.{next}
+use Rattle.sx_world.specs.Whole.{next}
 use Rattle.sx_honest.specs.Plain.{Sampling, Waiting, acts_emit, acts_send, is_still, reaction, oldest as oldest_value}
 use Rattle.sx_honest.specs.Course.{Course, IsSampling, count_over, delivered, lines_so_far, packets_so_far, played, sensed, settled, setup_lines, setup_packets}
 use Rattle.sx_honest.proofs.AsPlain.{Drives, Goes, driver, goes}
@@ -33,7 +34,8 @@ use Rattle.sx_deliver.proofs.Oldest.{IsOldest, oldest_there}
 use Rattle.sx_deliver.proofs.Received.{delivery_leads}
 use Rattle.sx_deliver.proofs.Sampled.{reading_leads}
 use Rattle.sx_drive.specs.Honest.{Callee, Driven, Honest, MOST_LINES, Reading, Said, callee_at, delivers, driver_of, each, if_there, oldest, reads, receiver_of, receives, samples, says, settles, target_of, then_, with_waiting}
-use Rattle.sx_drive_laws.specs.Laws.{IsReading, sampling_of, samplings_of}
+use Rattle.sx_drive_laws.specs.Laws.{IsReading}
+use Rattle.sx_drive_laws.specs.Samplings.{sampling_of, samplings_of}
 use Rattle.sx_drive_laws.proofs.Playing.{Fares, IsWhole, Plays, Shows, Waits, fares_as, run_counts, says_fares, still_fares, then_fares}
 use Rattle.sx_drive_laws.proofs.Staying.{each_stay, reads_stay, samples_stay, settles_stay, there_stays}
 use Rattle.sx_drive_laws.proofs.Handing.{made_outs, numbers, numbers_append, receives_fares, rest_of, samples_fares}

@@ -1,8 +1,7 @@
 -- What holds of the honest run that the program makes: it says the lines of the honest schedule,
 -- and where no line is left out they show what the source alone predicts.
-use Rattle.std.specs.Prelude.{ℕ, ◌≡◌, ◌<◌, false, List, [], ◌∷◌, ◌++◌, length, map, take}
-use Rattle.std.specs.Prelude.{nat_lt, All, Ok}
-use Rattle.sx_trace.specs.declared.items.Item.{Item}
+use Rattle.std.specs.Prelude.{ℕ, ◌≡◌, ◌<◌, false, List, [], ◌∷◌, ◌++◌, length, map, take, nat_lt}
+use Rattle.std.specs.Prelude.{All, Ok}
 use Rattle.sx_sched.specs.Lines.{Line}
 use Rattle.sx_tag.specs.Mac.{Mac, IsTag}
 use Rattle.sx_mean.specs.Application.{AppTree}
@@ -11,27 +10,14 @@ use Rattle.sx_run.specs.Setting.{Setting}
 use Rattle.sx_run.specs.State.{World, switched_on}
 use Rattle.sx_run.specs.Law.{IsSoundSetting}
 use Rattle.sx_run.specs.Accepted.{AreImages, setting_of}
-use Rattle.sx_world.specs.Continued.{next}
-use Rattle.sx_honest.specs.Plain.{Sampling}
+use Rattle.sx_world.specs.Whole.{next}
 use Rattle.sx_honest.specs.Course.{Course, IsHonest, IsSampling}
-use Rattle.sx_honest.specs.Laws.{Delivers}
+use Rattle.sx_honest.specs.Delivers.{Delivers}
 use Rattle.sx_setup.specs.Laws.{AreByteTexts, HasRoom}
 use Rattle.sx_deliver.specs.Laws.{HaveWords}
 use Rattle.sx_deliver.specs.Schedule.{honest_schedule}
 use Rattle.sx_drive.specs.Honest.{MOST_LINES, Reading, Said, SaidItem, SaidLine, honest_run}
-
--- a reading, as the source has it
-abbrev pub sampling_of : Reading → Sampling
-sampling_of r = record { device = r.device; value = r.value }
-
-abbrev pub samplings_of : List Reading → List Sampling
-samplings_of readings = map sampling_of readings
-
--- the items among what is said
-abbrev pub items_of : List Said → List Item
-items_of [] = []
-items_of (SaidLine line ∷ said) = items_of said
-items_of (SaidItem i ∷ said) = i ∷ items_of said
+use Rattle.sx_drive_laws.specs.Samplings.{items_of, sampling_of, samplings_of}
 
 -- each line of a run, and after it the items that it shows
 abbrev pub told : Setting → World → List Line → List Said

@@ -1,1 +1,2 @@
+pub mod Samplings
 pub mod Laws

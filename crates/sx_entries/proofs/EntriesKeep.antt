@@ -2,7 +2,8 @@
 use Rattle.std.proofs.Common.{◌≡◌, ℕ, ◌<◌, false, List, [], ◌∷◌, ◌++◌, map, length, Option, Some, None, option_map, Ok, refl, subst}
 use Rattle.std.proofs.lemmas.List.{map-append}
 use Rattle.toml.specs.Data.{Members}
-use Rattle.sx_trace.specs.Names.{has_name, deployer}
+use Rattle.sx_trace.specs.Names.{deployer}
+use Rattle.sx_trace.specs.ValidNames.{has_name}
 use Rattle.sx_stage.specs.Stage.{made_after}
 use Rattle.sx_stage.specs.declared.fault.Sort.TheVariants.{Node, Device, Module, Connection}
 use Rattle.sx_stage.proofs.Each.{Each, each-snoc, all-each, bind-Ok, made-each}

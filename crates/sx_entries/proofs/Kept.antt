@@ -5,7 +5,8 @@ use Rattle.std.proofs.lemmas.List.Folds.{list_all-append, list_any-append}
 use Rattle.std.proofs.lemmas.List.{map-append}
 use Rattle.std.proofs.lemmas.List.Quantifiers.{position-Some}
 use Rattle.sx_lang.specs.Form.{is_name}
-use Rattle.sx_trace.specs.Names.{has_name, no_repeat, deployer}
+use Rattle.sx_trace.specs.Names.{deployer}
+use Rattle.sx_trace.specs.ValidNames.{has_name, no_repeat}
 use Rattle.sx_stage.specs.Stage.{in_entry}
 use Rattle.sx_stage.specs.declared.fault.Sort.{Sort}
 use Rattle.sx_entries.specs.Entries.{has_entry, fresh, place_among, not_reserved}

@@ -4,7 +4,8 @@ use Rattle.std.specs.List.{list_all}
 use Rattle.toml.specs.Data.{Members}
 use Rattle.sx_lang.specs.Words.{IsWord}
 use Rattle.sx_lang.specs.Form.{is_name}
-use Rattle.sx_trace.specs.Names.{has_name, no_repeat, deployer}
+use Rattle.sx_trace.specs.Names.{deployer}
+use Rattle.sx_trace.specs.ValidNames.{has_name, no_repeat}
 use Rattle.sx_entries.specs.Arrays.{RowLists, rows_of}
 use Rattle.sx_entries.specs.Entries.{EntryLists, entries_of}
 use Rattle.sx_entries.specs.declared.entries.Start.{Start}

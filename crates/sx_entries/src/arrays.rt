@@ -4,7 +4,7 @@ ghost use Rattle.toml.specs.Data.{Members, get_member, as_table};
 ghost use Rattle.toml.specs.View.{table_view, array_view, view};
 ghost use Rattle.sx_entries.specs.Fields.{key_at};
 ghost use Rattle.sx_entries.specs.Rows.{node_row, device_row, module_row, link_row};
-ghost use Rattle.sx_stage.specs.Fault.{Gives, TakesNoMemory};
+ghost use Rattle.sx_stage.specs.Gives.{Gives, TakesNoMemory};
 ghost use Rattle.sx_entries.specs.Arrays.{array_of, arrays_of, listed, made_in, rows_in, rows_of};
 ghost use Rattle.sx_entries.specs.Arrays.{secret_of};
 ghost use Rattle.sx_entries.specs.Seen.{items_seen, arrays_seen};

@@ -2,7 +2,8 @@
 ghost use Rattle.std.specs.Prelude.{◌≡◌, false, if◌then◌else◌};
 ghost use Rattle.std.specs.Str.{is_utf8};
 ghost use Rattle.toml.specs.View.{table_view};
-ghost use Rattle.sx_stage.specs.Fault.{Gives, TakesNoMemory, fault};
+ghost use Rattle.sx_stage.specs.Fault.{fault};
+ghost use Rattle.sx_stage.specs.Gives.{Gives, TakesNoMemory};
 ghost use Rattle.sx_stage.specs.declared.fault.Place.TheVariants.{Nowhere};
 ghost use Rattle.sx_entries.specs.Documents.{table_of};
 

@@ -1,6 +1,6 @@
 //! Rule 5: names are in form, new in their array, and name an entry where they should.
 ghost use Rattle.std.specs.Prelude.{◌≡◌, length};
-ghost use Rattle.sx_stage.specs.Fault.{Gives, TakesNoMemory};
+ghost use Rattle.sx_stage.specs.Gives.{Gives, TakesNoMemory};
 ghost use Rattle.sx_entries.specs.Entries.{device_made, device_named, entries_of, fresh, link_made};
 ghost use Rattle.sx_entries.specs.Entries.{module_made, module_named, node_made, node_named};
 ghost use Rattle.sx_entries.specs.Entries.{not_reserved, start_named};

@@ -1,7 +1,7 @@
 //! Entries in order, each found by its name.
 ghost use Rattle.std.specs.Prelude.{◌≡◌, ℕ, List, [], ◌∷◌, ◌++◌, length, Result, OnOk, position};
 ghost use Rattle.std.specs.Str.{bytes_eq};
-ghost use Rattle.sx_stage.specs.Fault.{Gives, TakesNoMemory};
+ghost use Rattle.sx_stage.specs.Gives.{Gives, TakesNoMemory};
 ghost use Rattle.sx_stage.specs.Stage.{made_after};
 ghost use Rattle.sx_stage.specs.declared.fault.DeployFault.{DeployFault as FaultSeen};
 ghost use Rattle.sx_entries.specs.Entries.{has_entry, place_among};

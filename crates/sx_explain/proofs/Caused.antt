@@ -13,18 +13,20 @@ use Rattle.sx_mean.specs.declared.events.Act.TheVariants.{Send}
 use Rattle.sx_mean.specs.declared.events.End.{End}
 use Rattle.sx_mean.specs.declared.events.SourceEvent.{SourceEvent}
 use Rattle.sx_mean.specs.declared.events.SourceEvent.TheVariants as event
-use Rattle.sx_mean.specs.Application.{AppTree, PartTree, is_valid}
+use Rattle.sx_mean.specs.Application.{AppTree, PartTree}
+use Rattle.sx_mean.specs.Validity.{is_valid}
 use Rattle.sx_mean.specs.Ends.{ends_after, ends_of}
 use Rattle.sx_mean.specs.React.{react}
 use Rattle.sx_mean.proofs.ValidApplications.{valid_applications}
 use Rattle.sx_trace.specs.declared.items.Item.{Item}
 use Rattle.sx_trace.specs.declared.items.Item.TheVariants.{Sense, Read, Take, Out}
 use Rattle.sx_model.specs.State.{EndView, FIELDS, Model, Present, Standing, power_on}
+use Rattle.sx_model.specs.Step.{device_of, ◌>>?◌, changed_views, idle, is_word, state_if, step}
 use Rattle.sx_model.specs.Reaction.{field_at, field_of, is_from, sends}
-use Rattle.sx_model.specs.Step.{◌>>?◌, changed_views, idle, is_word, open_epoch, state_if, step}
+use Rattle.sx_model.specs.Epochs.{open_epoch}
 use Rattle.sx_model.specs.Renewal.{takes}
 use Rattle.sx_model.specs.Legal.{Legal, after}
-use Rattle.sx_model.specs.Consequences.{begins_event, device_of, ends_event, ends_reading, senses}
+use Rattle.sx_model.specs.Consequences.{begins_event, ends_event, ends_reading, senses}
 use Rattle.sx_model.proofs.Along.{some_of}
 use Rattle.sx_model.proofs.Steps.{Cases, by_step}
 use Rattle.sx_lists.proofs.Lists.{get_same}

@@ -6,8 +6,8 @@ use Rattle.sx_mean.specs.Application.{AppTree}
 use Rattle.sx_trace.specs.declared.items.Item.{Item}
 use Rattle.sx_model.specs.Step.{step}
 use Rattle.sx_explain.specs.declared.judge.Judged.{Judged}
-use Rattle.sx_explain.specs.Judging.{items_after, judged}
-use Rattle.sx_explain.specs.Followed.{FillsFor, Follows, IsFullFor, Seen, Stands, answered, taken_in}
+use Rattle.sx_explain.specs.Judging.{judged}
+use Rattle.sx_explain.specs.Followed.{items_after, FillsFor, Follows, IsFullFor, Seen, Stands, answered, taken_in}
 use Rattle.sx_explain.proofs.Following.{answers, caught_up, follows, same_forged}
 
 pub on_err_any : {X E : Type 0} (r : Result X E) (Q : Type 0) → Q → OnErr r Q

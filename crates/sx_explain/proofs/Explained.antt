@@ -3,7 +3,8 @@ use Rattle.std.proofs.Common.{◌≡◌, ℕ, ◌+◌, ◌≤◌, Bool, true, fa
 use Rattle.std.specs.List.{list_any}
 use Rattle.std.proofs.lemmas.List.{length-append}
 use Rattle.sx_check.proofs.Keeps.{both_false}
-use Rattle.sx_mean.specs.Application.{AppTree, is_valid}
+use Rattle.sx_mean.specs.Application.{AppTree}
+use Rattle.sx_mean.specs.Validity.{is_valid}
 use Rattle.sx_trace.specs.declared.items.Item.{Item}
 use Rattle.sx_trace.specs.declared.items.Item.TheVariants.{Read, Take, Out}
 use Rattle.sx_model.specs.State.{power_on}

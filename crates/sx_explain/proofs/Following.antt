@@ -15,10 +15,10 @@ use Rattle.sx_mean.specs.React.{react}
 use Rattle.sx_trace.specs.declared.items.Item.{Item}
 use Rattle.sx_trace.specs.declared.items.Item.TheVariants.{Sense, Read, Take, Out, Forged}
 use Rattle.sx_model.specs.State.{EndView, FIELDS, Model, Present, Standing, power_on}
+use Rattle.sx_model.specs.Step.{device_of, ◌>>?◌, step}
 use Rattle.sx_model.specs.Reaction.{Flow, MOST_SENT, all_done, field_of, is_from, sends, sent_over, sent_to}
-use Rattle.sx_model.specs.Step.{◌>>?◌, step}
 use Rattle.sx_model.specs.Legal.{after, before, is_forged}
-use Rattle.sx_model.specs.Consequences.{begins_event, device_of}
+use Rattle.sx_model.specs.Consequences.{begins_event}
 use Rattle.sx_model.proofs.Along.{some_of}
 use Rattle.sx_model.proofs.Steps.{Cases, by_step}
 use Rattle.sx_lists.proofs.Lists.{get_same}
@@ -27,8 +27,9 @@ use Rattle.sx_explain.specs.Causes.{appended, cause, gives, latest, or_else, wor
 use Rattle.sx_explain.specs.Filling.{IsFullAt, at_field, full}
 use Rattle.sx_explain.specs.declared.judge.Judged.TheVariants as verdict
 use Rattle.sx_explain.specs.declared.numbers.Latest.{Latest}
-use Rattle.sx_explain.specs.Judging.{items_after, judged, said}
-use Rattle.sx_explain.specs.Followed.{FillsFor, Follows, HasAll, IsFullFor, IsOf, Seen, Stands, answered, first_forged, found, noted, numbers_of, taken_in, taken_of}
+use Rattle.sx_explain.specs.Judging.{judged, said, first_forged}
+use Rattle.sx_explain.specs.Followed.{items_after}
+use Rattle.sx_explain.specs.Followed.{FillsFor, Follows, HasAll, IsFullFor, IsOf, Seen, Stands, answered, found, noted, numbers_of, taken_in, taken_of}
 use Rattle.sx_explain.proofs.Filled.{field_word, full_all, get_full, get_within, length_full, length_under, none_at}
 use Rattle.sx_explain.proofs.Caused.{field_low, some_next, step_grows}
 

@@ -6,14 +6,14 @@ use Rattle.sx_mean.specs.declared.events.Act.{Act}
 use Rattle.sx_mean.specs.declared.events.Act.TheVariants.{Send}
 use Rattle.sx_mean.specs.declared.events.SourceEvent.{SourceEvent}
 use Rattle.sx_mean.specs.declared.events.SourceEvent.TheVariants as event
-use Rattle.sx_mean.specs.Application.{AppTree, PartTree, is_valid}
+use Rattle.sx_mean.specs.Application.{AppTree, PartTree}
 use Rattle.sx_mean.specs.React.{react}
 use Rattle.sx_trace.specs.declared.items.Item.{Item}
 use Rattle.sx_trace.specs.declared.items.Item.TheVariants.{Sense, Read, Take, Out}
 use Rattle.sx_model.specs.State.{Model, Present, Standing, power_on}
-use Rattle.sx_model.specs.Step.{◌>>?◌, step}
-use Rattle.sx_model.specs.Legal.{Legal, after}
-use Rattle.sx_model.specs.Consequences.{begins_event, device_of, senses}
+use Rattle.sx_model.specs.Step.{device_of, ◌>>?◌, step}
+use Rattle.sx_model.specs.Legal.{after}
+use Rattle.sx_model.specs.Consequences.{begins_event, senses}
 
 -- the first of two that is there
 abbrev pub or_else : {A : Type 0} → Option A → Option A → Option A
@@ -120,7 +120,3 @@ pub record HasCauses (app : AppTree) (items : List Item) : Type 0 where
       → CausedBy app before (Out m v) (begins_event m)
   pub leads : (before behind : List Item) (m v : ℕ) → items ≡ before ++ Out m v ∷ behind
       → LeadsToSense app before (Out m v)
-
-abbrev pub LegalHasCauses : Type 0
-LegalHasCauses = (app : AppTree) (items : List Item) → is_valid app ≡ true → Legal app items
-    → HasCauses app items

@@ -1,6 +1,7 @@
 -- What a judge keeps, and how it stands for the items so far.
 use Rattle.std.specs.Prelude.{◌≡◌, ℕ, ◌+◌, ◌*◌, ◌/◌, ◌%◌, ◌<◌, ◌≤◌, Bool, true, false, List, length}
-use Rattle.std.specs.Prelude.{if◌then◌else◌, slice_get, slice_set, Option, Some, None, ◌⊎◌, ⊤}
+use Rattle.std.specs.Prelude.{if◌then◌else◌, slice_get, slice_set, Option, Some, None, ◌⊎◌, ⊤, []}
+use Rattle.std.specs.Prelude.{◌∷◌, ◌++◌}
 use Rattle.std.specs.List.{list_any}
 use Rattle.sx_mean.specs.declared.apps.Link.{Link}
 use Rattle.sx_mean.specs.declared.events.End.{End}
@@ -9,10 +10,11 @@ use Rattle.sx_mean.specs.Ends.{ends_of}
 use Rattle.sx_trace.specs.declared.items.Item.{Item}
 use Rattle.sx_trace.specs.declared.items.Item.TheVariants.{Sense, Read, Take, Out, Forged}
 use Rattle.sx_model.specs.State.{FIELDS, Model, power_on}
+use Rattle.sx_model.specs.Step.{device_of, ◌>>?◌}
 use Rattle.sx_model.specs.Reaction.{is_from}
-use Rattle.sx_model.specs.Step.{◌>>?◌, open_epoch}
+use Rattle.sx_model.specs.Epochs.{open_epoch}
 use Rattle.sx_model.specs.Legal.{after, before, is_forged}
-use Rattle.sx_model.specs.Consequences.{begins_event, device_of}
+use Rattle.sx_model.specs.Consequences.{begins_event}
 use Rattle.sx_explain.specs.declared.numbers.Latest.{Latest}
 use Rattle.sx_explain.specs.Causes.{appended, gives, latest, word_of}
 use Rattle.sx_explain.specs.declared.judge.Judged.{Judged}
@@ -106,10 +108,6 @@ pub record Stands (app : AppTree) (items : List Item) (j : Seen) : Type 0 where
 abbrev pub taken_of : List Item → ℕ
 taken_of items = length (before items) + (if list_any is_forged items then 1 else 0)
 
--- the number of the first that is forged, if one is
-abbrev pub first_forged : List Item → Option ℕ
-first_forged items = if list_any is_forged items then Some (length (before items) + 1) else None
-
 -- A judge follows these items.
 pub record Follows (app : AppTree) (items : List Item) (j : Seen) : Type 0 where
   pub forged : j.has_forged ≡ list_any is_forged items
@@ -125,3 +123,8 @@ answered app item j (Some t) = said (found app j item) item
 abbrev pub taken_in : Item → Seen → Option Model → Seen
 taken_in item j None = j
 taken_in item j (Some t) = noted (j.taken + 1) item (record j { model = t; taken = j.taken + 1 })
+
+-- the items so far, after what was said of this one: one that is illegal isn't taken
+abbrev pub items_after : List Item → Item → Judged → List Item
+items_after items item Illegal = items
+items_after items item _ = items ++ item ∷ []

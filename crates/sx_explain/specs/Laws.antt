@@ -1,6 +1,8 @@
 -- In a legal trace each reading, each taking and each output gets its cause.
 use Rattle.std.specs.Prelude.{◌≡◌, ℕ, true, Bool, false, List, ◌∷◌, ◌++◌, ◌≤◌, length, Some, None}
-use Rattle.sx_mean.specs.Application.{AppTree, is_valid}
+use Rattle.std.specs.Prelude.{◌+◌}
+use Rattle.sx_mean.specs.Application.{AppTree}
+use Rattle.sx_mean.specs.Validity.{is_valid}
 use Rattle.sx_trace.specs.declared.items.Item.{Item}
 use Rattle.sx_trace.specs.declared.items.Item.TheVariants.{Read, Take, Out}
 use Rattle.sx_model.specs.State.{Model, power_on}
@@ -8,6 +10,7 @@ use Rattle.sx_model.specs.Step.{step}
 use Rattle.sx_model.specs.Legal.{Legal, after, before}
 use Rattle.sx_explain.specs.declared.judge.Judged.TheVariants.{Because, Illegal}
 use Rattle.sx_explain.specs.Judging.{judged}
+use Rattle.sx_explain.specs.Causes.{HasCauses}
 
 -- items of the three kinds that have causes
 abbrev pub has_cause : Item → Bool
@@ -43,3 +46,7 @@ IllegalIsRefused =
     (app : AppTree) (front : List Item) (item : Item) (s : Model)
     → after app (power_on app) front ≡ Some s → judged app front item ≡ Illegal
     → step app s item ≡ None
+
+abbrev pub LegalHasCauses : Type 0
+LegalHasCauses = (app : AppTree) (items : List Item) → is_valid app ≡ true → Legal app items
+    → HasCauses app items

@@ -2,16 +2,16 @@
 
 ghost use Rattle.std.specs.Prelude.{◌≡◌, ◌+◌, ◌*◌, ◌/◌, ◌%◌, ◌<◌, ◌≤◌, [], IfOk, List, None, OnErr};
 ghost use Rattle.std.specs.Prelude.{OnOk, length, replicate, slice_get, slice_set, true};
-ghost use Rattle.sx_mean.specs.Application.{AppTree, is_valid};
+ghost use Rattle.sx_mean.specs.Application.{AppTree};
+ghost use Rattle.sx_mean.specs.Validity.{is_valid};
 ghost use Rattle.sx_mean.specs.View.{app_as};
-ghost use Rattle.sx_model.specs.Consequences.{device_of};
-ghost use Rattle.sx_model.specs.Legal.{before};
 ghost use Rattle.sx_model.specs.State.{FIELDS};
-ghost use Rattle.sx_model.specs.Step.{◌>>?◌, step};
+ghost use Rattle.sx_model.specs.Step.{device_of, ◌>>?◌, step};
+ghost use Rattle.sx_model.specs.Legal.{before};
 ghost use Rattle.sx_trace.specs.declared.items.Item.{Item as Listed};
-ghost use Rattle.sx_explain.specs.Followed.{FillsFor, Follows, IsFullFor, answered, first_forged};
-ghost use Rattle.sx_explain.specs.Followed.{found, noted, taken_in};
-ghost use Rattle.sx_explain.specs.Judging.{items_after, judged, said};
+ghost use Rattle.sx_explain.specs.Followed.{FillsFor, Follows, IsFullFor, answered, found, noted};
+ghost use Rattle.sx_explain.specs.Followed.{taken_in, items_after};
+ghost use Rattle.sx_explain.specs.Judging.{first_forged, judged, said};
 
 use crate::numbers::{Latest, Numbers, fill_all, number_at};
 use std::alloc::{AllocError, Global};

@@ -1,7 +1,7 @@
 //! What holds of what a judge says. Each law is a function that does nothing: its contract is the
 //! law.
 
-ghost use Rattle.sx_explain.specs.Causes.{LegalHasCauses};
+ghost use Rattle.sx_explain.specs.Laws.{LegalHasCauses};
 ghost use Rattle.sx_explain.specs.Laws.{IllegalIsRefused, JudgesLegal, LegalIsExplained};
 
 /// In a legal trace each reading, taking and output has its cause before it, and from each output

@@ -1,7 +1,8 @@
 -- An ask is answered.
 use Rattle.std.proofs.Common.{◌≤◌, true, [], ◌∷◌, length, refl, ap, ◌∙◌, arith}
 use Rattle.sx_tag.specs.Wrap.{wrapped, crypt}
-use Rattle.sx_invoke.specs.Protocol.{attest_entry, ask_size, ask_kind, tag_size}
+use Rattle.sx_invoke.specs.Protocol.{attest_entry, ask_size, ask_kind}
+use Rattle.sx_invoke.specs.Pieces.{tag_size}
 use Rattle.sx_invoke.specs.Marks.{Wrapped}
 use Rattle.sx_invoke.specs.Progress.{Progress, finished}
 use Rattle.sx_invoke.specs.Entries.{attest}

@@ -13,11 +13,13 @@ use Rattle.sx_mean.specs.declared.events.Act.{Act}
 use Rattle.sx_mean.specs.declared.events.Act.TheVariants.{Send, Emit}
 use Rattle.sx_mean.specs.declared.events.SourceEvent.{SourceEvent}
 use Rattle.sx_mean.specs.declared.events.SourceEvent.TheVariants as event
-use Rattle.sx_mean.specs.Application.{block_packets, statement_packets, links_from}
+use Rattle.sx_mean.specs.Application.{block_packets, links_from}
+use Rattle.sx_mean.specs.Packets.{statement_packets}
 use Rattle.sx_mean.specs.Places.{place, array_length, output_number}
 use Rattle.sx_mean.specs.Meaning.{HandlerState, assign, assign_element, after_statement, after_block, times, forget, value, local_place, new_local}
 use Rattle.sx_mean.specs.React.{react, run, start, handler_at, value_of, handler_of_name, input_names, nth}
-use Rattle.sx_mean.specs.Ends.{ends_of, senders}
+use Rattle.sx_mean.specs.Ends.{ends_of}
+use Rattle.sx_mean.specs.EndLaws.{senders}
 use Rattle.sx_mean.proofs.Ends.{ends_counted}
 use Rattle.sx_mean.proofs.ValidApplications.{valid_applications}
 use Rattle.sx_gives.specs.Effect.{acts_packets}

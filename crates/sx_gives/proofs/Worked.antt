@@ -4,10 +4,11 @@ use Rattle.std.specs.Prelude.{true, false}
 use Rattle.sx_lang.specs.declared.sides.Side.TheVariants.{To}
 use Rattle.sx_lang.specs.declared.tree.Decl.TheVariants.{Input, Output}
 use Rattle.sx_lang.specs.Tree.{Variable, Sends, Done, Then, HandlerTree, ModuleTree}
-use Rattle.sx_mean.specs.Application.{AppTree, is_valid, is_too_large, is_wrong, is_misplaced, is_crowded, is_overloaded, is_loose}
+use Rattle.sx_mean.specs.Application.{AppTree}
+use Rattle.sx_mean.specs.Validity.{is_valid, is_too_large, is_wrong, is_misplaced, is_crowded, is_overloaded, is_loose}
 use Rattle.sx_mean.specs.Ends.{ends_of}
 use Rattle.sx_rules.specs.declared.section.Section.{Section}
-use Rattle.sx_tag.specs.Mac.{weak}
+use Rattle.sx_tag.specs.Weak.{weak}
 use Rattle.sx_tag.specs.Tags.{weak-is_tag}
 use Rattle.sx_tag.specs.Wrap.{wrapped, crypt, wrap_tag}
 use Rattle.sx_machine.specs.Memory.{bytes_from}

@@ -6,7 +6,8 @@ use Rattle.sx_mean.specs.declared.events.End.{End}
 use Rattle.sx_mean.specs.declared.events.Act.{Act}
 use Rattle.sx_mean.specs.declared.events.Act.TheVariants.{Send, Emit}
 use Rattle.sx_mean.specs.declared.events.SourceEvent.{SourceEvent}
-use Rattle.sx_mean.specs.Ends.{is_sending, senders}
+use Rattle.sx_mean.specs.Ends.{is_sending}
+use Rattle.sx_mean.specs.EndLaws.{senders}
 use Rattle.sx_mean.specs.React.{react}
 use Rattle.sx_invoke.specs.Protocol.{last_number}
 use Rattle.sx_invoke.specs.Setup.{Setup}

@@ -6,7 +6,8 @@ use Rattle.sx_lang.specs.declared.sides.Side.{Side}
 use Rattle.sx_lang.specs.declared.sides.Side.TheVariants.{To}
 use Rattle.sx_mean.specs.declared.events.End.{End}
 use Rattle.sx_mean.specs.declared.events.SourceEvent.TheVariants as event
-use Rattle.sx_mean.specs.Application.{AppTree, PartTree, declared_kind, is_valid}
+use Rattle.sx_mean.specs.Application.{AppTree, PartTree, declared_kind}
+use Rattle.sx_mean.specs.Validity.{is_valid}
 use Rattle.sx_mean.specs.Ends.{ends_of}
 use Rattle.sx_mean.specs.React.{react}
 use Rattle.sx_bus.specs.declared.devices.Window.{Window}

@@ -6,7 +6,8 @@ use Rattle.sx_lex.specs.Lexed.{start}
 use Rattle.sx_lex.proofs.Same.{one_reading}
 use Rattle.sx_grammar.specs.Tokens.{Token, token, fits, given_tokens, added}
 use Rattle.sx_grammar.specs.Grammar.{IsModule, CanGoOn, IsFaultAt}
-use Rattle.sx_grammar.specs.Text.{place_of, OneFault, NoFault}
+use Rattle.sx_grammar.specs.Text.{place_of}
+use Rattle.sx_grammar.specs.Laws.{OneFault, NoFault}
 use Rattle.sx_grammar.specs.Machine.{Symbol, Value, Of_module, MachineState, choose, step, finish, reads, read, ended, Refused, begun, nothing}
 use Rattle.sx_grammar.proofs.Sound.{Fits, step_back, finish_back}
 use Rattle.sx_grammar.proofs.OneModule.{complete_module}

@@ -4,7 +4,8 @@ use Rattle.sx_lang.specs.Tree.{HandlerTree, ModuleTree}
 use Rattle.sx_lang.specs.declared.tree.Decl.{Decl}
 use Rattle.sx_lang.specs.declared.tree.DeviceKind.{DeviceKind}
 use Rattle.sx_grammar.specs.Tokens.{Token}
-use Rattle.sx_grammar.specs.Grammar.{IsDeclaration, sensor, actuator, input, output, variable, variable_with, array, AreDeclarations, no_declaration, declaration, IsHandler, on_input, on_sample, AreHandlers, no_handler, handler, IsModule, OneModule}
+use Rattle.sx_grammar.specs.Grammar.{IsDeclaration, sensor, actuator, input, output, variable, variable_with, array, AreDeclarations, no_declaration, declaration, IsHandler, on_input, on_sample, AreHandlers, no_handler, handler, IsModule}
+use Rattle.sx_grammar.specs.Laws.{OneModule}
 use Rattle.sx_grammar.specs.Machine.{Value, Of_block, Of_module, Say, Do_declare, Do_handle, Declarations, Handlers, reads, begun, nothing}
 use Rattle.sx_grammar.proofs.Complete.{said}
 use Rattle.sx_grammar.proofs.CompleteStatements.{complete_block}

@@ -8,7 +8,8 @@ use Rattle.sx_lex.proofs.Same.{one_reading}
 use Rattle.sx_lex.proofs.HasReading.{has_reading}
 use Rattle.sx_grammar.specs.Tokens.{given_tokens}
 use Rattle.sx_grammar.specs.Grammar.{IsModule, IsFaultAt}
-use Rattle.sx_grammar.specs.Text.{Spells, IsFirstFault, place_of, OneModuleOfText, ModuleOrFault}
+use Rattle.sx_grammar.specs.Text.{Spells, IsFirstFault, place_of}
+use Rattle.sx_grammar.specs.Laws.{OneModuleOfText, ModuleOrFault}
 use Rattle.sx_grammar.proofs.OneModule.{one_module}
 use Rattle.sx_grammar.proofs.Faults.{decided}
 

@@ -1,7 +1,7 @@
 -- The grammar. `IsExpression form d ts e rest` says: an expression e of this form stands at the
 -- start of the tokens ts, inside d open brackets and unary operators, and rest follows it. The
 -- other relations say the same of their parts.
-use Rattle.std.specs.Prelude.{◌≡◌, ℕ, ◌+◌, List, [], ◌∷◌, ◌++◌, ◌⊎◌, Bool, true, Option, Some, None}
+use Rattle.std.specs.Prelude.{◌≡◌, ℕ, ◌+◌, List, [], ◌∷◌, ◌++◌, Bool, true, Option, Some, None}
 use Rattle.sx_lang.specs.Tree.{Expression, Constant, Variable, Indexed, Applied, Combined}
 use Rattle.sx_lang.specs.Tree.{Statement, Defines, Assigns, Stores, Chooses, Repeats, Sends, Emits}
 use Rattle.sx_lang.specs.Tree.{Block, Done, Then, HandlerTree, ModuleTree}
@@ -175,12 +175,3 @@ abbrev pub IsFaultAt : List Placed → Option Placed → Type 0
 IsFaultAt ts (Some t) = (front back : List Placed) × (ts ≡ front ++ t ∷ back) × CanGoOn front
     × ¬ CanGoOn (front ++ t ∷ [])
 IsFaultAt ts None = CanGoOn ts × ((m : ModuleTree) → ¬ IsModule (given_tokens ts) m)
-
--- no tokens are two modules'
-abbrev pub OneModule : Type 0
-OneModule = (ts : List Token) (m n : ModuleTree) → IsModule ts m → IsModule ts n → m ≡ n
-
--- every text's tokens are a module's or have a first fault
-abbrev pub Decided : Type 0
-Decided = (ts : List Placed) → ((m : ModuleTree) × IsModule (given_tokens ts) m)
-    ⊎ ((p : Option Placed) × IsFaultAt ts p)

@@ -1,4 +1,5 @@
 pub mod Tokens
 pub mod Grammar
+pub mod Laws
 pub mod Text
 pub mod Machine

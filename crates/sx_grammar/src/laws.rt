@@ -1,8 +1,7 @@
 //! What holds of every text. Each law is a function that does nothing: its contract is the law.
 
-ghost use Rattle.sx_grammar.specs.Grammar.{Decided, OneModule};
-ghost use Rattle.sx_grammar.specs.Text.{ModuleOrFault, NoFault, OneFault, OneModuleOfText};
-ghost use Rattle.sx_grammar.specs.Text.{SpelledWords};
+ghost use Rattle.sx_grammar.specs.Laws.{Decided, OneModule, ModuleOrFault, NoFault, OneFault};
+ghost use Rattle.sx_grammar.specs.Laws.{OneModuleOfText, SpelledWords};
 
 /// No tokens are two modules'.
 pub fn one_module()

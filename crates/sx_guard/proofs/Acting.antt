@@ -16,9 +16,10 @@ use Rattle.sx_machine.specs.State.{State, reset}
 use Rattle.sx_machine.specs.Step.{Shown, own_of, step, start}
 use Rattle.sx_machine.specs.Run.{exec}
 use Rattle.sx_machine.specs.Acts.{unless, take_refusal, irq_refusal, interrupt, interrupted, put, set as set_register, take as take_from, sense, irq}
-use Rattle.sx_machine.specs.Guard.{Act, Step as NodeStep, Restart, Put as PutAct, Set as SetAct}
-use Rattle.sx_machine.specs.Guard.{Take as TakeAct, Sense as SenseAct, Interrupt, Stepped, Answered}
-use Rattle.sx_machine.specs.Guard.{Took, Interrupted, acted, FromOutside, Same}
+use Rattle.sx_machine.specs.Acting.{Act, Step as NodeStep, Restart, Put as PutAct, Set as SetAct, Take as TakeAct, Sense as SenseAct, Interrupt, Stepped}
+use Rattle.sx_machine.specs.Acting.{Answered, Took, Interrupted, acted}
+use Rattle.sx_machine.specs.Guard.{Same}
+use Rattle.sx_machine.specs.Guarding.{FromOutside}
 use Rattle.sx_machine.proofs.Sections.{acted_placed}
 use Rattle.sx_machine.proofs.RunGuard.{runs_blind}
 use Rattle.sx_run.specs.Setting.{Site, Setting, module_of}

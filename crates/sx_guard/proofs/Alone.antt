@@ -5,7 +5,9 @@ use Rattle.sx_rules.specs.declared.section.Section.{Section}
 use Rattle.sx_rules.specs.Access.{Lives}
 use Rattle.sx_rules.specs.Placed.{Placed}
 use Rattle.sx_machine.specs.State.{State}
-use Rattle.sx_machine.specs.Guard.{Untouched, Foreign, Same, Act, Step as NodeStep, Restart, Put as PutAct, Set as SetAct, Take as TakeAct, Sense as SenseAct, Interrupt, FromOutside}
+use Rattle.sx_machine.specs.Guard.{Untouched, Foreign, Same}
+use Rattle.sx_machine.specs.Acting.{Act, Step as NodeStep, Restart, Put as PutAct, Set as SetAct, Take as TakeAct, Sense as SenseAct, Interrupt}
+use Rattle.sx_machine.specs.Guarding.{FromOutside}
 use Rattle.sx_machine.proofs.Sections.{acted_placed}
 use Rattle.sx_machine.proofs.RunGuard.{acts_guarded}
 use Rattle.sx_machine.proofs.Boots.{boots_count}

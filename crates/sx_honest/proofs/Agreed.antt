@@ -9,7 +9,8 @@ use Rattle.std.proofs.lemmas.Option.{slice_get_within}
 use Rattle.sx_mean.specs.declared.apps.AppDevice.{AppDevice}
 use Rattle.sx_mean.specs.declared.events.SourceEvent.{SourceEvent}
 use Rattle.sx_mean.specs.declared.events.SourceEvent.TheVariants as event
-use Rattle.sx_mean.specs.Application.{AppTree, PartTree, is_valid, is_sensor}
+use Rattle.sx_mean.specs.Application.{AppTree, PartTree, is_sensor}
+use Rattle.sx_mean.specs.Validity.{is_valid}
 use Rattle.sx_mean.specs.Ends.{ends_of}
 use Rattle.sx_mean.proofs.ValidApplications.{valid_applications}
 use Rattle.sx_trace.specs.declared.items.Item.{Item}

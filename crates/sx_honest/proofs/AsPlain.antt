@@ -14,7 +14,8 @@ use Rattle.sx_mean.specs.declared.events.Act.TheVariants.{Send, Emit}
 use Rattle.sx_mean.specs.declared.events.End.{End}
 use Rattle.sx_mean.specs.declared.events.SourceEvent.{SourceEvent}
 use Rattle.sx_mean.specs.declared.events.SourceEvent.TheVariants as event
-use Rattle.sx_mean.specs.Application.{AppTree, PartTree, has_port, is_port, is_valid, leaves}
+use Rattle.sx_mean.specs.Application.{AppTree, PartTree, leaves}
+use Rattle.sx_mean.specs.Validity.{has_port, is_port, is_valid}
 use Rattle.sx_mean.specs.Ends.{ends_of}
 use Rattle.sx_mean.specs.Valid.{IsTied}
 use Rattle.sx_mean.proofs.ValidApplications.{valid_applications}

@@ -1,7 +1,8 @@
 -- An honest run's items are legal, and lead the source model to where its course says.
 use Rattle.std.proofs.Common.{◌++◌, Some, sym, ◌∙◌, ◌≡◌, ◌≤◌, true, List, length, ap, refl, arith}
 use Rattle.std.specs.Prelude.{option_map}
-use Rattle.sx_mean.specs.Application.{AppTree, is_valid}
+use Rattle.sx_mean.specs.Application.{AppTree}
+use Rattle.sx_mean.specs.Validity.{is_valid}
 use Rattle.std.proofs.lemmas.List.{append-nil}
 use Rattle.sx_mean.proofs.ValidApplications.{valid_applications}
 use Rattle.sx_model.specs.State.{FIELDS, Model, power_on}

@@ -11,8 +11,10 @@ use Rattle.sx_lang.specs.declared.sides.Side.TheVariants.{From, To}
 use Rattle.sx_mean.specs.declared.apps.AppDevice.{AppDevice}
 use Rattle.sx_mean.specs.declared.apps.Link.{Link}
 use Rattle.sx_mean.specs.declared.events.End.{End}
-use Rattle.sx_mean.specs.Application.{AppTree, PartTree, is_valid}
-use Rattle.sx_mean.specs.Ends.{IsBefore, ends_of, same_side}
+use Rattle.sx_mean.specs.Application.{AppTree, PartTree}
+use Rattle.sx_mean.specs.Validity.{is_valid}
+use Rattle.sx_mean.specs.Ends.{ends_of, same_side}
+use Rattle.sx_mean.specs.EndLaws.{IsBefore}
 use Rattle.sx_mean.specs.Places.{initial_cells}
 use Rattle.sx_mean.proofs.Ends.{ends_hold}
 use Rattle.sx_mean.proofs.ValidApplications.{valid_applications}

@@ -3,8 +3,8 @@
 //! In the honest run of a list of readings every module is loaded, attested and given its keys;
 //! then, reading by reading, each packet of an event is delivered, the oldest first, until none
 //! waits. What it shows is a function of the application and the readings (`specs/Course.antt`): no
-//! node, key or packet's bytes are needed to say it. Its items deliver (`specs/Laws.antt`): they
-//! are legal and nothing goes wrong in them, each word that is sent is taken once and in order, and
+//! node, key or packet's bytes are needed to say it. Its items deliver (`specs/Delivers.antt`):
+//! they are legal and nothing goes wrong in them, each word that is sent is taken once and in order, and
 //! the outputs are those of the plain fold (`specs/Plain.antt`), which knows modules and
 //! connections alone. `specs/Told.antt` says what is read off items.
 //!

@@ -7,14 +7,11 @@ use Rattle.sx_rules.specs.declared.section.Layout.{Layout}
 use Rattle.sx_rules.specs.declared.section.Section.{Section}
 use Rattle.sx_rules.specs.Access.{Lives}
 use Rattle.sx_tag.specs.Mac.{Mac}
-use Rattle.sx_tag.specs.Keys.{identity}
-use Rattle.sx_image.specs.declared.image.Image.{Image as Built}
 use Rattle.sx_machine.specs.Memory.{bytes_from}
 use Rattle.sx_machine.specs.Node.{IsNode}
 use Rattle.sx_machine.specs.State.{State}
 use Rattle.sx_machine.specs.Step.{pc_of}
-use Rattle.sx_invoke.specs.Protocol.{entry_register, input_register, output_register}
-use Rattle.sx_invoke.specs.Protocol.{back_register}
+use Rattle.sx_invoke.specs.Protocol.{entry_register, input_register, output_register, back_register}
 use Rattle.sx_invoke.specs.Setup.{Setup, Call}
 use Rattle.sx_invoke.specs.ModuleState.{state_of}
 use Rattle.sx_invoke.specs.Devices.{HasDevices}
@@ -25,15 +22,6 @@ pub record Image : Type 0 where
   pub text : List ℕ
   pub layout : Layout
   pub provider : ℕ
-
--- an image in a program's memory, as plain data
-abbrev pub plain : Built → Image
-plain i = record { text = i.text.items; layout = i.layout; provider = i.provider }
-
--- its identity: the text, and then the layout
-abbrev pub identity_of : Image → List ℕ
-identity_of i =
-    identity i.text i.layout.pub_from i.layout.pub_to i.layout.priv_from i.layout.priv_to
 
 -- the private bytes of a layout, each at its offset
 abbrev pub private_bytes : Layout → List ℕ → List ℕ

@@ -1,3 +1,4 @@
 pub mod Watched
 pub mod Image
+pub mod InMemory
 pub mod Realizes

@@ -1,7 +1,7 @@
 //! The image of a module, and the bytes of its identity.
 
 ghost use Rattle.std.specs.Prelude.{◌≡◌, ◌++◌, IfOk, OnOk};
-ghost use Rattle.sx_image.specs.Image.{identity_of, plain};
+ghost use Rattle.sx_image.specs.InMemory.{identity_of, plain};
 
 use std::alloc::{AllocError as OutOfMemory, Global};
 use sx_rules::Layout;

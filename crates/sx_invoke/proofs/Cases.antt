@@ -9,7 +9,7 @@ use Rattle.sx_mean.specs.declared.events.End.{End}
 use Rattle.sx_rules.specs.declared.section.Section.{Section}
 use Rattle.sx_rules.specs.Access.{may}
 use Rattle.sx_bus.specs.declared.devices.Kind.TheVariants as kind
-use Rattle.sx_tag.specs.Mac.{weak}
+use Rattle.sx_tag.specs.Weak.{weak}
 use Rattle.sx_tag.specs.Wrap.{wrapped, crypt, wrap_tag, unwrapped}
 use Rattle.sx_invoke.specs.Setup.{Setup, Call}
 use Rattle.sx_invoke.specs.ModuleState.{initial_state, state_of, end_state}

@@ -15,7 +15,8 @@ use Rattle.sx_machine.specs.Memory.{word}
 use Rattle.sx_invoke.specs.Setup.{Setup, Call}
 use Rattle.sx_tag.specs.Mac.{Mac, IsTag}
 use Rattle.sx_invoke.specs.Marks as mark
-use Rattle.sx_invoke.specs.Marks.{Mark, piece_size, made_bytes}
+use Rattle.sx_invoke.specs.Marks.{Mark}
+use Rattle.sx_invoke.specs.Pieces.{piece_size, made_bytes, tag_size}
 use Rattle.sx_invoke.specs.Laws.{PiecesMarked}
 use Rattle.sx_invoke.specs.ModuleState.{EndState, end_of}
 use Rattle.sx_invoke.specs.Windows.{write_bytes, two}
@@ -24,7 +25,7 @@ use Rattle.sx_invoke.specs.Acts.{with_piece, copied_to, with_packet, event_packe
 use Rattle.sx_mean.specs.Ends.{is_sending}
 use Rattle.sx_invoke.specs.Invocation.{invoke}
 use Rattle.sx_invoke.specs.Entries.{attest, sample_read, number_taken, header_in}
-use Rattle.sx_invoke.specs.Protocol.{tag_size, event_size, key_size, value_size, last_number}
+use Rattle.sx_invoke.specs.Protocol.{event_size, key_size, value_size, last_number}
 use Rattle.sx_invoke.proofs.ByEntry.{by_entry}
 
 -- a tag has 16 bytes

@@ -2,6 +2,7 @@ pub mod Protocol
 pub mod Setup
 pub mod ModuleState
 pub mod Marks
+pub mod Pieces
 pub mod Windows
 pub mod Devices
 pub mod Progress

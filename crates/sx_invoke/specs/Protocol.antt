@@ -103,10 +103,6 @@ event_size = 24
 abbrev pub header_size : ℕ
 header_size = 6
 
--- a tag, which is the answer to an ask
-abbrev pub tag_size : ℕ
-tag_size = 16
-
 -- a connection's key
 abbrev pub key_size : ℕ
 key_size = 16

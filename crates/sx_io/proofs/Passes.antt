@@ -3,10 +3,11 @@ use Rattle.std.proofs.Common.{ℕ, zero, suc, ◌+◌, ◌-◌, ◌<◌, ◌≤�
 use Rattle.std.specs.Prelude.{IsTrue, slice_index}
 use Rattle.std.proofs.lemmas.List.{append-nil, take-append-le, length-take-le}
 use Rattle.std.proofs.Math.Seq.{take-length}
-use Rattle.sx_io.specs.Reading.{carriage_return, longest, newline, IsPlain, IsTooLong, without_return}
+use Rattle.sx_io.specs.Reading.{carriage_return, longest, newline, IsPlain, without_return}
+use Rattle.sx_io.specs.Next.{IsTooLong, Ahead, Took, TakesLine}
 use Rattle.sx_io.specs.Parts.{Moves, TurnAnswers}
-use Rattle.sx_io.specs.Passing.{FrontOf, Fronts, FrontsTurn, IsBegun, PassedHeld, PassedPart, PassedTurn, Passes, TakesPassed, as_part, as_read, as_turn, longest_passed, returns}
-use Rattle.sx_io.specs.Next.{Ahead, Took, TakesLine}
+use Rattle.sx_io.specs.Passing.{FrontOf, Fronts, FrontsTurn, IsBegun, PassedHeld, PassedPart, PassedTurn, Passes, TakesPassed, as_part, as_read, as_turn, returns}
+use Rattle.sx_io.specs.Passed.{longest_passed}
 use Rattle.sx_io.specs.Streams.{SourceAt}
 use Rattle.sx_io.specs.declared.lines.LineRead.{LineRead}
 use Rattle.sx_io.specs.declared.lines.LineRead.TheVariants as read

@@ -19,10 +19,7 @@ use Rattle.sx_io.specs.declared.lines.PassTurn.{PassTurn}
 use Rattle.sx_io.specs.declared.lines.PassTurn.TheVariants as passed_turn
 use Rattle.sx_io.specs.declared.lines.Turn.{Turn}
 use Rattle.sx_io.specs.declared.lines.Turn.TheVariants as turn
-
--- the most bytes that a line has that is passed
-abbrev pub longest_passed : ℕ
-longest_passed = 131072
+use Rattle.sx_io.specs.Passed.{longest_passed}
 
 -- the last byte is a carriage return
 abbrev pub returns : List ℕ → Bool

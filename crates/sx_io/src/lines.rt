@@ -8,7 +8,7 @@ ghost use Rattle.sx_io.specs.Next.{Next, TakesLine};
 ghost use Rattle.sx_io.specs.Parts.{Moves, TurnAnswers, TurnFaults, AskedInTurn};
 ghost use Rattle.sx_io.specs.Passing.{FrontOf, IsBegun, IsWithin, PassedHeld, PassedPart};
 ghost use Rattle.sx_io.specs.Passing.{PassedTurn, Passes, TakesPassed, as_read, as_turn};
-ghost use Rattle.sx_io.specs.Passing.{longest_passed};
+ghost use Rattle.sx_io.specs.Passed.{longest_passed};
 
 use crate::line_parts::{Part, PassPart, Passed, move_chunk, pass_chunk};
 use crate::outside::Source;

@@ -6,7 +6,7 @@ use Rattle.sx_mean.specs.Application.{declared_kind}
 use Rattle.sx_mean.specs.React.{value_of}
 use Rattle.sx_rules.specs.declared.access.Violation.{Violation}
 use Rattle.sx_machine.specs.Memory.{word}
-use Rattle.sx_mean.specs.Offsets.{event_at}
+use Rattle.sx_mean.specs.Working.{event_at}
 use Rattle.sx_invoke.specs.Protocol.{entry_register, input_register, output_register}
 use Rattle.sx_invoke.specs.Protocol.{back_register}
 use Rattle.sx_invoke.specs.ModuleState.{state_of}

@@ -16,11 +16,13 @@ use Rattle.sx_tag.specs.Wrap.{Wrapped, wrapped, unwrapped}
 use Rattle.sx_machine.specs.Memory.{even, word, put_word, bytes_from, put_bytes}
 use Rattle.sx_reach.specs.Reach.{Stepped, Goes, Stops, Comes}
 use Rattle.sx_mean.specs.Offsets as offsets
+use Rattle.sx_mean.specs.Working as working
 use Rattle.sx_invoke.specs.Protocol.{input_register, output_register, back_register}
-use Rattle.sx_invoke.specs.Protocol.{entry_register, event_size, key_size, tag_size, last_number}
+use Rattle.sx_invoke.specs.Protocol.{entry_register, event_size, key_size, last_number}
+use Rattle.sx_invoke.specs.Pieces.{tag_size, made_bytes}
 use Rattle.sx_invoke.specs.ModuleState.{EndState, end_state}
 use Rattle.sx_invoke.specs.Marks as mark
-use Rattle.sx_invoke.specs.Marks.{Mark, made_bytes}
+use Rattle.sx_invoke.specs.Marks.{Mark}
 use Rattle.sx_invoke.specs.Setup.{Setup}
 use Rattle.sx_invoke.specs.Windows.{in_window_size, out_window_size, is_bad_window, two, read_bytes}
 use Rattle.sx_invoke.specs.Windows.{write_bytes}
@@ -56,7 +58,7 @@ when b go = if b then go else stuck
 
 -- a word is pushed, where the stack has room
 abbrev pub pushed : Conf → ℕ → OperationResult
-pushed c v = when (nat_lt (length c.stack) offsets.stack_words) (Goes (next c (v ∷ c.stack)))
+pushed c v = when (nat_lt (length c.stack) working.stack_words) (Goes (next c (v ∷ c.stack)))
 
 -- the upper word is the right operand
 abbrev pub operated : IrOp → Conf → OperationResult
@@ -90,11 +92,11 @@ with_element priv o n i v = if nat_lt i n then put_word priv (o + 2 * i) v else 
 
 -- the caller's register
 abbrev pub saved : Conf → ℕ → ℕ
-saved c r = word c.priv (offsets.saved_at r)
+saved c r = word c.priv (working.saved_at r)
 
 -- the count of pieces
 abbrev pub pieces : Conf → ℕ
-pieces c = word c.priv offsets.pieces_at
+pieces c = word c.priv working.pieces_at
 
 -- the in-window is one that a caller may give
 abbrev pub has_in_window : Setup → Conf → Bool
@@ -112,7 +114,7 @@ copied_out (Err v) c after = Stops (Violates v c.marks)
 -- the packet of the k-th end: its wrap's mark comes before the copy, and then number and count rise
 abbrev pub packed : Conf → ℕ → EndState → List ℕ → Conf
 packed c k e mem = record (next c c.stack) {
-  priv = put_word (put_word c.priv (offsets.end_number_at k) (e.number + 1)) offsets.pieces_at
+  priv = put_word (put_word c.priv (offsets.end_number_at k) (e.number + 1)) working.pieces_at
       (pieces c + 1);
   mem = mem;
 }
@@ -238,8 +240,8 @@ slot_keyed priv k field key =
 abbrev pub set_end : Conf → ℕ → OperationResult
 set_end c k = Goes (record (next c c.stack) {
   priv =
-      slot_keyed c.priv k (word c.priv (offsets.packet_at + 2))
-      (bytes_from c.priv offsets.plain_at key_size);
+      slot_keyed c.priv k (word c.priv (working.packet_at + 2))
+      (bytes_from c.priv working.plain_at key_size);
 })
 
 -- a handler's part ends: the run goes on where the part was begun from
@@ -286,7 +288,7 @@ do_op s handle (ir.Seal k h hn b bn) c = seal s c k h hn b bn
 do_op s handle (ir.Open k h hn b bn) c = unseal s c k h hn b bn
 do_op s handle (ir.SetEnd k) c = set_end c k
 do_op s handle ir.Sense c = sense c (own_window s c.devices)
-do_op s handle (ir.Handler h) c = handle h (record c { priv = put_word c.priv offsets.pieces_at 0 })
+do_op s handle (ir.Handler h) c = handle h (record c { priv = put_word c.priv working.pieces_at 0 })
 do_op s handle ir.Leave c = stuck
 
 -- the operation at the place, where there is one

@@ -3,7 +3,8 @@ use Rattle.std.specs.Prelude.{ℕ, ◌+◌, ◌-◌, ◌*◌, ◌%◌, ◌==◌,
 use Rattle.std.specs.Prelude.{List, length}
 use Rattle.std.specs.List.{list_all}
 use Rattle.sx_rules.specs.declared.section.Layout.{Layout}
-use Rattle.sx_mean.specs.Offsets.{scratch_at, stack_to, end_at}
+use Rattle.sx_mean.specs.Offsets.{end_at}
+use Rattle.sx_mean.specs.Working.{scratch_at, stack_to}
 use Rattle.sx_ir.specs.declared.ir.Ir.{Ir}
 use Rattle.sx_ir.specs.declared.ir.Ir.TheVariants as ir
 use Rattle.sx_ir.specs.Meaning.{is_saved}

@@ -1,8 +1,8 @@
 -- The computing reading is the spelling read back: its laws, and the clauses of the calls.
 use Rattle.std.proofs.Common.{◌≡◌, ℕ, ◌<◌, [], ◌∷◌, length, refl, ap, sym, ◌∙◌, Option, Some, None, IfSome, IsNone, lit<, ◌↔◌}
 use Rattle.sx_isa.specs.declared.instruction.Instr.{Instr}
-use Rattle.sx_isa.specs.Spelling.{spelling, first_word}
-use Rattle.sx_isa.specs.Legal.{IsInstruction, IsIllegal, BeginsWith}
+use Rattle.sx_isa.specs.Spelling.{spelling}
+use Rattle.sx_isa.specs.Instructions.{first_word, IsInstruction, IsIllegal, BeginsWith}
 use Rattle.sx_isa.specs.Reading.{instruction_at, length_of}
 use Rattle.sx_isa.proofs.Spelled.{reads}
 use Rattle.sx_isa.proofs.Sound.{first_begins, illegal, none, sound}

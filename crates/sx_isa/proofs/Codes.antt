@@ -7,7 +7,7 @@ use Rattle.sx_isa.specs.declared.instruction.Op2.TheVariants.{Mov, Add, Addc, Su
 use Rattle.sx_isa.specs.declared.instruction.Op1.{Op1}
 use Rattle.sx_isa.specs.declared.instruction.Op1.TheVariants.{Rrc, Swpb, Rra, Sxt, Push, Call}
 use Rattle.sx_isa.specs.Spelling.{op2_code, op1_code, offset_field}
-use Rattle.sx_isa.specs.Legal.{IsOffset}
+use Rattle.sx_isa.specs.Instructions.{IsOffset}
 use Rattle.sx_isa.specs.Reading.{op2_at, op1_at, offset_at}
 use Rattle.sx_lists.specs.Truth.{truth}
 

@@ -6,8 +6,9 @@ use Rattle.sx_isa.specs.declared.instruction.Op1.{Op1}
 use Rattle.sx_isa.specs.declared.instruction.Op1.TheVariants.{Rrc, Swpb, Rra, Sxt, Push, Call}
 use Rattle.sx_isa.specs.declared.instruction.Instr.{Instr}
 use Rattle.sx_isa.specs.declared.instruction.Instr.TheVariants.{Two, One, Reti, Jump, Sancus}
-use Rattle.sx_isa.specs.Spelling.{op1_code, op2_code, two_word, one_word, first_word, place_of}
-use Rattle.sx_isa.specs.Legal.{IsIllegal, IsInstruction, IsSource, is_allowed, is_value}
+use Rattle.sx_isa.specs.Spelling.{op1_code, op2_code, two_word, one_word, place_of}
+use Rattle.sx_isa.specs.Instructions.{first_word, IsIllegal, IsInstruction, IsSource}
+use Rattle.sx_isa.specs.Legal.{is_allowed, is_value}
 use Rattle.sx_isa.proofs.Codes.{op2_back, op1_back, bit_back, offset_back}
 use Rattle.sx_isa.proofs.Operands.{source_back, destination_back}
 use Rattle.sx_lists.specs.Truth.{truth}

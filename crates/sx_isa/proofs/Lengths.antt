@@ -6,8 +6,9 @@ use Rattle.sx_isa.specs.declared.instruction.Op2.{Op2}
 use Rattle.sx_isa.specs.declared.instruction.Op1.{Op1}
 use Rattle.sx_isa.specs.declared.instruction.Instr.{Instr}
 use Rattle.sx_isa.specs.declared.instruction.Instr.TheVariants.{Two, One, Reti, Jump, Sancus}
-use Rattle.sx_isa.specs.Spelling.{spelling, first_word}
-use Rattle.sx_isa.specs.Legal.{has_byte_form, writes_back, is_allowed, is_value, IsInstruction}
+use Rattle.sx_isa.specs.Spelling.{spelling}
+use Rattle.sx_isa.specs.Instructions.{first_word, IsInstruction}
+use Rattle.sx_isa.specs.Legal.{has_byte_form, writes_back, is_allowed, is_value}
 use Rattle.sx_isa.specs.Reading.{takes_word, two_of, one_of, two_at, one_at, instruction_at, length_of}
 use Rattle.sx_isa.proofs.Operands.{destination_some, source_value}
 use Rattle.sx_isa.proofs.Formats.{by_format}

@@ -5,8 +5,9 @@ use Rattle.std.proofs.lemmas.Bool.{ne_eqb}
 use Rattle.std.proofs.lemmas.Bool.Decides.{nat_tests}
 use Rattle.sx_isa.specs.declared.instruction.Operand.{Operand}
 use Rattle.sx_isa.specs.declared.instruction.Operand.TheVariants.{Reg, Indexed, Indirect, Increment, Symbolic, Absolute, Immediate, Const}
-use Rattle.sx_isa.specs.Spelling.{place_of, at}
-use Rattle.sx_isa.specs.Legal.{IsSource, IsDestination, IsGeneral, IsValuePlace, is_constant, is_value}
+use Rattle.sx_isa.specs.Spelling.{place_of, at, is_constant}
+use Rattle.sx_isa.specs.Legal.{is_value}
+use Rattle.sx_isa.specs.Instructions.{IsSource, IsDestination, IsGeneral, IsValuePlace}
 use Rattle.sx_isa.specs.Reading.{source_at, destination_at, takes_word}
 use Rattle.sx_lists.specs.Truth.{truth}
 

@@ -9,8 +9,9 @@ use Rattle.sx_isa.specs.declared.instruction.Op2.{Op2}
 use Rattle.sx_isa.specs.declared.instruction.Op1.{Op1}
 use Rattle.sx_isa.specs.declared.instruction.Instr.{Instr}
 use Rattle.sx_isa.specs.declared.instruction.Instr.TheVariants.{Two, One, Reti, Jump, Sancus}
-use Rattle.sx_isa.specs.Spelling.{Place, place_of, op2_code, op1_code, two_word, one_word, first_word}
-use Rattle.sx_isa.specs.Legal.{IsSource, IsDestination, is_allowed, IsIllegal, BeginsWith}
+use Rattle.sx_isa.specs.Spelling.{Place, place_of, op2_code, op1_code, two_word, one_word}
+use Rattle.sx_isa.specs.Instructions.{first_word, IsSource, IsDestination, IsIllegal, BeginsWith}
+use Rattle.sx_isa.specs.Legal.{is_allowed}
 use Rattle.sx_isa.specs.Reading.{takes_word, offset_at, two_of, one_of, two_at, one_at, instruction_at}
 use Rattle.sx_isa.proofs.Codes.{bit_at, offset_field-at, offset_at-valid, op2_code-at, op1_code-at, op2_none, op1_none}
 use Rattle.sx_isa.proofs.Operands.{source_stands, destination_stands, destination_none, value_place}

@@ -6,8 +6,9 @@ use Rattle.sx_isa.specs.declared.instruction.Op2.{Op2}
 use Rattle.sx_isa.specs.declared.instruction.Op1.{Op1}
 use Rattle.sx_isa.specs.declared.instruction.Instr.{Instr}
 use Rattle.sx_isa.specs.declared.instruction.Instr.TheVariants.{Two, One, Reti, Jump, Sancus}
-use Rattle.sx_isa.specs.Spelling.{place_of, op2_code, op1_code, two_word, one_word, spelling, first_word}
-use Rattle.sx_isa.specs.Legal.{IsSource, IsDestination, is_allowed, IsInstruction, IsOffset, BeginsWith}
+use Rattle.sx_isa.specs.Spelling.{place_of, op2_code, op1_code, two_word, one_word, spelling}
+use Rattle.sx_isa.specs.Instructions.{first_word, IsSource, IsDestination, IsInstruction, IsOffset, BeginsWith}
+use Rattle.sx_isa.specs.Legal.{is_allowed}
 use Rattle.sx_isa.specs.Reading.{source_at, destination_at, takes_word, op2_at, op1_at, offset_at, two_of, one_of, two_at, one_at, instruction_at}
 use Rattle.sx_isa.proofs.Codes.{op2_back, op1_back, bit_back, offset_back}
 use Rattle.sx_isa.proofs.Operands.{source_back, destination_back, words_few}

@@ -2,7 +2,7 @@
 use Rattle.std.proofs.Common.{◌≡◌, ℕ, suc, ◌+◌, ◌*◌, ◌%◌, ◌<◌, ◌≤◌, List, [], ◌∷◌, ◌++◌, length, take, refl, ap, sym, ◌∙◌, arith, length-append, Some, ◌↔◌}
 use Rattle.sx_isa.specs.declared.instruction.Instr.{Instr}
 use Rattle.sx_isa.specs.Spelling.{spelling}
-use Rattle.sx_isa.specs.Legal.{BeginsWith}
+use Rattle.sx_isa.specs.Instructions.{BeginsWith}
 use Rattle.sx_isa.specs.Reading.{instruction_at}
 use Rattle.sx_isa.specs.Memory.{word}
 use Rattle.sx_isa.specs.Standing.{word_at, WordsStand, InstructionStands, AllStand, AreInstructions, words_of}

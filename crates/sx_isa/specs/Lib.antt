@@ -1,5 +1,6 @@
 pub mod Spelling
 pub mod Legal
+pub mod Instructions
 pub mod Reading
 pub mod Extending
 pub mod Memory

@@ -1,7 +1,7 @@
 -- How instructions are written as words (TI, MSP430x2xx Family User's Guide, "CPU"; the Sancus
 -- words are this project's).
-use Rattle.std.specs.Prelude.{ℕ, ◌+◌, ◌*◌, ◌-◌, ◌^◌, ◌==◌, Bool, ℤ, pos, negsuc, List, [], ◌∷◌}
-use Rattle.std.specs.Prelude.{◌++◌, if◌then◌else◌}
+use Rattle.std.specs.Prelude.{ℕ, ◌+◌, ◌*◌, ◌-◌, ◌^◌, ◌==◌, ℤ, pos, negsuc, List, [], ◌∷◌, ◌++◌}
+use Rattle.std.specs.Prelude.{if◌then◌else◌, Bool, ◌||◌}
 use Rattle.sx_isa.specs.declared.instruction.Operand.{Operand}
 use Rattle.sx_isa.specs.declared.instruction.Operand.TheVariants.{Reg, Indexed, Indirect, Increment}
 use Rattle.sx_isa.specs.declared.instruction.Operand.TheVariants.{Symbolic, Absolute, Immediate}
@@ -14,6 +14,10 @@ use Rattle.sx_isa.specs.declared.instruction.Op1.TheVariants.{Rrc, Swpb, Rra, Sx
 use Rattle.sx_isa.specs.declared.instruction.Instr.{Instr}
 use Rattle.sx_isa.specs.declared.instruction.Instr.TheVariants.{Two, One, Reti, Jump, Sancus}
 use Rattle.sx_lists.specs.Truth.{truth}
+
+-- a number that a constant generator gives
+abbrev pub is_constant : ℕ → Bool
+is_constant c = (c == 0) || (c == 1) || (c == 2) || (c == 4) || (c == 8) || (c == 65535)
 
 -- where an operand stands: a register's number, an addressing mode, and its extension words
 pub record Place : Type 0 where
@@ -105,12 +109,3 @@ spelling (One op byte arg) =
 spelling Reti = 0x1300 ∷ []
 spelling (Jump cond offset) = packed 0b001 ((3, cond) ∷ (10, offset_field offset) ∷ []) ∷ []
 spelling (Sancus code) = (0x1380 + code) ∷ []
-
--- the first of some words, or 0
-abbrev pub head_or_zero : List ℕ → ℕ
-head_or_zero [] = 0
-head_or_zero (x ∷ xs) = x
-
--- the first word of an instruction
-abbrev pub first_word : Instr → ℕ
-first_word i = head_or_zero (spelling i)

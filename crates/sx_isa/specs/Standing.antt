@@ -1,7 +1,7 @@
 -- Instructions that stand in memory, a list of 65,536 bytes. Addresses are modulo 65,536.
 use Rattle.std.specs.Prelude.{◌≡◌, ℕ, ◌+◌, ◌*◌, ◌%◌, List, [], ◌∷◌, ◌++◌, length}
 use Rattle.sx_isa.specs.declared.instruction.Instr.{Instr}
-use Rattle.sx_isa.specs.Legal.{IsInstruction}
+use Rattle.sx_isa.specs.Instructions.{IsInstruction}
 use Rattle.sx_isa.specs.Spelling.{spelling}
 use Rattle.sx_isa.specs.Memory.{word}
 

@@ -2,10 +2,11 @@
 //! that does nothing: its contract is the law.
 
 ghost use Rattle.std.specs.Prelude.{◌≡◌, ℕ, ◌+◌, ◌*◌, ◌%◌, ◌<◌, List, ◌∷◌, [], ◌++◌, ◌↔◌, length};
-ghost use Rattle.sx_isa.specs.Legal.{IsWord, IsInstruction, IsIllegal, BeginsWith};
+ghost use Rattle.sx_isa.specs.Instructions.{IsWord, IsInstruction, IsIllegal, BeginsWith};
 ghost use Rattle.sx_isa.specs.Reading.{instruction_at, length_of};
 ghost use Rattle.sx_isa.specs.Extending.{extended};
-ghost use Rattle.sx_isa.specs.Spelling.{spelling, first_word};
+ghost use Rattle.sx_isa.specs.Spelling.{spelling};
+ghost use Rattle.sx_isa.specs.Instructions.{first_word};
 ghost use Rattle.sx_isa.specs.Standing.{word_at, WordsStand, InstructionStands, AllStand};
 ghost use Rattle.sx_isa.specs.Standing.{AreInstructions, words_of};
 ghost use Rattle.sx_isa.specs.declared.instruction.Instr.{Instr};

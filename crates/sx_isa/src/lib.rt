@@ -5,8 +5,9 @@
 //! `encode` gives the words of an instruction and `decode` reads them back; `valid` and `length`
 //! are the tests to make before them. `with_word` and `with_words` put extension words into operands
 //! that were decoded before they were available. None of them takes memory. What must be believed stands in
-//! specs/: Spelling.antt (the words of an instruction) and Legal.antt (which instructions there
-//! are, and which first words none has). Reading.antt computes the instruction from the fields of
+//! specs/: Spelling.antt (the words of an instruction), Legal.antt (what is allowed of an operation
+//! on one operand) and Instructions.antt (which instructions there are, and which first words none
+//! has). Reading.antt computes the instruction from the fields of
 //! its first word, for proofs on given words; `laws` shows that it agrees.
 #![tactic(auto)]
 

@@ -1,8 +1,8 @@
 //! From instruction words to instructions.
 
 ghost use Rattle.std.specs.Prelude.{◌≡◌, ℕ, ◌<◌, ◌≤◌, ◌∷◌, [], ◌↔◌, IfSome, IsNone, length};
-ghost use Rattle.sx_isa.specs.Legal.{BeginsWith, IsInstruction, IsIllegal};
-ghost use Rattle.sx_isa.specs.Spelling.{spelling, first_word};
+ghost use Rattle.sx_isa.specs.Instructions.{BeginsWith, IsInstruction, IsIllegal, first_word};
+ghost use Rattle.sx_isa.specs.Spelling.{spelling};
 ghost use Rattle.sx_isa.specs.declared.instruction.Instr.{Instr};
 ghost use Rattle.sx_isa.specs.Reading.{two_at, one_at, instruction_at, length_of};
 

@@ -2,7 +2,7 @@
 
 ghost use Rattle.std.specs.Prelude.{◌≡◌, ◌+◌, ◌*◌, ◌<◌, ◌≤◌, ◌∷◌, [], ◌++◌, IsTrue, ◌↔◌, All};
 ghost use Rattle.std.specs.Prelude.{option_to_list, take, drop, length, slice_index};
-ghost use Rattle.sx_isa.specs.Legal.{IsSource, IsDestination, IsInstruction, IsOffset, BeginsWith};
+ghost use Rattle.sx_isa.specs.Instructions.{IsSource, IsDestination, IsInstruction, IsOffset, BeginsWith};
 ghost use Rattle.sx_isa.specs.Reading.{instruction_at};
 ghost use Rattle.sx_isa.specs.Spelling.{two_word, one_word, packed, place_of, at, spelling};
 ghost use Rattle.sx_isa.specs.Spelling.{op2_code, op1_code, offset_field};

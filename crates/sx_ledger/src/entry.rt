@@ -1,7 +1,7 @@
 //! Entries of the ledger: a header and a body, with who made them and for whom.
 
 ghost use Rattle.std.specs.Prelude.{◌≡◌, ◌≤◌, length};
-ghost use Rattle.sx_ledger.specs.Made.{entry_of, made, padded};
+ghost use Rattle.sx_ledger.specs.Entries.{entry_of, made, padded};
 
 /// Who made a tag.
 #[derive(Clone, Copy, PartialEq, Eq, PartialOrd, Ord, Debug)]

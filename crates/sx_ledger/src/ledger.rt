@@ -2,7 +2,7 @@
 
 ghost use Rattle.std.specs.Prelude.{◌≡◌, ◌↔◌, List, [], IfOk, IsTrue, OnErr, OnOk};
 ghost use Rattle.std.specs.List.{Contains};
-ghost use Rattle.sx_ledger.specs.Made.{AddsEntry};
+ghost use Rattle.sx_ledger.specs.Entries.{AddsEntry};
 
 use crate::entry::Entry;
 use std::alloc::{AllocError, AllocError as OutOfMemory, Global};

@@ -4,7 +4,8 @@ use Rattle.std.specs.Cmp.Lexicographic.{pointwise}
 use Rattle.std.specs.List.{list_all}
 use Rattle.std.proofs.lemmas.Bool.Decides.{nat_tests}
 use Rattle.sx_lex.specs.declared.tokens.Kind.{Kind}
-use Rattle.sx_lex.specs.Words.{found_in, signs, is_lower, is_digit, is_decimal_digit, is_hexadecimal, first_is}
+use Rattle.sx_lex.specs.Words.{found_in, signs, is_lower, is_digit, is_decimal_digit, is_hexadecimal}
+use Rattle.sx_lex.specs.Progress.{first_is}
 
 pub and_left : (x y : Bool) → (x && y) ≡ true → x ≡ true
 and_left true y e = refl

@@ -6,7 +6,8 @@ use Rattle.sx_lex.specs.declared.tokens.Kind.TheVariants.{Bad}
 use Rattle.sx_lex.specs.declared.tokens.Place.{Place}
 use Rattle.sx_lex.specs.declared.tokens.Placed.{Placed}
 use Rattle.sx_lex.specs.Words.{IsLongest, NoToken, kind_of, line_length}
-use Rattle.sx_lex.specs.Lexed.{along, below, is_space, begins_comment, Lexed, at_end, space, newline, comment, token, bad, HasReading}
+use Rattle.sx_lex.specs.Lexed.{along, below, is_space, begins_comment, Lexed, at_end, space, newline, comment, token, bad}
+use Rattle.sx_lex.specs.Laws.{HasReading}
 
 -- the longest token at a text's prefix
 record Longest (text : List ℕ) : Type 0 where

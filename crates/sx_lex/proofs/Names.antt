@@ -5,7 +5,8 @@ use Rattle.std.proofs.lemmas.List.{length-take-le}
 use Rattle.std.proofs.lemmas.Bool.Decides.{nat_tests}
 use Rattle.sx_lex.specs.declared.tokens.Kind.{Kind}
 use Rattle.sx_lex.specs.declared.tokens.Kind.TheVariants.{Name}
-use Rattle.sx_lex.specs.Words.{is_name_byte, is_lower, name_front, kind_of, or_else, found_in, keywords, IsLongest}
+use Rattle.sx_lex.specs.Words.{is_name_byte, is_lower, kind_of, or_else, found_in, keywords, IsLongest}
+use Rattle.sx_lex.specs.Progress.{name_front}
 use Rattle.sx_lex.proofs.Found.{false_and, lower_no_sign, lower_no_digit, no_prefix}
 
 no_longer_name : (k : ℕ) (bs : List ℕ) (m : ℕ) → name_front k bs < m → m ≤ length bs → (list_all is_name_byte (take m bs) && nat_le m k) ≡ false

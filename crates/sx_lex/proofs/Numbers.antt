@@ -5,7 +5,8 @@ use Rattle.std.proofs.Math.Nat.{le-mul_of_pos_right}
 use Rattle.std.proofs.lemmas.Nat.{mul-le}
 use Rattle.std.proofs.lemmas.Bool.Decides.{nat_tests}
 use Rattle.sx_lex.specs.declared.tokens.Kind.TheVariants.{Number}
-use Rattle.sx_lex.specs.Words.{is_digit, digit_value, value, number_front, is_number, is_hexadecimal, first_is, kind_of, Counted, NoHexadecimal, IsLongest}
+use Rattle.sx_lex.specs.Words.{is_digit, digit_value, value, is_number, is_hexadecimal, kind_of, IsLongest}
+use Rattle.sx_lex.specs.Progress.{number_front, first_is, Counted, NoHexadecimal}
 use Rattle.sx_lex.proofs.Found.{false_and, digit_no_sign, digit_no_lower, no_prefix}
 
 pub product_fits : (v r : ℕ) → v ≤ 65535 → r ≤ 16 → v * r ≤ 1048560

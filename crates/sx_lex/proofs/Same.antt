@@ -5,7 +5,8 @@ use Rattle.sx_lex.specs.declared.tokens.Kind.{Kind}
 use Rattle.sx_lex.specs.declared.tokens.Place.{Place}
 use Rattle.sx_lex.specs.declared.tokens.Placed.{Placed}
 use Rattle.sx_lex.specs.Words.{IsLongest, kind_of}
-use Rattle.sx_lex.specs.Lexed.{along, is_space, begins_comment, Lexed, at_end, space, newline, comment, token, bad, OneReading}
+use Rattle.sx_lex.specs.Lexed.{along, is_space, begins_comment, Lexed, at_end, space, newline, comment, token, bad}
+use Rattle.sx_lex.specs.Laws.{OneReading}
 use Rattle.sx_lex.proofs.Found.{and_left}
 
 line_word : (m : ℕ) (bs : List ℕ) → kind_of (take m (10 ∷ bs)) ≡ None

@@ -3,7 +3,8 @@ use Rattle.std.proofs.Common.{◌≡◌, ℕ, zero, suc, ◌<◌, ◌≤◌, Boo
 use Rattle.std.proofs.lemmas.List.{length-take-le}
 use Rattle.std.proofs.lemmas.Bool.Decides.{nat_tests}
 use Rattle.sx_lex.specs.declared.tokens.Kind.{Kind}
-use Rattle.sx_lex.specs.Words.{is_lower, is_digit, first_is, kind_of, found_in, signs, NoPair, IsLongest, NoToken}
+use Rattle.sx_lex.specs.Words.{is_lower, is_digit, kind_of, found_in, signs, IsLongest, NoToken}
+use Rattle.sx_lex.specs.Progress.{first_is, NoPair}
 use Rattle.sx_lex.proofs.Found.{not_found, long_no_sign, no_prefix}
 
 abbrev ends_in_equals : List ℕ → Bool

@@ -4,8 +4,9 @@ use Rattle.sx_lex.specs.declared.tokens.Kind.{Kind}
 use Rattle.sx_lex.specs.declared.tokens.Kind.TheVariants.{Bad}
 use Rattle.sx_lex.specs.declared.tokens.Place.{Place}
 use Rattle.sx_lex.specs.declared.tokens.Placed.{Placed}
-use Rattle.sx_lex.specs.Words.{IsLongest, NoToken, line_length, Passed}
-use Rattle.sx_lex.specs.Lexed.{along, below, start, is_space, begins_comment, Lexed, at_end, space, newline, comment, token, bad, LexedSoFar}
+use Rattle.sx_lex.specs.Words.{IsLongest, NoToken, line_length}
+use Rattle.sx_lex.specs.Progress.{Passed, LexedSoFar}
+use Rattle.sx_lex.specs.Lexed.{along, below, start, is_space, begins_comment, Lexed, at_end, space, newline, comment, token, bad}
 
 none_left : (r : List ℕ) → length r ≡ 0 → r ≡ []
 none_left [] h = refl

@@ -1,6 +1,6 @@
 -- The tokens of a text and their places.
-use Rattle.std.specs.Prelude.{◌≡◌, ℕ, ◌+◌, min, Bool, true, false, ◌||◌, ◌&&◌, List, [], ◌∷◌, ◌++◌}
-use Rattle.std.specs.Prelude.{drop, ◌==◌}
+use Rattle.std.specs.Prelude.{◌≡◌, ℕ, ◌+◌, min, Bool, true, false, ◌||◌, ◌&&◌, List, [], ◌∷◌, drop}
+use Rattle.std.specs.Prelude.{◌==◌}
 use Rattle.sx_lex.specs.declared.tokens.Kind.{Kind}
 use Rattle.sx_lex.specs.declared.tokens.Kind.TheVariants.{Bad}
 use Rattle.sx_lex.specs.declared.tokens.Place.{Place}
@@ -50,18 +50,3 @@ pub data Lexed : Place → List ℕ → List Placed → Place → Type 0 where
   bad : {at : Place} {b : ℕ} {bs : List ℕ} → is_space b ≡ false → (b == 10) ≡ false
       → begins_comment (b ∷ bs) ≡ false → NoToken (b ∷ bs)
       → Lexed at (b ∷ bs) (record { kind = Bad; place = at } ∷ []) at
-
--- a text has no two readings
-abbrev pub OneReading : Type 0
-OneReading = (at end last : Place) (bs : List ℕ) (ts us : List Placed) → Lexed at bs ts end
-    → Lexed at bs us last → (ts ≡ us) × (end ≡ last)
-
--- each text has a reading
-abbrev pub HasReading : Type 0
-HasReading = (at : Place) (bs : List ℕ) → (ts : List Placed) × (end : Place) × Lexed at bs ts end
-
--- in any way that the rest is read, the whole is these tokens and then the rest's
-pub record LexedSoFar (text : List ℕ) (out : List Placed) (at : Place) (rest : List ℕ) : Type
-    0 where
-  pub begun : (ts : List Placed) → (end : Place) → Lexed at rest ts end
-      → Lexed start text (out ++ ts) end

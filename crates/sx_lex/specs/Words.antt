@@ -1,6 +1,6 @@
 -- What whole words are tokens.
-use Rattle.std.specs.Prelude.{◌≡◌, ℕ, zero, suc, ◌+◌, ◌-◌, ◌*◌, ◌<◌, ◌≤◌, Bool, false, ◌&&◌, ◌||◌}
-use Rattle.std.specs.Prelude.{List, [], ◌∷◌, length, take, drop, Option, Some, None, nat_eq, nat_le}
+use Rattle.std.specs.Prelude.{◌≡◌, ℕ, suc, ◌+◌, ◌-◌, ◌*◌, ◌<◌, ◌≤◌, Bool, false, ◌&&◌, List, []}
+use Rattle.std.specs.Prelude.{◌∷◌, length, take, drop, Option, Some, None, nat_eq, nat_le}
 use Rattle.std.specs.Prelude.{if◌then◌else◌, codes, ◌==◌}
 use Rattle.std.specs.Cmp.Lexicographic.{pointwise}
 use Rattle.std.specs.List.{list_all}
@@ -89,44 +89,7 @@ pub record IsLongest (text : List ℕ) (n : ℕ) (k : Kind) : Type 0 where
 pub record NoToken (text : List ℕ) : Type 0 where
   pub none : (m : ℕ) → m ≤ length text → kind_of (take m text) ≡ None
 
--- the first byte is of this sort
-abbrev pub first_is : (ℕ → Bool) → List ℕ → Bool
-first_is sort [] = false
-first_is sort (b ∷ bs) = sort b
-
--- no prefix is a number in base 16
-pub record NoHexadecimal (text : List ℕ) : Type 0 where
-  pub none : (m : ℕ) → m ≤ length text → is_hexadecimal (take m text) ≡ false
-
--- no sign of two bytes stands at the start
-pub record NoPair (text : List ℕ) : Type 0 where
-  pub none : 2 ≤ length text → found_in signs (take 2 text) ≡ None
-
--- how many bytes at the start are name bytes, at most this many
-abbrev pub name_front : ℕ → List ℕ → ℕ
-name_front zero bs = 0
-name_front (suc k) [] = 0
-name_front (suc k) (b ∷ bs) = if is_name_byte b then suc (name_front k bs) else 0
-
--- how many digits at the start can go on a number
-abbrev pub number_front : ℕ → ℕ → List ℕ → ℕ
-number_front base v [] = 0
-number_front base v (b ∷ bs) = if is_digit base b && nat_le (v * base + digit_value b) 65535 then
-    suc (number_front base (v * base + digit_value b) bs) else 0
-
--- this many digits were read, of this value, and the rest is still to be read
-pub record Counted (text : List ℕ) (base count v : ℕ) (rest : List ℕ) : Type 0 where
-  pub fronts : number_front base 0 text ≡ count + number_front base v rest
-  pub values : value base 0 (take (number_front base 0 text) text)
-      ≡ value base v (take (number_front base v rest) rest)
-  pub inside : count + length rest ≡ length text
-
 -- how many bytes stand before the first newline
 abbrev pub line_length : List ℕ → ℕ
 line_length [] = 0
 line_length (b ∷ bs) = if b == 10 then 0 else suc (line_length bs)
-
--- this many bytes of a line were passed, and the rest is still to be read
-pub record Passed (text : List ℕ) (count : ℕ) (rest : List ℕ) : Type 0 where
-  pub passed : line_length text ≡ count + line_length rest
-  pub inside : count + length rest ≡ length text

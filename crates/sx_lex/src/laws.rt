@@ -1,6 +1,6 @@
 //! What holds of every text. Each law is a function that does nothing: its contract is the law.
 
-ghost use Rattle.sx_lex.specs.Lexed.{HasReading, OneReading};
+ghost use Rattle.sx_lex.specs.Laws.{HasReading, OneReading};
 
 /// A text has at most one list of tokens, with one place for each and one end.
 #[tactic(auto, using(crate::proofs::Same::one_reading))]

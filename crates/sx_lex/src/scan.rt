@@ -2,9 +2,10 @@
 
 ghost use Rattle.std.specs.Prelude.{◌≡◌, ℕ, ◌+◌, ◌*◌, ◌<◌, ◌≤◌, ◌&&◌, true, false, List, length};
 ghost use Rattle.std.specs.Prelude.{take, IfSome, IfNone, nat_le};
-ghost use Rattle.sx_lex.specs.Words.{is_lower, digit_value, is_digit, value, name_front};
-ghost use Rattle.sx_lex.specs.Words.{number_front, found_in, keywords, or_else, first_is};
-ghost use Rattle.sx_lex.specs.Words.{NoHexadecimal, NoPair, IsLongest, NoToken};
+ghost use Rattle.sx_lex.specs.Words.{is_lower, digit_value, is_digit, value};
+ghost use Rattle.sx_lex.specs.Progress.{name_front, number_front, first_is, NoHexadecimal, NoPair};
+ghost use Rattle.sx_lex.specs.Words.{found_in, keywords, or_else};
+ghost use Rattle.sx_lex.specs.Words.{IsLongest, NoToken};
 
 use crate::quoted::{keyword, sign, sign_of_two};
 use crate::tokens::Kind;

@@ -11,7 +11,8 @@ use Rattle.sx_mean.specs.Places.{place, array_length, initial_cells}
 use Rattle.sx_mean.specs.Meaning.{HandlerState, word, element, value, local_place, new_local, define, assign, assign_element, forget}
 use Rattle.sx_machine.specs.Memory as memory
 use Rattle.sx_machine.specs.Memory.{even, put_word}
-use Rattle.sx_mean.specs.Offsets.{event_at, local_at, cell_at}
+use Rattle.sx_mean.specs.Offsets.{cell_at}
+use Rattle.sx_mean.specs.Working.{event_at, local_at}
 use Rattle.sx_invoke.specs.ModuleState.{cells_from}
 use Rattle.sx_mean.specs.Scope.{index_of, names_of}
 use Rattle.sx_mean.specs.Variables.{first_value, IsVariable, FineExpression}

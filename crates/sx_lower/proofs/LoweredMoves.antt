@@ -8,7 +8,7 @@ use Rattle.sx_lang.specs.Tree.{Expression, Constant, Variable, Indexed, Applied,
 use Rattle.sx_check.specs.Names.{defined}
 use Rattle.sx_mean.specs.declared.events.End.{End}
 use Rattle.sx_mean.specs.Places.{output_number}
-use Rattle.sx_mean.specs.Offsets.{event_at, local_at}
+use Rattle.sx_mean.specs.Working.{event_at, local_at}
 use Rattle.sx_mean.specs.Ends.{is_sending}
 use Rattle.sx_ir.specs.declared.ir.Ir.{Ir}
 use Rattle.sx_ir.specs.declared.ir.Ir.TheVariants as ir

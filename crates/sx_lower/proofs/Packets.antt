@@ -13,15 +13,18 @@ use Rattle.sx_rules.specs.declared.access.Violation.{Violation}
 use Rattle.sx_bus.specs.declared.devices.Window.{Window}
 use Rattle.sx_reach.specs.Reach.{Goes}
 use Rattle.sx_machine.specs.Memory.{even, word, put_word}
-use Rattle.sx_invoke.specs.Marks.{Mark, Wrapped, piece_size, made_bytes}
+use Rattle.sx_invoke.specs.Marks.{Mark, Wrapped}
+use Rattle.sx_invoke.specs.Pieces.{piece_size, made_bytes}
 use Rattle.sx_invoke.specs.Setup.{Setup, Call}
-use Rattle.sx_mean.specs.Offsets.{pieces_at, saved_at, end_number_at}
+use Rattle.sx_mean.specs.Offsets.{end_number_at}
+use Rattle.sx_mean.specs.Working.{pieces_at, saved_at}
 use Rattle.sx_invoke.specs.ModuleState.{EndState, end_of, with_end, end_state, end_states}
 use Rattle.sx_invoke.specs.Windows.{is_bad_window, two, write_bytes, out_window_size}
 use Rattle.sx_invoke.specs.Progress.{Progress, Course, Going, Broken, and_on}
 use Rattle.sx_invoke.specs.Acts.{copied_to, with_piece, event_header, event_packet, wrap_counted, with_packet, with_packets}
 use Rattle.sx_invoke.proofs.PiecesMarked.{made_more}
-use Rattle.sx_mean.specs.Ends.{is_sending, senders}
+use Rattle.sx_mean.specs.Ends.{is_sending}
+use Rattle.sx_mean.specs.EndLaws.{senders}
 use Rattle.sx_ir.specs.Conf.{Conf}
 use Rattle.sx_ir.specs.Meaning.{OperationResult, do_op, send_open, copied_out, packed, sealed_event, has_out_window, pieces, saved, when}
 use Rattle.sx_ir.specs.declared.ir.Ir.{Ir}

@@ -25,11 +25,13 @@ use Rattle.sx_reach.specs.Reach.{Goes}
 use Rattle.sx_machine.specs.Memory.{put_word}
 use Rattle.sx_invoke.specs.Marks.{Mark}
 use Rattle.sx_invoke.specs.Setup.{Setup, Call}
-use Rattle.sx_mean.specs.Offsets.{event_at, local_at, cell_at}
+use Rattle.sx_mean.specs.Offsets.{cell_at}
+use Rattle.sx_mean.specs.Working.{event_at, local_at}
 use Rattle.sx_invoke.specs.ModuleState.{ModuleState, EndState, end_of, end_states, cells_from, state_of}
 use Rattle.sx_invoke.specs.Progress.{Progress, Course, Going, Broken, and_on}
 use Rattle.sx_invoke.specs.Acts.{copied_to, with_packet, with_packets, with_piece, event_packet, wrap_counted, own_window, actuated, with_act, with_acts, handled}
-use Rattle.sx_mean.specs.Ends.{is_sending, senders}
+use Rattle.sx_mean.specs.Ends.{is_sending}
+use Rattle.sx_mean.specs.EndLaws.{senders}
 use Rattle.sx_invoke.specs.Devices.{HasDevices}
 use Rattle.sx_ir.specs.Conf.{Conf}
 use Rattle.sx_ir.specs.Meaning.{OperationResult}

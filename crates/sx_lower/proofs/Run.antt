@@ -20,7 +20,8 @@ use Rattle.sx_reach.proofs.Reaching.{and_then, weaken}
 use Rattle.sx_machine.specs.Memory as memory
 use Rattle.sx_invoke.specs.Marks.{Mark}
 use Rattle.sx_invoke.specs.Setup.{Setup}
-use Rattle.sx_mean.specs.Offsets.{stack_words, local_at, cell_at}
+use Rattle.sx_mean.specs.Offsets.{cell_at}
+use Rattle.sx_mean.specs.Working.{stack_words, local_at}
 use Rattle.sx_ir.specs.Conf.{Conf, Halt, Violates}
 use Rattle.sx_ir.specs.Counts.{count_of}
 use Rattle.sx_ir.specs.Meaning.{OperationResult, do_op, op_step, op_count, handler_count, count_at, do_at, OnViolation, CodeReaches, when}

@@ -13,7 +13,7 @@ use Rattle.sx_mean.specs.declared.events.End.{End}
 use Rattle.sx_ir.specs.declared.ir.Ir.{Ir}
 use Rattle.sx_ir.specs.declared.ir.Ir.TheVariants as ir
 use Rattle.sx_ir.specs.Sizes.{ops_bytes}
-use Rattle.sx_mean.specs.Offsets.{event_at, local_at}
+use Rattle.sx_mean.specs.Working.{event_at, local_at}
 use Rattle.sx_mean.specs.Ends.{is_sending}
 use Rattle.sx_mean.specs.Scope.{index_of}
 use Rattle.sx_lower.specs.Lowered.{variable_code, assign_code, unary_op, is_turned, operator_code, combined_code, expression_code, turns_at, packets_code}

@@ -15,7 +15,8 @@ use Rattle.sx_mean.specs.declared.events.End.{End}
 use Rattle.sx_mean.specs.Places.{place, array_length, output_number}
 use Rattle.sx_lang.specs.declared.sides.Side.{Side}
 use Rattle.sx_lang.specs.declared.sides.Side.TheVariants.{From, To}
-use Rattle.sx_mean.specs.Offsets.{scratch_at, stack_to, event_at, local_at, cell_at, end_at}
+use Rattle.sx_mean.specs.Offsets.{cell_at, end_at}
+use Rattle.sx_mean.specs.Working.{scratch_at, stack_to, event_at, local_at}
 use Rattle.sx_mean.specs.Ends.{is_sending}
 use Rattle.sx_ir.specs.declared.ir.Ir.{Ir}
 use Rattle.sx_ir.specs.declared.ir.Ir.TheVariants as ir

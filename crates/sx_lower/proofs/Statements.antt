@@ -15,7 +15,8 @@ use Rattle.sx_check.specs.Scopes.{definitions}
 use Rattle.sx_check.specs.Bounds.{height, statement_height, block_height, statement_depth, inner_depth}
 use Rattle.sx_mean.specs.declared.events.Act.{Act}
 use Rattle.sx_mean.specs.declared.events.Act.TheVariants.{Send, Emit}
-use Rattle.sx_mean.specs.Application.{statement_packets, block_packets}
+use Rattle.sx_mean.specs.Application.{block_packets}
+use Rattle.sx_mean.specs.Packets.{statement_packets}
 use Rattle.sx_mean.specs.Places.{place, array_length, output_number}
 use Rattle.sx_mean.specs.Meaning.{HandlerState, value, define, assign, assign_element, act, forget, times, after_statement, after_block, in_block}
 use Rattle.sx_rules.specs.declared.access.Violation.{Violation}
@@ -25,7 +26,8 @@ use Rattle.sx_reach.specs.Reach.{Goes, Here}
 use Rattle.sx_machine.specs.Memory.{word, put_word}
 use Rattle.sx_invoke.specs.Marks.{Mark, Actuated}
 use Rattle.sx_invoke.specs.Setup.{Setup, Call}
-use Rattle.sx_mean.specs.Offsets.{event_at, local_at, cell_at, stack_words}
+use Rattle.sx_mean.specs.Offsets.{cell_at}
+use Rattle.sx_mean.specs.Working.{event_at, local_at, stack_words}
 use Rattle.sx_invoke.specs.Windows.{is_bad_window, out_window_size}
 use Rattle.sx_invoke.specs.Progress.{Progress, Course, Going, Broken, and_on}
 use Rattle.sx_invoke.specs.Acts.{own_window, actuated, with_act, with_acts}
@@ -39,7 +41,7 @@ use Rattle.sx_ir.specs.declared.ir.IrOp.TheVariants as op
 use Rattle.sx_lower.specs.Lowered.{turns_at, assign_code, define_code, element_code, packets_code, send_code, expression_code, choice_code, loop_code, statement_code, block_code}
 use Rattle.sx_mean.specs.Variables.{first_value, IsKnown, FineExpression, FineStatement, FineBlock}
 use Rattle.sx_mean.specs.Scope.{index_of}
-use Rattle.sx_mean.specs.Ends.{senders}
+use Rattle.sx_mean.specs.EndLaws.{senders}
 use Rattle.sx_lower.proofs.Bytes.{word-put_same}
 use Rattle.sx_mean.specs.Acts.{AddsActs}
 use Rattle.sx_mean.proofs.ActsGrow.{grows_on, assign_stays, element_stays, times_grow, block_grows}

@@ -18,7 +18,8 @@ use Rattle.sx_ir.specs.declared.ir.Ir.{Ir}
 use Rattle.sx_ir.specs.declared.ir.Ir.TheVariants as ir
 use Rattle.sx_ir.specs.declared.ir.IrOp.{IrOp}
 use Rattle.sx_ir.specs.declared.ir.IrOp.TheVariants as op
-use Rattle.sx_mean.specs.Offsets.{event_at, local_at, cell_at}
+use Rattle.sx_mean.specs.Offsets.{cell_at}
+use Rattle.sx_mean.specs.Working.{event_at, local_at}
 use Rattle.sx_mean.specs.Ends.{is_sending}
 use Rattle.sx_mean.specs.Scope.{index_of}
 use Rattle.sx_mean.specs.Variables.{first_value}

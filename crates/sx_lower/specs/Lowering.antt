@@ -19,7 +19,7 @@ use Rattle.sx_ir.specs.Conf.{Conf}
 use Rattle.sx_ir.specs.Meaning.{OperationResult}
 use Rattle.sx_ir.specs.Invoking.{PartDoes}
 use Rattle.sx_ir.specs.Sizes.{ops_bytes}
-use Rattle.sx_mean.specs.Ends.{senders}
+use Rattle.sx_mean.specs.EndLaws.{senders}
 use Rattle.sx_lower.specs.Lowered.{handlers_code, handlers_parts, IsLowered}
 use Rattle.sx_lang.specs.Words.{TreeHasWords}
 

@@ -6,7 +6,7 @@ ghost use Rattle.sx_lang.specs.Tree.{Chooses, Repeats};
 ghost use Rattle.sx_lang.specs.View.{block_of, expression_of, statement_of};
 ghost use Rattle.sx_check.specs.Names.{block_lets, defined, statement_lets};
 ghost use Rattle.sx_mean.specs.Ends.{is_sending};
-ghost use Rattle.sx_mean.specs.Places.{AreSizedDecls};
+ghost use Rattle.sx_mean.specs.Sized.{AreSizedDecls};
 ghost use Rattle.sx_lower.specs.Lowered.{assign_code, block_code, define_code, element_code};
 ghost use Rattle.sx_lower.specs.Lowered.{expression_code, packets_code, send_code, statement_code};
 

@@ -2,7 +2,7 @@
 
 ghost use Rattle.std.specs.Prelude.{◌≡◌, ℕ, ◌+◌, ◌<◌, ◌≤◌, ◌++◌, ◌∷◌, Bool, List, [], OnOk, length};
 ghost use Rattle.sx_lang.specs.View.{expression_of};
-ghost use Rattle.sx_mean.specs.Places.{AreSizedDecls};
+ghost use Rattle.sx_mean.specs.Sized.{AreSizedDecls};
 ghost use Rattle.sx_lower.specs.Lowered.{assign_code, expression_code, is_turned, operator_code};
 ghost use Rattle.sx_lower.specs.Lowered.{unary_op, variable_code};
 

@@ -16,7 +16,8 @@ use Rattle.sx_machine.specs.Run.{Moment, untouched, Outcome, Finished, Violated,
 use Rattle.sx_machine.specs.Step.{Shown, start}
 use Rattle.sx_machine.specs.Ranges.{meets, passes_end, meets_private, meets_public, meets_device}
 use Rattle.sx_machine.specs.Acts.{put_refusal, take_refusal, busy, unless, put, take, set, sense, irq_refusal, interrupt, interrupted, irq}
-use Rattle.sx_machine.specs.Guard.{Alike, Twins, PrivateKept, Untouched, Guarded}
+use Rattle.sx_machine.specs.Guard.{Alike, Twins, PrivateKept, Untouched}
+use Rattle.sx_machine.specs.Guarding.{Guarded}
 use Rattle.sx_machine.proofs.PlanGuard.{set_kept, bytes_alike, put_alike, Moments, SameOutcome, KeptBy, exec_alike, exec_kept}
 use Rattle.sx_machine.proofs.StepGuard.{with_mem, alike_same, twins_same, SameEnd}
 

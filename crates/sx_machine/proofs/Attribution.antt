@@ -14,7 +14,7 @@ use Rattle.sx_machine.specs.declared.kinds.Seen.{Seen}
 use Rattle.sx_machine.specs.Acts.{interrupt, interrupted, irq_refusal}
 use Rattle.sx_machine.proofs.RunGuard.{not_zero}
 use Rattle.sx_machine.proofs.PlanGuard.{barred}
-use Rattle.sx_machine.specs.Node.{shapes}
+use Rattle.sx_machine.specs.NodeLaws.{shapes}
 use Rattle.sx_machine.specs.Touches.{Replays, NoneInside, Attributes, AttributesInterrupt}
 use Rattle.sx_machine.proofs.Devices.{some_inj, cleared_shapes, window_same}
 use Rattle.sx_machine.proofs.Sparse.{attempt_traced, interrupt_traced, done_is}

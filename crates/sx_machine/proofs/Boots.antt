@@ -11,7 +11,9 @@ use Rattle.sx_machine.specs.State.{State, power_on}
 use Rattle.sx_machine.specs.Run.{Outcome, Finished, Violated, Module, exec}
 use Rattle.sx_machine.specs.Step.{Shown, start, attempt, settled_step, step}
 use Rattle.sx_machine.specs.Acts.{unless, put_refusal, take_refusal, busy, irq_refusal, interrupt, interrupted}
-use Rattle.sx_machine.specs.Guard.{Act, Step, Restart, Put, Set, Take, Sense, Interrupt, acted, acted_all, PrivateKept, AllFromOutside, AreGuarded, GuardedRun}
+use Rattle.sx_machine.specs.Guard.{PrivateKept}
+use Rattle.sx_machine.specs.Acting.{Act, Step, Restart, Put, Set, Take, Sense, Interrupt, acted, acted_all}
+use Rattle.sx_machine.specs.Guarding.{AllFromOutside, AreGuarded, GuardedRun}
 use Rattle.sx_rules.proofs.Placing.{starts_placed}
 use Rattle.sx_machine.proofs.Sections.{acted_placed, stays_placed}
 use Rattle.sx_machine.specs.Laws.{RunsGuarded}

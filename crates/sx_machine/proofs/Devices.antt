@@ -7,7 +7,7 @@ use Rattle.sx_bus.specs.declared.devices.Kind.{Kind}
 use Rattle.sx_bus.specs.declared.devices.Window.{Window}
 use Rattle.sx_bus.specs.Devices.{HaveSamples, places_of, on_word, device_at, with_changed, cleared, with_sample, stale, all_stale}
 use Rattle.sx_machine.specs.Run.{with_window, found, device_of}
-use Rattle.sx_machine.specs.Node.{shapes}
+use Rattle.sx_machine.specs.NodeLaws.{shapes}
 
 pub some_inj : {A : Type 0} → (a b : A) → ◌≡◌ {A = Option A} (Some a) (Some b) → a ≡ b
 some_inj a b e = cc

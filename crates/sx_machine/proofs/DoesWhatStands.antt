@@ -4,8 +4,8 @@ use Rattle.std.specs.Prelude.{nat_le, nat_lt}
 use Rattle.std.proofs.lemmas.Bool.{true≢false, and_parts, and_from, not-true, leb-true, ltb-true, le-leb, lt-ltb, eq-eqb, eqb-true}
 use Rattle.sx_isa.specs.declared.instruction.Instr.{Instr}
 use Rattle.sx_isa.specs.declared.instruction.Instr.TheVariants.{Two, One, Reti, Jump, Sancus}
-use Rattle.sx_isa.specs.Legal.{IsInstruction}
-use Rattle.sx_isa.specs.Spelling.{spelling, head_or_zero}
+use Rattle.sx_isa.specs.Instructions.{IsInstruction, head_or_zero}
+use Rattle.sx_isa.specs.Spelling.{spelling}
 use Rattle.sx_isa.specs.Standing.{word_at, WordsStand, InstructionStands}
 use Rattle.sx_isa.specs.Reading.{length_of, instruction_at}
 use Rattle.sx_isa.proofs.Spelled.{reads, spelling_short}

@@ -19,7 +19,7 @@ use Rattle.sx_machine.specs.Run.{Outcome, Finished, Violated, Module, exec}
 use Rattle.sx_machine.specs.Protect.{layout_in, provider_in, identity_at, wiped}
 use Rattle.sx_machine.specs.Step.{Shown, step, start, attempt, settled_step}
 use Rattle.sx_machine.specs.Acts.{unless, put_refusal, take_refusal, busy, irq_refusal, interrupt, interrupted}
-use Rattle.sx_machine.specs.Guard.{Act, Step, Restart, Put, Set, Take, Sense, Interrupt, acted}
+use Rattle.sx_machine.specs.Acting.{Act, Step, Restart, Put, Set, Take, Sense, Interrupt, acted}
 use Rattle.sx_machine.specs.Events.{chain_key, Says}
 use Rattle.sx_machine.specs.Frame.{KeptPublic, HaveKeys, KeepsKeys, PowerOnHasKeys}
 use Rattle.sx_machine.proofs.Sections.{acted_placed}

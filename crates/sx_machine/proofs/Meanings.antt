@@ -19,7 +19,7 @@ use Rattle.sx_machine.specs.Run.{Moment, Outcome, Finished, Violated, Module, ex
 use Rattle.sx_machine.specs.Protect.{layout_in, provider_in, key_for, wiped}
 use Rattle.sx_machine.specs.Step.{Shown, step, own_of, pc_of, start, given_at_pc, attempt, state_after, left, settled_step}
 use Rattle.sx_machine.specs.Acts.{unless, put_refusal, take_refusal, busy, irq_refusal, interrupt, interrupted}
-use Rattle.sx_machine.specs.Guard.{Step, Restart, Put, Set, Take, Sense, Interrupt}
+use Rattle.sx_machine.specs.Acting.{Step, Restart, Put, Set, Take, Sense, Interrupt}
 use Rattle.sx_machine.specs.Events.{private_bytes, IsZeroed, chain_key, IsCodeOf, IsAdmitted, Says, StepsSay, OthersKeepSections, FreshSections}
 use Rattle.sx_machine.proofs.Devices.{some_inj}
 use Rattle.sx_machine.proofs.Events.{Told, Same, Admits, Removes, ToldBy, attempt_told}

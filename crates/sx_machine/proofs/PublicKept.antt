@@ -17,7 +17,7 @@ use Rattle.sx_machine.specs.State.{State, reset}
 use Rattle.sx_machine.specs.Run.{exec}
 use Rattle.sx_machine.specs.Step.{Shown, own_of, start, step}
 use Rattle.sx_machine.specs.Acts.{unless, put_refusal, take_refusal, busy, irq_refusal, interrupt, interrupted}
-use Rattle.sx_machine.specs.Guard.{Step, Restart, Put as PutAct, Set, Take, Sense, Interrupt}
+use Rattle.sx_machine.specs.Acting.{Step, Restart, Put as PutAct, Set, Take, Sense, Interrupt}
 use Rattle.sx_machine.specs.Frame.{Framed, KeptPublic, PublicKept}
 use Rattle.sx_machine.proofs.PlanGuard.{passes}
 use Rattle.sx_machine.proofs.Frame.{steps_framed, interrupt_framed}

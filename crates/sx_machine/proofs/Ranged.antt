@@ -10,7 +10,7 @@ use Rattle.sx_isa.specs.declared.instruction.Op2.{Op2}
 use Rattle.sx_isa.specs.declared.instruction.Op2.TheVariants as op2
 use Rattle.sx_isa.specs.declared.instruction.Op1.{Op1}
 use Rattle.sx_isa.specs.declared.instruction.Op1.TheVariants as op1
-use Rattle.sx_isa.specs.Legal.{IsSource, IsInstruction}
+use Rattle.sx_isa.specs.Instructions.{IsSource, IsInstruction}
 use Rattle.sx_isa.specs.Reading.{length_of, instruction_at}
 use Rattle.sx_isa.proofs.Sound.{sound}
 use Rattle.sx_alu.specs.declared.flags.Flags.{Flags}
@@ -34,7 +34,8 @@ use Rattle.sx_machine.specs.Registers.{cut_value, onward, reg, set_reg, at_pc, f
 use Rattle.sx_machine.specs.Rows.{from_source, reads, writes, into_register, into_memory, on_memory, onto, lowered, pushed, in_memory, in_place, one, reti, jump_taken, distance, jump, row, row_of, with_words, program, computed}
 use Rattle.sx_machine.specs.Acts.{interrupt}
 use Rattle.sx_bus.specs.Memory.{AreMemoryBytes}
-use Rattle.sx_machine.specs.Node.{AreRegisters, shapes}
+use Rattle.sx_machine.specs.Node.{AreRegisters}
+use Rattle.sx_machine.specs.NodeLaws.{shapes}
 use Rattle.sx_machine.proofs.Registers.{Holds, holds_pc, holds_sp, holds_zero, pc_even, sp_even, set_registers, set_reg_registers, at_pc_registers, flags_registers, lowered_registers, incremented_registers, distance_even, word_small, read_small, write_bytes, put_small}
 use Rattle.sx_machine.proofs.Devices.{device_there, sample_small, cleared_shapes, cleared_samples}
 use Rattle.sx_lists.specs.Truth.{truth}

@@ -3,7 +3,7 @@ use Rattle.std.proofs.Common.{◌≡◌, ◌≢◌, ℕ, zero, suc, ◌+◌, ◌
 use Rattle.std.specs.Prelude.{slice_index, slice_set}
 use Rattle.std.proofs.lemmas.Bool.{cases_eq, cases_lt, ne_eqb}
 use Rattle.std.proofs.lemmas.List.{length-set, get_or-set_same, get_or-set_other, set_past, length-replicate}
-use Rattle.sx_isa.specs.Legal.{IsGeneral}
+use Rattle.sx_isa.specs.Instructions.{IsGeneral}
 use Rattle.sx_alu.specs.Status.{with_flags_in}
 use Rattle.sx_alu.specs.declared.flags.Flags.{Flags}
 use Rattle.sx_machine.specs.Memory.{even, word, read_at, write_at, put_bytes, zeroed}

@@ -7,7 +7,9 @@ use Rattle.sx_tag.specs.Mac.{Mac}
 use Rattle.sx_machine.specs.State.{State, reset}
 use Rattle.sx_machine.specs.Step.{Shown, step}
 use Rattle.sx_machine.specs.Acts.{put, take, set, sense, irq}
-use Rattle.sx_machine.specs.Guard.{Twins, Untouched, Guarded, Act, Step, Restart, Put, Set, Take, Sense, Interrupt, Sight, Stepped, Restarted, Answered, Took, Interrupted, shown_as, acted, acted_all, FromOutside, AllFromOutside, Same}
+use Rattle.sx_machine.specs.Guard.{Twins, Untouched, Same}
+use Rattle.sx_machine.specs.Guarding.{Guarded, FromOutside, AllFromOutside}
+use Rattle.sx_machine.specs.Acting.{Act, Step, Restart, Put, Set, Take, Sense, Interrupt, Sight, Stepped, Restarted, Answered, Took, Interrupted, shown_as, acted, acted_all}
 use Rattle.sx_machine.proofs.StepGuard.{with_mem, step_guarded}
 use Rattle.sx_machine.proofs.ActGuard.{put_guarded, take_guarded, set_guarded, sense_guarded, irq_guarded, reset_guarded}
 use Rattle.sx_machine.proofs.Sections.{acted_placed}

@@ -24,7 +24,7 @@ use Rattle.sx_machine.specs.ModuleRows.{module_row}
 use Rattle.sx_machine.specs.Modules.{module_instruction}
 use Rattle.sx_machine.specs.Step.{Shown, pc_of, own_of, start, is_module_word, given_at_pc, instruction, ordered, word_outside, attempt, settled_step, step}
 use Rattle.sx_machine.specs.Acts.{unless, put_refusal, take_refusal, busy, irq_refusal, interrupt, interrupted}
-use Rattle.sx_machine.specs.Guard.{Act, Step, Restart, Put as PutAct, Set, Take, Sense, Interrupt, acted, acted_all}
+use Rattle.sx_machine.specs.Acting.{Act, Step, Restart, Put as PutAct, Set, Take, Sense, Interrupt, acted, acted_all}
 
 abbrev PlacedBy : Outcome → Type 0
 PlacedBy (Finished regs x) = Unit {0}

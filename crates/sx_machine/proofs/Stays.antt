@@ -32,11 +32,11 @@ use Rattle.sx_machine.specs.ModuleRows.{answer, within, vouches, exchanged, atte
 use Rattle.sx_machine.specs.Modules.{module_instruction}
 use Rattle.sx_machine.specs.Step.{Shown, step, own_of, pc_of, start, is_live, entered_from, is_module_word, given_at_pc, instruction, ordered, word_outside, attempt, state_after, settled_step}
 use Rattle.sx_machine.specs.Acts.{unless, put_refusal, take_refusal, busy, irq_refusal, interrupt, interrupted}
-use Rattle.sx_machine.specs.Guard.{Act, Step, Restart, Put as PutAct, Set, Take, Sense, Interrupt, acted}
+use Rattle.sx_machine.specs.Acting.{Act, Step, Restart, Put as PutAct, Set, Take, Sense, Interrupt, acted, ActInForm}
 use Rattle.sx_machine.proofs.Sections.{acted_placed}
 use Rattle.sx_bus.specs.Memory.{AreMemoryBytes}
-use Rattle.sx_machine.specs.Node.{AreRegisters, AreApartDevices, IsNode, ActInForm, shapes}
-use Rattle.sx_machine.specs.NodeLaws.{PowerOnIsNode, StaysNode, KeepsDevices, KeepsKey}
+use Rattle.sx_machine.specs.Node.{AreRegisters, AreApartDevices, IsNode}
+use Rattle.sx_machine.specs.NodeLaws.{shapes, PowerOnIsNode, StaysNode, KeepsDevices, KeepsKey}
 use Rattle.sx_machine.proofs.Registers.{set_registers, set_reg_registers, concluded_registers, word_small, put_small, zeroed_small, zero_registers}
 use Rattle.sx_machine.proofs.Devices.{some_inj, sensed_shapes, sensed_samples, stale_shapes, stale_samples, same_places}
 use Rattle.sx_machine.proofs.Events.{ToldBy, attempt_told}

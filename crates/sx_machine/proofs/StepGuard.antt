@@ -17,7 +17,8 @@ use Rattle.sx_machine.specs.Run.{Moment, untouched, Outcome, Finished, Violated,
 use Rattle.sx_machine.specs.Rows.{program}
 use Rattle.sx_machine.specs.Modules.{module_instruction}
 use Rattle.sx_machine.specs.Step.{Shown, pc_of, own_of, start, is_module_word, given_at_pc, instruction, word_outside, ordered, is_let_run, attempt, settled_step, step}
-use Rattle.sx_machine.specs.Guard.{Alike, Twins, Untouched, Guarded, Foreign}
+use Rattle.sx_machine.specs.Guard.{Alike, Twins, Untouched, Foreign}
+use Rattle.sx_machine.specs.Guarding.{Guarded}
 use Rattle.sx_machine.proofs.PlanGuard.{passes, word_alike, Moments, SameOutcome, KeptBy, same_if, kept_if, exec_alike, exec_kept}
 use Rattle.sx_machine.proofs.ModuleGuard.{module_kept, module_alike}
 

@@ -15,7 +15,7 @@ use Rattle.sx_machine.specs.Memory.{bytes_from}
 use Rattle.sx_machine.specs.Protect.{identity_at, layout_in, provider_in, wiped}
 use Rattle.sx_machine.specs.State.{State, reset}
 use Rattle.sx_machine.specs.Step.{pc_of, step}
-use Rattle.sx_machine.specs.Guard.{Act, Step, Restart, Put, Set, Take, Sense, Interrupt, acted}
+use Rattle.sx_machine.specs.Acting.{Act, Step, Restart, Put, Set, Take, Sense, Interrupt, acted}
 
 -- the bytes of a private section
 abbrev pub private_bytes : Layout → List ℕ → List ℕ

@@ -14,7 +14,7 @@ use Rattle.sx_machine.specs.State.{State, reset, power_on}
 use Rattle.sx_machine.specs.Run.{may_at}
 use Rattle.sx_machine.specs.Step.{step, own_of, pc_of}
 use Rattle.sx_machine.specs.Acts.{irq}
-use Rattle.sx_machine.specs.Guard.{Act, acted, acted_all}
+use Rattle.sx_machine.specs.Acting.{Act, acted, acted_all}
 use Rattle.sx_machine.specs.Node.{IsNode}
 use Rattle.sx_machine.specs.Events.{chain_key}
 

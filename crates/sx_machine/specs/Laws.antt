@@ -6,8 +6,10 @@ use Rattle.sx_rules.specs.Placed.{Placed}
 use Rattle.sx_bus.specs.declared.devices.Window.{Window}
 use Rattle.sx_tag.specs.Mac.{Mac}
 use Rattle.sx_machine.specs.State.{State, power_on}
-use Rattle.sx_machine.specs.Guard.{PrivateKept, Guarded, Act, Sight, acted, acted_all, FromOutside}
-use Rattle.sx_machine.specs.Guard.{AllFromOutside, Same, GuardedRun}
+use Rattle.sx_machine.specs.Guard.{PrivateKept}
+use Rattle.sx_machine.specs.Guarding.{Guarded, FromOutside, AllFromOutside, GuardedRun}
+use Rattle.sx_machine.specs.Acting.{Act, Sight, acted, acted_all}
+use Rattle.sx_machine.specs.Guard.{Same}
 
 -- the sections of a node that is switched on are placed
 abbrev pub PowerOnPlaced : Type 0

@@ -12,6 +12,8 @@ pub mod Modules
 pub mod Step
 pub mod Acts
 pub mod Guard
+pub mod Guarding
+pub mod Acting
 pub mod Node
 pub mod NodeLaws
 pub mod Touches

@@ -1,17 +1,14 @@
 -- What holds of every node, whatever happened to it.
-use Rattle.std.specs.Prelude.{◌≡◌, ℕ, ◌<◌, ◌⊎◌, true, List, [], ◌∷◌, length, map, slice_index}
+use Rattle.std.specs.Prelude.{◌≡◌, ℕ, ◌<◌, ◌⊎◌, true, List, length, slice_index}
 use Rattle.sx_rules.specs.declared.section.Section.{Section}
 use Rattle.sx_rules.specs.Access.{Lives}
 use Rattle.sx_rules.specs.Admission.{no_device}
 use Rattle.sx_rules.specs.Placed.{Placed}
-use Rattle.sx_bus.specs.declared.devices.Kind.{Kind}
-use Rattle.sx_bus.specs.declared.devices.Window.{Window}
 pub use Rattle.sx_bus.specs.Memory.{AreMemoryBytes}
 use Rattle.sx_bus.specs.Devices.{ArePlaces, HaveSamples, places_of}
 use Rattle.sx_machine.specs.Registers.{kept_in}
 use Rattle.sx_machine.specs.State.{State}
 use Rattle.sx_machine.specs.Step.{own_of}
-use Rattle.sx_machine.specs.Guard.{Act, Step, Restart, Put, Set, Take, Sense, Interrupt}
 
 -- sixteen registers, each with a word that it keeps: PC and SP are even, SR is below 512, and R3 is
 -- 0
@@ -37,22 +34,3 @@ pub record IsNode (n : State) : Type 0 where
   pub last : n.last < 65536
   pub caller : n.caller < 65536
   pub runner : (n.cur ≡ 0) ⊎ (n.cur ≡ own_of n)
-
--- the places and kinds of devices
-abbrev pub shapes : List Window → List (ℕ × Kind)
-shapes windows = map (λ w. (w.at, w.kind)) windows
-
--- an act is in form: a register is set to a word, and a device to a value that a sensor can give
-abbrev pub ActInForm : Act → Type 0
-ActInForm Step = Unit {0}
-ActInForm Restart = Unit {0}
-ActInForm (Put at bytes) = Unit {0}
-ActInForm (Set r v) = v < 65536
-ActInForm (Take at n) = Unit {0}
-ActInForm (Sense device v) = v < 32768
-ActInForm (Interrupt line) = Unit {0}
-
--- each act is in form
-abbrev pub ActsInForm : List Act → Type 0
-ActsInForm [] = Unit {0}
-ActsInForm (act ∷ acts) = ActInForm act × ActsInForm acts

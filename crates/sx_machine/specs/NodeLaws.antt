@@ -1,11 +1,16 @@
 -- What every act keeps of a node.
-use Rattle.std.specs.Prelude.{◌≡◌, ℕ, List}
+use Rattle.std.specs.Prelude.{◌≡◌, ℕ, List, map}
 use Rattle.sx_bus.specs.declared.devices.Window.{Window}
 use Rattle.sx_bus.specs.Devices.{ArePlaces, HaveSamples, places_of}
 use Rattle.sx_tag.specs.Mac.{Mac}
 use Rattle.sx_machine.specs.State.{State, power_on}
-use Rattle.sx_machine.specs.Guard.{Act, acted_all}
-use Rattle.sx_machine.specs.Node.{IsNode, ActsInForm, shapes}
+use Rattle.sx_machine.specs.Acting.{Act, acted_all, ActsInForm}
+use Rattle.sx_machine.specs.Node.{IsNode}
+use Rattle.sx_bus.specs.declared.devices.Kind.{Kind}
+
+-- the places and kinds of devices
+abbrev pub shapes : List Window → List (ℕ × Kind)
+shapes windows = map (λ w. (w.at, w.kind)) windows
 
 -- what holds of every node holds of one that is switched on
 abbrev pub PowerOnIsNode : Type 0

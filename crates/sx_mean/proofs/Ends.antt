@@ -9,9 +9,11 @@ use Rattle.sx_lang.specs.declared.sides.Side.TheVariants.{From, To}
 use Rattle.sx_lang.specs.Tree.{ModuleTree}
 use Rattle.sx_mean.specs.declared.apps.Link.{Link}
 use Rattle.sx_mean.specs.declared.events.End.{End}
-use Rattle.sx_mean.specs.Application.{AppTree, PartTree, ends_from, ends_to, has_port, is_port, is_valid, leaves, links_from}
+use Rattle.sx_mean.specs.Application.{AppTree, PartTree, ends_from, ends_to, leaves, links_from}
+use Rattle.sx_mean.specs.Validity.{has_port, is_port, is_valid}
 use Rattle.sx_mean.specs.Valid.{IsTied}
-use Rattle.sx_mean.specs.Ends.{AreCountedEnds, AreEnds, IsBefore, ends_after, ends_of, is_sending, ports_of, senders}
+use Rattle.sx_mean.specs.Ends.{ends_after, ends_of, is_sending}
+use Rattle.sx_mean.specs.EndLaws.{AreCountedEnds, AreEnds, IsBefore, ports_of, senders}
 use Rattle.sx_mean.proofs.ValidApplications.{port_of_part, valid_applications}
 
 pub count_by-cons : {A : Type 0} (p : A → Bool) (x : A) (xs : List A) → count_by p (x ∷ xs) ≡ cond (p x) 1 0 + count_by p xs

@@ -8,7 +8,8 @@ use Rattle.sx_lang.specs.declared.tree.Decl.{Decl}
 use Rattle.sx_mean.specs.declared.apps.AppDevice.{AppDevice}
 use Rattle.sx_mean.specs.declared.apps.Part.{Part}
 use Rattle.sx_check.specs.Source.{source_tree}
-use Rattle.sx_mean.specs.Application.{PartTree, is_at, has_port}
+use Rattle.sx_mean.specs.Application.{PartTree, is_at}
+use Rattle.sx_mean.specs.Validity.{has_port}
 use Rattle.sx_mean.specs.View.{part_as}
 use Rattle.sx_check.proofs.Turns.{above, within}
 

@@ -9,7 +9,8 @@ use Rattle.sx_lang.specs.declared.tree.Decl.{Decl}
 use Rattle.sx_check.proofs.Keeps.{both_false}
 use Rattle.sx_mean.specs.declared.apps.AppDevice.{AppDevice}
 use Rattle.sx_mean.specs.declared.apps.Link.{Link}
-use Rattle.sx_mean.specs.Application.{AppTree, PartTree, any_part, declared_kind, ends_from, ends_to, has_port, is_crowded, is_driven, is_loose, is_misplaced, is_overloaded, is_port, is_stray, is_too_large, is_valid, is_wrong, parts_at, parts_with, sends_too_much}
+use Rattle.sx_mean.specs.Application.{AppTree, PartTree, declared_kind, ends_from, ends_to, is_driven, sends_too_much}
+use Rattle.sx_mean.specs.Validity.{any_part, has_port, is_crowded, is_loose, is_misplaced, is_overloaded, is_port, is_stray, is_too_large, is_valid, is_wrong, parts_at, parts_with}
 use Rattle.sx_mean.specs.Valid.{IsApplication, IsPlaced, IsTied}
 use Rattle.sx_lists.proofs.Truths.{not_true, not_false}
 

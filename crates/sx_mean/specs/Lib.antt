@@ -1,11 +1,16 @@
 pub mod Places
+pub mod Sized
 pub mod Offsets
+pub mod Working
 pub mod Meaning
 pub mod React
 pub mod View
 pub mod Application
+pub mod Validity
+pub mod Packets
 pub mod Valid
 pub mod Ends
+pub mod EndLaws
 pub mod Handlers
 pub mod Scope
 pub mod Acts

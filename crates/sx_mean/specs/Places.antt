@@ -1,10 +1,9 @@
 -- Where the names of a module lie: its cells and outputs, in order of declaration.
-use Rattle.std.specs.Prelude.{ℕ, ◌+◌, ◌≤◌, List, [], ◌∷◌, ◌++◌, if◌then◌else◌, replicate, count_by}
+use Rattle.std.specs.Prelude.{ℕ, ◌+◌, List, [], ◌∷◌, ◌++◌, if◌then◌else◌, replicate}
 use Rattle.sx_lang.specs.declared.tree.Decl.{Decl}
 use Rattle.sx_lang.specs.declared.tree.Decl.TheVariants.{Output, Var, Array}
-use Rattle.sx_lang.specs.Sizes.{declaration_cells, declared_cells}
+use Rattle.sx_lang.specs.Sizes.{declaration_cells}
 use Rattle.sx_check.specs.Names.{same, declares}
-use Rattle.sx_check.specs.Bounds.{is_output}
 
 -- the cells before those of the name
 abbrev pub place : List Decl → List ℕ → ℕ
@@ -41,8 +40,3 @@ first_cells _ = []
 abbrev pub initial_cells : List Decl → List ℕ
 initial_cells [] = []
 initial_cells (d ∷ ds) = first_cells d ++ initial_cells ds
-
--- so few cells and outputs that their numbers fit, as the rules ask
-pub record AreSizedDecls (ds : List Decl) : Type 0 where
-  pub few_cells : declared_cells ds ≤ 1024
-  pub few_outputs : count_by is_output ds ≤ 255

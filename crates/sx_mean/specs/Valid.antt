@@ -2,7 +2,8 @@
 use Rattle.std.specs.Prelude.{◌≡◌, ℕ, ◌+◌, ◌<◌, ◌≤◌, true, false, All, length, Some, slice_get}
 use Rattle.sx_mean.specs.declared.apps.Link.{Link}
 use Rattle.sx_mean.specs.Application.{AppTree, PartTree, declared_kind, ends_from, ends_to}
-use Rattle.sx_mean.specs.Application.{has_port, is_driven, is_port, is_valid, parts_at, parts_with}
+use Rattle.sx_mean.specs.Application.{is_driven}
+use Rattle.sx_mean.specs.Validity.{has_port, is_port, is_valid, parts_at, parts_with}
 use Rattle.sx_mean.specs.Application.{sends_too_much}
 
 -- The p-th part is at a node of the application with at most 8 parts; it has a device exactly where

@@ -5,13 +5,16 @@ ghost use Rattle.std.specs.Prelude.{map, min, nat_lt, not};
 ghost use Rattle.std.specs.List.{list_any};
 ghost use Rattle.sx_check.specs.Source.{source_tree};
 ghost use Rattle.sx_lang.specs.View.{block_of, handler_of, module_of, statement_of};
-ghost use Rattle.sx_mean.specs.Application.{any_part, block_packets, declared_kind, ends_from};
-ghost use Rattle.sx_mean.specs.Application.{ends_to, has_port, is_at, is_crowded, is_driven};
-ghost use Rattle.sx_mean.specs.Application.{is_loose, is_misplaced, is_overloaded, is_port};
-ghost use Rattle.sx_mean.specs.Application.{is_sensor, is_stray, is_too_large, is_valid, is_wrong};
-ghost use Rattle.sx_mean.specs.Application.{leaves, links_from, parts_at, parts_with, same_device};
-ghost use Rattle.sx_mean.specs.Application.{same_kind, sends_too_much, statement_packets};
-ghost use Rattle.sx_mean.specs.Places.{AreSizedDecls};
+ghost use Rattle.sx_mean.specs.Application.{block_packets, declared_kind, ends_from};
+ghost use Rattle.sx_mean.specs.Validity.{any_part, has_port, is_crowded, is_loose, is_misplaced};
+ghost use Rattle.sx_mean.specs.Validity.{is_overloaded, is_port, is_stray, is_too_large, is_valid};
+ghost use Rattle.sx_mean.specs.Validity.{is_wrong, parts_at, parts_with, same_device};
+ghost use Rattle.sx_mean.specs.Application.{ends_to, is_at, is_driven};
+ghost use Rattle.sx_mean.specs.Application.{is_sensor};
+ghost use Rattle.sx_mean.specs.Application.{leaves, links_from};
+ghost use Rattle.sx_mean.specs.Application.{same_kind, sends_too_much};
+ghost use Rattle.sx_mean.specs.Packets.{statement_packets};
+ghost use Rattle.sx_mean.specs.Sized.{AreSizedDecls};
 ghost use Rattle.sx_mean.specs.View.{app_as, part_as};
 
 use crate::places::output_number;
@@ -306,7 +309,7 @@ fn has_port(parts: &[Part], output: bool, part: u8, port: u8) -> bool
 }
 
 impl App {
-    #[tactic(auto, unfolding(crate::specs::Application::is_misplaced))]
+    #[tactic(auto, unfolding(crate::specs::Validity::is_misplaced))]
     fn is_misplaced(&self, part: &Part) -> bool
         ensures { result ≡ is_misplaced (app_as self.now) (part_as part.now) }
     {
@@ -314,21 +317,21 @@ impl App {
         part.node >= self.nodes || !is_driven(&self.devices, part.node, part.device, kind)
     }
 
-    #[tactic(auto, unfolding(crate::specs::Application::is_crowded))]
+    #[tactic(auto, unfolding(crate::specs::Validity::is_crowded))]
     fn is_crowded(&self, part: &Part) -> bool
         ensures { result ≡ is_crowded (app_as self.now) (part_as part.now) }
     {
         parts_at(&self.parts, part.node) > 8 || parts_with(&self.parts, part.device) > 1
     }
 
-    #[tactic(auto, unfolding(crate::specs::Application::is_overloaded))]
+    #[tactic(auto, unfolding(crate::specs::Validity::is_overloaded))]
     fn is_overloaded(&self, place: usize, part: &Part) -> bool
         ensures { result ≡ is_overloaded (app_as self.now) place (part_as part.now) }
     {
         has_many_ends(&self.links, place) || sends_too_much(&self.links, place, part.code.module())
     }
 
-    #[tactic(auto, unfolding(crate::specs::Application::is_wrong))]
+    #[tactic(auto, unfolding(crate::specs::Validity::is_wrong))]
     fn is_wrong(&self, place: usize, part: &Part) -> bool
         ensures { result ≡ is_wrong (app_as self.now) place (part_as part.now) }
     {
@@ -346,7 +349,7 @@ impl App {
         false
     }
 
-    #[tactic(auto, unfolding(crate::specs::Application::is_loose))]
+    #[tactic(auto, unfolding(crate::specs::Validity::is_loose))]
     fn is_loose(&self, l: &Link) -> bool
         ensures { result ≡ is_loose (app_as self.now) l.now }
     {
@@ -382,7 +385,7 @@ impl App {
         false
     }
 
-    #[tactic(auto, unfolding(crate::specs::Application::is_too_large))]
+    #[tactic(auto, unfolding(crate::specs::Validity::is_too_large))]
     fn is_too_large(&self) -> bool
         ensures { result ≡ is_too_large (app_as self.now) }
     {
@@ -393,7 +396,7 @@ impl App {
     /// parts of which 8 at a node, 64 connections, 16 ends at a part and 16 packets at an event.
     /// All that is named is there; a part has a device exactly where its module declares one, at
     /// its node, of that kind and of no other part.
-    #[tactic(auto, unfolding(crate::specs::Application::is_valid))]
+    #[tactic(auto, unfolding(crate::specs::Validity::is_valid))]
     pub fn valid(&self) -> bool
         ensures { result ≡ is_valid (app_as self.now) }
     {

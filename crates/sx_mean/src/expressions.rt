@@ -3,7 +3,7 @@
 ghost use Rattle.std.specs.Prelude.{◌≡◌, ℕ, ◌≤◌, slice_index};
 ghost use Rattle.sx_lang.specs.View.{expression_of};
 ghost use Rattle.sx_mean.specs.Meaning.{apply, combine, element, look_up, value, word};
-ghost use Rattle.sx_mean.specs.Places.{AreSizedDecls};
+ghost use Rattle.sx_mean.specs.Sized.{AreSizedDecls};
 ghost use Rattle.sx_mean.specs.View.{state_of};
 ghost use Rattle.sx_lists.specs.Truth.{truth};
 

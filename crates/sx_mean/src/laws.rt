@@ -2,7 +2,7 @@
 //! its contract is the law.
 
 ghost use Rattle.sx_mean.specs.Acts.{ActsGrow};
-ghost use Rattle.sx_mean.specs.Ends.{EndsCounted, EndsHold};
+ghost use Rattle.sx_mean.specs.EndLaws.{EndsCounted, EndsHold};
 ghost use Rattle.sx_mean.specs.Handlers.{HandlersNumbered};
 ghost use Rattle.sx_mean.specs.Scope.{LocalsIndexed, ScopesKept};
 ghost use Rattle.sx_mean.specs.Valid.{ValidApplications};

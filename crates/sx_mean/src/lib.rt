@@ -6,11 +6,12 @@
 //!
 //! `specs/Meaning.antt` has the meaning of expressions and statements by cases on the source, with
 //! words modulo 65,536, `specs/React.antt` the meaning of an event, `specs/Places.antt` the order
-//! of cells and outputs, `specs/Application.antt` what makes an application valid,
-//! `specs/Ends.antt` the ends of connections that a part holds, and `specs/Offsets.antt` where
-//! things lie in the private section of a compiled module.
+//! of cells and outputs, `specs/Application.antt` what an application is, `specs/Validity.antt`
+//! what makes it valid, `specs/Ends.antt` the ends of connections that a part holds, and
+//! `specs/Offsets.antt` and `specs/Working.antt` where things lie in the private section of a
+//! compiled module.
 //!
-//! `laws` promises what follows for every application (`specs/Valid.antt`, `Ends.antt`), every
+//! `laws` promises what follows for every application (`specs/Valid.antt`, `EndLaws.antt`), every
 //! handler (`Handlers.antt`), every scope (`Scope.antt`), and every run (`Acts.antt`,
 //! `Words.antt`).
 #![tactic(auto)]

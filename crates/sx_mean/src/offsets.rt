@@ -2,7 +2,7 @@
 
 ghost use Rattle.std.specs.Prelude.{◌≡◌, ℕ, ◌<◌, ◌≤◌};
 ghost use Rattle.sx_mean.specs.Offsets.{cell_at, end_at, end_key_at, end_number_at, end_open_at};
-ghost use Rattle.sx_mean.specs.Offsets.{local_at, saved_at};
+ghost use Rattle.sx_mean.specs.Working.{local_at, saved_at};
 
 /// The event's value.
 pub const EVENT: u16 = 2;

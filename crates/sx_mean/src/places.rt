@@ -4,7 +4,7 @@ ghost use Rattle.std.specs.Prelude.{◌≡◌, ℕ, ◌+◌, ◌≤◌};
 ghost use Rattle.sx_lang.specs.Sizes.{declaration_cells, declared_cells};
 ghost use Rattle.sx_check.specs.Names.{declares};
 ghost use Rattle.sx_mean.specs.Places.{array_length, outputs_in, output_number, own_length, place};
-ghost use Rattle.sx_mean.specs.Places.{AreSizedDecls};
+ghost use Rattle.sx_mean.specs.Sized.{AreSizedDecls};
 
 use sx_lang::names::Name;
 use sx_lang::tree::Decl;

@@ -5,7 +5,7 @@ ghost use Rattle.std.specs.List.{find};
 ghost use Rattle.sx_check.specs.Names.{same_input};
 ghost use Rattle.sx_check.specs.Source.{source_tree};
 ghost use Rattle.sx_lang.specs.View.{block_of, handler_of, module_of};
-ghost use Rattle.sx_mean.specs.Places.{AreSizedDecls};
+ghost use Rattle.sx_mean.specs.Sized.{AreSizedDecls};
 ghost use Rattle.sx_mean.specs.React.{handler_at, handler_of_input, handler_of_name, input_names};
 ghost use Rattle.sx_mean.specs.React.{nth, react, run, start};
 ghost use Rattle.sx_mean.specs.View.{state_of};

@@ -4,7 +4,7 @@ ghost use Rattle.std.specs.Prelude.{◌≡◌, ℕ, ◌<◌, ◌≤◌, OnOk, le
 ghost use Rattle.sx_lang.specs.View.{block_of, expression_of, statement_of};
 ghost use Rattle.sx_mean.specs.Meaning.{act, after_statement, assign, assign_element, define};
 ghost use Rattle.sx_mean.specs.Meaning.{in_block, local_place, new_local, times};
-ghost use Rattle.sx_mean.specs.Places.{AreSizedDecls};
+ghost use Rattle.sx_mean.specs.Sized.{AreSizedDecls};
 ghost use Rattle.sx_mean.specs.View.{state_of};
 
 use crate::events::Act;

@@ -9,9 +9,9 @@ use Rattle.sx_trace.specs.declared.items.Cause.{Cause}
 use Rattle.sx_trace.specs.declared.items.Item.{Item}
 use Rattle.sx_trace.specs.declared.items.Item.TheVariants.{Reset, Protect, Sense, Read, Drain, Ask, Attested, Denied, Vouch, Open, Take, Out, Raw, Done, Packet, Forged, Busy, Skip, Budget}
 use Rattle.sx_model.specs.State.{Model, Reading, power_on}
-use Rattle.sx_model.specs.Step.{◌>>?◌, drives, stale_at, step}
+use Rattle.sx_model.specs.Step.{device_of, ◌>>?◌, drives, stale_at, step}
 use Rattle.sx_model.specs.Legal.{Legal}
-use Rattle.sx_model.specs.Consequences.{ReadsAreSensed, Since, device_of, ends_reading, is_device_at, senses}
+use Rattle.sx_model.specs.Consequences.{ReadsAreSensed, Since, ends_reading, is_device_at, senses}
 use Rattle.sx_model.proofs.Along.{keeps_by, some_of, step_of}
 use Rattle.sx_model.proofs.Since.{since_now, since_still}
 use Rattle.sx_model.proofs.Steps.{Cases, on_read}

@@ -16,9 +16,8 @@ use Rattle.sx_mean.specs.Ends.{ends_of, same_side}
 use Rattle.sx_model.specs.Reaction.{after_event, flow_of}
 use Rattle.sx_model.specs.State.{EndView, Model, Pending, Present, Reading, Standing, Vouched}
 use Rattle.sx_model.specs.Step.{◌>>?◌, absent_at, first_present, idle, is_fresh_with, is_word}
-use Rattle.sx_model.specs.Step.{is_nothing, kind_is, is_vouched, after_sample}
-use Rattle.sx_model.specs.Step.{stale_at, is_undriven, waits, with_pending, without_first}
-use Rattle.sx_model.specs.Step.{wrote_raw}
+use Rattle.sx_model.specs.Step.{is_nothing, kind_is, is_vouched, after_sample, stale_at}
+use Rattle.sx_model.specs.Step.{is_undriven, waits, with_pending, without_first, wrote_raw}
 use Rattle.sx_trace.specs.declared.items.Item.{Item}
 use Rattle.sx_trace.specs.declared.items.Item.TheVariants.{Reset, Protect, Sense, Read, Drain, Ask}
 use Rattle.sx_trace.specs.declared.items.Item.TheVariants.{Attested, Denied, Vouch, Open, Take, Out}

@@ -9,7 +9,7 @@ use Rattle.sx_trace.specs.declared.items.Item.TheVariants.{Reset, Protect, Sense
 use Rattle.sx_trace.specs.declared.items.Item.TheVariants.{Vouch, Open, Take, Out, Done}
 use Rattle.sx_mean.specs.declared.apps.AppDevice.{AppDevice}
 use Rattle.sx_mean.specs.Application.{PartTree, AppTree}
-use Rattle.sx_model.specs.Step.{◌>>?◌, drives}
+use Rattle.sx_model.specs.Step.{drives, device_of}
 
 -- The numbers that are taken over a connection rise, so none is taken twice.
 abbrev pub TakesRise : List Item → Type 0
@@ -31,10 +31,6 @@ pub record Since (begins ends : Item → Bool) (items : List Item) : Type 0 wher
   pub place : items ≡ before ++ item ∷ behind
   pub begun : begins item ≡ true
   pub unended : list_any ends behind ≡ false
-
--- the device that a module drives, if any
-abbrev pub device_of : AppTree → ℕ → Option ℕ
-device_of app m = slice_get app.parts m >>? (λ q. q.device)
 
 -- the module is of this node
 abbrev pub is_part_at : ℕ → Option PartTree → Bool

@@ -2,6 +2,7 @@ pub mod State
 pub mod Reaction
 pub mod Renewal
 pub mod Step
+pub mod Epochs
 pub mod Legal
 pub mod Consequences
 pub mod Worked

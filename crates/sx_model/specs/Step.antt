@@ -48,12 +48,6 @@ with_device s d r = record s { devices = slice_set s.devices d r }
 abbrev pub idle : Standing → Option Present
 idle x = x.present >>? (λ p. if is_none p.pending then Some p else None)
 
--- the epoch with which an end of a module is open, by its index among the module's ends; none where
--- it isn't open
-abbrev pub open_epoch : Model → ℕ → ℕ → Option ℕ
-open_epoch s m k =
-    slice_get s.modules m >>? (λ x. x.present >>? (λ p. slice_get p.ends k >>? (λ e. e.epoch)))
-
 -- the module with another pending event, or with none
 abbrev pub with_pending : Present → Option Pending → Present
 with_pending p pending = record p { pending = pending }
@@ -262,3 +256,7 @@ step app s (Out m v) = has_written s m v
 step app s (Raw d v) = wrote_raw app s d
 step app s (Done m status k) = is_done app s m status k
 step app s _ = Some s
+
+-- the device that a module drives, if any
+abbrev pub device_of : AppTree → ℕ → Option ℕ
+device_of app m = slice_get app.parts m >>? (λ q. q.device)

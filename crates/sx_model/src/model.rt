@@ -4,10 +4,11 @@ ghost use Rattle.std.specs.Prelude.{◌≡◌, ◌+◌, ◌*◌, ◌<◌, ◌≤
 ghost use Rattle.std.specs.Prelude.{if◌then◌else◌, is_some, length, slice_get, slice_index_or};
 ghost use Rattle.std.specs.Prelude.{true, unwrap_or};
 ghost use Rattle.sx_mean.specs.View.{app_as};
-ghost use Rattle.sx_mean.specs.Application.{is_valid};
+ghost use Rattle.sx_mean.specs.Validity.{is_valid};
 ghost use Rattle.sx_model.specs.Counted.{CountsWithin};
 ghost use Rattle.sx_model.specs.State.{power_on};
-ghost use Rattle.sx_model.specs.Step.{◌>>?◌, open_epoch, step};
+ghost use Rattle.sx_model.specs.Step.{◌>>?◌, step};
+ghost use Rattle.sx_model.specs.Epochs.{open_epoch};
 ghost use Rattle.sx_model.specs.Changes.{is_plain, steps};
 
 use crate::asks::{ask, attest, vouch};

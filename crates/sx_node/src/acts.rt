@@ -15,7 +15,7 @@ ghost use Rattle.sx_machine.specs.Ranges.{meets_private, meets_public};
 ghost use Rattle.sx_machine.specs.Run.{exec};
 ghost use Rattle.sx_machine.specs.Step.{start};
 ghost use Rattle.sx_machine.specs.Answers.{Interrupts};
-ghost use Rattle.sx_machine.specs.Guard.{Guarded};
+ghost use Rattle.sx_machine.specs.Guarding.{Guarded};
 ghost use Rattle.sx_executor.specs.Machine.{IsClear};
 
 use crate::node::{Node, no_exchange};

@@ -2,7 +2,7 @@
 
 ghost use Rattle.std.specs.Prelude.{◌≡◌, ◌<◌, slice_index};
 ghost use Rattle.sx_bus.specs.Memory.{blank};
-ghost use Rattle.sx_bus.specs.Devices.{AreNew};
+ghost use Rattle.sx_bus.specs.Windows.{AreNew};
 ghost use Rattle.sx_rules.specs.Access.{section_of};
 ghost use Rattle.sx_machine.specs.State.{power_on, no_exchange};
 

@@ -15,7 +15,8 @@ ghost use Rattle.sx_machine.specs.Step.{step, attempt, instruction, given_at_pc,
 ghost use Rattle.sx_machine.specs.Step.{ordered};
 ghost use Rattle.sx_machine.specs.Step.{word_outside, pc_of, own_of, start, entered_from, left};
 ghost use Rattle.sx_machine.specs.Answers.{Attempts};
-ghost use Rattle.sx_machine.specs.Guard.{Guarded, Foreign};
+ghost use Rattle.sx_machine.specs.Guard.{Foreign};
+ghost use Rattle.sx_machine.specs.Guarding.{Guarded};
 ghost use Rattle.sx_sancus.specs.Told.{event_of};
 
 use crate::node::Node;

@@ -7,7 +7,8 @@ use Rattle.std.proofs.lemmas.List.Folds.{list_any-append}
 use Rattle.std.proofs.lemmas.Bool.Decides.{nat_tests}
 use Rattle.sx_lex.specs.declared.tokens.Kind.{Kind}
 use Rattle.sx_lex.specs.declared.tokens.Kind.TheVariants.{Bang}
-use Rattle.sx_lex.specs.Words.{is_name_byte, is_lower, is_digit, is_number, is_name, is_hexadecimal, found_in, signs, kind_of, first_is, IsLongest}
+use Rattle.sx_lex.specs.Words.{is_name_byte, is_lower, is_digit, is_number, is_name, is_hexadecimal, found_in, signs, kind_of, IsLongest}
+use Rattle.sx_lex.specs.Progress.{first_is}
 use Rattle.sx_lex.proofs.Found.{not_found, false_and, long_no_sign}
 use Rattle.sx_lex.proofs.Signs.{only_sign, other_second}
 

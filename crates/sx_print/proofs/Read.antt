@@ -10,7 +10,8 @@ use Rattle.sx_lex.specs.declared.tokens.Kind.{Kind}
 use Rattle.sx_lex.specs.declared.tokens.Kind.TheVariants.{Number, Name, Bang}
 use Rattle.sx_lex.specs.declared.tokens.Place.{Place}
 use Rattle.sx_lex.specs.declared.tokens.Placed.{Placed}
-use Rattle.sx_lex.specs.Words.{kind_of, first_is, is_name, is_lower, is_digit, is_decimal_digit, IsLongest}
+use Rattle.sx_lex.specs.Words.{kind_of, is_name, is_lower, is_digit, is_decimal_digit, IsLongest}
+use Rattle.sx_lex.specs.Progress.{first_is}
 use Rattle.sx_lex.specs.Lexed.{along, below, Lexed, at_end, space, newline, token}
 use Rattle.sx_lex.proofs.Found.{and_left, and_right, digit_is_decimal}
 use Rattle.sx_grammar.specs.Tokens as grammar

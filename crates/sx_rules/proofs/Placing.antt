@@ -5,7 +5,8 @@ use Rattle.std.proofs.lemmas.Bool.{ltb-true, leb-true, eq-eqb, eqb-true, ne_eqb,
 use Rattle.sx_rules.specs.declared.section.Section.{Section}
 use Rattle.sx_rules.specs.Access.{Lives, section_of, in_public, holder}
 use Rattle.sx_rules.specs.Admission.{apart, clear_of, without}
-use Rattle.sx_rules.specs.Placed.{Sound, Beside, AllSound, BesideAll, AllBeside, StartsPlaced, AdmitKeepsPlaced, RemoveKeepsPlaced, RemoveRemoves, PlacedBeside, PlacedFound, PlacedHolds}
+use Rattle.sx_rules.specs.Placed.{Sound, Beside, AllSound, BesideAll, AllBeside}
+use Rattle.sx_rules.specs.Laws.{StartsPlaced, AdmitKeepsPlaced, RemoveKeepsPlaced, RemoveRemoves, PlacedBeside, PlacedFound, PlacedHolds}
 use Rattle.sx_rules.proofs.Admits.{admits}
 
 -- Meeting is symmetric.

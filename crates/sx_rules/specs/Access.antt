@@ -6,8 +6,8 @@
 --     holder, outside_private, in_order, extends      what a step asks of an instruction's bytes
 --     both_bytes      a test of the two bytes of a word
 --     Lives, section_of      a live section, and one by its id
-use Rattle.std.specs.Prelude.{◌≡◌, ◌⊎◌, ℕ, ◌+◌, ◌-◌, ◌%◌, ◌==◌, nat_lt, nat_le, Bool, ◌&&◌, ◌||◌}
-use Rattle.std.specs.Prelude.{not, if◌then◌else◌, List, [], ◌∷◌, Option, find}
+use Rattle.std.specs.Prelude.{◌≡◌, ◌⊎◌, ℕ, ◌+◌, ◌==◌, nat_lt, nat_le, Bool, ◌&&◌, ◌||◌, not}
+use Rattle.std.specs.Prelude.{if◌then◌else◌, List, [], ◌∷◌, Option, find}
 use Rattle.std.specs.List.{list_all}
 use Rattle.sx_rules.specs.declared.access.Access.{Access}
 use Rattle.sx_rules.specs.declared.access.Access.TheVariants.{Read, Write, Run}
@@ -63,10 +63,6 @@ in_order live cur pc =
 abbrev pub extends : List Section → ℕ → ℕ → Bool
 extends live own at =
     list_all (λ s. not (in_private s at) && (not (in_public s at) || own == s.id)) live
-
--- both bytes of the word at an address, whose bit 0 doesn't count, pass the test
-abbrev pub both_bytes : (ℕ → Bool) → ℕ → Bool
-both_bytes test at = test (at - at % 2) && test (at - at % 2 + 1)
 
 -- the section is one of the live ones
 abbrev pub Lives : List Section → Section → Type 0

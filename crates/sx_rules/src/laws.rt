@@ -1,8 +1,8 @@
 //! What holds of the sections of every table that admissions and removals lead to. Each law is a
 //! function that does nothing: its contract is the law, for all lists of sections.
 
-ghost use Rattle.sx_rules.specs.Placed.{StartsPlaced, AdmitKeepsPlaced, RemoveKeepsPlaced};
-ghost use Rattle.sx_rules.specs.Placed.{RemoveRemoves, PlacedBeside, PlacedFound, PlacedHolds};
+ghost use Rattle.sx_rules.specs.Laws.{StartsPlaced, AdmitKeepsPlaced, RemoveKeepsPlaced};
+ghost use Rattle.sx_rules.specs.Laws.{RemoveRemoves, PlacedBeside, PlacedFound, PlacedHolds};
 
 /// The sections of a new table are placed.
 pub fn starts_placed()

@@ -1,6 +1,7 @@
 -- The runs of an accepted deployment with its images are legal.
 use Rattle.sx_deploy.proofs.Sound.{sound}
-use Rattle.sx_run.specs.Accepted.{setting_of, sites_of, AcceptedRunsLegal}
+use Rattle.sx_run.specs.Accepted.{setting_of, sites_of}
+use Rattle.sx_run.specs.AcceptedLaw.{AcceptedRunsLegal}
 use Rattle.sx_run.proofs.RunsLegal.{runs_legal}
 use Rattle.sx_run.proofs.accepted.Settled.{settled}
 use Rattle.sx_run.proofs.accepted.FormedLines.{lines_in_form}

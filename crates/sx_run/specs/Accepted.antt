@@ -1,17 +1,12 @@
--- The runs of an accepted deployment are legal, from its text on.
-use Rattle.std.specs.Prelude.{◌≡◌, ℕ, ◌≤◌, List, [], ◌∷◌, length, slice_get, Some, Ok}
+-- The setting of an accepted deployment's run, and which texts are images of its modules.
+use Rattle.std.specs.Prelude.{◌≡◌, ℕ, List, [], ◌∷◌, length, slice_get, Some}
 use Rattle.sx_rules.specs.declared.section.Layout.{Layout}
-use Rattle.sx_tag.specs.Mac.{Mac, IsTag}
+use Rattle.sx_tag.specs.Mac.{Mac}
 use Rattle.sx_mean.specs.Application.{PartTree}
 use Rattle.sx_mean.specs.Ends.{ends_of}
-use Rattle.sx_trace.specs.Names.{NameLists}
-use Rattle.sx_sched.specs.Lines.{Line, IsLine}
-use Rattle.sx_deploy.specs.Deployment.{Deployed, IsRead}
+use Rattle.sx_deploy.specs.Deployment.{Deployed}
 use Rattle.sx_image.specs.Realizes.{Realizes}
-use Rattle.sx_model.specs.Legal.{Legal, before}
 use Rattle.sx_run.specs.Setting.{Site, Setting}
-use Rattle.sx_run.specs.State.{switched_on}
-use Rattle.sx_run.specs.Run.{run}
 
 -- where each module stands, with the text of its image
 abbrev pub sites_of : List PartTree → List Layout → List ℕ → List (List ℕ) → List Site
@@ -47,18 +42,3 @@ pub record AreImages (mac : Mac) (d : Deployed) (texts : List (List ℕ)) : Type
         provider =
             provider;
       })
-
--- lines that are in form for the deployment's names
-abbrev pub AreLines : NameLists → List Line → Type 0
-AreLines names [] = Unit {0}
-AreLines names (line ∷ lines) = IsLine names line × AreLines names lines
-
--- From text to trace: for every text that is accepted, every lawful tag, all images that realize
--- its modules and every schedule of at most 65,536 lines, the items before the first forged one are
--- a legal run of the source.
-abbrev pub AcceptedRunsLegal : Type 0
-AcceptedRunsLegal = (text : List ℕ) (d : Deployed) → IsRead text (Ok d)
-    → (mac : Mac) (texts : List (List ℕ)) → IsTag mac → AreImages mac d texts
-    → (lines : List Line) → length lines ≤ 65536 → AreLines d.names lines
-    → Legal d.app (before (run (setting_of mac d texts) (switched_on (setting_of mac d texts))
-    lines).items)

@@ -8,3 +8,4 @@ pub mod Acts
 pub mod Run
 pub mod Law
 pub mod Accepted
+pub mod AcceptedLaw

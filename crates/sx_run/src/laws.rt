@@ -1,6 +1,6 @@
 //! What holds of every run. Each law is a function that does nothing: its contract is the law.
 
-ghost use Rattle.sx_run.specs.Accepted.{AcceptedRunsLegal};
+ghost use Rattle.sx_run.specs.AcceptedLaw.{AcceptedRunsLegal};
 ghost use Rattle.sx_run.specs.Law.{RunsLegal};
 
 /// Every run of lines in form is a legal run of the source, up to its first forged item.

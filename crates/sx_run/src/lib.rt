@@ -9,8 +9,9 @@
 //!
 //! `specs/Setting.antt` has what a run is given, `State.antt` a world, `Acts.antt` the acts that
 //! lines are made of, `Observation.antt` the items of a step, `Ledger.antt` and `Wire.antt` who
-//! made which header, `Deployer.antt` the deployer, `Law.antt` the theorem with its premises, and
-//! `Accepted.antt` the theorem from an accepted text on.
+//! made which header, `Deployer.antt` the deployer, `Law.antt` the theorem with its premises,
+//! `Accepted.antt` the setting of an accepted deployment, and `AcceptedLaw.antt` the theorem from an
+//! accepted text on.
 //!
 //! In `proofs/` read `tie/Tied.antt` first: the tie of a world and the source's state is the
 //! invariant, which each act keeps or else shows an item that is forged.

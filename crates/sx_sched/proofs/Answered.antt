@@ -14,7 +14,8 @@ use Rattle.sx_asm.specs.Assembled.{assembled}
 use Rattle.sx_sched.specs.HexText.{is_hex_text}
 use Rattle.sx_sched.specs.declared.lines.LineError.{LineError}
 use Rattle.sx_sched.specs.declared.lines.LineError.TheVariants.{Fault, OutOfMemory}
-use Rattle.sx_sched.specs.Reading.{no_bytes, no_code, decoded_bytes, bytes_of, code_in, code_of, AreSaid, MayWant, Answers}
+use Rattle.sx_sched.specs.Reading.{no_bytes, no_code, decoded_bytes, bytes_of, code_in, code_of}
+use Rattle.sx_sched.specs.Answers.{AreSaid, MayWant, Answers}
 
 one_way : (t : Bool) (b : List ℕ) → is_ok (if t then Ok b else Err no_bytes) ≡ t
 one_way true b = refl

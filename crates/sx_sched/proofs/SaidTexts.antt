@@ -7,14 +7,16 @@ use Rattle.std.proofs.lemmas.Bool.Decides.{nat_tests}
 use Rattle.sx_asm.specs.Assembled.{assembled}
 use Rattle.sx_asm.specs.Shown.{hex}
 use Rattle.sx_lang.specs.Form.{is_lower, is_name, is_name_byte}
-use Rattle.sx_trace.specs.Names.{NameLists, are_valid, if_sensor}
+use Rattle.sx_trace.specs.Names.{NameLists, if_sensor}
+use Rattle.sx_trace.specs.ValidNames.{are_valid}
 use Rattle.sx_trace.specs.Items.{name_at, spaced_words}
 use Rattle.sx_trace.proofs.Known.{known_node, known_device, known_module, lower_byte}
 use Rattle.sx_sched.specs.declared.lines.LineError.{LineError}
 use Rattle.sx_sched.specs.Lines.{Line, Blank, Run, Finish, Put, Set, Take, Give, Forge, Sense, Irq, Reset, Ask, Answer, Load, Call}
 use Rattle.sx_sched.specs.Reading.{no_name, node_of, sensor_of, module_of, number_in, number16, number32, one, two, three, four, said_in, said_line}
 use Rattle.sx_sched.specs.Words.{words_of, text_behind}
-use Rattle.sx_sched.specs.Written.{line_text, TextIsSaid}
+use Rattle.sx_sched.specs.Written.{line_text}
+use Rattle.sx_sched.specs.Laws.{TextIsSaid}
 use Rattle.sx_sched.proofs.Decimals.{decimal_word, number_between, number_said}
 use Rattle.sx_sched.proofs.Hexadecimals.{hex_said, hex_word}
 use Rattle.sx_sched.proofs.Spaced.{is_plain, is_word, spaced, words_read}

@@ -1,6 +1,9 @@
 pub mod HexText
 pub mod Lines
+pub mod Seen
 pub mod Reading
+pub mod Answers
 pub mod InForm
+pub mod Laws
 pub mod Words
 pub mod Written

@@ -1,6 +1,6 @@
 -- What a text says as a line of a schedule: a line, or the first rule that it breaks.
-use Rattle.std.specs.Prelude.{◌≡◌, ℕ, ◌==◌, nat_le, Bool, false, ◌&&◌, if◌then◌else◌, List, [], ◌∷◌}
-use Rattle.std.specs.Prelude.{length, codes, Option, Some, None, Result, Ok, Err, IsTrue, ok_or}
+use Rattle.std.specs.Prelude.{ℕ, ◌==◌, nat_le, Bool, false, ◌&&◌, if◌then◌else◌, List, [], ◌∷◌}
+use Rattle.std.specs.Prelude.{length, codes, Option, Some, None, Result, Ok, Err, ok_or}
 use Rattle.std.specs.Borrow.{Bor}
 use Rattle.std.specs.Str.{bytes_eq, is_utf8}
 use Rattle.hex.specs.Hex.{decode_of}
@@ -8,13 +8,12 @@ use Rattle.hex.specs.declared.error.FromHexError.{FromHexError}
 use Rattle.sx_asm.specs.declared.error.AsmError.{AsmError}
 use Rattle.sx_io.specs.Numbers.{number_of}
 use Rattle.sx_trace.specs.Names.{NameLists, place_of, sensor_place}
-use Rattle.sx_sched.specs.declared.lines.Line.{Line as Read}
 use Rattle.sx_sched.specs.declared.lines.LineError.{LineError}
-use Rattle.sx_sched.specs.declared.lines.LineError.TheVariants.{Fault, OutOfMemory}
-use Rattle.sx_sched.specs.Lines.{line_of, Line, Blank, Run, Finish, Put, Set, Take, Give}
-use Rattle.sx_sched.specs.Lines.{Forge, Sense, Irq, Reset, Ask, Answer, Load, Call}
-use Rattle.sx_sched.specs.Words.{words_of, text_behind, one_word, two_words, three_words, four_words}
-use Rattle.sx_sched.specs.Words.{two_before}
+use Rattle.sx_sched.specs.declared.lines.LineError.TheVariants.{Fault}
+use Rattle.sx_sched.specs.Lines.{Line, Blank, Run, Finish, Put, Set, Take, Give, Forge, Sense, Irq}
+use Rattle.sx_sched.specs.Lines.{Reset, Ask, Answer, Load, Call}
+use Rattle.sx_sched.specs.Words.{words_of, text_behind, one_word, two_words, three_words}
+use Rattle.sx_sched.specs.Words.{four_words, two_before}
 
 -- rule 3: the first word is none of the kinds of line
 abbrev pub no_kind : LineError
@@ -39,11 +38,6 @@ wrong_count = Fault 7
 -- rule 8: the text of an `asm` line gives no code of 1 to 1,024 bytes
 abbrev pub no_code : LineError
 no_code = Fault 8
-
--- a broken rule, and not a lack of memory
-abbrev pub IsBrokenRule : LineError → Type 0
-IsBrokenRule (Fault rule) = Unit {0}
-IsBrokenRule OutOfMemory = ⊥
 
 -- the first answer, and what is made of it
 infixl 10 ◌>>=◌
@@ -74,10 +68,6 @@ registers =
     ∷ (codes "r6", 6) ∷ (codes "r7", 7) ∷ (codes "r8", 8) ∷ (codes "r9", 9) ∷ (codes "r10", 10)
     ∷ (codes "r11", 11) ∷ (codes "r12", 12)
     ∷ (codes "r13", 13) ∷ (codes "r14", 14) ∷ (codes "r15", 15) ∷ []
-
--- an entry of a table as code has it
-abbrev pub entry_of : Bor (List ℕ) × ℕ → List ℕ × ℕ
-entry_of entry = (entry.0.now, entry.1)
 
 -- the number of the first entry with this name
 abbrev pub register_in : List (List ℕ × ℕ) → List ℕ → Option ℕ
@@ -240,33 +230,3 @@ said_in assemble n text (first ∷ fields) =
 -- what a text says: one line, or one broken rule
 unfoldable pub said_line : Assembler → NameLists → List ℕ → Result Line LineError
 said_line assemble n text = said_in assemble n (text_behind 3 text) (words_of text)
-
--- an answer of the code, its line seen as such
-abbrev pub seen_line : Result Read LineError → Result Line LineError
-seen_line (Ok line) = Ok (line_of line)
-seen_line (Err e) = Err e
-
--- lines whose bytes take memory
-abbrev pub TakesMemory : Line → Type 0
-TakesMemory (Put node at bytes) = Unit {0}
-TakesMemory (Forge bytes) = Unit {0}
-TakesMemory _ = ⊥
-
--- bytes are said, for which memory may be needed
-abbrev pub AreSaid : Result (List ℕ) LineError → Type 0
-AreSaid (Ok bytes) = Unit {0}
-AreSaid (Err e) = ⊥
-
--- Memory may be needed for a value that takes some, and to find whether a text that is UTF-8 breaks
--- rule 8. It never hides another broken rule.
-abbrev pub MayWant : {V : Type 0} → (V → Type 0) → List ℕ → Result V LineError → Type 0
-MayWant Takes text (Ok x) = Takes x
-MayWant Takes text (Err (Fault rule)) = (rule ≡ 8) × IsTrue (is_utf8 text)
-MayWant Takes text (Err OutOfMemory) = ⊥
-
--- the answer is the defined one; memory may run out only where some may be needed
-abbrev pub Answers : {T V : Type 0} → (T → V) → (Result V LineError → Type 0) → Result V LineError
-    → Result T LineError → Type 0
-Answers view Wants meant (Ok x) = meant ≡ Ok (view x)
-Answers view Wants meant (Err (Fault rule)) = meant ≡ Err (Fault rule)
-Answers view Wants meant (Err OutOfMemory) = Wants meant

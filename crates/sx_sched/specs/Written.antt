@@ -1,22 +1,9 @@
--- The lines that are written, and their texts.
-use Rattle.std.specs.Prelude.{◌≡◌, List, [], ◌∷◌, codes, decimal, ℕ, Ok, IsTrue}
-use Rattle.sx_asm.specs.Assembled.{assembled}
+-- The texts of lines that are written.
+use Rattle.std.specs.Prelude.{List, [], ◌∷◌, codes, decimal, ℕ}
 use Rattle.sx_asm.specs.Shown.{hex}
-use Rattle.sx_trace.specs.Names.{NameLists, are_valid}
+use Rattle.sx_trace.specs.Names.{NameLists}
 use Rattle.sx_trace.specs.Items.{name_at, spaced_words}
-use Rattle.sx_sched.specs.Lines.{IsLine, Line, Take, Give, Sense, Ask, Answer, Load, Call}
-use Rattle.sx_sched.specs.Reading.{said_line}
-
--- the line is of a kind that is written
-abbrev pub IsWritten : Line → Type 0
-IsWritten (Take node at len) = Unit {0}
-IsWritten (Give packet node at) = Unit {0}
-IsWritten (Sense device value) = Unit {0}
-IsWritten (Ask m) = Unit {0}
-IsWritten (Answer m boot packet) = Unit {0}
-IsWritten (Load m) = Unit {0}
-IsWritten (Call m entry input output) = Unit {0}
-IsWritten _ = ⊥
+use Rattle.sx_sched.specs.Lines.{Line, Take, Give, Sense, Ask, Answer, Load, Call}
 
 -- the words of a line: addresses are hexadecimal, other numbers decimal
 abbrev pub line_words : NameLists → Line → List (List ℕ)
@@ -36,8 +23,3 @@ line_words n _ = []
 -- the text of a line, without its newline
 unfoldable pub line_text : NameLists → Line → List ℕ
 line_text n line = spaced_words (line_words n line)
-
--- the text of a line says the line
-abbrev pub TextIsSaid : Type 0
-TextIsSaid = (n : NameLists) (line : Line) → IsTrue (are_valid n) → IsWritten line → IsLine n line
-    → said_line assembled n (line_text n line) ≡ Ok line

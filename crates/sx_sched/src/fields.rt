@@ -5,10 +5,12 @@ ghost use Rattle.std.specs.Prelude.{None, IsTrue, IfOk, IfErr};
 ghost use Rattle.std.specs.List.{list_all};
 ghost use Rattle.hex.specs.Hex.{is_hex_digit};
 ghost use Rattle.sx_sched.specs.HexText.{is_hex_text};
-ghost use Rattle.sx_trace.specs.Names.{are_valid};
-ghost use Rattle.sx_sched.specs.Reading.{IsBrokenRule, node_of, sensor_of, module_of, entry_of};
+ghost use Rattle.sx_trace.specs.ValidNames.{are_valid};
+ghost use Rattle.sx_asm.specs.Entries.{entry_of};
+ghost use Rattle.sx_sched.specs.Reading.{node_of, sensor_of, module_of};
+ghost use Rattle.sx_sched.specs.Answers.{IsBrokenRule, AreSaid, MayWant, Answers};
 ghost use Rattle.sx_sched.specs.Reading.{register_in, register_of, number_in, number16, number32};
-ghost use Rattle.sx_sched.specs.Reading.{bytes_of, code_in, code_of, AreSaid, MayWant, Answers};
+ghost use Rattle.sx_sched.specs.Reading.{bytes_of, code_in, code_of};
 ghost use Rattle.sx_asm.specs.Assembled.{assembled};
 
 use crate::lines::{LineError, NO_BYTES, NO_CODE, NO_NAME, NO_NUMBER};

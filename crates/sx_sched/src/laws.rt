@@ -1,8 +1,7 @@
 //! What holds of the lines of a schedule. Each law is a function that does nothing: its contract is
 //! the law.
 
-ghost use Rattle.sx_sched.specs.InForm.{SaidInForm};
-ghost use Rattle.sx_sched.specs.Written.{TextIsSaid};
+ghost use Rattle.sx_sched.specs.Laws.{SaidInForm, TextIsSaid};
 
 /// What a text says is in form for the names.
 pub fn said_in_form()

@@ -7,8 +7,9 @@
 //! `write_line` writes a line that has no bytes of its own, and what it writes says this line.
 //! `words` parts a line into words, for other inputs too whose lines are made of words.
 //!
-//! `specs/Reading.antt` has what each kind of line says, `specs/Words.antt` what a word is, and
-//! `specs/Lines.antt` when a line is in form, and `specs/Written.antt` the texts that are written.
+//! `specs/Lines.antt` has the lines, `specs/Reading.antt` what each kind of line says,
+//! `specs/Words.antt` what a word is, `specs/InForm.antt` when a line is in form, and
+//! `specs/Written.antt` the texts that are written.
 //! `laws` has what holds of them.
 #![tactic(auto)]
 

@@ -2,15 +2,17 @@
 
 ghost use Rattle.std.specs.Prelude.{◌≡◌, IfOk, IfErr, IsTrue};
 ghost use Rattle.sx_asm.specs.Assembled.{assembled};
-ghost use Rattle.sx_trace.specs.Names.{are_valid};
+ghost use Rattle.sx_trace.specs.ValidNames.{are_valid};
 ghost use Rattle.sx_sched.specs.Words.{words_of, text_behind};
-ghost use Rattle.sx_sched.specs.Lines.{line_of, IsLine, Run, Finish, Put, Set, Take, Give, Forge};
+ghost use Rattle.sx_sched.specs.Lines.{Run, Finish, Put, Set, Take, Give, Forge};
+ghost use Rattle.sx_sched.specs.Seen.{line_of, seen_line};
+ghost use Rattle.sx_sched.specs.InForm.{IsLine};
 ghost use Rattle.sx_sched.specs.Lines.{Sense, Irq, Reset, Ask, Answer, Load, Call};
-ghost use Rattle.sx_sched.specs.Reading.{IsBrokenRule, node_of, sensor_of, module_of, register_of};
+ghost use Rattle.sx_sched.specs.Reading.{node_of, sensor_of, module_of, register_of};
+ghost use Rattle.sx_sched.specs.Answers.{IsBrokenRule, TakesMemory, MayWant, Answers};
 ghost use Rattle.sx_sched.specs.Reading.{number_in, number16, number32, bytes_of, one, two, three};
 ghost use Rattle.sx_sched.specs.Reading.{four, code_line, module_kinds, plain_kinds, kinds};
-ghost use Rattle.sx_sched.specs.Reading.{said_by, said_line, seen_line, TakesMemory};
-ghost use Rattle.sx_sched.specs.Reading.{MayWant, Answers};
+ghost use Rattle.sx_sched.specs.Reading.{said_by, said_line};
 
 use crate::fields::{
     bytes_of, code_of, module_of, node_of, number_in, number16, number32, register_of, sensor_of,

@@ -3,11 +3,13 @@
 ghost use Rattle.std.specs.Prelude.{◌≡◌, [], ◌∷◌, codes, decimal, take, IsTrue, Ok};
 ghost use Rattle.sx_asm.specs.Assembled.{assembled};
 ghost use Rattle.sx_asm.specs.Shown.{hex};
-ghost use Rattle.sx_trace.specs.Names.{are_valid};
-ghost use Rattle.sx_trace.specs.Items.{name_at, spaced_words, IsWrittenText};
-ghost use Rattle.sx_sched.specs.Lines.{line_of, IsLine};
+ghost use Rattle.sx_trace.specs.ValidNames.{are_valid};
+ghost use Rattle.sx_trace.specs.Items.{name_at, spaced_words};
+ghost use Rattle.sx_trace.specs.Written.{IsWrittenText};
+ghost use Rattle.sx_sched.specs.Seen.{line_of};
+ghost use Rattle.sx_sched.specs.InForm.{IsLine, IsWritten};
 ghost use Rattle.sx_sched.specs.Reading.{said_line};
-ghost use Rattle.sx_sched.specs.Written.{line_text, IsWritten};
+ghost use Rattle.sx_sched.specs.Written.{line_text};
 
 use crate::lines::Line;
 use itoa::Buffer;

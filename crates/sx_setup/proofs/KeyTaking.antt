@@ -14,7 +14,8 @@ use Rattle.sx_trace.specs.declared.items.Item.TheVariants as item
 use Rattle.sx_ledger.specs.declared.entry.Maker.TheVariants as maker
 use Rattle.sx_tag.specs.Wrap.{wrapped}
 use Rattle.sx_machine.specs.Memory.{bytes_from, put_bytes}
-use Rattle.sx_machine.specs.Node.{IsNode, shapes}
+use Rattle.sx_machine.specs.Node.{IsNode}
+use Rattle.sx_machine.specs.NodeLaws.{shapes}
 use Rattle.sx_machine.specs.State.{State}
 use Rattle.sx_machine.proofs.Meanings.{same_bytes}
 use Rattle.sx_machine.proofs.Stays.{put_is_node}

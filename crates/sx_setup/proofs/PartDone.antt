@@ -12,7 +12,7 @@ use Rattle.sx_mean.specs.Ends.{ends_of}
 use Rattle.sx_mean.specs.Places.{initial_cells}
 use Rattle.sx_trace.specs.declared.items.Item.{Item}
 use Rattle.sx_trace.specs.declared.items.Item.TheVariants as item
-use Rattle.sx_machine.specs.Node.{shapes}
+use Rattle.sx_machine.specs.NodeLaws.{shapes}
 use Rattle.sx_machine.specs.State.{State}
 use Rattle.sx_invoke.specs.ModuleState.{initial_state}
 use Rattle.sx_sched.specs.Lines.{Line, Load}

@@ -11,7 +11,7 @@ use Rattle.sx_mean.specs.Ends.{ends_of}
 use Rattle.sx_mean.specs.Places.{initial_cells}
 use Rattle.sx_trace.specs.declared.items.Item.{Item}
 use Rattle.sx_machine.specs.State.{State, power_on}
-use Rattle.sx_machine.specs.Node.{shapes}
+use Rattle.sx_machine.specs.NodeLaws.{shapes}
 use Rattle.sx_invoke.specs.ModuleState.{EndState}
 use Rattle.sx_run.specs.Setting.{Site, Setting, windows_at}
 use Rattle.sx_run.specs.Deployer.{connection_key, list_at}

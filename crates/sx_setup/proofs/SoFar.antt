@@ -16,7 +16,8 @@ use Rattle.sx_mean.specs.Ends.{ends_of}
 use Rattle.sx_mean.specs.Valid.{IsApplication, IsPlaced}
 use Rattle.sx_mean.proofs.ValidApplications.{valid_applications}
 use Rattle.sx_machine.specs.State.{State}
-use Rattle.sx_machine.specs.Node.{IsNode, shapes}
+use Rattle.sx_machine.specs.Node.{IsNode}
+use Rattle.sx_machine.specs.NodeLaws.{shapes}
 use Rattle.sx_image.specs.Image.{private_bytes, public_bytes}
 use Rattle.sx_invoke.specs.ModuleState.{state_of}
 use Rattle.sx_run.specs.Setting.{Site, Setting, windows_at}

@@ -1,6 +1,6 @@
 -- What holds of the set-up of an honest run: it shows what the source alone predicts, and fits.
 use Rattle.std.specs.Prelude.{◌≡◌, ℕ, ◌<◌, ◌≤◌, true, List, length, slice_get, Some, Ok, All}
-use Rattle.sx_mean.specs.Application.{is_valid}
+use Rattle.sx_mean.specs.Validity.{is_valid}
 use Rattle.sx_tag.specs.Mac.{Mac, IsTag}
 use Rattle.sx_deploy.specs.Deployment.{Deployed, IsRead}
 use Rattle.sx_run.specs.Setting.{Site, Setting}

@@ -8,7 +8,7 @@ use Rattle.sx_sched.specs.Lines.{Line}
 use Rattle.sx_run.specs.Setting.{Setting}
 use Rattle.sx_run.specs.State.{World, switched_on}
 use Rattle.sx_run.specs.Run.{run, after_line, line_counted}
-use Rattle.sx_world.specs.Continued.{next, whole_run}
+use Rattle.sx_world.specs.Whole.{next, whole_run}
 use Rattle.sx_snap.specs.Laws.{ItemsAdd}
 use Rattle.sx_snap.specs.Timeline.{items_at, items_in, world_at}
 use Rattle.sx_snap.proofs.Stretches.{take_next}

@@ -4,7 +4,8 @@ use Rattle.std.specs.Prelude.{slice_get, OnErr, OnOk, Result, Ok, Err}
 use Rattle.std.proofs.lemmas.List.{take-append-le}
 use Rattle.std.proofs.lemmas.Option.{slice_get_within}
 use Rattle.sx_tag.specs.Mac.{Mac}
-use Rattle.sx_sched.specs.Lines.{Line, IsLine}
+use Rattle.sx_sched.specs.Lines.{Line}
+use Rattle.sx_sched.specs.InForm.{IsLine}
 use Rattle.sx_deploy.specs.Deployment.{Deployed}
 use Rattle.sx_run.specs.Setting.{Setting, Site}
 use Rattle.sx_run.specs.State.{switched_on}
@@ -12,7 +13,7 @@ use Rattle.sx_run.specs.Accepted.{setting, setting_of}
 use Rattle.sx_world.specs.Held.{Held}
 use Rattle.sx_world.specs.Standing.{Stands}
 use Rattle.sx_snap.specs.Kept.{Kept, first_sites}
-use Rattle.sx_snap.specs.Timeline.{IsTimeline, StandsAfter}
+use Rattle.sx_snap.specs.Checkpoints.{IsTimeline, StandsAfter}
 use Rattle.sx_snap.proofs.Stretches.{formed_more}
 
 take_none : (n : ℕ) → ◌≡◌ {A = List Line} (take n []) []

@@ -5,22 +5,26 @@ use Rattle.std.proofs.lemmas.Nat.{div_below}
 use Rattle.std.proofs.lemmas.Option.{slice_get-map, slice_get_read}
 use Rattle.sx_tag.specs.Mac.{Mac}
 use Rattle.sx_trace.specs.declared.items.Item.{Item}
-use Rattle.sx_sched.specs.Lines.{Line, IsLine, line_of}
+use Rattle.sx_sched.specs.Lines.{Line}
+use Rattle.sx_sched.specs.InForm.{IsLine}
+use Rattle.sx_sched.specs.Seen.{line_of}
 use Rattle.sx_sched.specs.declared.lines.Line.{Line as Read}
 use Rattle.sx_deploy.specs.Deployment.{Deployed}
 use Rattle.sx_run.specs.Setting.{Setting, Site}
 use Rattle.sx_run.specs.State.{World, switched_on}
 use Rattle.sx_run.specs.Run.{run, after_line, line_counted}
-use Rattle.sx_run.specs.Accepted.{AreLines, setting}
+use Rattle.sx_run.specs.Accepted.{setting}
+use Rattle.sx_run.specs.AcceptedLaw.{AreLines}
 use Rattle.sx_run.specs.Law.{IsSoundSetting}
 use Rattle.sx_run.proofs.acts.Bounds.{lines_within}
 use Rattle.sx_deploy.specs.Law as deployment
 use Rattle.sx_trace.specs.Names.{NameLists}
 use Rattle.sx_world.specs.Held.{Held}
-use Rattle.sx_world.specs.Continued.{next}
+use Rattle.sx_world.specs.Whole.{next}
 use Rattle.sx_world.specs.Standing.{Stands}
 use Rattle.sx_snap.specs.Kept.{Kept}
-use Rattle.sx_snap.specs.Timeline.{IsTimeline, StandsAfter, items_at, items_in, world_after, world_at}
+use Rattle.sx_snap.specs.Timeline.{items_at, items_in, world_after, world_at}
+use Rattle.sx_snap.specs.Checkpoints.{IsTimeline, StandsAfter}
 
 -- the run of one line more
 run_last : (set : Setting) (lines : List Line) (line : Line) (w : World) → (run set w (lines ++ line ∷ [])).world ≡ (next set (run set w lines).world line).world

@@ -2,7 +2,7 @@
 use Rattle.std.specs.Prelude.{◌≡◌, ℕ, ◌+◌, ◌<◌, List, ◌++◌, length, take}
 use Rattle.sx_sched.specs.Lines.{Line}
 use Rattle.sx_run.specs.Setting.{Setting}
-use Rattle.sx_world.specs.Continued.{whole_run}
+use Rattle.sx_world.specs.Whole.{whole_run}
 use Rattle.sx_snap.specs.Timeline.{items_at}
 
 -- the items of one line more are those of the lines before it, and its own

@@ -4,12 +4,15 @@ ghost use Rattle.std.specs.Prelude.{◌≡◌, ◌+◌, ◌∷◌, ◌++◌, ◌
 ghost use Rattle.std.specs.Prelude.{map, take};
 ghost use Rattle.sx_deploy.specs.Law.{IsSoundDeployment};
 ghost use Rattle.sx_deploy.specs.SeenDeployment.{deployed_as};
-ghost use Rattle.sx_sched.specs.Lines.{IsLine, line_of};
-ghost use Rattle.sx_run.specs.Accepted.{AreLines, setting};
+ghost use Rattle.sx_sched.specs.InForm.{IsLine};
+ghost use Rattle.sx_sched.specs.Seen.{line_of};
+ghost use Rattle.sx_run.specs.Accepted.{setting};
+ghost use Rattle.sx_run.specs.AcceptedLaw.{AreLines};
 ghost use Rattle.sx_run.specs.Law.{IsSoundSetting};
 ghost use Rattle.sx_run.specs.State.{nodes_from};
 ghost use Rattle.sx_world.specs.InMemory.{image_setting, world_setting};
-ghost use Rattle.sx_snap.specs.Timeline.{IsTimeline, NextCheckpoint, StandsAfter, items_at};
+ghost use Rattle.sx_snap.specs.Timeline.{items_at};
+ghost use Rattle.sx_snap.specs.Checkpoints.{IsTimeline, NextCheckpoint, StandsAfter};
 
 use std::alloc::{AllocError, Global};
 use std::marker::Model;
@@ -35,7 +38,7 @@ pub struct Timeline<B: Bus, T: Tag> {
 
 impl<B: Bus, T: Tag> Model for Timeline<B, T> {
     ghost use Rattle.std.specs.Prelude.{map};
-    ghost use Rattle.sx_sched.specs.Lines.{line_of};
+    ghost use Rattle.sx_sched.specs.Seen.{line_of};
     ghost use Rattle.sx_snap.specs.Kept.{Kept, first_sites};
 
     ghost Value = { Kept };

@@ -1,4 +1,5 @@
 pub mod Fault
+pub mod Gives
 pub mod Stage
 pub mod Lines
 pub mod Text

@@ -6,9 +6,9 @@
 //! (`lines::entries`, `lines::whole`). Each ends at the first fault, with the rule's number and the
 //! place.
 //!
-//! `specs/Fault.antt` says what it means that an answer is the right one, unless memory ran out,
-//! and that it isn't that memory ran out; `specs/Stage.antt` and `specs/Lines.antt` say what stages
-//! and lines are.
+//! `specs/Fault.antt` has faults, `specs/Gives.antt` says what it means that an answer is the right
+//! one, unless memory ran out, and that it isn't that memory ran out; `specs/Stage.antt` and
+//! `specs/Lines.antt` say what stages and lines are.
 #![tactic(auto)]
 
 pub mod fault;

@@ -1,7 +1,8 @@
 //! Stages: entries become entries of another type.
 ghost use Rattle.std.specs.Prelude.{◌≡◌, [], List, Result};
 ghost use Rattle.sx_stage.specs.declared.fault.DeployFault.{DeployFault as FaultSeen};
-ghost use Rattle.sx_stage.specs.Fault.{Gives, passes, TakesNoMemory};
+ghost use Rattle.sx_stage.specs.Fault.{passes};
+ghost use Rattle.sx_stage.specs.Gives.{Gives, TakesNoMemory};
 ghost use Rattle.sx_stage.specs.Stage.{in_entry, made_after};
 
 use crate::fault::{DeployError, DeployFault, Sort, nth};

@@ -4,7 +4,7 @@ use Rattle.std.specs.Prelude.{nat_lt, slice_get, if◌then◌else◌}
 use Rattle.sx_lang.specs.declared.tree.UnOp.TheVariants as unary
 use Rattle.sx_lang.specs.declared.tree.BinOp.TheVariants as binary
 use Rattle.sx_mean.specs.Meaning.{apply, combine}
-use Rattle.sx_mean.specs.Offsets as places
+use Rattle.sx_mean.specs.Working as working
 use Rattle.sx_rules.specs.declared.access.Violation.{Violation}
 use Rattle.sx_machine.specs.Memory.{word}
 use Rattle.sx_reach.specs.Reach.{Goes, Stops, Here, Next, Ends}
@@ -78,9 +78,9 @@ pure_op s priv (ir.Packet k) stack = None
 pure_op s priv ir.Drop stack = None
 pure_op s priv ir.Emit stack = None
 pure_op s priv ir.Stop stack = None
-pure_op s priv (ir.Saved r) stack = if is_saved r then with_room (word priv (places.saved_at r)) stack else None
+pure_op s priv (ir.Saved r) stack = if is_saved r then with_room (word priv (working.saved_at r)) stack else None
 pure_op s priv ir.Inside stack = None
-pure_op s priv (ir.Meets r n) stack = if is_saved r then with_room (truth (is_bad_window s (word priv (places.saved_at r)) n)) stack else None
+pure_op s priv (ir.Meets r n) stack = if is_saved r then with_room (truth (is_bad_window s (word priv (working.saved_at r)) n)) stack else None
 pure_op s priv (ir.CopyIn n o) stack = None
 pure_op s priv (ir.CopyOut n o) stack = None
 pure_op s priv (ir.Seal k h hn b bn) stack = None

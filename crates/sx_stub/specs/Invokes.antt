@@ -5,7 +5,7 @@ use Rattle.sx_lang.specs.Sizes.{module_data_size}
 use Rattle.sx_mean.specs.declared.events.SourceEvent.{SourceEvent}
 use Rattle.sx_mean.specs.Application.{declared_kind}
 use Rattle.sx_mean.specs.React.{value_of}
-use Rattle.sx_mean.specs.Offsets.{event_at}
+use Rattle.sx_mean.specs.Working.{event_at}
 use Rattle.sx_mean.specs.Handlers.{number_of}
 use Rattle.sx_rules.specs.declared.access.Violation.{Violation}
 use Rattle.sx_bus.specs.Devices.{HaveSamples}

@@ -10,12 +10,14 @@ use Rattle.sx_mean.specs.declared.events.SourceEvent.TheVariants as event
 use Rattle.sx_mean.specs.Application.{declared_kind}
 use Rattle.sx_mean.specs.Handlers.{number_of}
 use Rattle.sx_mean.specs.Offsets as offsets
+use Rattle.sx_mean.specs.Working as working
 use Rattle.sx_invoke.specs.Protocol.{set_key_entry, attest_entry, input_entry, sample_entry}
 use Rattle.sx_invoke.specs.Protocol.{entry_register, input_register, output_register}
 use Rattle.sx_invoke.specs.Protocol.{all_done, no_entry, bad_window, other_kind, no_end}
 use Rattle.sx_invoke.specs.Protocol.{past_number, other_tag, no_sample, last_number}
 use Rattle.sx_invoke.specs.Protocol.{set_key_kind, ask_kind, event_kind}
-use Rattle.sx_invoke.specs.Protocol.{set_key_size, ask_size, event_size, header_size, tag_size}
+use Rattle.sx_invoke.specs.Protocol.{set_key_size, ask_size, event_size, header_size}
+use Rattle.sx_invoke.specs.Pieces.{tag_size}
 use Rattle.sx_invoke.specs.Protocol.{key_size, value_size}
 use Rattle.sx_invoke.specs.Windows.{in_window_size, out_window_size}
 use Rattle.sx_invoke.specs.Invocation.{is_sensor_driver}
@@ -167,14 +169,14 @@ is_keyed_code ends =
 abbrev pub key_found : List End → ℕ → List Ir
 key_found ends place =
     refuse_if place (is_keyed_code (length ends)) no_end
-    ++ ir.Open 0 offsets.packet_at header_size offsets.plain_at key_size
+    ++ ir.Open 0 working.packet_at header_size working.plain_at key_size
     ∷ (refuse_if (place + 24) is_opened_not other_tag
     ++ cases open_any (place + 29) 0 ends)
 
 -- the packet is copied and tested, and its end is searched for
 abbrev pub set_key_code : ℕ → ℕ → List Ir
 set_key_code search place =
-    ir.CopyIn set_key_size offsets.packet_at
+    ir.CopyIn set_key_size working.packet_at
     ∷ (refuse_if (place + 1) (is_wrong_kind set_key_kind) other_kind
     ++ (refuse_if (place + 8) is_no_side no_end
     ++ (wanted_end ++ ir.Store wanted_at ∷ ir.Jump search ∷ [])))
@@ -188,19 +190,19 @@ answer_at = 34
 -- the answer's tag is made and copied
 abbrev pub answer_code : List Ir
 answer_code =
-    ir.Seal 0 offsets.packet_at ask_size offsets.plain_at 0 ∷ ir.Push 0
+    ir.Seal 0 working.packet_at ask_size working.plain_at 0 ∷ ir.Push 0
     ∷ ir.CopyOut tag_size answer_at ∷ ir.Push all_done ∷ ir.Push 1 ∷ ir.Leave ∷ []
 
 -- the ask is copied, tested and answered
 abbrev pub attest_code : ℕ → List Ir
 attest_code place =
-    ir.CopyIn ask_size offsets.packet_at
+    ir.CopyIn ask_size working.packet_at
     ∷ (refuse_if (place + 1) (is_wrong_kind ask_kind) other_kind ++ answer_code)
 
 -- A handler, where there is one, and the return.
 abbrev pub handled_by : Option ℕ → List Ir
 handled_by None = ir.Push all_done ∷ ir.Push 0 ∷ ir.Leave ∷ []
-handled_by (Some h) = ir.Handler h ∷ ir.Push all_done ∷ ir.Load offsets.pieces_at ∷ ir.Leave ∷ []
+handled_by (Some h) = ir.Handler h ∷ ir.Push all_done ∷ ir.Load working.pieces_at ∷ ir.Leave ∷ []
 
 -- Input, and the cases in it.
 
@@ -213,13 +215,13 @@ wanted_receiving =
 abbrev pub taken_code : ModuleTree → ℕ → End → List Ir
 taken_code tree k e =
     ir.Load second_at ∷ ir.Push 1 ∷ ir.Op op.Add ∷ ir.Store (offsets.end_number_at k)
-    ∷ ir.Load offsets.plain_at ∷ ir.Store offsets.event_at
+    ∷ ir.Load working.plain_at ∷ ir.Store working.event_at
     ∷ handled_by (number_of tree (event.Input e.port 0))
 
 -- the packet is unwrapped and taken
 abbrev pub take_event : ModuleTree → ℕ → ℕ → End → List Ir
 take_event tree place k e =
-    ir.Open (offsets.end_key_at k) offsets.packet_at header_size offsets.plain_at value_size
+    ir.Open (offsets.end_key_at k) working.packet_at header_size working.plain_at value_size
     ∷ (refuse_if (place + 1) is_opened_not other_tag ++ taken_code tree k e)
 
 -- the receiving end that was found takes the packet
@@ -257,7 +259,7 @@ input_found tree ends place =
 -- the packet is copied and tested, and its end is searched for
 abbrev pub input_code : ℕ → ℕ → List Ir
 input_code search place =
-    ir.CopyIn event_size offsets.packet_at
+    ir.CopyIn event_size working.packet_at
     ∷ (refuse_if (place + 1) (is_wrong_kind event_kind) other_kind
     ++ (wanted_receiving ++ ir.Store wanted_at ∷ ir.Jump search ∷ []))
 
@@ -283,18 +285,18 @@ search_code tree ends place =
 
 -- the sensor wasn't fresh
 abbrev pub is_stale_code : List Ir
-is_stale_code = ir.Load offsets.event_at ∷ ir.Push 0 ∷ ir.Op op.Eq ∷ []
+is_stale_code = ir.Load working.event_at ∷ ir.Push 0 ∷ ir.Op op.Eq ∷ []
 
 -- the handler runs with the value
 abbrev pub sampled_code : ModuleTree → List Ir
 sampled_code tree =
-    ir.Load offsets.event_at ∷ ir.Push 0x8000 ∷ ir.Op op.Sub ∷ ir.Store offsets.event_at
+    ir.Load working.event_at ∷ ir.Push 0x8000 ∷ ir.Op op.Sub ∷ ir.Store working.event_at
     ∷ handled_by (number_of tree (event.Sample 0))
 
 -- the sensor is read, tested and taken
 abbrev pub sample_code : ModuleTree → ℕ → List Ir
 sample_code tree place =
-    ir.Sense ∷ ir.Store offsets.event_at ∷ (refuse_if (place + 2) is_stale_code no_sample
+    ir.Sense ∷ ir.Store working.event_at ∷ (refuse_if (place + 2) is_stale_code no_sample
     ++ sampled_code tree)
 
 -- The tests of the entry and the windows, and the way to the four entries.

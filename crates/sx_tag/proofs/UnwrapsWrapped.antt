@@ -4,7 +4,8 @@ use Rattle.std.specs.Int.Bits.{xor_assoc, xor_self, xor_zero_r}
 use Rattle.std.proofs.lemmas.Bool.{cond-true}
 use Rattle.std.proofs.lemmas.List.{drop-replicate}
 use Rattle.sx_tag.specs.Mac.{Mac, GivesTags}
-use Rattle.sx_tag.specs.Wrap.{xor_bytes, stream, crypt, wrap_tag, padded, unwrapped, UnwrapsWrapped}
+use Rattle.sx_tag.specs.Wrap.{xor_bytes, stream, crypt, wrap_tag, padded, unwrapped}
+use Rattle.sx_tag.specs.Laws.{UnwrapsWrapped}
 use Rattle.sx_lists.proofs.Texts.{bytes_eq-same}
 
 xor_twice : (b s : ℕ) → bit_xor (bit_xor b s) s ≡ b

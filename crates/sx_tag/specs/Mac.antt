@@ -1,6 +1,6 @@
 -- Tag functions.
-use Rattle.std.specs.Prelude.{◌≡◌, ℕ, ◌+◌, ◌-◌, ◌%◌, ◌<◌, List, ◌++◌, length, map, sum, replicate}
-use Rattle.std.specs.Prelude.{bit_xor, All}
+use Rattle.std.specs.Prelude.{◌≡◌, ℕ, ◌+◌, ◌-◌, ◌<◌, List, ◌++◌, length, map, replicate, bit_xor}
+use Rattle.std.specs.Prelude.{All}
 use Rattle.sha2.specs.Sha256.{sha256}
 
 -- a tag function gives 32 bytes for a key and a message
@@ -31,7 +31,3 @@ outer_key key = map (λ b. bit_xor b 0x5C) (padded_key key)
 -- HMAC-SHA-256 (RFC 2104): H(K XOR opad, H(K XOR ipad, text))
 unfoldable pub hmac_sha256 : Mac
 hmac_sha256 key text = sha256 (outer_key key ++ sha256 (inner_key key ++ text))
-
--- the tag for tests: 32 times the sum of the key and the message
-unfoldable pub weak : Mac
-weak key message = replicate 32 ((sum key + sum message) % 256)

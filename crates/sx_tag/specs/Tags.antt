@@ -9,7 +9,8 @@ use Rattle.std.proofs.lemmas.List.{length-replicate}
 use Rattle.std.proofs.lemmas.List.Elements.{All-nil, All-cons, All-append, All-replicate}
 use Rattle.sha2.specs.Sha256.{sha256, digest_bytes, final_hash, initial_hash_256}
 use Rattle.sha2.proofs.Facts256.{length-sha256}
-use Rattle.sx_tag.specs.Mac.{IsTag, hmac_sha256, weak, inner_key, outer_key}
+use Rattle.sx_tag.specs.Mac.{IsTag, hmac_sha256, inner_key, outer_key}
+use Rattle.sx_tag.specs.Weak.{weak}
 
 byte_at-byte : (i n : ℕ) → byte_at i n < 256
 byte_at-byte zero n = mod_below n 256 (lit< tt)

@@ -1,8 +1,8 @@
 -- Authenticated encryption of a header `ad` and a body of at most 32 bytes each, over any tag
 -- function (own).
-use Rattle.std.specs.Prelude.{◌≡◌, ℕ, ◌-◌, ◌≤◌, List, [], ◌∷◌, ◌++◌, length, take, replicate}
-use Rattle.std.specs.Prelude.{bit_xor, bytes_eq, if◌then◌else◌, Option, Some, None}
-use Rattle.sx_tag.specs.Mac.{Mac, GivesTags}
+use Rattle.std.specs.Prelude.{ℕ, ◌-◌, List, [], ◌∷◌, ◌++◌, length, take, replicate, bit_xor}
+use Rattle.std.specs.Prelude.{bytes_eq, if◌then◌else◌, Option, Some, None}
+use Rattle.sx_tag.specs.Mac.{Mac}
 
 -- each byte XOR the byte of the stream beside it, up to the end of the shorter list
 abbrev pub xor_bytes : List ℕ → List ℕ → List ℕ
@@ -41,9 +41,3 @@ unfoldable pub unwrapped : Mac → List ℕ → List ℕ → List ℕ → List �
 unwrapped mac key ad cipher tag =
     if bytes_eq tag (wrap_tag mac key ad cipher) then Some (padded (crypt mac key ad cipher)) else
     None
-
--- what was wrapped is unwrapped, by any tag function
-abbrev pub UnwrapsWrapped : Type 0
-UnwrapsWrapped = (mac : Mac) (key ad body : List ℕ) → GivesTags mac → length body ≤ 32 →
-    unwrapped mac key ad (wrapped mac key ad body).cipher (wrapped mac key ad body).tag
-    ≡ Some (padded body)

@@ -17,7 +17,7 @@ pub struct WeakRun {
 
 impl Tag for Weak {
     ghost use Rattle.std.specs.Prelude.{◌≡◌, ◌+◌, ◌%◌, sum};
-    ghost use Rattle.sx_tag.specs.Mac.{weak};
+    ghost use Rattle.sx_tag.specs.Weak.{weak};
     ghost use Rattle.sx_tag.specs.Tags.{weak-is_tag};
 
     type Run = WeakRun;
@@ -36,7 +36,7 @@ impl Tag for Weak {
         run.total = add_all(run.total, part);
     }
 
-    #[tactic(auto, unfolding(crate::specs::Mac::weak))]
+    #[tactic(auto, unfolding(crate::specs::Weak::weak))]
     fn finish(&self, run: WeakRun) -> [u8; 32] {
         [run.total; 32]
     }

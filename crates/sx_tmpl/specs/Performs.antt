@@ -3,7 +3,7 @@ use Rattle.std.specs.Prelude.{◌≡◌, ℕ, ◌+◌, ◌%◌, ◌≤◌, ◌<�
 use Rattle.std.specs.Prelude.{slice_index, slice_get, Option, Some, None}
 use Rattle.sx_lang.specs.Tree.{ModuleTree}
 use Rattle.sx_mean.specs.declared.events.End.{End}
-use Rattle.sx_mean.specs.Offsets.{scratch_at, stack_words, stack_to}
+use Rattle.sx_mean.specs.Working.{scratch_at, stack_words, stack_to}
 use Rattle.sx_rules.specs.declared.access.Violation.{Violation}
 use Rattle.sx_rules.specs.declared.section.Layout.{Layout}
 use Rattle.sx_rules.specs.declared.section.Section.{Section}
@@ -15,7 +15,8 @@ use Rattle.sx_machine.specs.Memory.{even, put_word}
 use Rattle.sx_machine.specs.State.{State}
 use Rattle.sx_reach.specs.Reach.{Comes, Goes, Stops}
 use Rattle.sx_invoke.specs.Protocol.{output_register}
-use Rattle.sx_invoke.specs.Marks.{HasPrefix, Mark, made_bytes}
+use Rattle.sx_invoke.specs.Marks.{HasPrefix, Mark}
+use Rattle.sx_invoke.specs.Pieces.{made_bytes}
 use Rattle.sx_invoke.specs.Setup.{Call, Setup}
 use Rattle.sx_invoke.specs.Progress.{Invoked, bytes_in, marks_in, pieces_in}
 use Rattle.sx_image.specs.Watched.{Watched, watch}

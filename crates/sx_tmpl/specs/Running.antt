@@ -14,7 +14,8 @@ use Rattle.sx_invoke.specs.Progress.{Invoked, marks_in}
 use Rattle.sx_image.specs.Image.{call_at}
 use Rattle.sx_machine.specs.declared.kinds.Event.{Event}
 use Rattle.sx_machine.specs.declared.kinds.Event.TheVariants as event
-use Rattle.sx_invoke.specs.Marks.{HasPrefix, Mark, made_bytes}
+use Rattle.sx_invoke.specs.Marks.{HasPrefix, Mark}
+use Rattle.sx_invoke.specs.Pieces.{made_bytes}
 use Rattle.sx_image.specs.Watched.{Watched}
 
 -- the registers by name, but R3, which nothing changes

@@ -4,6 +4,7 @@
 use Rattle.std.specs.Prelude.{◌-◌, ℕ, zero, suc, ◌+◌, List, [], ◌∷◌}
 use Rattle.sx_rules.specs.declared.section.Layout.{Layout}
 use Rattle.sx_mean.specs.Offsets as offsets
+use Rattle.sx_mean.specs.Working as working
 use Rattle.sx_ir.specs.declared.ir.IrOp.{IrOp}
 use Rattle.sx_ir.specs.declared.ir.IrOp.TheVariants as op
 use Rattle.sx_ir.specs.declared.ir.Ir.{Ir}
@@ -136,10 +137,10 @@ template l a p ir.Emit = 0x41b2 ∷ l.priv_from ∷ []
 -- BR &back
 template l a p ir.Stop = 0x4210 ∷ (l.priv_from + 104) ∷ []
 -- PUSH &saved
-template l a p (ir.Saved r) = 0x1212 ∷ (l.priv_from + offsets.saved_at r) ∷ []
+template l a p (ir.Saved r) = 0x1212 ∷ (l.priv_from + working.saved_at r) ∷ []
 template l a p ir.Inside = inside_words (l.priv_from + 12) l.pub_from l.pub_to
 template l a p (ir.Meets r n) =
-    meets_words (l.priv_from + offsets.saved_at r) l.priv_from l.priv_to n
+    meets_words (l.priv_from + working.saved_at r) l.priv_from l.priv_to n
 template l a p (ir.CopyIn n o) = copy_in_words (l.priv_from + 8) (l.priv_from + o) n
 template l a p (ir.CopyOut n o) = copy_out_words (l.priv_from + 10) (l.priv_from + o) n
 template l a p (ir.Seal k h hn b bn) = sealing_words l.priv_from k h hn b bn
@@ -196,7 +197,7 @@ routine_words base k =
     ∷ (base + offsets.end_number_at k) ∷ (base + 110) ∷ 0x4192 ∷ 2 ∷ (base + 130)
     ∷ 0x4039 ∷ (base + offsets.end_key_at k) ∷ 0x403a ∷ (base + 106) ∷ 0x403b ∷ 6 ∷ 0x403c
     ∷ (base + 130) ∷ 0x432d ∷ 0x403e ∷ (base + 112) ∷ 0x403f ∷ (base + 114) ∷ 0x1384
-    ∷ 0x421c ∷ (base + offsets.pieces_at) ∷ 0x5c0c ∷ 0x5c0c ∷ 0x5c0c ∷ 0x4c0e ∷ 0x5c0c ∷ 0x5e0c
+    ∷ 0x421c ∷ (base + working.pieces_at) ∷ 0x5c0c ∷ 0x5c0c ∷ 0x5c0c ∷ 0x4c0e ∷ 0x5c0c ∷ 0x5e0c
     ∷ 0x521c ∷ (base + 10) ∷ 0x403d ∷ (base + 106) ∷ 0x403f ∷ 24
     ∷ 0x4dfc ∷ 0 ∷ 0x531c ∷ 0x831f ∷ 0x23fb ∷ 0x5392 ∷ (base + offsets.end_number_at k) ∷ 0x5392
-    ∷ (base + offsets.pieces_at) ∷ 0x4130 ∷ []
+    ∷ (base + working.pieces_at) ∷ 0x4130 ∷ []

@@ -1,5 +1,5 @@
 -- The commands that words name.
-use Rattle.std.specs.Prelude.{ℕ, ◌≤◌, ◌==◌, if◌then◌else◌, List, [], ◌∷◌, codes, Option, Some, None}
+use Rattle.std.specs.Prelude.{ℕ, ◌==◌, if◌then◌else◌, List, [], ◌∷◌, codes, Option, Some, None}
 use Rattle.std.specs.Prelude.{option_map}
 use Rattle.std.specs.Str.{bytes_eq}
 use Rattle.sx_io.specs.Numbers.{number_of}
@@ -44,15 +44,3 @@ command_of [] = None
 command_of (word ∷ []) = plain_command word
 command_of (word ∷ number ∷ []) = numbered_command word number
 command_of (word ∷ number ∷ next ∷ rest) = None
-
--- a workload carries at most 8,000 samples
-abbrev pub CarriesFew : Option Command → Type 0
-CarriesFew None = Unit {0}
-CarriesFew (Some Run) = Unit {0}
-CarriesFew (Some Check) = Unit {0}
-CarriesFew (Some Explain) = Unit {0}
-CarriesFew (Some Drive) = Unit {0}
-CarriesFew (Some Snap) = Unit {0}
-CarriesFew (Some (Gen n)) = n ≤ 8000
-CarriesFew (Some (Asm at)) = Unit {0}
-CarriesFew (Some (Dis at)) = Unit {0}

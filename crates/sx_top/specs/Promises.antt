@@ -10,7 +10,7 @@ use Rattle.sx_top.specs.declared.words.Command.TheVariants.{Dis, Drive}
 use Rattle.sx_command_asm.specs.Assembling.{AsmTold}
 use Rattle.sx_top.specs.Commands.{command_of}
 use Rattle.sx_command_asm.specs.Disassembling.{DisTold}
-use Rattle.sx_command.specs.Output.{misuse_output}
+use Rattle.sx_command.specs.Refusals.{misuse_output}
 use Rattle.sx_command_run.specs.Runs.{RunTold}
 use Rattle.sx_command_gen.specs.Workload.{GenTold}
 use Rattle.sx_command_check.specs.Promise.{CheckTold}
@@ -49,15 +49,3 @@ pub record ProgramTold (mac : Mac) (words : List (List ℕ)) (tells to_tell : Bo
     (status : ℕ) : Type 0 where
   pub told : CommandTold mac (command_of words) tells to_tell m0 m1 status
   pub usage : status ≡ 2 → command_of words ≡ None
-
--- words that are no command, and `gen`, leave the input alone
-abbrev pub LeavesInput : Option Command → Type 0
-LeavesInput None = Unit {0}
-LeavesInput (Some Run) = ⊥
-LeavesInput (Some Check) = ⊥
-LeavesInput (Some Explain) = ⊥
-LeavesInput (Some Drive) = ⊥
-LeavesInput (Some Snap) = ⊥
-LeavesInput (Some (Gen n)) = Unit {0}
-LeavesInput (Some (Asm at)) = ⊥
-LeavesInput (Some (Dis at)) = ⊥

@@ -4,7 +4,8 @@ ghost use Rattle.std.specs.Prelude.{◌≡◌, map, string_bytes};
 ghost use Rattle.sx_told.specs.Told.{command_at};
 ghost use Rattle.sx_tag.specs.Mac.{hmac_sha256};
 ghost use Rattle.sx_top.specs.Commands.{command_of};
-ghost use Rattle.sx_top.specs.Promises.{LeavesInput, ProgramTold};
+ghost use Rattle.sx_top.specs.Promises.{ProgramTold};
+ghost use Rattle.sx_top.specs.Chosen.{LeavesInput};
 
 use crate::words::{Command, command_of};
 use std::alloc::Global;
@@ -57,7 +58,7 @@ const MISUSED: u8 = 2;
 /// | 11 | `fault query Yk line` | this line after the second `%%` is the first to break a rule |
 ///
 /// Every line, a fault's too, goes to `output` and ends with a newline.
-#[tactic(auto, unfolding(sx_command::specs::Output::usage_line))]
+#[tactic(auto, unfolding(sx_command::specs::Refusals::usage_line))]
 pub fn top<S: Source, K: Sink>(alloc: Global, words: &[String], input: &mut S, output: &mut K) -> u8
     // What is written, and the status, are what is defined for the words and for the bytes that
     // were taken, and no more was taken than must be.

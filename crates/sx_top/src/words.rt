@@ -2,7 +2,8 @@
 
 ghost use Rattle.std.specs.Prelude.{◌≡◌, ◌≤◌, IfSome, map, string_bytes};
 ghost use Rattle.sx_top.specs.Commands.{command_of, plain_command, numbered_command};
-ghost use Rattle.sx_top.specs.Commands.{CarriesFew, address_in, samples_in};
+ghost use Rattle.sx_top.specs.Commands.{address_in, samples_in};
+ghost use Rattle.sx_top.specs.Chosen.{CarriesFew};
 
 use sx_bulk::MOST_SAMPLES;
 use sx_io::number;

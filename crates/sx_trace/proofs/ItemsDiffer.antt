@@ -3,12 +3,15 @@ use Rattle.std.proofs.Common.{◌≡◌, ◌≢◌, ℕ, zero, suc, ◌+◌, ◌
 use Rattle.std.proofs.lemmas.Bool.Decides.{nat_tests}
 use Rattle.sx_lang.specs.declared.sides.Side.{Side}
 use Rattle.sx_lang.specs.declared.sides.Side.TheVariants.{From, To}
-use Rattle.sx_trace.specs.Names.{NameLists, are_valid, deployer, place_of}
+use Rattle.sx_trace.specs.Names.{NameLists, deployer, place_of}
+use Rattle.sx_trace.specs.ValidNames.{are_valid}
 use Rattle.sx_trace.specs.declared.items.Cause.{Cause}
 use Rattle.sx_trace.specs.declared.items.Cause.TheVariants as cause
 use Rattle.sx_trace.specs.declared.items.Item.{Item}
 use Rattle.sx_trace.specs.declared.items.Item.TheVariants.{Reset, Protect, Sense, Read, Drain, Ask, Attested, Denied, Vouch, Open, Take, Out, Raw, Done, Packet, Forged, Busy, Skip, Budget}
-use Rattle.sx_trace.specs.Items.{name_at, name_or, cause_word, side_word, epoch_words, spaced_words, item_text, IsItem, IsIndexOrNone, ItemsDiffer}
+use Rattle.sx_trace.specs.Items.{name_at, name_or, cause_word, side_word, epoch_words, spaced_words, item_text}
+use Rattle.sx_trace.specs.KnownItems.{IsItem, IsIndexOrNone}
+use Rattle.sx_trace.specs.Laws.{ItemsDiffer}
 use Rattle.sx_trace.specs.Finding.{cut, number_of, up_to, index_or_none, cause_of, side_of, open_in, kind_in, item_in, ◌>>=◌}
 use Rattle.sx_trace.proofs.Cut.{is_word, cut_word, cut_all, number_read, up_to_read, decimal_word}
 use Rattle.sx_trace.proofs.Known.{Known, known_node, known_device, known_module, known_link, no_deployer}

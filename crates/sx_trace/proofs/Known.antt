@@ -4,7 +4,8 @@ use Rattle.std.specs.List.{list_all, list_any, position_or_len}
 use Rattle.std.specs.Str.{bytes_eq}
 use Rattle.std.proofs.lemmas.Bool.Decides.{nat_tests}
 use Rattle.std.proofs.lemmas.Slice.Eq.{bytes_eq-Decides}
-use Rattle.sx_trace.specs.Names.{NameLists, are_valid, are_names, deployer, has_name, no_repeat, place_of}
+use Rattle.sx_trace.specs.Names.{NameLists, deployer, place_of}
+use Rattle.sx_trace.specs.ValidNames.{are_valid, are_names, has_name, no_repeat}
 use Rattle.sx_lang.specs.Form.{is_lower, is_name, is_name_byte}
 use Rattle.sx_trace.specs.Items.{name_at}
 use Rattle.sx_trace.specs.Finding.{is_space}

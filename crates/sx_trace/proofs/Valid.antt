@@ -1,7 +1,8 @@
 -- The lists of valid names are short.
 use Rattle.std.proofs.Common.{◌≡◌, ℕ, ◌≤◌, Bool, true, false, ◌&&◌, nat_le, List, length, refl, arith, IsTrue}
 use Rattle.std.proofs.lemmas.Bool.Decides.{nat_tests}
-use Rattle.sx_trace.specs.Names.{NameLists, are_valid, are_names}
+use Rattle.sx_trace.specs.Names.{NameLists}
+use Rattle.sx_trace.specs.ValidNames.{are_valid, are_names}
 
 pub left_true : (a b : Bool) → (a && b) ≡ true → a ≡ true
 left_true true b h = refl

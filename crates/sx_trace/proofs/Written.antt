@@ -1,7 +1,7 @@
 -- A text that is written part by part.
 use Rattle.std.proofs.Common.{◌≡◌, ℕ, ◌+◌, List, ◌++◌, length, take, drop, refl, sym, ap, subst, ◌∙◌, append_assoc, arith}
 use Rattle.std.proofs.lemmas.List.{take_at, drop_at, drop-drop, length-append}
-use Rattle.sx_trace.specs.Items.{IsWrittenText}
+use Rattle.sx_trace.specs.Written.{IsWrittenText}
 
 -- the first part
 pub written_first : (part old new : List ℕ) → new ≡ take 0 old ++ (part ++ drop (0 + length part) old) → IsWrittenText part old (length part) new

@@ -1,11 +1,10 @@
--- The lines of items, and the items that a deployment can have.
-use Rattle.std.specs.Prelude.{◌≡◌, ◌≢◌, IsTrue, ℕ, ◌^◌, ◌<◌, ◌==◌, if◌then◌else◌, List, [], ◌∷◌}
-use Rattle.std.specs.Prelude.{◌++◌, length, drop, codes, decimal, Option, Some, None, unwrap_or}
-use Rattle.std.specs.Prelude.{slice_get}
+-- The lines of items.
+use Rattle.std.specs.Prelude.{ℕ, ◌==◌, if◌then◌else◌, List, [], ◌∷◌, codes, decimal, Option, Some}
+use Rattle.std.specs.Prelude.{None, unwrap_or, slice_get}
 use Rattle.std.specs.List.{join_with_byte}
 use Rattle.sx_lang.specs.declared.sides.Side.{Side}
 use Rattle.sx_lang.specs.declared.sides.Side.TheVariants.{From, To}
-use Rattle.sx_trace.specs.Names.{NameLists, are_valid, deployer}
+use Rattle.sx_trace.specs.Names.{NameLists, deployer}
 use Rattle.sx_trace.specs.declared.items.Cause.{Cause}
 use Rattle.sx_trace.specs.declared.items.Cause.TheVariants as cause
 use Rattle.sx_trace.specs.declared.items.Item.{Item}
@@ -76,70 +75,3 @@ spaced_words words = join_with_byte 32 words
 -- an item's line, without its newline
 unfoldable pub item_text : NameLists → Item → List ℕ
 item_text n item = spaced_words (item_words n item)
-
--- an index of the list, or none
-abbrev pub IsIndexOrNone : List (List ℕ) → Option ℕ → Type 0
-IsIndexOrNone names None = Unit {0}
-IsIndexOrNone names (Some i) = i < length names
-
--- the item's indices are below the lengths of their lists
-abbrev pub IsNamedItem : NameLists → Item → Type 0
-IsNamedItem n (Reset node why) = node < length n.nodes
-IsNamedItem n (Protect node m) = (node < length n.nodes) × IsIndexOrNone n.modules m
-IsNamedItem n (Sense d value) = d < length n.devices
-IsNamedItem n (Read m value) = m < length n.modules
-IsNamedItem n (Drain d) = d < length n.devices
-IsNamedItem n (Ask m challenge) = m < length n.modules
-IsNamedItem n (Attested m boot) = m < length n.modules
-IsNamedItem n (Denied m) = m < length n.modules
-IsNamedItem n (Vouch m challenge) = m < length n.modules
-IsNamedItem n (Open m link side epoch) = (m < length n.modules) × (link < length n.links)
-IsNamedItem n (Take m link number value) = (m < length n.modules) × (link < length n.links)
-IsNamedItem n (Out m value) = m < length n.modules
-IsNamedItem n (Raw d value) = d < length n.devices
-IsNamedItem n (Done m status pieces) = m < length n.modules
-IsNamedItem n (Packet number len) = Unit {0}
-IsNamedItem n (Forged m) = IsIndexOrNone n.modules m
-IsNamedItem n (Busy node) = node < length n.nodes
-IsNamedItem n (Skip node) = node < length n.nodes
-IsNamedItem n (Budget node) = node < length n.nodes
-
--- the item's numbers are those that an item has room for
-abbrev pub IsSizedItem : Item → Type 0
-IsSizedItem (Reset node why) = Unit {0}
-IsSizedItem (Protect node m) = Unit {0}
-IsSizedItem (Sense d value) = value < 2 ^ 16
-IsSizedItem (Read m value) = value < 2 ^ 16
-IsSizedItem (Drain d) = Unit {0}
-IsSizedItem (Ask m challenge) = challenge < 2 ^ 128
-IsSizedItem (Attested m boot) = boot < 2 ^ 32
-IsSizedItem (Denied m) = Unit {0}
-IsSizedItem (Vouch m challenge) = challenge < 2 ^ 128
-IsSizedItem (Open m link side epoch) = epoch < 2 ^ 8
-IsSizedItem (Take m link number value) = (number < 2 ^ 32) × (value < 2 ^ 16)
-IsSizedItem (Out m value) = value < 2 ^ 16
-IsSizedItem (Raw d value) = value < 2 ^ 16
-IsSizedItem (Done m status pieces) = (status < 2 ^ 16) × (pieces < 2 ^ 16)
-IsSizedItem (Packet number len) = (number < 2 ^ 32) × (len < 2 ^ 16)
-IsSizedItem (Forged m) = Unit {0}
-IsSizedItem (Busy node) = Unit {0}
-IsSizedItem (Skip node) = Unit {0}
-IsSizedItem (Budget node) = Unit {0}
-
--- an item that a deployment of these names can have
-abbrev pub IsItem : NameLists → Item → Type 0
-IsItem n item = IsNamedItem n item × IsSizedItem item
-
--- this many bytes at the buffer's start are the text, and those after it are as they were
-pub record IsWrittenText (text old : List ℕ) (count : ℕ) (new : List ℕ) : Type 0 where
-  pub bytes : new ≡ text ++ drop (length text) old
-  pub count_is : count ≡ length text
-
--- the line is that of no item
-abbrev pub IsNoItem : NameLists → List ℕ → Type 0
-IsNoItem n line = (item : Item) → IsItem n item → item_text n item ≢ line
-
--- no two items have one line
-abbrev pub ItemsDiffer : Type 0
-ItemsDiffer = (n : NameLists) (a b : Item) → IsTrue (are_valid n) → IsItem n a → IsItem n b
-    → item_text n a ≡ item_text n b → a ≡ b

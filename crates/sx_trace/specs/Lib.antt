@@ -1,4 +1,9 @@
 pub mod Finding
 pub mod Index
 pub mod Items
+pub mod KnownItems
+pub mod Written
+pub mod Laws
 pub mod Names
+pub mod ValidNames
+pub mod Seen

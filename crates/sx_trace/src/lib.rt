@@ -8,9 +8,9 @@
 //! `reading::read_item` gives the item of a line, `None` exactly where no item has that line. No
 //! two items have one line.
 //!
-//! `specs/Names.antt` has when lists of names are valid and where a name stands, and
-//! `specs/Index.antt` what an index of a list is; the form of a name is `sx_lang`'s.
-//! `specs/Items.antt` has the lines of items.
+//! `specs/Names.antt` has the names and where one stands, `specs/ValidNames.antt` when lists of them
+//! are valid, and `specs/Index.antt` what an index of a list is; the form of a name is `sx_lang`'s.
+//! `specs/Items.antt` has the lines of items, and `specs/KnownItems.antt` which items there are.
 #![tactic(auto)]
 
 pub mod index;

@@ -5,8 +5,10 @@ ghost use Rattle.std.specs.List.{list_all};
 ghost use Rattle.std.specs.Str.{bytes_eq};
 ghost use Rattle.sx_lang.specs.Form.{is_name};
 ghost use Rattle.sx_trace.specs.Index.{IsNameIndex};
-ghost use Rattle.sx_trace.specs.Names.{are_names, are_valid, deployer, has_name, if_sensor};
-ghost use Rattle.sx_trace.specs.Names.{name_lists, no_repeat, place_of, sensor_place};
+ghost use Rattle.sx_trace.specs.Names.{deployer, if_sensor};
+ghost use Rattle.sx_trace.specs.ValidNames.{are_names, are_valid, has_name, no_repeat};
+ghost use Rattle.sx_trace.specs.Names.{place_of, sensor_place};
+ghost use Rattle.sx_trace.specs.Seen.{name_lists};
 
 use crate::index::NameIndex;
 use std::alloc::{AllocError, Global};
@@ -184,7 +186,7 @@ impl Names {
     /// Whether these are names that a deployment may have: each has the form of a name, no list
     /// repeats one, no module is named `deployer`, each device has an entry in `sensors`, and there
     /// are at most 16 nodes, 32 devices, 32 modules and 64 connections.
-    #[tactic(auto, unfolding(crate::specs::Names::are_valid))]
+    #[tactic(auto, unfolding(crate::specs::ValidNames::are_valid))]
     pub fn valid(&self) -> bool
         ensures { result ≡ are_valid self.now }
     {

@@ -3,8 +3,9 @@
 
 ghost use Rattle.std.specs.Prelude.{◌≡◌, ℕ, ◌<◌, ◌≤◌, length, position, IsTrue, IfSome};
 ghost use Rattle.std.specs.Prelude.{MatchOption};
-ghost use Rattle.sx_trace.specs.Names.{are_valid};
-ghost use Rattle.sx_trace.specs.Items.{item_text, IsItem, IsSizedItem, IsNoItem, IsIndexOrNone};
+ghost use Rattle.sx_trace.specs.ValidNames.{are_valid};
+ghost use Rattle.sx_trace.specs.Items.{item_text};
+ghost use Rattle.sx_trace.specs.KnownItems.{IsItem, IsSizedItem, IsNoItem, IsIndexOrNone};
 ghost use Rattle.sx_trace.specs.Finding.{is_space, cut, with_digit, number_of, up_to};
 ghost use Rattle.sx_trace.specs.Finding.{index_or_none, cause_of, side_of, open_in, take_in};
 ghost use Rattle.sx_trace.specs.Finding.{done_in, packet_in, numbered_in, module_in, device_in};

@@ -3,7 +3,8 @@
 ghost use Rattle.std.specs.Prelude.{◌≡◌, ℕ, ◌+◌, ◌≤◌, List, [], ◌∷◌, ◌++◌, length, take, drop};
 ghost use Rattle.std.specs.Prelude.{codes, decimal};
 ghost use Rattle.sx_trace.specs.Items.{name_at, name_or, cause_word, side_word, epoch_words};
-ghost use Rattle.sx_trace.specs.Items.{spaced_words, item_text, IsWrittenText};
+ghost use Rattle.sx_trace.specs.Items.{spaced_words, item_text};
+ghost use Rattle.sx_trace.specs.Written.{IsWrittenText};
 
 use crate::items::{Cause, Item};
 use crate::names::{DEPLOYER, Names};

@@ -3,7 +3,8 @@
 ghost use Rattle.std.specs.Prelude.{◌≡◌, ℕ, IfOk, IsTrue};
 ghost use Rattle.sx_check.specs.Source.{source_tree};
 ghost use Rattle.sx_mean.specs.Application.{leaves, links_from};
-ghost use Rattle.sx_mean.specs.Ends.{is_sending, senders};
+ghost use Rattle.sx_mean.specs.Ends.{is_sending};
+ghost use Rattle.sx_mean.specs.EndLaws.{senders};
 ghost use Rattle.sx_lower.specs.Lowering.{SendFew};
 
 use std::alloc::{AllocError, Global};

@@ -2,7 +2,7 @@
 //! reader, and an actuator's driver.
 
 ghost use Rattle.std.specs.Prelude.{IfOk, IsTrue};
-ghost use Rattle.sx_trace.specs.Names.{are_valid};
+ghost use Rattle.sx_trace.specs.ValidNames.{are_valid};
 
 use std::alloc::Global;
 use sx_bulk::HEAD;

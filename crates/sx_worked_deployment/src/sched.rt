@@ -1,9 +1,9 @@
 //! Lines worked by hand from the table of schedule lines.
 
 ghost use Rattle.std.specs.Prelude.{IsTrue};
-ghost use Rattle.sx_trace.specs.Names.{are_valid};
-ghost use Rattle.sx_sched.specs.Lines.{line_of, IsLine};
-ghost use Rattle.sx_sched.specs.Written.{IsWritten};
+ghost use Rattle.sx_trace.specs.ValidNames.{are_valid};
+ghost use Rattle.sx_sched.specs.Seen.{line_of};
+ghost use Rattle.sx_sched.specs.InForm.{IsLine, IsWritten};
 
 use crate::lamps::lamps;
 use std::alloc::{AllocError, Global};

@@ -1,7 +1,7 @@
 //! The lines of items, as the table of trace items has them.
 
 ghost use Rattle.std.specs.Prelude.{IsTrue};
-ghost use Rattle.sx_trace.specs.Names.{are_valid};
+ghost use Rattle.sx_trace.specs.ValidNames.{are_valid};
 
 use crate::lamps::lamps;
 use std::process::Abort;

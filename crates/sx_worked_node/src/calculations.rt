@@ -1,7 +1,7 @@
 //! Rows of the calculation table worked by hand, and flags in status registers.
 
 ghost use Rattle.std.specs.Prelude.{◌≡◌};
-ghost use Rattle.sx_alu.specs.Table.{has_width};
+ghost use Rattle.sx_alu.specs.Widths.{has_width};
 
 use sx_alu::{Calc, StatusBits, calc};
 

@@ -5,15 +5,11 @@ use Rattle.sx_sched.specs.Lines.{Line}
 use Rattle.sx_model.specs.Legal.{Legal, before}
 use Rattle.sx_model.specs.Consequences.{TellsReader}
 use Rattle.sx_run.specs.Setting.{Setting}
-use Rattle.sx_run.specs.State.{World, Acted, switched_on}
-use Rattle.sx_run.specs.Run.{after_line, line_counted, run}
+use Rattle.sx_run.specs.State.{World}
 use Rattle.sx_run.specs.Law.{LinesInForm}
 use Rattle.sx_world.specs.Held.{Held, AddsFront}
 use Rattle.sx_world.specs.Standing.{Stands}
-
--- the next line, counted, in a world
-abbrev pub next : Setting → World → Line → Acted
-next set w line = after_line set (line_counted w) line
+use Rattle.sx_world.specs.Whole.{next, whole_run}
 
 -- Whatever world of a run it stands at, it stands at the next one, and the line's items were
 -- appended.
@@ -26,10 +22,6 @@ Acts set line held left old new =
 abbrev pub ActsInPart : Setting → Line → Held → List Item → List Item → Type 0
 ActsInPart set line held old new =
     (w : World) → Stands set held w → AddsFront old new (next set w line).items
-
--- the run of a schedule, from power-on
-abbrev pub whole_run : Setting → List Line → Acted
-whole_run set lines = run set (switched_on set) lines
 
 -- These lines lead from power-on to where the program's world stands.
 pub record LeadTo (set : Setting) (lines : List Line) (held : Held) : Type 0 where

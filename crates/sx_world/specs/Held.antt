@@ -7,7 +7,7 @@ use Rattle.sx_tag.specs.Keys.{identity}
 use Rattle.sx_mean.specs.Ends.{ends_of}
 use Rattle.sx_trace.specs.declared.items.Item.{Item}
 use Rattle.sx_ledger.specs.declared.entry.Entry.{Entry}
-use Rattle.sx_ledger.specs.Made.{entry_of}
+use Rattle.sx_ledger.specs.Entries.{entry_of}
 use Rattle.sx_machine.specs.State.{State}
 use Rattle.sx_deployer.specs.Keeping.{Keeping, Known}
 use Rattle.sx_run.specs.Setting.{Site, Setting}

@@ -5,8 +5,7 @@ ghost use Rattle.std.specs.List.{position_from};
 ghost use Rattle.sx_mean.specs.declared.apps.AppDevice.{AppDevice as Device};
 ghost use Rattle.sx_run.specs.Run.{or_else};
 ghost use Rattle.sx_mean.specs.View.{app_as};
-ghost use Rattle.sx_model.specs.Consequences.{device_of};
-ghost use Rattle.sx_model.specs.Step.{drives};
+ghost use Rattle.sx_model.specs.Step.{device_of, drives};
 ghost use Rattle.sx_run.specs.Setting.{devices_at};
 ghost use Rattle.sx_run.specs.Observation.{is_driver};
 

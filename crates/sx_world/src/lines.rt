@@ -2,7 +2,8 @@
 
 ghost use Rattle.sx_deploy.specs.Law.{IsSoundDeployment};
 ghost use Rattle.sx_deploy.specs.SeenDeployment.{deployed_as};
-ghost use Rattle.sx_sched.specs.Lines.{IsLine, line_of};
+ghost use Rattle.sx_sched.specs.InForm.{IsLine};
+ghost use Rattle.sx_sched.specs.Seen.{line_of};
 ghost use Rattle.sx_world.specs.Held.{DoesAct};
 ghost use Rattle.sx_world.specs.InMemory.{setting_at, setting_in};
 ghost use Rattle.sx_world.specs.Ready.{IsReady};

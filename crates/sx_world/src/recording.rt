@@ -4,7 +4,8 @@ ghost use Rattle.std.specs.Prelude.{◌≡◌, ◌+◌, ◌*◌, ◌≤◌, ◌+
 ghost use Rattle.std.specs.Prelude.{OnOk, OnErr};
 ghost use Rattle.sx_world.specs.Computed.{at_side, is_held};
 ghost use Rattle.sx_trace.specs.declared.items.Item.TheVariants.{Open, Take};
-ghost use Rattle.sx_ledger.specs.Made.{Made, made};
+ghost use Rattle.sx_ledger.specs.Made.{Made};
+ghost use Rattle.sx_ledger.specs.Entries.{made};
 ghost use Rattle.sx_mean.specs.View.{app_as};
 ghost use Rattle.sx_world.specs.Held.{AddsFront, Records, Observes, ObservesFront};
 ghost use Rattle.sx_run.specs.Ledger.{body_of, header_of, is_made};

@@ -3,7 +3,7 @@
 ghost use Rattle.std.specs.Prelude.{◌≡◌, ℕ, ◌<◌, List, length, slice_get, Some, true};
 ghost use Rattle.sx_deploy.specs.Law.{IsSoundDeployment};
 ghost use Rattle.sx_deploy.specs.SeenDeployment.{deployed_as};
-ghost use Rattle.sx_machine.specs.Node.{shapes};
+ghost use Rattle.sx_machine.specs.NodeLaws.{shapes};
 ghost use Rattle.sx_machine.specs.State.{State};
 ghost use Rattle.sx_world.specs.Held.{DoesAct};
 ghost use Rattle.sx_world.specs.InMemory.{setting_at};

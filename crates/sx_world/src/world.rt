@@ -4,7 +4,8 @@ ghost use Rattle.std.specs.Prelude.{◌≡◌, ◌≢◌, ℕ, ◌+◌, ◌<◌,
 ghost use Rattle.std.specs.Prelude.{IsErr, OnOk, OnErr, IfSome, Option, option_map};
 ghost use Rattle.sx_deploy.specs.Law.{IsSoundDeployment};
 ghost use Rattle.sx_deploy.specs.SeenDeployment.{deployed_as};
-ghost use Rattle.sx_sched.specs.Lines.{IsLine, line_of};
+ghost use Rattle.sx_sched.specs.InForm.{IsLine};
+ghost use Rattle.sx_sched.specs.Seen.{line_of};
 ghost use Rattle.sx_world.specs.Continued.{Acts, ActsInPart, StaysLegal};
 ghost use Rattle.sx_world.specs.InMemory.{image_setting, world_setting};
 ghost use Rattle.sx_run.specs.Law.{IsSoundSetting};

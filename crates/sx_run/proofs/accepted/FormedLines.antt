@@ -5,7 +5,8 @@ use Rattle.sx_lang.specs.declared.tree.DeviceKind.{DeviceKind}
 use Rattle.sx_lang.specs.declared.tree.DeviceKind.TheVariants.{Sensor, Actuator}
 use Rattle.sx_mean.specs.declared.apps.AppDevice.{AppDevice}
 use Rattle.sx_tag.specs.Mac.{Mac}
-use Rattle.sx_sched.specs.Lines.{Line, IsLine, Blank, Run, Finish, Put, Set, Take, Give, Forge, Sense, Irq, Reset, Ask, Answer, Load, Call}
+use Rattle.sx_sched.specs.Lines.{Line, Blank, Run, Finish, Put, Set, Take, Give, Forge, Sense, Irq, Reset, Ask, Answer, Load, Call}
+use Rattle.sx_sched.specs.InForm.{IsLine}
 use Rattle.sx_deploy.specs.Deployment.{Deployed}
 use Rattle.sx_mean.specs.Application.{is_sensor}
 use Rattle.sx_model.specs.Step.{kind_is}
@@ -14,7 +15,7 @@ use Rattle.sx_run.proofs.tie.Lists.{some_inj}
 use Rattle.sx_deploy.specs.Law as deployment
 use Rattle.sx_run.specs.Setting.{Site}
 use Rattle.sx_run.specs.Accepted.{setting}
-use Rattle.sx_run.specs.Accepted.{AreLines}
+use Rattle.sx_run.specs.AcceptedLaw.{AreLines}
 
 sensor_at : (ds : List AppDevice) (d : ℕ) → slice_get (map (λ (x : AppDevice). is_sensor x.kind) ds) d ≡ Some true → kind_is is_sensor (slice_get ds d) ≡ true
 sensor_at [] d e = absurd cc

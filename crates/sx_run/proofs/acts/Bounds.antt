@@ -24,13 +24,14 @@ use Rattle.sx_machine.specs.declared.kinds.Seen.{Seen}
 use Rattle.sx_machine.specs.Memory.{put_bytes}
 use Rattle.sx_machine.specs.Registers.{set_reg}
 use Rattle.sx_bus.specs.Devices.{with_sample}
-use Rattle.sx_machine.specs.Node.{IsNode, shapes}
-use Rattle.sx_machine.specs.Node as node
+use Rattle.sx_machine.specs.Node.{IsNode}
+use Rattle.sx_machine.specs.NodeLaws.{shapes}
+use Rattle.sx_machine.specs.Acting as acts_of
 use Rattle.sx_machine.specs.State.{State, reset}
 use Rattle.sx_machine.specs.Step.{Shown, step}
 use Rattle.sx_machine.specs.Acts.{put_refusal, busy, unless}
 use Rattle.sx_machine.specs.Acts.{put as put_at, set as set_register, take as take_from, sense as sense_on, irq as interrupt}
-use Rattle.sx_machine.specs.Guard as guard
+use Rattle.sx_machine.specs.Acting as acts_of
 use Rattle.sx_machine.proofs.Boots.{boots_count, step_quiet}
 use Rattle.sx_machine.proofs.Stays.{acted_is_node, acted_shapes}
 use Rattle.sx_run.specs.Setting.{Site, Setting, windows_at}
@@ -148,22 +149,22 @@ module _ (set : Setting) where
   }
 
   -- an act of a node
-  acts : (b c t u p a : ℕ) (w : World) (n : ℕ) (s : State) (act : guard.Act) (ledger : List Made) (steps : ℕ) → Within b t p a w → slice_get w.nodes n ≡ Some s
-      → node.ActInForm act → (guard.acted set.mac act s).state.boot ≤ c → b ≤ c → steps ≤ u → Within c u p a (with_node w n (guard.acted set.mac act s).state ledger steps)
+  acts : (b c t u p a : ℕ) (w : World) (n : ℕ) (s : State) (act : acts_of.Act) (ledger : List Made) (steps : ℕ) → Within b t p a w → slice_get w.nodes n ≡ Some s
+      → acts_of.ActInForm act → (acts_of.acted set.mac act s).state.boot ≤ c → b ≤ c → steps ≤ u → Within c u p a (with_node w n (acts_of.acted set.mac act s).state ledger steps)
   acts b c t u p a w n s act ledger steps h here form few le lt = record {
-    as_many = length_set w.nodes n (guard.acted set.mac act s).state ∙ h.as_many;
+    as_many = length_set w.nodes n (acts_of.acted set.mac act s).state ∙ h.as_many;
     nodes = λ k x there. elim (cases_eq k n) as (λ z. NodeWithin c k x) [
       | inl same ↦
-          let now : slice_get (slice_set w.nodes n (guard.acted set.mac act s).state) k ≡ Some (guard.acted set.mac act s).state =
-          ap (λ (i : ℕ). slice_get (slice_set w.nodes n (guard.acted set.mac act s).state) i) same ∙ get_same w.nodes n (guard.acted set.mac act s).state s here in
+          let now : slice_get (slice_set w.nodes n (acts_of.acted set.mac act s).state) k ≡ Some (acts_of.acted set.mac act s).state =
+          ap (λ (i : ℕ). slice_get (slice_set w.nodes n (acts_of.acted set.mac act s).state) i) same ∙ get_same w.nodes n (acts_of.acted set.mac act s).state s here in
           let was = h.nodes n s here in
-          let next : NodeWithin c n (guard.acted set.mac act s).state = record {
+          let next : NodeWithin c n (acts_of.acted set.mac act s).state = record {
             is_node = acted_is_node set.mac act s form was.is_node;
             devices = acted_shapes set.mac act s was.is_node ∙ was.devices;
             boot = few;
           } in
-          subst (λ (i : ℕ). NodeWithin c i x) (sym same) (subst (λ (z : State). NodeWithin c n z) (some_inj (guard.acted set.mac act s).state x (sym now ∙ there)) next)
-      | inr other ↦ later b c k x (h.nodes k x (sym (get_other w.nodes n k (guard.acted set.mac act s).state other) ∙ there)) le
+          subst (λ (i : ℕ). NodeWithin c i x) (sym same) (subst (λ (z : State). NodeWithin c n z) (some_inj (acts_of.acted set.mac act s).state x (sym now ∙ there)) next)
+      | inr other ↦ later b c k x (h.nodes k x (sym (get_other w.nodes n k (acts_of.acted set.mac act s).state other) ∙ there)) le
     ];
     steps = lt;
     packets = h.packets;
@@ -171,14 +172,14 @@ module _ (set : Setting) where
   }
 
   -- one that keeps the count of resets
-  quiet : (b t u p a : ℕ) (w : World) (n : ℕ) (s : State) (act : guard.Act) (ledger : List Made) (steps : ℕ) → Within b t p a w → slice_get w.nodes n ≡ Some s
-      → node.ActInForm act → (guard.acted set.mac act s).state.boot ≡ s.boot → steps ≤ u → Within b u p a (with_node w n (guard.acted set.mac act s).state ledger steps)
+  quiet : (b t u p a : ℕ) (w : World) (n : ℕ) (s : State) (act : acts_of.Act) (ledger : List Made) (steps : ℕ) → Within b t p a w → slice_get w.nodes n ≡ Some s
+      → acts_of.ActInForm act → (acts_of.acted set.mac act s).state.boot ≡ s.boot → steps ≤ u → Within b u p a (with_node w n (acts_of.acted set.mac act s).state ledger steps)
   quiet b t u p a w n s act ledger steps h here form same lt =
       acts b b t u p a w n s act ledger steps h here form (omega (arith, same, (h.nodes n s here).boot)) (omega arith) lt
 
   -- one that may reset the node
-  loud : (b t u p a : ℕ) (w : World) (n : ℕ) (s : State) (act : guard.Act) (ledger : List Made) (steps : ℕ) → Within b t p a w → slice_get w.nodes n ≡ Some s
-      → node.ActInForm act → steps ≤ u → Within (b + 1) u p a (with_node w n (guard.acted set.mac act s).state ledger steps)
+  loud : (b t u p a : ℕ) (w : World) (n : ℕ) (s : State) (act : acts_of.Act) (ledger : List Made) (steps : ℕ) → Within b t p a w → slice_get w.nodes n ≡ Some s
+      → acts_of.ActInForm act → steps ≤ u → Within (b + 1) u p a (with_node w n (acts_of.acted set.mac act s).state ledger steps)
   loud b t u p a w n s act ledger steps h here form lt =
       acts b (b + 1) t u p a w n s act ledger steps h here form (omega (arith, (boots_count set.mac act s).1, (h.nodes n s here).boot)) (omega arith) lt
 
@@ -203,10 +204,10 @@ module _ (set : Setting) where
       (slice_get w.nodes n) (more b t p a (b + 1) (t + suc k) p a w h (omega arith) (omega arith) (omega arith) (omega arith)) (λ s here.
       either (Within (b + 1) (t + suc k) p a) (is_reset (step set.mac s).shown.event) (stops (step set.mac s).state)
       (after_step set w n s) (then_ (after_step set w n s) (steps_of set stops items n k))
-      (loud b t (t + suc k) p a w n s guard.Step (after_step set w n s).world.ledger (w.steps + 1) h here tt (omega (arith, h.steps)))
+      (loud b t (t + suc k) p a w n s acts_of.Step (after_step set w n s).world.ledger (w.steps + 1) h here tt (omega (arith, h.steps)))
       (λ calm.
       let one : Within b (t + 1) p a (after_step set w n s).world =
-      quiet b t (t + 1) p a w n s guard.Step (after_step set w n s).world.ledger (w.steps + 1) h here tt
+      quiet b t (t + 1) p a w n s acts_of.Step (after_step set w n s).world.ledger (w.steps + 1) h here tt
       (step_quiet set.mac s (λ v e. no_reset (step set.mac s).shown.event v calm e)) (omega (arith, h.steps)) in
       more (b + 1) (t + 1 + k) p a (b + 1) (t + suc k) p a (steps_of set stops items n k (after_step set w n s).world).world
       (steps_within stops items n k b (t + 1) p a (after_step set w n s).world one) (omega arith) (omega arith) (omega arith) (omega arith)))
@@ -218,13 +219,13 @@ module _ (set : Setting) where
   put_within : (n place : ℕ) (bytes : List ℕ) (b t p a : ℕ) (w : World) → Within b t p a w → Within b t p a (put_on n place bytes w).world
   put_within n place bytes b t p a w h =
       at (Within b t p a) w (λ s. done_on w n [] (put_at s place bytes)) (slice_get w.nodes n) h
-      (λ s here. quiet b t t p a w n s (guard.Put place bytes) w.ledger w.steps h here tt
+      (λ s here. quiet b t t p a w n s (acts_of.Put place bytes) w.ledger w.steps h here tt
       (unless_boot {T = Unit {0}} (put_refusal s place (length bytes)) s (record { state = record s { mem = put_bytes s.mem place bytes }; shown = tt }) refl) h.steps)
 
   set_within : (n r v b t p a : ℕ) (w : World) → v < 65536 → Within b t p a w → Within b t p a (set_on n r v w).world
   set_within n r v b t p a w lt h =
       at (Within b t p a) w (λ s. done_on w n [] (set_register s r v)) (slice_get w.nodes n) h
-      (λ s here. quiet b t t p a w n s (guard.Set r v) w.ledger w.steps h here lt
+      (λ s here. quiet b t t p a w n s (acts_of.Set r v) w.ledger w.steps h here lt
       (unless_boot {T = Unit {0}} (busy s) s (record { state = record s { regs = set_reg s.regs r v; last = if r == 0 then 0 else s.last }; shown = tt }) refl) h.steps)
 
   give_within : (n place b t p a : ℕ) (w : World) (o : Option (List ℕ)) → Within b t p a w → Within b t p a (give w n place o).world
@@ -306,7 +307,7 @@ module _ (set : Setting) where
   sense_within b t p a w d v None lt h = h
   sense_within b t p a w d v (Some x) lt h =
       at (Within b t p a) w (λ s. done_on w x.node (item.Sense d v ∷ []) (sense_on s (place_at set x.node d) v)) (slice_get w.nodes x.node) h
-      (λ s here. quiet b t t p a w x.node s (guard.Sense (place_at set x.node d) v) w.ledger w.steps h here lt
+      (λ s here. quiet b t t p a w x.node s (acts_of.Sense (place_at set x.node d) v) w.ledger w.steps h here lt
       (unless_boot {T = Unit {0}} (busy s) s (record { state = record s { devices = with_sample s.devices (place_at set x.node d) v }; shown = tt }) refl) h.steps)
 
   packet_within : (b t p a : ℕ) (w : World) (bytes : List ℕ) → Within b t p a w → Within b t (p + 1) a (new_packet w bytes).world
@@ -328,7 +329,7 @@ module _ (set : Setting) where
   irq_within : (b t p a : ℕ) (w : World) (n line : ℕ) (s : State) (r : Result Seen Refused) → slice_get w.nodes n ≡ Some s → Within b t p a w
       → Within (b + 1) t p a (after_interrupt set w n (interrupt s line).state r).world
   irq_within b t p a w n line s (Ok seen) here h =
-      loud b t t p a w n s (guard.Interrupt line) (after_interrupt set w n (interrupt s line).state (Ok seen)).world.ledger w.steps h here tt h.steps
+      loud b t t p a w n s (acts_of.Interrupt line) (after_interrupt set w n (interrupt s line).state (Ok seen)).world.ledger w.steps h here tt h.steps
   irq_within b t p a w n line s (Err why) here h = more b t p a (b + 1) t p a w h (omega arith) (omega arith) (omega arith) (omega arith)
 
   key_within : (b t p a : ℕ) (w : World) (g : Grant) (o : Option Site) → Within b t p a w → Within b t (p + 1) a (key_given set w g o).world
@@ -394,7 +395,7 @@ module _ (set : Setting) where
       more (b + 1) t p a (b + 1) (t + 1000000) (p + 192) (a + 1) _
       (at (Within (b + 1) t p a) w (λ s. record { world = with_node w n (reset s) w.ledger w.steps; items = item.Reset n Asked ∷ [] }) (slice_get w.nodes n)
       (more b t p a (b + 1) t p a w h (omega arith) (omega arith) (omega arith) (omega arith))
-      (λ s here. loud b t t p a w n s guard.Restart w.ledger w.steps h here tt h.steps)) (omega arith) (omega arith) (omega arith) (omega arith)
+      (λ s here. loud b t t p a w n s acts_of.Restart w.ledger w.steps h here tt h.steps)) (omega arith) (omega arith) (omega arith) (omega arith)
   line_within (Ask m) b t p a w sound form h =
       let d = after_ask w.deployer m in
       more b t (p + 1) (a + 1) (b + 1) (t + 1000000) (p + 192) (a + 1) _

@@ -18,7 +18,7 @@ use Rattle.sx_machine.specs.Frame.{KeptPublic}
 use Rattle.sx_machine.specs.Given.{Given}
 use Rattle.sx_machine.proofs.Events.{IsTold, Told, Same, Admits, Removes, ToldBy, attempt_told}
 use Rattle.sx_machine.proofs.Stays.{step_is_node}
-use Rattle.sx_machine.specs.Guard.{Step}
+use Rattle.sx_machine.specs.Acting.{Step}
 use Rattle.sx_machine.proofs.PublicKept.{public_kept}
 use Rattle.sx_machine.proofs.Sparse.{shows_touches}
 use Rattle.sx_machine.proofs.Meanings as meanings

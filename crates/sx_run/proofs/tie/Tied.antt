@@ -197,7 +197,7 @@ pub data ModuleTied (set : Setting) (n m : ℕ) (q : PartTree) (site : Site) (s 
 
 -- the places and kinds of devices
 abbrev pub shapes : List Window → List (ℕ × Kind)
-shapes ws = Rattle.sx_machine.specs.Node.shapes ws
+shapes ws = Rattle.sx_machine.specs.NodeLaws.shapes ws
 
 -- a node, its boots, and a device
 pub record NodeTied (set : Setting) (n : ℕ) (s : State) (boot : ℕ) : Type 0 where

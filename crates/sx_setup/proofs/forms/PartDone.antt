@@ -7,7 +7,8 @@ use Rattle.sx_mean.specs.Application.{PartTree}
 use Rattle.sx_mean.specs.Ends.{ends_of}
 use Rattle.sx_mean.specs.Places.{initial_cells}
 use Rattle.sx_machine.specs.State.{State}
-use Rattle.sx_machine.specs.Node.{IsNode, shapes}
+use Rattle.sx_machine.specs.Node.{IsNode}
+use Rattle.sx_machine.specs.NodeLaws.{shapes}
 use Rattle.sx_image.specs.Image.{private_bytes, public_bytes}
 use Rattle.sx_invoke.specs.ModuleState.{ModuleState}
 use Rattle.sx_run.specs.Setting.{Site, Setting, windows_at}

@@ -6,7 +6,8 @@ use Rattle.sx_mean.specs.Application.{PartTree}
 use Rattle.sx_mean.specs.Ends.{ends_of}
 use Rattle.sx_trace.specs.declared.items.Item.{Item}
 use Rattle.sx_machine.specs.State.{State}
-use Rattle.sx_machine.specs.Node.{IsNode, shapes}
+use Rattle.sx_machine.specs.Node.{IsNode}
+use Rattle.sx_machine.specs.NodeLaws.{shapes}
 use Rattle.sx_invoke.specs.ModuleState.{ModuleState, state_of}
 use Rattle.sx_image.specs.Image.{StandsProtected, private_bytes, public_bytes}
 use Rattle.sx_sched.specs.Lines.{Line}

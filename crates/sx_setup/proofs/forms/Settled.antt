@@ -11,7 +11,8 @@ use Rattle.sx_rules.specs.Access.{Sections}
 use Rattle.sx_ledger.specs.declared.entry.Maker.TheVariants as maker
 use Rattle.sx_tag.specs.Wrap.{wrapped}
 use Rattle.sx_machine.specs.State.{State}
-use Rattle.sx_machine.specs.Node.{IsNode, shapes}
+use Rattle.sx_machine.specs.Node.{IsNode}
+use Rattle.sx_machine.specs.NodeLaws.{shapes}
 use Rattle.sx_invoke.specs.ModuleState.{EndState, ModuleState, state_of}
 use Rattle.sx_invoke.specs.Acts.{event_header}
 use Rattle.sx_invoke.specs.Windows.{two}

@@ -19,7 +19,7 @@ use Rattle.sx_tmpl.proofs.Operations.CopyIn.{copy_in_words, copy_in_whole}
 use Rattle.sx_tmpl.proofs.Operations.PacketOp.{Breaks}
 use Rattle.sx_tmpl.proofs.Operations.SealOps.{length_from}
 use Rattle.sx_ir.specs.Meaning.{copy_out, has_copy_room}
-use Rattle.sx_invoke.specs.Marks.{made_bytes}
+use Rattle.sx_invoke.specs.Pieces.{made_bytes}
 use Rattle.sx_tmpl.proofs.Running.Holding.{holds_from}
 use Rattle.sx_reach.specs.Reach.{Goes, Stops}
 use Rattle.sx_ir.specs.Conf.{Violates, Stuck}

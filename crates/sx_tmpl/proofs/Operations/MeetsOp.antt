@@ -11,7 +11,7 @@ use Rattle.sx_ir.specs.Meaning.{saved}
 use Rattle.sx_machine.specs.Ranges.{passes_end}
 use Rattle.sx_invoke.specs.Windows.{is_bad_window}
 use Rattle.std.proofs.lemmas.Bool.{or_left}
-use Rattle.sx_mean.specs.Offsets as offsets
+use Rattle.sx_mean.specs.Working as working
 use Rattle.sx_tmpl.proofs.Running.Flags.{flags_stay}
 use Rattle.sx_invoke.specs.Marks.{Mark}
 use Rattle.sx_image.specs.Watched.{Watched}
@@ -31,7 +31,7 @@ use Rattle.sx_lists.specs.Truth.{truth}
 
 abbrev pub meets_words : Fixed → ℕ → ℕ → List ℕ
 meets_words f r n =
-    0x421c ∷ (base_of f + offsets.saved_at r) ∷ 0x903c ∷ (65537 - n) ∷ 0x2c06 ∷ 0x903c ∷ f.setup.section.layout.priv_to ∷ 0x2c05
+    0x421c ∷ (base_of f + working.saved_at r) ∷ 0x903c ∷ (65537 - n) ∷ 0x2c06 ∷ 0x903c ∷ f.setup.section.layout.priv_to ∷ 0x2c05
     ∷ 0x903c ∷ (f.setup.section.layout.priv_from + 1 - n) ∷ 0x2802 ∷ 0x1213 ∷ 0x3c01 ∷ 0x1203 ∷ []
 
 -- how the three comparisons decide
@@ -63,7 +63,7 @@ module _ (f : Fixed) (st : Stands f) (all : List Mark) (B : Watched → Violatio
       let x = saved c q in
       let lim = st.below in
       let beneath = st.beneath in
-      let o = offsets.saved_at q in
+      let o = working.saved_at q in
       let po = data_word f st o (omega arith) (omega arith) (omega (arith, st.room)) in
       let is = holds_word f st at c.back c.stack c.priv c.mem r.sp d.mem o h (omega arith) (record { low = omega arith; beside = inl (omega arith) }) (let z = h.size in let y = st.room in
       omega arith) in

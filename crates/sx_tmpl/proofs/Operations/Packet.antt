@@ -23,6 +23,7 @@ use Rattle.sx_machine.specs.declared.kinds.Exchange.{Exchange}
 use Rattle.sx_machine.specs.Memory.{bytes_from, put_bytes}
 use Rattle.sx_tag.specs.Wrap.{wrapped}
 use Rattle.sx_mean.specs.Offsets as offsets
+use Rattle.sx_mean.specs.Working as working
 use Rattle.sx_invoke.specs.ModuleState.{EndState, end_state}
 use Rattle.sx_invoke.specs.Windows as windows
 use Rattle.sx_invoke.specs.Acts.{event_header, event_packet}
@@ -437,7 +438,7 @@ module _ (f : Fixed) (st : Stands f) (all : List Mark) (B : Watched → Violatio
 
   -- the place of the packet in the out-window
   pub address_run : (e : Event) (r : Regs) (d : Data) (stack outside : List ℕ) (p out j : ℕ) → r.pc ≡ A + 2 * 32 → H stack outside r.sp d.mem → Safe f all (running_after e f r d)
-      → word priv offsets.pieces_at ≡ p → p < 2048 → word priv 10 ≡ out → out + 24 * p < 65536
+      → word priv working.pieces_at ≡ p → p < 2048 → word priv 10 ≡ out → out + 24 * p < 65536
       → ((sr : ℕ) (r14 : ℕ) → let r2 = record r { pc = A + 2 * 46; sr = sr; r12 = out + 24 * p; r13 = base_of f + 106; r14 = r14; r15 = 24 } in Safe f all (running f r2 d) → R j (running f r2 d))
       → R (suc (suc (suc (suc (suc (suc (suc (suc (suc (suc j)))))))))) (running_after e f r d)
   address_run e r d stack outside p out j pc h safe is lp io lo after =
@@ -550,8 +551,8 @@ module _ (f : Fixed) (st : Stands f) (all : List Mark) (B : Watched → Violatio
 
   -- number and count of pieces rise
   pub counts_run : (e : EndState) → end_state priv k ≡ e → (r : Regs) (d : Data) (stack outside : List ℕ) (ret p j : ℕ) → r.pc ≡ A + 2 * 51 → H (ret ∷ stack) outside r.sp d.mem → e.number < 65535
-      → word priv offsets.pieces_at ≡ p → p < 65535 → InText f ret → ret % 2 ≡ 0 → Safe f all (running f r d)
-      → ((sr : ℕ) (m : List ℕ) → MemoryHolds f at back stack (put_word (put_word priv (offsets.end_number_at k) (e.number + 1)) offsets.pieces_at (p + 1)) outside (r.sp + 2) m
+      → word priv working.pieces_at ≡ p → p < 65535 → InText f ret → ret % 2 ≡ 0 → Safe f all (running f r d)
+      → ((sr : ℕ) (m : List ℕ) → MemoryHolds f at back stack (put_word (put_word priv (offsets.end_number_at k) (e.number + 1)) working.pieces_at (p + 1)) outside (r.sp + 2) m
       → Safe f all (running f (record r { pc = ret; sp = r.sp + 2; sr = sr }) (record d { mem = m })) → R j (running f (record r { pc = ret; sp = r.sp + 2; sr = sr }) (record d { mem = m })))
       → R (suc (suc (suc j))) (running f r d)
   unfolding end_state
@@ -627,11 +628,11 @@ module _ (f : Fixed) (st : Stands f) (all : List Mark) (B : Watched → Violatio
   -- where the end is ready: header and body, wrap, copy, counts
   pub send_run : IsTag f.setup.mac → (e : EndState) → end_state priv k ≡ e → (r : Regs) (d : Data) (ret v : ℕ) (rest outside : List ℕ) (p out j : ℕ) → r.pc ≡ A + 2 * 6
       → H (ret ∷ v ∷ rest) outside r.sp d.mem → Safe f all (running f r d)
-      → e.number < 65535 → word priv offsets.pieces_at ≡ p → 24 * p + 24 ≤ 384 → word priv 10 ≡ out → out + 384 ≤ 65536 → f.from ≤ out + 24 * p → out + 24 * p + 24 ≤ f.to → InText f ret → ret % 2 ≡ 0
+      → e.number < 65535 → word priv working.pieces_at ≡ p → 24 * p + 24 ≤ 384 → word priv 10 ≡ out → out + 384 ≤ 65536 → f.from ≤ out + 24 * p → out + 24 * p + 24 ≤ f.to → InText f ret → ret % 2 ≡ 0
       → (marks : List Mark) → d.marks ++ mark.Wrapped (event_header e) (windows.two v) false ∷ [] ≡ marks → HasPrefix all marks
       → ((x : Violation) → write_bytes f.setup d.devices outside (out + 24 * p) (event_packet f.setup e v) ≡ Err x → (c : Watched) → c.marks ≡ marks → B c x)
       → ((mem : List ℕ) → write_bytes f.setup d.devices outside (out + 24 * p) (event_packet f.setup e v) ≡ Ok mem → (r2 : Regs) (d2 : Data) → r2.pc ≡ ret
-      → MemoryHolds f at back (v ∷ rest) (put_word (put_word priv (offsets.end_number_at k) (e.number + 1)) offsets.pieces_at (p + 1)) mem r2.sp d2.mem → d2.devices ≡ d.devices → d2.marks ≡ marks
+      → MemoryHolds f at back (v ∷ rest) (put_word (put_word priv (offsets.end_number_at k) (e.number + 1)) working.pieces_at (p + 1)) mem r2.sp d2.mem → d2.devices ≡ d.devices → d2.marks ≡ marks
       → Safe f all (running f r2 d2) → R j (running f r2 d2))
       → R (121 + j) (running f r d)
   send_run tag e is r d ret v rest outside p out j pc h safe ln ip lp io lo w1 w2 to ev marks em begins stop done =

@@ -21,6 +21,7 @@ use Rattle.sx_invoke.specs.Windows.{is_bad_window}
 use Rattle.std.proofs.lemmas.Bool.{or_left, leb-true, ltb-true, and_parts}
 use Rattle.sx_reach.specs.Reach.{Next, Ends}
 use Rattle.sx_mean.specs.Offsets as offsets
+use Rattle.sx_mean.specs.Working as working
 use Rattle.sx_invoke.specs.ModuleState.{EndState, end_state}
 use Rattle.sx_invoke.specs.Windows as windows
 use Rattle.sx_invoke.specs.Acts.{event_header, event_packet}
@@ -40,7 +41,7 @@ use Rattle.std.proofs.lemmas.Bool.{cases_lt, lt-ltb}
 use Rattle.sx_tmpl.proofs.Operations.Plain.{inside, Leads}
 use Rattle.sx_tmpl.proofs.Texts.Made.{made_bytes-append, made_prefix}
 use Rattle.sx_ir.specs.Meaning.{has_packet_room}
-use Rattle.sx_invoke.specs.Marks.{made_bytes}
+use Rattle.sx_invoke.specs.Pieces.{made_bytes}
 use Rattle.sx_tmpl.proofs.Running.Words as w
 use Rattle.sx_tmpl.proofs.Running.Holding.{stack_word, holds_push}
 
@@ -147,7 +148,7 @@ module _ (f : Fixed) (st : Stands f) (all : List Mark) (B : Watched → Violatio
               let same_marks : d1.marks ++ mark.Wrapped (event_header e) (windows.two v) false ∷ [] ≡ marks = ap (λ l. l ++ mark.Wrapped (event_header e) (windows.two v) false ∷ []) sh.marks in
               subst (λ ds. ((x : Violation) → write_bytes f.setup ds c.mem (saved c 14 + 24 * pieces c) (event_packet f.setup e v) ≡ Err x → (w : Watched) → w.marks ≡ marks → B w x)
               → ((mem : List ℕ) → write_bytes f.setup ds c.mem (saved c 14 + 24 * pieces c) (event_packet f.setup e v) ≡ Ok mem → (r2 : Regs) (d2 : Data) → r2.pc ≡ ret
-              → MemoryHolds f at c.back (v ∷ rest) (put_word (put_word c.priv (offsets.end_number_at k) (e.number + 1)) offsets.pieces_at (pieces c + 1)) mem r2.sp d2.mem → d2.devices ≡ d.devices
+              → MemoryHolds f at c.back (v ∷ rest) (put_word (put_word c.priv (offsets.end_number_at k) (e.number + 1)) working.pieces_at (pieces c + 1)) mem r2.sp d2.mem → d2.devices ≡ d.devices
               → d2.marks ≡ marks → Safe f all (running f r2 d2) → Runs f all B Q j (running f r2 d2))
               → Runs f all B Q (121 + j) (running f (record r1 { pc = A + 12; sr = sr }) d1)) sh.devices
               (send_run f st all B at Q k A rt c.back c.priv slot tag e refl (record r1 { pc = A + 12; sr = sr }) d1 ret v rest c.mem (pieces c)

@@ -28,7 +28,8 @@ use Rattle.sx_machine.specs.Ranges.{meets, passes_end}
 use Rattle.sx_reach.proofs.Reaching.{weaken}
 use Rattle.sx_invoke.specs.Setup.{Setup}
 use Rattle.sx_invoke.specs.Devices.{HasDevices}
-use Rattle.sx_invoke.specs.Marks.{Mark, made_bytes}
+use Rattle.sx_invoke.specs.Marks.{Mark}
+use Rattle.sx_invoke.specs.Pieces.{made_bytes}
 use Rattle.sx_invoke.specs.Progress.{Invoked, bytes_in, marks_in, pieces_in}
 use Rattle.sx_invoke.specs.Windows.{is_bad_window}
 use Rattle.sx_image.specs.Watched.{Watched, watch}

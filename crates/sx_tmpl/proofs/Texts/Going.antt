@@ -7,7 +7,8 @@ use Rattle.sx_rules.specs.declared.access.Violation.{Violation}
 use Rattle.sx_tag.specs.Mac.{IsTag}
 use Rattle.sx_machine.proofs.Devices.{device_there, sample_small}
 use Rattle.sx_reach.specs.Reach.{Goes, Stops}
-use Rattle.sx_invoke.specs.Marks.{HasPrefix, Mark, made_bytes}
+use Rattle.sx_invoke.specs.Marks.{HasPrefix, Mark}
+use Rattle.sx_invoke.specs.Pieces.{made_bytes}
 use Rattle.sx_invoke.specs.Windows.{is_bad_window}
 use Rattle.sx_image.specs.Watched.{Watched}
 use Rattle.sx_ir.specs.Conf.{Conf, Halt}

@@ -13,7 +13,8 @@ use Rattle.sx_reach.specs.Reach.{Goes, Stops}
 use Rattle.sx_reach.proofs.Reaching.{and_then, weaken}
 use Rattle.sx_invoke.specs.Setup.{Setup}
 use Rattle.sx_invoke.specs.Devices.{HasDevices}
-use Rattle.sx_invoke.specs.Marks.{HasPrefix, Mark, made_bytes}
+use Rattle.sx_invoke.specs.Marks.{HasPrefix, Mark}
+use Rattle.sx_invoke.specs.Pieces.{made_bytes}
 use Rattle.sx_invoke.specs.Progress.{Invoked, bytes_in, marks_in, pieces_in}
 use Rattle.sx_image.specs.Watched.{Watched, watch}
 use Rattle.sx_image.specs.Image.{call_at, public_bytes, setup_at}

@@ -14,7 +14,8 @@ use Rattle.sx_machine.specs.State.{State}
 use Rattle.sx_machine.specs.Step.{pc_of, own_of}
 use Rattle.sx_invoke.specs.Setup.{Setup}
 use Rattle.sx_invoke.specs.Devices.{HasDevices}
-use Rattle.sx_invoke.specs.Marks.{Mark, made_bytes}
+use Rattle.sx_invoke.specs.Marks.{Mark}
+use Rattle.sx_invoke.specs.Pieces.{made_bytes}
 use Rattle.sx_invoke.specs.Progress.{bytes_in}
 use Rattle.sx_invoke.specs.Windows.{is_bad_window}
 use Rattle.sx_image.specs.Watched.{Watched}
@@ -25,7 +26,7 @@ use Rattle.sx_tmpl.specs.Running.{Fixed, pieces_end, sections_of, regs16, Safe}
 use Rattle.sx_tmpl.proofs.Running.MidRun.{Stands}
 use Rattle.sx_tmpl.specs.Shows.{Stood}
 use Rattle.sx_tmpl.proofs.Running.Owned.{run_holder, public_bounds}
-use Rattle.sx_mean.specs.Offsets.{stack_to}
+use Rattle.sx_mean.specs.Working.{stack_to}
 use Rattle.sx_ir.specs.Conf.{Conf}
 use Rattle.sx_image.specs.Realizes.{KeepsOutside}
 use Rattle.sx_tmpl.specs.Running.{cell, running}

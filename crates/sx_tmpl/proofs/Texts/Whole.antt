@@ -18,8 +18,9 @@ use Rattle.sx_tmpl.proofs.Operations.Plain.{Leads}
 use Rattle.sx_reach.specs.Reach.{Next, Ends}
 use Rattle.sx_reach.specs.Reach.{Goes, Stops}
 use Rattle.sx_tmpl.proofs.Texts.Made.{made_prefix}
-use Rattle.sx_invoke.specs.Marks.{made_bytes}
+use Rattle.sx_invoke.specs.Pieces.{made_bytes}
 use Rattle.sx_mean.specs.Offsets as offsets
+use Rattle.sx_mean.specs.Working as working
 use Rattle.sx_invoke.specs.Marks as mark
 use Rattle.sx_invoke.specs.Marks.{HasPrefix}
 use Rattle.sx_tag.specs.Mac.{IsTag}
@@ -290,7 +291,7 @@ module _ (f : Fixed) (st : Stands f) (all : List Mark) (BV : Violation → List 
       let b = and_parts (nat_le 12 r) (nat_le r 15) q.0 in
       let lo : 12 ≤ r = leb-true 12 r b.0 in
       let hi : r ≤ 15 = leb-true r 15 b.1 in
-      with_size _ 8 _ t (λ sz. lift _ 1 8 _ _ t (omega arith) p.1 (load_leads f st all B a.at (record c { stack = stack }) (offsets.saved_at r) (omega arith)
+      with_size _ 8 _ t (λ sz. lift _ 1 8 _ _ t (omega arith) p.1 (load_leads f st all B a.at (record c { stack = stack }) (working.saved_at r) (omega arith)
       (record { low = omega arith; beside = inl (omega arith) }) (omega (arith, st.room)) p.0))
   op_goes ir.Inside stack c t here ok g gt e = lift _ 6 16 _ t t (omega arith) refl (ending_goes _ _ _ t (inside_ends f st all B a.at (record c { stack = stack })) e)
   op_goes (ir.Meets r n) stack c t here ok g gt e =

@@ -8,7 +8,7 @@ use Rattle.sx_trace.specs.declared.items.Item.{Item}
 use Rattle.sx_ledger.specs.declared.entry.Entry.{Entry}
 use Rattle.sx_machine.specs.declared.kinds.Refused.{Refused}
 use Rattle.sx_machine.specs.State.{State, reset}
-use Rattle.sx_machine.specs.Guard.{Restart}
+use Rattle.sx_machine.specs.Acting.{Restart}
 use Rattle.sx_machine.proofs.Sections.{acted_placed}
 use Rattle.sx_machine.specs.Acts.{unless}
 use Rattle.sx_machine.specs.Step as machine

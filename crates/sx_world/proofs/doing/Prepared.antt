@@ -2,7 +2,7 @@
 use Rattle.std.proofs.Common.{◌≡◌, ℕ, ◌+◌, ◌≤◌, List, Result, sym, subst}
 use Rattle.sx_trace.specs.declared.items.Item.{Item}
 use Rattle.sx_sched.specs.declared.lines.Line.{Line}
-use Rattle.sx_sched.specs.Lines.{line_of}
+use Rattle.sx_sched.specs.Seen.{line_of}
 use Rattle.sx_run.specs.Setting.{Setting}
 use Rattle.sx_world.specs.Held.{Running, DoesAct}
 use Rattle.sx_run.specs.Run.{FINISH_STEPS, after_line}

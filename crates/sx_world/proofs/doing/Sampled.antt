@@ -14,7 +14,7 @@ use Rattle.sx_trace.specs.declared.items.Item.{Item}
 use Rattle.sx_trace.specs.declared.items.Item.TheVariants.{Sense}
 use Rattle.sx_machine.specs.Acts.{sense}
 use Rattle.sx_machine.specs.State.{State}
-use Rattle.sx_machine.specs.Node.{shapes}
+use Rattle.sx_machine.specs.NodeLaws.{shapes}
 use Rattle.sx_mean.specs.Application.{is_sensor}
 use Rattle.sx_deploy.specs.Deployment.{Deployed}
 use Rattle.sx_deploy.specs.Law.{IsSoundDeployment}

@@ -10,7 +10,8 @@ use Rattle.sx_trace.specs.declared.items.Item.{Item}
 use Rattle.sx_trace.specs.declared.items.Item.TheVariants.{Packet}
 use Rattle.sx_ledger.specs.declared.entry.Entry.{Entry}
 use Rattle.sx_ledger.specs.declared.entry.Maker.TheVariants as maker
-use Rattle.sx_ledger.specs.Made.{Made, made}
+use Rattle.sx_ledger.specs.Made.{Made}
+use Rattle.sx_ledger.specs.Entries.{made}
 use Rattle.sx_tag.specs.Keys.{kdf}
 use Rattle.sx_tag.specs.Wrap.{wrapped}
 use Rattle.sx_wire.specs.Packets.{field}

@@ -13,7 +13,7 @@ use Rattle.sx_ledger.specs.Made.{Made}
 use Rattle.sx_machine.specs.State.{State}
 use Rattle.sx_machine.specs.Step.{own_of, step}
 use Rattle.sx_machine.specs.Step.{Shown as Shown}
-use Rattle.sx_machine.specs.Guard.{Step, Interrupt}
+use Rattle.sx_machine.specs.Acting.{Step, Interrupt}
 use Rattle.sx_machine.proofs.Sections.{acted_placed}
 use Rattle.sx_deploy.specs.Deployment.{Deployed}
 use Rattle.sx_run.specs.Setting.{Site, Setting, module_of}

@@ -8,7 +8,8 @@ use Rattle.std.proofs.lemmas.List.Folds.{list_any-append}
 use Rattle.sx_ledger.specs.declared.entry.Maker.{Maker}
 use Rattle.sx_ledger.specs.declared.entry.Maker.TheVariants.{Deployer, Module}
 use Rattle.sx_ledger.specs.declared.entry.Entry.{Entry}
-use Rattle.sx_ledger.specs.Made.{Made, entry_of, made_of, AddsEntry}
+use Rattle.sx_ledger.specs.Made.{Made}
+use Rattle.sx_ledger.specs.Entries.{entry_of, made_of, AddsEntry}
 use Rattle.sx_run.specs.Ledger.{same_maker, same_entry, is_made}
 use Rattle.sx_world.specs.Held.{IsShort, Records}
 use Rattle.sx_run.proofs.tie.Entries.{made_behind}

@@ -13,7 +13,7 @@ use Rattle.sx_machine.specs.declared.kinds.Event.TheVariants as event
 use Rattle.sx_machine.specs.declared.kinds.Seen.{Seen}
 use Rattle.sx_machine.specs.State.{State}
 use Rattle.sx_machine.specs.Given.{Given}
-use Rattle.sx_machine.specs.Guard.{Step}
+use Rattle.sx_machine.specs.Acting.{Step}
 use Rattle.sx_machine.specs.Run.{Outcome, Finished, Violated, Module, untouched}
 use Rattle.sx_machine.specs.Step.{own_of, given_at_pc, attempt, settled_step, step}
 use Rattle.sx_machine.proofs.Events.{IsTold, Told, Same, Admits, Removes, ToldBy, attempt_told}

@@ -3,7 +3,8 @@ use Rattle.std.proofs.Common.{◌≡◌, ◌+◌, ◌<◌, List, [], ◌∷◌, 
 use Rattle.std.proofs.lemmas.List.{append_assoc, append-nil}
 use Rattle.sx_tag.specs.Mac.{Mac}
 use Rattle.sx_trace.specs.declared.items.Item.{Item}
-use Rattle.sx_sched.specs.Lines.{Line, IsLine}
+use Rattle.sx_sched.specs.Lines.{Line}
+use Rattle.sx_sched.specs.InForm.{IsLine}
 use Rattle.sx_deploy.specs.Deployment.{Deployed}
 use Rattle.sx_deploy.specs.Law as deployment
 use Rattle.sx_model.specs.Legal.{before}

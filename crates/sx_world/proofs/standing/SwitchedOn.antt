@@ -13,7 +13,7 @@ use Rattle.sx_rules.specs.Placed.{Placed}
 use Rattle.sx_rules.proofs.Placing.{starts_placed}
 use Rattle.sx_mean.specs.Application.{PartTree}
 use Rattle.sx_ledger.specs.declared.entry.Entry.{Entry}
-use Rattle.sx_ledger.specs.Made.{entry_of}
+use Rattle.sx_ledger.specs.Entries.{entry_of}
 use Rattle.sx_machine.specs.State.{State}
 use Rattle.sx_deploy.specs.Deployment.{Deployed}
 use Rattle.sx_deploy.specs.Law as deployment

@@ -1,5 +1,6 @@
 use Rattle.std.proofs.Common.{◌≡◌, drop, map}
-use Rattle.sx_asm.specs.Tokens.{entry_of, found_in}
+use Rattle.sx_asm.specs.Tokens.{found_in}
+use Rattle.sx_asm.specs.Entries.{entry_of}
 use Rattle.sx_asm.proofs.lexing.found_in.Given as goal
 
 abbrev pub invariant-loop-name : goal.invariant-loop-name

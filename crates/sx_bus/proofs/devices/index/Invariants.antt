@@ -1,5 +1,5 @@
 use Rattle.std.proofs.Common.{◌≡◌, ℕ, ◌<◌, false, slice_index_or}
-use Rattle.sx_bus.specs.Devices.{has_place}
+use Rattle.sx_bus.specs.Windows.{has_place}
 use Rattle.sx_bus.proofs.devices.index.Given as goal
 
 -- the pages so far are right

@@ -1,6 +1,6 @@
 use Rattle.std.specs.Prelude.{codes, decimal, ◌∷◌, []}
 use Rattle.sx_told.proofs.Laws.{ends-write-failed, prefix-more}
-use Rattle.sx_command.specs.Output.{fault_output}
+use Rattle.sx_command.specs.Refusals.{fault_output}
 use Rattle.sx_command.proofs.fault.finish_fault.Goals as goal
 
 pub returns-in-Err-clause-ends : goal.returns-in-Err-clause-ends

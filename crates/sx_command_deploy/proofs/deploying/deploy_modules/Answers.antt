@@ -1,5 +1,6 @@
 use Rattle.std.proofs.Common.{◌≡◌, ◌∙◌, ℕ, inl, inr, List, map, refl, subst, sym, Result, Ok}
-use Rattle.sx_told.specs.Told.{Rest, command_at}
+use Rattle.sx_told.specs.Told.{command_at}
+use Rattle.sx_told.specs.Parts.{Rest}
 use Rattle.sx_head.specs.Head.{head_lines}
 use Rattle.sx_deploy.specs.Deployment.{Deployed, IsRead}
 use Rattle.sx_deploy.specs.SeenDeployment.{deployed_as}

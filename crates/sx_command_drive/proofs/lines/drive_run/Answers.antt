@@ -5,8 +5,8 @@ use Rattle.sx_told.specs.declared.turned.Turned.TheVariants.{On}
 use Rattle.sx_told.proofs.Laws.{begun-put, does-same, ends-same, told-stop}
 use Rattle.sx_deploy.specs.SeenDeployment.{deployed_as}
 use Rattle.sx_drive.specs.Honest.{Honest, setup, start}
-use Rattle.sx_command_drive.specs.Drive.{drive_from, drive_readings}
-use Rattle.sx_command_drive.specs.Parts.{part_output}
+use Rattle.sx_command_drive.specs.Drive.{drive_readings}
+use Rattle.sx_command_drive.specs.Parts.{drive_from, part_output}
 use Rattle.sx_command_drive.proofs.Named.{are_there, same_app}
 use Rattle.sx_command_drive.proofs.Written.{drive_set_up}
 use Rattle.sx_command_drive.proofs.lines.drive_run.Goals as goal

@@ -3,7 +3,8 @@ use Rattle.sx_io.specs.Reading.{Line}
 use Rattle.sx_told.specs.Told.{read_line}
 use Rattle.sx_told.proofs.Laws.{begun-line, begun-put, ends-same, told-stop, told-end, told-too-long, told-failed}
 use Rattle.sx_deploy.specs.SeenDeployment.{deployed_as}
-use Rattle.sx_command_drive.specs.Drive.{drive_from, steps_text}
+use Rattle.sx_command_drive.specs.Drive.{steps_text}
+use Rattle.sx_command_drive.specs.Parts.{drive_from}
 use Rattle.sx_command_drive.proofs.Written.{drive_ended, drive_too_long, drive_unread}
 use Rattle.sx_command_drive.proofs.lines.read_lines.Goals as goal
 

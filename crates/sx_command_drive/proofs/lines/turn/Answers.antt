@@ -4,7 +4,7 @@ use Rattle.sx_told.proofs.Laws.{does-same, ends-same}
 use Rattle.sx_deploy.specs.SeenDeployment.{deployed_as}
 use Rattle.sx_drive.specs.Driving.{reading}
 use Rattle.sx_command_drive.specs.declared.readings.ReadingLine.TheVariants as says
-use Rattle.sx_command_drive.specs.Drive.{drive_from}
+use Rattle.sx_command_drive.specs.Parts.{drive_from}
 use Rattle.sx_command_drive.specs.Readings.{judged_reading}
 use Rattle.sx_command_drive.proofs.Named.{are_there, same_app}
 use Rattle.sx_command_drive.proofs.Written.{drive_blank, drive_breaks, drive_reading}

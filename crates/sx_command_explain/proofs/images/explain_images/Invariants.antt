@@ -1,6 +1,7 @@
 use Rattle.std.specs.Prelude.{◌-◌, ◌≤◌, ℕ, List}
 use Rattle.sx_io.specs.Reading.{Answer, Limit}
-use Rattle.sx_told.specs.Told.{Begun, CommandAt, Notes, Output, command_at}
+use Rattle.sx_told.specs.Told.{CommandAt, Output, command_at}
+use Rattle.sx_told.specs.Parts.{Begun, Notes}
 use Rattle.sx_deploy.specs.SeenDeployment.{deployed_as}
 use Rattle.sx_command_explain.specs.Meant.{AreMeanings, Meanings}
 use Rattle.sx_command_explain.specs.Explain.{explain_deployed}

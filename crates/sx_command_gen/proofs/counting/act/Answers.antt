@@ -1,6 +1,6 @@
 use Rattle.std.proofs.Common.{◌∙◌, ◌++◌, List, ap}
 use Rattle.sx_trace.specs.declared.items.Item.{Item}
-use Rattle.sx_sched.specs.Lines.{line_of}
+use Rattle.sx_sched.specs.Seen.{line_of}
 use Rattle.sx_world.specs.InMemory.{world_setting}
 use Rattle.sx_command_world.specs.Turning.{after_next}
 use Rattle.sx_command_gen.proofs.counting.act.Goals as goal

@@ -7,9 +7,9 @@ use Rattle.sx_world.specs.Standing.{Stands}
 use Rattle.sx_bulk.specs.Bulk as bulk
 use Rattle.sx_command_gen.specs.declared.counts.Counts.{Counts}
 use Rattle.sx_trace.specs.declared.items.Item.{Item}
-use Rattle.sx_command_gen.specs.Counts.{counts, plus}
+use Rattle.sx_command_gen.specs.Counts.{counts}
+use Rattle.sx_command_gen.specs.Counting.{plus, ActsFrom, EndsAs, LineStopsAt}
 use Rattle.sx_command_gen.specs.declared.counting.Stopped.{Stopped}
-use Rattle.sx_command_gen.specs.Counting.{ActsFrom, EndsAs, LineStopsAt}
 use Rattle.sx_command_gen.proofs.Tallies.{Tallied, front_is, tally_begins, tally_goes_on, tally_ends, tally_stops}
 use Rattle.sx_command_gen.proofs.counting.run_workload.Goals as goal
 

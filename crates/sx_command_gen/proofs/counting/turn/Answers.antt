@@ -1,5 +1,5 @@
 use Rattle.std.proofs.Common.{◌∙◌, ap, refl, Err}
-use Rattle.sx_sched.specs.Lines.{line_of}
+use Rattle.sx_sched.specs.Seen.{line_of}
 use Rattle.sx_deploy.specs.SeenDeployment.{deployed_as}
 use Rattle.sx_run.specs.Accepted.{setting}
 use Rattle.sx_command_gen.proofs.Tallies.{acts_from, on_ok, no_memory}

@@ -1,5 +1,5 @@
 use Rattle.std.proofs.Common.{ℕ, List, subst, Ok, Err}
-use Rattle.sx_stage.specs.Fault.{GivesOne}
+use Rattle.sx_stage.specs.Gives.{GivesOne}
 use Rattle.sx_deploy.specs.Deployment.{IsRead}
 use Rattle.sx_deploy.specs.SeenDeployment.{deployed_as}
 use Rattle.sx_deploy.specs.declared.deployment.Deployment.{Deployment}

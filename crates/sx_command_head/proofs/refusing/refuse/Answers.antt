@@ -3,7 +3,7 @@ use Rattle.sx_told.specs.Told.{Output}
 use Rattle.sx_told.proofs.Laws.{ends-same}
 use Rattle.sx_stage.specs.declared.fault.DeployError.{DeployError}
 use Rattle.sx_command_head.specs.Refused.{fault_line}
-use Rattle.sx_command_head.specs.Refused.{EndsRefused}
+use Rattle.sx_command_head.specs.Ends.{EndsRefused}
 use Rattle.sx_command.proofs.Ends.{never_six}
 use Rattle.sx_command_head.proofs.refusing.refuse.Goals as goal
 

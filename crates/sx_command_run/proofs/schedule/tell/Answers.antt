@@ -2,7 +2,7 @@ use Rattle.std.proofs.Common.{◌≡◌, ◌∙◌, ◌++◌, List, ap, refl, sy
 use Rattle.sx_told.specs.Told.{behind}
 use Rattle.sx_told.proofs.Laws.{does-same, ends-out-of-memory, ends-same, prefix-all}
 use Rattle.sx_trace.specs.declared.items.Item.{Item}
-use Rattle.sx_sched.specs.Lines.{line_of}
+use Rattle.sx_sched.specs.Seen.{line_of}
 use Rattle.sx_world.specs.InMemory.{world_setting}
 use Rattle.sx_command_world.specs.Turning.{after_next}
 use Rattle.sx_command_run.specs.Run.{items_text}

@@ -2,7 +2,7 @@ use Rattle.std.proofs.Common.{◌∙◌, ◌+◌, ◌∷◌, ap, refl, Err}
 use Rattle.sx_asm.specs.Assembled.{assembled}
 use Rattle.sx_io.specs.Reading.{Line}
 use Rattle.sx_told.proofs.Laws.{does-same, ends-same, ends-out-of-memory, prefix-none}
-use Rattle.sx_sched.specs.Lines.{line_of}
+use Rattle.sx_sched.specs.Seen.{line_of}
 use Rattle.sx_deploy.specs.SeenDeployment.{deployed_as}
 use Rattle.sx_run.specs.Accepted.{setting}
 use Rattle.sx_command_world.specs.Turning.{after_next}

@@ -3,7 +3,7 @@ use Rattle.std.specs.Prelude.{IfOk}
 use Rattle.sx_deploy.specs.SeenDeployment.{deployed_as}
 use Rattle.sx_run.specs.Accepted.{setting}
 use Rattle.sx_command_snap.specs.declared.queries.Query.{Query}
-use Rattle.sx_command_snap.specs.Queries.{IsAsked}
+use Rattle.sx_command_snap.specs.Asked.{IsAsked}
 use Rattle.sx_command_snap.specs.Answers.{answer_text}
 use Rattle.sx_command_snap.proofs.querying.answer.Goals as goal
 

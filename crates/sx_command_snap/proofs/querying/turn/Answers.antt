@@ -4,7 +4,8 @@ use Rattle.sx_told.proofs.Laws.{does-same, ends-same}
 use Rattle.sx_deploy.specs.SeenDeployment.{deployed_as}
 use Rattle.sx_run.specs.Accepted.{setting}
 use Rattle.sx_command_snap.specs.declared.queries.Query.{Query}
-use Rattle.sx_command_snap.specs.Queries.{IsAsked, judged_query}
+use Rattle.sx_command_snap.specs.Queries.{judged_query}
+use Rattle.sx_command_snap.specs.Asked.{IsAsked}
 use Rattle.sx_command_snap.specs.Snap.{answers_from}
 use Rattle.sx_command_snap.proofs.Written.{query_line}
 use Rattle.sx_command_snap.proofs.querying.turn.Goals as goal

@@ -1,7 +1,7 @@
 use Rattle.std.proofs.Common.{◌∙◌, ap, ℕ}
 use Rattle.sx_asm.specs.Assembled.{assembled}
 use Rattle.sx_deploy.specs.SeenDeployment.{deployed_as}
-use Rattle.sx_sched.specs.Lines.{line_of}
+use Rattle.sx_sched.specs.Seen.{line_of}
 use Rattle.sx_command_world.specs.Schedule.{judged_line}
 use Rattle.sx_command_snap.proofs.schedule.keep.Goals as goal
 

@@ -11,7 +11,7 @@ use Rattle.sx_run.specs.Setting.{Site}
 use Rattle.sx_world.specs.InMemory.{texts_of}
 use Rattle.sx_command_world.specs.Images.{images_text}
 use Rattle.sx_command_world.specs.Schedule.{judged_line}
-use Rattle.sx_command_world.specs.Turning.{broken_output}
+use Rattle.sx_command_world.specs.Broken.{broken_output}
 use Rattle.sx_command_snap.specs.Snap.{answers_from, snap_from}
 use Rattle.sx_command_snap.proofs.Written.{asks_breaks, asks_end, asks_line, asks_long, asks_mark, asks_unread}
 use Rattle.sx_command_snap.proofs.schedule.snap_lines.Goals as goal

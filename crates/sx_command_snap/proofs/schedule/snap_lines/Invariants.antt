@@ -3,7 +3,7 @@ use Rattle.sx_told.specs.Told.{command_at}
 use Rattle.sx_deploy.specs.SeenDeployment.{deployed_as}
 use Rattle.sx_run.specs.Accepted.{setting}
 use Rattle.sx_world.specs.InMemory.{texts_of}
-use Rattle.sx_snap.specs.Timeline.{IsTimeline}
+use Rattle.sx_snap.specs.Checkpoints.{IsTimeline}
 use Rattle.sx_command_world.specs.Images.{images_text}
 use Rattle.sx_command_snap.specs.Snap.{snap_from}
 use Rattle.sx_command_snap.proofs.Between.{GoesOn}

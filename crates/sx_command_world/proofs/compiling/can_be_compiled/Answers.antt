@@ -2,7 +2,7 @@ use Rattle.std.proofs.Common.{◌≤◌, List, subst, sym, length}
 use Rattle.sx_check.specs.Source.{source_tree}
 use Rattle.sx_lower.specs.Lowering.{SendFew}
 use Rattle.sx_mean.specs.declared.events.End.{End}
-use Rattle.sx_mean.specs.Ends.{senders}
+use Rattle.sx_mean.specs.EndLaws.{senders}
 use Rattle.sx_mean.specs.View.{part_as}
 use Rattle.sx_deploy.specs.SeenDeployment.{deployed_as}
 use Rattle.sx_compile.specs.Compiled.{HasSections}

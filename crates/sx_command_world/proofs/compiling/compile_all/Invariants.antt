@@ -1,6 +1,6 @@
 use Rattle.std.specs.Prelude.{◌≡◌, ◌≤◌, ◌-◌, length, map}
 use Rattle.sx_deploy.specs.SeenDeployment.{deployed_as}
-use Rattle.sx_image.specs.Image.{plain}
+use Rattle.sx_image.specs.InMemory.{plain}
 use Rattle.sx_command_world.specs.Built.{AreBuilt}
 use Rattle.sx_command_world.proofs.compiling.compile_all.Given as goal
 

@@ -5,7 +5,8 @@ use Rattle.sx_check.specs.Source.{source_tree}
 use Rattle.sx_mean.specs.declared.events.End.{End}
 use Rattle.sx_mean.specs.Ends.{ends_of}
 use Rattle.sx_mean.specs.View.{part_as}
-use Rattle.sx_image.specs.Image.{Image, plain}
+use Rattle.sx_image.specs.Image.{Image}
+use Rattle.sx_image.specs.InMemory.{plain}
 use Rattle.sx_image.specs.Realizes.{Realizes}
 use Rattle.sx_compile.specs.Compiled.{CompilesTo}
 use Rattle.sx_command_world.proofs.Building.{held_at, layout_within, provider_within, built_at, get_part, both}

@@ -1,5 +1,5 @@
 use Rattle.std.proofs.Common.{subst, [], Result, List, Vec, Global}
-use Rattle.sx_stage.specs.Fault.{Gives}
+use Rattle.sx_stage.specs.Gives.{Gives}
 use Rattle.sx_stage.specs.declared.fault.DeployFault.{DeployFault}
 use Rattle.sx_stage.proofs.Mapped.{made_after-map}
 use Rattle.sx_deploy.specs.Places.{placed_module}

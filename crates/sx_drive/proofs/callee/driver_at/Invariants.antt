@@ -1,6 +1,7 @@
 use Rattle.std.proofs.Common.{◌≡◌, drop, map, Some}
 use Rattle.std.specs.List.{position_from}
-use Rattle.sx_mean.specs.Application.{PartTree, same_device}
+use Rattle.sx_mean.specs.Application.{PartTree}
+use Rattle.sx_mean.specs.Validity.{same_device}
 use Rattle.sx_mean.specs.View.{part_as}
 use Rattle.sx_drive.specs.Driving.{driver_at}
 use Rattle.sx_drive.proofs.callee.driver_at.Given as goal

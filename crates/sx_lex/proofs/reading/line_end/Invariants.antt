@@ -1,5 +1,5 @@
 use Rattle.std.proofs.Common.{length}
-use Rattle.sx_lex.specs.Words.{Passed}
+use Rattle.sx_lex.specs.Progress.{Passed}
 use Rattle.sx_lex.proofs.reading.line_end.Given as goal
 
 abbrev pub invariant-loop-first : goal.invariant-loop-first

@@ -1,5 +1,5 @@
 use Rattle.std.proofs.Common.{length}
-use Rattle.sx_lex.specs.Lexed.{LexedSoFar}
+use Rattle.sx_lex.specs.Progress.{LexedSoFar}
 use Rattle.sx_lex.proofs.reading.tokens_of.Given as goal
 
 abbrev pub invariant-loop-first : goal.invariant-loop-first

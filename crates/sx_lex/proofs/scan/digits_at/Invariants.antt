@@ -1,5 +1,5 @@
 use Rattle.std.proofs.Common.{length}
-use Rattle.sx_lex.specs.Words.{Counted}
+use Rattle.sx_lex.specs.Progress.{Counted}
 use Rattle.sx_lex.proofs.scan.digits_at.Given as goal
 
 abbrev pub invariant-loop-first : goal.invariant-loop-first

@@ -1,7 +1,7 @@
 use Rattle.std.proofs.Common.{◌<◌, length, map, sym, ap, ◌∙◌, subst}
 use Rattle.sx_lang.specs.View.{handler_of}
 use Rattle.sx_check.specs.Source.{source_tree}
-use Rattle.sx_mean.specs.Places.{AreSizedDecls}
+use Rattle.sx_mean.specs.Sized.{AreSizedDecls}
 use Rattle.sx_mean.proofs.Kept.{sized}
 use Rattle.sx_lower.specs.Lowered.{handlers_code, AreFew}
 use Rattle.sx_lower.proofs.Accepted.{few, short}

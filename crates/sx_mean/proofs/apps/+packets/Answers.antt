@@ -1,6 +1,7 @@
 use Rattle.std.proofs.Common.{arith, ap}
 use Rattle.std.proofs.lemmas.Grind.{common_steps}
-use Rattle.sx_mean.specs.Application.{statement_packets, links_from}
+use Rattle.sx_mean.specs.Application.{links_from}
+use Rattle.sx_mean.specs.Packets.{statement_packets}
 use Rattle.sx_mean.proofs.Turns.{turns_cut}
 use Rattle.sx_mean.proofs.apps.+packets.Goals as goal
 use Rattle.sx_lang.proofs.Rows.{if_seen, repeat_seen}

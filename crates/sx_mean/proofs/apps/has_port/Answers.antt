@@ -1,4 +1,4 @@
-use Rattle.sx_mean.specs.Application.{is_port}
+use Rattle.sx_mean.specs.Validity.{is_port}
 use Rattle.sx_mean.proofs.Turns.{port_here}
 use Rattle.sx_mean.proofs.apps.has_port.Goals as goal
 

@@ -1,5 +1,5 @@
 use Rattle.std.proofs.Common.{◌≡◌, drop, map}
-use Rattle.sx_mean.specs.Application.{is_port, has_port}
+use Rattle.sx_mean.specs.Validity.{is_port, has_port}
 use Rattle.sx_mean.specs.View.{part_as}
 use Rattle.sx_mean.proofs.apps.has_port.Given as goal
 

@@ -1,5 +1,5 @@
 use Rattle.std.proofs.Common.{◌≡◌, ◌+◌, ◌≤◌, drop, count_by}
-use Rattle.sx_mean.specs.Application.{is_port}
+use Rattle.sx_mean.specs.Validity.{is_port}
 use Rattle.sx_mean.proofs.apps.has_port_of_kind.Given as goal
 
 abbrev pub invariant-loop-d : goal.invariant-loop-d

@@ -1,5 +1,5 @@
 use Rattle.std.proofs.Common.{◌≡◌, ◌+◌, ◌≤◌, drop, map}
-use Rattle.sx_mean.specs.Application.{parts_with}
+use Rattle.sx_mean.specs.Validity.{parts_with}
 use Rattle.sx_mean.specs.View.{part_as}
 use Rattle.sx_mean.proofs.apps.parts_with.Given as goal
 

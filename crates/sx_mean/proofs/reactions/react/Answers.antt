@@ -1,7 +1,7 @@
 use Rattle.std.proofs.Common.{sym, subst}
 use Rattle.sx_lang.specs.declared.tree.Module.{Module}
 use Rattle.sx_check.specs.Source.{source_tree}
-use Rattle.sx_mean.specs.Places.{AreSizedDecls}
+use Rattle.sx_mean.specs.Sized.{AreSizedDecls}
 use Rattle.sx_mean.proofs.Kept.{sized}
 use Rattle.sx_mean.proofs.reactions.react.Goals as goal
 

@@ -1,5 +1,6 @@
 use Rattle.std.proofs.Common.{◌≡◌, drop, map}
-use Rattle.sx_sched.specs.Reading.{entry_of, register_in}
+use Rattle.sx_asm.specs.Entries.{entry_of}
+use Rattle.sx_sched.specs.Reading.{register_in}
 use Rattle.sx_sched.proofs.fields.register_in.Given as goal
 
 abbrev pub invariant-loop-name : goal.invariant-loop-name

@@ -2,7 +2,7 @@ use Rattle.std.proofs.Common.{◌≡◌, ℕ, List, sym, subst}
 use Rattle.std.specs.Prelude.{Ok}
 use Rattle.sx_asm.specs.Assembled.{assembled}
 use Rattle.sx_trace.proofs.Written.{written_text}
-use Rattle.sx_sched.specs.Lines.{line_of}
+use Rattle.sx_sched.specs.Seen.{line_of}
 use Rattle.sx_sched.specs.Reading.{said_line}
 use Rattle.sx_sched.specs.Written.{line_text}
 use Rattle.sx_sched.proofs.SaidTexts.{text_is_said}

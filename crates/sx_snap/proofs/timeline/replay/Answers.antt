@@ -1,14 +1,16 @@
 use Rattle.std.proofs.Common.{◌<◌, ◌≤◌, ◌+◌, List, length, map, take, ap, sym, subst, arith}
 use Rattle.std.proofs.lemmas.List.{length-map}
 use Rattle.sx_deploy.specs.SeenDeployment.{deployed_as}
-use Rattle.sx_sched.specs.Lines.{Line, line_of}
+use Rattle.sx_sched.specs.Lines.{Line}
+use Rattle.sx_sched.specs.Seen.{line_of}
 use Rattle.sx_run.specs.Accepted.{setting}
 use Rattle.sx_run.specs.Law.{IsSoundSetting}
 use Rattle.sx_run.specs.Setting.{Site}
 use Rattle.sx_run.specs.State.{World}
-use Rattle.sx_world.specs.Continued.{next}
+use Rattle.sx_world.specs.Whole.{next}
 use Rattle.sx_world.specs.Standing.{Stands}
-use Rattle.sx_snap.specs.Timeline.{StandsAfter, world_at}
+use Rattle.sx_snap.specs.Timeline.{world_at}
+use Rattle.sx_snap.specs.Checkpoints.{StandsAfter}
 use Rattle.sx_snap.proofs.Stretches.{line_read, line_there, one_more, take_next, taken_long}
 use Rattle.sx_snap.proofs.timeline.replay.Goals as goal
 

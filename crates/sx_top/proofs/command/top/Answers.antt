@@ -3,8 +3,8 @@ use Rattle.std.specs.Prelude.{string_bytes}
 use Rattle.sx_tag.specs.Mac.{hmac_sha256}
 use Rattle.sx_top.specs.declared.words.Command.{Command}
 use Rattle.sx_top.specs.declared.words.Command.TheVariants.{Run, Check, Explain, Drive, Snap, Gen, Asm, Dis}
-use Rattle.sx_top.specs.Commands.{CarriesFew}
-use Rattle.sx_command.specs.Output.{usage_line}
+use Rattle.sx_top.specs.Chosen.{CarriesFew}
+use Rattle.sx_command.specs.Refusals.{usage_line}
 use Rattle.sx_command_run.proofs.Said.{says_not_two}
 use Rattle.sx_command_check.proofs.Promised.{check_not_two}
 use Rattle.sx_command_explain.proofs.Promised.{explain_not_two}

@@ -1,5 +1,5 @@
 use Rattle.std.proofs.Common.{◌≡◌, length}
-use Rattle.sx_trace.specs.Names.{no_repeat}
+use Rattle.sx_trace.specs.ValidNames.{no_repeat}
 use Rattle.sx_trace.proofs.names.no_repeat.Given as goal
 
 abbrev pub invariant-loop-first : goal.invariant-loop-first

@@ -3,8 +3,10 @@ use Rattle.std.specs.Option.{MatchOption}
 use Rattle.std.specs.Str.{bytes_eq}
 use Rattle.std.proofs.lemmas.Slice.Eq.{bytes_eq-Decides}
 use Rattle.sx_trace.specs.declared.items.Item.{Item}
-use Rattle.sx_trace.specs.Names.{NameLists, are_valid}
-use Rattle.sx_trace.specs.Items.{item_text, IsItem, IsNoItem}
+use Rattle.sx_trace.specs.Names.{NameLists}
+use Rattle.sx_trace.specs.ValidNames.{are_valid}
+use Rattle.sx_trace.specs.Items.{item_text}
+use Rattle.sx_trace.specs.KnownItems.{IsItem, IsNoItem}
 use Rattle.sx_trace.specs.Finding.{item_in}
 use Rattle.sx_trace.proofs.ItemsDiffer.{found_only}
 use Rattle.sx_trace.proofs.Written.{written_text}

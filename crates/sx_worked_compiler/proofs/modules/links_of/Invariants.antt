@@ -1,6 +1,6 @@
 use Rattle.std.proofs.Common.{◌≡◌, ℕ, ◌+◌, drop}
 use Rattle.sx_mean.specs.Application.{links_from}
-use Rattle.sx_mean.specs.Ends.{senders}
+use Rattle.sx_mean.specs.EndLaws.{senders}
 use Rattle.sx_worked_compiler.proofs.modules.links_of.Given as goal
 
 abbrev pub invariant-loop-e : goal.invariant-loop-e

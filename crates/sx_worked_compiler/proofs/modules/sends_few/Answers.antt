@@ -3,7 +3,7 @@ use Rattle.sx_lang.specs.View.{module_of}
 use Rattle.sx_lang.specs.declared.tree.Module.{Module}
 use Rattle.sx_check.specs.Source.{source_tree}
 use Rattle.sx_mean.specs.Application.{sends_too_much}
-use Rattle.sx_mean.specs.Places.{AreSizedDecls}
+use Rattle.sx_mean.specs.Sized.{AreSizedDecls}
 use Rattle.sx_mean.proofs.Kept.{sized}
 use Rattle.sx_compile.proofs.Links.{few_tested}
 use Rattle.sx_worked_compiler.proofs.modules.sends_few.Goals as goal

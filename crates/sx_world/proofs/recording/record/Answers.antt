@@ -1,4 +1,4 @@
-use Rattle.sx_ledger.specs.Made.{made}
+use Rattle.sx_ledger.specs.Entries.{made}
 use Rattle.sx_world.proofs.showing.Recorded.{recorded_ok}
 use Rattle.sx_world.proofs.recording.record.Goals as goal
 

@@ -1,7 +1,8 @@
 use Rattle.std.proofs.Common.{◌≡◌, ℕ, ◌/◌, false, List, All, slice_index_or, sym, ◌∙◌, ap, subst, arith}
 use Rattle.std.proofs.lemmas.Grind.{common_steps}
 use Rattle.sx_bus.specs.declared.devices.Window.{Window}
-use Rattle.sx_bus.specs.Devices.{places_of, device_at, has_place}
+use Rattle.sx_bus.specs.Devices.{places_of, device_at}
+use Rattle.sx_bus.specs.Windows.{has_place}
 use Rattle.sx_bus.proofs.Elsewhere.{IsEven, none_elsewhere}
 use Rattle.sx_bus.proofs.devices.Windows.at.Goals as goal
 

@@ -1,5 +1,6 @@
 use Rattle.std.proofs.Common.{sym, ◌∙◌, ap, subst, rules}
-use Rattle.sx_bus.specs.Devices.{ArePlaces, AreNew, HaveSamples, places_of}
+use Rattle.sx_bus.specs.Devices.{ArePlaces, HaveSamples, places_of}
+use Rattle.sx_bus.specs.Windows.{AreNew}
 use Rattle.sx_bus.proofs.Changed.{places_of-powered_on, HaveSamples-powered_on, AreNew-powered_on}
 use Rattle.sx_bus.proofs.devices.Windows.new.Goals as goal
 

@@ -1,5 +1,5 @@
 use Rattle.std.proofs.Common.{◌∙◌}
-use Rattle.sx_sched.specs.Lines.{line_of}
+use Rattle.sx_sched.specs.Seen.{line_of}
 use Rattle.sx_drive.specs.declared.said.Said.TheVariants as told
 use Rattle.sx_drive.proofs.Remains.{does_err}
 use Rattle.sx_drive.proofs.Performed.{line_part, line_wanted, tell_wanted, line_does, line_told, pushed, is_short, has_room}

@@ -1,5 +1,5 @@
 use Rattle.std.proofs.Common.{sym, ap, ◌∙◌}
-use Rattle.sx_sched.specs.Lines.{line_of}
+use Rattle.sx_sched.specs.Seen.{line_of}
 use Rattle.sx_drive.specs.Honest.{says}
 use Rattle.sx_drive.specs.Driving.{Kept}
 use Rattle.sx_drive.proofs.Remains.{still_goes}

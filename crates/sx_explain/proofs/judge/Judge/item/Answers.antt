@@ -1,10 +1,9 @@
 use Rattle.std.proofs.Common.{◌≡◌, ◌∙◌, false, true, sym, ap}
 use Rattle.sx_mean.specs.View.{app_as}
 use Rattle.sx_mean.proofs.ValidApplications.{valid_applications}
-use Rattle.sx_explain.specs.Followed.{Seen}
+use Rattle.sx_explain.specs.Followed.{Seen, Follows}
 use Rattle.sx_explain.proofs.Ending.{answer_is, err_is, follows_is, on_err_any}
 use Rattle.sx_explain.proofs.Following.{tried_up, unjudged_follows}
-use Rattle.sx_explain.specs.Followed.{Follows}
 use Rattle.sx_explain.proofs.judge.Judge.item.Goals as goal
 
 pub catch_up-requires : goal.catch_up-requires

@@ -1,6 +1,6 @@
 use Rattle.std.proofs.Common.{◌≡◌, drop}
 use Rattle.std.specs.List.{list_any}
-use Rattle.sx_mean.specs.Application.{is_loose}
+use Rattle.sx_mean.specs.Validity.{is_loose}
 use Rattle.sx_mean.specs.View.{app_as}
 use Rattle.sx_mean.proofs.apps.App.has_loose_link.Given as goal
 

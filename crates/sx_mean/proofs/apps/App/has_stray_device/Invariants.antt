@@ -1,6 +1,6 @@
 use Rattle.std.proofs.Common.{◌≡◌, drop}
 use Rattle.std.specs.List.{list_any}
-use Rattle.sx_mean.specs.Application.{is_stray}
+use Rattle.sx_mean.specs.Validity.{is_stray}
 use Rattle.sx_mean.specs.View.{app_as}
 use Rattle.sx_mean.proofs.apps.App.has_stray_device.Given as goal
 

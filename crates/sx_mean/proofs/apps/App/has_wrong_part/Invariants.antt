@@ -1,5 +1,5 @@
 use Rattle.std.proofs.Common.{◌≡◌, drop, map}
-use Rattle.sx_mean.specs.Application.{any_part, is_wrong}
+use Rattle.sx_mean.specs.Validity.{any_part, is_wrong}
 use Rattle.sx_mean.specs.View.{app_as, part_as}
 use Rattle.sx_mean.proofs.apps.App.has_wrong_part.Given as goal
 

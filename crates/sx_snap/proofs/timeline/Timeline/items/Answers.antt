@@ -2,8 +2,9 @@ use Rattle.std.proofs.Common.{◌≡◌, ◌∙◌, ◌-◌, ◌<◌, List, leng
 use Rattle.std.proofs.lemmas.List.{length-map}
 use Rattle.std.specs.Prelude.{slice_get}
 use Rattle.sx_deploy.specs.SeenDeployment.{deployed_as}
-use Rattle.sx_sched.specs.Lines.{Line, line_of}
-use Rattle.sx_run.specs.Accepted.{AreLines}
+use Rattle.sx_sched.specs.Lines.{Line}
+use Rattle.sx_sched.specs.Seen.{line_of}
+use Rattle.sx_run.specs.AcceptedLaw.{AreLines}
 use Rattle.sx_snap.specs.Kept.{Kept}
 use Rattle.sx_snap.proofs.Stretches.{items_found, line_read, line_there}
 use Rattle.sx_snap.proofs.timeline.Timeline.items.Goals as goal

@@ -1,8 +1,9 @@
 use Rattle.std.proofs.Common.{◌∙◌, ◌++◌, ◌∷◌, [], List, map, ap, subst, sym}
-use Rattle.sx_sched.specs.Lines.{Line, line_of}
+use Rattle.sx_sched.specs.Lines.{Line}
+use Rattle.sx_sched.specs.Seen.{line_of}
 use Rattle.sx_sched.specs.declared.lines.Line.{Line as Read}
 use Rattle.sx_snap.specs.Kept.{first_sites}
-use Rattle.sx_snap.specs.Timeline.{IsTimeline}
+use Rattle.sx_snap.specs.Checkpoints.{IsTimeline}
 use Rattle.sx_deploy.specs.SeenDeployment.{deployed_as}
 use Rattle.sx_world.specs.Held.{Held}
 use Rattle.sx_snap.proofs.Longer.{first_timeline}

@@ -1,14 +1,15 @@
 use Rattle.std.proofs.Common.{◌≡◌, ◌+◌, ◌*◌, ◌≤◌, ◌∙◌, ℕ, List, length, take, ap, arith, subst, sym}
 use Rattle.std.proofs.lemmas.List.{length-map}
 use Rattle.sx_deploy.specs.SeenDeployment.{deployed_as}
-use Rattle.sx_sched.specs.Lines.{Line, line_of}
+use Rattle.sx_sched.specs.Lines.{Line}
+use Rattle.sx_sched.specs.Seen.{line_of}
 use Rattle.sx_run.specs.Accepted.{setting}
 use Rattle.sx_run.specs.Setting.{Site}
 use Rattle.sx_run.specs.State.{World}
-use Rattle.sx_world.specs.Continued.{next}
+use Rattle.sx_world.specs.Whole.{next}
 use Rattle.sx_world.specs.Standing.{Stands}
 use Rattle.sx_snap.specs.Kept.{Kept}
-use Rattle.sx_snap.specs.Timeline.{StandsAfter}
+use Rattle.sx_snap.specs.Checkpoints.{StandsAfter}
 use Rattle.sx_snap.proofs.Longer.{take_all}
 use Rattle.sx_snap.proofs.Stretches.{one_more}
 use Rattle.sx_snap.proofs.timeline.Timeline.next_checkpoint.Goals as goal

@@ -1,11 +1,12 @@
 use Rattle.std.proofs.Common.{◌≡◌, ◌∙◌, ◌++◌, ◌∷◌, [], List, map, ap, subst, sym, Option, Some}
 use Rattle.std.proofs.lemmas.List.{map-append}
 use Rattle.sx_deploy.specs.SeenDeployment.{deployed_as}
-use Rattle.sx_sched.specs.Lines.{Line, line_of}
+use Rattle.sx_sched.specs.Lines.{Line}
+use Rattle.sx_sched.specs.Seen.{line_of}
 use Rattle.sx_sched.specs.declared.lines.Line.{Line as Read}
 use Rattle.sx_world.specs.Held.{Held}
 use Rattle.sx_snap.specs.Kept.{Kept, first_sites}
-use Rattle.sx_snap.specs.Timeline.{IsTimeline, NextCheckpoint}
+use Rattle.sx_snap.specs.Checkpoints.{IsTimeline, NextCheckpoint}
 use Rattle.sx_snap.proofs.Longer.{either_way, pushed, pushed_both}
 use Rattle.sx_snap.proofs.timeline.Timeline.push.Goals as goal
 

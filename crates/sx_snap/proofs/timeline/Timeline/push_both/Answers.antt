@@ -1,7 +1,8 @@
 use Rattle.std.proofs.Common.{arith, rules, ◌≡◌, ◌∙◌, ◌++◌, ◌∷◌, [], ◌≤◌, List, length, map, take, ap, subst, sym}
 use Rattle.std.proofs.Math.Seq.{take-append_seam}
 use Rattle.std.proofs.lemmas.List.{map-append}
-use Rattle.sx_sched.specs.Lines.{Line, line_of}
+use Rattle.sx_sched.specs.Lines.{Line}
+use Rattle.sx_sched.specs.Seen.{line_of}
 use Rattle.sx_sched.specs.declared.lines.Line.{Line as Read}
 use Rattle.sx_run.specs.Setting.{Site}
 use Rattle.sx_world.specs.Held.{Held}

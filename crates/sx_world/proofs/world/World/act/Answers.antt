@@ -1,6 +1,6 @@
 use Rattle.std.proofs.Common.{◌+◌, List, sym, subst, ap, ◌∙◌}
 use Rattle.sx_deploy.specs.SeenDeployment.{deployed_as}
-use Rattle.sx_sched.specs.Lines.{line_of}
+use Rattle.sx_sched.specs.Seen.{line_of}
 use Rattle.sx_world.specs.Held.{Held, Running}
 use Rattle.sx_world.specs.Ready.{IsReady}
 use Rattle.sx_run.specs.Setting.{Site}

@@ -1,0 +1,18 @@
+-- The samplings of readings, and the items of what a run said.
+use Rattle.std.specs.Prelude.{List, [], ◌∷◌, map}
+use Rattle.sx_trace.specs.declared.items.Item.{Item}
+use Rattle.sx_honest.specs.Plain.{Sampling}
+use Rattle.sx_drive.specs.Honest.{Reading, Said, SaidItem, SaidLine}
+
+-- a reading, as the source has it
+abbrev pub sampling_of : Reading → Sampling
+sampling_of r = record { device = r.device; value = r.value }
+
+abbrev pub samplings_of : List Reading → List Sampling
+samplings_of readings = map sampling_of readings
+
+-- the items among what is said
+abbrev pub items_of : List Said → List Item
+items_of [] = []
+items_of (SaidLine line ∷ said) = items_of said
+items_of (SaidItem i ∷ said) = i ∷ items_of said
