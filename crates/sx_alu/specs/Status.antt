@@ -1,6 +1,6 @@
 -- The flags in the status register (TI, MSP430x2xx Family User's Guide, "Status Register"): C is
 -- bit 0, Z bit 1, N bit 2, V bit 8.
-use Rattle.std.specs.Prelude.{ℕ, ◌+◌, ◌*◌, ◌/◌, ◌%◌, ◌==◌, Bool, if◌then◌else◌}
+use Rattle.std.specs.Prelude.{ℕ, ◌+◌, ◌*◌, ◌/◌, ◌%◌, ◌==◌}
 use Rattle.sx_alu.specs.declared.flags.Flags.{Flags}
 use Rattle.sx_lists.specs.Truth.{truth}
 

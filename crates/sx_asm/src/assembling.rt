@@ -1,7 +1,7 @@
 //! The assembler: the rules in their order, and then the code.
 
-ghost use Rattle.std.specs.Prelude.{◌≡◌, ◌<◌, ◌≤◌, ◌&&◌, ◌++◌, ◌%◌, ◌/◌, [], ◌∷◌, true, take};
-ghost use Rattle.std.specs.Prelude.{length, Ok, IfOk, IfErr, OnOk, IsTrue};
+ghost use Rattle.std.specs.Prelude.{◌≡◌, ◌<◌, ◌≤◌, ◌&&◌, ◌++◌, ◌%◌, [], ◌∷◌, true, take};
+ghost use Rattle.std.specs.Prelude.{Ok, IfOk, IfErr, OnOk};
 ghost use Rattle.sx_isa.specs.Spelling.{spelling};
 ghost use Rattle.sx_isa.specs.Instructions.{IsInstruction};
 ghost use Rattle.sx_asm.specs.declared.error.AsmError.TheVariants.{OutOfMemory, Fault};

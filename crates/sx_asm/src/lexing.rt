@@ -1,12 +1,12 @@
 //! The tokens of a line.
 
-ghost use Rattle.std.specs.Prelude.{◌≡◌, ℕ, ◌+◌, true, ◌<◌, ◌≤◌, List, [], ◌∷◌, length, map, IfOk};
-ghost use Rattle.std.specs.Prelude.{IfSome, MatchOption, if◌then◌else◌, Some, None};
+ghost use Rattle.std.specs.Prelude.{◌≡◌, ◌+◌, true, ◌<◌, ◌≤◌, [], ◌∷◌, length, map, IfOk};
+ghost use Rattle.std.specs.Prelude.{IfSome, MatchOption, Some, None};
 ghost use Rattle.sx_lex.specs.Words.{kind_of};
 ghost use Rattle.sx_lang.specs.Form.{is_name};
 ghost use Rattle.sx_asm.specs.Fronts.{run_front, digit_of, with_digit, digits_from, numeral_of};
 ghost use Rattle.sx_asm.specs.Fronts.{number_of};
-ghost use Rattle.sx_lex.specs.Lexed.{is_space, begins_comment};
+ghost use Rattle.sx_lex.specs.Lexed.{begins_comment};
 ghost use Rattle.sx_asm.specs.Words.{signs, registers, instructions};
 ghost use Rattle.sx_asm.specs.Tokens.{is_word_byte, joins, runs, found_in, value_token, token_of};
 ghost use Rattle.sx_asm.specs.Tokens.{is_gap, tokens_of};

@@ -1,7 +1,6 @@
 //! The addresses, words and instructions of what is written.
 
-ghost use Rattle.std.specs.Prelude.{◌≡◌, ◌<◌, ◌≤◌, ◌&&◌, ◌++◌, [], true, take, length, IfOk, IfErr};
-ghost use Rattle.std.specs.Prelude.{IsTrue};
+ghost use Rattle.std.specs.Prelude.{◌≡◌, ◌<◌, ◌≤◌, ◌&&◌, [], true, IfOk, IfErr};
 ghost use Rattle.sx_asm.specs.declared.error.AsmError.TheVariants.{OutOfMemory};
 ghost use Rattle.sx_isa.specs.Legal.{is_allowed};
 ghost use Rattle.sx_isa.specs.Instructions.{IsSource, IsDestination, IsInstruction};

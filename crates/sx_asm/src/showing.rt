@@ -1,16 +1,14 @@
 //! From an instruction to its text.
 
-ghost use Rattle.std.specs.Prelude.{◌≡◌, ◌+◌, ◌*◌, ◌<◌, ◌≤◌, ◌++◌, [], ◌∷◌, true, length, drop};
-ghost use Rattle.std.specs.Prelude.{IfSome};
+ghost use Rattle.std.specs.Prelude.{◌≡◌, ◌+◌, ◌*◌, ◌<◌, ◌≤◌, ◌++◌, [], true, length, drop};
 ghost use Rattle.sx_isa.specs.declared.instruction.Operand.TheVariants.{Indexed, Indirect};
 ghost use Rattle.sx_isa.specs.declared.instruction.Operand.TheVariants.{Increment, Immediate};
 ghost use Rattle.sx_isa.specs.declared.instruction.Instr.TheVariants.{Two, One, Jump};
 ghost use Rattle.sx_isa.specs.Instructions.{IsInstruction, IsOffset};
-ghost use Rattle.sx_isa.specs.Reading.{instruction_at};
 ghost use Rattle.sx_asm.specs.Words.{op2_name, op1_name, sized, jump_name, sancus_name};
 ghost use Rattle.sx_asm.specs.Words.{register_name};
-ghost use Rattle.sx_asm.specs.Shown.{hex_digit, digit, hex_digits, hex, operand_text, target};
-ghost use Rattle.sx_asm.specs.Shown.{source_size, shown, word_text, word_from, listed, line_of};
+ghost use Rattle.sx_asm.specs.Shown.{digit, hex_digits, hex, operand_text, target};
+ghost use Rattle.sx_asm.specs.Shown.{source_size, shown, word_text, word_from, listed};
 
 use crate::meaning::{further, is_constant};
 use arrayvec::ArrayVec;

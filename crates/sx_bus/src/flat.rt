@@ -1,6 +1,6 @@
 //! A memory in one piece.
 
-ghost use Rattle.std.specs.Prelude.{◌≡◌, ℕ, length, IfOk};
+ghost use Rattle.std.specs.Prelude.{◌≡◌, length, IfOk};
 ghost use Rattle.sx_bus.specs.Memory.{blank, AreMemoryBytes};
 
 use crate::copied::Copied;

@@ -1,16 +1,16 @@
 //! The rules on how high, how deep and how long the code is. Numbers are cut where no rule tells
 //! them apart any more, so that they are numbers for every tree.
 
-ghost use Rattle.std.specs.Prelude.{◌≡◌, ℕ, ◌+◌, ◌*◌, ◌≤◌, length, map, max, min, nat_lt};
+ghost use Rattle.std.specs.Prelude.{◌≡◌, ◌+◌, ◌*◌, ◌≤◌, length, map, min};
 ghost use Rattle.std.specs.List.{list_any};
 ghost use Rattle.sx_lang.specs.View.{block_of, expression_of, handler_of, module_of, statement_of};
 ghost use Rattle.sx_check.specs.Bounds.{block_counts, block_emits, block_height, block_sends};
 ghost use Rattle.sx_check.specs.Bounds.{height, inner_depth, is_miscounted, statement_counts};
 ghost use Rattle.sx_check.specs.Bounds.{statement_depth, statement_emits, statement_height};
 ghost use Rattle.sx_check.specs.Bounds.{statement_sends_by};
-ghost use Rattle.sx_check.specs.Names.{block_lets, locals, statement_lets};
+ghost use Rattle.sx_check.specs.Names.{block_lets, statement_lets};
 ghost use Rattle.sx_check.specs.Rules.{breaks_cells, breaks_cost, breaks_depth, breaks_locals};
-ghost use Rattle.sx_check.specs.Rules.{breaks_nodes, breaks_packets, breaks_repeat, is_too_deep};
+ghost use Rattle.sx_check.specs.Rules.{breaks_nodes, breaks_packets, breaks_repeat};
 
 use crate::declared::{has_misfit, inputs, outputs};
 use sx_lang::sizes::{cells, cost, nodes};

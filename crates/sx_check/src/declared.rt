@@ -1,6 +1,6 @@
 //! Looking names up in the declarations.
 
-ghost use Rattle.std.specs.Prelude.{◌≡◌, ℕ, ◌≤◌, count_by, length};
+ghost use Rattle.std.specs.Prelude.{◌≡◌, count_by, length};
 ghost use Rattle.std.specs.List.{list_any};
 ghost use Rattle.sx_check.specs.Names.{declares, is_actuator, is_declared, is_device, is_repeated};
 ghost use Rattle.sx_check.specs.Names.{is_sensor};

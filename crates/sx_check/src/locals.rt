@@ -1,9 +1,9 @@
 //! The rule on names that are taken twice.
 
-ghost use Rattle.std.specs.Prelude.{◌≡◌, ℕ, ◌+◌, ◌≤◌, count_by, length, map, min};
+ghost use Rattle.std.specs.Prelude.{◌≡◌, ◌+◌, count_by, map, min};
 ghost use Rattle.std.specs.List.{list_any};
 ghost use Rattle.sx_lang.specs.View.{block_of, handler_of, module_of, statement_of};
-ghost use Rattle.sx_check.specs.Names.{block_lets, has_taken, is_handled_twice, is_taken, locals};
+ghost use Rattle.sx_check.specs.Names.{block_lets, has_taken, is_handled_twice, is_taken};
 ghost use Rattle.sx_check.specs.Names.{same, same_input, statement_lets};
 ghost use Rattle.sx_check.specs.Rules.{breaks_duplicate};
 

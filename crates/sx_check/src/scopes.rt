@@ -1,8 +1,8 @@
 //! Which locals a place in a handler can see.
 
-ghost use Rattle.std.specs.Prelude.{◌≡◌, ℕ};
+ghost use Rattle.std.specs.Prelude.{◌≡◌};
 ghost use Rattle.sx_lang.specs.View.{block_of, statement_of};
-ghost use Rattle.sx_check.specs.Names.{defined, same};
+ghost use Rattle.sx_check.specs.Names.{defined};
 ghost use Rattle.sx_check.specs.Scopes.{definitions, seen_in};
 ghost use Rattle.sx_check.specs.Uses.{is_seen};
 

@@ -7,7 +7,6 @@ use Rattle.sx_isa.specs.declared.instruction.Operand.{Operand}
 use Rattle.sx_isa.specs.declared.instruction.Op2.{Op2}
 use Rattle.sx_isa.specs.declared.instruction.Op1.{Op1}
 use Rattle.sx_isa.specs.declared.instruction.Instr.{Instr}
-use Rattle.sx_isa.specs.declared.instruction.Instr.TheVariants as instr
 use Rattle.sx_isa.specs.Legal.{is_allowed}
 use Rattle.sx_isa.specs.Spelling.{is_constant, Place, constant, place_of}
 use Rattle.sx_isa.specs.Reading.{two_of, one_of, two_at, one_at, instruction_at, takes_word}

@@ -7,7 +7,7 @@ use Rattle.sx_told.specs.Told.{Output, behind, unread_output}
 use Rattle.sx_trace.specs.Names.{NameLists}
 use Rattle.sx_deploy.specs.Deployment.{Deployed}
 use Rattle.sx_run.specs.Setting.{Setting}
-use Rattle.sx_drive.specs.Honest.{Driven, Honest, Reading, Said, each, reads, setup, start}
+use Rattle.sx_drive.specs.Honest.{Driven, Honest, Said, each, reads, setup, start}
 use Rattle.sx_drive.specs.Driving.{reading}
 use Rattle.sx_command_world.specs.Schedule.{Stop, AtEnd, Unread, Breaks}
 use Rattle.sx_command_drive.specs.declared.readings.ReadingLine.{ReadingLine}

@@ -5,7 +5,7 @@ use Rattle.sx_io.specs.Reading.{Answer, Line, End, Long, Fault, newline}
 use Rattle.sx_told.specs.Told.{Output}
 use Rattle.sx_told.proofs.Endings.{Faultless, Unfinished, pick}
 use Rattle.sx_stage.specs.declared.fault.DeployFault.{DeployFault}
-use Rattle.sx_head.specs.Head.{Head, Found, TooLong, NoMark, head, head_behind, is_mark, most_bytes}
+use Rattle.sx_head.specs.Head.{Head, Found, TooLong, NoMark, head_behind, is_mark, most_bytes}
 use Rattle.sx_head.specs.Head as heads
 use Rattle.sx_trace.specs.declared.items.Item.{Item}
 use Rattle.sx_mean.specs.Application.{AppTree}

@@ -1,7 +1,7 @@
 //! The run of the workload. Each of its lines is made, judged and performed, and its items are
 //! counted, before the next is made.
 
-ghost use Rattle.std.specs.Prelude.{◌≡◌, ℕ, ◌+◌, ◌<◌, ◌≤◌, [], IfErr, OnOk, IsTrue};
+ghost use Rattle.std.specs.Prelude.{◌≡◌, ◌+◌, ◌<◌, ◌≤◌, [], IfErr, OnOk, IsTrue};
 ghost use Rattle.sx_trace.specs.ValidNames.{are_valid};
 ghost use Rattle.sx_sched.specs.Seen.{line_of};
 ghost use Rattle.sx_sched.specs.InForm.{IsLine};

@@ -1,7 +1,7 @@
 -- An invocation makes at most 16 pieces.
 use Rattle.std.proofs.Common.{◌≡◌, ℕ, zero, suc, ◌+◌, ◌*◌, ◌≤◌, max, Bool, true, false, ◌&&◌, ◌==◌, List, [], ◌∷◌, ◌++◌, length, take, Option, Some, None}
 use Rattle.std.proofs.Common.{Result, Ok, Err, refl, sym, ap, ◌∙◌, subst, arith, cond}
-use Rattle.std.specs.Prelude.{if◌then◌else◌, nat_lt, slice_index, find}
+use Rattle.std.specs.Prelude.{if◌then◌else◌, nat_lt, find}
 use Rattle.std.proofs.Math.Nat.{suc-mul}
 use Rattle.std.proofs.lemmas.List.{length-append}
 use Rattle.sx_lang.specs.declared.tree.Decl.{Decl}
@@ -15,8 +15,8 @@ use Rattle.sx_mean.specs.declared.events.SourceEvent.TheVariants as event
 use Rattle.sx_mean.specs.Application.{block_packets}
 use Rattle.sx_mean.specs.Packets.{statement_packets}
 use Rattle.sx_mean.specs.Places.{place, array_length, output_number}
-use Rattle.sx_mean.specs.Meaning.{HandlerState, assign, assign_element, after_statement, after_block, times, forget, value, local_place, define, act}
-use Rattle.sx_mean.specs.React.{react, run, handler_at, value_of, handler_of_name, handler_of_input, input_names, nth}
+use Rattle.sx_mean.specs.Meaning.{HandlerState, assign, assign_element, after_statement, after_block, times, forget, value, local_place}
+use Rattle.sx_mean.specs.React.{react, run, handler_at, value_of, handler_of_name, input_names, nth}
 use Rattle.sx_rules.specs.declared.access.Violation.{Violation}
 use Rattle.sx_bus.specs.declared.devices.Window.{Window}
 use Rattle.sx_tag.specs.Wrap.{wrapped}

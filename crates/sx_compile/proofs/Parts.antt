@@ -1,7 +1,7 @@
 -- The handlers' parts in a module's whole code.
-use Rattle.std.proofs.Common.{◌≡◌, ℕ, zero, suc, ◌+◌, ◌<◌, ◌≤◌, true, List, [], ◌∷◌, ◌++◌, length, Option, Some, None, refl, ap, ◌∙◌, subst, arith}
-use Rattle.std.specs.Prelude.{nat_le, nat_lt, slice_get}
-use Rattle.std.proofs.lemmas.List.{append-nil, append_assoc, length-append}
+use Rattle.std.proofs.Common.{◌≡◌, ℕ, zero, suc, ◌+◌, ◌<◌, ◌≤◌, List, [], ◌∷◌, ◌++◌, length, Option, Some, None, refl, ap, ◌∙◌, subst, arith}
+use Rattle.std.specs.Prelude.{slice_get}
+use Rattle.std.proofs.lemmas.List.{append-nil, append_assoc}
 use Rattle.sx_lang.specs.declared.tree.Decl.{Decl}
 use Rattle.sx_lang.specs.Sizes.{handler_cost, handlers_cost, module_cost}
 use Rattle.sx_lang.specs.Tree.{HandlerTree}

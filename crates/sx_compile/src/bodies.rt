@@ -2,13 +2,9 @@
 
 ghost use Rattle.std.specs.Prelude.{◌≡◌, ◌<◌, IfOk, IsTrue, length, map};
 ghost use Rattle.std.specs.List.{list_all};
-ghost use Rattle.sx_check.specs.Source.{source_tree};
-ghost use Rattle.sx_mean.specs.EndLaws.{senders};
 ghost use Rattle.sx_ir.specs.Sizes.{bytes, offset};
 ghost use Rattle.sx_ir.specs.Sound.{is_sound_part};
-ghost use Rattle.sx_lower.specs.Lowering.{SendFew};
-ghost use Rattle.sx_compile.specs.Body.{IsBody, part_start, part_return};
-ghost use Rattle.sx_compile.specs.Compiled.{HasSections};
+ghost use Rattle.sx_compile.specs.Body.{part_start, part_return};
 
 use crate::compiling::lowerable;
 use std::alloc::{AllocError as OutOfMemory, Global};

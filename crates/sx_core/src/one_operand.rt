@@ -1,6 +1,6 @@
 //! Instructions with one operand, and the return from an interrupt.
 
-ghost use Rattle.std.specs.Prelude.{◌≡◌, IsTrue, slice_index};
+ghost use Rattle.std.specs.Prelude.{IsTrue, slice_index};
 ghost use Rattle.sx_alu.specs.Widths.{has_width};
 ghost use Rattle.sx_machine.specs.Plan.{Done, Store};
 ghost use Rattle.sx_machine.specs.Registers.{at_pc};

@@ -1,6 +1,6 @@
 //! Reading of source operands, in each addressing mode.
 
-ghost use Rattle.std.specs.Prelude.{◌≡◌, ◌<◌, IfOk};
+ghost use Rattle.std.specs.Prelude.{◌<◌, IfOk};
 ghost use Rattle.sx_alu.specs.Table.{limit};
 ghost use Rattle.sx_machine.specs.Rows.{from_source};
 ghost use Rattle.sx_executor.specs.Machine.{GivesValue};

@@ -1,5 +1,5 @@
 -- What an accepted text's deployment in memory satisfies.
-use Rattle.std.proofs.Common.{ℕ, List, Result, Ok, Err, IfOk, IsTrue, refl}
+use Rattle.std.proofs.Common.{ℕ, List, Result, Ok, Err, IfOk, IsTrue}
 use Rattle.sx_mean.specs.Validity.{is_valid}
 use Rattle.sx_mean.specs.View.{app_as}
 use Rattle.sx_trace.specs.ValidNames.{are_valid}

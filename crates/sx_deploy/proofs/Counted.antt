@@ -1,5 +1,5 @@
 -- Counts over lists and over what they are mapped to.
-use Rattle.std.proofs.Common.{◌≡◌, ℕ, ◌+◌, Bool, List, [], ◌∷◌, map, count_by, refl, ap, sym, ◌∙◌, cond}
+use Rattle.std.proofs.Common.{◌≡◌, ◌+◌, Bool, List, [], ◌∷◌, map, count_by, refl, ap, sym, ◌∙◌, cond}
 use Rattle.sx_check.proofs.Distinct.{count_by-cons}
 
 pub count_by-map : {A B : Type 0} (v : A → B) (p : B → Bool) (xs : List A) → count_by (λ x. p (v x)) xs ≡ count_by p (map v xs)

@@ -1,8 +1,6 @@
 -- How the answers of the stages make the outcome of a text.
 use Rattle.std.proofs.Common.{List, Result, Ok, Err, refl, sym}
-use Rattle.sx_stage.specs.Fault.{◌>>=◌}
 use Rattle.sx_stage.specs.Gives.{Gives, GivesOne}
-use Rattle.sx_stage.specs.declared.fault.DeployFault.{DeployFault}
 use Rattle.sx_stage.specs.declared.fault.DeployError.{DeployError}
 use Rattle.sx_stage.specs.declared.fault.DeployError.TheVariants.{Fault, OutOfMemory}
 use Rattle.sx_entries.specs.Entries.{EntryLists}

@@ -1,5 +1,5 @@
 -- The deployment that a text means, or the first rule that it breaks and where.
-use Rattle.std.specs.Prelude.{◌≡◌, ℕ, Bool, true, false, List, length, map, Result, Ok, Err}
+use Rattle.std.specs.Prelude.{◌≡◌, ℕ, List, length, map, Result, Ok, Err}
 use Rattle.toml.specs.Data.{Members}
 use Rattle.sx_mean.specs.Application.{AppTree, PartTree, is_sensor}
 use Rattle.sx_mean.specs.declared.apps.Link.{Link}

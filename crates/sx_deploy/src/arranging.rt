@@ -1,5 +1,5 @@
 //! The lists of a deployment, from its entries.
-ghost use Rattle.std.specs.Prelude.{◌≡◌, IfOk, length, map};
+ghost use Rattle.std.specs.Prelude.{◌≡◌, IfOk, map};
 ghost use Rattle.sx_mean.specs.Application.{is_sensor};
 ghost use Rattle.sx_deploy.specs.Deployment.{app_of, arranged, names_of, part_of};
 ghost use Rattle.sx_deploy.specs.Seen.{checked_as};

@@ -1,6 +1,5 @@
 //! Rule 7: each source is in the grammar.
 ghost use Rattle.std.specs.Prelude.{◌≡◌, map};
-ghost use Rattle.sx_lang.specs.View.{module_of};
 ghost use Rattle.sx_stage.specs.Gives.{GivesOne};
 ghost use Rattle.sx_deploy.specs.Seen.{parsed_as};
 ghost use Rattle.sx_deploy.specs.Sources.{AreCoded, IsCoded};

@@ -1,6 +1,6 @@
 //! The deployer: its open asks, what it accepted, and the epochs of the connections.
 
-ghost use Rattle.std.specs.Prelude.{◌≡◌, ℕ, ◌<◌, ◌≤◌, if◌then◌else◌, IfOk, IsSome, None, false, length};
+ghost use Rattle.std.specs.Prelude.{◌≡◌, ◌<◌, ◌≤◌, IfOk, IsSome, None, false, length};
 ghost use Rattle.std.specs.Prelude.{map, option_map, slice_get, slice_index};
 ghost use Rattle.sx_deployer.specs.Keeping as spec;
 ghost use Rattle.sx_deployer.specs.Granting as grants;

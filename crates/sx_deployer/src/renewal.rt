@@ -1,6 +1,6 @@
 //! Whether a module may be attested, and the epochs after the attestation.
 
-ghost use Rattle.std.specs.Prelude.{◌≡◌, ◌+◌, ◌<◌, true, false, if◌then◌else◌, slice_index};
+ghost use Rattle.std.specs.Prelude.{◌≡◌, ◌+◌, ◌<◌, true, false, slice_index};
 ghost use Rattle.sx_deployer.specs.Keeping as spec;
 
 use sx_mean::events::End;

@@ -2,7 +2,7 @@
 ghost use Rattle.std.specs.Prelude.{◌≡◌, ◌==◌, ◌<◌, length, position, IfSome};
 ghost use Rattle.toml.specs.View.{table_view};
 ghost use Rattle.sx_entries.specs.Rows.{node_row, device_row, start_row, module_row, link_row};
-ghost use Rattle.sx_entries.specs.Rows.{kind_at, kind_of, end_at, end_of};
+ghost use Rattle.sx_entries.specs.Rows.{kind_at, end_at, end_of};
 
 use crate::fields::{
     Source, has_key, has_only, key_at, name_at, name_of, source_at, text_at, word_at,

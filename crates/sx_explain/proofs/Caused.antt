@@ -22,7 +22,7 @@ use Rattle.sx_trace.specs.declared.items.Item.{Item}
 use Rattle.sx_trace.specs.declared.items.Item.TheVariants.{Sense, Read, Take, Out}
 use Rattle.sx_model.specs.State.{EndView, FIELDS, Model, Present, Standing, power_on}
 use Rattle.sx_model.specs.Step.{device_of, ◌>>?◌, changed_views, idle, is_word, state_if, step}
-use Rattle.sx_model.specs.Reaction.{field_at, field_of, is_from, sends}
+use Rattle.sx_model.specs.Reaction.{field_at, is_from, sends}
 use Rattle.sx_model.specs.Epochs.{open_epoch}
 use Rattle.sx_model.specs.Renewal.{takes}
 use Rattle.sx_model.specs.Legal.{Legal, after}

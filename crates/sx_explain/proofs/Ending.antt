@@ -1,5 +1,5 @@
 -- What a judge's call comes to.
-use Rattle.std.proofs.Common.{◌≡◌, List, true, false, None, Result, Ok, Err, sym, ap, ◌∙◌, subst}
+use Rattle.std.proofs.Common.{◌≡◌, List, false, None, Result, Ok, Err, sym, ap, ◌∙◌, subst}
 use Rattle.std.specs.Prelude.{IfOk, OnErr, OnOk}
 use Rattle.std.proofs.lemmas.Result.{IfOk-weaker, on_err_weaker}
 use Rattle.sx_mean.specs.Application.{AppTree}

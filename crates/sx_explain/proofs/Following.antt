@@ -14,7 +14,7 @@ use Rattle.sx_mean.specs.Ends.{ends_of}
 use Rattle.sx_mean.specs.React.{react}
 use Rattle.sx_trace.specs.declared.items.Item.{Item}
 use Rattle.sx_trace.specs.declared.items.Item.TheVariants.{Sense, Read, Take, Out, Forged}
-use Rattle.sx_model.specs.State.{EndView, FIELDS, Model, Present, Standing, power_on}
+use Rattle.sx_model.specs.State.{EndView, FIELDS, Model, power_on}
 use Rattle.sx_model.specs.Step.{device_of, ◌>>?◌, step}
 use Rattle.sx_model.specs.Reaction.{Flow, MOST_SENT, all_done, field_of, is_from, sends, sent_over, sent_to}
 use Rattle.sx_model.specs.Legal.{after, before, is_forged}

@@ -6,7 +6,7 @@ use Rattle.sx_lex.specs.declared.tokens.Kind.TheVariants.{Number, Name, Semicolo
 use Rattle.sx_lex.specs.declared.tokens.Placed.{Placed}
 use Rattle.sx_grammar.specs.Tokens.{Token, token, fits, given_tokens, added}
 use Rattle.sx_grammar.specs.Grammar as g
-use Rattle.sx_grammar.specs.Grammar.{IsExpression, AreHandlers, IsModule, CanGoOn, IsFaultAt}
+use Rattle.sx_grammar.specs.Grammar.{IsExpression, AreHandlers, IsModule, IsFaultAt}
 use Rattle.sx_grammar.specs.Laws.{Decided}
 use Rattle.sx_grammar.specs.Machine.{After_let, After_send, After_input, After_output, After_var, After_array, After_on, After_open, For_repeat, For_initial, For_length, Symbol, Want, Say, Unary_of, Operand, Factors, Addends, Comparison, Index_of, An_expression, A_block, Statements, Otherwise, A_name, A_number, Target_of, Argument_of, Initial_of, Declarations, Handlers, Value, Of_module, MachineState, choose, step, finish, reads, read, ended, ReadOutcome, Read, Refused, begun, nothing}
 use Rattle.sx_grammar.proofs.Sound.{Fits, sign, step_back, finish_back}

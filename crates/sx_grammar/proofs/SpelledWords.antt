@@ -1,5 +1,5 @@
 -- The numbers of a module that a text spells are words.
-use Rattle.std.proofs.Common.{◌≡◌, ℕ, ◌+◌, ◌<◌, ◌≤◌, ◌&&◌, nat_le, Bool, true, false, if◌then◌else◌, List, [], ◌∷◌, take, drop, Option, Some, None, Ok, refl, sym, subst, arith}
+use Rattle.std.proofs.Common.{◌≡◌, ℕ, ◌<◌, ◌≤◌, ◌&&◌, nat_le, Bool, true, false, if◌then◌else◌, List, [], ◌∷◌, take, drop, Option, Some, None, refl, subst, arith}
 use Rattle.std.specs.Prelude.{nat_eq, ◌==◌}
 use Rattle.std.specs.Cmp.Lexicographic.{pointwise}
 use Rattle.std.specs.List.{list_all}
@@ -12,11 +12,11 @@ use Rattle.sx_lex.specs.declared.tokens.Place.{Place}
 use Rattle.sx_lex.specs.declared.tokens.Placed.{Placed}
 use Rattle.sx_lex.specs.Words.{keywords, signs, found_in, value, is_digit, is_number, is_hexadecimal, is_name, or_else, kind_of}
 use Rattle.sx_lex.specs.Lexed as lex
-use Rattle.sx_lex.specs.Lexed.{Lexed, start, at_end, space, newline, comment, bad}
+use Rattle.sx_lex.specs.Lexed.{Lexed, at_end, space, newline, comment, bad}
 use Rattle.sx_grammar.specs.Tokens.{Token, token, given_tokens}
 use Rattle.sx_grammar.specs.Text.{Spells}
 use Rattle.sx_grammar.specs.Grammar.{Form, Factors, Addends, IsExpression, number, name, element, brackets, plain, unary, term, no_factor, factor, sum, no_addend, addend, whole, comparison, IsStatement, definition, assignment, element_assignment, if_then, if_else, repetition, sending, emission, IsBlock, block, AreStatements, no_statement, statement, IsDeclaration, sensor, actuator, input, output, variable, variable_with, array, AreDeclarations, no_declaration, declaration, IsHandler, on_input, on_sample, AreHandlers, no_handler, handler}
-use Rattle.sx_lang.specs.Words.{AreWords, IsWord, HasWords, BlockHasWords, HandlersHaveWords, DeclHasWords, DeclsHaveWords, TreeHasWords}
+use Rattle.sx_lang.specs.Words.{AreWords, HasWords, BlockHasWords, HandlersHaveWords, DeclHasWords, DeclsHaveWords, TreeHasWords}
 
 -- a token's number is a word
 

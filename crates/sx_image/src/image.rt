@@ -1,6 +1,6 @@
 //! The image of a module, and the bytes of its identity.
 
-ghost use Rattle.std.specs.Prelude.{◌≡◌, ◌++◌, IfOk, OnOk};
+ghost use Rattle.std.specs.Prelude.{◌≡◌, IfOk};
 ghost use Rattle.sx_image.specs.InMemory.{identity_of, plain};
 
 use std::alloc::{AllocError as OutOfMemory, Global};

@@ -1,5 +1,5 @@
 -- Each way that an invocation can go, so that what holds at the end of each holds of the invocation.
-use Rattle.std.proofs.Common.{◌≡◌, ℕ, ◌+◌, Bool, true, false, ◌||◌, not, ◌==◌, List, [], ◌∷◌, ◌++◌, take, drop, Option, Some, None, Result, Ok, Err, refl}
+use Rattle.std.proofs.Common.{◌≡◌, ℕ, Bool, true, false, ◌||◌, not, ◌==◌, List, take, drop, Option, Some, None, Result, Ok, Err, refl}
 use Rattle.std.specs.Prelude.{if◌then◌else◌, nat_lt}
 use Rattle.sx_lang.specs.declared.sides.Side.TheVariants.{To}
 use Rattle.sx_mean.specs.declared.events.End.{End}

@@ -1,12 +1,12 @@
 -- Lemmas on lines that are passed.
-use Rattle.std.proofs.Common.{ℕ, zero, suc, ◌+◌, ◌-◌, ◌<◌, ◌≤◌, ◌==◌, ◌≡◌, ◌∙◌, inl, inr, Bool, false, true, if◌then◌else◌, List, [], ◌∷◌, ◌++◌, length, take, drop, refl, ap, sym, subst, arith, append_assoc, length-append}
+use Rattle.std.proofs.Common.{ℕ, zero, suc, ◌+◌, ◌-◌, ◌<◌, ◌≤◌, ◌==◌, ◌≡◌, ◌∙◌, inr, Bool, false, true, if◌then◌else◌, List, [], ◌∷◌, ◌++◌, length, take, drop, refl, ap, sym, subst, arith, length-append}
 use Rattle.std.specs.Prelude.{IsTrue, slice_index}
 use Rattle.std.proofs.lemmas.List.{append-nil, take-append-le, length-take-le}
 use Rattle.std.proofs.Math.Seq.{take-length}
 use Rattle.sx_io.specs.Reading.{carriage_return, longest, newline, IsPlain, without_return}
-use Rattle.sx_io.specs.Next.{IsTooLong, Ahead, Took, TakesLine}
-use Rattle.sx_io.specs.Parts.{Moves, TurnAnswers}
-use Rattle.sx_io.specs.Passing.{FrontOf, Fronts, FrontsTurn, IsBegun, PassedHeld, PassedPart, PassedTurn, Passes, TakesPassed, as_part, as_read, as_turn, returns}
+use Rattle.sx_io.specs.Next.{Ahead, TakesLine}
+use Rattle.sx_io.specs.Parts.{TurnAnswers}
+use Rattle.sx_io.specs.Passing.{FrontOf, IsBegun, PassedHeld, PassedPart, PassedTurn, Passes, TakesPassed, as_part, as_read, as_turn, returns}
 use Rattle.sx_io.specs.Passed.{longest_passed}
 use Rattle.sx_io.specs.Streams.{SourceAt}
 use Rattle.sx_io.specs.declared.lines.LineRead.{LineRead}
@@ -19,8 +19,6 @@ use Rattle.sx_io.specs.declared.lines.ReaderState.TheVariants as reader
 use Rattle.sx_io.specs.declared.line_parts.PassPart.{PassPart}
 use Rattle.sx_io.specs.declared.line_parts.PassPart.TheVariants as passed_part
 use Rattle.sx_io.specs.declared.line_parts.Passed.{Passed}
-use Rattle.sx_io.specs.declared.line_parts.Part.{Part}
-use Rattle.sx_io.specs.declared.line_parts.Part.TheVariants as part
 use Rattle.sx_io.proofs.Scans.{moves-more, moves-too-long, moves-view, moves-whole, plain-append, plain-at, took-whole}
 
 -- parts of a list

@@ -6,7 +6,7 @@ ghost use Rattle.sx_io.specs.Reading.{newline, longest, IsPlain};
 ghost use Rattle.sx_io.specs.Streams.{SourceAt, NoReadFault, OneReadFault, OneEnd};
 ghost use Rattle.sx_io.specs.Next.{Next, TakesLine};
 ghost use Rattle.sx_io.specs.Parts.{Moves, TurnAnswers, TurnFaults, AskedInTurn};
-ghost use Rattle.sx_io.specs.Passing.{FrontOf, IsBegun, IsWithin, PassedHeld, PassedPart};
+ghost use Rattle.sx_io.specs.Passing.{IsBegun, IsWithin, PassedHeld, PassedPart};
 ghost use Rattle.sx_io.specs.Passing.{PassedTurn, Passes, TakesPassed, as_read, as_turn};
 ghost use Rattle.sx_io.specs.Passed.{longest_passed};
 

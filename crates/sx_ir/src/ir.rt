@@ -1,6 +1,6 @@
 //! Operations, and code that is made of them.
 
-ghost use Rattle.std.specs.Prelude.{◌≡◌, ℕ, ◌<◌, length, Some, slice_get};
+ghost use Rattle.std.specs.Prelude.{◌≡◌, ◌<◌, length, Some, slice_get};
 
 /// An operation on words that leaves one word on the stack. Where it takes two, the top word is the
 /// right operand.

@@ -1,6 +1,6 @@
 //! Joining of the entry protocol's code with the handlers'.
 
-ghost use Rattle.std.specs.Prelude.{◌≡◌, ℕ, ◌+◌, ◌<◌, ◌++◌, ◌∷◌, [], IfOk, OnOk, length, map};
+ghost use Rattle.std.specs.Prelude.{◌≡◌, ◌+◌, ◌<◌, ◌++◌, IfOk, OnOk, length, map};
 ghost use Rattle.sx_ir.specs.Joined.{joined_ops, moved, moved_part, moved_place};
 
 use crate::ir::{Code, Ir};

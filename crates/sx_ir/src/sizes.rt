@@ -1,6 +1,6 @@
 //! How many bytes the text of stack code has, and where each operation stands in it.
 
-ghost use Rattle.std.specs.Prelude.{◌≡◌, ℕ, ◌+◌, ◌*◌, ◌<◌, ◌≤◌, length, take};
+ghost use Rattle.std.specs.Prelude.{◌≡◌, ◌+◌, ◌*◌, ◌<◌, ◌≤◌, length};
 ghost use Rattle.sx_ir.specs.Sizes.{all_routines, bytes, has_routine, is_packet, offset, op_bytes};
 ghost use Rattle.sx_ir.specs.Sizes.{operator_bytes, ops_bytes, routines};
 

@@ -1,11 +1,10 @@
 //! Whether templates can be made for code.
 
-ghost use Rattle.std.specs.Prelude.{◌≡◌, ℕ, ◌+◌, ◌-◌, ◌*◌, ◌<◌, ◌≤◌, length};
+ghost use Rattle.std.specs.Prelude.{◌≡◌, ◌+◌, ◌-◌, ◌*◌, ◌<◌, length};
 ghost use Rattle.std.specs.List.{list_all};
 ghost use Rattle.sx_ir.specs.Meaning.{is_saved};
 ghost use Rattle.sx_ir.specs.Sound.{are_sealed, has_slot, is_even, is_free, is_key, is_sound};
-ghost use Rattle.sx_ir.specs.Sound.{is_sound_op, is_sound_part, may_change, private_size};
-ghost use Rattle.sx_ir.specs.Sound.{public_size};
+ghost use Rattle.sx_ir.specs.Sound.{is_sound_op, is_sound_part, may_change};
 
 use crate::ir::{Code, Ir};
 use crate::sizes::bytes;

@@ -1,6 +1,6 @@
 //! The fields of first words, and what they name.
 
-ghost use Rattle.std.specs.Prelude.{◌≡◌, ◌/◌, ◌%◌, ◌<◌, ◌==◌, IsTrue};
+ghost use Rattle.std.specs.Prelude.{◌≡◌, ◌/◌, ◌%◌, ◌<◌, ◌==◌};
 ghost use Rattle.sx_isa.specs.Reading.{takes_word, source_at, destination_at, op2_at, op1_at};
 ghost use Rattle.sx_isa.specs.Reading.{offset_at};
 ghost use Rattle.sx_isa.specs.Legal.{is_allowed};

@@ -1,6 +1,6 @@
 //! From instruction words to instructions.
 
-ghost use Rattle.std.specs.Prelude.{◌≡◌, ℕ, ◌<◌, ◌≤◌, ◌∷◌, [], ◌↔◌, IfSome, IsNone, length};
+ghost use Rattle.std.specs.Prelude.{◌≡◌, ℕ, ◌<◌, ◌∷◌, [], ◌↔◌, IfSome, IsNone, length};
 ghost use Rattle.sx_isa.specs.Instructions.{BeginsWith, IsInstruction, IsIllegal, first_word};
 ghost use Rattle.sx_isa.specs.Spelling.{spelling};
 ghost use Rattle.sx_isa.specs.declared.instruction.Instr.{Instr};

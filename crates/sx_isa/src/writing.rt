@@ -1,6 +1,6 @@
 //! From instructions to their words, and the test whether there are any.
 
-ghost use Rattle.std.specs.Prelude.{◌≡◌, ◌+◌, ◌*◌, ◌<◌, ◌≤◌, ◌∷◌, [], ◌++◌, IsTrue, ◌↔◌, All};
+ghost use Rattle.std.specs.Prelude.{◌≡◌, ◌+◌, ◌*◌, ◌<◌, ◌∷◌, [], ◌++◌, IsTrue, ◌↔◌, All};
 ghost use Rattle.std.specs.Prelude.{option_to_list, take, drop, length, slice_index};
 ghost use Rattle.sx_isa.specs.Instructions.{IsSource, IsDestination, IsInstruction, IsOffset, BeginsWith};
 ghost use Rattle.sx_isa.specs.Reading.{instruction_at};

@@ -1,9 +1,9 @@
 //! The sizes of a module. Each is cut, so that it is a number for every tree.
 
-ghost use Rattle.std.specs.Prelude.{◌≡◌, ℕ, ◌+◌, ◌*◌, ◌≤◌, map, max, min};
-ghost use Rattle.sx_lang.specs.Sizes.{block_cost, block_nodes, declared_cells, declaration_cells};
-ghost use Rattle.sx_lang.specs.Sizes.{declaration_nodes, declarations_nodes, expression_cost};
-ghost use Rattle.sx_lang.specs.Sizes.{expression_nodes, handler_cost, handlers_cost};
+ghost use Rattle.std.specs.Prelude.{◌≡◌, ◌+◌, ◌*◌, ◌≤◌, map, min};
+ghost use Rattle.sx_lang.specs.Sizes.{block_cost, block_nodes, declared_cells};
+ghost use Rattle.sx_lang.specs.Sizes.{declarations_nodes, expression_cost};
+ghost use Rattle.sx_lang.specs.Sizes.{expression_nodes};
 ghost use Rattle.sx_lang.specs.Sizes.{handlers_nodes, module_cost, module_data_size, module_nodes};
 ghost use Rattle.sx_lang.specs.Sizes.{module_weight, operator_cost, statement_cost};
 ghost use Rattle.sx_lang.specs.Sizes.{statement_nodes};

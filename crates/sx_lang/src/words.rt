@@ -1,7 +1,7 @@
 //! The numbers of a tree in memory are words. Each function goes over a tree and does nothing: its
 //! contract is what the tree's type says.
 
-ghost use Rattle.std.specs.Prelude.{◌≡◌, ℕ, map};
+ghost use Rattle.std.specs.Prelude.{map};
 ghost use Rattle.sx_lang.specs.View.{block_of, expression_of, handler_of, module_of, statement_of};
 ghost use Rattle.sx_lang.specs.Words.{AreWords, BlockHasWords, DeclHasWords, DeclsHaveWords};
 ghost use Rattle.sx_lang.specs.Words.{HandlersHaveWords, HasWords, TreeHasWords};

@@ -1,6 +1,6 @@
 //! The language's own words and signs.
 
-ghost use Rattle.std.specs.Prelude.{◌≡◌, List, [], ◌∷◌};
+ghost use Rattle.std.specs.Prelude.{◌≡◌, [], ◌∷◌};
 ghost use Rattle.sx_lex.specs.Words.{found_in, keywords, signs};
 
 use crate::tokens::Kind;

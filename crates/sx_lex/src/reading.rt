@@ -1,6 +1,6 @@
 //! The tokens of a whole text, with their places.
 
-ghost use Rattle.std.specs.Prelude.{◌≡◌, ◌≤◌, length, IfOk, min, true, false};
+ghost use Rattle.std.specs.Prelude.{◌≡◌, ◌≤◌, length, IfOk, true, false};
 ghost use Rattle.sx_lex.specs.Lexed.{Lexed, along, below, begins_comment, is_space, start, up};
 ghost use Rattle.sx_lex.specs.Words.{line_length};
 

@@ -1,6 +1,6 @@
 //! The longest token at the start of a text.
 
-ghost use Rattle.std.specs.Prelude.{◌≡◌, ℕ, ◌+◌, ◌*◌, ◌<◌, ◌≤◌, ◌&&◌, true, false, List, length};
+ghost use Rattle.std.specs.Prelude.{◌≡◌, ◌+◌, ◌*◌, ◌<◌, ◌≤◌, ◌&&◌, true, false, length};
 ghost use Rattle.std.specs.Prelude.{take, IfSome, IfNone, nat_le};
 ghost use Rattle.sx_lex.specs.Words.{is_lower, digit_value, is_digit, value};
 ghost use Rattle.sx_lex.specs.Progress.{name_front, number_front, first_is, NoHexadecimal, NoPair};

@@ -14,7 +14,7 @@ use Rattle.sx_bus.specs.declared.devices.Window.{Window}
 use Rattle.sx_reach.specs.Reach.{Goes}
 use Rattle.sx_machine.specs.Memory.{even, word, put_word}
 use Rattle.sx_invoke.specs.Marks.{Mark, Wrapped}
-use Rattle.sx_invoke.specs.Pieces.{piece_size, made_bytes}
+use Rattle.sx_invoke.specs.Pieces.{made_bytes}
 use Rattle.sx_invoke.specs.Setup.{Setup, Call}
 use Rattle.sx_mean.specs.Offsets.{end_number_at}
 use Rattle.sx_mean.specs.Working.{pieces_at, saved_at}

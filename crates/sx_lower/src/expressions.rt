@@ -1,6 +1,6 @@
 //! The code of expressions.
 
-ghost use Rattle.std.specs.Prelude.{◌≡◌, ℕ, ◌+◌, ◌<◌, ◌≤◌, ◌++◌, ◌∷◌, Bool, List, [], OnOk, length};
+ghost use Rattle.std.specs.Prelude.{◌≡◌, ◌+◌, ◌<◌, ◌≤◌, ◌++◌, ◌∷◌, [], OnOk, length};
 ghost use Rattle.sx_lang.specs.View.{expression_of};
 ghost use Rattle.sx_mean.specs.Sized.{AreSizedDecls};
 ghost use Rattle.sx_lower.specs.Lowered.{assign_code, expression_code, is_turned, operator_code};

@@ -1,15 +1,15 @@
 //! The code of handlers and of a module.
 
-ghost use Rattle.std.specs.Prelude.{◌≡◌, ℕ, ◌+◌, ◌<◌, ◌≤◌, ◌++◌, ◌∷◌, List, [], IfOk, None, OnOk};
+ghost use Rattle.std.specs.Prelude.{◌≡◌, ◌+◌, ◌<◌, ◌≤◌, ◌++◌, ◌∷◌, [], IfOk, None, OnOk};
 ghost use Rattle.std.specs.Prelude.{length, map};
-ghost use Rattle.sx_lang.specs.View.{block_of, handler_of, module_of};
+ghost use Rattle.sx_lang.specs.View.{block_of, handler_of};
 ghost use Rattle.sx_check.specs.Names.{block_lets};
 ghost use Rattle.sx_check.specs.Rules.{first_broken};
 ghost use Rattle.sx_check.specs.Source.{source_tree};
 ghost use Rattle.sx_mean.specs.Sized.{AreSizedDecls};
 ghost use Rattle.sx_lang.specs.Words.{TreeHasWords};
 ghost use Rattle.sx_mean.specs.EndLaws.{senders};
-ghost use Rattle.sx_lower.specs.Lowered.{block_code, handler_code, handlers_code, handlers_parts};
+ghost use Rattle.sx_lower.specs.Lowered.{handler_code, handlers_code, handlers_parts};
 ghost use Rattle.sx_lower.specs.Lowered.{AreFew};
 ghost use Rattle.sx_lower.specs.Lowering.{LowersTo, SendFew};
 

@@ -1,6 +1,6 @@
 //! Locals in scope, and the first values of cells.
 
-ghost use Rattle.std.specs.Prelude.{◌≡◌, ℕ};
+ghost use Rattle.std.specs.Prelude.{◌≡◌};
 ghost use Rattle.sx_check.specs.Names.{declares};
 ghost use Rattle.sx_mean.specs.Scope.{index_of};
 ghost use Rattle.sx_mean.specs.Variables.{first_value, own_value};

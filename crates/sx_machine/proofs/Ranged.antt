@@ -17,7 +17,7 @@ use Rattle.sx_alu.specs.declared.flags.Flags.{Flags}
 use Rattle.sx_alu.specs.declared.calculation.Calc.{Calc}
 use Rattle.sx_alu.specs.declared.calculation.Calc.TheVariants as calc
 use Rattle.sx_alu.specs.Table as alu
-use Rattle.sx_alu.specs.Table.{limit, half, is_negative, inverse, extended}
+use Rattle.sx_alu.specs.Table.{limit, half, is_negative, inverse}
 use Rattle.sx_rules.specs.declared.access.Access.TheVariants.{Read, Write}
 use Rattle.sx_rules.specs.declared.access.Violation.{Violation}
 use Rattle.sx_rules.specs.declared.access.Violation.TheVariants as bad
@@ -27,7 +27,7 @@ use Rattle.sx_bus.specs.declared.devices.Kind.TheVariants.{Sensor, Actuator}
 use Rattle.sx_bus.specs.declared.devices.Window.{Window}
 use Rattle.sx_bus.specs.Devices.{HaveSamples, cleared}
 use Rattle.sx_machine.specs.declared.kinds.Touch.TheVariants.{DeviceRead}
-use Rattle.sx_machine.specs.Memory.{bytes_from, put_bytes, word, read_at, write_at}
+use Rattle.sx_machine.specs.Memory.{bytes_from, put_bytes}
 use Rattle.sx_machine.specs.Plan.{Plan, Done, Tell, Stop, Fetch, Load, Store, Need, Writable, Bytes, Put}
 use Rattle.sx_machine.specs.Run.{Moment, with_touch, Outcome, Finished, Violated, Module, may_at, may_range, may_each, device_of, sampled, read_device, read_place, load, write_device, write_place, store, fetch_place, fetch, after_read, after_write, after_fetch, exec}
 use Rattle.sx_machine.specs.Registers.{cut_value, onward, reg, set_reg, at_pc, flags, set_flags, incremented}

@@ -1,5 +1,5 @@
 -- What expressions and statements mean, by cases on the source.
-use Rattle.std.specs.Prelude.{ℕ, zero, suc, ◌+◌, ◌*◌, ◌-◌, ◌%◌, Bool, List, [], ◌∷◌, ◌++◌, Option}
+use Rattle.std.specs.Prelude.{ℕ, zero, suc, ◌+◌, ◌*◌, ◌-◌, ◌%◌, List, [], ◌∷◌, ◌++◌, Option}
 use Rattle.std.specs.Prelude.{Some, None, ◌==◌, nat_lt, nat_le, if◌then◌else◌, length, take}
 use Rattle.std.specs.Prelude.{slice_index, slice_set, unwrap_or, bit_and, bit_or, bit_xor}
 use Rattle.std.specs.List.{position_or_len}

@@ -1,10 +1,10 @@
 //! Applications: modules on nodes, their devices and connections, and whether these fit together.
 
-ghost use Rattle.std.specs.Prelude.{◌≡◌, ℕ, ◌+◌, ◌*◌, ◌≤◌, ◌<◌, ◌==◌, ◌&&◌, Bool, count_by, length};
-ghost use Rattle.std.specs.Prelude.{map, min, nat_lt, not};
+ghost use Rattle.std.specs.Prelude.{◌≡◌, ◌+◌, ◌*◌, ◌≤◌, ◌<◌, ◌==◌, ◌&&◌, count_by};
+ghost use Rattle.std.specs.Prelude.{map, min, nat_lt};
 ghost use Rattle.std.specs.List.{list_any};
 ghost use Rattle.sx_check.specs.Source.{source_tree};
-ghost use Rattle.sx_lang.specs.View.{block_of, handler_of, module_of, statement_of};
+ghost use Rattle.sx_lang.specs.View.{block_of, module_of, statement_of};
 ghost use Rattle.sx_mean.specs.Application.{block_packets, declared_kind, ends_from};
 ghost use Rattle.sx_mean.specs.Validity.{any_part, has_port, is_crowded, is_loose, is_misplaced};
 ghost use Rattle.sx_mean.specs.Validity.{is_overloaded, is_port, is_stray, is_too_large, is_valid};

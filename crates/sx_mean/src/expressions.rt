@@ -1,6 +1,6 @@
 //! The values of expressions.
 
-ghost use Rattle.std.specs.Prelude.{◌≡◌, ℕ, ◌≤◌, slice_index};
+ghost use Rattle.std.specs.Prelude.{◌≡◌, slice_index};
 ghost use Rattle.sx_lang.specs.View.{expression_of};
 ghost use Rattle.sx_mean.specs.Meaning.{apply, combine, element, look_up, value, word};
 ghost use Rattle.sx_mean.specs.Sized.{AreSizedDecls};

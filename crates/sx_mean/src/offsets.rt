@@ -1,6 +1,6 @@
 //! Where things lie in the private section of a compiled module: offsets in bytes from its start.
 
-ghost use Rattle.std.specs.Prelude.{◌≡◌, ℕ, ◌<◌, ◌≤◌};
+ghost use Rattle.std.specs.Prelude.{◌≡◌, ◌<◌, ◌≤◌};
 ghost use Rattle.sx_mean.specs.Offsets.{cell_at, end_at, end_key_at, end_number_at, end_open_at};
 ghost use Rattle.sx_mean.specs.Working.{local_at, saved_at};
 

@@ -1,7 +1,7 @@
 //! The cells and outputs that a module's names stand for.
 
-ghost use Rattle.std.specs.Prelude.{◌≡◌, ℕ, ◌+◌, ◌≤◌};
-ghost use Rattle.sx_lang.specs.Sizes.{declaration_cells, declared_cells};
+ghost use Rattle.std.specs.Prelude.{◌≡◌, ◌+◌, ◌≤◌};
+ghost use Rattle.sx_lang.specs.Sizes.{declaration_cells};
 ghost use Rattle.sx_check.specs.Names.{declares};
 ghost use Rattle.sx_mean.specs.Places.{array_length, outputs_in, output_number, own_length, place};
 ghost use Rattle.sx_mean.specs.Sized.{AreSizedDecls};

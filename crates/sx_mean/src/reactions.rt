@@ -1,12 +1,11 @@
 //! What a module does at an event.
 
-ghost use Rattle.std.specs.Prelude.{◌≡◌, ℕ, ◌-◌, ◌∷◌, List, [], IfOk, None, OnErr, OnOk, Some, map};
-ghost use Rattle.std.specs.List.{find};
+ghost use Rattle.std.specs.Prelude.{◌≡◌, ◌-◌, IfOk, None, OnErr, OnOk, Some, map};
 ghost use Rattle.sx_check.specs.Names.{same_input};
 ghost use Rattle.sx_check.specs.Source.{source_tree};
-ghost use Rattle.sx_lang.specs.View.{block_of, handler_of, module_of};
+ghost use Rattle.sx_lang.specs.View.{handler_of, module_of};
 ghost use Rattle.sx_mean.specs.Sized.{AreSizedDecls};
-ghost use Rattle.sx_mean.specs.React.{handler_at, handler_of_input, handler_of_name, input_names};
+ghost use Rattle.sx_mean.specs.React.{handler_of_input, input_names};
 ghost use Rattle.sx_mean.specs.React.{nth, react, run, start};
 ghost use Rattle.sx_mean.specs.View.{state_of};
 

@@ -1,7 +1,7 @@
 //! What statements do to locals, cells and acts.
 
-ghost use Rattle.std.specs.Prelude.{◌≡◌, ℕ, ◌<◌, ◌≤◌, OnOk, length, slice_set};
-ghost use Rattle.sx_lang.specs.View.{block_of, expression_of, statement_of};
+ghost use Rattle.std.specs.Prelude.{◌≡◌, ◌<◌, OnOk, length, slice_set};
+ghost use Rattle.sx_lang.specs.View.{block_of, statement_of};
 ghost use Rattle.sx_mean.specs.Meaning.{act, after_statement, assign, assign_element, define};
 ghost use Rattle.sx_mean.specs.Meaning.{in_block, local_place, new_local, times};
 ghost use Rattle.sx_mean.specs.Sized.{AreSizedDecls};

@@ -1,6 +1,6 @@
 //! The words that a module keeps between events.
 
-ghost use Rattle.std.specs.Prelude.{◌≡◌, ℕ, ◌++◌, IfOk, OnOk, replicate};
+ghost use Rattle.std.specs.Prelude.{◌≡◌, ◌++◌, IfOk, OnOk, replicate};
 ghost use Rattle.sx_check.specs.Source.{source_tree};
 ghost use Rattle.sx_mean.specs.Places.{first_cells, initial_cells};
 

@@ -1,6 +1,6 @@
 -- Epochs: which connections an attestation renews, and which ends open and take in an epoch.
 use Rattle.std.specs.Prelude.{ℕ, ◌+◌, ◌==◌, ◌&&◌, ◌||◌, nat_lt, nat_le, not, Bool, true, false}
-use Rattle.std.specs.Prelude.{if◌then◌else◌, List, [], ◌∷◌, slice_index, Option, Some, None}
+use Rattle.std.specs.Prelude.{if◌then◌else◌, List, ◌∷◌, slice_index, Option, Some, None}
 use Rattle.sx_mean.specs.declared.apps.Link.{Link}
 use Rattle.sx_model.specs.State.{EndView, Attestation}
 

@@ -1,10 +1,10 @@
 //! Sensors and actuators: readings, and code of others at a device.
 
-ghost use Rattle.std.specs.Prelude.{◌≡◌, ◌<◌, ◌&&◌, false, is_some, length, map, not, slice_get};
+ghost use Rattle.std.specs.Prelude.{◌≡◌, ◌<◌, ◌&&◌, false, is_some, map, not, slice_get};
 ghost use Rattle.std.specs.Prelude.{slice_set, unwrap_or};
 ghost use Rattle.sx_mean.specs.View.{app_as, part_as};
 ghost use Rattle.sx_mean.specs.Application.{is_sensor};
-ghost use Rattle.sx_model.specs.Step.{after_drain, drives, is_stale, kind_is};
+ghost use Rattle.sx_model.specs.Step.{drives, is_stale, kind_is};
 ghost use Rattle.sx_model.specs.Step.{after_sample, is_undriven, waits, wrote_raw};
 ghost use Rattle.sx_model.specs.Changes.{drains, takes_fresh};
 

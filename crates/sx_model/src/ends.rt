@@ -1,6 +1,6 @@
 //! The ends of connections that a module holds: which one a link and a side name, and how it opens.
 
-ghost use Rattle.std.specs.Prelude.{◌≡◌, ◌+◌, ◌<◌, ◌≤◌, ◌&&◌, false, is_some, length, slice_index};
+ghost use Rattle.std.specs.Prelude.{◌≡◌, ◌<◌, ◌&&◌, false, is_some};
 ghost use Rattle.std.specs.Prelude.{unwrap_or};
 ghost use Rattle.sx_mean.specs.Ends.{same_side};
 ghost use Rattle.sx_model.specs.Changes.{at_index, end_at, is_end, on_end};

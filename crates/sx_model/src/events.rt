@@ -1,6 +1,6 @@
 //! What a module owes of an event: the emits that it writes, and the end of its invocation.
 
-ghost use Rattle.std.specs.Prelude.{◌≡◌, ◌<◌, is_some, length, slice_get, unwrap_or};
+ghost use Rattle.std.specs.Prelude.{◌≡◌, ◌<◌, is_some, slice_get, unwrap_or};
 ghost use Rattle.sx_model.specs.Changes.{finishes, is_done_in, is_finished, is_refused, may_refuse};
 ghost use Rattle.sx_model.specs.Changes.{on_module, on_present, refuses, writes, writes_present};
 ghost use Rattle.sx_mean.specs.View.{app_as};

@@ -1,7 +1,7 @@
 //! Resets: a node's modules are absent, its sensors aren't fresh, and its boot rises.
 
 ghost use Rattle.std.specs.Prelude.{◌≡◌, ◌+◌, ◌<◌, All, None, false, if◌then◌else◌, is_some};
-ghost use Rattle.std.specs.Prelude.{length, map, unwrap_or};
+ghost use Rattle.std.specs.Prelude.{map, unwrap_or};
 ghost use Rattle.sx_mean.specs.View.{app_as, part_as};
 ghost use Rattle.sx_model.specs.Step.{absent_at, stale_at};
 ghost use Rattle.sx_model.specs.Changes.{raised_at, resets};

@@ -1,7 +1,7 @@
 //! A module is protected at its node.
 
 ghost use Rattle.std.specs.Prelude.{◌≡◌, ◌<◌, ◌≤◌, IfOk, None, OnErr, OnOk, is_some, length, map};
-ghost use Rattle.std.specs.Prelude.{replicate, unwrap_or};
+ghost use Rattle.std.specs.Prelude.{unwrap_or};
 ghost use Rattle.sx_check.specs.Source.{source_tree};
 ghost use Rattle.sx_mean.specs.View.{app_as};
 ghost use Rattle.sx_model.specs.Changes.{on_module, protects, protects_in};

@@ -1,6 +1,6 @@
 //! Whether a module may be attested, and the connections' epochs after the attestation.
 
-ghost use Rattle.std.specs.Prelude.{◌≡◌, ◌+◌, ◌<◌, ◌&&◌, IfOk, false, if◌then◌else◌, length};
+ghost use Rattle.std.specs.Prelude.{◌≡◌, ◌+◌, ◌<◌, ◌&&◌, IfOk, false, if◌then◌else◌};
 ghost use Rattle.std.specs.Prelude.{nat_le, true};
 ghost use Rattle.sx_model.specs.Renewal.{is_of, is_spent, may_attest, raised_epochs, renewed};
 

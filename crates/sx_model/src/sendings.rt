@@ -1,7 +1,7 @@
 //! What the acts of an event are sent as, over which connections.
 
 ghost use Rattle.std.specs.Prelude.{◌≡◌, ◌+◌, ◌*◌, ◌<◌, ◌≤◌, ◌-◌, ◌++◌, ◌∷◌, [], IfOk, OnErr, OnOk};
-ghost use Rattle.std.specs.Prelude.{if◌then◌else◌, is_some, length, nat_lt, slice_get, take};
+ghost use Rattle.std.specs.Prelude.{if◌then◌else◌, length, nat_lt, slice_get, take};
 ghost use Rattle.std.specs.Option.{option_to_list};
 ghost use Rattle.sx_model.specs.Sendings.{act_to_send, all_to_send, emits_of, emits_of_act};
 ghost use Rattle.sx_model.specs.Sendings.{has_room, sending_of, sent_one, sent_pieces, sent_words};

@@ -1,7 +1,7 @@
 //! The state at power-on.
 
 ghost use Rattle.std.specs.Prelude.{◌≡◌, ◌<◌, [], IfOk, None, false, map, replicate};
-ghost use Rattle.sx_mean.specs.View.{app_as, part_as};
+ghost use Rattle.sx_mean.specs.View.{app_as};
 ghost use Rattle.sx_model.specs.State.{FIELDS, power_on};
 
 use crate::state::{Reading, Standing, State, Words};

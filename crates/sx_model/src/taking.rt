@@ -11,7 +11,7 @@ ghost use Rattle.sx_model.specs.Changes.{at_index, is_readable, on_device, on_en
 ghost use Rattle.sx_model.specs.Changes.{reads_from, staled, takes_at, takes_idle, takes_in};
 ghost use Rattle.sx_model.specs.Changes.{takes_present, with_stale, word_at};
 ghost use Rattle.sx_model.specs.Renewal.{is_at, takes};
-ghost use Rattle.sx_model.specs.Step.{◌>>?◌, is_fresh_with, is_word};
+ghost use Rattle.sx_model.specs.Step.{is_fresh_with, is_word};
 
 use crate::devices::has_sensor;
 use crate::ends::end_at;

@@ -9,7 +9,7 @@ ghost use Rattle.sx_bus.specs.declared.devices.Kind.TheVariants.{Sensor};
 ghost use Rattle.sx_machine.specs.State.{reset};
 ghost use Rattle.sx_machine.specs.declared.kinds.Refused.{Refused};
 ghost use Rattle.sx_machine.specs.declared.kinds.Seen.{Seen};
-ghost use Rattle.sx_machine.specs.Acts.{put_refusal, take_refusal, busy, irq_refusal, is_enabled};
+ghost use Rattle.sx_machine.specs.Acts.{put_refusal, take_refusal, busy, irq_refusal};
 ghost use Rattle.sx_machine.specs.Acts.{put, take, set, sense, interrupt, irq};
 ghost use Rattle.sx_machine.specs.Ranges.{meets_private, meets_public};
 ghost use Rattle.sx_machine.specs.Run.{exec};

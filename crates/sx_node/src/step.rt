@@ -1,8 +1,8 @@
 //! One step of a node: the tests of PC, and then the instruction.
 
-ghost use Rattle.std.specs.Prelude.{◌≡◌, ◌==◌, ◌-◌, ◌<◌, ℕ, if◌then◌else◌, true, false};
+ghost use Rattle.std.specs.Prelude.{◌≡◌, ◌==◌, ◌-◌, ◌<◌, if◌then◌else◌, true, false};
 ghost use Rattle.std.specs.Prelude.{None, MatchOption};
-ghost use Rattle.sx_rules.specs.Access.{Lives, holder, in_order};
+ghost use Rattle.sx_rules.specs.Access.{Lives, holder};
 ghost use Rattle.sx_rules.specs.Placed.{Placed};
 ghost use Rattle.sx_bus.specs.Devices.{device_at};
 ghost use Rattle.sx_rules.specs.declared.section.Section.{Section};
@@ -12,8 +12,7 @@ ghost use Rattle.sx_machine.specs.Run.{exec, untouched};
 ghost use Rattle.sx_machine.specs.Rows.{program};
 ghost use Rattle.sx_machine.specs.Modules.{is_code, module_instruction};
 ghost use Rattle.sx_machine.specs.Step.{step, attempt, instruction, given_at_pc, is_module_word};
-ghost use Rattle.sx_machine.specs.Step.{ordered};
-ghost use Rattle.sx_machine.specs.Step.{word_outside, pc_of, own_of, start, entered_from, left};
+ghost use Rattle.sx_machine.specs.Step.{word_outside, pc_of, own_of, start, entered_from};
 ghost use Rattle.sx_machine.specs.Answers.{Attempts};
 ghost use Rattle.sx_machine.specs.Guard.{Foreign};
 ghost use Rattle.sx_machine.specs.Guarding.{Guarded};

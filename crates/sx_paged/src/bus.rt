@@ -1,6 +1,6 @@
 //! The memory of 65,536 bytes, as its callers see it.
 
-ghost use Rattle.std.specs.Prelude.{◌≡◌, ◌+◌, ◌/◌, ◌%◌, ℕ, slice_index, slice_set, IfOk};
+ghost use Rattle.std.specs.Prelude.{◌≡◌, ◌+◌, ◌/◌, ◌%◌, slice_set, IfOk};
 ghost use Rattle.sx_bus.specs.Memory.{blank, AreMemoryBytes};
 ghost use Rattle.sx_pages.specs.Pages.{no_pages, size};
 ghost use Rattle.sx_paged.specs.Memory.{IsMemory, joined, after_put};

@@ -1,6 +1,6 @@
 //! The pages, and where they are in the arena.
 
-ghost use Rattle.std.specs.Prelude.{◌≡◌, ◌<◌, ◌+◌, ◌%◌, ℕ, ◌/◌, true, length, replicate, get_or, IfOk, None};
+ghost use Rattle.std.specs.Prelude.{◌≡◌, ◌<◌, ◌+◌, ◌%◌, ℕ, ◌/◌, true, replicate, get_or, IfOk, None};
 ghost use Rattle.sx_pages.specs.Pages.{no_pages, size, is_live, with_byte};
 ghost use Rattle.sx_paged.specs.Memory.{byte_at, after_put};
 ghost use Rattle.sx_paged.specs.Paged.{paged, IsPaged};

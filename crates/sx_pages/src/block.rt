@@ -1,6 +1,6 @@
 //! The block of memory behind a raw pointer. Everything that touches the pointer is in this file.
 
-ghost use Rattle.std.specs.Prelude.{◌≡◌, ◌<◌, List, All, length, get_or, slice_set, IfSome, Some};
+ghost use Rattle.std.specs.Prelude.{◌≡◌, ◌<◌, List, All, get_or, slice_set, IfSome, Some};
 ghost use Rattle.std.specs.Prelude.{[]};
 ghost use denote.RawPtr.{Ptr};
 ghost use Rattle.sx_pages.specs.Arena.{HasByte, slot_of, with_slot, zeroed, AllLinked, CanCopy};

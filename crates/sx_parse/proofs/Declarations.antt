@@ -5,7 +5,7 @@ use Rattle.sx_lang.specs.declared.tree.DeviceKind.{DeviceKind}
 use Rattle.sx_lex.specs.declared.tokens.Kind.{Kind}
 use Rattle.sx_lex.specs.declared.tokens.Kind.TheVariants.{Sensor, Actuator, Input, Output, Var, Array, Semicolon, Equals}
 use Rattle.sx_lex.specs.declared.tokens.Placed.{Placed}
-use Rattle.sx_grammar.specs.Machine.{Symbol, Value, Sign, Want, Say, A_semicolon, An_open_square, A_close_square, A_name, After, After_input, After_output, After_var, After_array, A_number, For_initial, For_length, Initial_of, Do_declare, Declarations, Handlers, follow, reduce, read, step, ReadOutcome, Refused, begun, nothing}
+use Rattle.sx_grammar.specs.Machine.{Symbol, Value, Want, Say, A_semicolon, An_open_square, A_close_square, After_input, After_output, After_var, After_array, A_number, For_initial, For_length, Initial_of, Do_declare, Declarations, Handlers, Refused}
 use Rattle.sx_grammar.specs.Machine as machine
 use Rattle.sx_parse.specs.Wanted.{declarations_wanted, end_wanted, length_wanted}
 use Rattle.sx_parse.specs.Reading.{Stops, TakesSign, Named, Numbered, done}

@@ -1,12 +1,12 @@
 //! Which modules can be printed.
 
-ghost use Rattle.std.specs.Prelude.{◌≡◌, ℕ, ◌≤◌, ◌&&◌, length, map, nat_le};
+ghost use Rattle.std.specs.Prelude.{◌≡◌, ◌&&◌, map, nat_le};
 ghost use Rattle.sx_lang.specs.View.{block_of, expression_of, handler_of, module_of, statement_of};
-ghost use Rattle.sx_print.specs.Printable.{block_open, block_plain, declaration_plain};
+ghost use Rattle.sx_print.specs.Printable.{block_open, block_plain};
 ghost use Rattle.sx_print.specs.Printable.{declarations_plain, expression_open, expression_plain};
 ghost use Rattle.sx_print.specs.Printable.{handler_plain, handlers_open, handlers_plain};
-ghost use Rattle.sx_print.specs.Printable.{input_plain, is_plain, is_printable, module_open};
-ghost use Rattle.sx_print.specs.Printable.{module_plain, statement_open, statement_plain};
+ghost use Rattle.sx_print.specs.Printable.{input_plain, is_plain, is_printable};
+ghost use Rattle.sx_print.specs.Printable.{statement_open, statement_plain};
 
 use sx_lang::names::{Name, has_form};
 use sx_lang::tree::{Decl, Expr, Handler, Module, Stmt};

@@ -1,15 +1,15 @@
 //! A module's text, written part by part.
 
-ghost use Rattle.std.specs.Prelude.{◌≡◌, ℕ, ◌∷◌, List, IfOk, OnOk, map, string_bytes, true};
+ghost use Rattle.std.specs.Prelude.{◌≡◌, ℕ, IfOk, OnOk, map, string_bytes, true};
 ghost use Rattle.std.specs.Str.{IsUtf8};
 ghost use Rattle.sx_lang.specs.Tree.{Sends, Stores};
 ghost use Rattle.sx_lang.specs.View.{block_of, expression_of, handler_of, module_of, statement_of};
 ghost use Rattle.sx_grammar.specs.Text.{Spells};
 ghost use Rattle.sx_print.specs.Printable.{is_printable};
-ghost use Rattle.sx_print.specs.Pieces.{Piece, block_pieces, declarations_pieces, declared_pieces};
+ghost use Rattle.sx_print.specs.Pieces.{block_pieces, declarations_pieces, declared_pieces};
 ghost use Rattle.sx_print.specs.Pieces.{device_word, else_pieces, event_pieces, expression_pieces};
-ghost use Rattle.sx_print.specs.Pieces.{handler_pieces, handlers_pieces, module_pieces, name};
-ghost use Rattle.sx_print.specs.Pieces.{quoted, statement_pieces, statements_pieces, text_of};
+ghost use Rattle.sx_print.specs.Pieces.{handler_pieces, handlers_pieces, module_pieces};
+ghost use Rattle.sx_print.specs.Pieces.{statement_pieces, statements_pieces, text_of};
 ghost use Rattle.sx_print.specs.Pieces.{value_pieces};
 ghost use Rattle.sx_print.specs.Written.{Wrote};
 

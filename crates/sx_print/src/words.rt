@@ -1,6 +1,6 @@
 //! The words of a text, which are written one after the other, each with what follows it.
 
-ghost use Rattle.std.specs.Prelude.{◌≡◌, ◌∷◌, ◌++◌, min, OnOk};
+ghost use Rattle.std.specs.Prelude.{◌≡◌, ◌∷◌, OnOk};
 ghost use Rattle.sx_lang.specs.declared.tree.BinOp.{BinOp};
 ghost use Rattle.sx_print.specs.Pieces.{binary_sign, deeper, gap_bytes, margin, name, number};
 ghost use Rattle.sx_print.specs.Pieces.{quoted, spelling, unary_sign};

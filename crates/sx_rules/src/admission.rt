@@ -1,6 +1,6 @@
 //! When a new section is refused.
 
-ghost use Rattle.std.specs.Prelude.{◌≡◌, ◌+◌, ◌<◌, ◌≤◌, List, ℕ, length, IfNone};
+ghost use Rattle.std.specs.Prelude.{◌≡◌, ◌+◌, ◌<◌, ◌≤◌, length, IfNone};
 ghost use Rattle.std.specs.List.{list_all};
 ghost use Rattle.sx_rules.specs.Admission.{apart, is_even, good_bounds, parts_apart, clear_of};
 ghost use Rattle.sx_rules.specs.Admission.{no_overlap, no_device, refusal};

@@ -2,7 +2,6 @@
 
 ghost use Rattle.std.specs.Prelude.{◌≡◌, ◌<◌, ◌≤◌, ◌+◌, ◌-◌, ◌/◌, ℕ, [], ◌∷◌, ◌++◌, take, drop};
 ghost use Rattle.std.specs.Prelude.{length, is_some, Option, None, IfOk, OnOk, OnErr, MatchOption};
-ghost use Rattle.std.specs.Prelude.{IsSome};
 ghost use Rattle.std.specs.List.{list_all};
 ghost use Rattle.std.specs.Bool.{OnTrue};
 ghost use Rattle.std.specs.Result.{result_err};

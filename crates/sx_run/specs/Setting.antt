@@ -1,6 +1,6 @@
 -- What a run is given: the application, and where its modules, keys and devices are.
 use Rattle.std.specs.Prelude.{ℕ, ◌+◌, ◌-◌, ◌==◌, ◌&&◌, Bool, if◌then◌else◌, List, [], ◌∷◌}
-use Rattle.std.specs.Prelude.{slice_get, slice_index, Option, option_and_then, bytes_eq}
+use Rattle.std.specs.Prelude.{slice_index, Option, option_and_then, bytes_eq}
 use Rattle.std.specs.List.{position_from}
 use Rattle.sx_lang.specs.declared.tree.DeviceKind.{DeviceKind}
 use Rattle.sx_lang.specs.declared.tree.DeviceKind.TheVariants as declared_kind

@@ -11,7 +11,6 @@ ghost use Rattle.sx_machine.specs.Ranges.{passes_end, meets_device};
 ghost use Rattle.sx_machine.specs.ModuleRows.{own_key, buffers, with_key, with_inputs};
 ghost use Rattle.sx_machine.specs.Run.{Outcome};
 ghost use Rattle.sx_machine.specs.Answers.{followed};
-ghost use Rattle.sx_executor.specs.Machine.{IsClear};
 ghost use Rattle.sx_sancus.specs.Told.{ran_of};
 ghost use Rattle.sx_sancus.specs.Parts.{IsNamedBuffer, IsSixteenBytes, IsKeyPlace, IsOff, IsApart};
 ghost use Rattle.sx_sancus.specs.Parts.{tested_buffers};

@@ -1,5 +1,5 @@
 -- What is given and taken below 0x0200.
-use Rattle.std.proofs.Common.{◌≡◌, ℕ, ◌+◌, ◌≤◌, ◌==◌, ◌||◌, not, if◌then◌else◌, length, Some, None, ◌∙◌, ap, arith}
+use Rattle.std.proofs.Common.{◌≡◌, ℕ, ◌+◌, ◌≤◌, ◌||◌, not, if◌then◌else◌, length, Some, None, ◌∙◌, ap, arith}
 use Rattle.std.proofs.lemmas.Bool.{eq-eqb, le-ltb, or_from}
 use Rattle.sx_bus.specs.Devices.{places_of}
 use Rattle.sx_machine.specs.declared.kinds.Refused.TheVariants.{Busy, Guarded}

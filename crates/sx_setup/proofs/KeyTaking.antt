@@ -1,6 +1,6 @@
 -- A set-key packet is given and taken.
 use Rattle.std.proofs.Common.{◌≡◌, ℕ, ◌+◌, ◌*◌, ◌-◌, ◌<◌, ◌≤◌, inr, true, false, List, [], ◌∷◌, ◌++◌, length, Some, refl, sym, ◌∙◌, ap, subst, arith}
-use Rattle.std.specs.Prelude.{slice_get, slice_set}
+use Rattle.std.specs.Prelude.{slice_get}
 use Rattle.std.proofs.lemmas.List.{append-nil}
 use Rattle.sx_mean.specs.declared.events.End.{End}
 use Rattle.sx_mean.specs.Application.{PartTree}
@@ -21,7 +21,6 @@ use Rattle.sx_machine.proofs.Meanings.{same_bytes}
 use Rattle.sx_machine.proofs.Stays.{put_is_node}
 use Rattle.sx_image.specs.Image.{StandsProtected, private_bytes, public_bytes}
 use Rattle.sx_invoke.specs.ModuleState.{ModuleState, end_of, state_of, with_end}
-use Rattle.sx_invoke.specs.Marks.{Mark}
 use Rattle.sx_invoke.specs.Progress.{Progress}
 use Rattle.sx_invoke.specs.Setup.{Call as Asked}
 use Rattle.sx_invoke.specs.Entries.{end_found}

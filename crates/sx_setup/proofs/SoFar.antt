@@ -21,7 +21,7 @@ use Rattle.sx_machine.specs.NodeLaws.{shapes}
 use Rattle.sx_image.specs.Image.{private_bytes, public_bytes}
 use Rattle.sx_invoke.specs.ModuleState.{state_of}
 use Rattle.sx_run.specs.Setting.{Site, Setting, windows_at}
-use Rattle.sx_run.specs.Deployer.{DeployerState, Grant, grants_of, key_of, list_at}
+use Rattle.sx_run.specs.Deployer.{DeployerState, grants_of, key_of, list_at}
 use Rattle.sx_run.specs.State.{World}
 use Rattle.sx_run.specs.Law.{AreApartLayouts, IsSoundSetting, IsDeployedModule, devices_of}
 use Rattle.sx_run.proofs.steps.Entry.{shapes_on}

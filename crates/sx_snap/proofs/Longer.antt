@@ -1,5 +1,5 @@
 -- The timeline without a line, and one with a line more.
-use Rattle.std.proofs.Common.{◌≡◌, ◌∙◌, ◌⊎◌, inl, inr, ℕ, zero, suc, ◌+◌, ◌-◌, ◌*◌, ◌<◌, ◌≤◌, List, [], ◌∷◌, ◌++◌, length, take, refl, sym, ap, subst, arith, false, Option, Some, add-mul, mul-le-mul_right, length-append}
+use Rattle.std.proofs.Common.{◌≡◌, ◌∙◌, ◌⊎◌, inl, inr, ℕ, zero, suc, ◌+◌, ◌-◌, ◌*◌, ◌<◌, ◌≤◌, List, [], ◌∷◌, ◌++◌, length, take, refl, sym, ap, subst, arith, false, Some, add-mul, mul-le-mul_right, length-append}
 use Rattle.std.specs.Prelude.{slice_get, OnErr, OnOk, Result, Ok, Err}
 use Rattle.std.proofs.lemmas.List.{take-append-le}
 use Rattle.std.proofs.lemmas.Option.{slice_get_within}
@@ -7,7 +7,7 @@ use Rattle.sx_tag.specs.Mac.{Mac}
 use Rattle.sx_sched.specs.Lines.{Line}
 use Rattle.sx_sched.specs.InForm.{IsLine}
 use Rattle.sx_deploy.specs.Deployment.{Deployed}
-use Rattle.sx_run.specs.Setting.{Setting, Site}
+use Rattle.sx_run.specs.Setting.{Site}
 use Rattle.sx_run.specs.State.{switched_on}
 use Rattle.sx_run.specs.Accepted.{setting, setting_of}
 use Rattle.sx_world.specs.Held.{Held}

@@ -1,5 +1,5 @@
 //! Stages: entries become entries of another type.
-ghost use Rattle.std.specs.Prelude.{◌≡◌, [], List, Result};
+ghost use Rattle.std.specs.Prelude.{[], List, Result};
 ghost use Rattle.sx_stage.specs.declared.fault.DeployFault.{DeployFault as FaultSeen};
 ghost use Rattle.sx_stage.specs.Fault.{passes};
 ghost use Rattle.sx_stage.specs.Gives.{Gives, TakesNoMemory};

@@ -13,7 +13,7 @@ use Rattle.sx_invoke.specs.Windows.{in_window_size, out_window_size}
 use Rattle.sx_invoke.specs.Setup.{Setup, Call}
 use Rattle.sx_invoke.specs.Marks as mark
 use Rattle.sx_invoke.specs.Marks.{Mark}
-use Rattle.sx_invoke.specs.Pieces.{piece_size, made_bytes}
+use Rattle.sx_invoke.specs.Pieces.{made_bytes}
 use Rattle.sx_invoke.specs.Windows.{is_bad_window, write_bytes}
 use Rattle.sx_invoke.specs.Progress.{Progress, Returns, Violates, finished}
 use Rattle.sx_invoke.specs.Entries.{attest, with_received}

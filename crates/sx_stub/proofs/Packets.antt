@@ -1,6 +1,6 @@
 -- A copied packet in the private section: its words and parts, and what is opened of it.
 use Rattle.std.proofs.Common.{◌≡◌, ◌≢◌, ℕ, zero, suc, ◌+◌, ◌-◌, ◌*◌, ◌/◌, ◌%◌, ◌<◌, ◌≤◌, ◌⊎◌, inl, inr, Bool, true, false, ◌==◌, List, [], ◌∷◌, ◌++◌, length}
-use Rattle.std.proofs.Common.{get_or, take, drop, Option, Some, None, refl, sym, ap, ◌∙◌, arith, ⊎_elim}
+use Rattle.std.proofs.Common.{get_or, take, drop, Option, Some, None, sym, ap, ◌∙◌, arith, ⊎_elim}
 use Rattle.std.specs.Prelude.{if◌then◌else◌, bytes_eq, bit_and, nat_lt, replicate}
 use Rattle.std.proofs.lemmas.List.{length-append, length-take, length-drop, get_or-take, get_or-drop, ext_get_or, length-replicate, get_or_append_left}
 use Rattle.std.proofs.Math.Seq.{get_or-append_seam}

@@ -17,13 +17,12 @@ use Rattle.sx_invoke.specs.Protocol.{entry_register, all_done, no_end, other_tag
 use Rattle.sx_invoke.specs.Windows.{in_window_size}
 use Rattle.sx_invoke.specs.Setup.{Setup, Call}
 use Rattle.sx_invoke.specs.Marks as mark
-use Rattle.sx_invoke.specs.Marks.{Mark}
 use Rattle.sx_invoke.specs.ModuleState.{ModuleState, EndState, end_of, end_state, with_end, state_of, epoch_of, link_of}
 use Rattle.sx_invoke.specs.Windows.{is_bad_window}
 use Rattle.sx_invoke.specs.Progress.{Progress, Invoked, Returns}
 use Rattle.sx_invoke.specs.Entries.{set_key, set_key_at, key_opened, end_keyed, is_keyed, field_in, second_in, header_in, end_on, side_of, with_received}
 use Rattle.sx_ir.specs.Conf.{Conf}
-use Rattle.sx_ir.specs.Meaning.{OperationResult, do_op, element, opened, unseal, pushed}
+use Rattle.sx_ir.specs.Meaning.{OperationResult, do_op, element, opened}
 use Rattle.sx_ir.specs.Meaning as meaning
 use Rattle.sx_ir.specs.declared.ir.Ir.{Ir}
 use Rattle.sx_ir.specs.declared.ir.Ir.TheVariants as ir

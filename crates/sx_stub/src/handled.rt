@@ -2,7 +2,6 @@
 
 ghost use Rattle.std.specs.Prelude.{◌≡◌, ◌≤◌, OnOk, Option, Some, None, length, map};
 ghost use Rattle.sx_lang.specs.View.{handler_of, module_of};
-ghost use Rattle.sx_check.specs.Names.{same_input};
 ghost use Rattle.sx_mean.specs.Handlers.{handler_number, number_of};
 ghost use Rattle.sx_stub.specs.Stub.{handled_by};
 ghost use Rattle.sx_stub.specs.Puts.{Puts};

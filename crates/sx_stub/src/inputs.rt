@@ -2,11 +2,9 @@
 
 ghost use Rattle.std.specs.Prelude.{◌≡◌, ◌+◌, ◌<◌, ◌≤◌, ◌++◌, OnOk, length};
 ghost use Rattle.sx_lang.specs.View.{module_of};
-ghost use Rattle.sx_mean.specs.declared.events.SourceEvent.TheVariants as event;
-ghost use Rattle.sx_mean.specs.Handlers.{number_of};
-ghost use Rattle.sx_stub.specs.Stub.{case_of, cases, input_code, input_found, is_closed_code};
+ghost use Rattle.sx_stub.specs.Stub.{case_of, input_code, input_found, is_closed_code};
 ghost use Rattle.sx_stub.specs.Stub.{is_last_number, is_other_epoch, is_past_number, is_receiving};
-ghost use Rattle.sx_stub.specs.Stub.{refuse_if, take_event, take_receiving, taken_code};
+ghost use Rattle.sx_stub.specs.Stub.{take_event, take_receiving, taken_code};
 ghost use Rattle.sx_stub.specs.Stub.{wanted_receiving};
 ghost use Rattle.sx_stub.specs.Puts.{Puts, PutsAt, PutsCase, PutsCases, RefusesWith, behind_cases};
 ghost use Rattle.sx_stub.specs.Puts.{searched};

@@ -1,7 +1,7 @@
 //! Pieces of code of which the protocol's parts are made.
 
 ghost use Rattle.std.specs.Prelude.{◌+◌, ◌<◌, ◌∷◌, [], OnOk, length};
-ghost use Rattle.sx_stub.specs.Puts.{Puts, PutsAt, RefusesWith, choice, searched};
+ghost use Rattle.sx_stub.specs.Puts.{Puts, PutsAt, RefusesWith, choice};
 ghost use Rattle.sx_stub.specs.Stub.{jump_on, returns};
 
 use std::alloc::AllocError;

@@ -1,6 +1,6 @@
 //! Where the parts of a text stand.
 
-ghost use Rattle.std.specs.Prelude.{◌≡◌, ℕ, ◌≤◌, ◌<◌, ◌+◌, ◌*◌, IfOk, length, slice_index};
+ghost use Rattle.std.specs.Prelude.{◌≡◌, ◌<◌, ◌+◌, IfOk, length, slice_index};
 ghost use Rattle.sx_ir.specs.Sizes.{bytes, has_routine, op_bytes, ops_bytes};
 ghost use Rattle.sx_tmpl.specs.Fits.{AreCounts, IsTable};
 ghost use Rattle.sx_tmpl.specs.Text.{places_from};

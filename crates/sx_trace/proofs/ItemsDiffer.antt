@@ -1,9 +1,9 @@
 -- The item that is looked for in an item's line is that item.
-use Rattle.std.proofs.Common.{◌≡◌, ◌≢◌, ℕ, zero, suc, ◌+◌, ◌^◌, ◌<◌, ◌≤◌, Bool, true, false, ◌==◌, List, [], ◌∷◌, ◌++◌, length, codes, decimal, Option, Some, None, refl, sym, ap, subst, ◌∙◌, arith, IsTrue}
+use Rattle.std.proofs.Common.{◌≡◌, ℕ, ◌+◌, ◌^◌, ◌<◌, Bool, true, false, ◌==◌, List, ◌∷◌, ◌++◌, codes, decimal, Option, Some, None, refl, ap, subst, ◌∙◌, arith, IsTrue}
 use Rattle.std.proofs.lemmas.Bool.Decides.{nat_tests}
 use Rattle.sx_lang.specs.declared.sides.Side.{Side}
 use Rattle.sx_lang.specs.declared.sides.Side.TheVariants.{From, To}
-use Rattle.sx_trace.specs.Names.{NameLists, deployer, place_of}
+use Rattle.sx_trace.specs.Names.{NameLists, deployer}
 use Rattle.sx_trace.specs.ValidNames.{are_valid}
 use Rattle.sx_trace.specs.declared.items.Cause.{Cause}
 use Rattle.sx_trace.specs.declared.items.Cause.TheVariants as cause
@@ -12,7 +12,7 @@ use Rattle.sx_trace.specs.declared.items.Item.TheVariants.{Reset, Protect, Sense
 use Rattle.sx_trace.specs.Items.{name_at, name_or, cause_word, side_word, epoch_words, spaced_words, item_text}
 use Rattle.sx_trace.specs.KnownItems.{IsItem, IsIndexOrNone}
 use Rattle.sx_trace.specs.Laws.{ItemsDiffer}
-use Rattle.sx_trace.specs.Finding.{cut, number_of, up_to, index_or_none, cause_of, side_of, open_in, kind_in, item_in, ◌>>=◌}
+use Rattle.sx_trace.specs.Finding.{cut, number_of, up_to, index_or_none, cause_of, side_of, open_in, kind_in, item_in}
 use Rattle.sx_trace.proofs.Cut.{is_word, cut_word, cut_all, number_read, up_to_read, decimal_word}
 use Rattle.sx_trace.proofs.Known.{Known, known_node, known_device, known_module, known_link, no_deployer}
 

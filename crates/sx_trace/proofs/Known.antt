@@ -1,6 +1,6 @@
 -- What is known of a name at its index in a list of names.
-use Rattle.std.proofs.Common.{◌≡◌, ℕ, zero, suc, ◌+◌, ◌<◌, ◌≤◌, Bool, true, false, ◌&&◌, ◌==◌, not, nat_le, nat_lt, List, [], ◌∷◌, length, codes, Some, refl, ap, subst, ◌∙◌, arith, IsTrue}
-use Rattle.std.specs.List.{list_all, list_any, position_or_len}
+use Rattle.std.proofs.Common.{◌≡◌, ℕ, zero, suc, ◌+◌, ◌<◌, Bool, true, false, ◌&&◌, ◌==◌, not, nat_le, nat_lt, List, [], ◌∷◌, length, codes, Some, refl, subst, ◌∙◌, arith, IsTrue}
+use Rattle.std.specs.List.{list_all, position_or_len}
 use Rattle.std.specs.Str.{bytes_eq}
 use Rattle.std.proofs.lemmas.Bool.Decides.{nat_tests}
 use Rattle.std.proofs.lemmas.Slice.Eq.{bytes_eq-Decides}
@@ -8,7 +8,6 @@ use Rattle.sx_trace.specs.Names.{NameLists, deployer, place_of}
 use Rattle.sx_trace.specs.ValidNames.{are_valid, are_names, has_name, no_repeat}
 use Rattle.sx_lang.specs.Form.{is_lower, is_name, is_name_byte}
 use Rattle.sx_trace.specs.Items.{name_at}
-use Rattle.sx_trace.specs.Finding.{is_space}
 use Rattle.sx_trace.proofs.Cut.{is_plain, is_word}
 use Rattle.sx_lists.proofs.Truths.{and_true, or_false, not_true}
 use Rattle.sx_lists.proofs.Texts.{bytes_eq-same, bytes_eq-sym}

@@ -1,5 +1,5 @@
 -- What loading and calling a module are, where no module of its node runs.
-use Rattle.std.specs.Prelude.{◌≢◌, ℕ, ◌+◌, ◌/◌, ◌<◌, false, List, [], ◌∷◌, length}
+use Rattle.std.specs.Prelude.{◌≢◌, ◌+◌, ◌/◌, ◌<◌, false, List, [], ◌∷◌, length}
 use Rattle.sx_run.specs.Setting.{Site, Setting}
 use Rattle.sx_run.specs.State.{World, Acted}
 use Rattle.sx_run.specs.Acts.{then_}

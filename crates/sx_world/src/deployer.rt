@@ -1,6 +1,6 @@
 //! Attestation: the deployer asks a module, and judges what is given to it as the answer.
 
-ghost use Rattle.std.specs.Prelude.{◌≡◌, ◌+◌, ◌*◌, ◌<◌, ◌≤◌, List, length, map, slice_get, OnOk};
+ghost use Rattle.std.specs.Prelude.{◌≡◌, ◌+◌, ◌<◌, ◌≤◌, List, length, map, slice_get, OnOk};
 ghost use Rattle.sx_run.specs.Acts.{after_answer, ask};
 ghost use Rattle.sx_world.specs.Granted.{accepted_ask, confirmed, judged_by};
 ghost use Rattle.sx_world.specs.Held.{DoesAct};

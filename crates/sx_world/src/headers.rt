@@ -1,8 +1,8 @@
 //! The fields of headers and bodies.
 
-ghost use Rattle.std.specs.Prelude.{◌≡◌, ◌+◌, ◌*◌, ◌≤◌, drop, length, slice_index};
+ghost use Rattle.std.specs.Prelude.{◌≡◌, ◌+◌, ◌*◌, ◌≤◌, length, slice_index};
 ghost use Rattle.sx_run.specs.Wire.{begins, challenge_in, epoch_in, is_ask, is_event_header};
-ghost use Rattle.sx_run.specs.Wire.{is_set_key_header, last_in, link_in, number_in, value_in};
+ghost use Rattle.sx_run.specs.Wire.{is_set_key_header, last_in, link_in, value_in};
 ghost use Rattle.sx_run.specs.Observation.{side_in};
 
 use byteorder::{ByteOrder, LittleEndian};

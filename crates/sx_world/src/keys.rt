@@ -1,6 +1,6 @@
 //! Connection keys are given: a set-key packet for each grant, and its entry of the ledger.
 
-ghost use Rattle.std.specs.Prelude.{◌≡◌, ◌+◌, ◌<◌, ◌≤◌, List, length, option_map, slice_get, OnOk};
+ghost use Rattle.std.specs.Prelude.{◌≡◌, ◌+◌, ◌<◌, ◌≤◌, List, length, slice_get, OnOk};
 ghost use Rattle.sx_deployer.specs.Granting as granting;
 ghost use Rattle.sx_wire.specs.Packets.{field};
 ghost use Rattle.sx_run.specs.Acts.{key_given, keys_given};

@@ -1,7 +1,7 @@
 //! What is done to a node from outside, and the item of a refusal.
 
-ghost use Rattle.std.specs.Prelude.{◌≡◌, ◌≢◌, ℕ, ◌<◌, ◌++◌, ◌∷◌, [], List, length, slice_get};
-ghost use Rattle.std.specs.Prelude.{slice_set, Some, Ok, Err, OnOk, OnErr, IfSome, IfErr};
+ghost use Rattle.std.specs.Prelude.{◌≡◌, ◌≢◌, ◌<◌, ◌++◌, ◌∷◌, [], length, slice_get};
+ghost use Rattle.std.specs.Prelude.{slice_set, Some, Ok, Err, OnOk, OnErr, IfSome};
 ghost use Rattle.std.specs.Option.{option_to_list};
 ghost use Rattle.sx_bus.specs.declared.devices.Kind.TheVariants.{Sensor};
 ghost use Rattle.sx_machine.specs.State.{State};

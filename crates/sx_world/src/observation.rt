@@ -1,11 +1,10 @@
 //! What a step of a node shows: its touches in their order, and then its event.
 
-ghost use Rattle.std.specs.Prelude.{◌≡◌, ◌≤◌, ◌++◌, ◌∷◌, [], List, length, slice_index, true, Some};
+ghost use Rattle.std.specs.Prelude.{◌≡◌, ◌≤◌, ◌++◌, ◌∷◌, [], length, slice_index, true, Some};
 ghost use Rattle.std.specs.Prelude.{OnOk, OnErr};
 ghost use Rattle.std.specs.List.{list_any};
 ghost use Rattle.sx_trace.specs.declared.items.Item.TheVariants.{Done};
 ghost use Rattle.sx_mean.specs.View.{app_as};
-ghost use Rattle.sx_ledger.specs.Made.{Made};
 ghost use Rattle.sx_world.specs.Held.{AddsFront, Observes, ObservesFront};
 ghost use Rattle.sx_world.specs.InMemory.{setting_in};
 ghost use Rattle.sx_run.specs.Observation.{cause_of, event_seen, observed, protect_item};

@@ -4,7 +4,6 @@ ghost use Rattle.std.specs.Prelude.{◌≡◌, ◌==◌, ◌&&◌, ◌||◌, ◌
 ghost use Rattle.std.specs.Prelude.{slice_set, Some, OnOk, OnErr};
 ghost use Rattle.std.specs.Option.{option_to_list};
 ghost use Rattle.sx_machine.specs.State.{State};
-ghost use Rattle.sx_machine.specs.Step.{step};
 ghost use Rattle.sx_machine.specs.Acts.{irq};
 ghost use Rattle.sx_run.specs.Acts.{at_node, after_interrupt};
 ghost use Rattle.sx_world.specs.Held.{DoesAct, Observes, ObservesFront};

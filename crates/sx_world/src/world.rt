@@ -1,7 +1,7 @@
 //! The world of a deployment: its modules' sites, and how its run stands.
 
-ghost use Rattle.std.specs.Prelude.{◌≡◌, ◌≢◌, ℕ, ◌+◌, ◌<◌, false, true, length, slice_get, IfOk};
-ghost use Rattle.std.specs.Prelude.{IsErr, OnOk, OnErr, IfSome, Option, option_map};
+ghost use Rattle.std.specs.Prelude.{◌≡◌, ◌+◌, ◌<◌, false, true, length, slice_get, IfOk};
+ghost use Rattle.std.specs.Prelude.{IsErr, OnOk, OnErr, Option, option_map};
 ghost use Rattle.sx_deploy.specs.Law.{IsSoundDeployment};
 ghost use Rattle.sx_deploy.specs.SeenDeployment.{deployed_as};
 ghost use Rattle.sx_sched.specs.InForm.{IsLine};

@@ -30,7 +30,7 @@ use Rattle.sx_run.proofs.tie.Lists.{get_other, get_some, get_within, length_set,
 use Rattle.sx_run.proofs.tie.Entries.{made_behind}
 use Rattle.sx_run.proofs.tie.Unique.{eq_refl}
 use Rattle.sx_run.proofs.acts.Renewal.{renewed_grows, renewed_long, renewed_small, later_boot, higher_epoch, from_end, to_end}
-use Rattle.sx_run.proofs.tie.Verdicts.{Verdict, Broken, Over, Going, judge, Fares, fares_then, fares_map}
+use Rattle.sx_run.proofs.tie.Verdicts.{Going, judge, Fares, fares_then}
 use Rattle.sx_run.proofs.tie.Tied.{KnownKey, Known, HasEnd, asked_as, DeployerTied, IsTimely, HasSent, IsSane, ModuleTied, Absent, Rests, Runs, Tied}
 use Rattle.sx_lists.proofs.Lists.{get_same}
 

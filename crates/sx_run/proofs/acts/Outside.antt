@@ -28,7 +28,7 @@ use Rattle.sx_run.proofs.steps.Stretch.{set_same}
 use Rattle.sx_run.proofs.steps.Bystanders.{at_site_same}
 use Rattle.sx_run.proofs.steps.Steps.{nonzero}
 use Rattle.sx_run.proofs.steps.Nodes.{tied_node}
-use Rattle.sx_run.proofs.tie.Tied.{SameState, NodeTied, ModuleTied, Absent, Rests, Runs, Tied}
+use Rattle.sx_run.proofs.tie.Tied.{SameState, ModuleTied, Absent, Rests, Runs, Tied}
 use Rattle.sx_run.proofs.acts.Compose.{Keeps}
 use Rattle.sx_machine.proofs.PublicKept.{clear_of_range, none_any, put_other}
 use Rattle.sx_machine.proofs.Meanings.{same_bytes}

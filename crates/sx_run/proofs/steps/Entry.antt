@@ -1,6 +1,6 @@
 -- A step of a deployed module's code while the module rests: it is refused, or it is the first of an invocation.
 use Rattle.std.proofs.Common.{◌≡◌, ◌≢◌, ℕ, inl, inr, ◌==◌, ◌||◌, not, Bool, true, false, cond, if◌then◌else◌, List, [], ◌∷◌, Option, Some, None, refl, sym, ◌∙◌, ap, subst}
-use Rattle.std.specs.Prelude.{slice_get, slice_index}
+use Rattle.std.specs.Prelude.{slice_get}
 use Rattle.std.proofs.lemmas.Bool.{true≢false, and_parts, eqb-true, or_cases, not-true}
 use Rattle.sx_lang.specs.declared.tree.DeviceKind.{DeviceKind}
 use Rattle.sx_lang.specs.declared.tree.DeviceKind.TheVariants as declared
@@ -18,7 +18,7 @@ use Rattle.sx_bus.specs.Devices.{device_at, powered_on}
 use Rattle.sx_tag.specs.Mac.{Mac}
 use Rattle.sx_machine.specs.declared.kinds.Event.TheVariants as event
 use Rattle.sx_machine.specs.State.{State}
-use Rattle.sx_machine.specs.Run.{Outcome, Violated, device_of}
+use Rattle.sx_machine.specs.Run.{Violated, device_of}
 use Rattle.sx_machine.specs.Step.{step, own_of, pc_of, word_outside, ordered, instruction, settled_step}
 use Rattle.sx_machine.proofs.PlanGuard.{passes}
 use Rattle.sx_invoke.specs.Setup.{Setup}

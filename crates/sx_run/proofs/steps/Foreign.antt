@@ -4,7 +4,7 @@ use Rattle.std.proofs.Common.{Bool, true, false, cond, if◌then◌else◌, List
 use Rattle.std.proofs.Common.{Option, Some, None, refl, sym, ◌∙◌, ap, subst, arith}
 use Rattle.std.specs.Prelude.{slice_get, slice_set, nat_lt, nat_le, is_some}
 use Rattle.std.specs.List.{position_from}
-use Rattle.std.proofs.lemmas.Bool.{true≢false, and_parts, and_from, eqb-true, eqb-false, cases_eq, cases_Bool, le-leb, leb-true}
+use Rattle.std.proofs.lemmas.Bool.{true≢false, and_parts, and_from, eqb-true, cases_eq, cases_Bool, le-leb}
 use Rattle.sx_rules.specs.declared.access.Access.{Access}
 use Rattle.sx_rules.specs.declared.access.Access.TheVariants.{Read, Write}
 use Rattle.sx_rules.specs.declared.section.Section.{Section}
@@ -37,15 +37,14 @@ use Rattle.sx_run.specs.Acts.{with_node}
 use Rattle.sx_run.specs.Observation.{touch_items}
 use Rattle.sx_run.specs.Law.{IsSoundSetting}
 use Rattle.sx_run.proofs.tie.Lists.{get_some, get_within, length_set, some_inj}
-use Rattle.sx_run.proofs.tie.Verdicts.{Verdict, judge, Fares, fares_then, fares_map}
+use Rattle.sx_run.proofs.tie.Verdicts.{judge, Fares}
 use Rattle.sx_run.proofs.tie.Tied.{Known, IsSane, NodeTied, IsModule, ModuleTied, Absent, Rests, Runs, Tied, shapes}
-use Rattle.sx_run.proofs.steps.Entry.{AtSite, at_site}
+use Rattle.sx_run.proofs.steps.Entry.{at_site}
 use Rattle.sx_run.proofs.steps.Stretch.{readings_all}
 use Rattle.sx_run.proofs.steps.Nodes.{NodeGoes, tied_node, device_here, index_get, shapes_long, windows_long}
 use Rattle.sx_machine.specs.Touches.{Replays}
 use Rattle.sx_run.proofs.steps.Machine.{MachineLaws, Onward, onward}
-use Rattle.sx_run.proofs.steps.Bystanders.{DevicesTied, Apart, cleared_get, replayed, replayed_shapes, onlooker}
-use Rattle.sx_machine.proofs.Devices.{heads}
+use Rattle.sx_run.proofs.steps.Bystanders.{DevicesTied, Apart, replayed, replayed_shapes, onlooker}
 
 -- A node's windows are the application's devices, in place and kind.
 

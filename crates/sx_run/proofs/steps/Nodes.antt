@@ -2,7 +2,7 @@
 use Rattle.std.proofs.Common.{◌≡◌, ◌≢◌, ℕ, zero, suc, ◌+◌, ◌<◌, ◌≤◌, ◌⊎◌, inl, inr, ◌==◌, Bool}
 use Rattle.std.proofs.Common.{true, false, if◌then◌else◌, List, [], ◌∷◌, length, replicate, Option}
 use Rattle.std.proofs.Common.{Some, None, refl, sym, ◌∙◌, ap, subst, arith}
-use Rattle.std.specs.Prelude.{slice_get, slice_set, is_some}
+use Rattle.std.specs.Prelude.{slice_get, slice_set}
 use Rattle.std.proofs.lemmas.Bool.{eqb-true, eqb-false, cases_eq, ne_eqb}
 use Rattle.sx_bus.specs.declared.devices.Window.{Window}
 use Rattle.sx_bus.specs.Devices.{all_stale, stale}
@@ -25,8 +25,8 @@ use Rattle.sx_run.specs.State.{World}
 use Rattle.sx_run.specs.Acts.{with_node}
 use Rattle.sx_run.specs.Law.{IsSoundSetting}
 use Rattle.sx_run.proofs.tie.Lists.{get_other, get_some, get_within, length_set, some_inj}
-use Rattle.sx_run.proofs.tie.Verdicts.{Verdict, Broken, Over, Going, judge, Fares, fares_then, fares_map}
-use Rattle.sx_run.proofs.tie.Tied.{KnownKey, KnownVouch, Known, DeployerTied, IsTimely, HasSent, IsSane, HasSize, NodeTied, DeviceTied, ModuleTied, Absent, Rests, Runs, Tied, shapes}
+use Rattle.sx_run.proofs.tie.Verdicts.{Going, judge, Fares}
+use Rattle.sx_run.proofs.tie.Tied.{Known, IsTimely, HasSent, IsSane, NodeTied, DeviceTied, ModuleTied, Absent, Tied, shapes}
 use Rattle.sx_lists.proofs.Lists.{get_same}
 
 -- what is owed where a node goes from s to s2 and the source from mo to mo2

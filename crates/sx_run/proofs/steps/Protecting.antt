@@ -25,7 +25,7 @@ use Rattle.sx_machine.specs.declared.kinds.Event.TheVariants as event
 use Rattle.sx_machine.specs.declared.kinds.Seen.{Seen}
 use Rattle.sx_machine.specs.State.{State}
 use Rattle.sx_machine.specs.Step.{Shown, step, own_of}
-use Rattle.sx_model.specs.Step.{step as model_step, first_present, protected_as, is_vouched}
+use Rattle.sx_model.specs.Step.{first_present, protected_as, is_vouched}
 use Rattle.sx_invoke.specs.ModuleState.{initial_ends, state_of, link_of, epoch_of}
 use Rattle.sx_image.specs.Watched.{violation_of}
 use Rattle.sx_image.specs.Image.{private_bytes}

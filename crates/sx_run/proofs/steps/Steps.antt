@@ -1,9 +1,9 @@
 -- One instruction of a node: of a deployed module's code, or a violation.
-use Rattle.std.proofs.Common.{◌≡◌, ◌≢◌, ℕ, zero, suc, ◌+◌, ◌-◌, ◌<◌, ◌≤◌, ◌⊎◌, inl, inr, ◌==◌, ◌&&◌}
-use Rattle.std.proofs.Common.{◌||◌, Bool, true, false, if◌then◌else◌, List, [], ◌∷◌, ◌++◌, length}
-use Rattle.std.proofs.Common.{All, Option, Some, None, refl, sym, ◌∙◌, ap, subst, arith}
-use Rattle.std.specs.Prelude.{slice_get, slice_set, slice_index, slice_index_or}
-use Rattle.std.proofs.lemmas.Bool.{true≢false, and_parts, eqb-true, eqb-false, cases_eq, cases_lt, cases_Bool}
+use Rattle.std.proofs.Common.{◌≡◌, ◌≢◌, ℕ, zero, suc, ◌+◌, ◌-◌, ◌<◌, ◌⊎◌, inl, inr, ◌==◌}
+use Rattle.std.proofs.Common.{Bool, true, false, if◌then◌else◌, List, [], ◌∷◌, ◌++◌, length}
+use Rattle.std.proofs.Common.{Option, Some, None, refl, sym, ◌∙◌, ap, subst, arith}
+use Rattle.std.specs.Prelude.{slice_get, slice_set}
+use Rattle.std.proofs.lemmas.Bool.{true≢false, and_parts, eqb-true, cases_eq, cases_Bool}
 use Rattle.sx_rules.specs.declared.access.Violation.{Violation}
 use Rattle.sx_rules.specs.declared.section.Section.{Section}
 use Rattle.sx_rules.specs.declared.section.Layout.{Layout}
@@ -45,7 +45,6 @@ use Rattle.sx_run.specs.Law.{IsSoundSetting, IsDeployedModule}
 use Rattle.sx_run.proofs.tie.Lists.{get_other, get_some, get_within, length_set, some_inj}
 use Rattle.sx_run.proofs.tie.Verdicts.{judge, Fares, fares_map}
 use Rattle.sx_run.proofs.tie.Tied.{SameState, OwnSensor, Known, IsSane, NodeTied, IsModule, IsUnderWay, ModuleTied, Absent, Rests, Runs, Tied, shapes}
-use Rattle.sx_run.proofs.tie.Moves.{IsOwn}
 use Rattle.sx_run.proofs.steps.Judged.{Readings}
 use Rattle.sx_run.proofs.steps.Stretch.{Moves, readings_all}
 use Rattle.sx_run.proofs.tie.Frames.{module_frame}

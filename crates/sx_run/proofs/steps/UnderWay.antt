@@ -27,7 +27,7 @@ use Rattle.sx_mean.specs.Ends.{ends_of}
 use Rattle.sx_lang.specs.declared.sides.Side.TheVariants.{From}
 use Rattle.sx_model.specs.State.{Present, Standing, Model, FIELDS}
 use Rattle.sx_model.specs.Step.{is_vouched}
-use Rattle.sx_run.specs.Setting.{Site, Setting}
+use Rattle.sx_run.specs.Setting.{Setting}
 use Rattle.sx_run.specs.Ledger.{Made, is_made}
 use Rattle.sx_run.specs.Observation.{Observed, observed}
 use Rattle.sx_run.proofs.tie.Lists.{some_inj}

@@ -18,7 +18,7 @@ use Rattle.sx_run.specs.Law.{IsSoundSetting, devices_of}
 use Rattle.sx_run.proofs.tie.Lists.{some_inj}
 use Rattle.sx_run.proofs.steps.Entry.{shapes_on}
 use Rattle.sx_run.proofs.steps.Nodes.{zeros_long}
-use Rattle.sx_run.proofs.tie.Tied.{IsTimely, HasSent, IsSane, NodeTied, DeviceTied, DeployerTied, ModuleTied, Absent, Tied, HasSize}
+use Rattle.sx_run.proofs.tie.Tied.{NodeTied, Absent, Tied}
 
 map_long : {X Y : Type 0} → (f : X → Y) (xs : List X) → length (map f xs) ≡ length xs
 map_long f [] = refl

@@ -12,7 +12,7 @@ use Rattle.sx_tmpl.proofs.Operations.PacketOp.{Breaks}
 use Rattle.sx_tmpl.proofs.Operations.CopyOps.{Ending, Goes_to, Breaks_off}
 use Rattle.sx_rules.specs.Access.{in_public}
 use Rattle.sx_machine.specs.Memory.{even}
-use Rattle.sx_machine.specs.Run.{exec, Violated, Outcome}
+use Rattle.sx_machine.specs.Run.{exec, Violated}
 use Rattle.sx_machine.specs.Rows.{program}
 use Rattle.sx_machine.specs.Step.{start, attempt}
 use Rattle.sx_isa.specs.Reading.{length_of, instruction_at}

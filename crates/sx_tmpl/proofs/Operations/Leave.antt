@@ -9,14 +9,13 @@ use Rattle.sx_rules.specs.declared.access.Violation.{Violation}
 use Rattle.sx_machine.specs.declared.kinds.Event.TheVariants as event
 use Rattle.std.proofs.lemmas.Option.{same_Some}
 use Rattle.std.proofs.lemmas.Bool.{true≢false}
-use Rattle.sx_rules.specs.Access.{may, in_private}
 use Rattle.sx_reach.specs.Reach.{Next, Ends}
 use Rattle.sx_tmpl.proofs.Running.Steps.{text_word, tests_passed, plain_instruction, fetched, program_two, onward_to, by_outcome}
 use Rattle.sx_reach.specs.Reach.{Goes}
 use Rattle.std.proofs.lemmas.List.{append-nil}
 use Rattle.sx_isa.specs.declared.instruction.Instr.{Instr}
 use Rattle.sx_rules.specs.declared.section.Section.{Section}
-use Rattle.sx_rules.specs.Access.{Sections, Lives, holder, in_public}
+use Rattle.sx_rules.specs.Access.{Lives, holder, in_public}
 use Rattle.sx_rules.proofs.Placing.{placed_found}
 use Rattle.sx_machine.specs.Run.{Outcome, Finished, Violated, Module}
 use Rattle.sx_machine.specs.Step.{own_of, start, attempt}

@@ -1,7 +1,7 @@
 -- The routine of an end's packet.
 use Rattle.sx_tmpl.specs.Template.{routine_words}
-use Rattle.std.proofs.Common.{◌≡◌, ◌≢◌, ℕ, zero, suc, ◌+◌, ◌-◌, ◌*◌, ◌/◌, ◌%◌, ◌<◌, ◌≤◌, ◌⊎◌, inl, inr, Bool, true, false, not, ◌&&◌, List, [], ◌∷◌, ◌++◌}
-use Rattle.std.proofs.Common.{length, Option, Some, None, refl, sym, ◌∙◌, ap, subst, arith, slice_index}
+use Rattle.std.proofs.Common.{◌≡◌, ℕ, suc, ◌+◌, ◌-◌, ◌*◌, ◌/◌, ◌%◌, ◌<◌, ◌≤◌, inl, inr, Bool, true, false, not, ◌&&◌, List, [], ◌∷◌, ◌++◌}
+use Rattle.std.proofs.Common.{length, Option, Some, refl, sym, ◌∙◌, ap, subst, arith}
 use Rattle.sx_reach.specs.Reach.{Here}
 use Rattle.sx_isa.specs.declared.instruction.Operand.TheVariants.{Reg, Indexed, Increment, Absolute, Immediate, Const}
 use Rattle.sx_isa.specs.declared.instruction.Op2.TheVariants as op2
@@ -10,7 +10,7 @@ use Rattle.sx_rules.specs.declared.access.Violation.{Violation}
 use Rattle.sx_machine.specs.declared.kinds.Event.{Event}
 use Rattle.sx_machine.specs.declared.kinds.Event.TheVariants as event
 use Rattle.std.specs.Prelude.{Ok, Err}
-use Rattle.sx_invoke.specs.Windows.{write_byte, write_bytes, unless_device, then_}
+use Rattle.sx_invoke.specs.Windows.{write_bytes}
 use Rattle.sx_tmpl.proofs.Running.MidRun.{PrivateRange, PrivateWord}
 use Rattle.sx_tmpl.proofs.Running.Mem.{cell-put_other, put_word_is, word_is, length-put}
 use Rattle.sx_tmpl.proofs.Running.Holding.{same_word, holds_under, holds_under_bytes}

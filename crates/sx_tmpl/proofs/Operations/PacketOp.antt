@@ -9,15 +9,14 @@ use Rattle.sx_rules.specs.declared.access.Violation.{Violation}
 use Rattle.sx_machine.specs.declared.kinds.Event.TheVariants as event
 use Rattle.std.specs.Prelude.{Result, Ok, Err}
 use Rattle.std.proofs.lemmas.Bool.{true≢false}
-use Rattle.sx_invoke.specs.Windows.{write_byte, write_bytes, unless_device, then_}
+use Rattle.sx_invoke.specs.Windows.{write_bytes}
 use Rattle.sx_tag.specs.Mac.{IsTag}
 use Rattle.sx_tmpl.proofs.Running.Outcomes.{ok_err, ok_same, err_same, goes_same, goes_stops, stops_same}
 use Rattle.sx_tmpl.proofs.Operations.Packet.{is_ready, tests_run, send_run, return_run}
 use Rattle.sx_reach.specs.Reach.{Goes, Stops}
-use Rattle.sx_ir.specs.Conf.{Halt, Violates, Stuck}
+use Rattle.sx_ir.specs.Conf.{Violates, Stuck}
 use Rattle.sx_ir.specs.Meaning.{OperationResult, send, send_open, copied_out, packed, sealed_event, saved, pieces, has_out_window}
 use Rattle.sx_machine.specs.Ranges.{passes_end}
-use Rattle.sx_invoke.specs.Windows.{is_bad_window}
 use Rattle.std.proofs.lemmas.Bool.{or_left, leb-true, ltb-true, and_parts}
 use Rattle.sx_reach.specs.Reach.{Next, Ends}
 use Rattle.sx_mean.specs.Offsets as offsets

@@ -18,14 +18,14 @@ use Rattle.sx_invoke.specs.Pieces.{made_bytes}
 use Rattle.sx_invoke.specs.Progress.{Invoked, bytes_in, marks_in, pieces_in}
 use Rattle.sx_image.specs.Watched.{Watched, watch}
 use Rattle.sx_image.specs.Image.{call_at, public_bytes, setup_at}
-use Rattle.sx_ir.specs.Conf.{Conf, Halt}
+use Rattle.sx_ir.specs.Conf.{Conf}
 use Rattle.sx_ir.specs.Conf as conf
 use Rattle.sx_ir.specs.declared.ir.Code.{Code}
 use Rattle.sx_ir.specs.declared.ir.Ir.{Ir}
 use Rattle.sx_ir.specs.declared.ir.Ir.TheVariants as ir
 use Rattle.sx_ir.specs.Meaning.{no_count, Leaving, op_count, op_step, part_from, saved}
 use Rattle.sx_ir.specs.Sound.{is_sound}
-use Rattle.sx_tmpl.specs.Performs.{DoesCode, HasRoom, IsNarrow, IsRegular, LeftFrom, Never, Performs, ReturnsBehind, With, entry_conf}
+use Rattle.sx_tmpl.specs.Performs.{DoesCode, HasRoom, IsNarrow, IsRegular, LeftFrom, Never, Performs, With}
 use Rattle.sx_tmpl.specs.Performs as upper
 use Rattle.sx_tmpl.specs.Running.{Fixed, running, fixed_at, Safe}
 use Rattle.sx_tmpl.proofs.Running.MidRun.{Runs, Stands}

@@ -1,4 +1,4 @@
-use Rattle.std.proofs.Common.{◌≡◌, ◌∙◌, ℕ, ap, refl, subst, sym, Err}
+use Rattle.std.proofs.Common.{◌∙◌, ℕ, ap, refl, subst, sym, Err}
 use Rattle.sx_told.proofs.Laws.{ends-same, ends-out-of-memory, prefix-none}
 use Rattle.sx_deploy.specs.SeenDeployment.{deployed_as}
 use Rattle.sx_run.specs.Accepted.{setting}

@@ -1,4 +1,4 @@
-use Rattle.std.proofs.Common.{◌<◌, ◌≤◌, ◌+◌, List, length, map, take, ap, sym, subst, arith}
+use Rattle.std.proofs.Common.{List, length, map, take, sym, subst, arith}
 use Rattle.std.proofs.lemmas.List.{length-map}
 use Rattle.sx_deploy.specs.SeenDeployment.{deployed_as}
 use Rattle.sx_sched.specs.Lines.{Line}

@@ -2,7 +2,7 @@ use Rattle.std.proofs.Common.{◌≡◌, ◌++◌, ap, ◌∙◌}
 use Rattle.std.proofs.lemmas.Result.{on_ok_weaker}
 use Rattle.sx_lang.specs.View.{module_of}
 use Rattle.sx_stub.specs.Stub as stub
-use Rattle.sx_stub.specs.Stub.{entries, stub_code, stub_ops}
+use Rattle.sx_stub.specs.Stub.{entries, stub_code}
 use Rattle.sx_stub.proofs.protocol.put_stub.Goals as goal
 
 pub returns : goal.returns

@@ -1,4 +1,4 @@
-use Rattle.std.proofs.Common.{◌≡◌, ap, ◌∙◌, subst, IfOk, List}
+use Rattle.std.proofs.Common.{◌≡◌, subst, IfOk, List}
 use Rattle.sx_mean.specs.declared.apps.Link.{Link}
 use Rattle.sx_mean.specs.View.{app_as}
 use Rattle.sx_deploy.specs.Ends.{ends_held}
