@@ -31,7 +31,9 @@ use Rattle.sx_asm.specs.Assembled.{is_source, is_destination, has_form, formed, 
 use Rattle.sx_asm.specs.Shown.{hex, operand_text, source_size, target, shown, word_text}
 use Rattle.sx_asm.proofs.Forms.{source_test, destination_test, same_source, same_destination, same_value, and_both}
 use Rattle.sx_asm.proofs.ShownTokens.{IsToken, hex_token, op2_token, op1_token, jump_token, sancus_token}
-use Rattle.sx_asm.proofs.ShownOperands.{HasPlace, place_source, place_destination, operand_tokens, reads_token, reads_operand, reads_last, written_of, says_operand, parts_operand, is_plain, plain_operand, operand_back, extension_back, known_back, IsFine, all_append, fine_append, fine_token, fine_operand, parts_none, behind, grouped, further_word}
+use Rattle.sx_asm.proofs.ShownOperands.{HasPlace, place_source, place_destination, operand_tokens, reads_token, reads_operand, reads_last, written_of}
+use Rattle.sx_asm.proofs.ShownOperands.{says_operand, parts_operand, is_plain, plain_operand, operand_back, extension_back, known_back, IsFine, all_append}
+use Rattle.sx_asm.proofs.ShownOperands.{fine_append, fine_token, fine_operand, parts_none, behind, grouped, further_word}
 use Rattle.sx_asm.proofs.Parts.{read_in, reads_blank, reads_sign}
 
 -- One line with one item.

@@ -23,7 +23,22 @@ abbrev DigitFact : ℕ → Type 0
 DigitFact d = (is_word_byte (hex_digit d) ≡ true) × (digit_of 16 (hex_digit d) ≡ Some d)
 
 digit_fact : (d : ℕ) → d < 16 → DigitFact d
-digit_fact = each 16 DigitFact ((refl, refl), ((refl, refl), ((refl, refl), ((refl, refl), ((refl, refl), ((refl, refl), ((refl, refl), ((refl, refl), ((refl, refl), ((refl, refl), ((refl, refl), ((refl, refl), ((refl, refl), ((refl, refl), ((refl, refl), ((refl, refl), tt))))))))))))))))
+digit_fact = each 16 DigitFact (
+  (refl, refl),
+  (
+    (refl, refl),
+    (
+      (refl, refl),
+      (
+        (refl, refl),
+        (
+          (refl, refl),
+          ((refl, refl), ((refl, refl), ((refl, refl), ((refl, refl), ((refl, refl), ((refl, refl), ((refl, refl), ((refl, refl), ((refl, refl), ((refl, refl), ((refl, refl), tt))))))))))),
+        ),
+      ),
+    ),
+  ),
+)
 
 with_hex : (m d : ℕ) → d < 16 → m * 16 + d ≤ 65535 → with_digit 16 m (hex_digit d) ≡ Some (m * 16 + d)
 with_hex m d h k =
@@ -115,19 +130,47 @@ abbrev RegisterFact : ℕ → Type 0
 RegisterFact r = IsToken (Reg r) (register_name r)
 
 pub register_token : (r : ℕ) → r < 16 → RegisterFact r
-register_token = each 16 RegisterFact ((refl, refl, refl), ((refl, refl, refl), ((refl, refl, refl), ((refl, refl, refl), ((refl, refl, refl), ((refl, refl, refl), ((refl, refl, refl), ((refl, refl, refl), ((refl, refl, refl), ((refl, refl, refl), ((refl, refl, refl), ((refl, refl, refl), ((refl, refl, refl), ((refl, refl, refl), ((refl, refl, refl), ((refl, refl, refl), tt))))))))))))))))
+register_token = each 16 RegisterFact (
+  (refl, refl, refl),
+  (
+    (refl, refl, refl),
+    (
+      (refl, refl, refl),
+      (
+        (refl, refl, refl),
+        (
+          (refl, refl, refl),
+          (
+            (refl, refl, refl),
+            (
+              (refl, refl, refl),
+              (
+                (refl, refl, refl),
+                ((refl, refl, refl), ((refl, refl, refl), ((refl, refl, refl), ((refl, refl, refl), ((refl, refl, refl), ((refl, refl, refl), ((refl, refl, refl), ((refl, refl, refl), tt)))))))),
+              ),
+            ),
+          ),
+        ),
+      ),
+    ),
+  ),
+)
 
 abbrev JumpFact : ℕ → Type 0
 JumpFact c = IsToken (Jump c) (jump_name c)
 
 pub jump_token : (c : ℕ) → c < 8 → JumpFact c
-jump_token = each 8 JumpFact ((refl, refl, refl), ((refl, refl, refl), ((refl, refl, refl), ((refl, refl, refl), ((refl, refl, refl), ((refl, refl, refl), ((refl, refl, refl), ((refl, refl, refl), tt))))))))
+jump_token =
+    each 8 JumpFact ((refl, refl, refl), ((refl, refl, refl), ((refl, refl, refl), ((refl, refl, refl), ((refl, refl, refl), ((refl, refl, refl), ((refl, refl, refl), ((refl, refl, refl), tt))))))))
 
 abbrev SancusFact : ℕ → Type 0
 SancusFact c = c ≢ 3 → IsToken (Sancus c) (sancus_name c)
 
 pub sancus_token : (c : ℕ) → c < 8 → SancusFact c
-sancus_token = each 8 SancusFact (λ f. (refl, refl, refl), (λ f. (refl, refl, refl), (λ f. (refl, refl, refl), (λ f. (refl, refl, refl), (λ f. absurd (f refl), (λ f. (refl, refl, refl), (λ f. (refl, refl, refl), (λ f. (refl, refl, refl), tt))))))))
+sancus_token = each 8 SancusFact (
+  λ f. (refl, refl, refl),
+  (λ f. (refl, refl, refl), (λ f. (refl, refl, refl), (λ f. (refl, refl, refl), (λ f. absurd (f refl), (λ f. (refl, refl, refl), (λ f. (refl, refl, refl), (λ f. (refl, refl, refl), tt))))))),
+)
 
 pub op2_token : (op : Op2) (byte : Bool) → IsToken (Two op byte) (sized (op2_name op) byte)
 op2_token Mov true = (refl, refl, refl)

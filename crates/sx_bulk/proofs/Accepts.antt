@@ -2,7 +2,8 @@
 use Rattle.std.proofs.Common.{◌≡◌, codes, List, [], ◌∷◌, refl, sym, subst}
 use Rattle.std.specs.Prelude.{Ok, map}
 use Rattle.sx_check.specs.Names.{is_taken, has_taken, is_handled_twice}
-use Rattle.sx_check.specs.Rules.{breaks, breaks_duplicate, breaks_unknown, samples_blindly, emits_nowhere, breaks_kind, breaks_depth, breaks_locals, breaks_repeat, breaks_packets, breaks_cost, breaks_nodes, breaks_cells}
+use Rattle.sx_check.specs.Rules.{breaks, breaks_duplicate, breaks_unknown, samples_blindly, emits_nowhere, breaks_kind, breaks_depth, breaks_locals}
+use Rattle.sx_check.specs.Rules.{breaks_repeat, breaks_packets, breaks_cost, breaks_nodes, breaks_cells}
 use Rattle.sx_mean.specs.declared.apps.Link.{Link}
 use Rattle.sx_entries.specs.declared.entries.Start.TheVariants as start
 use Rattle.sx_deploy.specs.Sources.{Coded, AreCoded, none_left, each}

@@ -37,7 +37,8 @@ stops_budgets (i ∷ is) h =
     ap (λ b. b || list_any is_budget is) (stop_budget i both.0) ∙ stops_budgets is both.1
 
 -- `done` and a reset aren't
-last_budget : (n m : ℕ) (sec : Section) (setup : Setup) (result : Invoked) (before after : State) (seen : List Mark) (shown : Item) → Ending n m sec setup result before after seen shown → is_budget shown ≡ false
+last_budget : (n m : ℕ) (sec : Section) (setup : Setup) (result : Invoked) (before after : State) (seen : List Mark) (shown : Item)
+    → Ending n m sec setup result before after seen shown → is_budget shown ≡ false
 last_budget n m sec setup result before after seen shown (IsLeft last out mid is) = ap is_budget is
 last_budget n m sec setup result before after seen shown (IsBroken v p broken marks reset is) = ap is_budget is
 

@@ -121,7 +121,8 @@ module _ (set : Setting) (w : World) (c : Callee) (sound : IsSoundSetting set) (
   is_module : IsModule c.part.node c.site c.node c.section
   is_module = record {
     lives = h.stands.lives;
-    here = ap (λ n. is_at_site n c.node.mem c.section c.site) (sym dep.node) ∙ own_site c.site c.node.mem c.section h.stands.layout h.stands.provider (ap (λ (l : Layout). public_bytes l c.node.mem) h.stands.layout ∙ h.stands.text);
+    here = ap (λ n. is_at_site n c.node.mem c.section c.site) (sym dep.node) ∙ own_site c.site c.node.mem c.section h.stands.layout h.stands.provider
+        (ap (λ (l : Layout). public_bytes l c.node.mem) h.stands.layout ∙ h.stands.text);
   }
 
   emits : (e : SourceEvent) (cells : List ℕ) → Emits set.app c.site.node c.part (setup_of set c) c.node.devices (react c.part.tree e cells).acts

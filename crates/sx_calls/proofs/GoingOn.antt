@@ -38,7 +38,8 @@ mark_goes_on app n m boot (Unwrapped header body own) ledger =
     either (is_set_key_header header && has_end app m (link_in header) (side_in header)) _ _
     (made_goes_on (Some m) (is_made ledger (made_entry maker.Deployer m boot header body)) (item.Open m (link_in header) (side_in header) (epoch_in header)) refl)
     (either (is_event_header header && has_end app m (link_in header) To) _ _
-    (made_goes_on (Some m) (is_made ledger (made_entry (maker.Module (sender_of app (link_in header))) NO_TARGET 0 header body)) (item.Take m (link_in header) (65536 * epoch_in header + last_in header) (value_in body)) refl) refl)
+    (made_goes_on (Some m) (is_made ledger (made_entry (maker.Module (sender_of app (link_in header))) NO_TARGET 0 header body))
+    (item.Take m (link_in header) (65536 * epoch_in header + last_in header) (value_in body)) refl) refl)
 mark_goes_on app n m boot (Sampled k v) ledger = go (is_driver app (Some m) (device_number app n k))
   where
     go : (b : Bool) → GoesOn ((if b then item.Read (number_of (Some m)) v else item.Drain (device_number app n k)) ∷ [])

@@ -30,7 +30,8 @@ pub record Middle (sec : Section) (before s : State) (seen : List Mark) : Type 0
 pub first_middle : (sec : Section) (before : State) → IsNode before → Middle sec before before []
 first_middle sec before node = record { node = node; boot = refl; key = refl; sections = refl; devices = refl; texts = λ x l. refl; others = λ x l ne. refl }
 
-module _ (mac : Mac) (sec : Section) (before s : State) (seen : List Mark) (h : Middle sec before s seen) (own : own_of s ≡ sec.id) (quiet : violation_of (step mac s).shown.event ≡ None) (same : (step mac s).state.sections ≡ before.sections) where
+module _ (mac : Mac) (sec : Section) (before s : State) (seen : List Mark) (h : Middle sec before s seen) (own : own_of s ≡ sec.id)
+    (quiet : violation_of (step mac s).shown.event ≡ None) (same : (step mac s).state.sections ≡ before.sections) where
   abbrev t : State
   t = (step mac s).state
 

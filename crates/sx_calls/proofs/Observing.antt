@@ -41,7 +41,8 @@ same_marks app n m boot (mark ∷ ms) ledger =
 
 -- marks after marks
 pub observed_append : (app : AppTree) (n m boot : ℕ) (xs ys : List Mark) (ledger : List Made)
-    → marks_observed app n m boot (xs ++ ys) ledger ≡ (let o = marks_observed app n m boot xs ledger in let r = marks_observed app n m boot ys o.ledger in record { items = o.items ++ r.items; ledger = r.ledger })
+    → marks_observed app n m boot (xs ++ ys) ledger ≡ (let o = marks_observed app n m boot xs ledger in let r = marks_observed app n m boot ys o.ledger in
+    record { items = o.items ++ r.items; ledger = r.ledger })
 observed_append app n m boot [] ys ledger = refl
 observed_append app n m boot (mark ∷ xs) ys ledger =
     let o = mark_observed app n m boot mark ledger in
@@ -52,7 +53,8 @@ observed_append app n m boot (mark ∷ xs) ys ledger =
 
 -- a step's
 pub step_observed : (set : Setting) (n m : ℕ) (s : State) (seen : Seen) (ledger : List Made) → IsPlain seen.event
-    → observed set n (Some m) s seen ledger ≡ (let o = marks_observed set.app n m s.boot (marks_of seen s.exchange) ledger in record { items = o.items ++ done_items m s seen.event; ledger = o.ledger })
+    → observed set n (Some m) s seen ledger ≡ (let o = marks_observed set.app n m s.boot (marks_of seen s.exchange) ledger in
+    record { items = o.items ++ done_items m s seen.event; ledger = o.ledger })
 step_observed set n m s seen ledger p =
     seen_as_marks set n m s seen ledger p
     ∙ ap (λ (o : Observed). record { items = o.items ++ done_items m s seen.event; ledger = o.ledger }) (same_marks set.app n m s.boot (marks_of seen s.exchange) ledger)

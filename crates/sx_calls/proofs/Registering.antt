@@ -29,7 +29,8 @@ with_registers s [] = s
 with_registers s (r ∷ rs) = with_registers (with_register s r) rs
 
 -- nothing refuses it
-accepted : (s : State) (r : Register) (w : World) (n : ℕ) → s.cur ≡ 0 → done_on w n [] (set_register s r.number r.value) ≡ record { world = with_node w n (with_register s r) w.ledger w.steps; items = [] }
+accepted : (s : State) (r : Register) (w : World) (n : ℕ) → s.cur ≡ 0
+    → done_on w n [] (set_register s r.number r.value) ≡ record { world = with_node w n (with_register s r) w.ledger w.steps; items = [] }
 accepted s r w n idle =
     ap (λ (b : Bool). done_on w n [] (unless (if b then None else Some Busy) s (record { state = with_register s r; shown = tt }))) (eq-eqb s.cur 0 idle)
 
@@ -74,7 +75,8 @@ called_asks c e input output size =
     let l2 : length r2 ≡ 16 = length-set r1 13 input ∙ l1 in
     let l3 : length r3 ≡ 16 = length-set r2 14 output ∙ l2 in
     let first : slice_index (slice_set r4 0 pc) 12 ≡ e =
-    get_else r4 0 12 pc (λ h. omega (arith, h)) ∙ get_else r3 15 12 0 (λ h. omega (arith, h)) ∙ get_else r2 14 12 output (λ h. omega (arith, h)) ∙ get_else r1 13 12 input (λ h. omega (arith, h)) ∙ get_there c.node.regs 12 e (omega (arith, size)) in
+    get_else r4 0 12 pc (λ h. omega (arith, h)) ∙ get_else r3 15 12 0 (λ h. omega (arith, h)) ∙ get_else r2 14 12 output (λ h. omega (arith, h))
+    ∙ get_else r1 13 12 input (λ h. omega (arith, h)) ∙ get_there c.node.regs 12 e (omega (arith, size)) in
     let second : slice_index (slice_set r4 0 pc) 13 ≡ input =
     get_else r4 0 13 pc (λ h. omega (arith, h)) ∙ get_else r3 15 13 0 (λ h. omega (arith, h)) ∙ get_else r2 14 13 output (λ h. omega (arith, h)) ∙ get_there r1 13 input (omega (arith, l1)) in
     let third : slice_index (slice_set r4 0 pc) 14 ≡ output =
@@ -99,7 +101,8 @@ called_enters c e input output size even =
     get_there r4 0 (c.site.layout.pub_from - c.site.layout.pub_from % 2) (omega (arith, l4)) ∙ omega (arith, even)
 
 -- it is a node
-pub called_is_node : (c : Callee) (e input output : ℕ) → e < 65536 → input < 65536 → output < 65536 → c.site.layout.pub_from < 65536 → c.node.cur ≡ 0 → IsNode c.node → IsNode (called c (asked e input output))
+pub called_is_node : (c : Callee) (e input output : ℕ) → e < 65536 → input < 65536 → output < 65536 → c.site.layout.pub_from < 65536 → c.node.cur ≡ 0
+    → IsNode c.node → IsNode (called c (asked e input output))
 called_is_node c e input output el il ol pl idle h =
     let h1 = set_is_node c.node 12 e el idle h in
     let s1 = with_register c.node (record { number = 12; value = e }) in

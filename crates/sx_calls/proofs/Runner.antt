@@ -29,14 +29,17 @@ layout_self l =
     (and_from (l.priv_from == l.priv_from) (l.priv_to == l.priv_to) (eq-eqb l.priv_from l.priv_from refl) (eq-eqb l.priv_to l.priv_to refl)))
 
 -- the section is at its site
-pub own_site : (site : Site) (mem : List ℕ) (sec : Section) → sec.layout ≡ site.layout → sec.provider ≡ site.provider → public_bytes sec.layout mem ≡ site.text → is_at_site site.node mem sec site ≡ true
+pub own_site : (site : Site) (mem : List ℕ) (sec : Section) → sec.layout ≡ site.layout → sec.provider ≡ site.provider → public_bytes sec.layout mem ≡ site.text
+    → is_at_site site.node mem sec site ≡ true
 own_site site mem sec layout provider text =
     and_from (site.node == site.node) _ (eq-eqb site.node site.node refl)
     (and_from (same_layout sec.layout site.layout) _ (ap (λ l. same_layout sec.layout l) (sym layout) ∙ layout_self sec.layout)
-    (and_from (sec.provider == site.provider) (bytes_eq (public_bytes sec.layout mem) site.text) (eq-eqb sec.provider site.provider provider) ((bytes_eq-Decides (public_bytes sec.layout mem) site.text).1 text)))
+    (and_from (sec.provider == site.provider) (bytes_eq (public_bytes sec.layout mem) site.text) (eq-eqb sec.provider site.provider provider)
+    ((bytes_eq-Decides (public_bytes sec.layout mem) site.text).1 text)))
 
 -- the first that passes a test is the only one
-first_is : {X : Type 0} → (test : X → Bool) (xs : List X) (m : ℕ) (x : X) → slice_get xs m ≡ Some x → test x ≡ true → ((k : ℕ) (y : X) → slice_get xs k ≡ Some y → test y ≡ true → k ≡ m) → position_from test 0 xs ≡ Some m
+first_is : {X : Type 0} → (test : X → Bool) (xs : List X) (m : ℕ) (x : X) → slice_get xs m ≡ Some x → test x ≡ true
+    → ((k : ℕ) (y : X) → slice_get xs k ≡ Some y → test y ≡ true → k ≡ m) → position_from test 0 xs ≡ Some m
 first_is test xs m x here is one = by_place (position_from test 0 xs) refl
   where
     by_place : (o : Option ℕ) → position_from test 0 xs ≡ o → position_from test 0 xs ≡ Some m

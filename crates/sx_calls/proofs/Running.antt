@@ -154,7 +154,8 @@ module _ (set : Setting) (sound : IsSoundSetting set) (m : ℕ) (q : PartTree) (
   IsComing = Comes Watched Violation (watch set.mac) (λ w. 1) (Underway setup result before) (Aborted result) (Exited setup result before)
 
   -- what a step of the module does in a world
-  after_as : (u : World) (s : State) (seen : List Mark) → Middle sec before s seen → own_of s ≡ sec.id → violation_of (step set.mac s).shown.event ≡ None → (step set.mac s).state.sections ≡ before.sections
+  after_as : (u : World) (s : State) (seen : List Mark) → Middle sec before s seen → own_of s ≡ sec.id → violation_of (step set.mac s).shown.event ≡ None
+      → (step set.mac s).state.sections ≡ before.sections
       → after_step set u n s
       ≡ (let r = step set.mac s in let o = marks_observed set.app n m before.boot (marks_of r.shown r.state.exchange) u.ledger in
       record { world = with_node u n r.state o.ledger (u.steps + 1); items = o.items ++ done_items m r.state r.shown.event })
@@ -192,7 +193,8 @@ module _ (set : Setting) (sound : IsSoundSetting set) (m : ℕ) (q : PartTree) (
       → IsComing bound (record { node = s; marks = seen; event = last }) → (Exited setup result before (record { node = s; marks = seen; event = last }) → ⊥) → Ended fuel bound u seen
 
   -- the last step, with which the module leaves
-  run_out : (f bound : ℕ) (u : World) (s : State) (seen : List Mark) → 1 ≤ bound → slice_get u.nodes n ≡ Some s → Middle sec before s seen → own_of s ≡ sec.id → violation_of (step set.mac s).shown.event ≡ None
+  run_out : (f bound : ℕ) (u : World) (s : State) (seen : List Mark) → 1 ≤ bound → slice_get u.nodes n ≡ Some s → Middle sec before s seen → own_of s ≡ sec.id
+      → violation_of (step set.mac s).shown.event ≡ None
       → Exited setup result before (watched_next set.mac s seen) → Ended (suc f) bound u seen
   run_out f bound u s seen le here h own quiet out =
       let r = step set.mac s in
@@ -271,7 +273,8 @@ module _ (set : Setting) (sound : IsSoundSetting set) (m : ℕ) (q : PartTree) (
             ∙ ap (λ x. record { world = x; items = o.items ++ (last.items ++ done) }) (node_twice u n t e.after o.ledger last.ledger (u.steps + 1) (u.steps + 1 + e.steps))
             ∙ ap (λ j. record { world = with_node u n e.after last.ledger j; items = o.items ++ (last.items ++ done) }) (omega arith)
             ∙ ap (λ is. record { world = with_node u n e.after last.ledger (u.steps + (1 + e.steps)); items = is }) (sym (append_assoc o.items last.items done))
-            ∙ ap (λ (a : Observed). record { world = with_node u n e.after a.ledger (u.steps + (1 + e.steps)); items = a.items ++ done }) (sym (observed_append set.app n m before.boot ms e.rest u.ledger));
+            ∙ ap (λ (a : Observed). record { world = with_node u n e.after a.ledger (u.steps + (1 + e.steps)); items = a.items ++ done })
+            (sym (observed_append set.app n m before.boot ms e.rest u.ledger));
       }
 
   -- one more step
@@ -282,7 +285,8 @@ module _ (set : Setting) (sound : IsSoundSetting set) (m : ℕ) (q : PartTree) (
   run_step f bound k u s seen ih fuel le here h own quiet comes (IsEnd v under stops c a) = run_on f bound k u s seen ih fuel le here h own quiet under.inside under.sections comes
 
   run_case : (f bound : ℕ) (u : World) (s : State) (seen : List Mark) (last : Event) → Runs f → bound ≤ suc f → slice_get u.nodes n ≡ Some s → Middle sec before s seen
-      → (Exited setup result before (record { node = s; marks = seen; event = last }) → ⊥) → Case setup result before bound (record { node = s; marks = seen; event = last }) → Ended (suc f) bound u seen
+      → (Exited setup result before (record { node = s; marks = seen; event = last }) → ⊥)
+      → Case setup result before bound (record { node = s; marks = seen; event = last }) → Ended (suc f) bound u seen
   run_case f bound u s seen last ih fuel here h runs (IsOut out) = absurd (runs out)
   run_case f bound u s seen last ih fuel here h runs (IsOn k t under goes c comes) =
       let inv = watch_goes_on set.mac (record { node = s; marks = seen; event = last }) t goes in

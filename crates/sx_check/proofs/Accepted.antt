@@ -12,7 +12,8 @@ use Rattle.sx_check.specs.declared.rules.Rule.TheVariants as rule
 use Rattle.sx_check.specs.Names.{declares, has_taken, is_actuator, is_declared, is_device, is_handled_twice, is_repeated, is_sample, is_sensor, is_taken, locals, same, same_input}
 use Rattle.sx_check.specs.Uses.{Use, used, declares_as, handler_uses, handlers_uses, is_local, is_misused, is_seen, is_unknown}
 use Rattle.sx_check.specs.Bounds.{block_counts, block_emits, block_sends, is_input, is_misfit, is_miscounted, is_output}
-use Rattle.sx_check.specs.Rules.{breaks, breaks_cells, breaks_cost, breaks_depth, breaks_duplicate, breaks_kind, breaks_locals, breaks_nodes, breaks_packets, breaks_repeat, breaks_unknown, emits_nowhere, first_broken, is_too_deep, samples_blindly}
+use Rattle.sx_check.specs.Rules.{breaks, breaks_cells, breaks_cost, breaks_depth, breaks_duplicate, breaks_kind, breaks_locals, breaks_nodes, breaks_packets}
+use Rattle.sx_check.specs.Rules.{breaks_repeat, breaks_unknown, emits_nowhere, first_broken, is_too_deep, samples_blindly}
 use Rattle.sx_check.specs.Accepted.{HasLength, IsAcceptedModule, IsCount, IsFine, IsProper}
 use Rattle.sx_check.proofs.Keeps.{In, both_false, keeps, none_is, uses_in}
 use Rattle.sx_check.proofs.Distinct.{all_not, apart, none_counted, pairs_weaker, same-refl, same-true, same_input-refl}
@@ -20,7 +21,8 @@ use Rattle.sx_check.proofs.Distinct.{all_not, apart, none_counted, pairs_weaker,
 -- Declarations
 
 -- the name is this declaration's, or one further on is declared
-this_or : (all : List Decl) (x y : List ℕ) → nat_lt 1 (count_by (declares y) all) ≡ false → (later : Bool) → (same x y || later) ≡ true → (later ≡ true → count_by (declares x) all ≤ 1) → count_by (declares x) all ≤ 1
+this_or : (all : List Decl) (x y : List ℕ) → nat_lt 1 (count_by (declares y) all) ≡ false → (later : Bool) → (same x y || later) ≡ true
+    → (later ≡ true → count_by (declares x) all ≤ 1) → count_by (declares x) all ≤ 1
 this_or all x y n later h more = go (same x y) refl h
   where
     go : (t : Bool) → same x y ≡ t → (t || later) ≡ true → count_by (declares x) all ≤ 1
@@ -110,7 +112,8 @@ driven false false n e = absurd (cc)
 untaken : (ds : List Decl) (h : HandlerTree) → has_taken ds h ≡ false → All (λ x. (is_declared ds x ≡ false) × (count_by (same x) (locals h) ≤ 1)) (locals h)
 unfolding has_taken is_taken
 untaken ds h n = All-weaker (λ x. is_taken ds h x ≡ false) (λ x. (is_declared ds x ≡ false) × (count_by (same x) (locals h) ≤ 1))
-    (λ x e. (let b = both_false (is_declared ds x) (nat_lt 1 (count_by (same x) (locals h))) e in (b.0, ltb-false 1 (count_by (same x) (locals h)) b.1))) (locals h) (all_not (is_taken ds h) (locals h) n)
+    (λ x e. (let b = both_false (is_declared ds x) (nat_lt 1 (count_by (same x) (locals h))) e in (b.0, ltb-false 1 (count_by (same x) (locals h)) b.1)))
+    (locals h) (all_not (is_taken ds h) (locals h) n)
 
 differ : (r : List ℕ → List ℕ → Bool) (own : (x : List ℕ) → r x x ≡ true) (x y : List ℕ) → r x y ≡ false → x ≢ y
 differ r own x y n e = clash (r x y) (subst (λ z. r x z ≡ true) e (own x)) n
@@ -130,7 +133,8 @@ handled_once : (hs : List HandlerTree) → list_any (is_handled_twice hs) hs ≡
 unfolding is_handled_twice
 handled_once hs n =
     pairs_weaker (λ (g h : HandlerTree). same_input g.input h.input ≡ false) (λ (g h : HandlerTree). g.input ≢ h.input) handled_apart hs
-    (apart (λ (g h : HandlerTree). same_input g.input h.input) (λ h. same_input-refl h.input) hs (All-weaker (λ (h : HandlerTree). is_handled_twice hs h ≡ false) (λ (h : HandlerTree). count_by (λ (g : HandlerTree). same_input h.input g.input) hs ≤ 1)
+    (apart (λ (g h : HandlerTree). same_input g.input h.input) (λ h. same_input-refl h.input) hs (All-weaker (λ (h : HandlerTree). is_handled_twice hs h
+    ≡ false) (λ (h : HandlerTree). count_by (λ (g : HandlerTree). same_input h.input g.input) hs ≤ 1)
     (λ h e. ltb-false 1 (count_by (λ (g : HandlerTree). same_input h.input g.input) hs) e) hs (all_not (is_handled_twice hs) hs n)))
 
 module _ (m : ModuleTree) (checked : first_broken m ≡ None) where
@@ -190,11 +194,13 @@ module _ (m : ModuleTree) (checked : first_broken m ≡ None) where
       record {
         proper = proper m.decls (handler_uses h) (uses_in (is_unknown m.decls) h m.handlers i unknown) (uses_in (is_misused m.decls) h m.handlers i (both_false _ _ misused).0);
         few_locals = ltb-false 16 _ (none_is (λ h. nat_lt 16 (length (locals h))) h m.handlers i crowded);
-        distinct = pairs_weaker (λ x y. same x y ≡ false) (λ x y. x ≢ y) (differ same same-refl) (locals h) (apart same same-refl (locals h) (All-weaker free_of (λ x. count_by (same x) (locals h) ≤ 1) (λ x p. p.1) (locals h) free));
+        distinct = pairs_weaker (λ x y. same x y ≡ false) (λ x y. x ≢ y) (differ same same-refl) (locals h)
+            (apart same same-refl (locals h) (All-weaker free_of (λ x. count_by (same x) (locals h) ≤ 1) (λ x p. p.1) (locals h) free));
         undeclared = All-weaker free_of (λ x. is_declared m.decls x ≡ false) (λ x p. p.0) (locals h) free;
         height = ltb-false 32 _ low.0;
         depth = ltb-false 15 _ low.1;
-        counts = All-weaker (λ n. is_miscounted n ≡ false) IsCount (λ n e. in_bounds n 256 e) (block_counts h.body) (all_not is_miscounted (block_counts h.body) (none_is (λ h. list_any is_miscounted (block_counts h.body)) h m.handlers i turns));
+        counts = All-weaker (λ n. is_miscounted n ≡ false) IsCount (λ n e. in_bounds n 256 e) (block_counts h.body)
+            (all_not is_miscounted (block_counts h.body) (none_is (λ h. list_any is_miscounted (block_counts h.body)) h m.handlers i turns));
         sends = ltb-false 16 _ (none_is (λ h. nat_lt 16 (block_sends h.body)) h m.handlers i sending);
         samples = λ e. driven _ _ blind (some_is is_sample h m.handlers i (ap (λ x. same_input None x) e));
         emits = λ e. driven _ _ nowhere (some_is (λ h. block_emits h.body) h m.handlers i e);

@@ -16,7 +16,8 @@ definitions-push (x ∷ xs) s =
     ap (λ d. defined (statement_of x) ++ d) (definitions-push xs s)
     ∙ sym (append_assoc (defined (statement_of x)) (definitions (block_of xs)) (defined (statement_of s)))
 
-seen_next : (seen : List (List ℕ)) (items : List Stmt) (i : ℕ) (s : Stmt) → i < length items → s ≡ get_or items i s → seen ++ definitions (block_of (take (i + 1) items)) ≡ (seen ++ definitions (block_of (take i items))) ++ defined (statement_of s)
+seen_next : (seen : List (List ℕ)) (items : List Stmt) (i : ℕ) (s : Stmt) → i < length items → s ≡ get_or items i s
+    → seen ++ definitions (block_of (take (i + 1) items)) ≡ (seen ++ definitions (block_of (take i items))) ++ defined (statement_of s)
 seen_next seen items i s h e =
     ap (λ xs. seen ++ definitions (block_of xs)) (take_more items i s h ∙ ap (λ x. take i items ++ x ∷ []) (sym e))
     ∙ ap (λ d. seen ++ d) (definitions-push (take i items) s)

@@ -49,7 +49,8 @@ AreReadings d (r ∷ rs) = IsReading d r × AreReadings d rs
 pub reading_by : (d : Deployed) (set : Setting) (P : Honest → Driven → Type 0) → Ways d.names set P → AreThere d.names set → (r : Reading) (h : Honest) → IsReading d r → P h (reads set r h)
 reading_by d set P w there r h is = reads_by d.names set P w there r h is.sensor.there is.sensor.sensor is.value
 
-pub readings_by : (d : Deployed) (set : Setting) (P : Honest → Driven → Type 0) → Ways d.names set P → AreThere d.names set → (rs : List Reading) (h : Honest) → AreReadings d rs → P h (each (reads set) rs h)
+pub readings_by : (d : Deployed) (set : Setting) (P : Honest → Driven → Type 0) → Ways d.names set P → AreThere d.names set → (rs : List Reading) (h : Honest)
+    → AreReadings d rs → P h (each (reads set) rs h)
 readings_by d set P w there [] h are = w.moved h h refl refl
 readings_by d set P w there (r ∷ rs) h are =
     let one = reads set r h in

@@ -41,7 +41,8 @@ run_append set [] ys w = refl
 run_append set (x ∷ xs) ys w =
     let a = after_line set (line_counted w) x in
     ap (λ (r : Acted). record { world = r.world; items = a.items ++ r.items }) (run_append set xs ys a.world)
-    ∙ ap (λ (is : List Item). record { world = (run set (run set a.world xs).world ys).world; items = is }) (sym (append_assoc a.items (run set a.world xs).items (run set (run set a.world xs).world ys).items))
+    ∙ ap (λ (is : List Item). record { world = (run set (run set a.world xs).world ys).world; items = is })
+    (sym (append_assoc a.items (run set a.world xs).items (run set (run set a.world xs).world ys).items))
 
 -- the lines that were said lead there, and show these items
 pub record Ran (set : Setting) (h : Honest) (a : Driven) : Type 0 where

@@ -55,7 +55,8 @@ drives_with mac tag deployment texts bytes realize = record {
   delivered = λ d deploys readings uncut. delivered_by mac deployment texts d tag deploys (realize d deploys) bytes readings uncut;
 }
 
-pub drive_says : {tells to_tell : Bool} {m0 m1 : CommandAt} {status : ℕ} (mac : Mac) → IsTag mac → DeployTold mac (drive_deployed mac) tells to_tell m0 m1 status → DriveSays mac tells to_tell m0 m1 status
+pub drive_says : {tells to_tell : Bool} {m0 m1 : CommandAt} {status : ℕ} (mac : Mac) → IsTag mac
+    → DeployTold mac (drive_deployed mac) tells to_tell m0 m1 status → DriveSays mac tells to_tell m0 m1 status
 drive_says {tells} {to_tell} {m0} {m1} {status} mac tag told =
     deploy_says {tells = tells} {to_tell = to_tell} {m0 = m0} {m1 = m1} {status = status} mac (drive_part mac) (drive_owes mac)
     (λ deployment texts bytes realize. drives_with mac tag deployment texts bytes realize) told

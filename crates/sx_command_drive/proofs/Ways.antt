@@ -8,7 +8,9 @@ use Rattle.sx_mean.specs.Validity.{same_device}
 use Rattle.sx_trace.specs.Names.{NameLists}
 use Rattle.sx_sched.specs.Lines.{Line, Take, Give, Sense, Ask, Answer, Load, Call}
 use Rattle.sx_run.specs.Setting.{Setting}
-use Rattle.sx_drive.specs.Honest.{Callee, Driven, Honest, Reading, IN_WINDOW, OUT_WINDOW, MOST_LINES, still, then_, each, says, packets_of, made_by, callee_at, if_there, calls, hands, queues, takes_one, takes, collects, answers, asks, opens, sets_up, sets_up_from, setup, target_of, receiver_of, receives, delivers, with_waiting, oldest, settles, driver_of, samples, reads}
+use Rattle.sx_drive.specs.Honest.{Callee, Driven, Honest, Reading, IN_WINDOW, OUT_WINDOW, MOST_LINES, still, then_, each, says, packets_of, made_by, callee_at}
+use Rattle.sx_drive.specs.Honest.{if_there, calls, hands, queues, takes_one, takes, collects, answers, asks, opens, sets_up, sets_up_from, setup, target_of}
+use Rattle.sx_drive.specs.Honest.{receiver_of, receives, delivers, with_waiting, oldest, settles, driver_of, samples, reads}
 use Rattle.sx_command_drive.specs.Parts.{IsNamed}
 
 -- the module is one of those that have names, and so is its node
@@ -144,4 +146,5 @@ module _ (names : NameLists) (set : Setting) (P : Honest → Driven → Type 0) 
       let sample = λ (g : Honest). if_there (samples set) (driver_of set.app r.device) g in
       let sampled = sample sensed.honest in
       w.joined h sensed (λ g. then_ (sample g) (settles set MOST_LINES)) (w.said line h (device, sensor, value))
-      (w.joined sensed.honest sampled (settles set MOST_LINES) (there_by (samples set) (driver_of set.app r.device) (driver_there r.device) samples_by sensed.honest) (settles_by MOST_LINES sampled.honest))
+      (w.joined sensed.honest sampled (settles set MOST_LINES)
+      (there_by (samples set) (driver_of set.app r.device) (driver_there r.device) samples_by sensed.honest) (settles_by MOST_LINES sampled.honest))

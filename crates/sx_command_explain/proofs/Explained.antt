@@ -77,7 +77,8 @@ module _ (app : AppTree) (last : Output) where
   some_of_is : (o : Option Model) (s : Model) → o ≡ Some s → IsSome o
   some_of_is o s e = subst (λ o. IsSome o) (sym e) refl
 
-  illegal_told : (front seen : List Item) (i : Item) (rest : List Item) (s : Model) → list_any is_forged (front ++ seen) ≡ false → after app (power_on app) (front ++ seen) ≡ Some s → step app s i ≡ None
+  illegal_told : (front seen : List Item) (i : Item) (rest : List Item) (s : Model) → list_any is_forged (front ++ seen) ≡ false
+      → after app (power_on app) (front ++ seen) ≡ Some s → step app s i ≡ None
       → told_items app front (seen ++ i ∷ rest) last ≡ behind (causes_text app front seen) (illegal_output (length (front ++ seen) + 1))
   illegal_told front [] i rest s f ran refused =
       let whole : front ++ [] ≡ front = append-nil front in

@@ -101,9 +101,11 @@ longer_end text begun (b ∷ bs) t h =
     at_byte (b == newline) (length begun == longest) h (longer_end (text ++ without_return begun ++ newline ∷ []) [] bs t) (longer_end text (begun ++ b ∷ []) bs t)
   where
     at_mark : (m k : Bool)
-        → (if m then Found text (scan head_lines Ended [] bs) else if k then TooLong else head_behind (text ++ (without_return begun) ++ newline ∷ []) (scan head_lines Ended [] bs)) ≡ Found t (End ∷ [])
+        → (if m then Found text (scan head_lines Ended [] bs) else if k then TooLong else
+        head_behind (text ++ (without_return begun) ++ newline ∷ []) (scan head_lines Ended [] bs)) ≡ Found t (End ∷ [])
         → (Ends (text ++ (without_return begun) ++ newline ∷ []) [] head_lines bs t → Ends (text ++ (without_return begun) ++ newline ∷ []) [] explain_lines bs t)
-        → (if m then Found text (scan (lines_by m) Ended [] bs) else if k then TooLong else head_behind (text ++ (without_return begun) ++ newline ∷ []) (scan (lines_by m) Ended [] bs)) ≡ Found t (End ∷ [])
+        → (if m then Found text (scan (lines_by m) Ended [] bs) else if k then TooLong else
+        head_behind (text ++ (without_return begun) ++ newline ∷ []) (scan (lines_by m) Ended [] bs)) ≡ Found t (End ∷ [])
     at_mark true k h rest =
         let none : bs ≡ [] = (only_end [] bs [] (found_more text t _ _ h)).1 in
         ap (λ (v : List ℕ). Found text (scan image_lines Ended [] v)) none ∙ ap (λ (v : List ℕ). Found v (End ∷ [])) (found_text text t _ _ h)
@@ -114,7 +116,8 @@ longer_end text begun (b ∷ bs) t h =
         → head_behind text (if p then Line (without_return begun) ∷ scan head_lines Ended [] bs else if q then Long ∷ [] else scan head_lines Ended (begun ++ b ∷ []) bs) ≡ Found t (End ∷ [])
         → (Ends (text ++ (without_return begun) ++ newline ∷ []) [] head_lines bs t → Ends (text ++ (without_return begun) ++ newline ∷ []) [] explain_lines bs t)
         → (Ends text (begun ++ b ∷ []) head_lines bs t → Ends text (begun ++ b ∷ []) explain_lines bs t)
-        → head_behind text (if p then Line (without_return begun) ∷ scan (lines_by (is_mark (without_return begun))) Ended [] bs else if q then Long ∷ [] else scan explain_lines Ended (begun ++ b ∷ []) bs) ≡ Found t (End ∷ [])
+        → head_behind text (if p then Line (without_return begun) ∷ scan (lines_by (is_mark (without_return begun))) Ended [] bs else if q then Long ∷ [] else
+        scan explain_lines Ended (begun ++ b ∷ []) bs) ≡ Found t (End ∷ [])
     at_byte true q h next rest = at_mark (is_mark (without_return begun)) (nat_lt most_bytes (length text + length (without_return begun) + 1)) h next
     at_byte false true h next rest = absurd (cc h)
     at_byte false false h next rest = rest h
@@ -147,14 +150,16 @@ longer_none text begun (b ∷ bs) e o n h =
     at_byte : (p q : Bool) → head_behind text (if p then Line (without_return begun) ∷ scan head_lines e [] bs else if q then Long ∷ [] else scan head_lines e (begun ++ b ∷ []) bs) ≡ o
         → (head_behind (text ++ (without_return begun) ++ newline ∷ []) (scan head_lines e [] bs) ≡ o → head_behind (text ++ (without_return begun) ++ newline ∷ []) (scan explain_lines e [] bs) ≡ o)
         → (head_behind text (scan head_lines e (begun ++ b ∷ []) bs) ≡ o → head_behind text (scan explain_lines e (begun ++ b ∷ []) bs) ≡ o)
-        → head_behind text (if p then Line (without_return begun) ∷ scan (lines_by (is_mark (without_return begun))) e [] bs else if q then Long ∷ [] else scan explain_lines e (begun ++ b ∷ []) bs) ≡ o
+        → head_behind text (if p then Line (without_return begun) ∷ scan (lines_by (is_mark (without_return begun))) e [] bs else if q then Long ∷ [] else
+        scan explain_lines e (begun ++ b ∷ []) bs) ≡ o
     at_byte true q h next rest = at_mark (is_mark (without_return begun)) (nat_lt most_bytes (length text + length (without_return begun) + 1)) h next
     at_byte false true h next rest = h
     at_byte false false h next rest = rest h
 
 -- ---- a head that was read, with longer lines behind it
 
-follows_longer : (s : ReaderState) (lines text : List ℕ) → Follows s head_lines head_lines lines head (λ more. Found text more) → Follows s explain_lines image_lines lines head (λ more. Found text more)
+follows_longer : (s : ReaderState) (lines text : List ℕ) → Follows s head_lines head_lines lines head (λ more. Found text more)
+    → Follows s explain_lines image_lines lines head (λ more. Found text more)
 follows_longer reader.Open lines text w = longer_behind [] [] lines text w
 follows_longer reader.AtEnd lines text w = longer_end [] [] lines text w
 follows_longer reader.TooLong lines text w = w

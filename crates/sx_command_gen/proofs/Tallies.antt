@@ -53,7 +53,8 @@ left_by n set before w x = told_at n (record { world = (run set w x.lines).world
 abbrev pub left_of : ℕ → NameLists → Setting → List Item → World → ℕ → List Answer → Output
 left_of n names set before w number answers = left_by n set before w (schedule assembled names number answers)
 
-left_line : (n : ℕ) (names : NameLists) (set : Setting) (before : List Item) (w : World) (number : ℕ) (text : List ℕ) (line : Line) (more : List Answer) → judged_line assembled names number text ≡ Ok line
+left_line : (n : ℕ) (names : NameLists) (set : Setting) (before : List Item) (w : World) (number : ℕ) (text : List ℕ) (line : Line) (more : List Answer)
+    → judged_line assembled names number text ≡ Ok line
     → left_of n names set before w number (answer.Line text ∷ more) ≡ left_of n names set (before ++ (after_next set w line).items) (after_next set w line).world (number + 1) more
 left_line n names set before w number text line more e =
     let rest = schedule assembled names (number + 1) more in

@@ -52,7 +52,8 @@ written_line names set w line rest =
 
 -- a line's items are written, and then those of the rest
 pub run_line : (names : NameLists) (set : Setting) (w : World) (number : ℕ) (text : List ℕ) (line : Line) (more : List Answer) → judged_line assembled names number text ≡ Ok line
-    → run_from assembled names set w number (answer.Line text ∷ more) ≡ behind (items_text names (after_next set w line).items) (run_from assembled names set (after_next set w line).world (number + 1) more)
+    → run_from assembled names set w number (answer.Line text ∷ more) ≡ behind (items_text names (after_next set w line).items)
+    (run_from assembled names set (after_next set w line).world (number + 1) more)
 unfolding run_from
 run_line names set w number text line more e =
     ap (λ (r : Result Line ℕ). schedule_output names set w (on_line number r (schedule assembled names (number + 1) more))) e

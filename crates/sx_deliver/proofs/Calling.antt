@@ -113,11 +113,13 @@ module _ (set : Setting) (sound : IsSoundSetting set) (room : HasRoom set) (c : 
   -- the world after the call and the takes
   pub record CalledThere (w1 : World) (e : ℕ) (items : List Item) (c1 : Course) (ys : List Waiting) : Type 0 where
     pub world : World
-    pub is : run set w1 (Call m e 0x40 0x80 ∷ take_lines site.node 0x80 (length ys)) ≡ record { world = world; items = items ++ item.Done m 1 (length ys) ∷ packet_items (length w.packets) 24 (length ys) }
+    pub is : run set w1 (Call m e 0x40 0x80 ∷ take_lines site.node 0x80 (length ys))
+        ≡ record { world = world; items = items ++ item.Done m 1 (length ys) ∷ packet_items (length w.packets) 24 (length ys) }
     pub each : shown_by set w1 (Call m e 0x40 0x80 ∷ take_lines site.node 0x80 (length ys)) ≡ (items ++ item.Done m 1 (length ys) ∷ []) ∷ packets_shown (length w.packets) (length ys)
     pub is_settled : Settled set world c1
 
-  module _ (s1 : State) (w1 : World) (before : Before s1 w1) (e : ℕ) (effect : CallEffect) (c1 : Course) (rest ys : List Waiting) (makes : Makes s1 w1 e effect c1 ys) (follows : Follows c1 rest ys) where
+  module _ (s1 : State) (w1 : World) (before : Before s1 w1) (e : ℕ) (effect : CallEffect) (c1 : Course) (rest ys : List Waiting)
+      (makes : Makes s1 w1 e effect c1 ys) (follows : Follows c1 rest ys) where
     abbrev n : ℕ
     n = site.node
 
@@ -213,7 +215,8 @@ module _ (set : Setting) (sound : IsSoundSetting set) (room : HasRoom set) (c : 
     pub called_there : CalledThere w1 e effect.items c1 ys
     called_there = record {
       world = takes.world;
-      is = subst (λ (j : ℕ). run set w1 (Call m e 0x40 0x80 ∷ take_lines n 0x80 j) ≡ record { world = takes.world; items = effect.items ++ item.Done m 1 j ∷ packet_items (length w.packets) 24 j }) long joined;
+      is = subst (λ (j : ℕ). run set w1 (Call m e 0x40 0x80 ∷ take_lines n 0x80 j)
+          ≡ record { world = takes.world; items = effect.items ++ item.Done m 1 j ∷ packet_items (length w.packets) 24 j }) long joined;
       each = subst (λ (j : ℕ). shown_by set w1 (Call m e 0x40 0x80 ∷ take_lines n 0x80 j) ≡ (effect.items ++ item.Done m 1 j ∷ []) ∷ packets_shown (length w.packets) j) long each_is;
       is_settled = settles_at set sound room c w settled m q site sec s u c1 takes.world rest ys passes;
     }

@@ -63,7 +63,8 @@ sends_counted app m (Send output v ∷ acts) =
     omega (arith, a, b, d, rest)
 sends_counted app m (Emit v ∷ acts) = let rest = sends_counted app m acts in omega (arith, rest)
 
-pub sends_few : (app : AppTree) (m : ℕ) (q : PartTree) → is_valid app ≡ true → slice_get app.parts m ≡ Some q → (e : SourceEvent) (cells : List ℕ) → length (acts_send app.links m (react q.tree e cells).acts) ≤ 16
+pub sends_few : (app : AppTree) (m : ℕ) (q : PartTree) → is_valid app ≡ true → slice_get app.parts m ≡ Some q → (e : SourceEvent) (cells : List ℕ)
+    → length (acts_send app.links m (react q.tree e cells).acts) ≤ 16
 sends_few app m q valid part e cells =
     let a = sends_counted app m (react q.tree e cells).acts in
     let b = few_made app m q valid part e cells in
@@ -101,13 +102,21 @@ module _ (set : Setting) (c : Course) (m : ℕ) (acts : List Act) (past2 rest : 
   all_after = sym (append_assoc past2 rest ys) ∙ ap (λ (zs : List Waiting). zs ++ ys) sent
 
   pub own_after : (ends : List EndState) → ends ≡ map (open_end set past2 (all_sent c ++ acts_send set.app.links m acts)) (ends_of set.app m) → m < length c.plain.cells
-      → state_with new ends ≡ module_as set (record { plain = record { cells = slice_set c.plain.cells m new; waiting = rest ++ acts_send set.app.links m acts; outputs = outs }; past = past2; items = items }) m
+      → state_with new ends ≡ module_as set (record {
+        plain = record { cells = slice_set c.plain.cells m new; waiting = rest ++ acts_send set.app.links m acts; outputs = outs };
+        past = past2;
+        items = items;
+      }) m
   own_after ends is within =
       ap (λ (es : List EndState). state_with new es) (is ∙ ap (λ (zs : List Waiting). map (open_end set past2 zs) (ends_of set.app m)) (sym all_after))
       ∙ ap (λ (cs : List ℕ). state_with cs (map (open_end set past2 (past2 ++ (rest ++ ys))) (ends_of set.app m))) (sym (get_or-set_same c.plain.cells m new [] within))
 
   pub others_after : (p : ℕ) → (m ≡ p → ⊥) → map (open_end set c.past (all_sent c)) (ends_of set.app p) ≡ map (open_end set past2 (all_sent c)) (ends_of set.app p)
-      → module_as set c p ≡ module_as set (record { plain = record { cells = slice_set c.plain.cells m new; waiting = rest ++ acts_send set.app.links m acts; outputs = outs }; past = past2; items = items }) p
+      → module_as set c p ≡ module_as set (record {
+        plain = record { cells = slice_set c.plain.cells m new; waiting = rest ++ acts_send set.app.links m acts; outputs = outs };
+        past = past2;
+        items = items;
+      }) p
   others_after p ne kept =
       ap (λ (es : List EndState). state_with (slice_index_or c.plain.cells p []) es)
       (kept ∙ ends_kept set p m past2 (all_sent c) acts ne ∙ ap (λ (zs : List Waiting). map (open_end set past2 zs) (ends_of set.app p)) (sym all_after))

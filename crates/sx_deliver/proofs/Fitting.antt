@@ -55,7 +55,8 @@ module _ (set : Setting) (valid : is_valid set.app ≡ true) where
     pub reading_is : Sense r.device r.value ∷ event_lines app is.driver 3 e c.plain.cells d.part ≡ reading_lines app r c
     reading_is = rw (is.driven, d.there) refl
 
-    pub reading_shown_is : (item.Sense r.device r.value ∷ []) ∷ event_shown app is.driver (item.Read is.driver r.value) (packets_so_far app c) (reaction is.driver d.part e c.plain.cells).acts ≡ reading_shown app r c
+    pub reading_shown_is : (item.Sense r.device r.value ∷ []) ∷ event_shown app is.driver (item.Read is.driver r.value) (packets_so_far app c)
+        (reaction is.driver d.part e c.plain.cells).acts ≡ reading_shown app r c
     reading_shown_is = rw (is.driven, d.there) refl
 
     pub sensed_is : reacted app is.driver e c.plain d.part ≡ (sensed app r c).plain
@@ -91,7 +92,8 @@ module _ (set : Setting) (valid : is_valid set.app ≡ true) where
     pub delivery_is : Give (setup_packets app + length c.past) g.part.node 0x40 ∷ event_lines app g.link.to 2 input c.plain.cells g.part ≡ delivery_lines app w c
     delivery_is = rw (g.there, g.to) refl
 
-    pub delivery_shown_is : [] ∷ event_shown app g.link.to (item.Take g.link.to w.link (count_over w.link c.past) w.value) (packets_so_far app c) (reaction g.link.to g.part input c.plain.cells).acts ≡ delivery_shown app w c
+    pub delivery_shown_is : [] ∷ event_shown app g.link.to (item.Take g.link.to w.link (count_over w.link c.past) w.value) (packets_so_far app c)
+        (reaction g.link.to g.part input c.plain.cells).acts ≡ delivery_shown app w c
     delivery_shown_is = rw (g.there, g.to) refl
 
     pub delivered_is : reacted app g.link.to input plain g.part ≡ (delivered app w ws c).plain
@@ -104,7 +106,8 @@ module _ (set : Setting) (valid : is_valid set.app ≡ true) where
     delivery_long k =
         let new = length (sent g.link.to input c.plain.cells g.part) in
         let a : length (delivery_lines app w c) ≡ suc (suc new) = (ap length (sym delivery_is) ∙ ap (λ (i : ℕ). suc i) (event_long g.link.to 2 input c.plain.cells g.part)) in
-        sums (length (delivery_lines app w c)) new (setup_lines app) k (length c.past) (length (c.past ++ w ∷ [])) (length c.plain.waiting) (length ws) (length (delivered app w ws c).plain.waiting) a delivered_waits
+        sums (length (delivery_lines app w c)) new (setup_lines app) k (length c.past) (length (c.past ++ w ∷ [])) (length c.plain.waiting) (length ws)
+        (length (delivered app w ws c).plain.waiting) a delivered_waits
         (length-append c.past (w ∷ [])) (ap (λ (zs : List Waiting). length zs) waits)
       where
         sums : (x new u k p n l o v : ℕ) → x ≡ suc (suc new) → v ≡ o + new → n ≡ p + 1 → l ≡ suc o → x + (u + 2 * k + 3 * p + l) ≡ u + 2 * k + 3 * n + v
@@ -131,7 +134,8 @@ module _ (set : Setting) (valid : is_valid set.app ≡ true) where
     where
       go : (ws : List Waiting) → c.plain.waiting ≡ ws
           → ((d : Course) → IsTold app d → Fit (settling_lines app n d) (lines_so_far app k d) (lines_so_far app k (settled app n d)) × IsTold app (settled app n d))
-          → Fit (oldest [] (λ w ws. delivery_lines app w c ++ settling_lines app n (delivered app w ws c)) ws) (lines_so_far app k c) (lines_so_far app k (oldest c (λ w ws. settled app n (delivered app w ws c)) ws))
+          → Fit (oldest [] (λ w ws. delivery_lines app w c ++ settling_lines app n (delivered app w ws c)) ws) (lines_so_far app k c)
+          (lines_so_far app k (oldest c (λ w ws. settled app n (delivered app w ws c)) ws))
           × IsTold app (oldest c (λ w ws. settled app n (delivered app w ws c)) ws)
       go [] e more = (record { long = zero-add (lines_so_far app k c); formed = tt }, h)
       go (w ∷ ws) e more =
@@ -147,7 +151,8 @@ module _ (set : Setting) (valid : is_valid set.app ≡ true) where
       → Fit (readings_lines app n rs c) (lines_so_far app k c) (lines_so_far app (k + length rs) d)
   readings_fit n k [] c d all low h p =
       let none : k ≡ k + 0 = omega arith in
-      subst (λ (e : Course). Fit [] (lines_so_far app k c) (lines_so_far app (k + 0) e)) (same_Some c d p) (record { long = zero-add (lines_so_far app k c) ∙ ap (λ (i : ℕ). lines_so_far app i c) none; formed = tt })
+      subst (λ (e : Course). Fit [] (lines_so_far app k c) (lines_so_far app (k + 0) e)) (same_Some c d p)
+      (record { long = zero-add (lines_so_far app k c) ∙ ap (λ (i : ℕ). lines_so_far app i c) none; formed = tt })
   readings_fit n k (r ∷ rs) c d all low h p =
       let is = All-head (IsSampling app) r rs all in
       let s = sensed app r c in
@@ -170,7 +175,8 @@ honest_fits set rs c h low =
     let f = readings_fit set h.valid n 0 rs start c h.readings low (told_start app) h.course in
     let a = schedule_long set 0 0 app.parts in
     let l = length-append (setup_schedule app) (readings_lines app n rs start) in
-    let m : length (readings_lines app n rs start) + setup_lines app ≡ lines_so_far app (length rs) c = (none (length (readings_lines app n rs start)) (setup_lines app) ∙ f.long ∙ ap (λ (i : ℕ). lines_so_far app i c) (zero-add (length rs))) in
+    let m : length (readings_lines app n rs start) + setup_lines app ≡ lines_so_far app (length rs) c =
+    (none (length (readings_lines app n rs start)) (setup_lines app) ∙ f.long ∙ ap (λ (i : ℕ). lines_so_far app i c) (zero-add (length rs))) in
     record {
       lines = l ∙ ap (λ (i : ℕ). i + length (readings_lines app n rs start)) a ∙ swap (setup_lines app) (length (readings_lines app n rs start)) ∙ m;
       formed = both_formed set (setup_schedule app) (readings_lines app n rs start) (schedule_formed set 0 0 app.parts (omega arith)) f.formed;

@@ -28,7 +28,8 @@ pub record Leads (set : Setting) (w : World) (lines : List Line) (shown : List (
   pub more : d.items ≡ c.items ++ items
   pub stands : Stands set world d
 
-pub leads_on : (set : Setting) (w : World) (xs ys : List Line) (ps qs : List (List Item)) (c d e : Course) → (first : Leads set w xs ps c d) → Leads set first.world ys qs d e → Leads set w (xs ++ ys) (ps ++ qs) c e
+pub leads_on : (set : Setting) (w : World) (xs ys : List Line) (ps qs : List (List Item)) (c d e : Course) → (first : Leads set w xs ps c d)
+    → Leads set first.world ys qs d e → Leads set w (xs ++ ys) (ps ++ qs) c e
 leads_on set w xs ys ps qs c d e first second = record {
   world = second.world;
   items = first.items ++ second.items;

@@ -65,7 +65,8 @@ acts_words ls p [] h = All-nil HasWord
 acts_words ls p (a ∷ acts) h = All-append HasWord (act_sends ls p a) (acts_send ls p acts) (act_words ls p a (All-head ActsOnWord a acts h)) (acts_words ls p acts (All-tail ActsOnWord a acts h))
 
 -- an event of a module
-pub reacted_words : (app : AppTree) → HaveWords app → (p : ℕ) (e : SourceEvent) (s : Plain) (q : PartTree) → slice_get app.parts p ≡ Some q → IsWord (value_of e) → InWords app s → InWords app (reacted app p e s q)
+pub reacted_words : (app : AppTree) → HaveWords app → (p : ℕ) (e : SourceEvent) (s : Plain) (q : PartTree) → slice_get app.parts p ≡ Some q
+    → IsWord (value_of e) → InWords app s → InWords app (reacted app p e s q)
 reacted_words app words p e s q part v h =
     let r = reactions_keep_words q.tree e (slice_index_or s.cells p []) (words p q part) v (h.cells p q part) in
     let new = (reaction p q e s.cells).cells in
@@ -75,7 +76,8 @@ reacted_words app words p e s q part v h =
         | inl same ↦
             let parts : q ≡ z = same_Some q z (sym part ∙ ap (λ (i : ℕ). slice_get app.parts i) same ∙ there) in
             let within : p < length s.cells = (let a = slice_get_within app.parts p q part in let b = h.many in omega (arith, a, b)) in
-            let own : AreCells q.tree.decls (slice_index_or (slice_set s.cells p new) p []) = subst (λ (cs : List ℕ). AreCells q.tree.decls cs) (sym (get_or-set_same s.cells p new [] within)) r.cells_stay in
+            let own : AreCells q.tree.decls (slice_index_or (slice_set s.cells p new) p []) = subst (λ (cs : List ℕ). AreCells q.tree.decls cs)
+            (sym (get_or-set_same s.cells p new [] within)) r.cells_stay in
             subst (λ (k : ℕ). AreCells z.tree.decls (slice_index_or (slice_set s.cells p new) k [])) same
             (subst (λ (y : PartTree). AreCells y.tree.decls (slice_index_or (slice_set s.cells p new) p [])) parts own)
         | inr apart ↦ subst (λ (cs : List ℕ). AreCells z.tree.decls cs) (sym (get_or-set_other s.cells p m new [] (λ k. apart (sym k)))) (h.cells m z there)

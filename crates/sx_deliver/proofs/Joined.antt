@@ -48,14 +48,16 @@ module _ (set : Setting) (sound : IsSoundSetting set) (room : HasRoom set) (word
   pub leads_none : (c : Course) (w : World) → Stands set w c → Leads set w [] [] c c
   leads_none c w h = record { world = w; items = []; is = refl; each = refl; more = sym (append-nil c.items); stands = h }
 
-  pub settling_leads : (n k : ℕ) (c : Course) (w : World) → Stands set w c → lines_so_far app (k + 1) (settled app n c) ≤ 65536 → Leads set w (settling_lines app n c) (settling_shown app n c) c (settled app n c)
+  pub settling_leads : (n k : ℕ) (c : Course) (w : World) → Stands set w c → lines_so_far app (k + 1) (settled app n c) ≤ 65536
+      → Leads set w (settling_lines app n c) (settling_shown app n c) c (settled app n c)
   settling_leads zero k c w h few = leads_none c w h
   settling_leads (suc n) k c w h few = go c.plain.waiting refl (λ d v t b. settling_leads n k d v t b) few
     where
       go : (xs : List Waiting) → c.plain.waiting ≡ xs
           → ((d : Course) (v : World) → Stands set v d → lines_so_far app (k + 1) (settled app n d) ≤ 65536 → Leads set v (settling_lines app n d) (settling_shown app n d) d (settled app n d))
           → lines_so_far app (k + 1) (oldest c (λ x ws. settled app n (delivered app x ws c)) xs) ≤ 65536
-          → Leads set w (oldest [] (λ x ws. delivery_lines app x c ++ settling_lines app n (delivered app x ws c)) xs) (oldest [] (λ x ws. delivery_shown app x c ++ settling_shown app n (delivered app x ws c)) xs) c (oldest c (λ x ws. settled app n (delivered app x ws c)) xs)
+          → Leads set w (oldest [] (λ x ws. delivery_lines app x c ++ settling_lines app n (delivered app x ws c)) xs) (oldest []
+          (λ x ws. delivery_shown app x c ++ settling_shown app n (delivered app x ws c)) xs) c (oldest c (λ x ws. settled app n (delivered app x ws c)) xs)
       go [] e more few = leads_none c w h
       go (x ∷ ws) e more few =
           let d = delivered app x ws c in

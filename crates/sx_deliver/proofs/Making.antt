@@ -1,6 +1,7 @@
 -- What the acts of an event make, where all ends of the module are open in epoch 0: a packet, its entry and the next number for each value
 -- that the plain fold puts on its way.
-use Rattle.std.proofs.Common.{◌≡◌, ℕ, zero, suc, ◌+◌, ◌<◌, ◌≤◌, inl, inr, ◌==◌, ◌&&◌, Bool, true, false, if◌then◌else◌, List, [], ◌∷◌, ◌++◌, length, map, Option, Some, None, slice_get, nat_lt, append_assoc, zero-add, add-zero, refl, sym, ap, ◌∙◌, subst, arith}
+use Rattle.std.proofs.Common.{◌≡◌, ℕ, zero, suc, ◌+◌, ◌<◌, ◌≤◌, inl, inr, ◌==◌, ◌&&◌, Bool, true, false, if◌then◌else◌, List, [], ◌∷◌, ◌++◌, length, map}
+use Rattle.std.proofs.Common.{Option, Some, None, slice_get, nat_lt, append_assoc, zero-add, add-zero, refl, sym, ap, ◌∙◌, subst, arith}
 use Rattle.std.specs.Prelude.{slice_index_or}
 use Rattle.std.specs.List.{AllPairs, cons_option}
 use Rattle.std.proofs.lemmas.Bool.{cases_eq}
@@ -134,7 +135,8 @@ sends_are n p output v [] = refl
 sends_are n p output v (l ∷ ls) = go (l.from == p) (l.to == p) (sends_are (n + 1) p output v ls)
   where
     go : (a b : Bool) → sends_over output v (ends_after (n + 1) p ls) ≡ over (n + 1) p output v ls
-        → sends_over output v (cons_option (if a then Some (record { link = n; side = From; port = l.output }) else None) (cons_option (if b then Some (record { link = n; side = To; port = l.input }) else None) (ends_after (n + 1) p ls)))
+        → sends_over output v (cons_option (if a then Some (record { link = n; side = From; port = l.output }) else None)
+        (cons_option (if b then Some (record { link = n; side = To; port = l.input }) else None) (ends_after (n + 1) p ls)))
         ≡ (if a && (l.output == output) then record { link = n; value = v } ∷ over (n + 1) p output v ls else over (n + 1) p output v ls)
     go true true more = ap (λ (zs : List Waiting). if l.output == output then record { link = n; value = v } ∷ zs else zs) more
     go true false more = ap (λ (zs : List Waiting). if l.output == output then record { link = n; value = v } ∷ zs else zs) more
@@ -166,7 +168,8 @@ module _ (set : Setting) (m : ℕ) (q : PartTree) (site : Site) (sec : Section) 
   makes_none : (past all : List Waiting) → Makes past all (nothing (opened past all)) []
   makes_none past all = record { ends = ap (λ zs. opened past zs) (sym (append-nil all)); pieces = refl; entries = refl; quiet = λ ds. refl }
 
-  makes_also : (past all : List Waiting) (d : Effect) (rest : List EndState → Effect) (ws vs : List Waiting) → Makes past all d ws → Makes past (all ++ ws) (rest d.ends) vs → Makes past all (also d rest) (ws ++ vs)
+  makes_also : (past all : List Waiting) (d : Effect) (rest : List EndState → Effect) (ws vs : List Waiting) → Makes past all d ws
+      → Makes past (all ++ ws) (rest d.ends) vs → Makes past all (also d rest) (ws ++ vs)
   makes_also past all d rest ws vs a b = record {
     ends = b.ends ∙ ap (λ zs. opened past zs) (append_assoc all ws vs);
     pieces = ap (λ ps. ps ++ (rest d.ends).pieces) a.pieces ∙ ap (λ ps. pieces_of set all ws ++ ps) b.pieces ∙ sym (pieces_append set all ws vs);
@@ -205,7 +208,8 @@ module _ (set : Setting) (m : ℕ) (q : PartTree) (site : Site) (sec : Section) 
       other_end past all w a far = by_side a.side far
         where
           by_side : (side : Side) → (side ≡ From → w.link ≡ a.link → ⊥)
-              → ◌≡◌ {A = EndState} (open_end set past all (record { link = a.link; side = side; port = a.port })) (open_end set past (all ++ w ∷ []) (record { link = a.link; side = side; port = a.port }))
+              → ◌≡◌ {A = EndState} (open_end set past all (record { link = a.link; side = side; port = a.port }))
+              (open_end set past (all ++ w ∷ []) (record { link = a.link; side = side; port = a.port }))
           by_side From far = ap (λ (i : ℕ). record { is_open = true; field = a.link; number = i; key = connection_key set a.link 0 }) (sym (count-other a.link all w (far refl)))
           by_side To far = refl
 
@@ -220,7 +224,8 @@ module _ (set : Setting) (m : ℕ) (q : PartTree) (site : Site) (sec : Section) 
 
       go : (b : Bool) → is_sending output e.side e.port ≡ b → length all + length (if b then record { link = e.link; value = v } ∷ sends_over output v fs else sends_over output v fs) ≤ 65535
           → ((zs : List Waiting) → length zs + length (sends_over output v fs) ≤ 65535 → Makes past zs (packets_made su output v (k + 1) fs (opened past zs)) (sends_over output v fs))
-          → Makes past all (if b then also (packet_made su v k (opened past all)) (packets_made su output v (k + 1) fs) else packets_made su output v (k + 1) fs (opened past all)) (if b then record { link = e.link; value = v } ∷ sends_over output v fs else sends_over output v fs)
+          → Makes past all (if b then also (packet_made su v k (opened past all)) (packets_made su output v (k + 1) fs) else packets_made su output v (k + 1) fs
+          (opened past all)) (if b then record { link = e.link; value = v } ∷ sends_over output v fs else sends_over output v fs)
       go true t few more =
           let w : Waiting = record { link = e.link; value = v } in
           let rest = sends_over output v fs in

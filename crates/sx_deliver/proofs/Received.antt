@@ -1,5 +1,6 @@
 -- A delivery in a world that stands as a course says: the oldest packet is given, its receiver takes it, and what that sends is taken.
-use Rattle.std.proofs.Common.{◌≡◌, ℕ, suc, ◌+◌, ◌*◌, ◌/◌, ◌%◌, ◌<◌, ◌≤◌, true, false, List, [], ◌∷◌, ◌++◌, length, length-append, map, Option, Some, slice_get, append_assoc, refl, sym, ◌∙◌, ap, subst, arith}
+use Rattle.std.proofs.Common.{◌≡◌, ℕ, suc, ◌+◌, ◌*◌, ◌/◌, ◌%◌, ◌<◌, ◌≤◌, true, false, List, [], ◌∷◌, ◌++◌, length, length-append, map, Option, Some, slice_get}
+use Rattle.std.proofs.Common.{append_assoc, refl, sym, ◌∙◌, ap, subst, arith}
 use Rattle.std.specs.Prelude.{All, AllPairs, slice_index_or}
 use Rattle.std.proofs.lemmas.List.{append-nil}
 use Rattle.std.proofs.lemmas.List.Elements.{All-head, All-tail}
@@ -276,7 +277,8 @@ module _ (set : Setting) (sound : IsSoundSetting set) (room : HasRoom set) (word
   packet_is : bytes_from s1.mem 0x40 24 ≡ event_packet su (numbered (end_of (state_on set m q site s1).ends j) i) v
   packet_is = bytes_there ∙ ap (λ (z : EndState). event_packet su (numbered z i) v) (sym end_is)
 
-  made_there : is_made w2.ledger (made_entry (maker.Module (sender_of set.app (link_of (end_of (state_on set m q site s1).ends j).field))) NO_TARGET 0 (event_header (numbered (end_of (state_on set m q site s1).ends j) i)) (two v)) ≡ true
+  made_there : is_made w2.ledger (made_entry (maker.Module (sender_of set.app (link_of (end_of (state_on set m q site s1).ends j).field))) NO_TARGET 0
+      (event_header (numbered (end_of (state_on set m q site s1).ends j) i)) (two v)) ≡ true
   made_there =
       ap (λ (z : EndState). is_made w.ledger (made_entry (maker.Module (sender_of set.app (link_of z.field))) NO_TARGET 0 (event_header (numbered z i)) (two v))) end_is
       ∙ ap (λ (l : ℕ). is_made w.ledger (made_entry (maker.Module (sender_of set.app l)) NO_TARGET 0 (event_header opened) (two v))) (low_field x.link small)

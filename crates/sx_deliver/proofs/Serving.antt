@@ -1,5 +1,6 @@
 -- In a settled world each module stands at its node and can be served; and what is served leads to a settled world.
-use Rattle.std.proofs.Common.{◌≡◌, ◌≢◌, ℕ, zero, suc, ◌+◌, ◌≤◌, ◌⊎◌, inl, inr, ◌==◌, Bool, true, false, if◌then◌else◌, List, [], ◌∷◌, ◌++◌, length, length-append, map, Some, slice_get, append_assoc, refl, sym, ◌∙◌, ap, subst, arith}
+use Rattle.std.proofs.Common.{◌≡◌, ◌≢◌, ℕ, zero, suc, ◌+◌, ◌≤◌, ◌⊎◌, inl, inr, ◌==◌, Bool, true, false, if◌then◌else◌, List, [], ◌∷◌, ◌++◌, length}
+use Rattle.std.proofs.Common.{length-append, map, Some, slice_get, append_assoc, refl, sym, ◌∙◌, ap, subst, arith}
 use Rattle.std.specs.Prelude.{All, slice_set}
 use Rattle.std.proofs.lemmas.Bool.{cases_eq, eq-eqb}
 use Rattle.std.proofs.lemmas.Option.{same_Some}
@@ -39,13 +40,15 @@ use Rattle.sx_deliver.proofs.Making.{entries_for, pieces_of}
 use Rattle.sx_deliver.proofs.Waits.{split_two, way_kept, way_made}
 
 -- the section of a site is there
-section_found : (set : Setting) (n id : ℕ) (sites : List Site) (i : ℕ) (site : Site) → slice_get sites i ≡ Some site → site.node ≡ n → (k : ℕ) × Lives (sections_of set n id sites) (section_at set k site)
+section_found : (set : Setting) (n id : ℕ) (sites : List Site) (i : ℕ) (site : Site) → slice_get sites i ≡ Some site → site.node ≡ n
+    → (k : ℕ) × Lives (sections_of set n id sites) (section_at set k site)
 section_found set n id [] i site e at = absurd cc
 section_found set n id (y ∷ sites) zero site e at =
     let same : y ≡ site = some_inj y site e in
     let yes : (y.node == n) ≡ true = eq-eqb y.node n (ap (λ (z : Site). z.node) same ∙ at) in (
       id,
-      subst (λ (b : Bool). Lives (if b then section_at set id y ∷ sections_of set n (id + 1) sites else sections_of set n id sites) (section_at set id site)) (sym yes) (inl (ap (section_at set id) same)),
+      subst (λ (b : Bool). Lives (if b then section_at set id y ∷ sections_of set n (id + 1) sites else sections_of set n id sites) (section_at set id site))
+          (sym yes) (inl (ap (section_at set id) same)),
     )
 section_found set n id (y ∷ sites) (suc i) site e at = by (y.node == n) (section_found set n (id + 1) sites i site e at) (section_found set n id sites i site e at)
   where
@@ -76,7 +79,8 @@ module _ (set : Setting) (sound : IsSoundSetting set) (room : HasRoom set) (c : 
       }
 
   -- a module can be served
-  pub served_at : (m : ℕ) (q : PartTree) (site : Site) (s : State) (part : slice_get set.app.parts m ≡ Some q) (sited : slice_get set.sites m ≡ Some site) (there : slice_get w.nodes site.node ≡ Some s)
+  pub served_at : (m : ℕ) (q : PartTree) (site : Site) (s : State) (part : slice_get set.app.parts m ≡ Some q) (sited : slice_get set.sites m ≡ Some site)
+      (there : slice_get w.nodes site.node ≡ Some s)
       → IsServed set m q site (section_at set (own_section m site s sited there).0 site) s (module_as set c m)
   served_at m q site s part sited there =
       let at = settled.nodes site.node s there in
@@ -95,7 +99,8 @@ module _ (set : Setting) (sound : IsSoundSetting set) (room : HasRoom set) (c : 
       }
 
   -- sections of two modules at one node have ids of their own
-  other_ids : (m p : ℕ) (q r : PartTree) (a b : Site) (s : State) (x y : Section) → IsNode s → slice_get set.app.parts m ≡ Some q → slice_get set.sites m ≡ Some a → slice_get set.sites p ≡ Some b → a.node ≡ b.node
+  other_ids : (m p : ℕ) (q r : PartTree) (a b : Site) (s : State) (x y : Section) → IsNode s → slice_get set.app.parts m ≡ Some q
+      → slice_get set.sites m ≡ Some a → slice_get set.sites p ≡ Some b → a.node ≡ b.node
       → (m ≡ p → ⊥) → Lives s.sections.live x → Lives s.sections.live y → x.layout ≡ a.layout → y.layout ≡ b.layout → x.id ≢ y.id
   other_ids m p q r a b s x y node part sa sb same differ lx ly la lb ids =
       let fx : section_of s.sections.live x.id ≡ Some x = placed_found s.sections x node.placed lx in
@@ -153,7 +158,8 @@ module _ (set : Setting) (sound : IsSoundSetting set) (room : HasRoom set) (c : 
     deployer = subst (λ d. Rattle.sx_setup.proofs.forms.Settled.HasAttested set d) (sym h.deployer) settled.deployer;
     packets =
         ap (λ (ps : List (List ℕ)). length ps) h.packets
-        ∙ sums (length w.packets) (length (pieces_of set (all_sent c) ys)) (length ys) (setup_packets set.app + length c1.past) (length rest) (length c1.plain.waiting) (length (w.packets ++ pieces_of set (all_sent c) ys))
+        ∙ sums (length w.packets) (length (pieces_of set (all_sent c) ys)) (length ys) (setup_packets set.app + length c1.past) (length rest)
+        (length c1.plain.waiting) (length (w.packets ++ pieces_of set (all_sent c) ys))
         (length-append w.packets (pieces_of set (all_sent c) ys)) (settled.packets ∙ h.count) h.pieces (ap (λ (zs : List Waiting). length zs) h.waits ∙ length-append rest ys);
     waiting = λ x before after e. by_place x before after (split_two rest ys before after x (sym h.waits ∙ e));
   }
@@ -181,12 +187,14 @@ module _ (set : Setting) (sound : IsSoundSetting set) (room : HasRoom set) (c : 
       -- the module itself
       own : ModuleStands set m q site (module_as set c1 m) u
       own = record {
-        text = ap (λ (l : Layout). public_bytes l u.mem) (sym h.layout) ∙ h.texts sec h.lives ∙ ap (λ (l : Layout). public_bytes l s.mem) h.layout ∙ (settled.modules m q site s h.part h.sited h.there).text;
+        text = ap (λ (l : Layout). public_bytes l u.mem) (sym h.layout) ∙ h.texts sec h.lives ∙ ap (λ (l : Layout). public_bytes l s.mem) h.layout
+            ∙ (settled.modules m q site s h.part h.sited h.there).text;
         state = h.state;
       }
 
       -- another one at its node
-      beside : (p : ℕ) (r : PartTree) (a : Site) → slice_get set.app.parts p ≡ Some r → slice_get set.sites p ≡ Some a → (m ≡ p → ⊥) → site.node ≡ a.node → ModuleStands set p r a (module_as set c1 p) u
+      beside : (p : ℕ) (r : PartTree) (a : Site) → slice_get set.app.parts p ≡ Some r → slice_get set.sites p ≡ Some a → (m ≡ p → ⊥) → site.node ≡ a.node
+          → ModuleStands set p r a (module_as set c1 p) u
       beside p r a part sited differ same =
           let there : slice_get w.nodes a.node ≡ Some s = (ap (λ (n : ℕ). slice_get w.nodes n) (sym same) ∙ h.there) in
           let old = settled.modules p r a s part sited there in
@@ -215,10 +223,12 @@ module _ (set : Setting) (sound : IsSoundSetting set) (room : HasRoom set) (c : 
           let old = settled.modules p r a t part sited k.1 in
           record { text = old.text; state = old.state ∙ h.apart p differ }
 
-      by_place : (x : Waiting) (before after : List Waiting) → ((behind : List Waiting) × (rest ≡ before ++ x ∷ behind)) ⊎ ((front : List Waiting) × (before ≡ rest ++ front) × (ys ≡ front ++ x ∷ after))
+      by_place : (x : Waiting) (before after : List Waiting)
+          → ((behind : List Waiting) × (rest ≡ before ++ x ∷ behind)) ⊎ ((front : List Waiting) × (before ≡ rest ++ front) × (ys ≡ front ++ x ∷ after))
           → IsOnItsWay set v (setup_packets set.app + length c1.past + length before) x.link (count_over x.link (c1.past ++ before)) x.value
       by_place x before after (inl r) =
-          way_kept set w v (pieces_of set (all_sent c) ys) (entries_for m (all_sent c) ys) (setup_packets set.app + length c1.past + length before) x.link (count_over x.link (c1.past ++ before)) x.value
+          way_kept set w v (pieces_of set (all_sent c) ys) (entries_for m (all_sent c) ys) (setup_packets set.app + length c1.past + length before) x.link
+          (count_over x.link (c1.past ++ before)) x.value
           h.packets h.ledger (h.old x before r.0 r.1)
       by_place x before after (inr r) =
           let front = r.0 in
@@ -226,7 +236,8 @@ module _ (set : Setting) (sound : IsSoundSetting set) (room : HasRoom set) (c : 
           let ledger : v.ledger ≡ w.ledger ++ entries_for m (all_sent c) (front ++ x ∷ after) = (h.ledger ∙ ap (λ (zs : List Waiting). w.ledger ++ entries_for m (all_sent c) zs) r.2) in
           let made = way_made set w v m (all_sent c) front after x packets ledger (h.senders x (subst (λ (zs : List Waiting). Among x zs) (sym r.2) (among_mid front after x))) in
           let place : length w.packets + length front ≡ setup_packets set.app + length c1.past + length before =
-          (let a = settled.packets ∙ h.count in let b = ap (λ (zs : List Waiting). length zs) r.1 ∙ length-append rest front in adds (length w.packets) (length front) (setup_packets set.app + length c1.past) (length rest) (length before) a b) in
+          (let a = settled.packets ∙ h.count in let b = ap (λ (zs : List Waiting). length zs) r.1 ∙ length-append rest front in
+          adds (length w.packets) (length front) (setup_packets set.app + length c1.past) (length rest) (length before) a b) in
           let words : all_sent c ++ front ≡ c1.past ++ before =
           (ap (λ (zs : List Waiting). zs ++ front) (sym h.sent) ∙ append_assoc c1.past rest front ∙ ap (λ (zs : List Waiting). c1.past ++ zs) (sym r.1)) in
           subst (λ (zs : List Waiting). IsOnItsWay set v (setup_packets set.app + length c1.past + length before) x.link (count_over x.link zs) x.value) words

@@ -35,7 +35,8 @@ abbrev pub AreEvents : List (List ℕ) → Type 0
 AreEvents [] = Unit {0}
 AreEvents (p ∷ ps) = (length p ≡ 24) × AreEvents ps
 
-pub takes_all : (set : Setting) (ps : List (List ℕ)) (w : World) (n at : ℕ) (s : State) → slice_get w.nodes n ≡ Some s → s.cur ≡ 0 → StandsHigh s → at + 24 * length ps ≤ 512 → AreEvents ps → Stand s.mem at ps
+pub takes_all : (set : Setting) (ps : List (List ℕ)) (w : World) (n at : ℕ) (s : State) → slice_get w.nodes n ≡ Some s → s.cur ≡ 0 → StandsHigh s
+    → at + 24 * length ps ≤ 512 → AreEvents ps → Stand s.mem at ps
     → Takes set w (take_lines n at (length ps)) (packet_items (length w.packets) 24 (length ps)) ps
 takes_all set [] w n at s there idle low le sizes stand = record { world = w; is = refl; each = refl; nodes = refl; packets = sym (append-nil w.packets); deployer = refl; ledger = refl }
 takes_all set (p ∷ ps) w n at s there idle low le sizes stand =

@@ -90,5 +90,6 @@ way_made set w v m all front after x packets ledger sender =
     record {
       stands = ap (λ zs. slice_get zs (length w.packets + length front)) packets
           ∙ get_behind w.packets (pieces_of set all (front ++ x ∷ after)) (length front) (event_of set x.link (count_over x.link (all ++ front)) x.value) (piece_at set all front after x);
-      made = subst (λ (j : ℕ). is_made v.ledger (made_entry (maker.Module j) NO_TARGET 0 (event_header (record { is_open = true; field = x.link; number = count_over x.link (all ++ front); key = [] })) (two x.value)) ≡ true) (sym sender) made;
+      made = subst (λ (j : ℕ). is_made v.ledger (made_entry (maker.Module j) NO_TARGET 0 (event_header
+          (record { is_open = true; field = x.link; number = count_over x.link (all ++ front); key = [] })) (two x.value)) ≡ true) (sym sender) made;
     }

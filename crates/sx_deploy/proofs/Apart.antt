@@ -1,5 +1,6 @@
 -- Modules that rule 10 lets through stand apart, and no two drive one device.
-use Rattle.std.proofs.Common.{◌≡◌, ℕ, ◌+◌, ◌==◌, if◌then◌else◌, Bool, true, false, ◌||◌, ◌&&◌, List, [], ◌∷◌, ◌++◌, length, Some, None, Ok, refl, sym, ap, subst, ◌∙◌, arith, append_assoc, append-nil, length-append}
+use Rattle.std.proofs.Common.{◌≡◌, ℕ, ◌+◌, ◌==◌, if◌then◌else◌, Bool, true, false, ◌||◌, ◌&&◌, List, [], ◌∷◌, ◌++◌, length, Some, None, Ok, refl, sym, ap}
+use Rattle.std.proofs.Common.{subst, ◌∙◌, arith, append_assoc, append-nil, length-append}
 use Rattle.std.specs.List.{list_any}
 use Rattle.std.proofs.lemmas.Bool.Decides.{nat_tests}
 use Rattle.sx_mean.specs.declared.apps.Link.{Link}
@@ -96,7 +97,8 @@ module _ (devices : List DeviceEntry) (links : List Link) where
       let one = one_placed done m b h in
       let parts = or_false ((is_outside s.text || is_outside s.data_part) || meet s.text s.data_part) _ one.0 in
       let earlier = or_false (list_any (meets_module s) done) _ parts.1 in
-      pair-snoc AreBeside done b old (each-weaker (λ (p : Placement). meets_module s p ≡ false) (λ (p : Placement). AreBeside p b) (λ p e. beside s p b one.1 e) done (none-any (meets_module s) done earlier.0))
+      pair-snoc AreBeside done b old (each-weaker (λ (p : Placement). meets_module s p ≡ false) (λ (p : Placement). AreBeside p b)
+      (λ p e. beside s p b one.1 e) done (none-any (meets_module s) done earlier.0))
 
   pub all_beside : (ms : List Coded) (out : List Placement) → made_after (placed_module devices links) [] ms ≡ Ok out → EachPair AreBeside (stand_after 0 ms)
   all_beside ms out h =

@@ -1,5 +1,6 @@
 -- No two modules drive one device: their private sections would meet at its place.
-use Rattle.std.proofs.Common.{◌≡◌, ℕ, ◌+◌, ◌-◌, ◌<◌, ◌≤◌, ◌==◌, if◌then◌else◌, Bool, true, false, ◌&&◌, cond, List, [], ◌∷◌, length, map, count_by, min, Option, Some, None, refl, sym, ap, subst, ◌∙◌, ◌⊎◌, inl, inr, arith}
+use Rattle.std.proofs.Common.{◌≡◌, ℕ, ◌+◌, ◌-◌, ◌<◌, ◌≤◌, ◌==◌, if◌then◌else◌, Bool, true, false, ◌&&◌, cond, List, [], ◌∷◌, length, map, count_by, min, Option}
+use Rattle.std.proofs.Common.{Some, None, refl, sym, ap, subst, ◌∙◌, ◌⊎◌, inl, inr, arith}
 use Rattle.sx_lang.specs.Sizes.{module_data_size}
 use Rattle.sx_lang.specs.declared.tree.DeviceKind.{DeviceKind}
 use Rattle.sx_mean.specs.Application.{declared_kind, is_at, is_driven, same_kind}
@@ -46,7 +47,8 @@ pub record IsFit (devices : List DeviceEntry) (m : Coded) : Type 0 where
 
 module _ (devices : List DeviceEntry) (links : List Link) (few : length devices ≤ 32) where
   -- two modules that drive one device don't stand beside each other
-  two_drivers : (n k : ℕ) (a b : ℕ) (m c : Coded) → m.start ≡ start.Device a → c.start ≡ start.Device b → IsFit devices m → IsFit devices c → AreBeside (stand devices links n m) (stand devices links k c)
+  two_drivers : (n k : ℕ) (a b : ℕ) (m c : Coded) → m.start ≡ start.Device a → c.start ≡ start.Device b → IsFit devices m → IsFit devices c
+      → AreBeside (stand devices links n m) (stand devices links k c)
       → byte a ≡ byte b → ⊥
   two_drivers n k a b m c e f p q apart same =
       let a_there : a < length devices = subst (λ (s : Start). IsThere s (length devices)) e p.there in
@@ -58,7 +60,8 @@ module _ (devices : List DeviceEntry) (links : List Link) (few : length devices 
       subst (λ (s : Start). is_driven (map app_device devices) (byte c.node) (start_device s) (declared_kind c.tree.decls) ≡ true) f q.driven in
       let c_driven_too : is_driven (map app_device devices) (byte c.node) (Some (byte a)) (declared_kind c.tree.decls) ≡ true =
       subst (λ (x : ℕ). is_driven (map app_device devices) (byte c.node) (Some x) (declared_kind c.tree.decls) ≡ true) (sym same) c_driven in
-      let nodes : byte m.node ≡ byte c.node = driven_node (map app_device devices) (byte a) (byte m.node) (byte c.node) (declared_kind m.tree.decls) (declared_kind c.tree.decls) m_driven c_driven_too in
+      let nodes : byte m.node ≡ byte c.node = driven_node (map app_device devices) (byte a) (byte m.node) (byte c.node) (declared_kind m.tree.decls)
+      (declared_kind c.tree.decls) m_driven c_driven_too in
       let m_small : m.node < 16 = p.node in
       let c_small : c.node < 16 = q.node in
       let node : m.node ≡ c.node = same_bytes m.node c.node (omega arith) (omega arith) nodes in
@@ -101,7 +104,8 @@ carried (Some a) (Some b) (Some c) h k = let same : b ≡ a = sym (tests-equal a
 abbrev pub drives_too : Option ℕ → Coded → Bool
 drives_too d c = same_device d (start_device c.start)
 
-none_drives : (d : Option ℕ) (m : Coded) (cs : List Coded) → drives_too d m ≡ true → Each (λ (c : Coded). same_device (start_device m.start) (start_device c.start) ≡ false) cs → count_by (drives_too d) cs ≡ 0
+none_drives : (d : Option ℕ) (m : Coded) (cs : List Coded) → drives_too d m ≡ true
+    → Each (λ (c : Coded). same_device (start_device m.start) (start_device c.start) ≡ false) cs → count_by (drives_too d) cs ≡ 0
 none_drives d m [] h k = refl
 none_drives d m (c ∷ cs) h k =
     let not_it : drives_too d c ≡ false = carried d (start_device m.start) (start_device c.start) h k.0 in

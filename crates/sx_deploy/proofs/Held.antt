@@ -15,8 +15,10 @@ all_held [] n p = refl
 all_held (l ∷ ls) n p = go (l.from == p) (l.to == p) (all_held ls (n + 1) p)
   where
     go : (a b : Bool) → ends_after (n + 1) p ls ≡ map end_as (mean.ends_after (n + 1) p ls)
-        → cons_option (if a then Some (record { link = byte n; side = From; port = l.output }) else None) (cons_option (if b then Some (record { link = byte n; side = To; port = l.input }) else None) (ends_after (n + 1) p ls))
-        ≡ map end_as (cons_option (if a then Some (record { link = n; side = From; port = l.output }) else None) (cons_option (if b then Some (record { link = n; side = To; port = l.input }) else None) (mean.ends_after (n + 1) p ls)))
+        → cons_option (if a then Some (record { link = byte n; side = From; port = l.output }) else None)
+        (cons_option (if b then Some (record { link = byte n; side = To; port = l.input }) else None) (ends_after (n + 1) p ls))
+        ≡ map end_as (cons_option (if a then Some (record { link = n; side = From; port = l.output }) else None)
+        (cons_option (if b then Some (record { link = n; side = To; port = l.input }) else None) (mean.ends_after (n + 1) p ls)))
     go true true h = ap (λ es. record { link = byte n; side = From; port = l.output } ∷ record { link = byte n; side = To; port = l.input } ∷ es) h
     go true false h = ap (λ es. record { link = byte n; side = From; port = l.output } ∷ es) h
     go false true h = ap (λ es. record { link = byte n; side = To; port = l.input } ∷ es) h
@@ -28,11 +30,15 @@ same_held [] n p h = refl
 same_held (l ∷ ls) n p h = go (l.from == p) (l.to == p) (omega (arith, h)) (same_held ls (n + 1) p (omega (arith, h)))
   where
     go : (a b : Bool) → byte n ≡ n → ends_after (n + 1) p ls ≡ mean.ends_after (n + 1) p ls
-        → cons_option (if a then Some (record { link = byte n; side = From; port = l.output }) else None) (cons_option (if b then Some (record { link = byte n; side = To; port = l.input }) else None) (ends_after (n + 1) p ls))
-        ≡ cons_option (if a then Some (record { link = n; side = From; port = l.output }) else None) (cons_option (if b then Some (record { link = n; side = To; port = l.input }) else None) (mean.ends_after (n + 1) p ls))
+        → cons_option (if a then Some (record { link = byte n; side = From; port = l.output }) else None)
+        (cons_option (if b then Some (record { link = byte n; side = To; port = l.input }) else None) (ends_after (n + 1) p ls))
+        ≡ cons_option (if a then Some (record { link = n; side = From; port = l.output }) else None)
+        (cons_option (if b then Some (record { link = n; side = To; port = l.input }) else None) (mean.ends_after (n + 1) p ls))
     go a b e h =
-        ap (λ k. cons_option (if a then Some (record { link = k; side = From; port = l.output }) else None) (cons_option (if b then Some (record { link = k; side = To; port = l.input }) else None) (ends_after (n + 1) p ls))) e
-        ∙ ap (λ es. cons_option (if a then Some (record { link = n; side = From; port = l.output }) else None) (cons_option (if b then Some (record { link = n; side = To; port = l.input }) else None) es)) h
+        ap (λ k. cons_option (if a then Some (record { link = k; side = From; port = l.output }) else None)
+        (cons_option (if b then Some (record { link = k; side = To; port = l.input }) else None) (ends_after (n + 1) p ls))) e
+        ∙ ap (λ es. cons_option (if a then Some (record { link = n; side = From; port = l.output }) else None)
+        (cons_option (if b then Some (record { link = n; side = To; port = l.input }) else None) es)) h
 
 pub are_held : (app : AppTree) (p : ℕ) (ends : List End) → ends ≡ ends_held app.links p → AreHeld app p ends
 are_held app p ends h = record {

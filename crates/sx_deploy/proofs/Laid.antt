@@ -1,5 +1,7 @@
 -- Where the modules of an accepted deployment stand.
-use Rattle.std.proofs.Common.{◌≡◌, ℕ, zero, suc, ◌+◌, ◌<◌, ◌≤◌, ◌==◌, ◌%◌, if◌then◌else◌, Bool, true, false, ◌||◌, ◌&&◌, not, nat_lt, nat_le, List, [], ◌∷◌, ◌++◌, length, map, min, Some, None, slice_get, IfSome, IsSome, Ok, refl, sym, ap, subst, ◌∙◌, ◌⊎◌, inl, inr, arith, append_assoc, append-nil, length-append}
+use Rattle.std.proofs.Common.{◌≡◌, ℕ, zero, suc, ◌+◌, ◌<◌, ◌≤◌, ◌==◌, ◌%◌, if◌then◌else◌, Bool, true, false, ◌||◌, ◌&&◌, not, nat_lt, nat_le, List, [], ◌∷◌}
+use Rattle.std.proofs.Common.{◌++◌, length, map, min, Some, None, slice_get, IfSome, IsSome, Ok, refl, sym, ap, subst, ◌∙◌, ◌⊎◌, inl, inr, arith, append_assoc}
+use Rattle.std.proofs.Common.{append-nil, length-append}
 use Rattle.std.specs.List.{list_any, All, AllPairs}
 use Rattle.std.proofs.lemmas.Bool.Decides.{nat_tests}
 use Rattle.std.proofs.lemmas.Option.{slice_get-get_or, slice_get-map}
@@ -17,7 +19,8 @@ use Rattle.sx_entries.specs.declared.entries.Start.TheVariants as start
 use Rattle.sx_deploy.specs.declared.placing.Placement.{Placement}
 use Rattle.sx_deploy.specs.Sources.{Coded}
 use Rattle.sx_deploy.specs.Ties.{app_device, byte, start_device}
-use Rattle.sx_deploy.specs.Places.{ModuleSections, Span, data_of, drives, ends_of, holds_word, is_bad_place, is_outside, is_own, layout_of, meet, meets_module, placed_module, sections_of, span, start_of, text_of}
+use Rattle.sx_deploy.specs.Places.{ModuleSections, Span, data_of, drives, ends_of, holds_word, is_bad_place, is_outside, is_own, layout_of, meet, meets_module}
+use Rattle.sx_deploy.specs.Places.{placed_module, sections_of, span, start_of, text_of}
 use Rattle.sx_mean.specs.Application.{PartTree}
 use Rattle.sx_deploy.specs.Deployment.{Deployed, part_of}
 use Rattle.sx_deploy.specs.Law.{AreApartSpans, AreLaid, IsInside, IsLaid, IsWordPlace, Word, standing, words_of}
@@ -84,7 +87,8 @@ abbrev pub IsClear : PartTree → Layout → Word → Type 0
 IsClear q l w = w.node ≡ q.node → (IsSome q.device × (w.at ≡ l.priv_from))
     ⊎ (AreApartSpans (span w.at 2) (text_of (record { node = q.node; layout = l })) × AreApartSpans (span w.at 2) (data_of (record { node = q.node; layout = l })))
 
-one_clear : (m : Coded) (s : ModuleSections) → s.node ≡ m.node → s.drives ≡ drives m.start → m.node < 16 → (d : DeviceEntry) → d.node < 16 → holds_word s d ≡ false → IsClear (part_of m) (layout_of s) (word d)
+one_clear : (m : Coded) (s : ModuleSections) → s.node ≡ m.node → s.drives ≡ drives m.start → m.node < 16 → (d : DeviceEntry) → d.node < 16
+    → holds_word s d ≡ false → IsClear (part_of m) (layout_of s) (word d)
 one_clear m s n v small d there h same =
     let nodes : d.node ≡ s.node = same_bytes d.node m.node (omega arith) (omega arith) same ∙ sym n in
     by_own (is_own s d) refl (λ own. and_false (d.node == s.node && not (is_own s d)) _ h (rw (equal-tests d.node s.node nodes, own) refl))
@@ -205,7 +209,8 @@ module _ (d : Deployed) (devices : List DeviceEntry) (links : List Link) (total 
             (all-each (IsClear (part_of m) (layout_of s)) (map word devices) (each-map word (IsClear (part_of m) (layout_of s)) devices clear));
       }
 
-  pub laid_from : (done : List Placement) (ms : List Coded) (out : List Placement) → made_after (placed_module devices links) done ms ≡ Ok out → Each (IsFitting devices) ms → length done + length ms ≡ total
+  pub laid_from : (done : List Placement) (ms : List Coded) (out : List Placement) → made_after (placed_module devices links) done ms ≡ Ok out
+      → Each (IsFitting devices) ms → length done + length ms ≡ total
       → AreLaid d (length done) (map part_of ms) (map (λ (p : Placement). p.layout) (stand_after devices links (length done) ms))
   laid_from done [] out h f k = tt
   laid_from done (m ∷ ms) out h f k =

@@ -25,7 +25,8 @@ pairs-length (m ∷ ms) [] h = absurd h
 pairs-length (m ∷ ms) (c ∷ cs) h = ap suc (pairs-length ms cs h.1)
 
 -- what holds of each entry holds of each module
-pub pairs-each : (P : ModuleEntry → Type 0) (Q : Coded → Type 0) → ((m : ModuleEntry) (tree : ModuleTree) → P m → Q (coded m tree)) → (ms : List ModuleEntry) (cs : List Coded) → ArePairs ms cs → Each P ms → Each Q cs
+pub pairs-each : (P : ModuleEntry → Type 0) (Q : Coded → Type 0) → ((m : ModuleEntry) (tree : ModuleTree) → P m → Q (coded m tree))
+    → (ms : List ModuleEntry) (cs : List Coded) → ArePairs ms cs → Each P ms → Each Q cs
 pairs-each P Q k [] [] h e = tt
 pairs-each P Q k [] (c ∷ cs) h e = absurd h
 pairs-each P Q k (m ∷ ms) [] h e = absurd h

@@ -33,11 +33,13 @@ sensors_same (d ∷ ds) = ap (λ r. is_sensor d.kind ∷ r) (sensors_same ds)
 abbrev IsModule : PartTree → Type 0
 IsModule q = (first_broken q.tree ≡ None) × TreeHasWords q.tree
 
-pub are_parts : (d : Deployed) (modules : List Coded) → d.app.parts ≡ map part_of modules → is_valid d.app ≡ true → Each (λ (c : Coded). first_broken c.tree ≡ None) modules → Each (λ (c : Coded). TreeHasWords c.tree) modules
+pub are_parts : (d : Deployed) (modules : List Coded) → d.app.parts ≡ map part_of modules → is_valid d.app ≡ true
+    → Each (λ (c : Coded). first_broken c.tree ≡ None) modules → Each (λ (c : Coded). TreeHasWords c.tree) modules
     → (p : ℕ) (q : PartTree) → slice_get d.app.parts p ≡ Some q → IsDeployedPart d p q
 are_parts d modules same valid checked words p q e =
     let all : Each IsModule (map part_of modules) =
-    each-map part_of IsModule modules (each-both (λ (c : Coded). first_broken c.tree ≡ None) (λ (c : Coded). TreeHasWords c.tree) (λ (c : Coded). IsModule (part_of c)) (λ c k w. (k, w)) modules checked words) in
+    each-map part_of IsModule modules (each-both (λ (c : Coded). first_broken c.tree ≡ None) (λ (c : Coded). TreeHasWords c.tree)
+    (λ (c : Coded). IsModule (part_of c)) (λ c k w. (k, w)) modules checked words) in
     let one = each-get IsModule d.app.parts p q (subst (λ (qs : List PartTree). Each IsModule qs) (sym same) all) e in
     let placed = (valid_applications d.app valid).parts p q e in
     record { checked = one.0; words = one.1; node = placed.node; driven = placed.driven; ends = placed.ends; packets = placed.packets }

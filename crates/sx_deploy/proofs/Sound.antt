@@ -55,7 +55,8 @@ module _ (d : Deployed) (a : Accepted d) (k : AreEntries a.e) (f : AreFew a.e) (
       let fitting : Each (IsFitting e.devices) a.modules = each-weaker (IsFit e.devices) (IsFitting e.devices) (λ m h. record { node = h.node; there = h.there }) a.modules t.fit in
       let nodes : Each (λ (m : Coded). m.node < 16) a.modules = each-weaker (IsFit e.devices) (λ (m : Coded). m.node < 16) (λ m h. h.node) a.modules t.fit in
       let layouts : map (λ (p : Placement). p.layout) a.placements ≡ map (λ (p : Placement). p.layout) (stand_after e.devices a.links 0 a.modules) = ap (map (λ (p : Placement). p.layout)) out in
-      let laid = laid_from (arranged e a.modules a.links a.placements) e.devices a.links (length a.modules) refl refl refl f.devices on_nodes few_ends [] a.modules a.placements stands.1 fitting (omega arith) in
+      let laid = laid_from (arranged e a.modules a.links a.placements) e.devices a.links
+      (length a.modules) refl refl refl f.devices on_nodes few_ends [] a.modules a.placements stands.1 fitting (omega arith) in
       let small : length e.nodes ≤ 16 = f.nodes in
       let valid = valid_app e a.modules a.links f k t in
       let v = valid_applications (app_of e a.modules a.links) valid in
@@ -71,7 +72,8 @@ module _ (d : Deployed) (a : Accepted d) (k : AreEntries a.e) (f : AreFew a.e) (
         few_parts = v.few_parts;
         few_links = v.few_links;
         sensors = sensors_same e.devices;
-        provider_words = all-each IsWord (map (λ (m : ModuleEntry). m.provider) e.modules) (each-map (λ (m : ModuleEntry). m.provider) IsWord e.modules (each-all-back (λ (m : ModuleEntry). IsWord m.provider) e.modules k.module_providers));
+        provider_words = all-each IsWord (map (λ (m : ModuleEntry). m.provider) e.modules)
+            (each-map (λ (m : ModuleEntry). m.provider) IsWord e.modules (each-all-back (λ (m : ModuleEntry). IsWord m.provider) e.modules k.module_providers));
         modules = are_parts (arranged e a.modules a.links a.placements) a.modules refl valid a.sound (coded_words 0 e.modules a.modules a.are_coded);
         links = t.as_many_links ∙ sym (length-map e.links (λ (l : LinkEntry). l.name));
         words = subst (λ (ws : List Word). All IsWordPlace ws) (sym (words-map e.devices)) (all-each IsWordPlace (map word e.devices) (words_places e.devices stands.0));

@@ -1,5 +1,6 @@
 -- The application of a deployment that is read is valid.
-use Rattle.std.proofs.Common.{◌≡◌, ℕ, zero, suc, ◌+◌, ◌<◌, ◌≤◌, ◌==◌, if◌then◌else◌, Bool, true, false, not, nat_lt, List, [], ◌∷◌, ◌++◌, length, map, get_or, count_by, Some, None, Ok, refl, sym, ap, subst, ◌∙◌, arith, add-zero}
+use Rattle.std.proofs.Common.{◌≡◌, ℕ, zero, suc, ◌+◌, ◌<◌, ◌≤◌, ◌==◌, if◌then◌else◌, Bool, true, false, not, nat_lt, List, [], ◌∷◌, ◌++◌, length, map, get_or}
+use Rattle.std.proofs.Common.{count_by, Some, None, Ok, refl, sym, ap, subst, ◌∙◌, arith, add-zero}
 use Rattle.std.specs.List.{list_any, All}
 use Rattle.std.proofs.lemmas.Bool.Decides.{nat_tests}
 use Rattle.std.proofs.lemmas.List.{length-map}
@@ -202,7 +203,8 @@ fits d a k f =
     pairs-each (λ (m : ModuleEntry). IsThere m.start (length e.devices)) (λ (c : Coded). IsThere c.start (length e.devices)) (λ m tree h. h) e.modules a.modules ps
     (each-all-back (λ (m : ModuleEntry). IsThere m.start (length e.devices)) e.modules k.module_devices) in
     let driven : Each (λ (m : Coded). not (is_driven (map app_device e.devices) (byte m.node) (start_device m.start) (declared_kind m.tree.decls)) ≡ false) a.modules =
-    each-clear (is_mismatched (map app_device e.devices)) (λ m. not (is_driven (map app_device e.devices) (byte m.node) (start_device m.start) (declared_kind m.tree.decls))) (λ e m. refl) [] a.modules lines.first in
+    each-clear (is_mismatched (map app_device e.devices)) (λ m.
+    not (is_driven (map app_device e.devices) (byte m.node) (start_device m.start) (declared_kind m.tree.decls))) (λ e m. refl) [] a.modules lines.first in
     let small : length e.nodes ≤ 16 = f.nodes in
     let placed_there : Each (λ (m : Coded). (m.node < length e.nodes) × IsThere m.start (length e.devices)) a.modules =
     each-both (λ (m : Coded). m.node < length e.nodes) (λ (m : Coded). IsThere m.start (length e.devices)) _ (λ m p q. (p, q)) a.modules nodes there in

@@ -6,7 +6,8 @@ use Rattle.sx_deploy.specs.declared.deployment.Deployment.{Deployment}
 use Rattle.sx_mean.specs.View.{part_as}
 use Rattle.sx_run.specs.Setting.{Setting}
 use Rattle.sx_drive.specs.declared.said.Said.{Said as Told}
-use Rattle.sx_drive.specs.Honest.{Honest, Driven, MOST_LINES, still, then_, each, made_by, takes_one, takes, collects, if_there, callee_at, sets_up, sets_up_from, setup, with_waiting, delivers, oldest, settles}
+use Rattle.sx_drive.specs.Honest.{Honest, Driven, MOST_LINES, still, then_, each, made_by, takes_one, takes, collects, if_there, callee_at, sets_up}
+use Rattle.sx_drive.specs.Honest.{sets_up_from, setup, with_waiting, delivers, oldest, settles}
 use Rattle.sx_drive.specs.Driving.{Kept, Follows, GoesOn, Did, Wanted, waits}
 use Rattle.sx_drive.proofs.Remains.{Part, Remains, remains_start, remains_on, remains_wanted, remains_none}
 
@@ -121,7 +122,8 @@ pub set_up_first : (mac : Mac) (d : Deployment) (old : Kept) (before : List Told
     → Remains mac d setup (set_up_rest (length d.app.parts.items) 0) old old before before
 set_up_first mac d old before =
     remains_as mac d setup setup (set_up_rest (length d.app.parts.items) 0) old old before before (remains_start mac d setup old before)
-    (λ set h f. ap (λ k. sets_up_from set 0 k h) (ap (λ (s : Setting). length s.app.parts) f.setting ∙ whole (length (map part_as d.app.parts.items)) (length d.app.parts.items) (length-map d.app.parts.items part_as)))
+    (λ set h f. ap (λ k. sets_up_from set 0 k h) (ap (λ (s : Setting). length s.app.parts) f.setting
+    ∙ whole (length (map part_as d.app.parts.items)) (length d.app.parts.items) (length-map d.app.parts.items part_as)))
   where
     whole : (k n : ℕ) → k ≡ n → k ≡ n - 0
     whole k n e = omega arith

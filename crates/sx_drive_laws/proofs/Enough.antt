@@ -66,7 +66,8 @@ more_settling app (suc n) zero c le = absurd (omega (arith, le))
 more_settling app (suc n) (suc m) c le = go c.plain.waiting (λ d. more_settling app n m d (omega (arith, le)))
   where
     go : (xs : List Waiting) → ((d : Course) → (right : List Line) × (settling_lines app m d ≡ settling_lines app n d ++ right))
-        → (right : List Line) × (oldest [] (λ x ws. delivery_lines app x c ++ settling_lines app m (delivered app x ws c)) xs ≡ oldest [] (λ x ws. delivery_lines app x c ++ settling_lines app n (delivered app x ws c)) xs ++ right)
+        → (right : List Line) × (oldest [] (λ x ws. delivery_lines app x c ++ settling_lines app m (delivered app x ws c)) xs
+        ≡ oldest [] (λ x ws. delivery_lines app x c ++ settling_lines app n (delivered app x ws c)) xs ++ right)
     go [] more = ([], refl)
     go (x ∷ ws) more =
         let r = more (delivered app x ws c) in (

@@ -74,7 +74,8 @@ module _ (set : Setting) (valid : is_valid set.app ≡ true) (n m : ℕ) (le : n
         sum : (x y z a b d : ℕ) → x ≡ y + z → y + a ≡ b → z + b ≡ d → x + a ≡ d
         sum x y z a b d p q r = omega (arith, p, q, r)
 
-    still_alike : (settled set.app m s ≡ e) → settling_lines set.app m s ≡ settling_lines set.app n s → Alike (readings_lines set.app m rs e) (readings_lines set.app n rs e) (lines_so_far set.app (k + 1) e)
+    still_alike : (settled set.app m s ≡ e) → settling_lines set.app m s ≡ settling_lines set.app n s
+        → Alike (readings_lines set.app m rs e) (readings_lines set.app n rs e) (lines_so_far set.app (k + 1) e)
         → Alike (readings_lines set.app m (r ∷ rs) c) (readings_lines set.app n (r ∷ rs) c) (lines_so_far set.app k c)
     still_alike course lines rest =
         let same : readings_lines set.app m (r ∷ rs) c ≡ ls ++ readings_lines set.app m rs e =

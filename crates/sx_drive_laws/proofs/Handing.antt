@@ -46,7 +46,8 @@ made_outs p k (v ∷ outs) few = made_outs p k outs few
 
 -- A packet is given, and its module called.
 pub hands_fares : (set : Setting) (e : ℕ) (x : Callee) (k : ℕ) (h : Honest) → IsWhole h
-    → Fares set h.world (hands set e x k h) (Give k x.node 0x40 ∷ Call x.part e 0x40 0x80 ∷ []) (Shows h.waiting (next set (next set h.world (Give k x.node 0x40)).world (Call x.part e 0x40 0x80)).items)
+    → Fares set h.world (hands set e x k h) (Give k x.node 0x40 ∷ Call x.part e 0x40 0x80 ∷ [])
+    (Shows h.waiting (next set (next set h.world (Give k x.node 0x40)).world (Call x.part e 0x40 0x80)).items)
 hands_fares set e x k h whole =
     let give : Line = Give k x.node 0x40 in
     let call : Line = Call x.part e 0x40 0x80 in
@@ -66,7 +67,8 @@ take_fares : (set : Setting) (n i number : ℕ) (h : Honest) → IsWhole h → (
 take_fares set n i number h whole shown =
     let l : Line = Take n (0x80 + 24 * i) 24 in
     let g : Honest = (says set l h).honest in
-    then_fares set h.world (says set l h) queues (l ∷ []) [] (Shows h.waiting (next set h.world l).items) (Waits (h.waiting ++ number ∷ [])) (says_fares set l h whole) (λ g cut. record { said = refl; long = cut })
+    then_fares set h.world (says set l h) queues (l ∷ []) [] (Shows h.waiting (next set h.world l).items) (Waits (h.waiting ++ number ∷ []))
+    (says_fares set l h whole) (λ g cut. record { said = refl; long = cut })
     (λ played. inr (record {
       said = refl;
       world = refl;

@@ -1,5 +1,6 @@
 -- What a part of the program's honest run says: lines, each with what it shows, or else a line was left out, since they are too many.
-use Rattle.std.proofs.Common.{◌≡◌, ℕ, ◌+◌, ◌<◌, ◌≤◌, ◌==◌, ◌||◌, ◌⊎◌, inl, inr, Bool, true, false, if◌then◌else◌, List, [], ◌∷◌, ◌++◌, length, length-append, map, append_assoc, refl, sym, ◌∙◌, ap, subst, arith}
+use Rattle.std.proofs.Common.{◌≡◌, ℕ, ◌+◌, ◌<◌, ◌≤◌, ◌==◌, ◌||◌, ◌⊎◌, inl, inr, Bool, true, false, if◌then◌else◌, List, [], ◌∷◌, ◌++◌, length, length-append}
+use Rattle.std.proofs.Common.{map, append_assoc, refl, sym, ◌∙◌, ap, subst, arith}
 use Rattle.std.proofs.lemmas.Bool.{eq-eqb, eqb-true}
 use Rattle.std.proofs.lemmas.List.{append-nil}
 use Rattle.sx_trace.specs.declared.items.Item.{Item}
@@ -166,7 +167,8 @@ below a b le apart = omega (arith, le, apart)
 
 either_way : (set : Setting) (l : Line) (h : Honest) → h.world.lines ≤ 65536 → (b : Bool) → (h.world.lines == 65536) ≡ b
     → Fares set h.world (if b then left_out h else performed l h (next set h.world l)) (l ∷ []) (Shows h.waiting (next set h.world l).items)
-either_way set l h room true e = let full : h.world.lines ≡ 65536 = eqb-true h.world.lines 65536 e in inl (record { front = []; rest = l ∷ []; lines = refl; full = omega (arith, full); some = omega arith; said = refl; long = refl })
+either_way set l h room true e = let full : h.world.lines ≡ 65536 = eqb-true h.world.lines 65536 e in
+    inl (record { front = []; rest = l ∷ []; lines = refl; full = omega (arith, full); some = omega arith; said = refl; long = refl })
 either_way set l h room false e =
     let a = next set h.world l in
     let one : a.world.lines ≡ h.world.lines + 1 = counts_lines set (line_counted h.world) l in

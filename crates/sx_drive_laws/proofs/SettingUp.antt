@@ -40,7 +40,8 @@ keys_fare set x number (suc k) h whole =
     let p : List Item = (next set (next set h.world give).world call).items in
     then_fares set h.world (hands set 0 x number h) (each (hands set 0 x) (numbers (number + 1) k)) (give ∷ call ∷ []) rest (Shows h.waiting p) (Waits h.waiting) (hands_fares set 0 x number h whole)
     (each_stay (hands set 0 x) (hands_stay set 0 x) (numbers (number + 1) k))
-    (λ played. fares_as set g.world (each (hands set 0 x) (numbers (number + 1) k) g) rest (Waits g.waiting) (Waits h.waiting) (λ more. more.holds ∙ played.holds.waiting) (keys_fare set x (number + 1) k g played.whole))
+    (λ played. fares_as set g.world (each (hands set 0 x) (numbers (number + 1) k) g) rest (Waits g.waiting) (Waits h.waiting)
+    (λ more. more.holds ∙ played.holds.waiting) (keys_fare set x (number + 1) k g played.whole))
 
 -- A module is asked, and gets the packet of this number.
 module _ (set : Setting) (x : Callee) (number : ℕ) (h : Honest) (whole : IsWhole h) (asked : packets_of (next set (next set h.world (Load x.part)).world (Ask x.part)).items ≡ number ∷ []) where
@@ -135,7 +136,8 @@ module _ (set : Setting) (m number : ℕ) (q : PartTree) (es : List End) (h : Ho
   sets_up_fares =
       let asked : (next set (next set h.world (Load m)).world (Ask m)).items ≡ item.Ask m m ∷ item.Packet number 18 ∷ [] = ap (λ (zs : List (List Item)). first_of (rest_of zs)) shown in
       let after : shown_by set w (Take q.node 0x80 16 ∷ Answer m 0 (number + 1) ∷ key_lines m q.node (number + 2) (length es))
-      ≡ (item.Packet (number + 1) 16 ∷ []) ∷ (item.Attested m 0 ∷ packet_items (number + 2) 38 (length es)) ∷ keys_shown m es = ap (λ (zs : List (List Item)). rest_of (rest_of (rest_of (rest_of zs)))) shown in
+      ≡ (item.Packet (number + 1) 16 ∷ []) ∷ (item.Attested m 0 ∷ packet_items (number + 2) 38 (length es)) ∷ keys_shown m es =
+      ap (λ (zs : List (List Item)). rest_of (rest_of (rest_of (rest_of zs)))) shown in
       then_fares set h.world (asks set x h) (opens set x) asked_lines (Take q.node 0x80 16 ∷ Answer m 0 (number + 1) ∷ key_lines m q.node (number + 2) (length es)) (Waits h.waiting) (Waits h.waiting)
       (asks_fares set x number h whole (ap packets_of asked)) (opens_stay set x)
       (λ played.

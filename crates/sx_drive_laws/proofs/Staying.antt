@@ -4,7 +4,9 @@ use Rattle.std.specs.Prelude.{option_and_then}
 use Rattle.sx_sched.specs.Lines.{Line, Answer, Ask, Call, Give, Load, Sense, Take}
 use Rattle.sx_run.specs.Setting.{Setting}
 use Rattle.sx_world.specs.Whole.{next}
-use Rattle.sx_drive.specs.Honest.{Callee, Driven, Honest, IN_WINDOW, MOST_LINES, OUT_WINDOW, Reading, answers, asks, callee_at, calls, collects, delivers, driver_of, each, hands, if_there, left_out, made_by, oldest, opens, packets_of, performed, queues, reads, receiver_of, receives, samples, says, sets_up, sets_up_from, settles, takes, takes_one, then_, with_waiting}
+use Rattle.sx_drive.specs.Honest.{Callee, Driven, Honest, IN_WINDOW, MOST_LINES, OUT_WINDOW, Reading, answers, asks, callee_at, calls, collects, delivers}
+use Rattle.sx_drive.specs.Honest.{driver_of, each, hands, if_there, left_out, made_by, oldest, opens, packets_of, performed, queues, reads, receiver_of}
+use Rattle.sx_drive.specs.Honest.{receives, samples, says, sets_up, sets_up_from, settles, takes, takes_one, then_, with_waiting}
 use Rattle.sx_drive_laws.proofs.Playing.{IsSilent, Stays, still_silent, then_silent}
 
 pub each_stay : {A : Type 0} (act : A → Honest → Driven) → ((x : A) → Stays (act x)) → (xs : List A) → Stays (each act xs)

@@ -1,5 +1,6 @@
 -- Where the program's honest run stands, and that its readings and deliveries follow the course.
-use Rattle.std.proofs.Common.{◌≡◌, ℕ, zero, suc, ◌+◌, ◌*◌, ◌≤◌, ◌==◌, inl, inr, Bool, true, if◌then◌else◌, List, [], ◌∷◌, ◌++◌, length, length-append, Option, Some, None, slice_get, append_assoc, refl, sym, ◌∙◌, ap, subst, arith}
+use Rattle.std.proofs.Common.{◌≡◌, ℕ, zero, suc, ◌+◌, ◌*◌, ◌≤◌, ◌==◌, inl, inr, Bool, true, if◌then◌else◌, List, [], ◌∷◌, ◌++◌, length, length-append, Option}
+use Rattle.std.proofs.Common.{Some, None, slice_get, append_assoc, refl, sym, ◌∙◌, ap, subst, arith}
 use Rattle.std.specs.Prelude.{cond, option_and_then, option_map, slice_index_or}
 use Rattle.std.specs.List.{All, position_from}
 use Rattle.std.proofs.lemmas.Bool.{cases_eq, eq-eqb, ne_eqb}
@@ -33,7 +34,8 @@ use Rattle.sx_deliver.proofs.Going.{Leads, Stands}
 use Rattle.sx_deliver.proofs.Oldest.{IsOldest, oldest_there}
 use Rattle.sx_deliver.proofs.Received.{delivery_leads}
 use Rattle.sx_deliver.proofs.Sampled.{reading_leads}
-use Rattle.sx_drive.specs.Honest.{Callee, Driven, Honest, MOST_LINES, Reading, Said, callee_at, delivers, driver_of, each, if_there, oldest, reads, receiver_of, receives, samples, says, settles, target_of, then_, with_waiting}
+use Rattle.sx_drive.specs.Honest.{Callee, Driven, Honest, MOST_LINES, Reading, Said, callee_at, delivers, driver_of, each, if_there, oldest, reads, receiver_of}
+use Rattle.sx_drive.specs.Honest.{receives, samples, says, settles, target_of, then_, with_waiting}
 use Rattle.sx_drive_laws.specs.Laws.{IsReading}
 use Rattle.sx_drive_laws.specs.Samplings.{sampling_of, samplings_of}
 use Rattle.sx_drive_laws.proofs.Playing.{Fares, IsWhole, Plays, Shows, Waits, fares_as, run_counts, says_fares, still_fares, then_fares}
@@ -53,7 +55,8 @@ pub record Tracks (set : Setting) (c : Course) (k : ℕ) (h : Honest) : Type 0 w
 room_for : (u k p w : ℕ) → u + 2 * k + 3 * p + w ≤ 65536 → p + w ≤ 16 * (k + p) → p + w + 16 ≤ 65535
 room_for u k p w a b = omega (arith, a, b)
 
-tracks_on : (set : Setting) (h : Honest) (d : Driven) (ls : List Line) (shown : List (List Item)) (c e : Course) (k j : ℕ) (P : Honest → Type 0) → Leads set h.world ls shown c e → h.world.lines ≡ lines_so_far set.app k c
+tracks_on : (set : Setting) (h : Honest) (d : Driven) (ls : List Line) (shown : List (List Item)) (c e : Course) (k j : ℕ) (P : Honest → Type 0)
+    → Leads set h.world ls shown c e → h.world.lines ≡ lines_so_far set.app k c
     → length ls + lines_so_far set.app k c ≡ lines_so_far set.app j e → total e ≤ 16 * (j + length e.past) → Plays set h.world d ls P
     → d.honest.waiting ≡ numbers (setup_packets set.app + length e.past) (length e.plain.waiting) → Tracks set e j d.honest
 tracks_on set h d ls shown c e k j P leads count long few played waits =
@@ -212,8 +215,10 @@ module _ (set : Setting) (sound : IsSoundSetting set) (room : HasRoom set) (word
   settles_fares zero c k h whole t = still_fares set h (Tracks set c k) whole t
   settles_fares (suc n) c k h whole t = go c.plain.waiting refl (λ d g w u. settles_fares n d k g w u)
     where
-      go : (xs : List Waiting) → c.plain.waiting ≡ xs → ((d : Course) (g : Honest) → IsWhole g → Tracks set d k g → Fares set g.world (settles set n g) (settling_lines app n d) (Tracks set (settled app n d) k))
-          → Fares set h.world (oldest set (settles set n) h.waiting h) (oldest_value [] (λ x ws. delivery_lines app x c ++ settling_lines app n (delivered app x ws c)) xs) (Tracks set (oldest_value c (λ x ws. settled app n (delivered app x ws c)) xs) k)
+      go : (xs : List Waiting) → c.plain.waiting ≡ xs → ((d : Course) (g : Honest) → IsWhole g → Tracks set d k g
+          → Fares set g.world (settles set n g) (settling_lines app n d) (Tracks set (settled app n d) k))
+          → Fares set h.world (oldest set (settles set n) h.waiting h) (oldest_value [] (λ x ws. delivery_lines app x c ++ settling_lines app n
+          (delivered app x ws c)) xs) (Tracks set (oldest_value c (λ x ws. settled app n (delivered app x ws c)) xs) k)
       go [] e more =
           let none : h.waiting ≡ [] = t.waiting ∙ ap (λ (zs : List Waiting). numbers (setup_packets set.app + length c.past) (length zs)) e in
           subst (λ (ks : List ℕ). Fares set h.world (oldest set (settles set n) ks h) [] (Tracks set c k)) (sym none) (still_fares set h (Tracks set c k) whole t)
@@ -222,8 +227,10 @@ module _ (set : Setting) (sound : IsSoundSetting set) (room : HasRoom set) (word
           let first = setup_packets set.app + length c.past in
           let rest = numbers (first + 1) (length ws) in
           let a : Driven = delivers set first (with_waiting h rest) in
-          subst (λ (ks : List ℕ). Fares set h.world (oldest set (settles set n) ks h) (delivery_lines app x c ++ settling_lines app n d) (Tracks set (settled app n d) k)) (sym (waits_now c k h whole t x ws e))
-          (then_fares set h.world a (settles set n) (delivery_lines app x c) (settling_lines app n d) (Tracks set d k) (Tracks set (settled app n d) k) (delivers_fares c k h whole t x ws e) (settles_stay set n)
+          subst (λ (ks : List ℕ). Fares set h.world (oldest set (settles set n) ks h) (delivery_lines app x c ++ settling_lines app n d)
+          (Tracks set (settled app n d) k)) (sym (waits_now c k h whole t x ws e))
+          (then_fares set h.world a (settles set n) (delivery_lines app x c) (settling_lines app n d) (Tracks set d k) (Tracks set (settled app n d) k)
+          (delivers_fares c k h whole t x ws e) (settles_stay set n)
           (λ played. more d a.honest played.whole played.holds))
 
   -- A reading.
@@ -304,7 +311,8 @@ module _ (set : Setting) (sound : IsSoundSetting set) (room : HasRoom set) (word
     abbrev sensing : Driven
     sensing = then_ (says set sense h) sampling
 
-    sampled : (g : Honest) → IsWhole g → g.waiting ≡ h.waiting → g.world ≡ (next set h.world sense).world → Fares set g.world (sampling g) calling (Waits (h.waiting ++ numbers (packets_so_far set.app c) made))
+    sampled : (g : Honest) → IsWhole g → g.waiting ≡ h.waiting → g.world ≡ (next set h.world sense).world
+        → Fares set g.world (sampling g) calling (Waits (h.waiting ++ numbers (packets_so_far set.app c) made))
     sampled g whole waits world =
         let Q : Honest → Type 0 = Waits (h.waiting ++ numbers (packets_so_far set.app c) made) in
         let shown : shown_by set g.world calling ≡ call_shown is.driver (item.Read is.driver r.value) (acts_emit acts_then) made (packets_so_far set.app c) =
@@ -357,7 +365,8 @@ module _ (set : Setting) (sound : IsSoundSetting set) (room : HasRoom set) (word
       let ns : List Line = readings_lines app MOST_LINES ss e in
       let next_k : k + 1 + length ss ≡ k + suc (length ss) = omega arith in
       let Q : Honest → Type 0 = IsPlayed (s ∷ ss) c (k + suc (length ss)) in
-      then_fares set h.world (reads set r h) (each (reads set) rs) (ls ++ ms) ns (Tracks set e (k + 1)) Q (reads_fares r c k h whole t (All-head (IsReading app) r rs all)) (each_stay (reads set) (reads_stay set) rs)
+      then_fares set h.world (reads set r h) (each (reads set) rs) (ls ++ ms) ns (Tracks set e (k + 1)) Q
+      (reads_fares r c k h whole t (All-head (IsReading app) r rs all)) (each_stay (reads set) (reads_stay set) rs)
       (λ first.
       let fits : lines_so_far app (k + 1) e ≤ 65536 = (let a = first.holds.count in let b = first.whole.room in omega (arith, a, b)) in
       let still : e.plain.waiting ≡ [] = still_at app MOST_LINES (k + 1) b most_lines fits in

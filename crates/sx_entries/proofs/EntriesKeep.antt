@@ -51,7 +51,8 @@ no_device = record { name = []; node = 0; kind = Sensor; at = 0 }
 abbrev pub AreDevices : List NodeEntry → List DeviceEntry → Type 0
 AreDevices nodes done = AreNamed (map (λ (d : DeviceEntry). d.name) done) × Each (λ (d : DeviceEntry). d.node < length nodes) done
 
-device_keeps : (nodes : List NodeEntry) (done : List DeviceEntry) (row : DeviceRow) (b : DeviceEntry) → IsForm row.name → AreDevices nodes done → device_made nodes done row ≡ Ok b → AreDevices nodes (done ++ b ∷ [])
+device_keeps : (nodes : List NodeEntry) (done : List DeviceEntry) (row : DeviceRow) (b : DeviceEntry) → IsForm row.name → AreDevices nodes done
+    → device_made nodes done row ≡ Ok b → AreDevices nodes (done ++ b ∷ [])
 device_keeps nodes done row b f p h =
     through (λ (r : DeviceEntry). AreDevices nodes (done ++ r ∷ [])) (fresh (λ (e : DeviceEntry). e.name) done row.name) _ b (λ name e1 h1.
     through (λ (r : DeviceEntry). AreDevices nodes (done ++ r ∷ [])) (place_among (λ (e : NodeEntry). e.name) nodes row.node) _ b (λ node e2 h2.

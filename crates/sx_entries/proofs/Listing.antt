@@ -7,7 +7,8 @@ use Rattle.sx_trace.specs.Names.{place_of}
 use Rattle.sx_trace.proofs.Indexed.{position-map}
 
 -- the place of a name among the names is the place of its entry
-pub place_entry : {B : Type 0} (name_of : B → List ℕ) (entries : List B) (name : List ℕ) (o : Option ℕ) → o ≡ place_of (map name_of entries) name → o ≡ position (λ e. bytes_eq (name_of e) name) entries
+pub place_entry : {B : Type 0} (name_of : B → List ℕ) (entries : List B) (name : List ℕ) (o : Option ℕ) → o ≡ place_of (map name_of entries) name
+    → o ≡ position (λ e. bytes_eq (name_of e) name) entries
 place_entry name_of entries name o h = h ∙ sym (position-map name_of (λ n. bytes_eq n name) entries)
 
 is_some-cond : (b : Bool) (n : ℕ) → is_some (cond b (Some n) None) ≡ b
@@ -27,4 +28,5 @@ some_any p (x ∷ xs) = by (p x) refl (some_any p xs)
   where
     by : (b : Bool) → p x ≡ b → is_some (position p xs) ≡ list_any p xs → is_some (position p (x ∷ xs)) ≡ list_any p (x ∷ xs)
     by true e h = rw e (is_some-cond (nat_lt 0 (suc (length xs))) 0 ∙ first (length xs))
-    by false e h = rw e (is_some-cond (nat_lt (1 + position_or_len p xs) (suc (length xs))) (1 + position_or_len p xs) ∙ after (position_or_len p xs) (length xs) ∙ sym (is_some-cond (nat_lt (position_or_len p xs) (length xs)) (position_or_len p xs)) ∙ h)
+    by false e h = rw e (is_some-cond (nat_lt (1 + position_or_len p xs) (suc (length xs))) (1 + position_or_len p xs)
+        ∙ after (position_or_len p xs) (length xs) ∙ sym (is_some-cond (nat_lt (position_or_len p xs) (length xs)) (position_or_len p xs)) ∙ h)

@@ -1,5 +1,6 @@
 -- Each item of a legal trace that has a cause has it before, and causes lead to a sensor's value.
-use Rattle.std.proofs.Common.{◌≡◌, ℕ, zero, suc, ◌+◌, ◌*◌, ◌/◌, ◌%◌, ◌<◌, ◌==◌, ◌&&◌, Bool, true, false, if◌then◌else◌, List, [], ◌∷◌, ◌++◌, length, replicate, Option, Some, None, slice_get, append_assoc, add-zero, refl, sym, ap, ◌∙◌, subst, arith}
+use Rattle.std.proofs.Common.{◌≡◌, ℕ, zero, suc, ◌+◌, ◌*◌, ◌/◌, ◌%◌, ◌<◌, ◌==◌, ◌&&◌, Bool, true, false, if◌then◌else◌, List, [], ◌∷◌, ◌++◌, length, replicate}
+use Rattle.std.proofs.Common.{Option, Some, None, slice_get, append_assoc, add-zero, refl, sym, ap, ◌∙◌, subst, arith}
 use Rattle.std.specs.Prelude.{is_none, is_some, slice_set, IsSome}
 use Rattle.std.specs.List.{cons_option, list_any}
 use Rattle.std.proofs.lemmas.Bool.{and_parts, eq-eqb, eqb-true}
@@ -127,7 +128,8 @@ step_cases app s = record {
 
 pub step_grows : (app : AppTree) (s : Model) (item : Item) (t : Model) → step app s item ≡ Some t → Grows s.sent t.sent (λ k v. StepSends app s t item k v)
 step_grows app s item t e =
-    some_of (step app s item) t (λ t. Grows s.sent t.sent (λ k v. StepSends app s t item k v)) (by_step app s (λ item t. Grows s.sent t.sent (λ k v. StepSends app s t item k v)) (step_cases app s) item) e
+    some_of (step app s item) t (λ t. Grows s.sent t.sent (λ k v. StepSends app s t item k v))
+    (by_step app s (λ item t. Grows s.sent t.sent (λ k v. StepSends app s t item k v)) (step_cases app s) item) e
 
 -- Along a run.
 
@@ -158,7 +160,8 @@ found app k j v n (i ∷ is) s t e none some =
     let x = some_next (step app s i) (λ t. after app t is) t e in
     at x.0 x.1 x.2 (word_of x.0.sent k j) refl (λ u a b. found app k j v (n + 1) is u t a b some)
   where
-    at : (u : Model) → step app s i ≡ Some u → after app u is ≡ Some t → (o : Option ℕ) → word_of u.sent k j ≡ o → ((u : Model) → after app u is ≡ Some t → word_of u.sent k j ≡ None → Found app k j v (n + 1) u is)
+    at : (u : Model) → step app s i ≡ Some u → after app u is ≡ Some t → (o : Option ℕ) → word_of u.sent k j ≡ o
+        → ((u : Model) → after app u is ≡ Some t → word_of u.sent k j ≡ None → Found app k j v (n + 1) u is)
         → Found app k j v n s (i ∷ is)
     at u here rest None w more =
         let f = more u rest w in
@@ -218,7 +221,8 @@ sending_link (l ∷ ls) n p i e h f = go (l.from == p) (l.to == p) refl i h (λ 
     rest false i h more = later_link l ls n p e (more i h)
 
     go : (a b : Bool) → (l.from == p) ≡ a → (i : ℕ)
-        → slice_get (cons_option (if a then Some (record { link = n; side = From; port = l.output }) else None) (cons_option (if b then Some (record { link = n; side = To; port = l.input }) else None) (ends_after (n + 1) p ls))) i ≡ Some e
+        → slice_get (cons_option (if a then Some (record { link = n; side = From; port = l.output }) else None)
+        (cons_option (if b then Some (record { link = n; side = To; port = l.input }) else None) (ends_after (n + 1) p ls))) i ≡ Some e
         → ((i : ℕ) → slice_get (ends_after (n + 1) p ls) i ≡ Some e → SendingLink ls (n + 1) p e) → SendingLink (l ∷ ls) n p e
     go true b t zero h more =
         let same : record { link = n; side = From; port = l.output } ≡ e = same_Some (record { link = n; side = From; port = l.output }) e h in
@@ -413,7 +417,8 @@ module _ (app : AppTree) (items : List Item) (valid : is_valid app ≡ true) (le
   abbrev Leads : ℕ → Type 0
   Leads n = (before behind : List Item) (item : Item) → items ≡ before ++ item ∷ behind → length before < n → has_part item ≡ true → LeadsToSense app before item
 
-  through_cause : (n : ℕ) → Leads n → (before behind : List Item) (item : Item) → items ≡ before ++ item ∷ behind → length before < suc n → (front : List Item) (by : Item) → IsCause app before item front by
+  through_cause : (n : ℕ) → Leads n → (before behind : List Item) (item : Item) → items ≡ before ++ item ∷ behind → length before < suc n
+      → (front : List Item) (by : Item) → IsCause app before item front by
       → has_part by ≡ true → LeadsToSense app before item
   through_cause n more before behind item place lt front by is part =
       let where_it_is : items ≡ front ++ by ∷ (is.rest ++ item ∷ behind) =

@@ -1,5 +1,6 @@
 -- What a judge keeps goes on to stand for the items so far.
-use Rattle.std.proofs.Common.{◌≡◌, ℕ, zero, suc, ◌+◌, ◌-◌, ◌*◌, ◌/◌, ◌%◌, ◌<◌, ◌≤◌, inl, inr, ◌⊎◌, ◌==◌, ◌||◌, ◌&&◌, Bool, true, false, if◌then◌else◌, List, [], ◌∷◌, ◌++◌, length, replicate, nat_lt, Option, Some, None, slice_get, add-zero, refl, sym, ap, ◌∙◌, subst, arith}
+use Rattle.std.proofs.Common.{◌≡◌, ℕ, zero, suc, ◌+◌, ◌-◌, ◌*◌, ◌/◌, ◌%◌, ◌<◌, ◌≤◌, inl, inr, ◌⊎◌, ◌==◌, ◌||◌, ◌&&◌, Bool, true, false, if◌then◌else◌, List, []}
+use Rattle.std.proofs.Common.{◌∷◌, ◌++◌, length, replicate, nat_lt, Option, Some, None, slice_get, add-zero, refl, sym, ap, ◌∙◌, subst, arith}
 use Rattle.std.specs.Prelude.{is_none, is_some, slice_set}
 use Rattle.std.specs.List.{list_any}
 use Rattle.std.proofs.lemmas.Bool.{cases_eq, cases_lt, eq-eqb, eqb-true, ne_eqb, and_parts}
@@ -607,7 +608,15 @@ begins app j model taken senses events causes behind forged =
     ∙ ap (λ es. record j { model = power_on app; taken = 0; senses = replicate (length app.devices) None; events = es }) events
     ∙ ap (λ cs. record j { model = power_on app; taken = 0; senses = replicate (length app.devices) None; events = replicate (length app.parts) None; causes = cs }) causes
     ∙ ap (λ b. record j { model = power_on app; taken = 0; senses = replicate (length app.devices) None; events = replicate (length app.parts) None; causes = replicate FIELDS []; behind = b }) behind
-    ∙ ap (λ b. record { model = power_on app; taken = 0; senses = replicate (length app.devices) None; events = replicate (length app.parts) None; causes = replicate FIELDS []; behind = None; has_forged = b }) forged
+    ∙ ap (λ b. record {
+      model = power_on app;
+      taken = 0;
+      senses = replicate (length app.devices) None;
+      events = replicate (length app.parts) None;
+      causes = replicate FIELDS [];
+      behind = None;
+      has_forged = b;
+    }) forged
     ) in
     subst (λ j. Follows app [] j) (sym is) (record { forged = refl; taken = refl; stands = λ _. stands })
   where

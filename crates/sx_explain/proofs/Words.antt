@@ -109,7 +109,8 @@ grows_to (e ∷ es) (view ∷ views) output v f = at (sends output e view) refl 
         let c = field_of e view in
         let g = sent_over c v (slice_get f.sent c) f in
         grows_on f.sent g.sent (sent_to es views output v g).sent _
-        (grows_weaker f.sent g.sent _ _ (λ k w h. (record { place = 0; end = e; end_is = refl; view = view; view_is = refl; sends_to = t; at = h.0 }, h.1)) (grows_over c v (slice_get f.sent c) f refl))
+        (grows_weaker f.sent g.sent _ _ (λ k w h. (record { place = 0; end = e; end_is = refl; view = view; view_is = refl; sends_to = t; at = h.0 }, h.1))
+        (grows_over c v (slice_get f.sent c) f refl))
         (grows_weaker g.sent (sent_to es views output v g).sent _ _ later (more g))
     at false t more = grows_weaker f.sent (sent_to es views output v f).sent _ _ later (more f)
 

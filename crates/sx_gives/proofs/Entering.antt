@@ -18,13 +18,16 @@ unfolding invoke
 enters su p e low entry =
     let c = low_call e in
     let windows : has_bad_windows su c ≡ false =
-    ap (λ b. b || is_bad_window su low_output out_window_size) (good_window su p.devices low low_input in_window_size (omega arith)) ∙ good_window su p.devices low low_output out_window_size (omega arith) in
-    cond-false (returns_inside su c) (Violates bad.Illegal p) (if is_no_entry su c then Returns no_entry p else if has_bad_windows su c then Returns bad_window p else entered su c p) (returns_outside su p.devices low)
+    ap (λ b. b || is_bad_window su low_output out_window_size) (good_window su p.devices low low_input in_window_size (omega arith))
+    ∙ good_window su p.devices low low_output out_window_size (omega arith) in
+    cond-false (returns_inside su c) (Violates bad.Illegal p) (if is_no_entry su c then Returns no_entry p else
+    if has_bad_windows su c then Returns bad_window p else entered su c p) (returns_outside su p.devices low)
     ∙ cond-false (is_no_entry su c) (Returns no_entry p) (if has_bad_windows su c then Returns bad_window p else entered su c p) entry
     ∙ cond-false (has_bad_windows su c) (Returns bad_window p) (entered su c p) windows
 
 -- a packet of the kind is received
-pub receives : (su : Setup) (p : Progress) (e n kind : ℕ) (packet : List ℕ) (rest : List ℕ → Invoked) → IsLowFree su p.devices → low_input + n ≤ low_end → bytes_from p.mem low_input n ≡ packet → is_kind kind packet ≡ true
+pub receives : (su : Setup) (p : Progress) (e n kind : ℕ) (packet : List ℕ) (rest : List ℕ → Invoked) → IsLowFree su p.devices → low_input + n ≤ low_end
+    → bytes_from p.mem low_input n ≡ packet → is_kind kind packet ≡ true
     → with_received su (low_call e) n kind p rest ≡ rest packet
 receives su p e n kind packet rest low le bytes is =
     ap (λ r. received r kind rest p) (read_all su p.devices low p.mem low_input n le ∙ ap (λ bs. Ok bs) bytes)

@@ -51,8 +51,20 @@ makes_none p = record { mem = p.mem; is = ap (λ q. Going q) (sym (onward_none p
 -- one part and then another
 onward_on : (p : Progress) (d e : Effect) (m n : List ℕ) → onward (onward p d m) e n ≡ onward p (record { ends = e.ends; marks = d.marks ++ e.marks; pieces = d.pieces ++ e.pieces }) n
 onward_on p d e m n =
-    ap (λ ms. record { state = record { cells = p.state.cells; ends = e.ends }; mem = n; devices = p.devices; marks = ms; pieces = (p.pieces ++ d.pieces) ++ e.pieces }) (append_assoc p.marks d.marks e.marks)
-    ∙ ap (λ ps. record { state = record { cells = p.state.cells; ends = e.ends }; mem = n; devices = p.devices; marks = p.marks ++ (d.marks ++ e.marks); pieces = ps }) (append_assoc p.pieces d.pieces e.pieces)
+    ap (λ ms. record {
+      state = record { cells = p.state.cells; ends = e.ends };
+      mem = n;
+      devices = p.devices;
+      marks = ms;
+      pieces = (p.pieces ++ d.pieces) ++ e.pieces;
+    }) (append_assoc p.marks d.marks e.marks)
+    ∙ ap (λ ps. record {
+      state = record { cells = p.state.cells; ends = e.ends };
+      mem = n;
+      devices = p.devices;
+      marks = p.marks ++ (d.marks ++ e.marks);
+      pieces = ps;
+    }) (append_assoc p.pieces d.pieces e.pieces)
 
 makes_then : (x : Course) (g : Progress → Course) (p : Progress) (d : Effect) (rest : List EndState → Effect) → Makes x p d
     → ((m : List ℕ) → Makes (g (onward p d m)) (onward p d m) (rest d.ends)) → Makes (and_on x g) p (also d rest)
@@ -83,7 +95,8 @@ module _ (su : Setup) where
       subst (λ n. length (packets_made su output v k (e ∷ es) ends).pieces ≤ n) (sym (senders-cons e es output)) (go (is_sending output e.side e.port) (few_pieces output v (k + 1) es))
     where
       go : (b : Bool) → ((x : List EndState) → length (packets_made su output v (k + 1) es x).pieces ≤ senders es output)
-          → length (if b then also (packet_made su v k ends) (packets_made su output v (k + 1) es) else packets_made su output v (k + 1) es ends).pieces ≤ (if b then 1 + senders es output else senders es output)
+          → length (if b then also (packet_made su v k ends) (packets_made su output v (k + 1) es) else packets_made su output v (k + 1) es ends).pieces
+          ≤ (if b then 1 + senders es output else senders es output)
       go true f =
           let one = one_piece v k ends in
           let more = f (packet_made su v k ends).ends in
@@ -116,7 +129,8 @@ module _ (su : Setup) (devices : List Window) (low : IsLowFree su devices) (tag 
           record { mem = m.0; is = m.1 }
       go false = makes_none p
 
-  packets_make : (output v k : ℕ) (es : List End) (p : Progress) → p.devices ≡ devices → length p.pieces + senders es output ≤ 16 → Makes (with_packets su c output v k es p) p (packets_made su output v k es p.state.ends)
+  packets_make : (output v k : ℕ) (es : List End) (p : Progress) → p.devices ≡ devices → length p.pieces + senders es output ≤ 16
+      → Makes (with_packets su c output v k es p) p (packets_made su output v k es p.state.ends)
   packets_make output v k [] p same few = makes_none p
   packets_make output v k (e ∷ es) p same few =
       go (is_sending output e.side e.port) (subst (λ n. length p.pieces + n ≤ 16) (senders-cons e es output) few) (packets_make output v (k + 1) es)
@@ -131,7 +145,8 @@ module _ (su : Setup) (devices : List Window) (low : IsLowFree su devices) (tag 
           (λ m. f (onward p d m) same (let one = one_piece su v k p.state.ends in let l = length-append p.pieces d.pieces in omega (arith, few, one, l)))
       go false few f = f p same few
 
-  act_makes : (device : Option ℕ) → own_device su devices ≡ device → (a : Act) (p : Progress) → p.devices ≡ devices → length p.pieces + act_packets su.ends a ≤ 16 → Makes (with_act su c a p) p (act_made su device a p.state.ends)
+  act_makes : (device : Option ℕ) → own_device su devices ≡ device → (a : Act) (p : Progress) → p.devices ≡ devices
+      → length p.pieces + act_packets su.ends a ≤ 16 → Makes (with_act su c a p) p (act_made su device a p.state.ends)
   act_makes device own (Send output v) p same few = packets_make output v 0 su.ends p same few
   act_makes device own (Emit v) p same few = go (own_window su p.devices) (ap (λ ds. own_device su ds) same ∙ own)
     where
@@ -143,7 +158,8 @@ module _ (su : Setup) (devices : List Window) (low : IsLowFree su devices) (tag 
             is = ap (λ ps. Going (record { state = p.state; mem = p.mem; devices = p.devices; marks = p.marks ++ Actuated d.0 v ∷ []; pieces = ps })) (sym (append-nil p.pieces));
           })
 
-  acts_make : (device : Option ℕ) → own_device su devices ≡ device → (acts : List Act) (p : Progress) → p.devices ≡ devices → length p.pieces + acts_packets su.ends acts ≤ 16 → Makes (with_acts su c acts p) p (acts_made su device acts p.state.ends)
+  acts_make : (device : Option ℕ) → own_device su devices ≡ device → (acts : List Act) (p : Progress) → p.devices ≡ devices
+      → length p.pieces + acts_packets su.ends acts ≤ 16 → Makes (with_acts su c acts p) p (acts_made su device acts p.state.ends)
   acts_make device own [] p same few = makes_none p
   acts_make device own (a ∷ acts) p same few =
       let d = act_made su device a p.state.ends in

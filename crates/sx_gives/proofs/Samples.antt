@@ -34,7 +34,8 @@ sample_returns su st mem devices k window low tag few driver own fresh =
     let p = beginning st mem devices in
     let c = low_call sample_entry in
     let q : Progress = record p { devices = cleared devices k; marks = Sampled k window.value ∷ [] } in
-    let made = handler_makes su (cleared devices k) (low_cleared su devices k low) tag c (omega arith) (Some k) (index_cleared devices su.section.layout.priv_from k window own) few (event.Sample window.value) q refl refl in
+    let made = handler_makes su (cleared devices k) (low_cleared su devices k low) tag c (omega arith) (Some k)
+    (index_cleared devices su.section.layout.priv_from k window own) few (event.Sample window.value) q refl refl in
     record {
       mem = made.mem;
       is = enters su p sample_entry low (ap not driver)

@@ -62,7 +62,8 @@ low = record {
 abbrev ask : List ℕ
 ask = 2 ∷ 0 ∷ replicate 16 4
 
-attested : InvocationGives setup 1 (beginning (initial_state tree setup.ends) (replicate 64 0 ++ ask) []) (initial_state tree setup.ends) [] (Wrapped ask [] true ∷ []) ((wrapped weak own.key ask []).tag ∷ [])
+attested : InvocationGives setup 1 (beginning (initial_state tree setup.ends) (replicate 64 0 ++ ask) []) (initial_state tree setup.ends) []
+    (Wrapped ask [] true ∷ []) ((wrapped weak own.key ask []).tag ∷ [])
 unfolding bytes_from
 attested = attest_returns setup (initial_state tree setup.ends) (replicate 64 0 ++ ask) [] ask low refl refl
 

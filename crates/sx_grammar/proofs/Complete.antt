@@ -6,9 +6,11 @@ use Rattle.sx_lang.specs.declared.tree.BinOp.{BinOp}
 use Rattle.sx_lex.specs.declared.tokens.Kind.{Kind}
 use Rattle.sx_lex.specs.declared.tokens.Kind.TheVariants.{OpenSquare, Star, Ampersand, Plus, Minus, Bar, Caret, Tilde, Bang}
 use Rattle.sx_grammar.specs.Tokens.{Token, token, fits, unary_operator, factor_operator, addend_operator, comparison_operator}
-use Rattle.sx_grammar.specs.Grammar.{Form, Primary, Unary, Term, Factors, Sum, Addends, Whole, IsExpression, number, name, element, brackets, plain, unary, term, no_factor, factor, sum, no_addend, addend, whole, comparison}
+use Rattle.sx_grammar.specs.Grammar.{Form, Primary, Unary, Term, Factors, Sum, Addends, Whole, IsExpression, number, name, element, brackets, plain, unary}
+use Rattle.sx_grammar.specs.Grammar.{term, no_factor, factor, sum, no_addend, addend, whole, comparison}
 use Rattle.sx_grammar.specs.Machine as machine
-use Rattle.sx_grammar.specs.Machine.{Symbol, Value, Of_expression, Want, Say, Reduction, Do_index, Do_combine, Operand, Comparison, Index_of, An_expression, Unary_of, A_close, A_close_square, opens, reads, is_square, apply, reduce}
+use Rattle.sx_grammar.specs.Machine.{Symbol, Value, Of_expression, Want, Say, Reduction, Do_index, Do_combine, Operand, Comparison, Index_of, An_expression}
+use Rattle.sx_grammar.specs.Machine.{Unary_of, A_close, A_close_square, opens, reads, is_square, apply, reduce}
 
 -- what is required where a form begins
 abbrev pub wanted : Form → List Symbol → List Symbol
@@ -109,13 +111,15 @@ expression_is st vs [] = refl
 expression_is st vs (token k c ∷ r) = refl
 
 -- a token that is a unary operator is read as one
-unary_read : (k : Kind) (b : Bool) (op : UnOp) (st : List Symbol) (vs : List Value) (ts : List Token) → unary_operator k ≡ Some op → fits b (opens st) ≡ true → reads (Operand ∷ st) vs (token k b ∷ ts) ≡ reads (Operand ∷ Unary_of op ∷ st) vs ts
+unary_read : (k : Kind) (b : Bool) (op : UnOp) (st : List Symbol) (vs : List Value) (ts : List Token) → unary_operator k ≡ Some op → fits b (opens st) ≡ true
+    → reads (Operand ∷ st) vs (token k b ∷ ts) ≡ reads (Operand ∷ Unary_of op ∷ st) vs ts
 unary_read Minus b op st vs ts e h = let f : op ≡ UnOp.Neg = cc in rw (h, f) refl
 unary_read Tilde b op st vs ts e h = let f : op ≡ UnOp.Inv = cc in rw (h, f) refl
 unary_read Bang b op st vs ts e h = let f : op ≡ UnOp.Not = cc in rw (h, f) refl
 unary_read _ b op st vs ts e h = absurd (cc)
 
-pub complete : {f : Form} {d : ℕ} {ts r : List Token} {e : Expression} → IsExpression f d ts e r → Ends f r → (st : List Symbol) (vs : List Value) → opens st ≡ d → reads (wanted f st) (held f vs) ts ≡ reads st (Of_expression e ∷ vs) r
+pub complete : {f : Form} {d : ℕ} {ts r : List Token} {e : Expression} → IsExpression f d ts e r → Ends f r → (st : List Symbol) (vs : List Value)
+    → opens st ≡ d → reads (wanted f st) (held f vs) ts ≡ reads st (Of_expression e ∷ vs) r
 complete number q st vs o = refl
 complete (name {x = x} {rest = r}) q st vs o = skip_index x st vs r q
 complete (element {x = x} {b = b} {rest = r} {e = e} h s) q st vs o =
@@ -130,12 +134,15 @@ complete (unary {k = k} {a = a} {op = op} {ts = ts} {rest = r} {e = e} u h s) q 
 complete (term {l = l} s t) q st vs o = complete s (after_factors t q.0) (machine.Factors 0 ∷ st) vs o ∙ complete t q st vs o
 complete (no_factor {n = n} {rest = r} {e = e}) q st vs o = skip_factors n st (Of_expression e ∷ vs) r q.1
 complete (factor {n = n} {a = a} {op = op} {us = us} {l = l} {r = r} u h s t) q st vs o =
-    rw (u, h) (complete s (after_factors t q.0) (Say (Do_combine op) ∷ machine.Factors (n + 1) ∷ st) (Of_expression l ∷ vs) o ∙ said (Do_combine op) (machine.Factors (n + 1) ∷ st) (Of_expression r ∷ Of_expression l ∷ vs) us ∙ complete t q st vs o)
+    rw (u, h) (complete s (after_factors t q.0) (Say (Do_combine op) ∷ machine.Factors (n + 1) ∷ st) (Of_expression l ∷ vs) o
+    ∙ said (Do_combine op) (machine.Factors (n + 1) ∷ st) (Of_expression r ∷ Of_expression l ∷ vs) us ∙ complete t q st vs o)
 complete (sum s t) q st vs o = complete s (after_addends t (q.0, q.1)) (machine.Addends 0 ∷ st) vs o ∙ complete t q st vs o
 complete (no_addend {n = n} {rest = r} {e = e}) q st vs o = skip_addends n st (Of_expression e ∷ vs) r q.2
 complete (addend {n = n} {a = a} {op = op} {us = us} {l = l} {r = r} u h s t) q st vs o =
-    rw (u, h) (complete s (after_addends t (q.0, q.1)) (Say (Do_combine op) ∷ machine.Addends (n + 1) ∷ st) (Of_expression l ∷ vs) o ∙ said (Do_combine op) (machine.Addends (n + 1) ∷ st) (Of_expression r ∷ Of_expression l ∷ vs) us ∙ complete t q st vs o)
+    rw (u, h) (complete s (after_addends t (q.0, q.1)) (Say (Do_combine op) ∷ machine.Addends (n + 1) ∷ st) (Of_expression l ∷ vs) o
+    ∙ said (Do_combine op) (machine.Addends (n + 1) ∷ st) (Of_expression r ∷ Of_expression l ∷ vs) us ∙ complete t q st vs o)
 complete (whole {ts = ts} {rest = r} {e = e} s) q st vs o =
     expression_is st vs ts ∙ complete s (q.0, q.1, q.2) (Comparison ∷ st) vs o ∙ skip_comparison st (Of_expression e ∷ vs) r q.3
 complete (comparison {k = k} {op = op} {ts = ts} {rest = rest} {l = l} {r = r} u s t) q st vs o =
-    expression_is st vs ts ∙ complete s (comparison_quiet k op u) (Comparison ∷ st) vs o ∙ rw u (complete t (q.0, q.1, q.2) (Say (Do_combine op) ∷ st) (Of_expression l ∷ vs) o ∙ said (Do_combine op) st (Of_expression r ∷ Of_expression l ∷ vs) rest)
+    expression_is st vs ts ∙ complete s (comparison_quiet k op u) (Comparison ∷ st) vs o ∙ rw u
+    (complete t (q.0, q.1, q.2) (Say (Do_combine op) ∷ st) (Of_expression l ∷ vs) o ∙ said (Do_combine op) st (Of_expression r ∷ Of_expression l ∷ vs) rest)

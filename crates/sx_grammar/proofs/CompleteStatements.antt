@@ -4,7 +4,8 @@ use Rattle.sx_lang.specs.Tree.{Statement, Block, Done, Then}
 use Rattle.sx_grammar.specs.Tokens.{Token, token, fits}
 use Rattle.sx_grammar.specs.Grammar as grammar
 use Rattle.sx_grammar.specs.Grammar.{IsStatement, definition, assignment, element_assignment, if_then, if_else, repetition, sending, emission, IsBlock, block, AreStatements, no_statement, statement}
-use Rattle.sx_grammar.specs.Machine.{Symbol, Value, Of_expression, Of_block, Want, Say, An_expression, A_semicolon, A_close, A_close_square, An_equals, A_block, Otherwise, Statements, Do_define, Do_assign, Do_store, Do_choose, Do_repeat, Do_send, Do_emit, opens, reads, is_else, snoc}
+use Rattle.sx_grammar.specs.Machine.{Symbol, Value, Of_expression, Of_block, Want, Say, An_expression, A_semicolon, A_close, A_close_square, An_equals, A_block}
+use Rattle.sx_grammar.specs.Machine.{Otherwise, Statements, Do_define, Do_assign, Do_store, Do_choose, Do_repeat, Do_send, Do_emit, opens, reads, is_else, snoc}
 use Rattle.sx_grammar.proofs.Complete.{Ends, complete, said}
 
 abbrev pub NoElse : List Token → Type 0

@@ -8,7 +8,10 @@ use Rattle.sx_grammar.specs.Tokens.{Token, token, fits, given_tokens, added}
 use Rattle.sx_grammar.specs.Grammar as g
 use Rattle.sx_grammar.specs.Grammar.{IsExpression, AreHandlers, IsModule, IsFaultAt}
 use Rattle.sx_grammar.specs.Laws.{Decided}
-use Rattle.sx_grammar.specs.Machine.{After_let, After_send, After_input, After_output, After_var, After_array, After_on, After_open, For_repeat, For_initial, For_length, Symbol, Want, Say, Unary_of, Operand, Factors, Addends, Comparison, Index_of, An_expression, A_block, Statements, Otherwise, A_name, A_number, Target_of, Argument_of, Initial_of, Declarations, Handlers, Value, Of_module, MachineState, choose, step, finish, reads, read, ended, ReadOutcome, Read, Refused, begun, nothing}
+use Rattle.sx_grammar.specs.Machine.{After_let, After_send, After_input, After_output, After_var, After_array, After_on, After_open, For_repeat, For_initial}
+use Rattle.sx_grammar.specs.Machine.{For_length, Symbol, Want, Say, Unary_of, Operand, Factors, Addends, Comparison, Index_of, An_expression, A_block}
+use Rattle.sx_grammar.specs.Machine.{Statements, Otherwise, A_name, A_number, Target_of, Argument_of, Initial_of, Declarations, Handlers, Value, Of_module}
+use Rattle.sx_grammar.specs.Machine.{MachineState, choose, step, finish, reads, read, ended, ReadOutcome, Read, Refused, begun, nothing}
 use Rattle.sx_grammar.proofs.Sound.{Fits, sign, step_back, finish_back}
 use Rattle.sx_grammar.proofs.OneModule.{complete_module}
 
@@ -57,7 +60,9 @@ whole_back [] st vs w e = go (finish st vs) refl e
     go (Some v) h e = let f : finish st vs ≡ Some w = cc in (finish_back st vs w f, f)
 whole_back (t ∷ ts) st vs w e = go (step (fits true) st vs t.kind) refl e (λ s e. whole_back ts s.0 s.1 w e)
   where
-    go : (o : Option MachineState) → step (fits true) st vs t.kind ≡ o → choose o (Refused (Some t)) (λ s. read s.0 s.1 ts) ≡ Read w → ((s : MachineState) → read s.0 s.1 ts ≡ Read w → Fits s.0 (given_tokens ts) × (reads s.0 s.1 (given_tokens ts) ≡ Some w)) → Fits st (token t.kind true ∷ given_tokens ts) × (choose (step (fits true) st vs t.kind) None (λ s. reads s.0 s.1 (given_tokens ts)) ≡ Some w)
+    go : (o : Option MachineState) → step (fits true) st vs t.kind ≡ o → choose o (Refused (Some t)) (λ s. read s.0 s.1 ts) ≡ Read w
+        → ((s : MachineState) → read s.0 s.1 ts ≡ Read w → Fits s.0 (given_tokens ts) × (reads s.0 s.1 (given_tokens ts) ≡ Some w))
+        → Fits st (token t.kind true ∷ given_tokens ts) × (choose (step (fits true) st vs t.kind) None (λ s. reads s.0 s.1 (given_tokens ts)) ≡ Some w)
     go None h e again = absurd (cc)
     go (Some s) h e again = let u = again s e in (step_back true st vs t.kind s (given_tokens ts) h u.0, rw h u.1)
 
@@ -78,14 +83,29 @@ refused_back [] st vs t e = go (finish st vs) e
     go (Some v) e = absurd (cc)
 refused_back (u ∷ ts) st vs t e = go (step (fits true) st vs u.kind) refl e (λ s e. refused_back ts s.0 s.1 t e)
   where
-    go : (o : Option MachineState) → step (fits true) st vs u.kind ≡ o → choose o (Refused (Some u)) (λ s. read s.0 s.1 ts) ≡ Refused (Some t) → ((s : MachineState) → read s.0 s.1 ts ≡ Refused (Some t) → Stuck s.0 s.1 ts t) → Stuck st vs (u ∷ ts) t
+    go : (o : Option MachineState) → step (fits true) st vs u.kind ≡ o → choose o (Refused (Some u)) (λ s. read s.0 s.1 ts) ≡ Refused (Some t)
+        → ((s : MachineState) → read s.0 s.1 ts ≡ Refused (Some t) → Stuck s.0 s.1 ts t) → Stuck st vs (u ∷ ts) t
     go None h e again =
         let same : u ≡ t = cc in
         let w = some_fits st in
-        record { front = []; behind = ts; split = ap (λ u. u ∷ ts) same; more = w.0; goes_on = w.1; never = λ q. (let h' : step (fits true) st vs t.kind ≡ None = subst (λ (u : Placed). step (fits true) st vs u.kind ≡ None) same h in rw h' refl) }
+        record {
+          front = [];
+          behind = ts;
+          split = ap (λ u. u ∷ ts) same;
+          more = w.0;
+          goes_on = w.1;
+          never = λ q. (let h' : step (fits true) st vs t.kind ≡ None = subst (λ (u : Placed). step (fits true) st vs u.kind ≡ None) same h in rw h' refl);
+        }
     go (Some s) h e again =
         let w = again s e in
-        record { front = u ∷ w.front; behind = w.behind; split = ap (λ l. u ∷ l) w.split; more = w.more; goes_on = step_back true st vs u.kind s (given_tokens w.front ++ added w.more) h w.goes_on; never = λ q. rw h (w.never q) }
+        record {
+          front = u ∷ w.front;
+          behind = w.behind;
+          split = ap (λ l. u ∷ l) w.split;
+          more = w.more;
+          goes_on = step_back true st vs u.kind s (given_tokens w.front ++ added w.more) h w.goes_on;
+          never = λ q. rw h (w.never q);
+        }
 
 -- the whole text can go on and may not end
 record Unended (st : List Symbol) (vs : List Value) (ts : List Placed) : Type 0 where
@@ -101,7 +121,8 @@ end_back [] st vs e = go (finish st vs) refl e
     go (Some v) h e = absurd (cc)
 end_back (u ∷ ts) st vs e = go (step (fits true) st vs u.kind) refl e (λ s e. end_back ts s.0 s.1 e)
   where
-    go : (o : Option MachineState) → step (fits true) st vs u.kind ≡ o → choose o (Refused (Some u)) (λ s. read s.0 s.1 ts) ≡ Refused None → ((s : MachineState) → read s.0 s.1 ts ≡ Refused None → Unended s.0 s.1 ts) → Unended st vs (u ∷ ts)
+    go : (o : Option MachineState) → step (fits true) st vs u.kind ≡ o → choose o (Refused (Some u)) (λ s. read s.0 s.1 ts) ≡ Refused None
+        → ((s : MachineState) → read s.0 s.1 ts ≡ Refused None → Unended s.0 s.1 ts) → Unended st vs (u ∷ ts)
     go None h e again = absurd (cc)
     go (Some s) h e again =
         let w = again s e in
@@ -133,7 +154,8 @@ refused_is_fault ts (Some t) e =
       w.behind,
       w.split,
       (w.more, n.0, n.1),
-      λ c. (let e1 : given_tokens (w.front ++ t ∷ []) ++ added c.0 ≡ given_tokens w.front ++ token t.kind true ∷ added c.0 = ap (λ l. l ++ added c.0) (given_tokens-append w.front (t ∷ [])) ∙ append_assoc (given_tokens w.front) (token t.kind true ∷ []) (added c.0) in
+      λ c. (let e1 : given_tokens (w.front ++ t ∷ []) ++ added c.0 ≡ given_tokens w.front ++ token t.kind true ∷ added c.0 = ap (λ l. l ++ added c.0)
+          (given_tokens-append w.front (t ∷ [])) ∙ append_assoc (given_tokens w.front) (token t.kind true ∷ []) (added c.0) in
           let e2 : reads begun nothing (given_tokens w.front ++ token t.kind true ∷ added c.0) ≡ Some (Of_module c.1 ∷ []) = ap (λ l. reads begun nothing l) (sym e1) ∙ complete_module _ c.1 c.2 in
           let e3 : None ≡ Some (Of_module c.1 ∷ []) = sym (w.never (added c.0)) ∙ e2 in cc),
     )

@@ -22,7 +22,9 @@ passes_front : (front : List Placed) (q : List Token) (st : List Symbol) (vs w :
 passes_front [] q st vs w e = ((st, vs), refl)
 passes_front (t ∷ front) q st vs w e = go (step (fits true) st vs t.kind) refl e (λ s e. passes_front front q s.0 s.1 w e)
   where
-    go : (o : Option MachineState) → step (fits true) st vs t.kind ≡ o → choose o None (λ s. reads s.0 s.1 (given_tokens front ++ q)) ≡ Some w → ((s : MachineState) → reads s.0 s.1 (given_tokens front ++ q) ≡ Some w → (u : MachineState) × (after s.0 s.1 front ≡ Some u)) → (u : MachineState) × (choose (step (fits true) st vs t.kind) None (λ s. after s.0 s.1 front) ≡ Some u)
+    go : (o : Option MachineState) → step (fits true) st vs t.kind ≡ o → choose o None (λ s. reads s.0 s.1 (given_tokens front ++ q)) ≡ Some w
+        → ((s : MachineState) → reads s.0 s.1 (given_tokens front ++ q) ≡ Some w → (u : MachineState) × (after s.0 s.1 front ≡ Some u))
+        → (u : MachineState) × (choose (step (fits true) st vs t.kind) None (λ s. after s.0 s.1 front) ≡ Some u)
     go None h e again = absurd (cc)
     go (Some s) h e again = let u = again s e in (u.0, rw h u.1)
 
@@ -30,7 +32,9 @@ read_after : (front back : List Placed) (st : List Symbol) (vs : List Value) (u 
 read_after [] back st vs u e = let q : (st, vs) ≡ u = cc in ap (λ (s : MachineState). read s.0 s.1 back) q
 read_after (t ∷ front) back st vs u e = go (step (fits true) st vs t.kind) refl e (λ s e. read_after front back s.0 s.1 u e)
   where
-    go : (o : Option MachineState) → step (fits true) st vs t.kind ≡ o → choose o None (λ s. after s.0 s.1 front) ≡ Some u → ((s : MachineState) → after s.0 s.1 front ≡ Some u → read s.0 s.1 (front ++ back) ≡ read u.0 u.1 back) → choose (step (fits true) st vs t.kind) (Refused (Some t)) (λ s. read s.0 s.1 (front ++ back)) ≡ read u.0 u.1 back
+    go : (o : Option MachineState) → step (fits true) st vs t.kind ≡ o → choose o None (λ s. after s.0 s.1 front) ≡ Some u
+        → ((s : MachineState) → after s.0 s.1 front ≡ Some u → read s.0 s.1 (front ++ back) ≡ read u.0 u.1 back)
+        → choose (step (fits true) st vs t.kind) (Refused (Some t)) (λ s. read s.0 s.1 (front ++ back)) ≡ read u.0 u.1 back
     go None h e again = absurd (cc)
     go (Some s) h e again = rw h (again s e)
 
@@ -38,7 +42,8 @@ fits_after : (front : List Placed) (q : List Token) (st : List Symbol) (vs : Lis
 fits_after [] q st vs u e f = let p : (st, vs) ≡ u = cc in subst (λ (s : MachineState). Fits s.0 q) (sym p) f
 fits_after (t ∷ front) q st vs u e f = go (step (fits true) st vs t.kind) refl e (λ s e. fits_after front q s.0 s.1 u e f)
   where
-    go : (o : Option MachineState) → step (fits true) st vs t.kind ≡ o → choose o None (λ s. after s.0 s.1 front) ≡ Some u → ((s : MachineState) → after s.0 s.1 front ≡ Some u → Fits s.0 (given_tokens front ++ q)) → Fits st (token t.kind true ∷ given_tokens front ++ q)
+    go : (o : Option MachineState) → step (fits true) st vs t.kind ≡ o → choose o None (λ s. after s.0 s.1 front) ≡ Some u
+        → ((s : MachineState) → after s.0 s.1 front ≡ Some u → Fits s.0 (given_tokens front ++ q)) → Fits st (token t.kind true ∷ given_tokens front ++ q)
     go None h e again = absurd (cc)
     go (Some s) h e again = step_back true st vs t.kind s (given_tokens front ++ q) h (again s e)
 
@@ -48,13 +53,15 @@ refused_at ts front back t split c never =
     let u = p.0 in
     ap (λ l. read begun nothing l) split ∙ read_after front (t ∷ back) begun nothing u p.1 ∙ go u p.1 (step (fits true) u.0 u.1 t.kind) refl
   where
-    go : (u : MachineState) → after begun nothing front ≡ Some u → (o : Option MachineState) → step (fits true) u.0 u.1 t.kind ≡ o → choose (step (fits true) u.0 u.1 t.kind) (Refused (Some t)) (λ s. read s.0 s.1 back) ≡ Refused (Some t)
+    go : (u : MachineState) → after begun nothing front ≡ Some u → (o : Option MachineState) → step (fits true) u.0 u.1 t.kind ≡ o
+        → choose (step (fits true) u.0 u.1 t.kind) (Refused (Some t)) (λ s. read s.0 s.1 back) ≡ Refused (Some t)
     go u a None h = rw h refl
     go u a (Some s) h =
         let w = some_fits s.0 in
         let f = fits_after front (token t.kind true ∷ added w.0) begun nothing u a (step_back true u.0 u.1 t.kind s (added w.0) h w.1) in
         let n = module_of_fits (given_tokens front ++ token t.kind true ∷ added w.0) f in
-        let e : given_tokens (front ++ t ∷ []) ++ added w.0 ≡ given_tokens front ++ token t.kind true ∷ added w.0 = ap (λ l. l ++ added w.0) (given_tokens-append front (t ∷ [])) ∙ append_assoc (given_tokens front) (token t.kind true ∷ []) (added w.0) in
+        let e : given_tokens (front ++ t ∷ []) ++ added w.0 ≡ given_tokens front ++ token t.kind true ∷ added w.0 = ap (λ l. l ++ added w.0)
+        (given_tokens-append front (t ∷ [])) ∙ append_assoc (given_tokens front) (token t.kind true ∷ []) (added w.0) in
         absurd (never (w.0, n.0, subst (λ l. IsModule l n.0) (sym e) n.1))
 
 append-none : (ts : List Placed) → ts ++ [] ≡ ts

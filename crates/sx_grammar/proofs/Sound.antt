@@ -6,11 +6,19 @@ use Rattle.sx_lang.specs.declared.tree.BinOp.{BinOp}
 use Rattle.sx_lang.specs.declared.tree.Decl.{Decl}
 use Rattle.sx_lang.specs.declared.tree.DeviceKind.{DeviceKind}
 use Rattle.sx_lex.specs.declared.tokens.Kind.{Kind}
-use Rattle.sx_lex.specs.declared.tokens.Kind.TheVariants.{Number, Name, Sensor, Actuator, Input, Output, Var, Array, On, Sample, Let, If, Else, Repeat, Send, Emit, Semicolon, Equals, Open, Close, OpenSquare, CloseSquare, OpenBrace, CloseBrace, Minus, Tilde, Bang}
+use Rattle.sx_lex.specs.declared.tokens.Kind.TheVariants.{Number, Name, Sensor, Actuator, Input, Output, Var, Array, On, Sample, Let, If, Else, Repeat, Send}
+use Rattle.sx_lex.specs.declared.tokens.Kind.TheVariants.{Emit, Semicolon, Equals, Open, Close, OpenSquare, CloseSquare, OpenBrace, CloseBrace, Minus, Tilde}
+use Rattle.sx_lex.specs.declared.tokens.Kind.TheVariants.{Bang}
 use Rattle.sx_grammar.specs.Tokens.{Token, token, fits, factor_operator, addend_operator, comparison_operator}
 use Rattle.sx_grammar.specs.Grammar as g
 use Rattle.sx_grammar.specs.Grammar.{IsExpression, IsStatement, IsBlock, AreStatements, IsDeclaration, AreDeclarations, IsHandler, AreHandlers}
-use Rattle.sx_grammar.specs.Machine.{Sign, An_open, A_close, An_open_square, A_close_square, A_semicolon, An_equals, Do_assign, Do_store, Do_choose, Do_send, Do_emit, Do_declare, Do_index, Do_combine, After, After_let, After_send, After_input, After_output, After_var, After_array, After_on, After_open, Purpose, For_repeat, For_initial, For_length, Symbol, Want, Say, Unary_of, Operand, Factors, Addends, Comparison, Index_of, An_expression, A_block, Statements, Otherwise, A_name, A_number, Target_of, Argument_of, Initial_of, Declarations, Handlers, Value, Of_expression, Of_block, MachineState, is_sign, opens, reduce, apply, choose, when, name_of, number_of, follow, follow_number, operand, statement, target, argument, initial, handlers, declarations, open_block, is_square, is_else, step, finish}
+use Rattle.sx_grammar.specs.Machine.{Sign, An_open, A_close, An_open_square, A_close_square, A_semicolon, An_equals, Do_assign, Do_store, Do_choose, Do_send}
+use Rattle.sx_grammar.specs.Machine.{Do_emit, Do_declare, Do_index, Do_combine, After, After_let, After_send, After_input, After_output, After_var, After_array}
+use Rattle.sx_grammar.specs.Machine.{After_on, After_open, Purpose, For_repeat, For_initial, For_length, Symbol, Want, Say, Unary_of, Operand, Factors, Addends}
+use Rattle.sx_grammar.specs.Machine.{Comparison, Index_of, An_expression, A_block, Statements, Otherwise, A_name, A_number, Target_of, Argument_of, Initial_of}
+use Rattle.sx_grammar.specs.Machine.{Declarations, Handlers, Value, Of_expression, Of_block, MachineState, is_sign, opens, reduce, apply, choose, when, name_of}
+use Rattle.sx_grammar.specs.Machine.{number_of, follow, follow_number, operand, statement, target, argument, initial, handlers, declarations, open_block}
+use Rattle.sx_grammar.specs.Machine.{is_square, is_else, step, finish}
 
 abbrev pub sign : Sign → Kind
 sign An_open = Open
@@ -113,17 +121,21 @@ operand_back c st vs Bang s ts e f =
 operand_back c st vs _ s ts e f = absurd (cc)
 
 -- an operand and the factors after it are a term, and so on
-factors_back : (st : List Symbol) (ts : List Token) → ((e : Expression) × (r : List Token) × IsExpression g.Unary (opens st) ts e r × Fits (Factors 0 ∷ st) r) → (e : Expression) × (r : List Token) × IsExpression g.Term (opens st) ts e r × Fits st r
+factors_back : (st : List Symbol) (ts : List Token) → ((e : Expression) × (r : List Token) × IsExpression g.Unary (opens st) ts e r × Fits (Factors 0 ∷ st) r)
+    → (e : Expression) × (r : List Token) × IsExpression g.Term (opens st) ts e r × Fits st r
 factors_back st ts w = let v = w.3 w.0 in (v.0, v.1, g.term w.2 v.2, v.3)
 
-sum_back : (st : List Symbol) (ts : List Token) → ((e : Expression) × (r : List Token) × IsExpression g.Unary (opens st) ts e r × Fits (Factors 0 ∷ Addends 0 ∷ st) r) → (e : Expression) × (r : List Token) × IsExpression g.Sum (opens st) ts e r × Fits st r
+sum_back : (st : List Symbol) (ts : List Token) → ((e : Expression) × (r : List Token) × IsExpression g.Unary (opens st) ts e r
+    × Fits (Factors 0 ∷ Addends 0 ∷ st) r) → (e : Expression) × (r : List Token) × IsExpression g.Sum (opens st) ts e r × Fits st r
 sum_back st ts w = let u = factors_back (Addends 0 ∷ st) ts w in let v = u.3 u.0 in (v.0, v.1, g.sum u.2 v.2, v.3)
 
-whole_back : (st : List Symbol) (ts : List Token) → ((e : Expression) × (r : List Token) × IsExpression g.Unary (opens st) ts e r × Fits (Factors 0 ∷ Addends 0 ∷ Comparison ∷ st) r) → (e : Expression) × (r : List Token) × IsExpression g.Whole (opens st) ts e r × Fits st r
+whole_back : (st : List Symbol) (ts : List Token) → ((e : Expression) × (r : List Token) × IsExpression g.Unary (opens st) ts e r
+    × Fits (Factors 0 ∷ Addends 0 ∷ Comparison ∷ st) r) → (e : Expression) × (r : List Token) × IsExpression g.Whole (opens st) ts e r × Fits st r
 whole_back st ts w = let u = sum_back (Comparison ∷ st) ts w in u.3 u.0 ts u.2
 
 -- a statement and those after it
-statements_back : (st : List Symbol) (ts : List Token) → ((r : List Token) × ((s : Statement) × IsStatement (opens st + 1) ts s r) × Fits (Statements ∷ st) r) → (x : Block) × (r : List Token) × AreStatements (opens st + 1) ts x r × Fits st r
+statements_back : (st : List Symbol) (ts : List Token) → ((r : List Token) × ((s : Statement) × IsStatement (opens st + 1) ts s r) × Fits (Statements ∷ st) r)
+    → (x : Block) × (r : List Token) × AreStatements (opens st + 1) ts x r × Fits st r
 statements_back st ts w = let s = w.1 in let more = w.2 in (Then s.0 more.0, more.1, g.statement s.1 more.2, more.3)
 
 statement_back : (c : Bool) (st : List Symbol) (vs : List Value) (k : Kind) (s : MachineState) (ts : List Token) → statement st vs k ≡ Some s → Fits s.0 ts
@@ -148,7 +160,8 @@ statement_back c st vs Emit s ts e f =
     statements_back st (token Emit c ∷ ts) (semi.1, (Emits w.0, g.emission (expression_sign semi.2 w.2)), semi.3)
 statement_back c st vs _ s ts e f = absurd (cc)
 
-target_back : (c : Bool) (x : List ℕ) (st : List Symbol) (vs : List Value) (k : Kind) (s : MachineState) (ts : List Token) → target (fits c) x st vs k ≡ Some s → Fits s.0 ts → Fits (Target_of x ∷ st) (token k c ∷ ts)
+target_back : (c : Bool) (x : List ℕ) (st : List Symbol) (vs : List Value) (k : Kind) (s : MachineState) (ts : List Token) → target (fits c) x st vs k ≡ Some s
+    → Fits s.0 ts → Fits (Target_of x ∷ st) (token k c ∷ ts)
 target_back c x st vs Equals s ts e f =
     let w = back ts (An_expression ∷ Want A_semicolon ∷ Say (Do_assign x) ∷ st, vs) s e f in
     let semi = w.3 in
@@ -161,28 +174,33 @@ target_back c x st vs OpenSquare s ts e f =
     let value = equals.3 in
     let semi = value.3 in
     let us = equals.1 in
-    let i : IsExpression g.Whole (opens st + 1) ts w.0 (token CloseSquare square.0 ∷ token Equals equals.0 ∷ us) = subst (λ l. IsExpression g.Whole (opens st + 1) ts w.0 l) (square.2 ∙ ap (λ l. token CloseSquare square.0 ∷ l) equals.2) w.2 in
+    let i : IsExpression g.Whole (opens st + 1) ts w.0 (token CloseSquare square.0 ∷ token Equals equals.0 ∷ us) =
+    subst (λ l. IsExpression g.Whole (opens st + 1) ts w.0 l) (square.2 ∙ ap (λ l. token CloseSquare square.0 ∷ l) equals.2) w.2 in
     (semi.1, (λ a. (Stores x w.0 value.0, g.element_assignment u.0 i (expression_sign semi.2 value.2))), semi.3)
 target_back c x st vs _ s ts e f = absurd (cc)
 
-argument_back : (c : Bool) (x : List ℕ) (st : List Symbol) (vs : List Value) (k : Kind) (s : MachineState) (ts : List Token) → argument (fits c) x st vs k ≡ Some s → Fits s.0 ts → Fits (Argument_of x ∷ st) (token k c ∷ ts)
+argument_back : (c : Bool) (x : List ℕ) (st : List Symbol) (vs : List Value) (k : Kind) (s : MachineState) (ts : List Token)
+    → argument (fits c) x st vs k ≡ Some s → Fits s.0 ts → Fits (Argument_of x ∷ st) (token k c ∷ ts)
 argument_back c x st vs Open s ts e f =
     let u = back_when ts (fits c (opens st)) (An_expression ∷ Want A_close ∷ Want A_semicolon ∷ Say (Do_send x) ∷ st) vs s e f in
     let w = u.1 in
     let close = w.3 in
     let semi = close.3 in
     let r = semi.1 in
-    let i : IsExpression g.Whole (opens st + 1) ts w.0 (token Close close.0 ∷ token Semicolon semi.0 ∷ r) = subst (λ l. IsExpression g.Whole (opens st + 1) ts w.0 l) (close.2 ∙ ap (λ l. token Close close.0 ∷ l) semi.2) w.2 in
+    let i : IsExpression g.Whole (opens st + 1) ts w.0 (token Close close.0 ∷ token Semicolon semi.0 ∷ r) =
+    subst (λ l. IsExpression g.Whole (opens st + 1) ts w.0 l) (close.2 ∙ ap (λ l. token Close close.0 ∷ l) semi.2) w.2 in
     (r, (λ a b. (Sends x w.0, g.sending u.0 i)), semi.3)
 argument_back c x st vs _ s ts e f = absurd (cc)
 
-initial_back : (c : Bool) (x : List ℕ) (st : List Symbol) (vs : List Value) (k : Kind) (s : MachineState) (ts : List Token) → initial x st vs k ≡ Some s → Fits s.0 ts → Fits (Initial_of x ∷ st) (token k c ∷ ts)
+initial_back : (c : Bool) (x : List ℕ) (st : List Symbol) (vs : List Value) (k : Kind) (s : MachineState) (ts : List Token) → initial x st vs k ≡ Some s
+    → Fits s.0 ts → Fits (Initial_of x ∷ st) (token k c ∷ ts)
 initial_back c x st vs Semicolon s ts e f = (ts, (λ a b. (Decl.Var x 0, g.variable)), back ts (st, reduce (Do_declare (Decl.Var x 0)) vs) s e f)
 initial_back c x st vs Equals s ts e f =
     let w = back ts (A_number (For_initial x) ∷ st, vs) s e f in (w.0, (λ a b. w.1 a b c), w.2)
 initial_back c x st vs _ s ts e f = absurd (cc)
 
-handlers_join : (st : List Symbol) (ts : List Token) → ((r : List Token) × ((h : HandlerTree) × IsHandler (opens st) ts h r) × Fits (Handlers ∷ st) r) → (hs : List HandlerTree) × (r : List Token) × AreHandlers (opens st) ts hs r × Fits st r
+handlers_join : (st : List Symbol) (ts : List Token) → ((r : List Token) × ((h : HandlerTree) × IsHandler (opens st) ts h r) × Fits (Handlers ∷ st) r)
+    → (hs : List HandlerTree) × (r : List Token) × AreHandlers (opens st) ts hs r × Fits st r
 handlers_join st ts w = let h = w.1 in let more = w.2 in (h.0 ∷ more.0, more.1, g.handler h.1 more.2, more.3)
 
 handlers_back : (c : Bool) (st : List Symbol) (vs : List Value) (k : Kind) (s : MachineState) (ts : List Token) → handlers st vs k ≡ Some s → Fits s.0 ts
@@ -200,14 +218,16 @@ handlers_back c st vs _ s ts e f = absurd (cc)
 declarations_join : (st : List Symbol) (ts : List Token) → ((r : List Token) × ((y : Decl) × IsDeclaration ts y r) × Fits (Declarations ∷ st) r) → Fits (Declarations ∷ st) ts
 declarations_join st ts w = let y = w.1 in let more = w.2 in (y.0 ∷ more.0, more.1, more.2, more.3, g.declaration y.1 more.4, more.5, more.6)
 
-declarations_back : (c : Bool) (st : List Symbol) (vs : List Value) (k : Kind) (s : MachineState) (ts : List Token) → declarations st vs k ≡ Some s → Fits s.0 ts → Fits (Declarations ∷ st) (token k c ∷ ts)
+declarations_back : (c : Bool) (st : List Symbol) (vs : List Value) (k : Kind) (s : MachineState) (ts : List Token) → declarations st vs k ≡ Some s
+    → Fits s.0 ts → Fits (Declarations ∷ st) (token k c ∷ ts)
 declarations_back c st vs Sensor s ts e f =
     let w = back ts (Want A_semicolon ∷ Say (Do_declare (Decl.Device DeviceKind.Sensor)) ∷ Declarations ∷ st, vs) s e f in
     let i : IsDeclaration (token Sensor c ∷ ts) (Decl.Device DeviceKind.Sensor) w.1 = subst (λ l. IsDeclaration (token Sensor c ∷ l) (Decl.Device DeviceKind.Sensor) w.1) (sym w.2) g.sensor in
     declarations_join st (token Sensor c ∷ ts) (w.1, (Decl.Device DeviceKind.Sensor, i), w.3)
 declarations_back c st vs Actuator s ts e f =
     let w = back ts (Want A_semicolon ∷ Say (Do_declare (Decl.Device DeviceKind.Actuator)) ∷ Declarations ∷ st, vs) s e f in
-    let i : IsDeclaration (token Actuator c ∷ ts) (Decl.Device DeviceKind.Actuator) w.1 = subst (λ l. IsDeclaration (token Actuator c ∷ l) (Decl.Device DeviceKind.Actuator) w.1) (sym w.2) g.actuator in
+    let i : IsDeclaration (token Actuator c ∷ ts) (Decl.Device DeviceKind.Actuator) w.1 =
+    subst (λ l. IsDeclaration (token Actuator c ∷ l) (Decl.Device DeviceKind.Actuator) w.1) (sym w.2) g.actuator in
     declarations_join st (token Actuator c ∷ ts) (w.1, (Decl.Device DeviceKind.Actuator, i), w.3)
 declarations_back c st vs Input s ts e f =
     let w = back ts (A_name After_input ∷ Declarations ∷ st, vs) s e f in declarations_join st (token Input c ∷ ts) (w.0, w.1 c, w.2)
@@ -259,11 +279,25 @@ name_back After_on c x st ts f =
     let n = f.3 in
     (n.0, (λ a. (let h = n.1 a c f.0 in (h.0, subst (λ l. IsHandler (opens st) (token On a ∷ token (Name x) c ∷ l) h.0 n.0) (sym f.2) h.1))), n.2)
 name_back (After_open (Some y)) c x st ts f =
-    let w = f.3 in
-    (w.1, (λ a b o. (record { input = Some y; param = x; body = w.0 }, subst (λ l. IsHandler (opens st) (token On a ∷ token (Name y) b ∷ token Open o ∷ token (Name x) c ∷ l) (record { input = Some y; param = x; body = w.0 }) w.1) (sym f.2) (g.on_input w.2))), w.3)
+    let w = f.3 in (
+      w.1,
+      (λ a b o. (
+        record { input = Some y; param = x; body = w.0 },
+        subst (λ l. IsHandler (opens st) (token On a ∷ token (Name y) b ∷ token Open o ∷ token (Name x) c ∷ l)
+            (record { input = Some y; param = x; body = w.0 }) w.1) (sym f.2) (g.on_input w.2),
+      )),
+      w.3,
+    )
 name_back (After_open None) c x st ts f =
-    let w = f.3 in
-    (w.1, (λ a o. (record { input = None; param = x; body = w.0 }, subst (λ l. IsHandler (opens st) (token Sample a ∷ token Open o ∷ token (Name x) c ∷ l) (record { input = None; param = x; body = w.0 }) w.1) (sym f.2) (g.on_sample w.2))), w.3)
+    let w = f.3 in (
+      w.1,
+      (λ a o. (
+        record { input = None; param = x; body = w.0 },
+        subst (λ l. IsHandler (opens st) (token Sample a ∷ token Open o ∷ token (Name x) c ∷ l)
+            (record { input = None; param = x; body = w.0 }) w.1) (sym f.2) (g.on_sample w.2),
+      )),
+      w.3,
+    )
 
 number_back : (w : Purpose) (c : Bool) (n : ℕ) (st : List Symbol) (ts : List Token) → Fits (follow_number w n st) ts → Fits (A_number w ∷ st) (token (Number n) c ∷ ts)
 number_back For_repeat c n st ts f = (f.1, (λ a. (Repeats n f.0, g.repetition f.2)), f.3)
@@ -272,7 +306,11 @@ number_back (For_initial x) c n st ts f =
 number_back (For_length x) c n st ts f =
     let semi = f.3 in (
       semi.1,
-      (λ a b o. (Decl.Array x n, subst (λ l. IsDeclaration (token Array a ∷ token (Name x) b ∷ token OpenSquare o ∷ token (Number n) c ∷ l) (Decl.Array x n) semi.1) (sym (f.2 ∙ ap (λ l. token CloseSquare f.0 ∷ l) semi.2)) g.array)),
+      (λ a b o. (
+        Decl.Array x n,
+        subst (λ l. IsDeclaration (token Array a ∷ token (Name x) b ∷ token OpenSquare o ∷ token (Number n) c ∷ l) (Decl.Array x n) semi.1)
+            (sym (f.2 ∙ ap (λ l. token CloseSquare f.0 ∷ l) semi.2)) g.array,
+      )),
       semi.3,
     )
 
@@ -285,7 +323,9 @@ step_back c (Unary_of op ∷ st) vs k s ts e f = step_back c st (apply op vs) k 
 step_back c (Operand ∷ st) vs k s ts e f = operand_back c st vs k s ts e f
 step_back c (Factors n ∷ st) vs k s ts e f = go (factor_operator k) refl e (λ v e. step_back c st v k s ts e f)
   where
-    go : (o : Option BinOp) → factor_operator k ≡ o → choose o (step (fits c) st vs k) (λ op. when (fits c n) (Operand ∷ Say (Do_combine op) ∷ Factors (n + 1) ∷ st) vs) ≡ Some s → ((v : List Value) → step (fits c) st v k ≡ Some s → Fits st (token k c ∷ ts)) → Fits (Factors n ∷ st) (token k c ∷ ts)
+    go : (o : Option BinOp) → factor_operator k ≡ o
+        → choose o (step (fits c) st vs k) (λ op. when (fits c n) (Operand ∷ Say (Do_combine op) ∷ Factors (n + 1) ∷ st) vs) ≡ Some s
+        → ((v : List Value) → step (fits c) st v k ≡ Some s → Fits st (token k c ∷ ts)) → Fits (Factors n ∷ st) (token k c ∷ ts)
     go None h e again = λ l. (l, token k c ∷ ts, g.no_factor, again vs e)
     go (Some op) h e again =
         let u = back_when ts (fits c n) (Operand ∷ Say (Do_combine op) ∷ Factors (n + 1) ∷ st) vs s e f in
@@ -293,7 +333,9 @@ step_back c (Factors n ∷ st) vs k s ts e f = go (factor_operator k) refl e (λ
         λ l. (let v = w.3 (Combined op l w.0) in (v.0, v.1, g.factor h u.0 w.2 v.2, v.3))
 step_back c (Addends n ∷ st) vs k s ts e f = go (addend_operator k) refl e (λ v e. step_back c st v k s ts e f)
   where
-    go : (o : Option BinOp) → addend_operator k ≡ o → choose o (step (fits c) st vs k) (λ op. when (fits c n) (Operand ∷ Factors 0 ∷ Say (Do_combine op) ∷ Addends (n + 1) ∷ st) vs) ≡ Some s → ((v : List Value) → step (fits c) st v k ≡ Some s → Fits st (token k c ∷ ts)) → Fits (Addends n ∷ st) (token k c ∷ ts)
+    go : (o : Option BinOp) → addend_operator k ≡ o
+        → choose o (step (fits c) st vs k) (λ op. when (fits c n) (Operand ∷ Factors 0 ∷ Say (Do_combine op) ∷ Addends (n + 1) ∷ st) vs) ≡ Some s
+        → ((v : List Value) → step (fits c) st v k ≡ Some s → Fits st (token k c ∷ ts)) → Fits (Addends n ∷ st) (token k c ∷ ts)
     go None h e again = λ l. (l, token k c ∷ ts, g.no_addend, again vs e)
     go (Some op) h e again =
         let u = back_when ts (fits c n) (Operand ∷ Factors 0 ∷ Say (Do_combine op) ∷ Addends (n + 1) ∷ st) vs s e f in
@@ -301,7 +343,9 @@ step_back c (Addends n ∷ st) vs k s ts e f = go (addend_operator k) refl e (λ
         λ l. (let v = w.3 (Combined op l w.0) in (v.0, v.1, g.addend h u.0 w.2 v.2, v.3))
 step_back c (Comparison ∷ st) vs k s ts e f = go (comparison_operator k) refl e (λ v e. step_back c st v k s ts e f)
   where
-    go : (o : Option BinOp) → comparison_operator k ≡ o → choose o (step (fits c) st vs k) (λ op. Some (Operand ∷ Factors 0 ∷ Addends 0 ∷ Say (Do_combine op) ∷ st, vs)) ≡ Some s → ((v : List Value) → step (fits c) st v k ≡ Some s → Fits st (token k c ∷ ts)) → Fits (Comparison ∷ st) (token k c ∷ ts)
+    go : (o : Option BinOp) → comparison_operator k ≡ o
+        → choose o (step (fits c) st vs k) (λ op. Some (Operand ∷ Factors 0 ∷ Addends 0 ∷ Say (Do_combine op) ∷ st, vs)) ≡ Some s
+        → ((v : List Value) → step (fits c) st v k ≡ Some s → Fits st (token k c ∷ ts)) → Fits (Comparison ∷ st) (token k c ∷ ts)
     go None h e again = λ l us t. (l, token k c ∷ ts, g.whole t, again vs e)
     go (Some op) h e again =
         let u = back ts (Operand ∷ Factors 0 ∷ Addends 0 ∷ Say (Do_combine op) ∷ st, vs) s e f in
@@ -309,18 +353,27 @@ step_back c (Comparison ∷ st) vs k s ts e f = go (comparison_operator k) refl 
         λ l us t. (Combined op l w.0, w.1, g.comparison h t w.2, w.3)
 step_back c (Index_of x ∷ st) vs k s ts e f = go (is_square k) refl e (λ v e. step_back c st v k s ts e f)
   where
-    go : (b : Bool) → is_square k ≡ b → (if b then when (fits c (opens st)) (An_expression ∷ Want A_close_square ∷ Say (Do_index x) ∷ st) vs else step (fits c) st (Of_expression (Variable x) ∷ vs) k) ≡ Some s → ((v : List Value) → step (fits c) st v k ≡ Some s → Fits st (token k c ∷ ts)) → Fits (Index_of x ∷ st) (token k c ∷ ts)
+    go : (b : Bool) → is_square k ≡ b → (if b then when (fits c (opens st)) (An_expression ∷ Want A_close_square ∷ Say (Do_index x) ∷ st) vs
+        else step (fits c) st (Of_expression (Variable x) ∷ vs) k) ≡ Some s → ((v : List Value) → step (fits c) st v k ≡ Some s → Fits st (token k c ∷ ts))
+        → Fits (Index_of x ∷ st) (token k c ∷ ts)
     go false h e again = λ a. (Variable x, token k c ∷ ts, g.name, again (Of_expression (Variable x) ∷ vs) e)
     go true h e again =
         let u = back_when ts (fits c (opens st)) (An_expression ∷ Want A_close_square ∷ Say (Do_index x) ∷ st) vs s e f in
         let v = u.1 in
-        λ a. (Indexed x v.0, v.3.1, subst (λ k. IsExpression g.Primary (opens st) (token (Name x) a ∷ token k c ∷ ts) (Indexed x v.0) v.3.1) (sym (square_is k h)) (g.element u.0 (expression_sign v.3.2 v.2)), v.3.3)
+        λ a. (
+          Indexed x v.0,
+          v.3.1,
+          subst (λ k. IsExpression g.Primary (opens st) (token (Name x) a ∷ token k c ∷ ts) (Indexed x v.0) v.3.1) (sym (square_is k h))
+              (g.element u.0 (expression_sign v.3.2 v.2)),
+          v.3.3,
+        )
 step_back c (An_expression ∷ st) vs k s ts e f = whole_back st (token k c ∷ ts) (operand_back c (Factors 0 ∷ Addends 0 ∷ Comparison ∷ st) vs k s ts e f)
 step_back c (A_block ∷ st) vs k s ts e f = block_back c st vs k s ts e f
 step_back c (Statements ∷ st) vs k s ts e f = statement_back c st vs k s ts e f
 step_back c (Otherwise ∷ st) vs k s ts e f = go (is_else k) refl e (λ v e. step_back c st v k s ts e f)
   where
-    go : (b : Bool) → is_else k ≡ b → (if b then Some (A_block ∷ st, vs) else step (fits c) st (Of_block Done ∷ vs) k) ≡ Some s → ((v : List Value) → step (fits c) st v k ≡ Some s → Fits st (token k c ∷ ts)) → Fits (Otherwise ∷ st) (token k c ∷ ts)
+    go : (b : Bool) → is_else k ≡ b → (if b then Some (A_block ∷ st, vs) else step (fits c) st (Of_block Done ∷ vs) k) ≡ Some s
+        → ((v : List Value) → step (fits c) st v k ≡ Some s → Fits st (token k c ∷ ts)) → Fits (Otherwise ∷ st) (token k c ∷ ts)
     go false h e again = (token k c ∷ ts, (λ a before us e x w b. (Chooses e x Done, g.if_then w b)), again (Of_block Done ∷ vs) e)
     go true h e again =
         let w = back ts (A_block ∷ st, vs) s e f in

@@ -15,7 +15,11 @@ use Rattle.sx_lex.specs.Lexed as lex
 use Rattle.sx_lex.specs.Lexed.{Lexed, at_end, space, newline, comment, bad}
 use Rattle.sx_grammar.specs.Tokens.{Token, token, given_tokens}
 use Rattle.sx_grammar.specs.Text.{Spells}
-use Rattle.sx_grammar.specs.Grammar.{Form, Factors, Addends, IsExpression, number, name, element, brackets, plain, unary, term, no_factor, factor, sum, no_addend, addend, whole, comparison, IsStatement, definition, assignment, element_assignment, if_then, if_else, repetition, sending, emission, IsBlock, block, AreStatements, no_statement, statement, IsDeclaration, sensor, actuator, input, output, variable, variable_with, array, AreDeclarations, no_declaration, declaration, IsHandler, on_input, on_sample, AreHandlers, no_handler, handler}
+use Rattle.sx_grammar.specs.Grammar.{Form, Factors, Addends, IsExpression, number, name, element, brackets, plain, unary, term, no_factor, factor, sum}
+use Rattle.sx_grammar.specs.Grammar.{no_addend, addend, whole, comparison, IsStatement, definition, assignment, element_assignment, if_then, if_else}
+use Rattle.sx_grammar.specs.Grammar.{repetition, sending, emission, IsBlock, block, AreStatements, no_statement, statement, IsDeclaration, sensor, actuator}
+use Rattle.sx_grammar.specs.Grammar.{input, output, variable, variable_with, array, AreDeclarations, no_declaration, declaration, IsHandler, on_input}
+use Rattle.sx_grammar.specs.Grammar.{on_sample, AreHandlers, no_handler, handler}
 use Rattle.sx_lang.specs.Words.{AreWords, HasWords, BlockHasWords, HandlersHaveWords, DeclHasWords, DeclsHaveWords, TreeHasWords}
 
 -- a token's number is a word
@@ -66,12 +70,15 @@ small_kind w k h = by_name (is_name w) h
     by_hexadecimal true t e = some (Number (value 16 0 (drop 2 w))) e (small_hexadecimal w t)
     by_hexadecimal false t e = small_found signs w k (tt, (tt, (tt, (tt, (tt, (tt, (tt, (tt, (tt, (tt, (tt, (tt, (tt, (tt, (tt, (tt, (tt, (tt, (tt, (tt, (tt, (tt, tt)))))))))))))))))))))) e
 
-    by_number : (b : Bool) → is_number 10 w ≡ b → (if b then Some (Number (value 10 0 w)) else (if is_hexadecimal w then Some (Number (value 16 0 (drop 2 w))) else found_in signs w)) ≡ Some k → IsSmall k
+    by_number : (b : Bool) → is_number 10 w ≡ b → (if b then Some (Number (value 10 0 w)) else
+        (if is_hexadecimal w then Some (Number (value 16 0 (drop 2 w))) else found_in signs w)) ≡ Some k → IsSmall k
     by_number true t e = some (Number (value 10 0 w)) e (small_number 10 w t)
     by_number false t e = by_hexadecimal (is_hexadecimal w) refl e
 
-    by_name : (b : Bool) → (if b then Some (or_else (found_in keywords w) (Name w)) else (if is_number 10 w then Some (Number (value 10 0 w)) else (if is_hexadecimal w then Some (Number (value 16 0 (drop 2 w))) else found_in signs w))) ≡ Some k → IsSmall k
-    by_name true e = some (or_else (found_in keywords w) (Name w)) e (or_small (found_in keywords w) (λ j f. small_found keywords w j (tt, (tt, (tt, (tt, (tt, (tt, (tt, (tt, (tt, (tt, (tt, (tt, (tt, (tt, tt)))))))))))))) f))
+    by_name : (b : Bool) → (if b then Some (or_else (found_in keywords w) (Name w)) else (if is_number 10 w then Some (Number (value 10 0 w)) else
+        (if is_hexadecimal w then Some (Number (value 16 0 (drop 2 w))) else found_in signs w))) ≡ Some k → IsSmall k
+    by_name true e = some (or_else (found_in keywords w) (Name w)) e (or_small (found_in keywords w)
+        (λ j f. small_found keywords w j (tt, (tt, (tt, (tt, (tt, (tt, (tt, (tt, (tt, (tt, (tt, (tt, (tt, (tt, tt)))))))))))))) f))
     by_name false e = by_number (is_number 10 w) refl e
 
 small_tokens : {at end : Place} {bs : List ℕ} {ts : List Placed} → Lexed at bs ts end → AreSmall (given_tokens ts)

@@ -21,6 +21,7 @@ one_module_of_text text m n a b =
 pub module_or_fault : ModuleOrFault
 module_or_fault text = let r = has_reading start text in go r.0 r.1 r.2 (decided r.0)
   where
-    go : (ts : List Placed) (end : Place) → Lexed start text ts end → ((m : ModuleTree) × IsModule (given_tokens ts) m) ⊎ ((t : Option Placed) × IsFaultAt ts t) → ((m : ModuleTree) × Spells text m) ⊎ ((at : Place) × IsFirstFault text at)
+    go : (ts : List Placed) (end : Place) → Lexed start text ts end → ((m : ModuleTree) × IsModule (given_tokens ts) m) ⊎ ((t : Option Placed) × IsFaultAt ts t)
+        → ((m : ModuleTree) × Spells text m) ⊎ ((at : Place) × IsFirstFault text at)
     go ts end lexed (inl m) = inl (m.0, record { tokens = ts; end = end; lexed = lexed; stands = m.1 })
     go ts end lexed (inr t) = inr (place_of end t.0, record { tokens = ts; end = end; lexed = lexed; fault = t.0; here = t.1; place = refl })

@@ -1,5 +1,6 @@
 -- Each reading and each delivery leads the source model to where the course says.
-use Rattle.std.proofs.Common.{◌≡◌, ℕ, zero, suc, ◌+◌, ◌<◌, ◌≤◌, inl, inr, ◌==◌, true, false, if◌then◌else◌, List, [], ◌∷◌, ◌++◌, length, map, Option, Some, None, slice_get, append_assoc, refl, sym, ap, ◌∙◌, subst, arith}
+use Rattle.std.proofs.Common.{◌≡◌, ℕ, zero, suc, ◌+◌, ◌<◌, ◌≤◌, inl, inr, ◌==◌, true, false, if◌then◌else◌, List, [], ◌∷◌, ◌++◌, length, map, Option, Some}
+use Rattle.std.proofs.Common.{None, slice_get, append_assoc, refl, sym, ap, ◌∙◌, subst, arith}
 use Rattle.std.specs.Prelude.{slice_set, slice_index_or}
 use Rattle.std.specs.List.{All}
 use Rattle.std.proofs.lemmas.Bool.{cases_eq, eq-eqb}
@@ -143,7 +144,8 @@ stale_after rs d v h k r e =
       | inr z ↦ h k r z.1
     ]
 
-pub sensed_agrees : (app : AppTree) (r : Sampling) (c : Course) → is_valid app ≡ true → IsSampling app r → total (sensed app r c) ≤ 65535 → IsTold app (sensed app r c) → Stands app c → Stands app (sensed app r c)
+pub sensed_agrees : (app : AppTree) (r : Sampling) (c : Course) → is_valid app ≡ true → IsSampling app r → total (sensed app r c) ≤ 65535
+    → IsTold app (sensed app r c) → Stands app c → Stands app (sensed app r c)
 sensed_agrees app r c valid is few told h =
     let d = driver app r.device is.driver is.driven in
     let p = is.driver in
@@ -165,7 +167,8 @@ sensed_agrees app r c valid is few told h =
     let room : total next ≤ 65535 = subst (λ c. total c ≤ 65535) (sym same) few in
     let fits : length (c.past ++ c.plain.waiting) + length (acts_send app.links p acts) ≤ 65535 =
     omega (arith, room, length-append c.past c.plain.waiting, length-append c.plain.waiting (acts_send app.links p acts)) in
-    let step_read = sampled_steps app s r.device r.value p d.part m.standing (present_as app p c.past (slice_index_or c.plain.cells p [])) sensor h.agrees.readings d.there m.there m.is refl d.device in
+    let step_read = sampled_steps app s r.device r.value p d.part m.standing
+    (present_as app p c.past (slice_index_or c.plain.cells p [])) sensor h.agrees.readings d.there m.there m.is refl d.device in
     let ended = done_after app c.past c.plain u p d.part m.standing e d.there m.there h.long links h.agrees.sent fits (packets_so_far app c) (item.Read p r.value) t step_read in
     let final = event_done app u p d.part m.standing (present_as app p c.past (slice_index_or c.plain.cells p [])) e in
     let stands : Agrees app next.plain next.past final =
@@ -196,7 +199,8 @@ next_word past ws w =
     words-append w.link past (w ∷ ws) ∙ ap (λ b. words_over w.link past ++ (if b then w.value ∷ words_over w.link ws else words_over w.link ws)) same in
     ap (λ zs. slice_get zs (count_over w.link past)) parts ∙ get_after (words_over w.link past) (words_over w.link ws) w.value
 
-pub delivered_agrees : (app : AppTree) (w : Waiting) (ws : List Waiting) (c : Course) → is_valid app ≡ true → c.plain.waiting ≡ w ∷ ws → total (delivered app w ws c) ≤ 65535 → IsTold app (delivered app w ws c)
+pub delivered_agrees : (app : AppTree) (w : Waiting) (ws : List Waiting) (c : Course) → is_valid app ≡ true → c.plain.waiting ≡ w ∷ ws
+    → total (delivered app w ws c) ≤ 65535 → IsTold app (delivered app w ws c)
     → Stands app c → Stands app (delivered app w ws c)
 delivered_agrees app w ws c valid waits few told h =
     let linked : All (IsLinked app) (w ∷ ws) = subst (λ xs. All (IsLinked app) xs) waits h.told.linked in

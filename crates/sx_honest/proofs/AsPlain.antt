@@ -1,5 +1,6 @@
 -- An honest run's items look as the plain fold says.
-use Rattle.std.proofs.Common.{◌≡◌, ℕ, zero, suc, ◌+◌, ◌-◌, ◌<◌, ◌==◌, ◌&&◌, Bool, true, false, if◌then◌else◌, List, [], ◌∷◌, ◌++◌, length, map, Option, Some, None, slice_get, zero-add, refl, sym, ap, ◌∙◌, subst, arith}
+use Rattle.std.proofs.Common.{◌≡◌, ℕ, zero, suc, ◌+◌, ◌-◌, ◌<◌, ◌==◌, ◌&&◌, Bool, true, false, if◌then◌else◌, List, [], ◌∷◌, ◌++◌, length, map, Option, Some}
+use Rattle.std.proofs.Common.{None, slice_get, zero-add, refl, sym, ap, ◌∙◌, subst, arith}
 use Rattle.std.specs.Prelude.{flat_map, option_map}
 use Rattle.std.specs.List.{All, list_all}
 use Rattle.std.proofs.lemmas.Bool.{eqb-true}
@@ -22,8 +23,10 @@ use Rattle.sx_mean.proofs.ValidApplications.{valid_applications}
 use Rattle.sx_model.specs.Step.{drives}
 use Rattle.sx_trace.specs.declared.items.Item.{Item}
 use Rattle.sx_trace.specs.declared.items.Item.TheVariants as item
-use Rattle.sx_honest.specs.Plain.{MOST_DELIVERIES, Output, Plain, Sampling, Waiting, act_sends, acts_emit, acts_send, delivers, driver_of, is_still, oldest, over, plain_outputs, plays, reacted, reaction, settles, takes_reading}
-use Rattle.sx_honest.specs.Course.{Course, IsHonest, IsSampling, count_over, course_start, delivered, acts_items, open_items, packet_items, packets_so_far, part_items, parts_items, played, sensed, settled, words_over}
+use Rattle.sx_honest.specs.Plain.{MOST_DELIVERIES, Output, Plain, Sampling, Waiting, act_sends, acts_emit, acts_send, delivers, driver_of, is_still, oldest}
+use Rattle.sx_honest.specs.Plain.{over, plain_outputs, plays, reacted, reaction, settles, takes_reading}
+use Rattle.sx_honest.specs.Course.{Course, IsHonest, IsSampling, count_over, course_start, delivered, acts_items, open_items, packet_items, packets_so_far}
+use Rattle.sx_honest.specs.Course.{part_items, parts_items, played, sensed, settled, words_over}
 use Rattle.sx_honest.specs.Told.{is_well, numbered, outputs_of, put_out, taken_by, takes_of}
 use Rattle.sx_honest.proofs.Lists.{all-append, found_at, numbered-push, put-outs, told-outs, told-packets, words-append}
 use Rattle.sx_honest.proofs.Course.{Keeps, played_keeps, total}
@@ -98,7 +101,8 @@ driver app d p e =
     same (Some e) h = ap (λ (k : ℕ). Some k) (eqb-true e d h)
 
 -- what the items of an event tell, where a packet and the end tell nothing
-told_event : {A : Type 0} (tells : Item → List A) (app : AppTree) (p : ℕ) (begins : Item) (number : ℕ) (acts : List Act) → ((n len : ℕ) → tells (item.Packet n len) ≡ []) → ((k : ℕ) → tells (item.Done p 1 k) ≡ [])
+told_event : {A : Type 0} (tells : Item → List A) (app : AppTree) (p : ℕ) (begins : Item) (number : ℕ) (acts : List Act)
+    → ((n len : ℕ) → tells (item.Packet n len) ≡ []) → ((k : ℕ) → tells (item.Done p 1 k) ≡ [])
     → flat_map tells (acts_items app p begins number acts) ≡ tells begins ++ flat_map tells (map (λ v. item.Out p v) (acts_emit acts))
 told_event tells app p begins number acts packets ends =
     let k = length (acts_send app.links p acts) in
@@ -132,7 +136,8 @@ well_event app p begins number acts h =
 
 -- The set-up.
 
-told_opens : {A : Type 0} (tells : Item → List A) (p : ℕ) → ((e : End) → tells (item.Open p e.link e.side 0) ≡ []) → tells (item.Done p 1 0) ≡ [] → (es : List End) → flat_map tells (open_items p es) ≡ []
+told_opens : {A : Type 0} (tells : Item → List A) (p : ℕ) → ((e : End) → tells (item.Open p e.link e.side 0) ≡ []) → tells (item.Done p 1 0) ≡ []
+    → (es : List End) → flat_map tells (open_items p es) ≡ []
 told_opens tells p f g [] = refl
 told_opens tells p f g (e ∷ es) = ap (λ zs. zs ++ (tells (item.Done p 1 0) ++ flat_map tells (open_items p es))) (f e) ∙ ap (λ zs. zs ++ flat_map tells (open_items p es)) g ∙ told_opens tells p f g es
 
@@ -227,7 +232,8 @@ told_sensed app r c is h =
     subst (λ c. IsTold app c) same told
 
 -- one more is taken
-takes_more : (k m : ℕ) (w : Waiting) (past : List Waiting) → numbered 0 (words_over k past) ++ taken_by k (item.Take m w.link (count_over w.link past) w.value) ≡ numbered 0 (words_over k (past ++ w ∷ []))
+takes_more : (k m : ℕ) (w : Waiting) (past : List Waiting)
+    → numbered 0 (words_over k past) ++ taken_by k (item.Take m w.link (count_over w.link past) w.value) ≡ numbered 0 (words_over k (past ++ w ∷ []))
 takes_more k m w past = go (w.link == k) refl ∙ ap (λ zs. numbered 0 zs) (sym (words-append k past (w ∷ [])))
   where
     go : (b : Bool) → (w.link == k) ≡ b

@@ -7,7 +7,8 @@ use Rattle.sx_honest.specs.Course.{IsSampling, course_start, sensed, settled}
 use Rattle.sx_honest.specs.Worked.{LightingPredicted, lighting}
 
 valid : is_valid lighting ≡ true
-unfolding is_valid Rattle.sx_mean.specs.Validity.is_too_large Rattle.sx_mean.specs.Validity.is_wrong Rattle.sx_mean.specs.Validity.is_misplaced Rattle.sx_mean.specs.Validity.is_crowded Rattle.sx_mean.specs.Validity.is_overloaded Rattle.sx_mean.specs.Validity.is_loose
+unfolding is_valid Rattle.sx_mean.specs.Validity.is_too_large Rattle.sx_mean.specs.Validity.is_wrong Rattle.sx_mean.specs.Validity.is_misplaced
+    Rattle.sx_mean.specs.Validity.is_crowded Rattle.sx_mean.specs.Validity.is_overloaded Rattle.sx_mean.specs.Validity.is_loose
 valid = refl
 
 pub lighting_predicted : LightingPredicted

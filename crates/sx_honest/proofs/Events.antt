@@ -76,7 +76,8 @@ module _ (app : AppTree) (s : Model) (p : ℕ) (q : PartTree) (x y : Standing) (
       ran_first app (item.Done p 1 k) (packet_items number 24 k) (with_present s p x (owing r [] k)) (with_present s p x (with_pending r None)) (done_step k)
       ∙ ran_packets app (with_present s p x (with_pending r None)) number 24 k
   rest_ran (v ∷ vs) k number =
-      ran_first app (item.Out p v) (map (λ v. item.Out p v) vs ++ item.Done p 1 k ∷ packet_items number 24 k) (with_present s p x (owing r (v ∷ vs) k)) (with_present s p x (owing r vs k)) (out_step v vs k)
+      ran_first app (item.Out p v) (map (λ v. item.Out p v) vs ++ item.Done p 1 k ∷ packet_items number 24 k) (with_present s p x (owing r (v ∷ vs) k))
+      (with_present s p x (owing r vs k)) (out_step v vs k)
       ∙ rest_ran vs k number
 
 -- The beginning of an event.

@@ -1,5 +1,6 @@
 -- What the acts of an event send over open ends is what the plain fold puts on its way.
-use Rattle.std.proofs.Common.{◌≡◌, ℕ, ◌+◌, ◌<◌, ◌≤◌, inl, inr, ◌==◌, ◌&&◌, Bool, true, false, if◌then◌else◌, List, [], ◌∷◌, ◌++◌, length, map, Some, None, slice_get, nat_lt, append_assoc, zero-add, add-zero, refl, sym, ap, ◌∙◌, subst, arith}
+use Rattle.std.proofs.Common.{◌≡◌, ℕ, ◌+◌, ◌<◌, ◌≤◌, inl, inr, ◌==◌, ◌&&◌, Bool, true, false, if◌then◌else◌, List, [], ◌∷◌, ◌++◌, length, map, Some, None}
+use Rattle.std.proofs.Common.{slice_get, nat_lt, append_assoc, zero-add, add-zero, refl, sym, ap, ◌∙◌, subst, arith}
 use Rattle.std.specs.Prelude.{slice_set}
 use Rattle.std.specs.List.{cons_option}
 use Rattle.std.proofs.lemmas.Bool.{cases_eq, eq-eqb, ne_eqb}
@@ -84,7 +85,8 @@ ends_send : (past : List Waiting) (n p output v : ℕ) (l : Link) (es : List End
 ends_send past n p output v l es f = go (l.from == p) (l.to == p) (l.output == output) refl
   where
     go : (a b c : Bool) → (l.output == output) ≡ c
-        → let held : List End = cons_option (if a then Some (record { link = n; side = From; port = l.output }) else None) (cons_option (if b then Some (record { link = n; side = To; port = l.input }) else None) es) in
+        → let held : List End = cons_option (if a then Some (record { link = n; side = From; port = l.output }) else None)
+        (cons_option (if b then Some (record { link = n; side = To; port = l.input }) else None) es) in
         sent_to held (map (view_of past) held) output v f ≡ sent_to es (map (view_of past) es) output v (if a && (l.output == output) then sent_over n v (slice_get f.sent n) f else f)
     go true true true e = rw (e, add-zero) refl
     go true true false e = rw e refl
@@ -103,7 +105,8 @@ over_flowed fields past n p output v (l ∷ ls) f xs h within few =
     go : (b : Bool) → length xs + length (if b then record { link = n; value = v } ∷ (over (n + 1) p output v ls) else (over (n + 1) p output v ls)) ≤ 65535
         → ((g : Flow) (ys : List Waiting) → SentAs fields g.sent ys → n + 1 + length ls ≤ fields → length ys + length (over (n + 1) p output v ls) ≤ 65535
         → Flowed fields g (sent_to (ends_after (n + 1) p ls) (map (view_of past) (ends_after (n + 1) p ls)) output v g) ys (over (n + 1) p output v ls) [])
-        → Flowed fields f (sent_to (ends_after (n + 1) p ls) (map (view_of past) (ends_after (n + 1) p ls)) output v (if b then sent_over n v (slice_get f.sent n) f else f)) xs (if b then record { link = n; value = v } ∷ (over (n + 1) p output v ls) else (over (n + 1) p output v ls)) []
+        → Flowed fields f (sent_to (ends_after (n + 1) p ls) (map (view_of past) (ends_after (n + 1) p ls)) output v (if b then sent_over n v
+        (slice_get f.sent n) f else f)) xs (if b then record { link = n; value = v } ∷ (over (n + 1) p output v ls) else (over (n + 1) p output v ls)) []
     go true few more =
         let w : Waiting = record { link = n; value = v } in
         let g = sent_over n v (slice_get f.sent n) f in
@@ -112,7 +115,8 @@ over_flowed fields past n p output v (l ∷ ls) f xs h within few =
         let one = one_flowed fields f xs w h lt room in
         let l = length-append xs (w ∷ []) in
         let left : length (xs ++ w ∷ []) + length (over (n + 1) p output v ls) ≤ 65535 = omega (arith, few, l) in
-        flowed_on fields f g (sent_to (ends_after (n + 1) p ls) (map (view_of past) (ends_after (n + 1) p ls)) output v g) xs (w ∷ []) (over (n + 1) p output v ls) [] [] one (more g (xs ++ w ∷ []) one.sent (omega (arith, within)) left)
+        flowed_on fields f g (sent_to (ends_after (n + 1) p ls) (map (view_of past) (ends_after (n + 1) p ls)) output v g) xs (w ∷ [])
+        (over (n + 1) p output v ls) [] [] one (more g (xs ++ w ∷ []) one.sent (omega (arith, within)) left)
     go false few more = more f xs h (omega (arith, within)) few
 
 -- an act of a part

@@ -1,5 +1,6 @@
 -- The set-up's items lead the source model from power-on to where each module is present with all of its ends open.
-use Rattle.std.proofs.Common.{◌≡◌, ℕ, zero, suc, ◌+◌, ◌<◌, ◌≤◌, inl, inr, ◌==◌, ◌&&◌, true, false, List, [], ◌∷◌, ◌++◌, length, map, replicate, Option, Some, None, slice_get, append_assoc, zero-add, add-zero, refl, sym, ap, ◌∙◌, subst, arith}
+use Rattle.std.proofs.Common.{◌≡◌, ℕ, zero, suc, ◌+◌, ◌<◌, ◌≤◌, inl, inr, ◌==◌, ◌&&◌, true, false, List, [], ◌∷◌, ◌++◌, length, map, replicate, Option, Some}
+use Rattle.std.proofs.Common.{None, slice_get, append_assoc, zero-add, add-zero, refl, sym, ap, ◌∙◌, subst, arith}
 use Rattle.std.specs.Prelude.{slice_set, slice_index, slice_index_or}
 use Rattle.std.specs.List.{AllPairs}
 use Rattle.std.proofs.lemmas.Bool.{cases_eq, eq-eqb}
@@ -154,7 +155,8 @@ module _ (app : AppTree) (s : Model) (p : ℕ) (q : PartTree) (z : Standing) (pa
   -- an end opens, and the event is done
   one_open : (y : Standing) (r : Present) (e : End) (views : List EndView) (more : List Item) → y.present ≡ Some r → r.pending ≡ None → slice_get s.boots q.node ≡ Some 0
       → changed_views (opens 0) e.link e.side (ends_of app p) r.ends ≡ Some views → may_open y.attested 0 e.link 0 (slice_index s.epochs e.link) ≡ true
-      → after app (with_standing s p y) (item.Open p e.link e.side 0 ∷ item.Done p 1 0 ∷ more) ≡ after app (with_standing s p (record y { present = Some (record r { ends = views; pending = None }) })) more
+      → after app (with_standing s p y) (item.Open p e.link e.side 0 ∷ item.Done p 1 0 ∷ more)
+      ≡ after app (with_standing s p (record y { present = Some (record r { ends = views; pending = None }) })) more
   one_open y r e views more present none node ends may =
       let u : Present = record r { ends = views } in
       ran_first app (item.Open p e.link e.side 0) (item.Done p 1 0 ∷ more) (with_standing s p y) (with_present s p y (owing u [] 0)) (open_step y r e.link e.side 0 0 views present none node ends may)

@@ -1,5 +1,6 @@
 -- The views of a part's ends as values are delivered.
-use Rattle.std.proofs.Common.{◌≡◌, ℕ, zero, suc, ◌+◌, ◌==◌, ◌&&◌, Bool, true, false, if◌then◌else◌, List, [], ◌∷◌, ◌++◌, length, map, Option, Some, None, slice_get, nat_le, zero-add, refl, sym, ap, ◌∙◌, arith}
+use Rattle.std.proofs.Common.{◌≡◌, ℕ, zero, suc, ◌+◌, ◌==◌, ◌&&◌, Bool, true, false, if◌then◌else◌, List, [], ◌∷◌, ◌++◌, length, map, Option, Some, None}
+use Rattle.std.proofs.Common.{slice_get, nat_le, zero-add, refl, sym, ap, ◌∙◌, arith}
 use Rattle.std.specs.List.{cons_option}
 use Rattle.std.proofs.lemmas.Bool.{eq-eqb, eqb-true, ne_eqb}
 use Rattle.std.proofs.lemmas.Bool.Decides.{nat_tests}
@@ -44,10 +45,12 @@ views_kept past w n p (l ∷ ls) far =
     at t s = far 0 l refl t (omega (arith, s))
 
     go : (a b : Bool) → (l.to == p) ≡ b → map (view_of (past ++ w ∷ [])) (ends_after (n + 1) p ls) ≡ map (view_of past) (ends_after (n + 1) p ls)
-        → let held : List End = cons_option (if a then Some (record { link = n; side = From; port = l.output }) else None) (cons_option (if b then Some (record { link = n; side = To; port = l.input }) else None) (ends_after (n + 1) p ls)) in
+        → let held : List End = cons_option (if a then Some (record { link = n; side = From; port = l.output }) else None)
+        (cons_option (if b then Some (record { link = n; side = To; port = l.input }) else None) (ends_after (n + 1) p ls)) in
         map (view_of (past ++ w ∷ [])) held ≡ map (view_of past) held
     go true true t more =
-        ap (λ (v : EndView). view_of past (record { link = n; side = From; port = l.output }) ∷ v ∷ map (view_of (past ++ w ∷ [])) (ends_after (n + 1) p ls)) (view_kept past w n To l.input (λ _. at (eqb-true l.to p t)))
+        ap (λ (v : EndView). view_of past (record { link = n; side = From; port = l.output }) ∷ v ∷ map (view_of (past ++ w ∷ [])) (ends_after (n + 1) p ls))
+        (view_kept past w n To l.input (λ _. at (eqb-true l.to p t)))
         ∙ ap (λ (vs : List EndView). view_of past (record { link = n; side = From; port = l.output }) ∷ view_of past (record { link = n; side = To; port = l.input }) ∷ vs) more
     go true false t more = ap (λ (vs : List EndView). view_of past (record { link = n; side = From; port = l.output }) ∷ vs) more
     go false true t more =
@@ -90,7 +93,8 @@ taken_here : (past : List Waiting) (w : Waiting) (n p : ℕ) (k : Link) (es : Li
 taken_here past w n p k es here to far = go (k.from == p) (k.to == p) (eq-eqb k.to p to)
   where
     go : (a b : Bool) → b ≡ true
-        → let held : List End = cons_option (if a then Some (record { link = n; side = From; port = k.output }) else None) (cons_option (if b then Some (record { link = n; side = To; port = k.input }) else None) es) in
+        → let held : List End = cons_option (if a then Some (record { link = n; side = From; port = k.output }) else None)
+        (cons_option (if b then Some (record { link = n; side = To; port = k.input }) else None) es) in
         changed_views (takes 0 (count_over w.link past)) w.link To held (map (view_of past) held) ≡ Some (map (view_of (past ++ w ∷ [])) held)
     go a false t = absurd cc
     go true true t =
@@ -99,12 +103,14 @@ taken_here past w n p k es here to far = go (k.from == p) (k.to == p) (eq-eqb k.
         let from : End = record { link = n; side = From; port = k.output } in
         let end : End = record { link = n; side = To; port = k.input } in
         passed change w.link To from (end ∷ es) (view_of past from) (view_of (past ++ w ∷ []) from) (map (view_of past) (end ∷ es)) (map (view_of (past ++ w ∷ [])) (end ∷ es)) (rw same refl) refl
-        (changed change w.link To end es (view_of past end) (view_of (past ++ w ∷ []) end) (map (view_of past) es) (map (view_of (past ++ w ∷ [])) es) (rw same refl) (take_view past w n k.input here) (sym far))
+        (changed change w.link To end es (view_of past end) (view_of (past ++ w ∷ []) end) (map (view_of past) es) (map (view_of (past ++ w ∷ [])) es)
+        (rw same refl) (take_view past w n k.input here) (sym far))
     go false true t =
         let same : (n == w.link) ≡ true = eq-eqb n w.link (sym here) in
         let change = takes 0 (count_over w.link past) in
         let end : End = record { link = n; side = To; port = k.input } in
-        changed change w.link To end es (view_of past end) (view_of (past ++ w ∷ []) end) (map (view_of past) es) (map (view_of (past ++ w ∷ [])) es) (rw same refl) (take_view past w n k.input here) (sym far)
+        changed change w.link To end es (view_of past end) (view_of (past ++ w ∷ []) end) (map (view_of past) es) (map (view_of (past ++ w ∷ [])) es)
+        (rw same refl) (take_view past w n k.input here) (sym far)
 
 -- a later one is
 taken_later : (past : List Waiting) (w : Waiting) (n p : ℕ) (k : Link) (es : List End) → (w.link ≡ n → ⊥)

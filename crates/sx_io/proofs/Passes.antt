@@ -1,5 +1,6 @@
 -- Lemmas on lines that are passed.
-use Rattle.std.proofs.Common.{ℕ, zero, suc, ◌+◌, ◌-◌, ◌<◌, ◌≤◌, ◌==◌, ◌≡◌, ◌∙◌, inr, Bool, false, true, if◌then◌else◌, List, [], ◌∷◌, ◌++◌, length, take, drop, refl, ap, sym, subst, arith, length-append}
+use Rattle.std.proofs.Common.{ℕ, zero, suc, ◌+◌, ◌-◌, ◌<◌, ◌≤◌, ◌==◌, ◌≡◌, ◌∙◌, inr, Bool, false, true, if◌then◌else◌, List, [], ◌∷◌, ◌++◌, length, take, drop}
+use Rattle.std.proofs.Common.{refl, ap, sym, subst, arith, length-append}
 use Rattle.std.specs.Prelude.{IsTrue, slice_index}
 use Rattle.std.proofs.lemmas.List.{append-nil, take-append-le, length-take-le}
 use Rattle.std.proofs.Math.Seq.{take-length}
@@ -191,7 +192,8 @@ turn_held limit tells s begun held count t new front p = record {
   fronts = p.fronts;
 }
 
-pub turn_read : (limit : ℕ) (tells : Bool) (s0 s1 : SourceAt) (begun old held : List ℕ) (count : ℕ) (t : PassTurn) (new : Ahead) (front : List ℕ) → old ≡ [] → (IsTrue tells → s0.rest ≡ held ++ s1.rest)
+pub turn_read : (limit : ℕ) (tells : Bool) (s0 s1 : SourceAt) (begun old held : List ℕ) (count : ℕ) (t : PassTurn) (new : Ahead) (front : List ℕ) → old ≡ []
+    → (IsTrue tells → s0.rest ≡ held ++ s1.rest)
     → PassedHeld limit begun held count t new front → PassedTurn limit tells s0 s1 begun old count t new front
 turn_read limit tells s0 s1 begun old held count t new front none from p = record {
   into = p.into;
@@ -207,7 +209,8 @@ bytes_none : (begun old held : List ℕ) → old ≡ [] → held ≡ [] → (beg
 bytes_none begun old held a b =
     ap (λ (o : List ℕ). (begun ++ o) ++ held) a ∙ ap (λ (h : List ℕ). (begun ++ []) ++ h) b ∙ append-nil (begun ++ []) ∙ append-nil begun
 
-pub turn_end : (limit : ℕ) (tells : Bool) (s0 s1 : SourceAt) (begun old : List ℕ) (count : ℕ) (new : Ahead) (front : List ℕ) → old ≡ [] → new.held ≡ [] → new.state ≡ reader.AtEnd → length begun ≡ count → count ≡ 0
+pub turn_end : (limit : ℕ) (tells : Bool) (s0 s1 : SourceAt) (begun old : List ℕ) (count : ℕ) (new : Ahead) (front : List ℕ) → old ≡ [] → new.held ≡ []
+    → new.state ≡ reader.AtEnd → length begun ≡ count → count ≡ 0
     → (IsTrue tells → s0.rest ≡ new.held ++ s1.rest) → PassedTurn limit tells s0 s1 begun old count (passed_turn.Done read.End) new front
 turn_end limit tells s0 s1 begun old count new front none left is long first from = record {
   into = [];
@@ -221,7 +224,8 @@ turn_end limit tells s0 s1 begun old count new front none left is long first fro
     empty [] e = refl
     empty (x ∷ xs) e = absurd (omega (arith, e))
 
-pub turn_rest : (limit : ℕ) (tells : Bool) (s0 s1 : SourceAt) (begun old : List ℕ) (passed : Passed) (new : Ahead) (front : List ℕ) → old ≡ [] → new.held ≡ [] → new.state ≡ reader.AtEnd → IsBegun front passed begun
+pub turn_rest : (limit : ℕ) (tells : Bool) (s0 s1 : SourceAt) (begun old : List ℕ) (passed : Passed) (new : Ahead) (front : List ℕ) → old ≡ [] → new.held ≡ []
+    → new.state ≡ reader.AtEnd → IsBegun front passed begun
     → (passed.count ≡ 0 → ⊥) → passed.count ≤ limit → (IsTrue tells → s0.rest ≡ new.held ++ s1.rest)
     → PassedTurn limit tells s0 s1 begun old passed.count (passed_turn.Done (read.Text passed.count)) new front
 turn_rest limit tells s0 s1 begun old passed new front none left is h some few from =
@@ -240,7 +244,8 @@ turn_rest limit tells s0 s1 begun old passed new front none left is h some few f
       fronts = h.first ∙ ap (λ (xs : List ℕ). take 8 xs) (sym all);
     }
 
-pub turn_failed : (limit : ℕ) (tells : Bool) (s0 s1 : SourceAt) (begun old : List ℕ) (passed : Passed) (new : Ahead) (front : List ℕ) → old ≡ [] → new.held ≡ [] → new.state ≡ reader.Failed → IsBegun front passed begun
+pub turn_failed : (limit : ℕ) (tells : Bool) (s0 s1 : SourceAt) (begun old : List ℕ) (passed : Passed) (new : Ahead) (front : List ℕ) → old ≡ [] → new.held ≡ []
+    → new.state ≡ reader.Failed → IsBegun front passed begun
     → passed.count ≤ limit → (IsTrue tells → s0.rest ≡ new.held ++ s1.rest) → PassedTurn limit tells s0 s1 begun old passed.count (passed_turn.Done read.Failed) new front
 turn_failed limit tells s0 s1 begun old passed new front none left is h few from =
     let size = h.count in

@@ -9,7 +9,8 @@ use Rattle.sx_lang.specs.Sizes.{statement_cost, expression_cost, block_cost}
 use Rattle.sx_lang.specs.View.{statement_of, block_of, expression_of}
 use Rattle.sx_lang.proofs.Rows.{if_is, repeat_is}
 
-pub if_cost : (s : Stmt) (e : Expr) (v w : Vec Stmt Global) → s ≡ If e v w → statement_cost (statement_of s) ≡ 64 + expression_cost (expression_of e) + max (block_cost (block_of v.items)) (block_cost (block_of w.items))
+pub if_cost : (s : Stmt) (e : Expr) (v w : Vec Stmt Global) → s ≡ If e v w
+    → statement_cost (statement_of s) ≡ 64 + expression_cost (expression_of e) + max (block_cost (block_of v.items)) (block_cost (block_of w.items))
 if_cost s e v w i = ap (λ x. statement_cost (statement_of x)) i ∙ ap statement_cost (if_is e v w)
 
 pub repeat_cost : (s : Stmt) (n : ℕ) (v : Vec Stmt Global) → s ≡ Repeat n v → statement_cost (statement_of s) ≡ 64 + n * (64 + block_cost (block_of v.items))

@@ -55,7 +55,8 @@ long_no_sign w h = not_found (λ w. nat_le (length w) 2) signs w refl (grind (ar
 pub lower_no_digit : (b : ℕ) → is_lower b ≡ true → is_digit 10 b ≡ false
 lower_no_digit b h = go (is_decimal_digit b) (nat_le 97 b && nat_le b 102) (nat_le 65 b && nat_le b 70) refl refl refl
   where
-    go : (s t u : Bool) → is_decimal_digit b ≡ s → (nat_le 97 b && nat_le b 102) ≡ t → (nat_le 65 b && nat_le b 70) ≡ u → nat_le (suc (if s then b - 48 else (if t then b - 87 else (if u then b - 55 else 16)))) 10 ≡ false
+    go : (s t u : Bool) → is_decimal_digit b ≡ s → (nat_le 97 b && nat_le b 102) ≡ t → (nat_le 65 b && nat_le b 70) ≡ u
+        → nat_le (suc (if s then b - 48 else (if t then b - 87 else (if u then b - 55 else 16)))) 10 ≡ false
     go true t u e f g = absurd (let x : false ≡ true = grind (arith, nat_tests, e, h) in cc)
     go false true u e f g = grind (arith, nat_tests, f)
     go false false true e f g = absurd (let x : false ≡ true = grind (arith, nat_tests, g, h) in cc)
@@ -64,7 +65,8 @@ lower_no_digit b h = go (is_decimal_digit b) (nat_le 97 b && nat_le b 102) (nat_
 pub digit_is_decimal : (b : ℕ) → is_digit 10 b ≡ true → is_decimal_digit b ≡ true
 digit_is_decimal b h = go (is_decimal_digit b) (nat_le 97 b && nat_le b 102) (nat_le 65 b && nat_le b 70) refl refl refl h
   where
-    go : (s t u : Bool) → is_decimal_digit b ≡ s → (nat_le 97 b && nat_le b 102) ≡ t → (nat_le 65 b && nat_le b 70) ≡ u → nat_le (suc (if s then b - 48 else (if t then b - 87 else (if u then b - 55 else 16)))) 10 ≡ true → s ≡ true
+    go : (s t u : Bool) → is_decimal_digit b ≡ s → (nat_le 97 b && nat_le b 102) ≡ t → (nat_le 65 b && nat_le b 70) ≡ u
+        → nat_le (suc (if s then b - 48 else (if t then b - 87 else (if u then b - 55 else 16)))) 10 ≡ true → s ≡ true
     go true t u e f g h = refl
     go false true u e f g h = absurd (let x : false ≡ true = grind (arith, nat_tests, f, h) in cc)
     go false false true e f g h = absurd (let x : false ≡ true = grind (arith, nat_tests, g, h) in cc)

@@ -61,7 +61,8 @@ reading (suc most) at (b ∷ bs) l = go (is_space b) (b == 10) (begins_comment (
     shorter : (n : ℕ) → length (drop n bs) ≤ most
     shorter n = omega (arith, l, length-drop n bs)
 
-    word : Longest (b ∷ bs) ⊎ NoToken (b ∷ bs) → is_space b ≡ false → (b == 10) ≡ false → begins_comment (b ∷ bs) ≡ false → ((at : Place) (rest : List ℕ) → length rest ≤ most → Reading at rest) → Reading at (b ∷ bs)
+    word : Longest (b ∷ bs) ⊎ NoToken (b ∷ bs) → is_space b ≡ false → (b == 10) ≡ false → begins_comment (b ∷ bs) ≡ false
+        → ((at : Place) (rest : List ℕ) → length rest ≤ most → Reading at rest) → Reading at (b ∷ bs)
     word (inr none) s n c again = (record { kind = Bad; place = at } ∷ [], at, bad s n c none)
     word (inl w) s n c again = sized w.size w.kind w.is_longest again
       where

@@ -15,7 +15,8 @@ no_longer_name zero bs (suc m) h l = let e : nat_le (suc m) 0 ≡ false = grind 
 no_longer_name (suc k) [] (suc m) h l = absurd (omega (arith, l))
 no_longer_name (suc k) (b ∷ bs) (suc m) h l = go (is_name_byte b) refl h (λ h. no_longer_name k bs m h (omega (arith, l)))
   where
-    go : (t : Bool) → is_name_byte b ≡ t → (if t then suc (name_front k bs) else 0) < suc m → (name_front k bs < m → (list_all is_name_byte (take m bs) && nat_le m k) ≡ false) → ((is_name_byte b && list_all is_name_byte (take m bs)) && nat_le (suc m) (suc k)) ≡ false
+    go : (t : Bool) → is_name_byte b ≡ t → (if t then suc (name_front k bs) else 0) < suc m → (name_front k bs < m
+        → (list_all is_name_byte (take m bs) && nat_le m k) ≡ false) → ((is_name_byte b && list_all is_name_byte (take m bs)) && nat_le (suc m) (suc k)) ≡ false
     go true e h again = let s : nat_le (suc m) (suc k) ≡ nat_le m k = grind arith in rw (e, s) (again (omega (arith, h)))
     go false e h again = rw e refl
 
@@ -24,14 +25,17 @@ name_front_fits zero bs = (refl, omega arith, omega arith)
 name_front_fits (suc k) [] = (refl, omega arith, omega arith)
 name_front_fits (suc k) (b ∷ bs) = go (is_name_byte b) refl (name_front_fits k bs)
   where
-    go : (t : Bool) → is_name_byte b ≡ t → ((list_all is_name_byte (take (name_front k bs) bs) ≡ true) × (name_front k bs ≤ k) × (name_front k bs ≤ length bs)) → (list_all is_name_byte (take (if t then suc (name_front k bs) else 0) (b ∷ bs)) ≡ true) × ((if t then suc (name_front k bs) else 0) ≤ suc k) × ((if t then suc (name_front k bs) else 0) ≤ length (b ∷ bs))
+    go : (t : Bool) → is_name_byte b ≡ t → ((list_all is_name_byte (take (name_front k bs) bs) ≡ true) × (name_front k bs ≤ k) × (name_front k bs ≤ length bs))
+        → (list_all is_name_byte (take (if t then suc (name_front k bs) else 0) (b ∷ bs)) ≡ true) × ((if t then suc (name_front k bs) else 0) ≤ suc k)
+        × ((if t then suc (name_front k bs) else 0) ≤ length (b ∷ bs))
     go true e again = (rw e again.0, omega (arith, again.1), omega (arith, again.2))
     go false e again = (refl, omega arith, omega arith)
 
 not_zero : (b : ℕ) → is_lower b ≡ true → (b == 48) ≡ false
 not_zero b h = grind (arith, nat_tests)
 
-name_longest : (b : ℕ) (bs : List ℕ) → is_lower b ≡ true → IsLongest (b ∷ bs) (suc (name_front 15 bs)) (or_else (found_in keywords (b ∷ take (name_front 15 bs) bs)) (Name (b ∷ take (name_front 15 bs) bs)))
+name_longest : (b : ℕ) (bs : List ℕ) → is_lower b ≡ true
+    → IsLongest (b ∷ bs) (suc (name_front 15 bs)) (or_else (found_in keywords (b ∷ take (name_front 15 bs) bs)) (Name (b ∷ take (name_front 15 bs) bs)))
 name_longest b bs h =
     let n = name_front 15 bs in
     let f = name_front_fits 15 bs in
@@ -51,7 +55,8 @@ name_longest b bs h =
         let far2 : (list_all is_name_byte (take m bs) && nat_le (length (take m bs)) 15) ≡ false = rw len far in
         rw (h, far2, lower_no_digit b h, no_prefix b (take m bs) (not_zero b h)) (lower_no_sign b (take m bs) h)
 
-pub longest_name : (text bs word : List ℕ) (b n : ℕ) (k : Kind) → text ≡ b ∷ bs → is_lower b ≡ true → n ≡ 1 + name_front 15 bs → word ≡ take n text → k ≡ or_else (found_in keywords word) (Name word) → IsLongest text n k
+pub longest_name : (text bs word : List ℕ) (b n : ℕ) (k : Kind) → text ≡ b ∷ bs → is_lower b ≡ true → n ≡ 1 + name_front 15 bs → word ≡ take n text
+    → k ≡ or_else (found_in keywords word) (Name word) → IsLongest text n k
 longest_name text bs word b n k t h l w e =
     let same : n ≡ suc (name_front 15 bs) = omega (arith, l) in
     let v : word ≡ b ∷ take (name_front 15 bs) bs = w ∙ ap (λ k. take k text) same ∙ ap (λ x. take (suc (name_front 15 bs)) x) t in

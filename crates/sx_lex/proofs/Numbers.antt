@@ -24,7 +24,8 @@ not_second d n m e l = let f : nat_le m 65535 ≡ false = grind (arith, nat_test
 pub begins : (text rest : List ℕ) (base : ℕ) → rest ≡ text → Counted text base 0 0 rest
 begins text rest base e = rw e (record { fronts = omega arith; values = refl; inside = omega arith })
 
-pub counts : (text rest a : List ℕ) (base c v b c2 v2 : ℕ) → Counted text base c v rest → rest ≡ b ∷ a → (is_digit base b && nat_le (v * base + digit_value b) 65535) ≡ true → v2 ≡ v * base + digit_value b → c2 ≡ c + 1 → Counted text base c2 v2 a
+pub counts : (text rest a : List ℕ) (base c v b c2 v2 : ℕ) → Counted text base c v rest → rest ≡ b ∷ a
+    → (is_digit base b && nat_le (v * base + digit_value b) 65535) ≡ true → v2 ≡ v * base + digit_value b → c2 ≡ c + 1 → Counted text base c2 v2 a
 counts text rest a base c v b c2 v2 h e t q r =
     let f : number_front base v rest ≡ suc (number_front base v2 a) = rw (e, t, q) refl in
     let i : length rest ≡ suc (length a) = ap length e in
@@ -44,10 +45,12 @@ none_left (x ∷ r) h = absurd (omega (arith, h))
 ended : (rest : List ℕ) (base v : ℕ) → length rest ≡ 0 → number_front base v rest ≡ 0
 ended rest base v e = rw (none_left rest e) refl
 
-pub stops_count : (text rest a : List ℕ) (base c v b : ℕ) → Counted text base c v rest → rest ≡ b ∷ a → (is_digit base b && nat_le (v * base + digit_value b) 65535) ≡ false → c ≡ number_front base 0 text
+pub stops_count : (text rest a : List ℕ) (base c v b : ℕ) → Counted text base c v rest → rest ≡ b ∷ a
+    → (is_digit base b && nat_le (v * base + digit_value b) 65535) ≡ false → c ≡ number_front base 0 text
 stops_count text rest a base c v b h e t = omega (arith, h.fronts, stopped rest a base v b e t)
 
-pub stops_value : (text rest a : List ℕ) (base c v b : ℕ) → Counted text base c v rest → rest ≡ b ∷ a → (is_digit base b && nat_le (v * base + digit_value b) 65535) ≡ false → v ≡ value base 0 (take (number_front base 0 text) text)
+pub stops_value : (text rest a : List ℕ) (base c v b : ℕ) → Counted text base c v rest → rest ≡ b ∷ a
+    → (is_digit base b && nat_le (v * base + digit_value b) 65535) ≡ false → v ≡ value base 0 (take (number_front base 0 text) text)
 stops_value text rest a base c v b h e t = sym (h.values ∙ rw (stopped rest a base v b e t) refl)
 
 pub ends_count : (text rest : List ℕ) (base c v : ℕ) → Counted text base c v rest → length rest ≡ 0 → c ≡ number_front base 0 text
@@ -60,12 +63,17 @@ value_grows : (base v : ℕ) (bs : List ℕ) → 0 < base → v ≤ value base v
 value_grows base v [] p = omega arith
 value_grows base v (b ∷ bs) p = omega (arith, value_grows base (v * base + digit_value b) bs p, le-mul_of_pos_right v p)
 
-no_longer_number : (base v : ℕ) (bs : List ℕ) (m : ℕ) → 0 < base → number_front base v bs < m → m ≤ length bs → (list_all (is_digit base) (take m bs) && nat_le (value base v (take m bs)) 65535) ≡ false
+no_longer_number : (base v : ℕ) (bs : List ℕ) (m : ℕ) → 0 < base → number_front base v bs < m → m ≤ length bs
+    → (list_all (is_digit base) (take m bs) && nat_le (value base v (take m bs)) 65535) ≡ false
 no_longer_number base v bs zero p h l = absurd (omega (arith, h))
 no_longer_number base v [] (suc m) p h l = absurd (omega (arith, l))
-no_longer_number base v (b ∷ bs) (suc m) p h l = go (is_digit base b) (nat_le (v * base + digit_value b) 65535) refl refl h (λ h. no_longer_number base (v * base + digit_value b) bs m p h (omega (arith, l)))
+no_longer_number base v (b ∷ bs) (suc m) p h l = go (is_digit base b) (nat_le (v * base + digit_value b) 65535) refl refl h
+    (λ h. no_longer_number base (v * base + digit_value b) bs m p h (omega (arith, l)))
   where
-    go : (s t : Bool) → is_digit base b ≡ s → nat_le (v * base + digit_value b) 65535 ≡ t → (if s && t then suc (number_front base (v * base + digit_value b) bs) else 0) < suc m → (number_front base (v * base + digit_value b) bs < m → (list_all (is_digit base) (take m bs) && nat_le (value base (v * base + digit_value b) (take m bs)) 65535) ≡ false) → ((is_digit base b && list_all (is_digit base) (take m bs)) && nat_le (value base (v * base + digit_value b) (take m bs)) 65535) ≡ false
+    go : (s t : Bool) → is_digit base b ≡ s → nat_le (v * base + digit_value b) 65535 ≡ t
+        → (if s && t then suc (number_front base (v * base + digit_value b) bs) else 0) < suc m → (number_front base (v * base + digit_value b) bs < m
+        → (list_all (is_digit base) (take m bs) && nat_le (value base (v * base + digit_value b) (take m bs)) 65535) ≡ false)
+        → ((is_digit base b && list_all (is_digit base) (take m bs)) && nat_le (value base (v * base + digit_value b) (take m bs)) 65535) ≡ false
     go true true e f h again = rw e (again (omega (arith, h)))
     go false t e f h again = rw e refl
     go true false e f h again =
@@ -73,11 +81,18 @@ no_longer_number base v (b ∷ bs) (suc m) p h l = go (is_digit base b) (nat_le 
         let big : nat_le (value base (v * base + digit_value b) (take m bs)) 65535 ≡ false = grind (arith, nat_tests, g, f) in
         rw (e, big) (false_and _)
 
-number_front_fits : (base v : ℕ) (bs : List ℕ) → v ≤ 65535 → ((list_all (is_digit base) (take (number_front base v bs) bs) && nat_le (value base v (take (number_front base v bs) bs)) 65535) ≡ true) × (number_front base v bs ≤ length bs)
+number_front_fits : (base v : ℕ) (bs : List ℕ)
+    → v ≤ 65535 → ((list_all (is_digit base) (take (number_front base v bs) bs) && nat_le (value base v (take (number_front base v bs) bs)) 65535) ≡ true)
+    × (number_front base v bs ≤ length bs)
 number_front_fits base v [] l = (let e : nat_le v 65535 ≡ true = grind (arith, nat_tests, l) in e, omega arith)
 number_front_fits base v (b ∷ bs) l = go (is_digit base b) (nat_le (v * base + digit_value b) 65535) refl refl (λ h. number_front_fits base (v * base + digit_value b) bs h)
   where
-    go : (s t : Bool) → is_digit base b ≡ s → nat_le (v * base + digit_value b) 65535 ≡ t → (v * base + digit_value b ≤ 65535 → ((list_all (is_digit base) (take (number_front base (v * base + digit_value b) bs) bs) && nat_le (value base (v * base + digit_value b) (take (number_front base (v * base + digit_value b) bs) bs)) 65535) ≡ true) × (number_front base (v * base + digit_value b) bs ≤ length bs)) → ((list_all (is_digit base) (take (if s && t then suc (number_front base (v * base + digit_value b) bs) else 0) (b ∷ bs)) && nat_le (value base v (take (if s && t then suc (number_front base (v * base + digit_value b) bs) else 0) (b ∷ bs))) 65535) ≡ true) × ((if s && t then suc (number_front base (v * base + digit_value b) bs) else 0) ≤ length (b ∷ bs))
+    go : (s t : Bool) → is_digit base b ≡ s → nat_le (v * base + digit_value b) 65535 ≡ t → (v * base + digit_value b ≤ 65535
+        → ((list_all (is_digit base) (take (number_front base (v * base + digit_value b) bs) bs) && nat_le (value base (v * base + digit_value b)
+        (take (number_front base (v * base + digit_value b) bs) bs)) 65535) ≡ true) × (number_front base (v * base + digit_value b) bs ≤ length bs))
+        → ((list_all (is_digit base) (take (if s && t then suc (number_front base (v * base + digit_value b) bs) else 0) (b ∷ bs))
+        && nat_le (value base v (take (if s && t then suc (number_front base (v * base + digit_value b) bs) else 0) (b ∷ bs))) 65535) ≡ true)
+        × ((if s && t then suc (number_front base (v * base + digit_value b) bs) else 0) ≤ length (b ∷ bs))
     go true true e f again = let r = again (grind (arith, nat_tests, f)) in (rw e r.0, omega (arith, r.1))
     go true false e f again = (let e : nat_le v 65535 ≡ true = grind (arith, nat_tests, l) in e, omega arith)
     go false t e f again = (let e : nat_le v 65535 ≡ true = grind (arith, nat_tests, l) in e, omega arith)
@@ -147,7 +162,8 @@ hexadecimal_longest rest p = record {
     beyond (suc zero) l i = absurd (omega (arith, l))
     beyond (suc (suc m)) l i = let e : is_number 16 (take m rest) ≡ false = no_number_beyond 16 rest m (omega arith) (omega (arith, l)) (omega (arith, i)) in rw e refl
 
-pub longest_hexadecimal : (text behind rest : List ℕ) (a b c n v : ℕ) → text ≡ a ∷ behind → behind ≡ b ∷ rest → a ≡ 48 → b ≡ 120 → c ≡ number_front 16 0 rest → v ≡ value 16 0 (take (number_front 16 0 rest) rest) → 0 < c → n ≡ 2 + c → IsLongest text n (Number v)
+pub longest_hexadecimal : (text behind rest : List ℕ) (a b c n v : ℕ) → text ≡ a ∷ behind → behind ≡ b ∷ rest → a ≡ 48 → b ≡ 120 → c ≡ number_front 16 0 rest
+    → v ≡ value 16 0 (take (number_front 16 0 rest) rest) → 0 < c → n ≡ 2 + c → IsLongest text n (Number v)
 longest_hexadecimal text behind rest a b c n v t s a2 b2 e f p q =
     let base = hexadecimal_longest rest (omega (arith, e, p)) in
     let n2 : n ≡ suc (suc (number_front 16 0 rest)) = omega (arith, q, e) in

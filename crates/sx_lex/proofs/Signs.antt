@@ -37,7 +37,8 @@ pair_of_one text behind b t h = record { none = λ l. absurd (let e : length tex
 pub no_pair : (text behind rest : List ℕ) (a b : ℕ) → text ≡ a ∷ behind → behind ≡ b ∷ rest → None ≡ found_in signs (a ∷ b ∷ []) → NoPair text
 no_pair text behind rest a b t s e = record { none = λ l. rw (t, s) (sym e) }
 
-pub longest_pair : (text behind rest : List ℕ) (a b : ℕ) (k : Kind) → text ≡ a ∷ behind → behind ≡ b ∷ rest → first_is is_lower text ≡ false → first_is (is_digit 10) text ≡ false → Some k ≡ found_in signs (a ∷ b ∷ []) → IsLongest text 2 k
+pub longest_pair : (text behind rest : List ℕ) (a b : ℕ) (k : Kind) → text ≡ a ∷ behind → behind ≡ b ∷ rest → first_is is_lower text ≡ false
+    → first_is (is_digit 10) text ≡ false → Some k ≡ found_in signs (a ∷ b ∷ []) → IsLongest text 2 k
 longest_pair text behind rest a b k t s h d e =
     let h2 : is_lower a ≡ false = rw t at h in
     let d2 : is_digit 10 a ≡ false = rw t at d in
@@ -76,7 +77,8 @@ no_sign text rest b t h d p e =
     go h2 d2 p2 (suc zero) l = only_sign b [] h2 d2 ∙ sym e
     go h2 d2 p2 (suc (suc m)) l = two b rest h2 d2 p2 (suc (suc m)) (omega arith) l
 
-pub longest_sign : (text rest : List ℕ) (b : ℕ) (k : Kind) → text ≡ b ∷ rest → first_is is_lower text ≡ false → first_is (is_digit 10) text ≡ false → NoPair text → Some k ≡ found_in signs (b ∷ []) → IsLongest text 1 k
+pub longest_sign : (text rest : List ℕ) (b : ℕ) (k : Kind) → text ≡ b ∷ rest → first_is is_lower text ≡ false → first_is (is_digit 10) text ≡ false
+    → NoPair text → Some k ≡ found_in signs (b ∷ []) → IsLongest text 1 k
 longest_sign text rest b k t h d p e =
     let h2 : is_lower b ≡ false = rw t at h in
     let d2 : is_digit 10 b ≡ false = rw t at d in

@@ -30,19 +30,22 @@ line_ends text rest n h e = let f : line_length rest ≡ 0 = rw (none_left rest 
 pub begins : (text rest : List ℕ) (out : List Placed) (at : Place) → out ≡ [] → rest ≡ text → at ≡ start → LexedSoFar text out at rest
 begins text rest out at e f g = rw (e, f, g) (record { begun = λ ts end h. h })
 
-pub passes_space : (text rest a : List ℕ) (out : List Placed) (at next : Place) (b : ℕ) → LexedSoFar text out at rest → rest ≡ b ∷ a → is_space b ≡ true → next ≡ along at 1 → LexedSoFar text out next a
+pub passes_space : (text rest a : List ℕ) (out : List Placed) (at next : Place) (b : ℕ) → LexedSoFar text out at rest → rest ≡ b ∷ a → is_space b ≡ true
+    → next ≡ along at 1 → LexedSoFar text out next a
 passes_space text rest a out at next b h e s q = record { begun = λ ts end t. h.begun ts end (rw e (space {at = at} {end = end} {b = b} {bs = a} {ts = ts} s (subst (λ p. Lexed p a ts end) q t))) }
 
 pub passes_line : (text rest a : List ℕ) (out : List Placed) (at next : Place) (b : ℕ) → LexedSoFar text out at rest → rest ≡ b ∷ a → b ≡ 10 → next ≡ below at → LexedSoFar text out next a
 passes_line text rest a out at next b h e s q = record { begun = λ ts end t. h.begun ts end (rw (e, s) (newline {at = at} {end = end} {bs = a} {ts = ts} (subst (λ p. Lexed p a ts end) q t))) }
 
-pub passes_comment : (text rest a : List ℕ) (out : List Placed) (at next : Place) (n : ℕ) → LexedSoFar text out at rest → begins_comment rest ≡ true → n ≡ line_length rest → a ≡ drop n rest → next ≡ along at n → LexedSoFar text out next a
+pub passes_comment : (text rest a : List ℕ) (out : List Placed) (at next : Place) (n : ℕ) → LexedSoFar text out at rest → begins_comment rest ≡ true
+    → n ≡ line_length rest → a ≡ drop n rest → next ≡ along at n → LexedSoFar text out next a
 passes_comment text rest a out at next n h s e d q = record {
   begun = λ ts end t. h.begun ts end (comment {at = at} {end = end} {bs = rest} {ts = ts} s
       (subst (λ (i : ℕ). Lexed (along at i) (drop i rest) ts end) e (subst (λ p. Lexed p (drop n rest) ts end) q (subst (λ l. Lexed next l ts end) d t))));
 }
 
-pub adds_token : (text rest a : List ℕ) (out out2 : List Placed) (at next : Place) (n : ℕ) (k : Kind) → LexedSoFar text out at rest → IsLongest rest n k → a ≡ drop n rest → next ≡ along at n → out2 ≡ out ++ record { kind = k; place = at } ∷ [] → LexedSoFar text out2 next a
+pub adds_token : (text rest a : List ℕ) (out out2 : List Placed) (at next : Place) (n : ℕ) (k : Kind) → LexedSoFar text out at rest → IsLongest rest n k
+    → a ≡ drop n rest → next ≡ along at n → out2 ≡ out ++ record { kind = k; place = at } ∷ [] → LexedSoFar text out2 next a
 adds_token text rest a out out2 at next n k h w e q o = record {
   begun = λ ts end t. (let p : Placed = record { kind = k; place = at } in
       let t2 : Lexed (along at n) (drop n rest) ts end = subst (λ p. Lexed p (drop n rest) ts end) q (subst (λ l. Lexed next l ts end) e t) in
@@ -51,7 +54,8 @@ adds_token text rest a out out2 at next n k h w e q o = record {
       subst (λ x. Lexed start text x end) (sym s) r);
 }
 
-pub adds_bad : (text rest a : List ℕ) (out out2 : List Placed) (at : Place) (b : ℕ) → LexedSoFar text out at rest → rest ≡ b ∷ a → (b == 10) ≡ false → is_space b ≡ false → begins_comment rest ≡ false → NoToken rest → out2 ≡ out ++ record { kind = Bad; place = at } ∷ [] → Lexed start text out2 at
+pub adds_bad : (text rest a : List ℕ) (out out2 : List Placed) (at : Place) (b : ℕ) → LexedSoFar text out at rest → rest ≡ b ∷ a → (b == 10) ≡ false
+    → is_space b ≡ false → begins_comment rest ≡ false → NoToken rest → out2 ≡ out ++ record { kind = Bad; place = at } ∷ [] → Lexed start text out2 at
 adds_bad text rest a out out2 at b h e l s c n o =
     let c2 : begins_comment (b ∷ a) ≡ false = ap begins_comment (sym e) ∙ c in
     let n2 : NoToken (b ∷ a) = subst NoToken e n in

@@ -342,7 +342,8 @@ lowered_fits m ends place ops parts low le =
     record { sound = all_sound ops parts size ends code s; plain = all_ours ops size ends code s; light = light m ends place low.few_ends }
 
 -- the places of the parts are there
-pub parts_there : (ds : List Decl) (ends : List End) (p ops : ℕ) (hs : List HandlerTree) → p + length (handlers_code ds ends p hs) ≤ ops → list_all (is_sound_part ops) (handlers_parts ds ends p hs) ≡ true
+pub parts_there : (ds : List Decl) (ends : List End) (p ops : ℕ) (hs : List HandlerTree) → p + length (handlers_code ds ends p hs) ≤ ops
+    → list_all (is_sound_part ops) (handlers_parts ds ends p hs) ≡ true
 parts_there ds ends p ops [] le = refl
 parts_there ds ends p ops (h ∷ hs) le =
     let first = handler_code ds ends p h in

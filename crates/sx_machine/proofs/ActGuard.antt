@@ -1,5 +1,6 @@
 -- Every act on a node from outside its code is guarded.
-use Rattle.std.proofs.Common.{◌≡◌, ◌≢◌, ℕ, ◌+◌, ◌%◌, ◌<◌, ◌≤◌, Bool, true, false, cond, not, ◌&&◌, ◌||◌, leb, ltb, ◌==◌, inl, inr, List, [], ◌∷◌, length, refl, sym, ◌∙◌, ap, subst, arith, Option, Some, None, Result, Ok}
+use Rattle.std.proofs.Common.{◌≡◌, ◌≢◌, ℕ, ◌+◌, ◌%◌, ◌<◌, ◌≤◌, Bool, true, false, cond, not, ◌&&◌, ◌||◌, leb, ltb, ◌==◌, inl, inr, List, [], ◌∷◌, length, refl}
+use Rattle.std.proofs.Common.{sym, ◌∙◌, ap, subst, arith, Option, Some, None, Result, Ok}
 use Rattle.std.proofs.lemmas.Bool.{and_parts, true≢false, lt-ltb, leb-true, ltb-true, false_from_ne_true}
 use Rattle.std.specs.List.{list_any}
 use Rattle.sx_rules.specs.declared.section.Section.{Section}

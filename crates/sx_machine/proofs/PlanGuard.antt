@@ -1,5 +1,6 @@
 -- A plan run by other code than s's is guarded: one induction for all instructions.
-use Rattle.std.proofs.Common.{◌≡◌, ◌≢◌, ℕ, zero, suc, ◌+◌, ◌/◌, ◌%◌, ◌<◌, ◌≤◌, Bool, true, false, cond, not, ◌&&◌, ◌||◌, ◌==◌, inl, inr, List, [], ◌∷◌, length, slice_index, slice_set, refl, sym, ◌∙◌, ap, subst, arith, Option, Some, None, Result, Ok, Err}
+use Rattle.std.proofs.Common.{◌≡◌, ◌≢◌, ℕ, zero, suc, ◌+◌, ◌/◌, ◌%◌, ◌<◌, ◌≤◌, Bool, true, false, cond, not, ◌&&◌, ◌||◌, ◌==◌, inl, inr, List, [], ◌∷◌, length}
+use Rattle.std.proofs.Common.{slice_index, slice_set, refl, sym, ◌∙◌, ap, subst, arith, Option, Some, None, Result, Ok, Err}
 use Rattle.std.proofs.lemmas.List.{length-set, get_or-set_same, get_or-set_other, set_past}
 use Rattle.std.proofs.lemmas.Bool.{and_parts, or_cases, not-true, cases_eq, cases_lt, eqb-true, true≢false}
 use Rattle.std.specs.List.{list_all}
@@ -16,7 +17,8 @@ use Rattle.sx_bus.specs.Devices.{cleared}
 use Rattle.sx_machine.specs.declared.kinds.Touch.TheVariants.{DeviceRead}
 use Rattle.sx_machine.specs.Memory.{even, word, read_at, write_at, bytes_from, put_bytes}
 use Rattle.sx_machine.specs.Plan.{Plan, Done, Tell, Stop, Fetch, Load, Store, Need, Writable, Bytes, Put}
-use Rattle.sx_machine.specs.Run.{Moment, with_touch, Outcome, Finished, Violated, Module, may_at, may_range, may_each, sampled, device_of, read_device, read_place, load, write_device, write_place, store, fetch_place, fetch, after_read, after_write, after_fetch, exec}
+use Rattle.sx_machine.specs.Run.{Moment, with_touch, Outcome, Finished, Violated, Module, may_at, may_range, may_each, sampled, device_of, read_device}
+use Rattle.sx_machine.specs.Run.{read_place, load, write_device, write_place, store, fetch_place, fetch, after_read, after_write, after_fetch, exec}
 use Rattle.sx_machine.specs.Guard.{Alike, PrivateKept}
 
 -- what all pass, each live section passes

@@ -29,14 +29,18 @@ use Rattle.sx_bus.specs.Devices.{HaveSamples, cleared}
 use Rattle.sx_machine.specs.declared.kinds.Touch.TheVariants.{DeviceRead}
 use Rattle.sx_machine.specs.Memory.{bytes_from, put_bytes}
 use Rattle.sx_machine.specs.Plan.{Plan, Done, Tell, Stop, Fetch, Load, Store, Need, Writable, Bytes, Put}
-use Rattle.sx_machine.specs.Run.{Moment, with_touch, Outcome, Finished, Violated, Module, may_at, may_range, may_each, device_of, sampled, read_device, read_place, load, write_device, write_place, store, fetch_place, fetch, after_read, after_write, after_fetch, exec}
+use Rattle.sx_machine.specs.Run.{Moment, with_touch, Outcome, Finished, Violated, Module, may_at, may_range, may_each, device_of, sampled, read_device}
+use Rattle.sx_machine.specs.Run.{read_place, load, write_device, write_place, store, fetch_place, fetch, after_read, after_write, after_fetch, exec}
 use Rattle.sx_machine.specs.Registers.{cut_value, onward, reg, set_reg, at_pc, flags, set_flags, incremented}
-use Rattle.sx_machine.specs.Rows.{from_source, reads, writes, into_register, into_memory, on_memory, onto, lowered, pushed, in_memory, in_place, one, reti, jump_taken, distance, jump, row, row_of, with_words, program, computed}
+use Rattle.sx_machine.specs.Rows.{from_source, reads, writes, into_register, into_memory, on_memory, onto, lowered, pushed, in_memory, in_place, one, reti}
+use Rattle.sx_machine.specs.Rows.{jump_taken, distance, jump, row, row_of, with_words, program, computed}
 use Rattle.sx_machine.specs.Acts.{interrupt}
 use Rattle.sx_bus.specs.Memory.{AreMemoryBytes}
 use Rattle.sx_machine.specs.Node.{AreRegisters}
 use Rattle.sx_machine.specs.NodeLaws.{shapes}
-use Rattle.sx_machine.proofs.Registers.{Holds, holds_pc, holds_sp, holds_zero, pc_even, sp_even, set_registers, set_reg_registers, at_pc_registers, flags_registers, lowered_registers, incremented_registers, distance_even, word_small, read_small, write_bytes, put_small}
+use Rattle.sx_machine.proofs.Registers.{Holds, holds_pc, holds_sp, holds_zero, pc_even, sp_even, set_registers, set_reg_registers, at_pc_registers}
+use Rattle.sx_machine.proofs.Registers.{flags_registers, lowered_registers, incremented_registers, distance_even, word_small, read_small, write_bytes}
+use Rattle.sx_machine.proofs.Registers.{put_small}
 use Rattle.sx_machine.proofs.Devices.{device_there, sample_small, cleared_shapes, cleared_samples}
 use Rattle.sx_lists.specs.Truth.{truth}
 

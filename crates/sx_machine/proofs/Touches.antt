@@ -1,5 +1,6 @@
 -- What a step shows of the devices is all that happened to them: no instruction touches more than two.
-use Rattle.std.proofs.Common.{◌≡◌, ℕ, zero, suc, ◌+◌, ◌%◌, ◌<◌, ◌≤◌, ◌⊎◌, inl, inr, Bool, true, false, cond, if◌then◌else◌, List, [], ◌∷◌, length, Option, Some, None, Result, Ok, Err, refl, sym, ◌∙◌, ap, subst, arith}
+use Rattle.std.proofs.Common.{◌≡◌, ℕ, zero, suc, ◌+◌, ◌%◌, ◌<◌, ◌≤◌, ◌⊎◌, inl, inr, Bool, true, false, cond, if◌then◌else◌, List, [], ◌∷◌, length, Option, Some}
+use Rattle.std.proofs.Common.{None, Result, Ok, Err, refl, sym, ◌∙◌, ap, subst, arith}
 use Rattle.std.specs.Prelude.{slice_get, nat_le, nat_lt}
 use Rattle.std.proofs.lemmas.Bool.{and_parts, leb-true, ltb-true}
 use Rattle.sx_rules.specs.declared.access.Access.{Access}
@@ -16,7 +17,8 @@ use Rattle.sx_machine.specs.declared.kinds.Touch.{Touch}
 use Rattle.sx_machine.specs.declared.kinds.Touch.TheVariants.{Quiet, DeviceRead, DeviceWrite}
 use Rattle.sx_machine.specs.Memory.{even, write_at, read_at, bytes_from, put_bytes}
 use Rattle.sx_machine.specs.Plan.{Plan, Done, Tell, Stop, Fetch, Load, Store, Need, Writable, Bytes, Put}
-use Rattle.sx_machine.specs.Run.{Moment, with_touch, Outcome, Finished, Violated, Module, may_at, may_range, may_each, device_of, sampled, read_device, read_place, write_device, write_place, fetch, after_read, after_write, after_fetch, exec}
+use Rattle.sx_machine.specs.Run.{Moment, with_touch, Outcome, Finished, Violated, Module, may_at, may_range, may_each, device_of, sampled, read_device}
+use Rattle.sx_machine.specs.Run.{read_place, write_device, write_place, fetch, after_read, after_write, after_fetch, exec}
 use Rattle.sx_machine.specs.Touches.{Replays}
 use Rattle.sx_machine.proofs.Devices.{some_inj, device_of_parts, device_at_same, window_same, cleared_shapes, position_is}
 

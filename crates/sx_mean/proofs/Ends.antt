@@ -1,5 +1,6 @@
 -- The ends of a part: their number, their order, and in a valid application their ports.
-use Rattle.std.proofs.Common.{◌≡◌, ℕ, ◌+◌, ◌<◌, ◌≤◌, inl, inr, ◌==◌, Bool, true, false, ◌&&◌, cond, if◌then◌else◌, List, [], ◌∷◌, length, Some, None, slice_get, count_by, refl, sym, ap, ◌∙◌, subst, arith}
+use Rattle.std.proofs.Common.{◌≡◌, ℕ, ◌+◌, ◌<◌, ◌≤◌, inl, inr, ◌==◌, Bool, true, false, ◌&&◌, cond, if◌then◌else◌, List, [], ◌∷◌, length, Some, None, slice_get}
+use Rattle.std.proofs.Common.{count_by, refl, sym, ap, ◌∙◌, subst, arith}
 use Rattle.std.specs.List.{cons_option, All, AllPairs}
 use Rattle.std.proofs.lemmas.Bool.{eqb-true}
 use Rattle.std.proofs.lemmas.List.Elements.{All-nil, All-cons, All-head, All-tail, All-weaker}
@@ -99,7 +100,8 @@ ends_ordered (l ∷ ls) n p = go (l.from == p) (l.to == p) (ends_in ls (n + 1) (
 
     go : (a b : Bool) → All (IsIn (n + 1) (n + 1 + length ls)) (ends_after (n + 1) p ls) → AllPairs IsBefore (ends_after (n + 1) p ls) → AllPairs IsBefore (held a b n l (ends_after (n + 1) p ls))
     go true true i h =
-        AllPairs-cons IsBefore (from_end n l) (to_end n l ∷ ends_after (n + 1) p ls) (All-cons (IsBefore (from_end n l)) (to_end n l) (ends_after (n + 1) p ls) (inr (refl, refl, refl)) (later (from_end n l) refl i))
+        AllPairs-cons IsBefore (from_end n l) (to_end n l ∷ ends_after (n + 1) p ls)
+        (All-cons (IsBefore (from_end n l)) (to_end n l) (ends_after (n + 1) p ls) (inr (refl, refl, refl)) (later (from_end n l) refl i))
         (AllPairs-cons IsBefore (to_end n l) (ends_after (n + 1) p ls) (later (to_end n l) refl i) h)
     go true false i h = AllPairs-cons IsBefore (from_end n l) (ends_after (n + 1) p ls) (later (from_end n l) refl i) h
     go false true i h = AllPairs-cons IsBefore (to_end n l) (ends_after (n + 1) p ls) (later (to_end n l) refl i) h

@@ -50,7 +50,8 @@ costs_in h (x ∷ hs) (inl e) = let c = ap handler_cost e in omega (arith, c)
 costs_in h (x ∷ hs) (inr i) = let r = costs_in h hs i in omega (arith, r)
 
 -- its names are known and its numbers are words, where E is what an actuator that is declared gives
-pub fine_handler : (m : ModuleTree) → first_broken m ≡ None → (E : Type 0) (h : HandlerTree) → In h m.handlers → HandlersHaveWords m.handlers → (list_any is_actuator m.decls ≡ true → E) → FineBlock m.decls E (h.param ∷ []) h.body
+pub fine_handler : (m : ModuleTree) → first_broken m ≡ None → (E : Type 0) (h : HandlerTree) → In h m.handlers → HandlersHaveWords m.handlers
+    → (list_any is_actuator m.decls ≡ true → E) → FineBlock m.decls E (h.param ∷ []) h.body
 fine_handler m checked E h i w em =
     let a = accepted m checked in
     let f = fine m checked h i in

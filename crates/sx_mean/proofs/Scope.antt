@@ -1,5 +1,6 @@
 -- Locals by their index in scope, and the scope that a run keeps.
-use Rattle.std.proofs.Common.{◌≡◌, ℕ, zero, suc, ◌+◌, ◌==◌, Bool, true, false, ◌||◌, not, cond, if◌then◌else◌, List, [], ◌∷◌, ◌++◌, length, take, nat_lt, Some, None, refl, sym, ap, ◌∙◌, arith, append_assoc}
+use Rattle.std.proofs.Common.{◌≡◌, ℕ, zero, suc, ◌+◌, ◌==◌, Bool, true, false, ◌||◌, not, cond, if◌then◌else◌, List, [], ◌∷◌, ◌++◌, length, take, nat_lt, Some}
+use Rattle.std.proofs.Common.{None, refl, sym, ap, ◌∙◌, arith, append_assoc}
 use Rattle.std.specs.Prelude.{option_map, slice_get, slice_set}
 use Rattle.std.proofs.Math.Seq.{take-append_seam}
 use Rattle.std.proofs.lemmas.Bool.{lt-ltb, ltb-false}
@@ -51,7 +52,8 @@ pub look_past : (ls : List Local) (x : List ℕ) → nat_lt (index_of (names_of 
 look_past [] x h = refl
 look_past (l ∷ ls) x h = go (same x l.name) h (look_past ls x)
   where
-    go : (t : Bool) → nat_lt (cond (not t) (1 + index_of (names_of ls) x) 0) (suc (length (names_of ls))) ≡ false → (nat_lt (index_of (names_of ls) x) (length (names_of ls)) ≡ false → look_up ls x ≡ None) → (if t then Some l.value else look_up ls x) ≡ None
+    go : (t : Bool) → nat_lt (cond (not t) (1 + index_of (names_of ls) x) 0) (suc (length (names_of ls))) ≡ false
+        → (nat_lt (index_of (names_of ls) x) (length (names_of ls)) ≡ false → look_up ls x ≡ None) → (if t then Some l.value else look_up ls x) ≡ None
     go true h more = let l = ltb-false 0 (suc (length (names_of ls))) h in absurd (omega (arith, l))
     go false h more = more (sym (less_by_one (index_of (names_of ls) x) (length (names_of ls))) ∙ h)
 
@@ -74,7 +76,8 @@ pub names_set : (ls : List Local) (x : List ℕ) (v : ℕ) → names_of (slice_s
 names_set [] x v = refl
 names_set (l ∷ ls) x v = go (same x l.name) refl (names_set ls x v)
   where
-    go : (t : Bool) → same x l.name ≡ t → names_of (slice_set ls (local_place ls x) (new_local x v)) ≡ names_of ls → names_of (slice_set (l ∷ ls) (cond (not t) (1 + local_place ls x) 0) (new_local x v)) ≡ l.name ∷ names_of ls
+    go : (t : Bool) → same x l.name ≡ t → names_of (slice_set ls (local_place ls x) (new_local x v)) ≡ names_of ls
+        → names_of (slice_set (l ∷ ls) (cond (not t) (1 + local_place ls x) 0) (new_local x v)) ≡ l.name ∷ names_of ls
     go true e more = ap (λ n. n ∷ names_of ls) (same-true x l.name e)
     go false e more =
         let q : 1 + local_place ls x ≡ suc (local_place ls x) = omega arith in
@@ -83,7 +86,8 @@ names_set (l ∷ ls) x v = go (same x l.name) refl (names_set ls x v)
 assign_names : (ds : List Decl) (x : List ℕ) (v : ℕ) (st : HandlerState) → names_of (assign ds x v st).locals ≡ names_of st.locals
 assign_names ds x v st = go (nat_lt (local_place st.locals x) (length st.locals))
   where
-    go : (b : Bool) → names_of (if b then record st { locals = slice_set st.locals (local_place st.locals x) (new_local x v) } else record st { cells = slice_set st.cells (place ds x) v }).locals ≡ names_of st.locals
+    go : (b : Bool) → names_of (if b then record st { locals = slice_set st.locals (local_place st.locals x) (new_local x v) } else
+        record st { cells = slice_set st.cells (place ds x) v }).locals ≡ names_of st.locals
     go true = names_set st.locals x v
     go false = refl
 
@@ -116,7 +120,8 @@ mutual
   statement_names ds (Assigns x e) st = assign_names ds x (value ds st e) st ∙ sym (append-nil (names_of st.locals))
   statement_names ds (Stores x i e) st = element_names ds x (value ds st i) (value ds st e) st ∙ sym (append-nil (names_of st.locals))
   statement_names ds (Chooses e a b) st =
-      chosen (value ds st e == 0) st (forget (length st.locals) (after_block ds b st)) (forget (length st.locals) (after_block ds a st)) (forget_names st (after_block ds b st) (definitions b) (block_names ds b st)) (forget_names st (after_block ds a st) (definitions a) (block_names ds a st))
+      chosen (value ds st e == 0) st (forget (length st.locals) (after_block ds b st)) (forget (length st.locals) (after_block ds a st)) (forget_names st
+      (after_block ds b st) (definitions b) (block_names ds b st)) (forget_names st (after_block ds a st) (definitions a) (block_names ds a st))
       ∙ sym (append-nil (names_of st.locals))
   statement_names ds (Repeats n a) st =
       times_names n (λ st. forget (length st.locals) (after_block ds a st)) st (λ st. forget_names st (after_block ds a st) (definitions a) (block_names ds a st))

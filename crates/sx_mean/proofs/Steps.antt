@@ -16,17 +16,20 @@ not_zero n h = grind (arith, nat_tests)
 is_zero : (n : ℕ) → n ≡ 0 → (n == 0) ≡ true
 is_zero n h = grind (arith, nat_tests)
 
-pub takes_then : (ds : List Decl) (s : Stmt) (e : Expr) (v w : Vec Stmt Global) (st r : HandlerState) (t : ℕ) → s ≡ If e v w → t ≡ value ds st (expression_of e) → (t ≡ 0 → ⊥) → r ≡ in_block ds (block_of v.items) st → r ≡ after_statement ds (statement_of s) st
+pub takes_then : (ds : List Decl) (s : Stmt) (e : Expr) (v w : Vec Stmt Global) (st r : HandlerState) (t : ℕ) → s ≡ If e v w → t ≡ value ds st (expression_of e)
+    → (t ≡ 0 → ⊥) → r ≡ in_block ds (block_of v.items) st → r ≡ after_statement ds (statement_of s) st
 takes_then ds s e v w st r t i a n h =
     let z : (value ds st (expression_of e) == 0) ≡ false = not_zero (value ds st (expression_of e)) (λ q. n (a ∙ q)) in
     h ∙ sym (ap (λ s. after_statement ds s st) (ap statement_of i ∙ if_is e v w) ∙ rw z refl)
 
-pub takes_else : (ds : List Decl) (s : Stmt) (e : Expr) (v w : Vec Stmt Global) (st r : HandlerState) (t : ℕ) → s ≡ If e v w → t ≡ value ds st (expression_of e) → t ≡ 0 → r ≡ in_block ds (block_of w.items) st → r ≡ after_statement ds (statement_of s) st
+pub takes_else : (ds : List Decl) (s : Stmt) (e : Expr) (v w : Vec Stmt Global) (st r : HandlerState) (t : ℕ) → s ≡ If e v w → t ≡ value ds st (expression_of e)
+    → t ≡ 0 → r ≡ in_block ds (block_of w.items) st → r ≡ after_statement ds (statement_of s) st
 takes_else ds s e v w st r t i a n h =
     let z : (value ds st (expression_of e) == 0) ≡ true = is_zero (value ds st (expression_of e)) (sym a ∙ n) in
     h ∙ sym (ap (λ s. after_statement ds s st) (ap statement_of i ∙ if_is e v w) ∙ rw z refl)
 
-pub repeats : {E : Type 0} (ds : List Decl) (s : Stmt) (n : ℕ) (v : Vec Stmt Global) (st now : HandlerState) (r : Result (Unit {0}) E) → s ≡ Repeat n v → OnOk r (now ≡ times n (λ st. in_block ds (block_of v.items) st) st) → OnOk r (now ≡ after_statement ds (statement_of s) st)
+pub repeats : {E : Type 0} (ds : List Decl) (s : Stmt) (n : ℕ) (v : Vec Stmt Global) (st now : HandlerState) (r : Result (Unit {0}) E) → s ≡ Repeat n v
+    → OnOk r (now ≡ times n (λ st. in_block ds (block_of v.items) st) st) → OnOk r (now ≡ after_statement ds (statement_of s) st)
 repeats ds s n v st now (Ok u) i h = h ∙ sym (ap (λ s. after_statement ds s st) (ap statement_of i ∙ repeat_is n v))
 repeats ds s n v st now (Err e) i h = h
 

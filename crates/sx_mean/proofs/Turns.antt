@@ -39,7 +39,8 @@ turns_cut (suc n) b = go (nat_le b 65536) refl
     go true h = rw (within b h) refl
     go false h = omega (arith, suc-mul n (min b 65536), suc-mul n b, above b h)
 
-pub port_here : (is_port : Decl → Bool) (parts : List Part) (i p port : ℕ) (q : Part) (r x : Bool) → i < length parts → q ≡ get_or parts i q → p ≡ 0 → r ≡ nat_lt port (count_by is_port (source_tree q.code).decls) → has_port is_port (map part_as (drop i parts)) p port ≡ x → r ≡ x
+pub port_here : (is_port : Decl → Bool) (parts : List Part) (i p port : ℕ) (q : Part) (r x : Bool) → i < length parts → q ≡ get_or parts i q → p ≡ 0
+    → r ≡ nat_lt port (count_by is_port (source_tree q.code).decls) → has_port is_port (map part_as (drop i parts)) p port ≡ x → r ≡ x
 port_here is_port parts i p port q r x h e z given all =
     let rest : drop i parts ≡ q ∷ drop (suc i) parts = drop-cons parts i q h ∙ ap (λ z. z ∷ drop (suc i) parts) (sym e) in
     given

@@ -1,5 +1,6 @@
 -- The cells of variables and elements, and the names and numbers of a handler.
-use Rattle.std.proofs.Common.{◌≡◌, ℕ, zero, suc, ◌+◌, ◌<◌, ◌≤◌, inl, inr, Bool, true, false, ◌||◌, cond, if◌then◌else◌, List, [], ◌∷◌, ◌++◌, length, get_or, nat_lt, count_by, replicate, refl, sym, ap, ◌∙◌, arith}
+use Rattle.std.proofs.Common.{◌≡◌, ℕ, zero, suc, ◌+◌, ◌<◌, ◌≤◌, inl, inr, Bool, true, false, ◌||◌, cond, if◌then◌else◌, List, [], ◌∷◌, ◌++◌, length, get_or}
+use Rattle.std.proofs.Common.{nat_lt, count_by, replicate, refl, sym, ap, ◌∙◌, arith}
 use Rattle.std.specs.List.{list_any, All}
 use Rattle.std.proofs.Math.ListN.{get_or-append}
 use Rattle.std.proofs.lemmas.Bool.{ltb-true}
@@ -34,7 +35,8 @@ declared_once (Output y ∷ ds) x h = let r = declared_once ds x h in omega (ari
 declared_once (Array y n ∷ ds) x h = let r = declared_once ds x h in omega (arith, sum_by-cons (counts x) (Array y n) ds, r)
 declared_once (Var y n ∷ ds) x h = go (same x y) refl h (declared_once ds x)
   where
-    go : (t : Bool) → same x y ≡ t → (t || list_any (declares_as Word x) ds) ≡ true → (list_any (declares_as Word x) ds ≡ true → 1 ≤ count_by (declares x) ds) → 1 ≤ count_by (declares x) (Var y n ∷ ds)
+    go : (t : Bool) → same x y ≡ t → (t || list_any (declares_as Word x) ds) ≡ true → (list_any (declares_as Word x) ds ≡ true → 1 ≤ count_by (declares x) ds)
+        → 1 ≤ count_by (declares x) (Var y n ∷ ds)
     go true e h r = let c = ap {B = ℕ} (λ b. cond b 1 0) e in omega (arith, sum_by-cons (counts x) (Var y n) ds, c)
     go false e h r = let r2 = r h in omega (arith, sum_by-cons (counts x) (Var y n) ds, r2)
 
@@ -56,7 +58,9 @@ not_here d ds x is once h =
     let r = declared_once ds x h in
     omega (arith, sum_by-cons (counts x) d ds, c, r, once)
 
-or_further : (d : Decl) (ds : List Decl) (x : List ℕ) (t : Bool) → declares x d ≡ t → length (first_cells d) ≡ declaration_cells d → count_by (declares x) (d ∷ ds) ≤ 1 → list_any (declares_as Word x) ds ≡ true → (count_by (declares x) ds ≤ 1 → list_any (declares_as Word x) ds ≡ true → IsVariable ds x) → IsVariable (d ∷ ds) x
+or_further : (d : Decl) (ds : List Decl) (x : List ℕ) (t : Bool)
+    → declares x d ≡ t → length (first_cells d) ≡ declaration_cells d → count_by (declares x) (d ∷ ds) ≤ 1 → list_any (declares_as Word x) ds ≡ true
+    → (count_by (declares x) ds ≤ 1 → list_any (declares_as Word x) ds ≡ true → IsVariable ds x) → IsVariable (d ∷ ds) x
 or_further d ds x true e long once h more = absurd (not_here d ds x e once h)
 or_further d ds x false e long once h more =
     let c = ap {B = ℕ} (λ b. cond b 1 0) e in
@@ -70,7 +74,8 @@ is_variable (Output y ∷ ds) x once h = or_further (Output y) ds x (same x y) r
 is_variable (Array y n ∷ ds) x once h = or_further (Array y n) ds x (same x y) refl (length-replicate n 0) once h (is_variable ds x)
 is_variable (Var y n ∷ ds) x once h = go (same x y) refl h (is_variable ds x)
   where
-    go : (t : Bool) → same x y ≡ t → (t || list_any (declares_as Word x) ds) ≡ true → (count_by (declares x) ds ≤ 1 → list_any (declares_as Word x) ds ≡ true → IsVariable ds x) → IsVariable (Var y n ∷ ds) x
+    go : (t : Bool) → same x y ≡ t → (t || list_any (declares_as Word x) ds) ≡ true
+        → (count_by (declares x) ds ≤ 1 → list_any (declares_as Word x) ds ≡ true → IsVariable ds x) → IsVariable (Var y n ∷ ds) x
     go true e h more =
         let p : place (Var y n ∷ ds) x ≡ 0 = ap {B = ℕ} (λ b. if b then 0 else 1 + place ds x) e in
         let f : first_value (Var y n ∷ ds) x ≡ n = ap {B = ℕ} (λ b. if b then n else first_value ds x) e in
@@ -104,7 +109,8 @@ element_further d ds x i other long h =
     }
 
 -- a declaration without elements, of the name or another
-element_on : (d : Decl) (ds : List Decl) (x : List ℕ) (i : ℕ) (t : Bool) → declares x d ≡ t → length (first_cells d) ≡ declaration_cells d → own_length x d ≡ 0 → nat_lt i (if t then own_length x d else array_length ds x) ≡ true → (nat_lt i (array_length ds x) ≡ true → IsElement ds x i) → IsElement (d ∷ ds) x i
+element_on : (d : Decl) (ds : List Decl) (x : List ℕ) (i : ℕ) (t : Bool) → declares x d ≡ t → length (first_cells d) ≡ declaration_cells d → own_length x d ≡ 0
+    → nat_lt i (if t then own_length x d else array_length ds x) ≡ true → (nat_lt i (array_length ds x) ≡ true → IsElement ds x i) → IsElement (d ∷ ds) x i
 element_on d ds x i true e long own h more = let l = ltb-true i (own_length x d) h in absurd (omega (arith, own, l))
 element_on d ds x i false e long own h more = element_further d ds x i e long (more h)
 

@@ -1,6 +1,7 @@
 -- Values, cells and acts are words.
 use Rattle.std.specs.Prelude.{unwrap_or}
-use Rattle.std.proofs.Common.{◌≡◌, ℕ, zero, suc, ◌+◌, ◌<◌, ◌≤◌, ◌==◌, Bool, true, false, if◌then◌else◌, List, [], ◌∷◌, length, get_or, nat_lt, nat_le, replicate, Option, Some, None, refl, ap, ◌∙◌, subst, arith, length-append}
+use Rattle.std.proofs.Common.{◌≡◌, ℕ, zero, suc, ◌+◌, ◌<◌, ◌≤◌, ◌==◌, Bool, true, false, if◌then◌else◌, List, [], ◌∷◌, length, get_or, nat_lt, nat_le}
+use Rattle.std.proofs.Common.{replicate, Option, Some, None, refl, ap, ◌∙◌, subst, arith, length-append}
 use Rattle.std.specs.Prelude.{All, slice_set}
 use Rattle.std.specs.List.{find}
 use Rattle.std.proofs.lemmas.Bool.{eqb-false, eqb-true, ltb-false, ltb-true}
@@ -14,7 +15,8 @@ use Rattle.sx_lang.specs.declared.tree.UnOp.{UnOp}
 use Rattle.sx_lang.specs.declared.tree.UnOp.TheVariants.{Neg, Inv, Not}
 use Rattle.sx_lang.specs.declared.tree.BinOp.{BinOp}
 use Rattle.sx_lang.specs.declared.tree.BinOp.TheVariants.{Add, Sub, Or, Xor, Mul, And, Eq, Ne, Lt, Le, Gt, Ge}
-use Rattle.sx_lang.specs.Tree.{Expression, Constant, Variable, Indexed, Applied, Combined, Statement, Defines, Assigns, Stores, Chooses, Repeats, Sends, Emits, Block, Done, Then, HandlerTree, ModuleTree}
+use Rattle.sx_lang.specs.Tree.{Expression, Constant, Variable, Indexed, Applied, Combined, Statement, Defines, Assigns, Stores, Chooses, Repeats, Sends, Emits}
+use Rattle.sx_lang.specs.Tree.{Block, Done, Then, HandlerTree, ModuleTree}
 use Rattle.sx_lang.specs.Sizes.{declared_cells}
 use Rattle.sx_lang.specs.Words.{AreWords, BlockHasWords, DeclsHaveWords, HandlersHaveWords, HasWords, IsWord, TreeHasWords}
 use Rattle.sx_check.specs.Names.{same, same_input}
@@ -153,7 +155,8 @@ defines x v st h s = record { words = record { locals = All-push IsLocalWord st.
 
 assigns : (ds : List Decl) (x : List ℕ) (v : ℕ) (st : HandlerState) → IsWord v → StateHasWords st → Keeps st (assign ds x v st)
 assigns ds x v st h s =
-    either (nat_lt (local_place st.locals x) (length st.locals)) st (record st { locals = slice_set st.locals (local_place st.locals x) (new_local x v) }) (record st { cells = slice_set st.cells (place ds x) v })
+    either (nat_lt (local_place st.locals x) (length st.locals)) st (record st { locals = slice_set st.locals (local_place st.locals x) (new_local x v) })
+    (record st { cells = slice_set st.cells (place ds x) v })
     (record { words = record { locals = all-slice_set IsLocalWord st.locals (local_place st.locals x) (new_local x v) h s.locals; cells = s.cells; acts = s.acts }; count = refl })
     (record { words = record { locals = s.locals; cells = all-slice_set IsWord st.cells (place ds x) v h s.cells; acts = s.acts }; count = length-slice_set st.cells (place ds x) v })
 

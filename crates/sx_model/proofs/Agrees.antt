@@ -1,5 +1,6 @@
 -- The state after an item is the one that its parts give.
-use Rattle.std.proofs.Common.{◌≡◌, ℕ, ◌+◌, ◌*◌, ◌/◌, ◌%◌, ◌<◌, ◌==◌, ◌&&◌, ◌||◌, inl, inr, Bool, true, false, List, [], ◌∷◌, ◌++◌, length, not, nat_le, nat_lt, Option, Some, None, is_none, slice_get, slice_set, slice_index, if◌then◌else◌, refl, sym, ap, ◌∙◌, add-one, arith}
+use Rattle.std.proofs.Common.{◌≡◌, ℕ, ◌+◌, ◌*◌, ◌/◌, ◌%◌, ◌<◌, ◌==◌, ◌&&◌, ◌||◌, inl, inr, Bool, true, false, List, [], ◌∷◌, ◌++◌, length, not, nat_le, nat_lt}
+use Rattle.std.proofs.Common.{Option, Some, None, is_none, slice_get, slice_set, slice_index, if◌then◌else◌, refl, sym, ap, ◌∙◌, add-one, arith}
 use Rattle.std.specs.List.{position_from}
 use Rattle.std.proofs.lemmas.Option.{slice_get_cases, get_or_from_slice_get}
 use Rattle.std.proofs.lemmas.Bool.Decides.{nat_tests}
@@ -15,8 +16,11 @@ use Rattle.sx_trace.specs.declared.items.Item.{Item}
 use Rattle.sx_trace.specs.declared.items.Item.TheVariants.{Reset, Protect, Sense, Read, Drain, Ask, Attested, Denied, Vouch, Open, Take, Out, Raw, Done, Packet, Forged, Busy, Skip, Budget}
 use Rattle.sx_model.specs.State.{EndView, Model, Pending, Present, Reading, Standing}
 use Rattle.sx_model.specs.Renewal.{boot_of, may_attest, may_open, opens, renewed, takes}
-use Rattle.sx_model.specs.Step.{◌>>?◌, changed_views, first_present, state_if, idle, is_fresh_with, is_nothing, is_vouched, is_word, kind_is, reacts, reset_at, step, is_undriven, waits, with_device, with_pending, with_present, with_standing, without_first}
-use Rattle.sx_model.specs.Changes.{accepts_with, answers, at_index, finishes, if_so, is_accepted, is_end, is_finished, is_readable, is_refused, on_end, on_module, on_present, opens_ask, opens_end, opens_standing, protects, reacted, reads_from, refuses, resets, steps, takes_at, takes_fresh, takes_idle, vouches, with_stale, word_at, writes, writes_present}
+use Rattle.sx_model.specs.Step.{◌>>?◌, changed_views, first_present, state_if, idle, is_fresh_with, is_nothing, is_vouched, is_word, kind_is, reacts, reset_at}
+use Rattle.sx_model.specs.Step.{step, is_undriven, waits, with_device, with_pending, with_present, with_standing, without_first}
+use Rattle.sx_model.specs.Changes.{accepts_with, answers, at_index, finishes, if_so, is_accepted, is_end, is_finished, is_readable, is_refused, on_end}
+use Rattle.sx_model.specs.Changes.{on_module, on_present, opens_ask, opens_end, opens_standing, protects, reacted, reads_from, refuses, resets, steps, takes_at}
+use Rattle.sx_model.specs.Changes.{takes_fresh, takes_idle, vouches, with_stale, word_at, writes, writes_present}
 
 if_none : {A : Type 0} → (b : Bool) → if_so {A = A} b None ≡ None
 if_none true = refl
@@ -89,7 +93,8 @@ attest_one s m b x epochs may (Some a) = refl
 attest_same : (app : AppTree) (s : Model) (m b : ℕ) (o : Option Standing) → slice_get s.modules m ≡ o →
     (o >>? (λ x. x.asked >>? (λ a.
     state_if (is_vouched a b x.vouched && may_attest m app.links s.epochs (boot_of x.attested) b)
-    (record (with_standing s m (record x { asked = None; attested = Some (record { boot = b; floors = renewed m app.links (boot_of x.attested) s.epochs }) })) { epochs = renewed m app.links (boot_of x.attested) s.epochs })))) ≡
+    (record (with_standing s m (record x { asked = None; attested = Some (record { boot = b; floors = renewed m app.links (boot_of x.attested) s.epochs }) }))
+    { epochs = renewed m app.links (boot_of x.attested) s.epochs })))) ≡
     ((o >>? (λ x. if_so (is_accepted m app.links s.epochs b x) (Some (renewed m app.links (boot_of x.attested) s.epochs)))) >>? (λ epochs. accepts_with s m b epochs))
 attest_same app s m b None e = refl
 attest_same app s m b (Some x) e =
@@ -195,7 +200,8 @@ open_ends s m x p false (Some views) = refl
 open_idle : (s : Model) (m c : ℕ) (side : Side) (epoch : ℕ) (es : List End) (x : Standing) (p : Present) (now : ℕ) (i : Bool) (ob : Option ℕ) →
     ((if i then Some p else None) >>? (λ p. ob >>? (λ boot. changed_views (opens epoch) c side es p.ends >>? (λ views.
     state_if (may_open x.attested boot c epoch now) (with_present s m x (record p { ends = views; pending = Some (record { emits = []; pieces = 0 }) })))))) ≡
-    (ob >>? (λ boot. ((if_so (i && may_open x.attested boot c epoch now) (on_end (opens epoch) c side es p.ends >>? (λ views. Some (record p { ends = views; pending = Some (record { emits = []; pieces = 0 }) })))
+    (ob >>? (λ boot. ((if_so (i && may_open x.attested boot c epoch now)
+    (on_end (opens epoch) c side es p.ends >>? (λ views. Some (record p { ends = views; pending = Some (record { emits = []; pieces = 0 }) })))
     >>? (λ q. Some (record x { present = Some q }))) >>? (λ y. Some (slice_set s.modules m y))) >>? (λ xs. Some (record s { modules = xs }))))
 open_idle s m c side epoch es x p now false None = refl
 open_idle s m c side epoch es x p now false (Some boot) = refl
@@ -239,7 +245,8 @@ write_owed s m x p (Some left) = refl
 
 write_pending : (s : Model) (m v : ℕ) (x : Standing) (p : Present) (o : Option Pending) →
     (o >>? (λ owed. without_first v owed.emits owed.pieces >>? (λ left. Some (with_present s m x (with_pending p (Some left)))))) ≡
-    ((((o >>? (λ owed. writes v owed >>? (λ left. Some (with_pending p (Some left))))) >>? (λ q. Some (record x { present = Some q }))) >>? (λ y. Some (slice_set s.modules m y))) >>? (λ xs. Some (record s { modules = xs })))
+    ((((o >>? (λ owed. writes v owed >>? (λ left. Some (with_pending p (Some left))))) >>? (λ q. Some (record x { present = Some q }))) >>?
+    (λ y. Some (slice_set s.modules m y))) >>? (λ xs. Some (record s { modules = xs })))
 write_pending s m v x p None = refl
 write_pending s m v x p (Some owed) = write_owed s m x p (without_first v owed.emits owed.pieces)
 
@@ -260,7 +267,8 @@ write_same s m v (Some x) = write_present s m v x x.present
 
 finish_pending : (s : Model) (m k : ℕ) (x : Standing) (p : Present) (o : Option Pending) →
     (o >>? (λ owed. state_if (is_nothing owed.emits && (k == owed.pieces)) (with_present s m x (with_pending p None)))) ≡
-    ((((o >>? (λ owed. if_so (is_finished k owed) (Some (with_pending p None)))) >>? (λ q. Some (record x { present = Some q }))) >>? (λ y. Some (slice_set s.modules m y))) >>? (λ xs. Some (record s { modules = xs })))
+    ((((o >>? (λ owed. if_so (is_finished k owed) (Some (with_pending p None)))) >>? (λ q. Some (record x { present = Some q }))) >>?
+    (λ y. Some (slice_set s.modules m y))) >>? (λ xs. Some (record s { modules = xs })))
 finish_pending s m k x p None = refl
 finish_pending s m k x p (Some owed) = finish_if (is_finished k owed) where
   finish_if : (b : Bool) → state_if b (with_present s m x (with_pending p None)) ≡
@@ -302,7 +310,8 @@ reacted_is : (app : AppTree) (s : Model) (m : ℕ) (q : PartTree) (x : Standing)
 unfolding reacted
 reacted_is app s m q x p e is = rw is refl
 
-take_views : (b : Bool) (p : Present) (before : List EndView → Model) (after : Present → Model) (o : Option (List EndView)) → ((views : List EndView) → before views ≡ after (record p { ends = views })) →
+take_views : (b : Bool) (p : Present) (before : List EndView → Model) (after : Present → Model) (o : Option (List EndView))
+    → ((views : List EndView) → before views ≡ after (record p { ends = views })) →
     (o >>? (λ views. state_if b (before views))) ≡ if_so b ((o >>? (λ views. Some (record p { ends = views }))) >>? (λ next. Some (after next)))
 take_views b p before after None same = sym (if_none b)
 take_views b p before after (Some views) same = ap (λ t. state_if b t) (same views)

@@ -1,5 +1,6 @@
 -- An item raises no count by more than one.
-use Rattle.std.proofs.Common.{◌≡◌, ℕ, ◌+◌, ◌≤◌, ◌==◌, ◌&&◌, not, nat_lt, inl, inr, if◌then◌else◌, Bool, true, false, List, [], ◌∷◌, length, map, replicate, Option, Some, None, slice_get, slice_index, refl, sym, ap, subst, ◌∙◌, arith}
+use Rattle.std.proofs.Common.{◌≡◌, ℕ, ◌+◌, ◌≤◌, ◌==◌, ◌&&◌, not, nat_lt, inl, inr, if◌then◌else◌, Bool, true, false, List, [], ◌∷◌, length, map, replicate}
+use Rattle.std.proofs.Common.{Option, Some, None, slice_get, slice_index, refl, sym, ap, subst, ◌∙◌, arith}
 use Rattle.std.specs.Prelude.{All, unwrap_or}
 use Rattle.std.proofs.lemmas.List.Elements.{All-set, All-weaker, All-get_or, All-replicate}
 use Rattle.std.proofs.lemmas.Option.{slice_get_cases, unwrap_or-slice_get}
@@ -11,7 +12,9 @@ use Rattle.sx_mean.specs.declared.events.SourceEvent.TheVariants as event
 use Rattle.sx_mean.specs.Ends.{ends_of}
 use Rattle.sx_model.specs.Reaction.{after_event, flow_of}
 use Rattle.sx_model.specs.Step.{◌>>?◌, absent_at, state_if, idle, is_word, kind_is, stale_at, is_undriven, waits, with_device}
-use Rattle.sx_model.specs.Changes.{accepts, at_index, finishes, if_so, is_readable, is_refused, on_device, on_module, on_present, opens_ask, opens_standing, protects, puts, raised_at, reacted, reads_from, renewal, staled, steps, takes_at, takes_fresh, takes_present, vouches, with_module, with_stale, word_at, writes_present}
+use Rattle.sx_model.specs.Changes.{accepts, at_index, finishes, if_so, is_readable, is_refused, on_device, on_module, on_present, opens_ask, opens_standing}
+use Rattle.sx_model.specs.Changes.{protects, puts, raised_at, reacted, reads_from, renewal, staled, steps, takes_at, takes_fresh, takes_present, vouches}
+use Rattle.sx_model.specs.Changes.{with_module, with_stale, word_at, writes_present}
 use Rattle.sx_trace.specs.declared.items.Item.{Item}
 use Rattle.sx_trace.specs.declared.items.Item.TheVariants.{Reset, Protect, Sense, Read, Drain, Ask, Attested, Denied, Vouch, Open, Take, Out, Raw, Done, Packet, Forged, Busy, Skip, Budget}
 use Rattle.sx_model.specs.State.{Model, Present, Reading, Standing, FIELDS, power_on}

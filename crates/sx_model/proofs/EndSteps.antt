@@ -67,7 +67,8 @@ absent_own : (n : ℕ) (qs : List PartTree) (xs : List Standing) (m : ℕ) (q : 
 absent_own n [] xs m q x e f = absurd cc
 absent_own n (r ∷ qs) [] m q x e f = absurd cc
 absent_own n (r ∷ qs) (y ∷ xs) zero q x e f =
-    ap (λ (r : PartTree). Some (if r.node == n then record y { present = None } else y)) (same_Some r q e) ∙ ap (λ (y : Standing). Some (if q.node == n then record y { present = None } else y)) (same_Some y x f)
+    ap (λ (r : PartTree). Some (if r.node == n then record y { present = None } else y)) (same_Some r q e)
+    ∙ ap (λ (y : Standing). Some (if q.node == n then record y { present = None } else y)) (same_Some y x f)
 absent_own n (r ∷ qs) (y ∷ xs) (suc m) q x e f = absent_own n qs xs m q x e f
 
 -- From a state in which it holds. The module m is at an end of the connection c.
@@ -190,7 +191,8 @@ module _ (app : AppTree) (m c : ℕ) (side : Side) (q : PartTree) (l : Link) (eq
       → Moved app m c side q.node None None low count boots
       (slice_set xs k (record z { present = Some w; vouched = z.vouched ++ record { challenge = a; boot = boot } ∷ [] })) epochs
   vouch k a r z p w boot er ez ep eb same = alike k z (record z { present = Some w; vouched = z.vouched ++ record { challenge = a; boot = boot } ∷ [] }) ez (λ s g.
-      subst (λ b. Held c low count (slice_index boots q.node) h.epoch z.attested (z.vouched ++ record { challenge = a; boot = b } ∷ []) (view_at c side (ends_of app m) w.ends)) (boot_here k r boot s er eb)
+      subst (λ b. Held c low count (slice_index boots q.node) h.epoch z.attested (z.vouched ++ record { challenge = a; boot = b } ∷ [])
+      (view_at c side (ends_of app m) w.ends)) (boot_here k r boot s er eb)
       (subst (λ o. Held c low count (slice_index boots q.node) h.epoch z.attested (z.vouched ++ record { challenge = a; boot = slice_index boots q.node } ∷ []) o)
       (seen z p ep ∙ ap (λ vs. view_at c side (ends_of app m) vs) (sym same))
       (held_vouched c low count (slice_index boots q.node) h.epoch z.attested z.vouched (view_of app m c side z) g a)))

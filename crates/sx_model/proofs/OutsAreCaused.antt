@@ -98,7 +98,8 @@ module _ (app : AppTree) (items : List Item) (xs : List Standing) (h : Caused ap
         | inr d ↦ since_still (begins_event m) (ends_event app m) items (Done k status n) (h m y e f) (ne_eqb k m d)
       ]
 
-owed_before : (x : Standing) (p : Present) (owed left : Pending) (v : ℕ) → x.present ≡ Some p → p.pending ≡ Some owed → without_first v owed.emits owed.pieces ≡ Some left → present_owes x.present ≡ true
+owed_before : (x : Standing) (p : Present) (owed left : Pending) (v : ℕ) → x.present ≡ Some p → p.pending ≡ Some owed
+    → without_first v owed.emits owed.pieces ≡ Some left → present_owes x.present ≡ true
 owed_before x p owed left v ep eo el = ap (λ o. present_owes o) ep ∙ ap (λ o. pending_owes o) eo ∙ first_owed v owed.emits owed.pieces left el
 
 abbrev In : AppTree → List Item → Model → Type 0
@@ -132,7 +133,8 @@ cases app items s h =
       budget = λ n. quiet (Budget n) (λ m. refl);
     }
 
-first_absent : (qs : List PartTree) (m : ℕ) (x : Standing) → slice_get (map (λ p. record { present = None; asked = None; vouched = []; attested = None }) qs) m ≡ Some x → present_owes x.present ≡ false
+first_absent : (qs : List PartTree) (m : ℕ) (x : Standing)
+    → slice_get (map (λ p. record { present = None; asked = None; vouched = []; attested = None }) qs) m ≡ Some x → present_owes x.present ≡ false
 first_absent [] m x e = absurd cc
 first_absent (q ∷ qs) zero x e = sym (ap (λ (x : Standing). present_owes x.present) (same_Some _ x e))
 first_absent (q ∷ qs) (suc m) x e = first_absent qs m x e

@@ -1,5 +1,6 @@
 -- Words that are sent, and taken back.
-use Rattle.std.proofs.Common.{◌≡◌, ℕ, zero, suc, ◌-◌, ◌<◌, ◌≤◌, inl, inr, Bool, true, false, List, [], ◌∷◌, ◌++◌, length, take, Some, None, slice_get, get_or, set, nat_lt, if◌then◌else◌, refl, sym, ap, ◌∙◌, arith}
+use Rattle.std.proofs.Common.{◌≡◌, ℕ, zero, suc, ◌-◌, ◌<◌, ◌≤◌, inl, inr, Bool, true, false, List, [], ◌∷◌, ◌++◌, length, take, Some, None, slice_get, get_or}
+use Rattle.std.proofs.Common.{set, nat_lt, if◌then◌else◌, refl, sym, ap, ◌∙◌, arith}
 use Rattle.std.proofs.lemmas.Option.{slice_get_past, slice_get_read, slice_get_cases, slice_get-get_or}
 use Rattle.std.proofs.lemmas.List.{set-get_or, get_or-set_same, length_push}
 use Rattle.std.proofs.Math.Seq.{take-append_seam}

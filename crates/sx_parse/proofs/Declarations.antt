@@ -5,7 +5,8 @@ use Rattle.sx_lang.specs.declared.tree.DeviceKind.{DeviceKind}
 use Rattle.sx_lex.specs.declared.tokens.Kind.{Kind}
 use Rattle.sx_lex.specs.declared.tokens.Kind.TheVariants.{Sensor, Actuator, Input, Output, Var, Array, Semicolon, Equals}
 use Rattle.sx_lex.specs.declared.tokens.Placed.{Placed}
-use Rattle.sx_grammar.specs.Machine.{Symbol, Value, Want, Say, A_semicolon, An_open_square, A_close_square, After_input, After_output, After_var, After_array, A_number, For_initial, For_length, Initial_of, Do_declare, Declarations, Handlers, Refused}
+use Rattle.sx_grammar.specs.Machine.{Symbol, Value, Want, Say, A_semicolon, An_open_square, A_close_square, After_input, After_output, After_var, After_array}
+use Rattle.sx_grammar.specs.Machine.{A_number, For_initial, For_length, Initial_of, Do_declare, Declarations, Handlers, Refused}
 use Rattle.sx_grammar.specs.Machine as machine
 use Rattle.sx_parse.specs.Wanted.{declarations_wanted, end_wanted, length_wanted}
 use Rattle.sx_parse.specs.Reading.{Stops, TakesSign, Named, Numbered, done}
@@ -15,16 +16,20 @@ use Rattle.sx_parse.proofs.Expressions.{said, none_left}
 pub ended : (ts r : List Placed) (ds us : List Decl) (d : Decl) → TakesSign A_semicolon ts r → us ≡ ds ++ d ∷ [] → Declares (end_wanted d) ds ts us done r
 ended ts r ds us d s e = rw e (record { declares = λ st. s.takes (Say (Do_declare d) ∷ st) (holding ds []) ∙ said (Do_declare d) st (holding ds []) r })
 
-pub initial_none : (x : List ℕ) (ts a : List Placed) (f : Placed) (ds us : List Decl) → ts ≡ f ∷ a → f.kind ≡ Semicolon → us ≡ ds ++ Decl.Var x 0 ∷ [] → Declares (λ st. Initial_of x ∷ st) ds ts us done a
+pub initial_none : (x : List ℕ) (ts a : List Placed) (f : Placed) (ds us : List Decl) → ts ≡ f ∷ a → f.kind ≡ Semicolon → us ≡ ds ++ Decl.Var x 0 ∷ []
+    → Declares (λ st. Initial_of x ∷ st) ds ts us done a
 initial_none x ts a f ds us h k e = rw e (record { declares = λ st. rw (h, k) refl })
 
-pub initial_number : (x : List ℕ) (n : ℕ) (ts a b r : List Placed) (f : Placed) (ds us : List Decl) → ts ≡ f ∷ a → f.kind ≡ Equals → Numbered a n b → Declares (end_wanted (Decl.Var x n)) ds b us done r → Declares (λ st. Initial_of x ∷ st) ds ts us done r
+pub initial_number : (x : List ℕ) (n : ℕ) (ts a b r : List Placed) (f : Placed) (ds us : List Decl) → ts ≡ f ∷ a → f.kind ≡ Equals → Numbered a n b
+    → Declares (end_wanted (Decl.Var x n)) ds b us done r → Declares (λ st. Initial_of x ∷ st) ds ts us done r
 initial_number x n ts a b r f ds us h k p q = record { declares = λ st. rw (h, k) (p.numbered (For_initial x) st (holding ds []) ∙ q.declares st) }
 
-pub initial_breaks : (x : List ℕ) (n : ℕ) (ts a b : List Placed) (f : Placed) (t : Option Placed) → ts ≡ f ∷ a → f.kind ≡ Equals → Numbered a n b → Stops (end_wanted (Decl.Var x n)) 0 b t → Stops (λ st. Initial_of x ∷ st) 0 ts t
+pub initial_breaks : (x : List ℕ) (n : ℕ) (ts a b : List Placed) (f : Placed) (t : Option Placed) → ts ≡ f ∷ a → f.kind ≡ Equals → Numbered a n b
+    → Stops (end_wanted (Decl.Var x n)) 0 b t → Stops (λ st. Initial_of x ∷ st) 0 ts t
 initial_breaks x n ts a b f t h k p q = record { stops = λ st vs o. rw (h, k) (p.numbered (For_initial x) st vs ∙ q.stops st vs o) }
 
-pub array : (x : List ℕ) (n : ℕ) (ts a b c r : List Placed) (ds us : List Decl) → TakesSign An_open_square ts a → Numbered a n b → TakesSign A_close_square b c → Declares (end_wanted (Decl.Array x n)) ds c us done r → Declares (length_wanted x) ds ts us done r
+pub array : (x : List ℕ) (n : ℕ) (ts a b c r : List Placed) (ds us : List Decl) → TakesSign An_open_square ts a → Numbered a n b → TakesSign A_close_square b c
+    → Declares (end_wanted (Decl.Array x n)) ds c us done r → Declares (length_wanted x) ds ts us done r
 array x n ts a b c r ds us p q s v = record {
   declares = λ st.
       p.takes (A_number (For_length x) ∷ st) (holding ds [])
@@ -33,7 +38,8 @@ array x n ts a b c r ds us p q s v = record {
       ∙ v.declares st;
 }
 
-pub array_breaks : (x : List ℕ) (n : ℕ) (ts a b c : List Placed) (t : Option Placed) → TakesSign An_open_square ts a → Numbered a n b → TakesSign A_close_square b c → Stops (end_wanted (Decl.Array x n)) 0 c t → Stops (length_wanted x) 0 ts t
+pub array_breaks : (x : List ℕ) (n : ℕ) (ts a b c : List Placed) (t : Option Placed) → TakesSign An_open_square ts a → Numbered a n b
+    → TakesSign A_close_square b c → Stops (end_wanted (Decl.Array x n)) 0 c t → Stops (length_wanted x) 0 ts t
 array_breaks x n ts a b c t p q s v = record {
   stops = λ st vs o.
       p.takes (A_number (For_length x) ∷ st) vs
@@ -42,25 +48,32 @@ array_breaks x n ts a b c t p q s v = record {
       ∙ v.stops st vs o;
 }
 
-pub sensor : (ts a r : List Placed) (f : Placed) (ds us : List Decl) → ts ≡ f ∷ a → f.kind ≡ Sensor → Declares (end_wanted (Decl.Device DeviceKind.Sensor)) ds a us done r → Declares declarations_wanted ds ts us declarations_wanted r
+pub sensor : (ts a r : List Placed) (f : Placed) (ds us : List Decl) → ts ≡ f ∷ a → f.kind ≡ Sensor
+    → Declares (end_wanted (Decl.Device DeviceKind.Sensor)) ds a us done r → Declares declarations_wanted ds ts us declarations_wanted r
 sensor ts a r f ds us h k q = record { declares = λ st. rw (h, k) (q.declares (Declarations ∷ st)) }
 
-pub actuator : (ts a r : List Placed) (f : Placed) (ds us : List Decl) → ts ≡ f ∷ a → f.kind ≡ Actuator → Declares (end_wanted (Decl.Device DeviceKind.Actuator)) ds a us done r → Declares declarations_wanted ds ts us declarations_wanted r
+pub actuator : (ts a r : List Placed) (f : Placed) (ds us : List Decl) → ts ≡ f ∷ a → f.kind ≡ Actuator
+    → Declares (end_wanted (Decl.Device DeviceKind.Actuator)) ds a us done r → Declares declarations_wanted ds ts us declarations_wanted r
 actuator ts a r f ds us h k q = record { declares = λ st. rw (h, k) (q.declares (Declarations ∷ st)) }
 
-pub input : (x : List ℕ) (ts a b r : List Placed) (f : Placed) (ds us : List Decl) → ts ≡ f ∷ a → f.kind ≡ Input → Named a x b → Declares (end_wanted (Decl.Input x)) ds b us done r → Declares declarations_wanted ds ts us declarations_wanted r
+pub input : (x : List ℕ) (ts a b r : List Placed) (f : Placed) (ds us : List Decl) → ts ≡ f ∷ a → f.kind ≡ Input → Named a x b
+    → Declares (end_wanted (Decl.Input x)) ds b us done r → Declares declarations_wanted ds ts us declarations_wanted r
 input x ts a b r f ds us h k p q = record { declares = λ st. rw (h, k) (p.named After_input (Declarations ∷ st) (holding ds []) ∙ q.declares (Declarations ∷ st)) }
 
-pub output : (x : List ℕ) (ts a b r : List Placed) (f : Placed) (ds us : List Decl) → ts ≡ f ∷ a → f.kind ≡ Output → Named a x b → Declares (end_wanted (Decl.Output x)) ds b us done r → Declares declarations_wanted ds ts us declarations_wanted r
+pub output : (x : List ℕ) (ts a b r : List Placed) (f : Placed) (ds us : List Decl) → ts ≡ f ∷ a → f.kind ≡ Output → Named a x b
+    → Declares (end_wanted (Decl.Output x)) ds b us done r → Declares declarations_wanted ds ts us declarations_wanted r
 output x ts a b r f ds us h k p q = record { declares = λ st. rw (h, k) (p.named After_output (Declarations ∷ st) (holding ds []) ∙ q.declares (Declarations ∷ st)) }
 
-pub variable : (x : List ℕ) (ts a b r : List Placed) (f : Placed) (ds us : List Decl) → ts ≡ f ∷ a → f.kind ≡ Var → Named a x b → Declares (λ st. Initial_of x ∷ st) ds b us done r → Declares declarations_wanted ds ts us declarations_wanted r
+pub variable : (x : List ℕ) (ts a b r : List Placed) (f : Placed) (ds us : List Decl) → ts ≡ f ∷ a → f.kind ≡ Var → Named a x b
+    → Declares (λ st. Initial_of x ∷ st) ds b us done r → Declares declarations_wanted ds ts us declarations_wanted r
 variable x ts a b r f ds us h k p q = record { declares = λ st. rw (h, k) (p.named After_var (Declarations ∷ st) (holding ds []) ∙ q.declares (Declarations ∷ st)) }
 
-pub array_word : (x : List ℕ) (ts a b r : List Placed) (f : Placed) (ds us : List Decl) → ts ≡ f ∷ a → f.kind ≡ Array → Named a x b → Declares (length_wanted x) ds b us done r → Declares declarations_wanted ds ts us declarations_wanted r
+pub array_word : (x : List ℕ) (ts a b r : List Placed) (f : Placed) (ds us : List Decl) → ts ≡ f ∷ a → f.kind ≡ Array → Named a x b
+    → Declares (length_wanted x) ds b us done r → Declares declarations_wanted ds ts us declarations_wanted r
 array_word x ts a b r f ds us h k p q = record { declares = λ st. rw (h, k) (p.named After_array (Declarations ∷ st) (holding ds []) ∙ q.declares (Declarations ∷ st)) }
 
-passed : (k : Kind) (st : List Symbol) (vs : List Value) → (k ≡ Sensor → ⊥) → (k ≡ Actuator → ⊥) → (k ≡ Input → ⊥) → (k ≡ Output → ⊥) → (k ≡ Var → ⊥) → (k ≡ Array → ⊥) → machine.declarations st vs k ≡ machine.handlers st vs k
+passed : (k : Kind) (st : List Symbol) (vs : List Value) → (k ≡ Sensor → ⊥) → (k ≡ Actuator → ⊥) → (k ≡ Input → ⊥) → (k ≡ Output → ⊥) → (k ≡ Var → ⊥)
+    → (k ≡ Array → ⊥) → machine.declarations st vs k ≡ machine.handlers st vs k
 passed Sensor st vs a b c d e f = absurd (a refl)
 passed Actuator st vs a b c d e f = absurd (b refl)
 passed Input st vs a b c d e f = absurd (c refl)
@@ -69,8 +82,12 @@ passed Var st vs a b c d e f = absurd (e refl)
 passed Array st vs a b c d e f = absurd (f refl)
 passed _ st vs a b c d e f = refl
 
-pub passes : (ts a : List Placed) (t : Placed) (ds us : List Decl) → ts ≡ t ∷ a → (t.kind ≡ Sensor → ⊥) → (t.kind ≡ Actuator → ⊥) → (t.kind ≡ Input → ⊥) → (t.kind ≡ Output → ⊥) → (t.kind ≡ Var → ⊥) → (t.kind ≡ Array → ⊥) → us ≡ ds → Passes ds ts us
-passes ts a t ds us h x y z u v w e = record { passes = λ st vs. rw h (let e : machine.declarations st vs t.kind ≡ machine.handlers st vs t.kind = passed t.kind st vs x y z u v w in rw e refl); same = e }
+pub passes : (ts a : List Placed) (t : Placed) (ds us : List Decl) → ts ≡ t ∷ a → (t.kind ≡ Sensor → ⊥) → (t.kind ≡ Actuator → ⊥) → (t.kind ≡ Input → ⊥)
+    → (t.kind ≡ Output → ⊥) → (t.kind ≡ Var → ⊥) → (t.kind ≡ Array → ⊥) → us ≡ ds → Passes ds ts us
+passes ts a t ds us h x y z u v w e = record {
+  passes = λ st vs. rw h (let e : machine.declarations st vs t.kind ≡ machine.handlers st vs t.kind = passed t.kind st vs x y z u v w in rw e refl);
+  same = e;
+}
 
 pub passes_end : (ts : List Placed) (ds us : List Decl) → length ts ≡ 0 → us ≡ ds → Passes ds ts us
 passes_end ts ds us h e = record { passes = λ st vs. rw (none_left ts h) refl; same = e }

@@ -16,7 +16,8 @@ map-push : (hs : List Handler) (h : Handler) → map handler_of (hs ++ h ∷ [])
 map-push [] h = refl
 map-push (g ∷ hs) h = ap (λ l. handler_of g ∷ l) (map-push hs h)
 
-pub reads : (i : Option (List ℕ)) (v : List ℕ) (ts a b c r : List Placed) (body : Block) (hs gs : List Handler) (h : Handler) → TakesSign An_open ts a → Named a v b → TakesSign A_close b c → ReadsValue (λ st. A_block ∷ st) 0 c (Of_block body) done r
+pub reads : (i : Option (List ℕ)) (v : List ℕ) (ts a b c r : List Placed) (body : Block) (hs gs : List Handler) (h : Handler) → TakesSign An_open ts a
+    → Named a v b → TakesSign A_close b c → ReadsValue (λ st. A_block ∷ st) 0 c (Of_block body) done r
     → gs ≡ hs ++ h ∷ [] → handler_of h ≡ record { input = i; param = v; body = body } → Handles (parameter_wanted i) (map handler_of hs) ts (map handler_of gs) r
 reads i v ts a b c r body hs gs h p n q s e same = rw (e, map-push hs h, same) (record {
   handles = λ ds.
@@ -27,7 +28,8 @@ reads i v ts a b c r body hs gs h p n q s e same = rw (e, map-push hs h, same) (
       ∙ said (Do_handle i v) (Handlers ∷ []) (Of_block body ∷ holding ds (map handler_of hs)) r;
 })
 
-pub on_input : (x : List ℕ) (ts a b r : List Placed) (f : Placed) (hs gs : List HandlerTree) → ts ≡ f ∷ a → f.kind ≡ On → Named a x b → Handles (parameter_wanted (Some x)) hs b gs r → Handles done hs ts gs r
+pub on_input : (x : List ℕ) (ts a b r : List Placed) (f : Placed) (hs gs : List HandlerTree) → ts ≡ f ∷ a → f.kind ≡ On → Named a x b
+    → Handles (parameter_wanted (Some x)) hs b gs r → Handles done hs ts gs r
 on_input x ts a b r f hs gs h k n q = record { handles = λ ds. rw (h, k) (n.named After_on (Handlers ∷ []) (holding ds hs) ∙ q.handles ds) }
 
 pub on_sample : (ts a r : List Placed) (f : Placed) (hs gs : List HandlerTree) → ts ≡ f ∷ a → f.kind ≡ Sample → Handles (parameter_wanted None) hs a gs r → Handles done hs ts gs r

@@ -32,7 +32,8 @@ pub indexed_written : {E : Type 0} {before a b c x : List ℕ} {e whole : Expres
     → OnOk r (Wrote before (expression_pieces g whole) after)
 indexed_written g r after i p q s t = rw i (ends r (one CloseSquare g) after (p ⟫ q ⟫ s) t)
 
-pub combined_written : {E : Type 0} {before a b c d : List ℕ} {op : BinOp} {l m whole : Expression} {k : Kind} (g : Gap) (r : Result (Unit {0}) E) (after : List ℕ) → whole ≡ Combined op l m → k ≡ binary_sign op
+pub combined_written : {E : Type 0} {before a b c d : List ℕ} {op : BinOp} {l m whole : Expression} {k : Kind} (g : Gap) (r : Result (Unit {0}) E)
+    (after : List ℕ) → whole ≡ Combined op l m → k ≡ binary_sign op
     → Wrote before (one Open Nothing) a → Wrote a (expression_pieces Space l) b → Wrote b (one k Space) c → Wrote c (expression_pieces Nothing m) d → OnOk r (Wrote d (one Close g) after)
     → OnOk r (Wrote before (expression_pieces g whole) after)
 combined_written {b = b} {c = c} g r after i j p q s t u = rw i (ends r (one Close g) after (p ⟫ q ⟫ subst (λ (k : Kind). Wrote b (one k Space) c) j s ⟫ t) u)
@@ -46,16 +47,19 @@ pub defined_written : {E : Type 0} {before a b x : List ℕ} {whole : Statement}
 defined_written e depth r after i p q s = rw i (ends r (value_pieces e) after (p ⟫ q) s)
 
 pub stored_written : {E : Type 0} {before a b c d x : List ℕ} {i : Expression} {whole : Statement} (e : Expression) (depth : ℕ) (r : Result (Unit {0}) E) (after : List ℕ) → whole ≡ Stores x i e
-    → Wrote before (λ rest. name x Nothing ∷ rest) a → Wrote a (one OpenSquare Nothing) b → Wrote b (expression_pieces Nothing i) c → Wrote c (one CloseSquare Space) d → OnOk r (Wrote d (value_pieces e) after)
+    → Wrote before (λ rest. name x Nothing ∷ rest) a → Wrote a (one OpenSquare Nothing) b → Wrote b (expression_pieces Nothing i) c
+    → Wrote c (one CloseSquare Space) d → OnOk r (Wrote d (value_pieces e) after)
     → OnOk r (Wrote before (statement_pieces depth whole) after)
 stored_written e depth r after i p q s t u = rw i (ends r (value_pieces e) after (p ⟫ q ⟫ s ⟫ t) u)
 
 pub chosen_written : {E : Type 0} {before a b c : List ℕ} {e : Expression} {x : Block} {whole : Statement} (y : Block) (depth : ℕ) (r : Result (Unit {0}) E) (after : List ℕ) → whole ≡ Chooses e x y
-    → Wrote before (one If Space) a → Wrote a (expression_pieces Space e) b → Wrote b (block_pieces depth x) c → OnOk r (Wrote c (else_pieces depth y) after) → OnOk r (Wrote before (statement_pieces depth whole) after)
+    → Wrote before (one If Space) a → Wrote a (expression_pieces Space e) b → Wrote b (block_pieces depth x) c → OnOk r (Wrote c (else_pieces depth y) after)
+    → OnOk r (Wrote before (statement_pieces depth whole) after)
 chosen_written y depth r after i p q s t = rw i (ends r (else_pieces depth y) after (p ⟫ q ⟫ s) t)
 
 pub repeated_written : {E : Type 0} {before a b c : List ℕ} {n : ℕ} {x : Block} {whole : Statement} (depth : ℕ) (r : Result (Unit {0}) E) (after : List ℕ) → whole ≡ Repeats n x
-    → Wrote before (one Repeat Space) a → Wrote a (λ rest. number n Space ∷ rest) b → Wrote b (block_pieces depth x) c → OnOk r (Wrote c (one CloseBrace Line) after) → OnOk r (Wrote before (statement_pieces depth whole) after)
+    → Wrote before (one Repeat Space) a → Wrote a (λ rest. number n Space ∷ rest) b → Wrote b (block_pieces depth x) c
+    → OnOk r (Wrote c (one CloseBrace Line) after) → OnOk r (Wrote before (statement_pieces depth whole) after)
 repeated_written depth r after i p q s t = rw i (ends r (one CloseBrace Line) after (p ⟫ q ⟫ s) t)
 
 pub sent_written : {E : Type 0} {before a b c d f x : List ℕ} {e : Expression} {whole : Statement} (depth : ℕ) (r : Result (Unit {0}) E) (after : List ℕ) → whole ≡ Sends x e
@@ -92,7 +96,8 @@ pub variable_written : {E : Type 0} {before a b c x : List ℕ} {n : ℕ} {d : D
 variable_written {n = n} r after i p q s t = rw i (ends r (λ rest. number n Nothing ∷ rest) after (p ⟫ q ⟫ s) t)
 
 pub array_written : {E : Type 0} {before a b c f x : List ℕ} {n : ℕ} {d : Decl} (r : Result (Unit {0}) E) (after : List ℕ) → d ≡ Decl.Array x n
-    → Wrote before (one Array Space) a → Wrote a (λ rest. name x Nothing ∷ rest) b → Wrote b (one OpenSquare Nothing) c → Wrote c (λ rest. number n Nothing ∷ rest) f → OnOk r (Wrote f (one CloseSquare Nothing) after)
+    → Wrote before (one Array Space) a → Wrote a (λ rest. name x Nothing ∷ rest) b → Wrote b (one OpenSquare Nothing) c
+    → Wrote c (λ rest. number n Nothing ∷ rest) f → OnOk r (Wrote f (one CloseSquare Nothing) after)
     → OnOk r (Wrote before (declared_pieces d) after)
 array_written r after i p q s t u = rw i (ends r (one CloseSquare Nothing) after (p ⟫ q ⟫ s ⟫ t) u)
 
@@ -101,6 +106,7 @@ pub event_written : {E : Type 0} {before a x : List ℕ} {input : Option (List �
 event_written {x = x} r after i p q = rw i (ends r (λ rest. name x Nothing ∷ rest) after p q)
 
 pub handler_written : {E : Type 0} {before a b c d f : List ℕ} (h : HandlerTree) (r : Result (Unit {0}) E) (after : List ℕ)
-    → Wrote before (event_pieces h.input) a → Wrote a (one Open Nothing) b → Wrote b (λ rest. name h.param Nothing ∷ rest) c → Wrote c (one Close Space) d → Wrote d (block_pieces 0 h.body) f → OnOk r (Wrote f (one CloseBrace Line) after)
+    → Wrote before (event_pieces h.input) a → Wrote a (one Open Nothing) b → Wrote b (λ rest. name h.param Nothing ∷ rest) c → Wrote c (one Close Space) d
+    → Wrote d (block_pieces 0 h.body) f → OnOk r (Wrote f (one CloseBrace Line) after)
     → OnOk r (Wrote before (handler_pieces h) after)
 handler_written h r after p q s t u v = ends r (one CloseBrace Line) after (p ⟫ q ⟫ s ⟫ t ⟫ u) v

@@ -6,7 +6,8 @@ use Rattle.sx_lang.specs.declared.tree.BinOp.{BinOp}
 use Rattle.sx_lang.specs.declared.tree.BinOp.TheVariants.{Add, Sub, Or, Xor, Mul, And, Eq, Ne, Lt, Le, Gt, Ge}
 use Rattle.sx_lang.specs.declared.tree.Decl.{Decl}
 use Rattle.sx_lang.specs.declared.tree.DeviceKind.{DeviceKind}
-use Rattle.sx_lang.specs.Tree.{Expression, Constant, Variable, Indexed, Applied, Combined, Statement, Defines, Assigns, Stores, Chooses, Repeats, Sends, Emits, Block, Done, Then, HandlerTree, ModuleTree}
+use Rattle.sx_lang.specs.Tree.{Expression, Constant, Variable, Indexed, Applied, Combined, Statement, Defines, Assigns, Stores, Chooses, Repeats, Sends, Emits}
+use Rattle.sx_lang.specs.Tree.{Block, Done, Then, HandlerTree, ModuleTree}
 use Rattle.std.specs.List.{list_any}
 use Rattle.sx_lex.specs.declared.tokens.Kind.{Kind}
 use Rattle.sx_lex.specs.declared.tokens.Kind.TheVariants.{Semicolon, Open, Close, CloseSquare}
@@ -14,7 +15,8 @@ use Rattle.sx_lex.proofs.Found.{and_left, and_right}
 use Rattle.sx_print.specs.declared.words.Gap.{Gap}
 use Rattle.sx_print.specs.declared.words.Gap.TheVariants.{Nothing, Space, Line}
 use Rattle.sx_print.specs.Printable.{is_plain, expression_plain, statement_plain, block_plain, declaration_plain, declarations_plain, input_plain, handler_plain, handlers_plain, module_plain}
-use Rattle.sx_print.specs.Pieces.{Piece, quoted, spelling, expression_pieces, margin, deeper, value_pieces, statement_pieces, statements_pieces, else_pieces, declared_pieces, declarations_pieces, event_pieces, handler_pieces, handlers_pieces, module_pieces, binary_sign, unary_sign}
+use Rattle.sx_print.specs.Pieces.{Piece, quoted, spelling, expression_pieces, margin, deeper, value_pieces, statement_pieces, statements_pieces, else_pieces}
+use Rattle.sx_print.specs.Pieces.{declared_pieces, declarations_pieces, event_pieces, handler_pieces, handlers_pieces, module_pieces, binary_sign, unary_sign}
 use Rattle.sx_print.proofs.Read.{ends_word, is_operand, Good, nothing, good_name, good_number, good_word, good_not, good_indent}
 use Rattle.sx_print.proofs.Lone.{is_lone}
 use Rattle.sx_print.proofs.Spelled.{is_quoted}
@@ -75,7 +77,8 @@ mutual
       good_name (and_left _ _ p) refl (good_word refl refl (expression_good Nothing i (and_left _ _ q) refl (good_word refl refl (value_good e (and_right (expression_plain i) _ q) h))))
   statement_good depth (Chooses e a b) p h =
       let q : (block_plain a && block_plain b) ≡ true = and_right (expression_plain e) _ p in
-      good_word refl refl (expression_good Space e (and_left _ _ p) refl (good_word refl refl (statements_good (deeper depth) a (and_left _ _ q) (margin_good depth (else_good depth b (and_right (block_plain a) _ q) h)))))
+      good_word refl refl (expression_good Space e (and_left _ _ p) refl
+      (good_word refl refl (statements_good (deeper depth) a (and_left _ _ q) (margin_good depth (else_good depth b (and_right (block_plain a) _ q) h)))))
   statement_good depth (Repeats n a) p h = good_word refl refl (good_number refl (good_word refl refl (statements_good (deeper depth) a p (margin_good depth (good_word refl refl h)))))
   statement_good depth (Sends x e) p h =
       good_word refl refl (good_name (and_left _ _ p) refl (good_word refl refl (expression_good Nothing e (and_right (is_plain x) _ p) refl (good_word refl refl (good_word refl refl h)))))
@@ -110,7 +113,8 @@ event_good (Some x) p h = good_word refl refl (good_name p refl (good_word refl 
 handler_good : {ps : List Piece} (h : HandlerTree) → handler_plain h ≡ true → Good ps → Good (handler_pieces h ps)
 handler_good h p e =
     let q : (is_plain h.param && block_plain h.body) ≡ true = and_right (input_plain h.input) _ p in
-    event_good h.input (and_left _ _ p) (good_name (and_left _ _ q) refl (good_word refl refl (good_word refl refl (statements_good (deeper 0) h.body (and_right (is_plain h.param) _ q) (good_word refl refl e)))))
+    event_good h.input (and_left _ _ p) (good_name (and_left _ _ q) refl
+    (good_word refl refl (good_word refl refl (statements_good (deeper 0) h.body (and_right (is_plain h.param) _ q) (good_word refl refl e)))))
 
 handlers_good : {ps : List Piece} (hs : List HandlerTree) → handlers_plain hs ≡ true → Good ps → Good (handlers_pieces hs ps)
 handlers_good [] p h = h

@@ -90,7 +90,8 @@ or_ends false g ps h = ends g ps h
 
 gap_read : (g : Gap) (text : List ℕ) (ks : List Token) (at : Place) → ((at : Place) → Reads at text ks) → Reads at (gap_bytes g ++ text) ks
 gap_read Nothing text ks at h = h at
-gap_read Space text ks at h = let r = h (along at 1) in record { tokens = r.tokens; end = r.end; lexed = space {at = at} {end = r.end} {b = 32} {bs = text} {ts = r.tokens} refl r.lexed; same = r.same }
+gap_read Space text ks at h = let r = h (along at 1) in
+    record { tokens = r.tokens; end = r.end; lexed = space {at = at} {end = r.end} {b = 32} {bs = text} {ts = r.tokens} refl r.lexed; same = r.same }
 gap_read Line text ks at h = let r = h (below at) in record { tokens = r.tokens; end = r.end; lexed = newline {at = at} {end = r.end} {bs = text} {ts = r.tokens} r.lexed; same = r.same }
 
 -- a word of this length and its gap, and then the rest
@@ -148,7 +149,8 @@ operand_start (good_name {x = x} {g = g} {ps = ps} p e h) s o = start_read x (Na
 operand_start (good_number {n = n} {g = g} {ps = ps} e h) s o =
     let l : nat_le n 65535 ≡ true = and_left _ _ s in
     start_read (decimal n) (Number n) g (text_of ps) (number_kind n l) (number_start (decimal n) (number_digits n l).all)
-operand_start (good_word {k = k} {g = g} {ps = ps} q e h) s o = start_read (spelling k) k g (text_of ps) (quoted_kind k q) (is_false (first_is (λ b. b == 61) (spelling k)) (and_right (is_quoted k) _ o))
+operand_start (good_word {k = k} {g = g} {ps = ps} q e h) s o =
+    start_read (spelling k) k g (text_of ps) (quoted_kind k q) (is_false (first_is (λ b. b == 61) (spelling k)) (and_right (is_quoted k) _ o))
 operand_start (good_not o h) s p = refl
 operand_start (good_indent h) s o = absurd (cc)
 
@@ -159,8 +161,10 @@ pieces_read at (good_name {x = x} {g = g} {ps = ps} p e h) s =
 pieces_read at (good_number {n = n} {g = g} {ps = ps} e h) s =
     let l : nat_le n 65535 ≡ true = and_left _ _ s in
     let t : are_short ps ≡ true = and_right (nat_le n 65535) _ s in
-    word_read (decimal n) (Number n) g (text_of ps) (tokens_of ps) at (longest_word (decimal n) (Number n) g ps (number_kind n l) (or_right (list_any is_lone (decimal n)) (ends_word g ps) e)) (λ at. pieces_read at h t)
-pieces_read at (good_word {k = k} {g = g} {ps = ps} q e h) s = word_read (spelling k) k g (text_of ps) (tokens_of ps) at (longest_word (spelling k) k g ps (quoted_kind k q) e) (λ at. pieces_read at h s)
+    word_read (decimal n) (Number n) g (text_of ps) (tokens_of ps) at
+    (longest_word (decimal n) (Number n) g ps (number_kind n l) (or_right (list_any is_lone (decimal n)) (ends_word g ps) e)) (λ at. pieces_read at h t)
+pieces_read at (good_word {k = k} {g = g} {ps = ps} q e h) s =
+    word_read (spelling k) k g (text_of ps) (tokens_of ps) at (longest_word (spelling k) k g ps (quoted_kind k q) e) (λ at. pieces_read at h s)
 pieces_read at (good_not {ps = ps} o h) s = word_read (spelling Bang) Bang Nothing (text_of ps) (tokens_of ps) at (longest_not (text_of ps) (operand_start h s o)) (λ at. pieces_read at h s)
 pieces_read at (good_indent {ps = ps} h) s = indent_read (text_of ps) (tokens_of ps) at (λ at. pieces_read at h s)
 

@@ -7,7 +7,10 @@ use Rattle.std.proofs.lemmas.Str.Ascii.{IsAscii-nil, IsAscii-cons}
 use Rattle.std.proofs.lemmas.Fmt.{decimal_by_steps}
 use Rattle.std.proofs.lemmas.Bool.Decides.{nat_tests}
 use Rattle.sx_lex.specs.declared.tokens.Kind.{Kind}
-use Rattle.sx_lex.specs.declared.tokens.Kind.TheVariants.{Number, Name, Sensor, Actuator, Input, Output, Var, Array, On, Sample, Let, If, Else, Repeat, Send, Emit, Semicolon, Equals, Open, Close, OpenSquare, CloseSquare, OpenBrace, CloseBrace, EqualsEquals, NotEquals, Less, LessEquals, Greater, GreaterEquals, Plus, Minus, Bar, Caret, Star, Ampersand, Tilde, Bang, Bad}
+use Rattle.sx_lex.specs.declared.tokens.Kind.TheVariants.{Number, Name, Sensor, Actuator, Input, Output, Var, Array, On, Sample, Let, If, Else, Repeat, Send}
+use Rattle.sx_lex.specs.declared.tokens.Kind.TheVariants.{Emit, Semicolon, Equals, Open, Close, OpenSquare, CloseSquare, OpenBrace, CloseBrace, EqualsEquals}
+use Rattle.sx_lex.specs.declared.tokens.Kind.TheVariants.{NotEquals, Less, LessEquals, Greater, GreaterEquals, Plus, Minus, Bar, Caret, Star, Ampersand, Tilde}
+use Rattle.sx_lex.specs.declared.tokens.Kind.TheVariants.{Bang, Bad}
 use Rattle.sx_lex.specs.Words.{is_name, is_name_byte, is_lower, is_decimal_digit, is_digit, digit_value, value, found_in, keywords, kind_of}
 use Rattle.sx_lex.proofs.Found.{and_left, and_right, digit_no_lower}
 use Rattle.sx_print.specs.Printable.{is_plain, is_absent}

@@ -14,17 +14,21 @@ use Rattle.sx_print.proofs.Read.{pieces_read, pieces_utf8}
 use Rattle.sx_print.proofs.Good.{module_good}
 use Rattle.sx_print.proofs.Stands.{module_stands}
 
-pub module_text : (before middle after : List ℕ) (m : ModuleTree) → before ≡ [] → Wrote before (declarations_pieces m.decls) middle → Wrote middle (handlers_pieces m.handlers) after → after ≡ text_of (module_pieces m)
+pub module_text : (before middle after : List ℕ) (m : ModuleTree) → before ≡ [] → Wrote before (declarations_pieces m.decls) middle
+    → Wrote middle (handlers_pieces m.handlers) after → after ≡ text_of (module_pieces m)
 module_text before middle after m e a b = sym (ap (λ bs. bs ++ text_of (module_pieces m)) (sym e) ∙ a.text (handlers_pieces m.handlers []) ∙ b.text [] ∙ append-nil after)
 
-module_short : (before middle after : List ℕ) (m : ModuleTree) → Wrote before (declarations_pieces m.decls) middle → Wrote middle (handlers_pieces m.handlers) after → are_short (module_pieces m) ≡ true
+module_short : (before middle after : List ℕ) (m : ModuleTree) → Wrote before (declarations_pieces m.decls) middle
+    → Wrote middle (handlers_pieces m.handlers) after → are_short (module_pieces m) ≡ true
 module_short before middle after m a b = a.short (handlers_pieces m.handlers []) (b.short [] refl)
 
-pub module_utf8 : (before middle after : List ℕ) (m : ModuleTree) → is_printable m ≡ true → before ≡ [] → Wrote before (declarations_pieces m.decls) middle → Wrote middle (handlers_pieces m.handlers) after → IsUtf8 after
+pub module_utf8 : (before middle after : List ℕ) (m : ModuleTree) → is_printable m ≡ true → before ≡ [] → Wrote before (declarations_pieces m.decls) middle
+    → Wrote middle (handlers_pieces m.handlers) after → IsUtf8 after
 module_utf8 before middle after m p e a b =
     subst IsUtf8 (sym (module_text before middle after m e a b)) (pieces_utf8 (module_good m (and_right (nat_le (module_open m) 48) _ p)) (module_short before middle after m a b))
 
-pub module_spelled : (before middle after : List ℕ) (m : ModuleTree) → is_printable m ≡ true → before ≡ [] → Wrote before (declarations_pieces m.decls) middle → Wrote middle (handlers_pieces m.handlers) after → Spells after m
+pub module_spelled : (before middle after : List ℕ) (m : ModuleTree) → is_printable m ≡ true → before ≡ [] → Wrote before (declarations_pieces m.decls) middle
+    → Wrote middle (handlers_pieces m.handlers) after → Spells after m
 module_spelled before middle after m p e a b =
     let l : nat_le (module_open m) 48 ≡ true = and_left _ _ p in
     let r = pieces_read start (module_good m (and_right (nat_le (module_open m) 48) _ p)) (module_short before middle after m a b) in

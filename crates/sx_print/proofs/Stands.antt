@@ -7,7 +7,8 @@ use Rattle.sx_lang.specs.declared.tree.BinOp.{BinOp}
 use Rattle.sx_lang.specs.declared.tree.BinOp.TheVariants.{Add, Sub, Or, Xor, Mul, And, Eq, Ne, Lt, Le, Gt, Ge}
 use Rattle.sx_lang.specs.declared.tree.Decl.{Decl}
 use Rattle.sx_lang.specs.declared.tree.DeviceKind.{DeviceKind}
-use Rattle.sx_lang.specs.Tree.{Expression, Constant, Variable, Indexed, Applied, Combined, Statement, Defines, Assigns, Stores, Chooses, Repeats, Sends, Emits, Block, Done, Then, HandlerTree, ModuleTree}
+use Rattle.sx_lang.specs.Tree.{Expression, Constant, Variable, Indexed, Applied, Combined, Statement, Defines, Assigns, Stores, Chooses, Repeats, Sends, Emits}
+use Rattle.sx_lang.specs.Tree.{Block, Done, Then, HandlerTree, ModuleTree}
 use Rattle.sx_lex.specs.declared.tokens.Kind.TheVariants.{Semicolon, Else, Close, CloseSquare, CloseBrace}
 use Rattle.sx_grammar.specs.Tokens.{Token, token, fits, unary_operator}
 use Rattle.sx_grammar.specs.Grammar as g
@@ -15,7 +16,8 @@ use Rattle.sx_grammar.specs.Grammar.{IsExpression, IsStatement, IsBlock, AreStat
 use Rattle.sx_print.specs.declared.words.Gap.{Gap}
 use Rattle.sx_print.specs.declared.words.Gap.TheVariants.{Nothing, Space, Line}
 use Rattle.sx_print.specs.Printable.{expression_open, statement_open, block_open, handlers_open, module_open}
-use Rattle.sx_print.specs.Pieces.{Piece, quoted, expression_pieces, margin, deeper, value_pieces, statement_pieces, statements_pieces, block_pieces, else_pieces, declared_pieces, declarations_pieces, handler_pieces, handlers_pieces, module_pieces, binary_sign, unary_sign}
+use Rattle.sx_print.specs.Pieces.{Piece, quoted, expression_pieces, margin, deeper, value_pieces, statement_pieces, statements_pieces, block_pieces}
+use Rattle.sx_print.specs.Pieces.{else_pieces, declared_pieces, declarations_pieces, handler_pieces, handlers_pieces, module_pieces, binary_sign, unary_sign}
 use Rattle.sx_print.proofs.Read.{tokens_of}
 
 alone : {d : ℕ} {ts rest : List Token} {e : Expression} → IsExpression g.Unary d ts e rest → IsExpression g.Term d ts e rest
@@ -32,7 +34,8 @@ sign_operator Neg = refl
 sign_operator Inv = refl
 sign_operator Not = refl
 
-joined : {d : ℕ} {ts us rest : List Token} {x y : Expression} (op : BinOp) → IsExpression g.Unary d ts x (token (binary_sign op) true ∷ us) → IsExpression g.Unary d us y rest → IsExpression g.Whole d ts (Combined op x y) rest
+joined : {d : ℕ} {ts us rest : List Token} {x y : Expression} (op : BinOp) → IsExpression g.Unary d ts x (token (binary_sign op) true ∷ us)
+    → IsExpression g.Unary d us y rest → IsExpression g.Whole d ts (Combined op x y) rest
 joined Add s t = g.whole (g.sum (alone s) (g.addend refl refl (alone t) g.no_addend))
 joined Sub s t = g.whole (g.sum (alone s) (g.addend refl refl (alone t) g.no_addend))
 joined Or s t = g.whole (g.sum (alone s) (g.addend refl refl (alone t) g.no_addend))
@@ -56,7 +59,8 @@ inner d n h = omega (arith, h)
 expression_stands : (k : Gap) (e : Expression) (ps : List Piece) (d : ℕ) → d + expression_open e ≤ 48 → IsExpression g.Unary d (tokens_of (expression_pieces k e ps)) e (tokens_of ps)
 expression_stands k (Constant n) ps d h = g.plain g.number
 expression_stands k (Variable x) ps d h = g.plain g.name
-expression_stands k (Indexed x i) ps d h = g.plain (g.element (room d (expression_open i) h) (alone_whole (expression_stands Nothing i (quoted CloseSquare k ∷ ps) (d + 1) (inner d (expression_open i) h))))
+expression_stands k (Indexed x i) ps d h = g.plain
+    (g.element (room d (expression_open i) h) (alone_whole (expression_stands Nothing i (quoted CloseSquare k ∷ ps) (d + 1) (inner d (expression_open i) h))))
 expression_stands k (Applied op a) ps d h = g.unary (sign_operator op) (room d (expression_open a) h) (expression_stands k a ps (d + 1) (inner d (expression_open a) h))
 expression_stands k (Combined op a b) ps d h =
     let most = max (expression_open a) (expression_open b) in
@@ -69,7 +73,8 @@ whole_stands : (k : Gap) (e : Expression) (ps : List Piece) (d : ℕ) → d + ex
 whole_stands k e ps d h = alone_whole (expression_stands k e ps d h)
 
 -- with the semicolon
-value_stands : (e : Expression) (ps : List Piece) (d : ℕ) → d + expression_open e ≤ 48 → IsExpression g.Whole d (tokens_of (expression_pieces Nothing e (quoted Semicolon Line ∷ ps))) e (token Semicolon true ∷ tokens_of ps)
+value_stands : (e : Expression) (ps : List Piece) (d : ℕ) → d + expression_open e ≤ 48
+    → IsExpression g.Whole d (tokens_of (expression_pieces Nothing e (quoted Semicolon Line ∷ ps))) e (token Semicolon true ∷ tokens_of ps)
 value_stands e ps d h = whole_stands Nothing e (quoted Semicolon Line ∷ ps) d h
 
 margin_tokens : (n : ℕ) (ps : List Piece) → tokens_of (margin n ps) ≡ tokens_of ps
@@ -90,14 +95,16 @@ choice_stands : (depth : ℕ) (e : Expression) (a b : Block) (ps : List Piece) (
 choice_stands depth e a Done ps d h first second = g.if_then (whole_stands Space e (block_pieces depth a (quoted CloseBrace Line ∷ ps)) d h) (first (quoted CloseBrace Line ∷ ps) (tokens_of ps) refl)
 choice_stands depth e a (Then s b) ps d h first second =
     let behind = block_pieces depth (Then s b) (quoted CloseBrace Line ∷ ps) in
-    g.if_else (whole_stands Space e (block_pieces depth a (else_pieces depth (Then s b) ps)) d h) (first (else_pieces depth (Then s b) ps) (token Else true ∷ tokens_of behind) refl) (second (quoted CloseBrace Line ∷ ps) (tokens_of ps) refl)
+    g.if_else (whole_stands Space e (block_pieces depth a (else_pieces depth (Then s b) ps)) d h)
+    (first (else_pieces depth (Then s b) ps) (token Else true ∷ tokens_of behind) refl) (second (quoted CloseBrace Line ∷ ps) (tokens_of ps) refl)
 
 mutual
   statement_stands : (depth : ℕ) (s : Statement) (ps : List Piece) (d : ℕ) → d + statement_open s ≤ 48 → IsStatement d (tokens_of (statement_pieces depth s ps)) s (tokens_of ps)
   statement_stands depth (Defines x e) ps d h = g.definition (value_stands e ps d h)
   statement_stands depth (Assigns x e) ps d h = g.assignment (value_stands e ps d h)
   statement_stands depth (Stores x i e) ps d h =
-      g.element_assignment (room d (expression_open i) (omega (arith, h))) (whole_stands Nothing i (quoted CloseSquare Space ∷ value_pieces e ps) (d + 1) (omega (arith, h))) (value_stands e ps d (omega (arith, h)))
+      g.element_assignment (room d (expression_open i) (omega (arith, h)))
+      (whole_stands Nothing i (quoted CloseSquare Space ∷ value_pieces e ps) (d + 1) (omega (arith, h))) (value_stands e ps d (omega (arith, h)))
   statement_stands depth (Chooses e a b) ps d h =
       choice_stands depth e a b ps d (omega (arith, h))
       (λ qs rest t. block_stands depth a qs rest d (omega (arith, h)) (statements_stand (deeper depth) a (margin depth qs) rest (d + 1) (margin_tokens depth qs ∙ t) (omega (arith, h))))
@@ -105,14 +112,17 @@ mutual
   statement_stands depth (Repeats n a) ps d h =
       let qs = quoted CloseBrace Line ∷ ps in
       g.repetition (block_stands depth a qs (tokens_of ps) d h (statements_stand (deeper depth) a (margin depth qs) (tokens_of ps) (d + 1) (margin_tokens depth qs) (inner d (block_open a) h)))
-  statement_stands depth (Sends x e) ps d h = g.sending (room d (expression_open e) h) (whole_stands Nothing e (quoted Close Nothing ∷ quoted Semicolon Line ∷ ps) (d + 1) (inner d (expression_open e) h))
+  statement_stands depth (Sends x e) ps d h = g.sending (room d (expression_open e) h)
+      (whole_stands Nothing e (quoted Close Nothing ∷ quoted Semicolon Line ∷ ps) (d + 1) (inner d (expression_open e) h))
   statement_stands depth (Emits e) ps d h = g.emission (value_stands e ps d h)
 
-  statements_stand : (depth : ℕ) (b : Block) (ps : List Piece) (rest : List Token) (d : ℕ) → tokens_of ps ≡ token CloseBrace true ∷ rest → d + block_open b ≤ 48 → AreStatements d (tokens_of (statements_pieces depth b ps)) b rest
+  statements_stand : (depth : ℕ) (b : Block) (ps : List Piece) (rest : List Token) (d : ℕ) → tokens_of ps ≡ token CloseBrace true ∷ rest → d + block_open b ≤ 48
+      → AreStatements d (tokens_of (statements_pieces depth b ps)) b rest
   statements_stand depth Done ps rest d t h = subst (λ ts. AreStatements d ts Done rest) (sym t) g.no_statement
   statements_stand depth (Then s b) ps rest d t h =
       let qs = statement_pieces depth s (statements_pieces depth b ps) in
-      let r : AreStatements d (tokens_of qs) (Then s b) rest = g.statement (statement_stands depth s (statements_pieces depth b ps) d (omega (arith, h))) (statements_stand depth b ps rest d t (omega (arith, h))) in
+      let r : AreStatements d (tokens_of qs) (Then s b) rest = g.statement (statement_stands depth s (statements_pieces depth b ps) d (omega (arith, h)))
+      (statements_stand depth b ps rest d t (omega (arith, h))) in
       subst (λ ts. AreStatements d ts (Then s b) rest) (sym (margin_tokens depth qs)) r
 
 declaration_stands : (d : Decl) (ps : List Piece) → IsDeclaration (tokens_of (declared_pieces d (quoted Semicolon Line ∷ ps))) d (tokens_of ps)
@@ -135,7 +145,8 @@ body_stands b ps h =
 handler_stands : (h : HandlerTree) (ps : List Piece) → 1 + block_open h.body ≤ 48 → IsHandler 0 (tokens_of (handler_pieces h ps)) h (tokens_of ps)
 handler_stands h ps l = go h.input
   where
-    go : (input : Option (List ℕ)) → IsHandler 0 (tokens_of (handler_pieces (record { input = input; param = h.param; body = h.body }) ps)) (record { input = input; param = h.param; body = h.body }) (tokens_of ps)
+    go : (input : Option (List ℕ)) → IsHandler 0 (tokens_of (handler_pieces (record { input = input; param = h.param; body = h.body }) ps))
+        (record { input = input; param = h.param; body = h.body }) (tokens_of ps)
     go None = g.on_sample (body_stands h.body ps l)
     go (Some x) = g.on_input (body_stands h.body ps l)
 

@@ -20,7 +20,9 @@ use Rattle.sx_sched.specs.Lines.{Line, Blank, Run, Finish, Put, Set, Take, Give,
 use Rattle.sx_sched.specs.Seen.{line_of}
 use Rattle.sx_sched.specs.InForm.{AreFewBytes, IsLine}
 use Rattle.sx_sched.specs.Laws.{SaidInForm}
-use Rattle.sx_sched.specs.Reading.{no_name, no_number, no_bytes, wrong_count, no_code, node_of, sensor_of, module_of, registers, register_in, register_of, at_least, number_in, number16, number32, decoded_bytes, bytes_of, code_in, code_of, one, two, three, four, code_line, Kind, kinds, said_by, is_comment, said_in, said_line, ◌>>=◌}
+use Rattle.sx_sched.specs.Reading.{no_name, no_number, no_bytes, wrong_count, no_code, node_of, sensor_of, module_of, registers, register_in, register_of}
+use Rattle.sx_sched.specs.Reading.{at_least, number_in, number16, number32, decoded_bytes, bytes_of, code_in, code_of, one, two, three, four, code_line, Kind}
+use Rattle.sx_sched.specs.Reading.{kinds, said_by, is_comment, said_in, said_line, ◌>>=◌}
 use Rattle.sx_sched.specs.Answers.{MayWant, TakesMemory, Answers}
 use Rattle.sx_sched.specs.Words.{words_of, text_behind, one_word, two_words, three_words, four_words, two_before}
 use Rattle.sx_lists.proofs.Truths.{and_true}

@@ -18,7 +18,31 @@ abbrev DigitFact : ℕ → Type 0
 DigitFact d = IsDigit (hex_digit d) d
 
 digit_fact : (d : ℕ) → d < 16 → DigitFact d
-digit_fact = each 16 DigitFact ((refl, refl, refl), ((refl, refl, refl), ((refl, refl, refl), ((refl, refl, refl), ((refl, refl, refl), ((refl, refl, refl), ((refl, refl, refl), ((refl, refl, refl), ((refl, refl, refl), ((refl, refl, refl), ((refl, refl, refl), ((refl, refl, refl), ((refl, refl, refl), ((refl, refl, refl), ((refl, refl, refl), ((refl, refl, refl), tt))))))))))))))))
+digit_fact = each 16 DigitFact (
+  (refl, refl, refl),
+  (
+    (refl, refl, refl),
+    (
+      (refl, refl, refl),
+      (
+        (refl, refl, refl),
+        (
+          (refl, refl, refl),
+          (
+            (refl, refl, refl),
+            (
+              (refl, refl, refl),
+              (
+                (refl, refl, refl),
+                ((refl, refl, refl), ((refl, refl, refl), ((refl, refl, refl), ((refl, refl, refl), ((refl, refl, refl), ((refl, refl, refl), ((refl, refl, refl), ((refl, refl, refl), tt)))))))),
+              ),
+            ),
+          ),
+        ),
+      ),
+    ),
+  ),
+)
 
 -- the digits of a place
 at_place : (n : ℕ) → IsDigit (hex_digit (n % 16)) (n % 16)

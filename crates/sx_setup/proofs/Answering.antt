@@ -40,13 +40,28 @@ keys_all set m site epochs tag sited (e ∷ es) w =
     ∙ ap (λ (a : Acted). record { world = a.world; items = item.Packet (length w.packets) (length p) ∷ a.items }) rest
     ∙ ap (λ k. record { world = with_keys set site v gs; items = item.Packet (length w.packets) k ∷ packet_items (length (w.packets ++ p ∷ [])) 38 (length es) }) (set_key_length set tag site g)
     ∙ ap (λ k. record { world = with_keys set site v gs; items = item.Packet (length w.packets) 38 ∷ packet_items k 38 (length es) }) count
-    ∙ ap (λ ps. record { world = record { nodes = w.nodes; packets = ps; deployer = w.deployer; ledger = v.ledger ++ map (set_key_entry set) gs; lines = w.lines; steps = w.steps }; items = packet_items (length w.packets) 38 (suc (length es)) }) (append_more w.packets p (map (set_key set site) gs))
-    ∙ ap (λ ls. record { world = record { nodes = w.nodes; packets = w.packets ++ p ∷ map (set_key set site) gs; deployer = w.deployer; ledger = ls; lines = w.lines; steps = w.steps }; items = packet_items (length w.packets) 38 (suc (length es)) }) (append_more w.ledger made (map (set_key_entry set) gs))
+    ∙ ap (λ ps. record {
+      world =
+          record { nodes = w.nodes; packets = ps; deployer = w.deployer; ledger = v.ledger ++ map (set_key_entry set) gs; lines = w.lines; steps = w.steps };
+      items = packet_items (length w.packets) 38 (suc (length es));
+    }) (append_more w.packets p (map (set_key set site) gs))
+    ∙ ap (λ ls. record {
+      world = record {
+        nodes = w.nodes;
+        packets = w.packets ++ p ∷ map (set_key set site) gs;
+        deployer = w.deployer;
+        ledger = ls;
+        lines = w.lines;
+        steps = w.steps;
+      };
+      items = packet_items (length w.packets) 38 (suc (length es));
+    }) (append_more w.ledger made (map (set_key_entry set) gs))
 
 pub answer_accepted : AnswerAccepted
 answer_accepted set w m k site ask answer sound sited got asked fresh right made =
     let d = after_acceptance set.app.links w.deployer m 0 None in
-    let first : (bytes_eq answer (expected set site 0 ask) && true) ≡ true = and_from (bytes_eq answer (expected set site 0 ask)) true ((bytes_eq-Decides answer (expected set site 0 ask)).1 right) refl in
+    let first : (bytes_eq answer (expected set site 0 ask) && true) ≡ true = and_from (bytes_eq answer (expected set site 0 ask)) true
+    ((bytes_eq-Decides answer (expected set site 0 ask)).1 right) refl in
     ap (λ o. after_answer set w m 0 o (slice_get w.packets k)) sited
     ∙ ap (after_answer set w m 0 (Some site)) got
     ∙ ap (λ o. after_verdict set w m site 0 answer (open_ask o)) asked

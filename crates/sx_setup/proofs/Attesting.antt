@@ -231,7 +231,8 @@ module _ (set : Setting) (w : World) (m : ℕ) (q : PartTree) (site : Site) (sec
             world = z.world;
             items = item.Ask m a ∷ item.Packet p 18 ∷ item.Vouch m a ∷ item.Done m 1 1 ∷ item.Packet (p + 1) 16 ∷ (z.items ++ []);
           }) answers_it
-          ∙ ap (λ is. record { world = v5; items = item.Ask m a ∷ item.Packet p 18 ∷ item.Vouch m a ∷ item.Done m 1 1 ∷ item.Packet (p + 1) 16 ∷ is }) (Rattle.std.proofs.lemmas.List.append-nil (item.Attested m 0 ∷ packet_items (p + 2) 38 (length (ends_of set.app m))));
+          ∙ ap (λ is. record { world = v5; items = item.Ask m a ∷ item.Packet p 18 ∷ item.Vouch m a ∷ item.Done m 1 1 ∷ item.Packet (p + 1) 16 ∷ is })
+          (Rattle.std.proofs.lemmas.List.append-nil (item.Attested m 0 ∷ packet_items (p + 2) 38 (length (ends_of set.app m))));
       each = asking_each;
       nodes = set_set w.nodes n s1 u;
       packets = append_more (w.packets ++ ask ∷ []) tag (map (set_key set site) gs) ∙ append_more w.packets ask (tag ∷ map (set_key set site) gs);

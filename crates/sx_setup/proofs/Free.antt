@@ -1,5 +1,6 @@
 -- Where bytes may be put, and what is put there.
-use Rattle.std.proofs.Common.{◌≡◌, ℕ, zero, suc, ◌+◌, ◌*◌, ◌<◌, ◌≤◌, inl, inr, ◌&&◌, ◌||◌, not, Bool, true, false, if◌then◌else◌, List, [], ◌∷◌, length, length-drop, take, drop, Some, None, refl, sym, ◌∙◌, ap, arith}
+use Rattle.std.proofs.Common.{◌≡◌, ℕ, zero, suc, ◌+◌, ◌*◌, ◌<◌, ◌≤◌, inl, inr, ◌&&◌, ◌||◌, not, Bool, true, false, if◌then◌else◌, List, [], ◌∷◌, length}
+use Rattle.std.proofs.Common.{length-drop, take, drop, Some, None, refl, sym, ◌∙◌, ap, arith}
 use Rattle.std.specs.Prelude.{All, nat_le, nat_lt, slice_get}
 use Rattle.std.specs.List.{list_all, list_any, position_from}
 use Rattle.std.proofs.lemmas.Bool.{and_from, and_parts, cases_Bool, eq-eqb, le-leb, le-ltb, leb-true, lt-leb, or_from, or_left}
@@ -69,7 +70,8 @@ open_free s lo hi a n o la ha =
     let d = no_place (places_of s.devices) lo hi a n o.devices la ha in
     let all : (passes_end a n || (meets_public s.sections.live a n || (meets_private s.sections.live a n || meets_device (places_of s.devices) a n))) ≡ false =
     or_from (passes_end a n) _ p (or_from (meets_public s.sections.live a n) _ q (or_from (meets_private s.sections.live a n) (meets_device (places_of s.devices) a n) r d)) in
-    ap (λ b. if not b then Some Busy else if passes_end a n || (meets_public s.sections.live a n || (meets_private s.sections.live a n || meets_device (places_of s.devices) a n)) then Some Guarded else None) (eq-eqb s.cur 0 o.idle)
+    ap (λ b. if not b then Some Busy else if passes_end a n || (meets_public s.sections.live a n
+    || (meets_private s.sections.live a n || meets_device (places_of s.devices) a n)) then Some Guarded else None) (eq-eqb s.cur 0 o.idle)
     ∙ ap (λ b. if b then Some Guarded else None) all
 
 low_places : (places : List ℕ) → All (λ at. 512 ≤ at) places → list_all (λ place. apart 0 512 place (place + 2)) places ≡ true
@@ -126,7 +128,8 @@ pieces_put n (suc k) at hi bytes w s there le lt up free =
     let t = with_mem s (put_bytes s.mem at first) in
     let v = with_node w n t w.ledger w.steps in
     let one : put_on n at first w ≡ record { world = v; items = [] } = one_put n at first w s there (free at (length first) (omega arith) (omega (arith, short, top))) in
-    let two = pieces_put n k (at + 1024) hi rest v t (get_same w.nodes n t s there) (omega (arith, le, few)) (omega (arith, lt, few)) (λ some. omega (arith, some, lt, few, top)) (λ a len from to. free a len (omega (arith, from)) to) in
+    let two = pieces_put n k (at + 1024) hi rest v t (get_same w.nodes n t s there) (omega (arith, le, few)) (omega (arith, lt, few))
+    (λ some. omega (arith, some, lt, few, top)) (λ a len from to. free a len (omega (arith, from)) to) in
     ap (λ (a : Acted). then_ a (put_pieces n k (at + 1024) rest)) one
     ∙ ap (λ (a : Acted). record { world = a.world; items = a.items }) two
     ∙ ap (λ u. record { world = u; items = [] }) (node_twice w n t (with_mem t (put_bytes t.mem (at + 1024) rest)) w.ledger w.ledger w.steps w.steps)

@@ -75,7 +75,8 @@ found_from (x ∷ before) es e k d =
 
 -- Packets that stand go on standing.
 
-keys_same : (set : Setting) (w v : World) (m : ℕ) (site : Site) (number : ℕ) (es : List End) → v.packets ≡ w.packets → v.ledger ≡ w.ledger → HaveKeys set w m site number es → HaveKeys set v m site number es
+keys_same : (set : Setting) (w v : World) (m : ℕ) (site : Site) (number : ℕ) (es : List End) → v.packets ≡ w.packets → v.ledger ≡ w.ledger
+    → HaveKeys set w m site number es → HaveKeys set v m site number es
 keys_same set w v m site number [] ps ls h = tt
 keys_same set w v m site number (e ∷ es) ps ls h = (
   ap (λ z. slice_get z number) ps ∙ h.0,
@@ -88,7 +89,18 @@ serves_self set m q site sec s st h = record { node = h.node; idle = h.idle; boo
 
 -- the same module in a state that is equal
 pub served_as : (set : Setting) (m : ℕ) (q : PartTree) (site : Site) (sec : Section) (s : State) (st new : ModuleState) → st ≡ new → IsServed set m q site sec s st → IsServed set m q site sec s new
-served_as set m q site sec s st new e h = record { part = h.part; sited = h.sited; node = h.node; idle = h.idle; boot = h.boot; stands = h.stands; key = h.key; windows = h.windows; low = h.low; state = h.state ∙ e }
+served_as set m q site sec s st new e h = record {
+  part = h.part;
+  sited = h.sited;
+  node = h.node;
+  idle = h.idle;
+  boot = h.boot;
+  stands = h.stands;
+  key = h.key;
+  windows = h.windows;
+  low = h.low;
+  state = h.state ∙ e;
+}
 
 abbrev state_with : List ℕ → List EndState → ModuleState
 state_with cells ends = record { cells = cells; ends = ends }
@@ -122,7 +134,8 @@ keys_taken set w m q site sec s cells number before (e ∷ es) sound there h end
     ∙ sym (append_more (map f before) (f e) (initial_ends es)) ∙ ap (λ z. z ++ initial_ends es) (sym (map_more f before (e ∷ []))) in
     let there2 : slice_get v.nodes site.node ≡ Some step.after = ap (λ z. slice_get z site.node) step.moves.nodes ∙ get_same w.nodes site.node step.after s there in
     let served2 : IsServed set m q site sec step.after (state_with cells (map f (before ++ e ∷ []) ++ initial_ends es)) =
-    served_as set m q site sec step.after (state_with cells (with_end st.ends (length before) (f e))) (state_with cells (map f (before ++ e ∷ []) ++ initial_ends es)) (ap (state_with cells) opened) step.served in
+    served_as set m q site sec step.after (state_with cells (with_end st.ends (length before) (f e)))
+    (state_with cells (map f (before ++ e ∷ []) ++ initial_ends es)) (ap (state_with cells) opened) step.served in
     let ends2 : ends_of set.app m ≡ (before ++ e ∷ []) ++ es = ends ∙ sym (append_more before e es) in
     let have2 = keys_same set w v m site (number + 1) es step.moves.packets step.moves.ledger have.2 in
     let rest = keys_taken set v m q site sec step.after cells (number + 1) (before ++ e ∷ []) es sound there2 served2 ends2 have2 in

@@ -1,5 +1,6 @@
 -- A deployed module is loaded.
-use Rattle.std.proofs.Common.{◌≡◌, ◌≢◌, ℕ, ◌+◌, ◌-◌, ◌*◌, ◌/◌, ◌<◌, ◌≤◌, ◌⊎◌, inl, inr, ◌==◌, ◌&&◌, ◌||◌, not, Bool, true, false, if◌then◌else◌, List, [], ◌∷◌, ◌++◌, length, replicate, Option, Some, None, refl, sym, ◌∙◌, ap, subst, arith}
+use Rattle.std.proofs.Common.{◌≡◌, ◌≢◌, ℕ, ◌+◌, ◌-◌, ◌*◌, ◌/◌, ◌<◌, ◌≤◌, ◌⊎◌, inl, inr, ◌==◌, ◌&&◌, ◌||◌, not, Bool, true, false, if◌then◌else◌, List, [], ◌∷◌}
+use Rattle.std.proofs.Common.{◌++◌, length, replicate, Option, Some, None, refl, sym, ◌∙◌, ap, subst, arith}
 use Rattle.std.specs.Prelude.{All, nat_le, nat_lt, option_and_then, slice_get, slice_index, slice_set}
 use Rattle.std.specs.List.{list_all, position_from}
 use Rattle.std.proofs.lemmas.Bool.{and_from, and_parts, cases_Bool, eq-eqb, leb-true, ltb-true, lt-leb}
@@ -236,7 +237,8 @@ module _ (set : Setting) (m : ℕ) (q : PartTree) (site : Site) (s : State) (sou
 
   attempt_is : attempt set.mac s ≡ out
   attempt_is =
-      ap (λ b. if b then Rattle.sx_machine.specs.Step.ordered set.mac s (device_at s.devices (pc_of s)) else Rattle.sx_machine.specs.Run.Violated Rattle.sx_rules.specs.declared.access.Violation.TheVariants.Fetch) lets_word
+      ap (λ b. if b then Rattle.sx_machine.specs.Step.ordered set.mac s (device_at s.devices (pc_of s)) else
+      Rattle.sx_machine.specs.Run.Violated Rattle.sx_rules.specs.declared.access.Violation.TheVariants.Fetch) lets_word
       ∙ ap (Rattle.sx_machine.specs.Step.ordered set.mac s) no_device_there
       ∙ ap (λ b. if b then instruction set.mac s else Rattle.sx_machine.specs.Run.Violated Rattle.sx_rules.specs.declared.access.Violation.TheVariants.Order) ordered_there
       ∙ instruction_is
@@ -271,7 +273,8 @@ module _ (set : Setting) (m : ℕ) (q : PartTree) (site : Site) (s : State) (sou
       ∙ ap (λ b. module_key set.mac (list_at set.keys site.node) b site.provider (identity site.text site.layout.pub_from site.layout.pub_to site.layout.priv_from site.layout.priv_to)) h.boot
 
   pub sections_after : t.sections ≡ admitted s.sections site.layout site.provider (key_of set site 0)
-  sections_after = ap (λ p. admitted s.sections site.layout p (Rattle.sx_machine.specs.Protect.key_for set.mac g s.mem site.layout)) provider ∙ ap (admitted s.sections site.layout site.provider) key_same
+  sections_after = ap (λ p. admitted s.sections site.layout p (Rattle.sx_machine.specs.Protect.key_for set.mac g s.mem site.layout)) provider
+      ∙ ap (admitted s.sections site.layout site.provider) key_same
 
   abbrev new : Section
   new = record { layout = site.layout; provider = site.provider; id = s.sections.next; key = key_of set site 0 }
@@ -309,7 +312,8 @@ module _ (set : Setting) (m : ℕ) (q : PartTree) (site : Site) (s : State) (sou
   pub zero_after : private_bytes site.layout t.mem ≡ replicate (site.layout.priv_to - site.layout.priv_from) 0
   zero_after =
       let event_is : (step set.mac s).shown.event ≡ event.Protected s.sections.next = ap (λ (z : Shown Seen). z.shown.event) step_there in
-      let found_there : section_of (step set.mac s).state.sections.live s.sections.next ≡ Some new = subst (λ (z : Shown Seen). section_of z.state.sections.live s.sections.next ≡ Some new) (sym step_there) found in
+      let found_there : section_of (step set.mac s).state.sections.live s.sections.next
+      ≡ Some new = subst (λ (z : Shown Seen). section_of z.state.sections.live s.sections.next ≡ Some new) (sym step_there) found in
       subst (λ (z : Shown Seen). private_bytes site.layout z.state.mem ≡ replicate (site.layout.priv_to - site.layout.priv_from) 0) step_there
       (fresh_sections set.mac s s.sections.next new h.node event_is found_there)
 
@@ -338,7 +342,8 @@ module _ (set : Setting) (m : ℕ) (q : PartTree) (site : Site) (s : State) (sou
       ap (λ (z : Shown Seen). let o = observed set site.node runner z.state z.shown w.ledger in record { world = with_node w site.node z.state o.ledger (w.steps + 1); items = o.items }) step_there
       ∙ ap (λ (o : Observed). record { world = with_node w site.node t o.ledger (w.steps + 1); items = o.items }) (seen runner w.ledger) in
       let quiet : (is_reset (step set.mac s).shown.event || false) ≡ false = ap (λ (z : Shown Seen). is_reset z.shown.event || false) step_there in
-      ap (at_node w (λ s. if is_reset (step set.mac s).shown.event || false then after_step set w site.node s else then_ (after_step set w site.node s) (steps_of set (λ s. false) [] site.node 0))) here
+      ap (at_node w (λ s. if is_reset (step set.mac s).shown.event || false then after_step set w site.node s else
+      then_ (after_step set w site.node s) (steps_of set (λ s. false) [] site.node 0))) here
       ∙ ap (λ b. if b then after_step set w site.node s else then_ (after_step set w site.node s) (steps_of set (λ s. false) [] site.node 0)) quiet
       ∙ ap (λ (a : Acted). then_ a (steps_of set (λ s. false) [] site.node 0)) act
 
@@ -398,7 +403,8 @@ module _ (set : Setting) (w : World) (m : ℕ) (q : PartTree) (site : Site) (s :
   clear1 x live = (and_parts (apart l.pub_from l.pub_to x.layout.pub_from x.layout.pub_to) _ (clear x live)).0
 
   rest1 : (x : Section) → Lives s.sections.live x
-      → (apart l.pub_from l.pub_to x.layout.priv_from x.layout.priv_to && (apart l.priv_from l.priv_to x.layout.pub_from x.layout.pub_to && apart l.priv_from l.priv_to x.layout.priv_from x.layout.priv_to)) ≡ true
+      → (apart l.pub_from l.pub_to x.layout.priv_from x.layout.priv_to
+      && (apart l.priv_from l.priv_to x.layout.pub_from x.layout.pub_to && apart l.priv_from l.priv_to x.layout.priv_from x.layout.priv_to)) ≡ true
   rest1 x live = (and_parts (apart l.pub_from l.pub_to x.layout.pub_from x.layout.pub_to) _ (clear x live)).1
 
   clear2 : (x : Section) → Lives s.sections.live x → apart l.pub_from l.pub_to x.layout.priv_from x.layout.priv_to ≡ true

@@ -108,7 +108,8 @@ module _ (set : Setting) (tag : IsTag set.mac) (site : Site) (g : Grant) where
       let k = Rattle.sx_run.specs.Deployer.key_of set site g.boot in
       let w = wrapped set.mac k h key in
       let head : AreBytes h = (omega arith, (omega arith, (lt, (le, (side_small g.«end».side, (omega arith, tt)))))) in
-      both_bytes h (w.cipher ++ w.tag) head (both_bytes w.cipher w.tag (cipher_bytes set.mac tag k h key (kdf_bytes set.mac tag set.secret (low_first 2 (g.«end».link + 256 * g.epoch)))) (tag_bytes set.mac tag k h key))
+      both_bytes h (w.cipher ++ w.tag) head (both_bytes w.cipher w.tag
+      (cipher_bytes set.mac tag k h key (kdf_bytes set.mac tag set.secret (low_first 2 (g.«end».link + 256 * g.epoch)))) (tag_bytes set.mac tag k h key))
 
 -- an ask
 low_bytes : (n v : ℕ) → AreBytes (low_first n v)

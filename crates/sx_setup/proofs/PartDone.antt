@@ -210,7 +210,8 @@ module _ (set : Setting) (w : World) (m : ℕ) (q : PartTree) (site : Site) (s :
   all_moves =
       moves_then set w (Load m ∷ []) (asking_lines m n p ++ key_lines m n (p + 2) (length es)) (item.Protect n (Some m) ∷ []) (asking_items m w.deployer.asks p (length es) ++ open_items m es)
       ((item.Protect n (Some m) ∷ []) ∷ []) (asking_shown m w.deployer.asks p (length es) ++ keys_shown m es) n t keys_now.after w.packets v2.packets w.deployer v2.deployer w.ledger v2.ledger loads
-      (moves_then set v (asking_lines m n p) (key_lines m n (p + 2) (length es)) (asking_items m w.deployer.asks p (length es)) (open_items m es) (asking_shown m w.deployer.asks p (length es)) (keys_shown m es) n u keys_now.after _ v2.packets _ v2.deployer _ v2.ledger
+      (moves_then set v (asking_lines m n p) (key_lines m n (p + 2) (length es)) (asking_items m w.deployer.asks p (length es)) (open_items m es)
+      (asking_shown m w.deployer.asks p (length es)) (keys_shown m es) n u keys_now.after _ v2.packets _ v2.deployer _ v2.ledger
       attested_now.moves keys_now.moves)
 
   node_same : n ≡ q.node

@@ -175,7 +175,8 @@ none_waits : (x : Waiting) (before after : List Waiting) → [] ≡ before ++ x 
 none_waits x [] after e = cc
 none_waits x (y ∷ before) after e = cc
 
-settles : (set : Setting) (w : World) → SoFar set (length set.app.parts) set.sites w → length w.packets ≡ 0 + parts_packets set.app 0 set.app.parts → IsSoundSetting set → Settled set w (course_start set.app)
+settles : (set : Setting) (w : World) → SoFar set (length set.app.parts) set.sites w → length w.packets ≡ 0 + parts_packets set.app 0 set.app.parts
+    → IsSoundSetting set → Settled set w (course_start set.app)
 settles set w far count sound = record {
   as_many = far.as_many;
   nodes = λ n s e.

@@ -1,5 +1,6 @@
 -- The sections of a node where modules were loaded one after the other, and that the next one is admitted.
-use Rattle.std.proofs.Common.{◌≡◌, ℕ, zero, suc, ◌+◌, ◌%◌, ◌<◌, ◌≤◌, inl, inr, ◌==◌, not, Bool, true, false, cond, if◌then◌else◌, List, [], ◌∷◌, ◌++◌, length, Option, Some, None, refl, sym, ◌∙◌, ap, subst, arith}
+use Rattle.std.proofs.Common.{◌≡◌, ℕ, zero, suc, ◌+◌, ◌%◌, ◌<◌, ◌≤◌, inl, inr, ◌==◌, not, Bool, true, false, cond, if◌then◌else◌, List, [], ◌∷◌, ◌++◌, length}
+use Rattle.std.proofs.Common.{Option, Some, None, refl, sym, ◌∙◌, ap, subst, arith}
 use Rattle.std.specs.Prelude.{All, count_by, nat_le, nat_lt, slice_get}
 use Rattle.std.specs.List.{list_all, position_from}
 use Rattle.std.proofs.lemmas.Bool.{and_from, cases_Bool, eq-eqb, eqb-true, le-leb, leb-false, lt-ltb, or_left, or_right, true_from_ne_false}
@@ -40,7 +41,9 @@ pub in_sections : (set : Setting) (n id : ℕ) (sites : List Site) (x : Section)
 in_sections set n id [] x l = absurd l
 in_sections set n id (site ∷ sites) x l = by (site.node == n) refl (in_sections set n (id + 1) sites x) (in_sections set n id sites x) l
   where
-    by : (b : Bool) → (site.node == n) ≡ b → (Lives (sections_of set n (id + 1) sites) x → FromSite n sites x) → (Lives (sections_of set n id sites) x → FromSite n sites x) → Lives (if b then section_at set id site ∷ sections_of set n (id + 1) sites else sections_of set n id sites) x → FromSite n (site ∷ sites) x
+    by : (b : Bool) → (site.node == n) ≡ b → (Lives (sections_of set n (id + 1) sites) x → FromSite n sites x)
+        → (Lives (sections_of set n id sites) x → FromSite n sites x)
+        → Lives (if b then section_at set id site ∷ sections_of set n (id + 1) sites else sections_of set n id sites) x → FromSite n (site ∷ sites) x
     by true e f h g = elim g [
       | inl same ↦ record { place = 0; site = site; there = refl; at = eqb-true site.node n e; layout = sym (ap (λ (z : Section). z.layout) same) }
       | inr r ↦ later_site n site sites x (f r)
@@ -59,7 +62,9 @@ section_there set n id (y ∷ sites) zero site e at =
     )
 section_there set n id (y ∷ sites) (suc i) site e at = by (y.node == n) (section_there set n (id + 1) sites i site e at) (section_there set n id sites i site e at)
   where
-    by : (b : Bool) → ((x : Section) × (Lives (sections_of set n (id + 1) sites) x) × (x.layout ≡ site.layout)) → ((x : Section) × (Lives (sections_of set n id sites) x) × (x.layout ≡ site.layout)) → (x : Section) × (Lives (if b then section_at set id y ∷ sections_of set n (id + 1) sites else sections_of set n id sites) x) × (x.layout ≡ site.layout)
+    by : (b : Bool) → ((x : Section) × (Lives (sections_of set n (id + 1) sites) x) × (x.layout ≡ site.layout))
+        → ((x : Section) × (Lives (sections_of set n id sites) x) × (x.layout ≡ site.layout)) → (x : Section)
+        × (Lives (if b then section_at set id y ∷ sections_of set n (id + 1) sites else sections_of set n id sites) x) × (x.layout ≡ site.layout)
     by true r o = (r.0, inr r.1, r.2)
     by false r o = o
 
@@ -139,7 +144,8 @@ low_windows n [] ats h = All-nil (λ (at : ℕ). 512 ≤ at)
 low_windows n (d ∷ ds) [] h = All-nil (λ (at : ℕ). 512 ≤ at)
 low_windows n (d ∷ ds) (at ∷ ats) h = by (d.node == n) (low_windows n ds ats (λ k x lt. h (suc k) x (omega (arith, lt))))
   where
-    by : (b : Bool) → All (λ at. 512 ≤ at) (places_of (powered_on (windows_at n ds ats))) → All (λ at. 512 ≤ at) (places_of (powered_on (if b then (at, kind_of d.kind) ∷ windows_at n ds ats else windows_at n ds ats)))
+    by : (b : Bool) → All (λ at. 512 ≤ at) (places_of (powered_on (windows_at n ds ats)))
+        → All (λ at. 512 ≤ at) (places_of (powered_on (if b then (at, kind_of d.kind) ∷ windows_at n ds ats else windows_at n ds ats)))
     by true r = All-cons (λ (at : ℕ). 512 ≤ at) at (places_of (powered_on (windows_at n ds ats))) (h 0 at (omega arith)) r
     by false r = r
 
@@ -188,7 +194,8 @@ no_word from to (w ∷ ws) i even evens h =
 step_on : (b : Bool) (r : Refusal) (rest : Option Refusal) → b ≡ true → rest ≡ None → (if not b then Some r else rest) ≡ None
 step_on b r rest e h = ap (λ (c : Bool). if not c then Some r else rest) e ∙ h
 
-pub admitted_next : (t : Sections) (l : Layout) (places : List ℕ) → good_bounds l ≡ true → no_overlap t.live l ≡ true → no_device places l ≡ true → length t.live < 8 → t.next ≤ 65535 → refusal t l places ≡ None
+pub admitted_next : (t : Sections) (l : Layout) (places : List ℕ) → good_bounds l ≡ true → no_overlap t.live l ≡ true → no_device places l ≡ true
+    → length t.live < 8 → t.next ≤ 65535 → refusal t l places ≡ None
 unfolding refusal
 admitted_next t l places bounds overlap device room ids =
     let full : is_full t ≡ false = Rattle.std.proofs.lemmas.Bool.lt-leb 8 (length t.live) room in

@@ -1,5 +1,6 @@
 -- The set-up, module by module: where a world stands after some of them, and that the next one is set up.
-use Rattle.std.proofs.Common.{◌≡◌, ◌≢◌, ℕ, zero, suc, ◌+◌, ◌%◌, ◌<◌, ◌≤◌, inl, inr, ◌==◌, ◌&&◌, Bool, true, false, List, [], ◌∷◌, ◌++◌, length, length-append, map, Option, Some, None, refl, sym, ◌∙◌, ap, subst, arith}
+use Rattle.std.proofs.Common.{◌≡◌, ◌≢◌, ℕ, zero, suc, ◌+◌, ◌%◌, ◌<◌, ◌≤◌, inl, inr, ◌==◌, ◌&&◌, Bool, true, false, List, [], ◌∷◌, ◌++◌, length, length-append}
+use Rattle.std.proofs.Common.{map, Option, Some, None, refl, sym, ◌∙◌, ap, subst, arith}
 use Rattle.std.specs.Prelude.{All, count_by, nat_lt, slice_get, slice_index, slice_set}
 use Rattle.std.specs.List.{list_all}
 use Rattle.std.proofs.lemmas.Bool.{and_from, and_parts, cases_eq, eqb-true, false_from_ne_true}
@@ -195,7 +196,8 @@ module _ (set : Setting) (sound : IsSoundSetting set) (room : HasRoom set) (befo
 
     room_there : length s.sections.live < 8
     room_there =
-        let a = fewer_sections set n 1 sb ss site before qs q len (λ i x y px sy. (sound.deployed i x y (ap (λ z. slice_get z i) parts ∙ px) (ap (λ z. slice_get z i) sites ∙ sy)).node) (sym dep.node) in
+        let a = fewer_sections set n 1 sb ss site before qs q len
+        (λ i x y px sy. (sound.deployed i x y (ap (λ z. slice_get z i) parts ∙ px) (ap (λ z. slice_get z i) sites ∙ sy)).node) (sym dep.node) in
         let b : count_by (λ (x : PartTree). x.node == n) (before ++ q ∷ qs) ≤ 8 =
         subst (λ z. count_by (λ (x : PartTree). x.node == n) z ≤ 8) parts (subst (λ j. count_by (λ (x : PartTree). x.node == j) set.app.parts ≤ 8) (sym dep.node) placed.few_beside) in
         let c = ap (λ (z : List Section). length z) live_is in
@@ -309,7 +311,8 @@ module _ (set : Setting) (sound : IsSoundSetting set) (room : HasRoom set) (befo
             let ss2 : site ≡ site2 = some_inj site site2 (sym site_at ∙ subst (λ i. slice_get set.sites i ≡ Some site2) same sj) in
             let yy : t ≡ y = here_is site2.node y e (ap (λ (x : Site). x.node) (sym ss2)) in
             subst (λ i. ModuleStands set i q2 site2 (first_state set i q2) y) (sym same)
-            (subst (λ a. ModuleStands set k a site2 (first_state set k a) y) qq (subst (λ b. ModuleStands set k q b (first_state set k q) y) ss2 (subst (λ c. ModuleStands set k q site (first_state set k q) c) yy z.stands)))
+            (subst (λ a. ModuleStands set k a site2 (first_state set k a) y) qq
+            (subst (λ b. ModuleStands set k q b (first_state set k q) y) ss2 (subst (λ c. ModuleStands set k q site (first_state set k q) c) yy z.stands)))
         | inr ne ↦
             let less : j < k = omega (arith, lt, ne) in
             elim (cases_eq site2.node n) [
@@ -342,7 +345,8 @@ module _ (set : Setting) (sound : IsSoundSetting set) (room : HasRoom set) (befo
           let gs = grants_of w.deployer.epochs k 0 (ends_of set.app k) in
           let f = Rattle.sx_run.specs.Deployer.set_key set site in
           let a = ap (λ (x : List (List ℕ)). length x) z.moves.packets in
-          let b = length-append w.packets (Rattle.sx_run.specs.Wire.ask_packet w.deployer.asks ∷ Rattle.sx_run.specs.Deployer.expected set site 0 (Rattle.sx_run.specs.Wire.ask_packet w.deployer.asks) ∷ map f gs) in
+          let b = length-append w.packets (Rattle.sx_run.specs.Wire.ask_packet w.deployer.asks ∷ Rattle.sx_run.specs.Deployer.expected set site 0
+          (Rattle.sx_run.specs.Wire.ask_packet w.deployer.asks) ∷ map f gs) in
           let c = map_size f gs in
           let d = grants_size w.deployer.epochs k 0 (ends_of set.app k) in
           omega (arith, a, b, c, d)

@@ -1,5 +1,6 @@
 -- Stretches of lines: the world after one line more, and the checkpoints of a longer timeline.
-use Rattle.std.proofs.Common.{◌≡◌, ◌∙◌, ℕ, zero, suc, ◌+◌, ◌-◌, ◌*◌, ◌/◌, ◌<◌, ◌≤◌, List, [], ◌∷◌, ◌++◌, length, map, take, get_or, div-mul-le_self, length-append, refl, sym, ap, subst, arith, false, Option, Some}
+use Rattle.std.proofs.Common.{◌≡◌, ◌∙◌, ℕ, zero, suc, ◌+◌, ◌-◌, ◌*◌, ◌/◌, ◌<◌, ◌≤◌, List, [], ◌∷◌, ◌++◌, length, map, take, get_or, div-mul-le_self}
+use Rattle.std.proofs.Common.{length-append, refl, sym, ap, subst, arith, false, Option, Some}
 use Rattle.std.specs.Prelude.{option_map, slice_get}
 use Rattle.std.proofs.lemmas.Nat.{div_below}
 use Rattle.std.proofs.lemmas.Option.{slice_get-map, slice_get_read}

@@ -1,5 +1,6 @@
 -- What holds where no entry breaks a line, and where every entry was made.
-use Rattle.std.proofs.Common.{◌≡◌, ℕ, ◌+◌, ◌<◌, ◌≤◌, Bool, true, false, ◌||◌, suc, zero, List, [], ◌∷◌, ◌++◌, length, get_or, Option, Some, None, option_map, Result, Ok, Err, refl, ◌⊎◌, subst, arith, append_assoc, length-append, inl, inr}
+use Rattle.std.proofs.Common.{◌≡◌, ℕ, ◌+◌, ◌<◌, ◌≤◌, Bool, true, false, ◌||◌, suc, zero, List, [], ◌∷◌, ◌++◌, length, get_or, Option, Some, None, option_map}
+use Rattle.std.proofs.Common.{Result, Ok, Err, refl, ◌⊎◌, subst, arith, append_assoc, length-append, inl, inr}
 use Rattle.std.specs.List.{AllPairs, list_any}
 use Rattle.std.proofs.lemmas.Bool.{cases_Bool}
 use Rattle.std.proofs.lemmas.List.{append-nil}
@@ -32,7 +33,8 @@ pairs-snoc R xs x old new i j d lt h =
     cases_at : (j n : ℕ) → j ≤ n → (j < n) ⊎ (j ≡ n)
     cases_at j n h = grind arith
 
-module _ {A : Type 0} (R : A → A → Type 0) (bad : List A → A → Bool) (keeps : (earlier : List A) (x : A) → bad earlier x ≡ false → (i : ℕ) (d : A) → i < length earlier → R (get_or earlier i d) x) where
+module _ {A : Type 0} (R : A → A → Type 0) (bad : List A → A → Bool) (keeps : (earlier : List A) (x : A) → bad earlier x ≡ false → (i : ℕ) (d : A)
+    → i < length earlier → R (get_or earlier i d) x) where
   pub pairs-tested : (earlier xs : List A) → AllPairs R earlier → first_bad bad earlier xs ≡ None → AllPairs R (earlier ++ xs)
   pairs-tested earlier [] old h = rw (append-nil earlier) old
   pairs-tested earlier (x ∷ xs) old h =

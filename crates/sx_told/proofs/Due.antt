@@ -20,7 +20,8 @@ Whole limit begun bytes =
     ⊎ ((ls : List (List ℕ)) × ((e : Ending) (more : List ℕ) → scan limit e begun (bytes ++ more) ≡ lines_then ls (Long ∷ [])))
 
 scan-step : (limit : Limit) (e : Ending) (begun : List ℕ) (b : ℕ) (more : List ℕ) (p q : Bool) → (b == newline) ≡ p → (length begun == limit []) ≡ q
-    → scan limit e begun (b ∷ more) ≡ (if p then Line (without_return begun) ∷ scan (behind_line (without_return begun) limit) e [] more else if q then Long ∷ [] else scan limit e (begun ++ b ∷ []) more)
+    → scan limit e begun (b ∷ more) ≡ (if p then Line (without_return begun) ∷ scan (behind_line (without_return begun) limit) e [] more else
+    if q then Long ∷ [] else scan limit e (begun ++ b ∷ []) more)
 scan-step limit e begun b more p q x y = rw (x, y) refl
 
 whole-line : (limit : Limit) (begun bytes : List ℕ) (b : ℕ) (q : Bool) → (b == newline) ≡ true → (length begun == limit []) ≡ q → Whole (behind_line (without_return begun) limit) [] bytes
@@ -51,7 +52,8 @@ whole limit begun [] h = absurd h
 whole limit begun (b ∷ []) h =
     whole-line limit begun [] b (length begun == limit []) (is-newline b h) refl (inl ([], behind_line (without_return begun) limit, λ e more. refl))
 whole limit begun (b ∷ c ∷ rest) h =
-    whole-by limit begun (c ∷ rest) b (b == newline) (length begun == limit []) refl refl (whole (behind_line (without_return begun) limit) [] (c ∷ rest) h) (whole limit (begun ++ b ∷ []) (c ∷ rest) h)
+    whole-by limit begun (c ∷ rest) b (b == newline) (length begun == limit []) refl refl (whole (behind_line (without_return begun) limit) [] (c ∷ rest) h)
+    (whole limit (begun ++ b ∷ []) (c ∷ rest) h)
 
 -- ---- what is written of them
 
@@ -82,7 +84,8 @@ text-of : (o : Output) (said : List ℕ) → o ≡ behind said unread_output →
 text-of o said e = ap (λ (p : Output). p.text) e
 
 -- this is due of the lines, and that of more
-pub due-more : (G : List Answer → Output) (said said' : List ℕ) (more : List Answer) → Due G → G (Fault ∷ []) ≡ behind said unread_output → G more ≡ behind said' unread_output → (w : List ℕ) × (said' ≡ said ++ w)
+pub due-more : (G : List Answer → Output) (said said' : List ℕ) (more : List Answer) → Due G → G (Fault ∷ []) ≡ behind said unread_output
+    → G more ≡ behind said' unread_output → (w : List ℕ) × (said' ≡ said ++ w)
 due-more G said said' more (inl (o, n, c)) a b = absurd (n (status-of o said (sym (c (Fault ∷ [])) ∙ a)))
 due-more G said said' more (inr (t, g, c, u, l, f)) a b =
     let one : t ++ read_line ≡ said ++ read_line = ap (λ (o : Output). t ++ o.text) (sym u) ∙ text-of (behind t (g (Fault ∷ []))) said (sym (c (Fault ∷ [])) ∙ a) in
@@ -116,6 +119,7 @@ streams-within {tells} {to_tell} {m0} {m1} {status} {also} limit F due told byte
     (told.wrote k ∙ ap (λ (v : List ℕ). m0.sink.written ++ v) (ap (λ (v : List ℕ). v ++ told.part) w.1 ∙ append_assoc said w.0 told.part)))
 
 -- the same where all lines have one limit
-pub streams-by : {tells to_tell : Bool} {m0 m1 : CommandAt} {status : ℕ} {also : List Answer → Type 0} (n : ℕ) (F : List Answer → Output) → ((ls : List (List ℕ)) → Due (λ more. F (lines_then ls more)))
+pub streams-by : {tells to_tell : Bool} {m0 m1 : CommandAt} {status : ℕ} {also : List Answer → Type 0} (n : ℕ) (F : List Answer → Output)
+    → ((ls : List (List ℕ)) → Due (λ more. F (lines_then ls more)))
     → Told tells to_tell (always n) m0 m1 status F also → Streams tells to_tell (always n) m0 m1 F
 streams-by n F due told = streams-within (always n) F due told

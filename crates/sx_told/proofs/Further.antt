@@ -57,7 +57,8 @@ le-or : (a b : ℕ) → (a ≤ b) ⊎ (b < a)
 le-or a b = grind arith
 
 -- where more is due of these lines than was written, at most 4,096 bytes were taken past them
-pub reach-short : {A : Type 0} {tells : Bool} {limit : Limit} {s0 s1 : SourceAt} {F : List Answer → A} {owed : A} (taken mark x : List ℕ) → Reach tells limit s0 s1 taken F owed → taken ≡ mark ++ x → HasEnd mark
+pub reach-short : {A : Type 0} {tells : Bool} {limit : Limit} {s0 s1 : SourceAt} {F : List Answer → A} {owed : A} (taken mark x : List ℕ)
+    → Reach tells limit s0 s1 taken F owed → taken ≡ mark ++ x → HasEnd mark
     → ((y : List ℕ) → F (scan limit Broken [] (mark ++ y)) ≡ owed → ⊥) → length x ≤ longest
 reach-short {A} {tells} {limit} {s0} {s1} {F} {owed} taken mark x r e h more =
     elim (le-or (length mark) (length r.before)) [

@@ -1,5 +1,6 @@
 -- An index after one more name.
-use Rattle.std.proofs.Common.{◌≡◌, ℕ, ◌+◌, ◌<◌, ◌≤◌, Bool, true, false, not, cond, nat_lt, List, [], ◌∷◌, ◌++◌, length, Option, Some, None, is_some, IfSome, refl, sym, ap, subst, ◌∙◌, arith, map, length-append}
+use Rattle.std.proofs.Common.{◌≡◌, ℕ, ◌+◌, ◌<◌, ◌≤◌, Bool, true, false, not, cond, nat_lt, List, [], ◌∷◌, ◌++◌, length, Option, Some, None, is_some, IfSome}
+use Rattle.std.proofs.Common.{refl, sym, ap, subst, ◌∙◌, arith, map, length-append}
 use Rattle.std.specs.List.{position, position_or_len}
 use Rattle.std.specs.Str.{bytes_eq}
 use Rattle.std.proofs.Math.Dec.{eqb}
@@ -18,7 +19,8 @@ use Rattle.sx_trace.specs.declared.index.NameIndex.{NameIndex}
 there : (n l i k : ℕ) → cond (nat_lt n l) (Some n) None ≡ Some i → cond (nat_lt (cond (eqb n l) (l + k) n) (l + 1)) (Some (cond (eqb n l) (l + k) n)) None ≡ Some i
 there n l i k h = grind (arith, nat_tests)
 
-behind : (n l : ℕ) (b : Bool) → n ≤ l → cond (nat_lt n l) (Some n) None ≡ None → cond (nat_lt (cond (eqb n l) (l + cond b 0 1) n) (l + 1)) (Some (cond (eqb n l) (l + cond b 0 1) n)) None ≡ cond b (Some l) None
+behind : (n l : ℕ) (b : Bool) → n ≤ l → cond (nat_lt n l) (Some n) None ≡ None
+    → cond (nat_lt (cond (eqb n l) (l + cond b 0 1) n) (l + 1)) (Some (cond (eqb n l) (l + cond b 0 1) n)) None ≡ cond b (Some l) None
 behind n l true le h = grind (arith, nat_tests)
 behind n l false le h = grind (arith, nat_tests)
 
@@ -65,7 +67,8 @@ pub is-new-to : (index : NameIndex) (name : List ℕ) (o : Option ℕ) → ((nam
 is-new-to index name o says h = λ names is. sym (says names is) ∙ none_of o h
 
 -- the old index takes in a name that it has
-pub grows-again : (old : NameIndex) (name : List ℕ) (place : ℕ) (o : Option ℕ) → ((names : List (List ℕ)) → IsNameIndex old names → o ≡ place_of names name) → is_some o ≡ true → GrowsIndex old old name place
+pub grows-again : (old : NameIndex) (name : List ℕ) (place : ℕ) (o : Option ℕ) → ((names : List (List ℕ)) → IsNameIndex old names → o ≡ place_of names name)
+    → is_some o ≡ true → GrowsIndex old old name place
 grows-again old name place None says h = absurd (cc)
 grows-again old name place (Some at) says h = λ names len is. index-again old names name at is (sym (says names is))
 
@@ -99,7 +102,8 @@ module _ (old new : NameIndex) (name : List ℕ) (place : ℕ) (some : 0 < lengt
   grows-new o says h = λ names len is. index-new names len is (sym (says names is) ∙ none_of o h)
 
 -- what an index gives is the place in each list that its own is
-pub place_is : (index : NameIndex) (names list : List (List ℕ)) (text : List ℕ) (o : Option ℕ) → names ≡ list → IsNameIndex index names → ((n : List (List ℕ)) → IsNameIndex index n → o ≡ place_of n text) → o ≡ place_of list text
+pub place_is : (index : NameIndex) (names list : List (List ℕ)) (text : List ℕ) (o : Option ℕ) → names ≡ list → IsNameIndex index names
+    → ((n : List (List ℕ)) → IsNameIndex index n → o ≡ place_of n text) → o ≡ place_of list text
 place_is index names list text o e h says = says names h ∙ ap (λ n. place_of n text) e
 
 -- a place of a short list is small

@@ -25,7 +25,8 @@ few_devices n h = let few : length n.devices ≤ 32 = short 32 n.devices (right_
 
 pub few_modules : (n : NameLists) → IsTrue (are_valid n) → length n.modules ≤ 64
 unfolding are_valid
-few_modules n h = let few : length n.modules ≤ 32 = short 32 n.modules (left_true _ _ (left_true (are_names 32 n.modules && are_names 64 n.links) _ (right_true (are_names 16 n.nodes && are_names 32 n.devices) _ h))) in omega arith
+few_modules n h = let few : length n.modules ≤ 32 = short 32 n.modules (left_true _ _
+    (left_true (are_names 32 n.modules && are_names 64 n.links) _ (right_true (are_names 16 n.nodes && are_names 32 n.devices) _ h))) in omega arith
 
 pub few_links : (n : NameLists) → IsTrue (are_valid n) → length n.links ≤ 64
 unfolding are_valid

@@ -76,7 +76,8 @@ first_end set e =
     record { is_open = true; field = e.link; number = 0; key = connection_key set e.link 0 }
 
 -- a module took a set-key packet
-pub record TakesKey (set : Setting) (w : World) (m : ℕ) (q : PartTree) (site : Site) (sec : Section) (s : State) (st : ModuleState) (lines : List Line) (items : List Item) (shown : List (List Item)) : Type 0 where
+pub record TakesKey (set : Setting) (w : World) (m : ℕ) (q : PartTree) (site : Site) (sec : Section) (s : State) (st : ModuleState) (lines : List Line)
+    (items : List Item) (shown : List (List Item)) : Type 0 where
   pub after : State
   pub serves : Serves sec s after
   pub served : IsServed set m q site sec after st

@@ -25,7 +25,8 @@ use Rattle.sx_setup.proofs.forms.Acting.{first_end, first_grant}
 
 -- lines were acted for a module, which then stands in this state; what they showed, and the packets,
 -- the deployer's record and the ledger after them
-pub record DoesFor (set : Setting) (w : World) (m : ℕ) (q : PartTree) (site : Site) (sec : Section) (s : State) (st : ModuleState) (lines : List Line) (items : List Item) (shown : List (List Item)) (ps : List (List ℕ)) (d : DeployerState) (made : List Made) : Type 0 where
+pub record DoesFor (set : Setting) (w : World) (m : ℕ) (q : PartTree) (site : Site) (sec : Section) (s : State) (st : ModuleState) (lines : List Line)
+    (items : List Item) (shown : List (List Item)) (ps : List (List ℕ)) (d : DeployerState) (made : List Made) : Type 0 where
   pub after : State
   pub serves : Serves sec s after
   pub served : IsServed set m q site sec after st

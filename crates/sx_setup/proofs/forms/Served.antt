@@ -59,7 +59,8 @@ pub record IsServed (set : Setting) (m : ℕ) (q : PartTree) (site : Site) (sec 
 
 -- lines show these items, and line by line these; after them the n-th node is in this state, and
 -- these are the packets, the deployer's record and the ledger
-pub record Moves (set : Setting) (w : World) (lines : List Line) (items : List Item) (shown : List (List Item)) (n : ℕ) (t : State) (ps : List (List ℕ)) (d : DeployerState) (made : List Made) : Type 0 where
+pub record Moves (set : Setting) (w : World) (lines : List Line) (items : List Item) (shown : List (List Item)) (n : ℕ) (t : State) (ps : List (List ℕ))
+    (d : DeployerState) (made : List Made) : Type 0 where
   pub world : World
   pub is : run set w lines ≡ record { world = world; items = items }
   pub each : shown_by set w lines ≡ shown

@@ -7,10 +7,20 @@ use Rattle.sx_check.proofs.bounds.+counts.Goals as goal
 use Rattle.sx_lang.proofs.Rows.{if_seen, repeat_seen}
 
 pub miscounts_in_statement-returns-then-miscounts_in_block : goal.miscounts_in_statement-returns-then-miscounts_in_block
-miscounts_in_statement-returns-then-miscounts_in_block t c = grind (arith, common_steps, list_any-append, ap (λ s. list_any is_miscounted (statement_counts s)) (if_seen _ c.in-If.field-0 c.in-If.then c.in-If.otherwise c.in-If.is))
+miscounts_in_statement-returns-then-miscounts_in_block t c = grind (
+  arith,
+  common_steps,
+  list_any-append,
+  ap (λ s. list_any is_miscounted (statement_counts s)) (if_seen _ c.in-If.field-0 c.in-If.then c.in-If.otherwise c.in-If.is),
+)
 
 pub miscounts_in_statement-returns-else-miscounts_in_block : goal.miscounts_in_statement-returns-else-miscounts_in_block
-miscounts_in_statement-returns-else-miscounts_in_block t c = grind (arith, common_steps, list_any-append, ap (λ s. list_any is_miscounted (statement_counts s)) (if_seen _ c.in-If.field-0 c.in-If.then c.in-If.otherwise c.in-If.is))
+miscounts_in_statement-returns-else-miscounts_in_block t c = grind (
+  arith,
+  common_steps,
+  list_any-append,
+  ap (λ s. list_any is_miscounted (statement_counts s)) (if_seen _ c.in-If.field-0 c.in-If.then c.in-If.otherwise c.in-If.is),
+)
 
 pub miscounts_in_statement-returns-else-is_no_count : goal.miscounts_in_statement-returns-else-is_no_count
 miscounts_in_statement-returns-else-is_no_count t c = grind (arith, common_steps, ap (λ s. list_any is_miscounted (statement_counts s)) (repeat_seen _ c.in-Repeat.n c.in-Repeat.body c.in-Repeat.is))

@@ -9,13 +9,32 @@ use Rattle.sx_check.proofs.uses.+uses.Goals as goal
 use Rattle.sx_lang.proofs.Rows.{if_seen, repeat_seen}
 
 pub in_statement-returns-then-in_block : goal.in_statement-returns-then-in_block
-in_statement-returns-then-in_block t c = grind (arith, common_steps, list_any-append, ap (λ s. list_any (is_flawed c.args.flaw c.args.decls.now) (statement_uses (seen_in c.args.scope.now) s)) (if_seen _ c.in-If.e c.in-If.then c.in-If.otherwise c.in-If.is))
+in_statement-returns-then-in_block t c = grind (
+  arith,
+  common_steps,
+  list_any-append,
+  ap (λ s. list_any (is_flawed c.args.flaw c.args.decls.now) (statement_uses (seen_in c.args.scope.now) s))
+      (if_seen _ c.in-If.e c.in-If.then c.in-If.otherwise c.in-If.is),
+)
 
 pub in_statement-returns-else-in_block : goal.in_statement-returns-else-in_block
-in_statement-returns-else-in_block t c = grind (arith, common_steps, list_any-append, ap (λ s. list_any (is_flawed c.args.flaw c.args.decls.now) (statement_uses (seen_in c.args.scope.now) s)) (if_seen _ c.in-If.e c.in-If.then c.in-If.otherwise c.in-If.is))
+in_statement-returns-else-in_block t c = grind (
+  arith,
+  common_steps,
+  list_any-append,
+  ap (λ s. list_any (is_flawed c.args.flaw c.args.decls.now) (statement_uses (seen_in c.args.scope.now) s))
+      (if_seen _ c.in-If.e c.in-If.then c.in-If.otherwise c.in-If.is),
+)
 
 pub in_statement-returns-in-Repeat : goal.in_statement-returns-in-Repeat
-in_statement-returns-in-Repeat t c = grind (arith, common_steps, ap (λ s. list_any (is_flawed c.args.flaw c.args.decls.now) (statement_uses (seen_in c.args.scope.now) s)) (repeat_seen _ c.in-Repeat.field-0 c.in-Repeat.body c.in-Repeat.is))
+in_statement-returns-in-Repeat t c = grind (
+  arith,
+  common_steps,
+  ap (λ s. list_any (is_flawed c.args.flaw c.args.decls.now) (statement_uses (seen_in c.args.scope.now) s))
+      (repeat_seen _ c.in-Repeat.field-0 c.in-Repeat.body c.in-Repeat.is),
+)
 
 pub in_block-loop-i-preserved : goal.in_block-loop-i-preserved
-in_block-loop-i-preserved t c = loop_further _ (seen_in c.args.scope.now) c.args.block.now.items _ _ _ c.loop-i.i c.s-item.result _ _ c.deref-s-items.ensures.value c.deref.ensures.value c.loop-i-test.true c.s-item.is c.split_at.ensures.front c.in_statement.ensures c.if-in_statement.false c.loop-i.invariant
+in_block-loop-i-preserved t c =
+    loop_further _ (seen_in c.args.scope.now) c.args.block.now.items _ _ _ c.loop-i.i c.s-item.result _ _ c.deref-s-items.ensures.value c.deref.ensures.value
+    c.loop-i-test.true c.s-item.is c.split_at.ensures.front c.in_statement.ensures c.if-in_statement.false c.loop-i.invariant

@@ -14,7 +14,8 @@ tell-requires-clause-named g c =
     let going = c.requires.going in
     let P : List Told → Type 0 = λ xs. AreNamed d.names (map said_of xs) in
     subst P (sym c.deref.ensures.value)
-    (does_named mac d c.reading-drove.result c.args.honest.now c.reading-drove.new.self c.args.said.now.items c.reading-drove.new.said.items (reading c.args.device c.args.value) c.reading-drove.ensures.does going
+    (does_named mac d c.reading-drove.result c.args.honest.now c.reading-drove.new.self c.args.said.now.items c.reading-drove.new.said.items
+    (reading c.args.device c.args.value) c.reading-drove.ensures.does going
     c.requires.none (reading_named mac d c.args.honest.now going.set going.honest c.args.device c.args.value c.requires.sound c.requires.driven c.requires.value going.follows))
 
 pub returns-clause-plays : goal.returns-clause-plays
@@ -25,7 +26,8 @@ returns-clause-plays g c = λ set h f.
     let P : List Told → Type 0 = λ xs. SaysAll (map said_of xs) c.reading-drove.result (reading c.args.device c.args.value set h) in (
       c.tell.ensures.tells (reading c.args.device c.args.value set h)
           (subst P (sym c.deref.ensures.value)
-          (does_say mac d c.reading-drove.result c.args.honest.now c.reading-drove.new.self c.args.said.now.items c.reading-drove.new.said.items (reading c.args.device c.args.value) e.does e.drove c.requires.none set h f)),
+          (does_say mac d c.reading-drove.result c.args.honest.now c.reading-drove.new.self c.args.said.now.items c.reading-drove.new.said.items
+          (reading c.args.device c.args.value) e.does e.drove c.requires.none set h f)),
       λ on.
           done_follows mac d c.reading-drove.result c.args.honest.now c.reading-drove.new.self c.args.said.now.items c.reading-drove.new.said.items (reading c.args.device c.args.value) e.does e.drove
           (c.tell.ensures.on on) set h f,

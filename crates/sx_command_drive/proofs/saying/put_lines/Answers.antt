@@ -22,14 +22,18 @@ add_said-requires-clause-named g c =
 
 pub loop-one-preserved : goal.loop-one-preserved
 loop-one-preserved g c =
-    record { writes = line_added c.args.names.now c.args.said.now c.loop-one.one-index c.loop-one.batch.items c.one-item.result c.loop-one-test.true c.one-item.is c.loop-one.invariant.writes c.in_ok-add_said.ensures }
+    record {
+      writes = line_added c.args.names.now c.args.said.now c.loop-one.one-index c.loop-one.batch.items c.one-item.result c.loop-one-test.true c.one-item.is
+          c.loop-one.invariant.writes c.in_ok-add_said.ensures;
+    }
 
 pub returns-in_err-add_said : goal.returns-in_err-add_said
 returns-in_err-add_said g c =
     let due = told_text c.args.names.now c.args.said.now in
     let R : Result (Unit {0}) Failed → Type 0 = λ r. Writes g.K.Sink.tells (g.K.Sink.at c.args.output.now) (g.K.Sink.at c.add_said.new.output) due [] r in
     let same : Err c.in_err-add_said.field-0.0 ≡ c.from_residual.result = search rules in
-    subst R same (line_failed c.args.names.now c.args.said.now c.loop-one.one-index c.loop-one.batch.items c.one-item.result c.loop-one-test.true c.one-item.is c.loop-one.invariant.writes c.in_err-add_said.ensures)
+    subst R same (line_failed c.args.names.now c.args.said.now c.loop-one.one-index c.loop-one.batch.items c.one-item.result c.loop-one-test.true c.one-item.is
+    c.loop-one.invariant.writes c.in_err-add_said.ensures)
 
 pub returns : goal.returns
 returns g c =

@@ -15,7 +15,8 @@ invariant-lines g l =
     let d = deployed_as l.plan in record {
       few : l.number ≤ 33;
       begun : (means : Meanings) → AreMeanings means → (limit : Limit) (m0 : CommandAt) (defined : List Answer → Output) (aside : List Answer → List ℕ) (noted : List ℕ)
-          → Begun g.S.Source.tells g.K.Sink.tells limit image_lines m0 (command_at (g.S.Source.at l.fn.input) (g.K.Sink.at l.fn.output)) l.fn.lines defined (explain_deployed means d) (Notes aside noted)
+          → Begun g.S.Source.tells g.K.Sink.tells limit image_lines m0 (command_at (g.S.Source.at l.fn.input) (g.K.Sink.at l.fn.output)) l.fn.lines defined
+          (explain_deployed means d) (Notes aside noted)
           → Begun g.S.Source.tells g.K.Sink.tells limit image_lines m0 (command_at (g.S.Source.at l.input) (g.K.Sink.at l.output)) l.lines defined
           (start_from d.app (means.item d.names) l.number) (Notes aside noted);
     }

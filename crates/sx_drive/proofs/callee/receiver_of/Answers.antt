@@ -7,7 +7,8 @@ use Rattle.sx_drive.proofs.callee.receiver_of.Goals as goal
 
 pub returns-in-Some-clause-found : goal.returns-in-Some-clause-found
 returns-in-Some-clause-found c =
-    packet_there (deployed_as c.args.deployment.now).app c.args.packet.now c.in-Some.link.now (option_map callee_of c.target_of.result) (lent_there c.args.packet.now c.args.packet.now 2 2 c.in-Some.link.now refl refl c.in-Some.ensures.lookup.3.0 c.in-Some.ensures.lookup.1) c.target_of.ensures.found
+    packet_there (deployed_as c.args.deployment.now).app c.args.packet.now c.in-Some.link.now (option_map callee_of c.target_of.result) (lent_there
+    c.args.packet.now c.args.packet.now 2 2 c.in-Some.link.now refl refl c.in-Some.ensures.lookup.3.0 c.in-Some.ensures.lookup.1) c.target_of.ensures.found
 
 pub returns-in-None-clause-found : goal.returns-in-None-clause-found
 returns-in-None-clause-found c =

@@ -7,7 +7,8 @@ use Rattle.sx_lang.proofs.words.+words.Goals as goal
 
 pub of_statement-returns-in-If : goal.of_statement-returns-in-If
 of_statement-returns-in-If t c =
-    let made : HasWords (Chooses (expression_of c.in-If.e) (block_of c.in-If.then.items) (block_of c.in-If.otherwise.items)) = (c.of_expression-in-If.ensures, c.of_block.ensures, c.of_block-in-If.ensures) in
+    let made : HasWords (Chooses (expression_of c.in-If.e) (block_of c.in-If.then.items) (block_of c.in-If.otherwise.items)) =
+    (c.of_expression-in-If.ensures, c.of_block.ensures, c.of_block-in-If.ensures) in
     subst HasWords (sym (ap statement_of c.in-If.is ∙ if_is c.in-If.e c.in-If.then c.in-If.otherwise)) made
 
 pub of_statement-returns-in-Repeat : goal.of_statement-returns-in-Repeat

@@ -20,10 +20,12 @@ put_statement-returns-in-Element t c =
     seen_written _ (Stores c.in-Element.x (expression_of c.in-Element.index) (expression_of c.in-Element.e)) _ c.args.depth _ _ (grind (arith, common_steps)) (c.put_element.ensures c.args.depth)
 
 pub put_statement-returns-in_ok-put_block-in-If : goal.put_statement-returns-in_ok-put_block-in-If
-put_statement-returns-in_ok-put_block-in-If t c = chosen_written _ c.args.depth _ _ (if_seen _ c.in-If.e c.in-If.then c.in-If.otherwise c.in-If.is) c.in_ok-put-in-If.ensures c.in_ok-put_expression-in-If.ensures c.in_ok-put_block-in-If.ensures c.put_else.ensures
+put_statement-returns-in_ok-put_block-in-If t c = chosen_written _ c.args.depth _ _ (if_seen _ c.in-If.e c.in-If.then c.in-If.otherwise c.in-If.is)
+    c.in_ok-put-in-If.ensures c.in_ok-put_expression-in-If.ensures c.in_ok-put_block-in-If.ensures c.put_else.ensures
 
 pub put_statement-returns-in_ok-put_block-in-Repeat : goal.put_statement-returns-in_ok-put_block-in-Repeat
-put_statement-returns-in_ok-put_block-in-Repeat t c = repeated_written c.args.depth _ _ (repeat_seen _ c.in-Repeat.n c.in-Repeat.body c.in-Repeat.is) c.in_ok-put-in-Repeat.ensures c.in_ok-put_number-in-Repeat.ensures c.in_ok-put_block-in-Repeat.ensures c.put-in-Repeat-2.ensures
+put_statement-returns-in_ok-put_block-in-Repeat t c = repeated_written c.args.depth _ _ (repeat_seen _ c.in-Repeat.n c.in-Repeat.body c.in-Repeat.is)
+    c.in_ok-put-in-Repeat.ensures c.in_ok-put_number-in-Repeat.ensures c.in_ok-put_block-in-Repeat.ensures c.put-in-Repeat-2.ensures
 
 pub put_statement-returns-in-Send : goal.put_statement-returns-in-Send
 put_statement-returns-in-Send t c =

@@ -11,4 +11,5 @@ pub returns-in_ok-put-in-Var-2 : goal.returns-in_ok-put-in-Var-2
 returns-in_ok-put-in-Var-2 c = variable_written _ _ c.in-Var.is c.in_ok-put-in-Var.ensures c.in_ok-put_name-in-Var.ensures c.in_ok-put-in-Var-2.ensures c.put_number.ensures
 
 pub returns-in_ok-put_number-in-Array : goal.returns-in_ok-put_number-in-Array
-returns-in_ok-put_number-in-Array c = array_written _ _ c.in-Array.is c.in_ok-put-in-Array.ensures c.in_ok-put_name-in-Array.ensures c.in_ok-put-in-Array-2.ensures c.in_ok-put_number-in-Array.ensures c.put-in-Array-3.ensures
+returns-in_ok-put_number-in-Array c = array_written _ _ c.in-Array.is c.in_ok-put-in-Array.ensures c.in_ok-put_name-in-Array.ensures
+    c.in_ok-put-in-Array-2.ensures c.in_ok-put_number-in-Array.ensures c.put-in-Array-3.ensures

@@ -10,19 +10,23 @@ use Rattle.sx_drive.proofs.Performed.{goes_sound, goes_going}
 use Rattle.sx_drive.proofs.honest.Honest.act.Goals as goal
 
 pub act-requires-clause-images : goal.act-requires-clause-images
-act-requires-clause-images g c = subst (λ (k : Kept). IsSoundSetting (world_setting g.T.Tag.mac c.args.deployment.now k.world)) (sym c.self.view_is) (goes_sound g.T.Tag.mac c.args.deployment.now c.args.self.now c.requires.going)
+act-requires-clause-images g c = subst (λ (k : Kept). IsSoundSetting (world_setting g.T.Tag.mac c.args.deployment.now k.world)) (sym c.self.view_is)
+    (goes_sound g.T.Tag.mac c.args.deployment.now c.args.self.now c.requires.going)
 
 pub act-requires-clause-going : goal.act-requires-clause-going
-act-requires-clause-going g c = subst (λ (k : Kept). IsGoing (world_setting g.T.Tag.mac c.args.deployment.now k.world) k.world) (sym c.self.view_is) (goes_going g.T.Tag.mac c.args.deployment.now c.args.self.now c.requires.going)
+act-requires-clause-going g c = subst (λ (k : Kept). IsGoing (world_setting g.T.Tag.mac c.args.deployment.now k.world) k.world) (sym c.self.view_is)
+    (goes_going g.T.Tag.mac c.args.deployment.now c.args.self.now c.requires.going)
 
 pub returns-clause-acted : goal.returns-clause-acted
 returns-clause-acted g c =
     subst (λ (k : Kept). OnOk c.act.result (Acts (world_setting g.T.Tag.mac c.args.deployment.now k.world) (line_of c.args.line.now) k.world c.act.new.self [] c.act.new.items.items)) c.self.view_is
-    (subst (λ (xs : List Item). OnOk c.act.result (Acts (world_setting g.T.Tag.mac c.args.deployment.now c.self.inside.world) (line_of c.args.line.now) c.self.inside.world c.act.new.self xs c.act.new.items.items))
+    (subst (λ (xs : List Item). OnOk c.act.result (Acts (world_setting g.T.Tag.mac c.args.deployment.now c.self.inside.world)
+    (line_of c.args.line.now) c.self.inside.world c.act.new.self xs c.act.new.items.items))
     c.clear.ensures.items c.act.ensures.acted)
 
 pub returns-clause-front : goal.returns-clause-front
 returns-clause-front g c =
     subst (λ (k : Kept). OnErr c.act.result (ActsInPart (world_setting g.T.Tag.mac c.args.deployment.now k.world) (line_of c.args.line.now) k.world [] c.act.new.items.items)) c.self.view_is
-    (subst (λ (xs : List Item). OnErr c.act.result (ActsInPart (world_setting g.T.Tag.mac c.args.deployment.now c.self.inside.world) (line_of c.args.line.now) c.self.inside.world xs c.act.new.items.items))
+    (subst (λ (xs : List Item). OnErr c.act.result (ActsInPart (world_setting g.T.Tag.mac c.args.deployment.now c.self.inside.world)
+    (line_of c.args.line.now) c.self.inside.world xs c.act.new.items.items))
     c.clear.ensures.items c.act.ensures.front)

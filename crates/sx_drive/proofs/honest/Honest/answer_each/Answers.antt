@@ -8,8 +8,10 @@ use Rattle.sx_drive.proofs.honest.Honest.answer_each.Goals as goal
 pub returns-in_err-say-clause-does : goal.returns-in_err-say-clause-does
 returns-in_err-say-clause-does g c =
     let x : Callee = callee_of c.args.callee in
-    does_err g.T.Tag.mac c.args.deployment.now c.from_residual.result c.args.self.now c.say.new.self c.args.said.now.items c.say.new.said.items (each_all (λ set. answers set x) c.args.packets.now) c.from_residual.ensures.0
-    (each_wanted g.T.Tag.mac c.args.deployment.now (λ set. answers set x) c.args.packets.now c.loop-packet.packet-index 0 c.args.self.now c.loop-packet.self c.args.said.now.items c.loop-packet.said.items c.say.new.said.items
+    does_err g.T.Tag.mac c.args.deployment.now c.from_residual.result c.args.self.now c.say.new.self c.args.said.now.items c.say.new.said.items
+    (each_all (λ set. answers set x) c.args.packets.now) c.from_residual.ensures.0
+    (each_wanted g.T.Tag.mac c.args.deployment.now (λ set. answers set x) c.args.packets.now c.loop-packet.packet-index 0 c.args.self.now c.loop-packet.self
+    c.args.said.now.items c.loop-packet.said.items c.say.new.said.items
     (omega (arith, c.loop-packet-test.true, c.loop-packet.auto.packet-index-end)) c.loop-packet.invariant.remains c.in_err-say.ensures.does)
 
 pub loop-packet-preserved : goal.loop-packet-preserved
@@ -17,7 +19,8 @@ loop-packet-preserved g c =
     let x : Callee = callee_of c.args.callee in
     record {
       remains =
-          each_on g.T.Tag.mac c.args.deployment.now (λ set. answers set x) c.args.packets.now c.loop-packet.packet-index 0 c.args.self.now c.loop-packet.self c.say.new.self c.args.said.now.items c.loop-packet.said.items c.say.new.said.items
+          each_on g.T.Tag.mac c.args.deployment.now (λ set. answers set x) c.args.packets.now c.loop-packet.packet-index 0 c.args.self.now c.loop-packet.self
+          c.say.new.self c.args.said.now.items c.loop-packet.said.items c.say.new.said.items
           (omega (arith, c.loop-packet-test.true, c.loop-packet.auto.packet-index-end)) c.loop-packet.invariant.remains c.in_ok-say.ensures.does;
       goes = c.in_ok-say.ensures.goes_on;
       wanted = c.in_ok-say.ensures.wanted ∙ c.loop-packet.invariant.wanted;
@@ -32,4 +35,8 @@ returns-clause-does g c =
 pub loop-packet-init : goal.loop-packet-init
 loop-packet-init g c =
     let x : Callee = callee_of c.args.callee in
-    record { remains = remains_start g.T.Tag.mac c.args.deployment.now (each_all (λ set. answers set x) c.args.packets.now) c.args.self.now c.args.said.now.items; goes = c.requires.going; wanted = refl }
+    record {
+      remains = remains_start g.T.Tag.mac c.args.deployment.now (each_all (λ set. answers set x) c.args.packets.now) c.args.self.now c.args.said.now.items;
+      goes = c.requires.going;
+      wanted = refl;
+    }

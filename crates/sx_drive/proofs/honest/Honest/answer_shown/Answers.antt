@@ -9,10 +9,12 @@ pub returns-in_err-packets-clause-does : goal.returns-in_err-packets-clause-does
 returns-in_err-packets-clause-does g c =
     let x : Callee = callee_of c.args.callee in
     let whole : Part = λ set h. each (answers set x) (packets_of h.shown) h in
-    does_err g.T.Tag.mac c.args.deployment.now c.from_residual.result c.args.self.now c.args.self.now c.args.said.now.items c.args.said.now.items whole c.from_residual.ensures.0 (says_nothing g.T.Tag.mac c.args.deployment.now c.args.self.now c.args.said.now.items whole)
+    does_err g.T.Tag.mac c.args.deployment.now c.from_residual.result c.args.self.now c.args.self.now c.args.said.now.items c.args.said.now.items whole
+    c.from_residual.ensures.0 (says_nothing g.T.Tag.mac c.args.deployment.now c.args.self.now c.args.said.now.items whole)
 
 pub returns-clause-does : goal.returns-clause-does
 returns-clause-does g c =
     let x : Callee = callee_of c.args.callee in
-    shown_does g.T.Tag.mac c.args.deployment.now c.answer_each.result c.args.self.now c.answer_each.new.self c.args.said.now.items c.answer_each.new.said.items (λ set. answers set x) c.deref.result.now
+    shown_does g.T.Tag.mac c.args.deployment.now c.answer_each.result c.args.self.now c.answer_each.new.self c.args.said.now.items c.answer_each.new.said.items
+    (λ set. answers set x) c.deref.result.now
     (c.deref.ensures.value ∙ c.in_ok-packets.ensures) c.answer_each.ensures.does

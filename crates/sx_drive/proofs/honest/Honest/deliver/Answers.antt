@@ -26,5 +26,6 @@ returns-in_ok-hand-in-Some-clause-does g c =
 
 pub returns-in-None-clause-does : goal.returns-in-None-clause-does
 returns-in-None-clause-does g c =
-    none_did g.T.Tag.mac c.args.deployment.now c.args.self.now c.args.said.now.items (λ set h. option_and_then (receiver_of set.app) (slice_get h.world.packets c.args.packet)) (λ set. receives set c.args.packet)
+    none_did g.T.Tag.mac c.args.deployment.now c.args.self.now c.args.said.now.items
+    (λ set h. option_and_then (receiver_of set.app) (slice_get h.world.packets c.args.packet)) (λ set. receives set c.args.packet)
     (receiver_there g.T.Tag.mac c.args.deployment.now c.args.self.now c.args.packet None c.in-None.ensures.found)

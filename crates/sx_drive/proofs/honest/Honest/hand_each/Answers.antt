@@ -8,8 +8,10 @@ use Rattle.sx_drive.proofs.honest.Honest.hand_each.Goals as goal
 pub returns-in_err-hand-clause-does : goal.returns-in_err-hand-clause-does
 returns-in_err-hand-clause-does g c =
     let x : Callee = callee_of c.args.callee in
-    does_err g.T.Tag.mac c.args.deployment.now c.from_residual.result c.args.self.now c.hand.new.self c.args.said.now.items c.hand.new.said.items (each_all (λ set. hands set c.args.entry x) c.args.packets.now) c.from_residual.ensures.0
-    (each_wanted g.T.Tag.mac c.args.deployment.now (λ set. hands set c.args.entry x) c.args.packets.now c.loop-packet.packet-index 0 c.args.self.now c.loop-packet.self c.args.said.now.items c.loop-packet.said.items c.hand.new.said.items
+    does_err g.T.Tag.mac c.args.deployment.now c.from_residual.result c.args.self.now c.hand.new.self c.args.said.now.items c.hand.new.said.items
+    (each_all (λ set. hands set c.args.entry x) c.args.packets.now) c.from_residual.ensures.0
+    (each_wanted g.T.Tag.mac c.args.deployment.now (λ set. hands set c.args.entry x) c.args.packets.now c.loop-packet.packet-index 0 c.args.self.now
+    c.loop-packet.self c.args.said.now.items c.loop-packet.said.items c.hand.new.said.items
     (omega (arith, c.loop-packet-test.true, c.loop-packet.auto.packet-index-end)) c.loop-packet.invariant.remains c.in_err-hand.ensures.does)
 
 pub loop-packet-preserved : goal.loop-packet-preserved
@@ -17,7 +19,8 @@ loop-packet-preserved g c =
     let x : Callee = callee_of c.args.callee in
     record {
       remains =
-          each_on g.T.Tag.mac c.args.deployment.now (λ set. hands set c.args.entry x) c.args.packets.now c.loop-packet.packet-index 0 c.args.self.now c.loop-packet.self c.hand.new.self c.args.said.now.items c.loop-packet.said.items c.hand.new.said.items
+          each_on g.T.Tag.mac c.args.deployment.now (λ set. hands set c.args.entry x) c.args.packets.now c.loop-packet.packet-index 0 c.args.self.now
+          c.loop-packet.self c.hand.new.self c.args.said.now.items c.loop-packet.said.items c.hand.new.said.items
           (omega (arith, c.loop-packet-test.true, c.loop-packet.auto.packet-index-end)) c.loop-packet.invariant.remains c.in_ok-hand.ensures.does;
       goes = c.in_ok-hand.ensures.goes_on;
       wanted = c.in_ok-hand.ensures.wanted ∙ c.loop-packet.invariant.wanted;
@@ -26,10 +29,16 @@ loop-packet-preserved g c =
 pub returns-clause-does : goal.returns-clause-does
 returns-clause-does g c =
     let x : Callee = callee_of c.args.callee in
-    each_done g.T.Tag.mac c.args.deployment.now (λ set. hands set c.args.entry x) c.args.packets.now c.loop-packet.packet-index c.args.self.now c.loop-packet.self c.args.said.now.items c.loop-packet.said.items
+    each_done g.T.Tag.mac c.args.deployment.now (λ set. hands set c.args.entry x) c.args.packets.now c.loop-packet.packet-index c.args.self.now
+    c.loop-packet.self c.args.said.now.items c.loop-packet.said.items
     (omega (arith, c.loop-packet-test.false, c.loop-packet.auto.packet-index-end)) c.loop-packet.invariant.remains
 
 pub loop-packet-init : goal.loop-packet-init
 loop-packet-init g c =
     let x : Callee = callee_of c.args.callee in
-    record { remains = remains_start g.T.Tag.mac c.args.deployment.now (each_all (λ set. hands set c.args.entry x) c.args.packets.now) c.args.self.now c.args.said.now.items; goes = c.requires.going; wanted = refl }
+    record {
+      remains =
+          remains_start g.T.Tag.mac c.args.deployment.now (each_all (λ set. hands set c.args.entry x) c.args.packets.now) c.args.self.now c.args.said.now.items;
+      goes = c.requires.going;
+      wanted = refl;
+    }

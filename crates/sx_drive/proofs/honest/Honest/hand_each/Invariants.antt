@@ -7,7 +7,8 @@ use Rattle.sx_drive.proofs.honest.Honest.hand_each.Given as goal
 
 abbrev pub invariant-loop-packet : goal.invariant-loop-packet
 invariant-loop-packet g l = record {
-  remains : Remains g.T.Tag.mac l.deployment (each_all (λ set. hands set l.entry (callee_of l.callee)) l.packets) (each_from (λ set. hands set l.entry (callee_of l.callee)) l.packet-index l.packets) l.fn.self l.self l.fn.said.items l.said.items;
+  remains : Remains g.T.Tag.mac l.deployment (each_all (λ set. hands set l.entry (callee_of l.callee)) l.packets)
+      (each_from (λ set. hands set l.entry (callee_of l.callee)) l.packet-index l.packets) l.fn.self l.self l.fn.said.items l.said.items;
   goes : GoesOn g.T.Tag.mac l.deployment l.self;
   wanted : l.self.wanted ≡ l.fn.self.wanted;
 }

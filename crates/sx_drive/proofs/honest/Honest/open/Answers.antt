@@ -8,12 +8,14 @@ pub returns-in_err-say-clause-does : goal.returns-in_err-say-clause-does
 returns-in_err-say-clause-does g c =
     let x : Callee = callee_of c.args.callee in
     first_err g.T.Tag.mac c.args.deployment.now c.from_residual.result c.args.self.now c.say.new.self c.args.said.now.items c.say.new.said.items
-    (λ set. says set (Take x.node OUT_WINDOW 16)) (λ set h1. then_ (each (answers set x) (packets_of h1.shown) h1) (λ h2. each (hands set 0 x) (packets_of h2.shown) h2)) c.from_residual.ensures.0 c.in_err-say.ensures.does
+    (λ set. says set (Take x.node OUT_WINDOW 16)) (λ set h1. then_ (each (answers set x) (packets_of h1.shown) h1)
+    (λ h2. each (hands set 0 x) (packets_of h2.shown) h2)) c.from_residual.ensures.0 c.in_err-say.ensures.does
 
 pub returns-in_err-answer_shown-clause-does : goal.returns-in_err-answer_shown-clause-does
 returns-in_err-answer_shown-clause-does g c =
     let x : Callee = callee_of c.args.callee in
-    then_does g.T.Tag.mac c.args.deployment.now c.from_residual-in_err-answer_shown.result c.args.self.now c.say.new.self c.answer_shown.new.self c.args.said.now.items c.say.new.said.items c.answer_shown.new.said.items
+    then_does g.T.Tag.mac c.args.deployment.now c.from_residual-in_err-answer_shown.result c.args.self.now c.say.new.self c.answer_shown.new.self
+    c.args.said.now.items c.say.new.said.items c.answer_shown.new.said.items
     (λ set. says set (Take x.node OUT_WINDOW 16)) (λ set h1. then_ (each (answers set x) (packets_of h1.shown) h1) (λ h2. each (hands set 0 x) (packets_of h2.shown) h2)) c.in_ok-say.ensures.does
     (first_err g.T.Tag.mac c.args.deployment.now c.from_residual-in_err-answer_shown.result c.say.new.self c.answer_shown.new.self c.say.new.said.items c.answer_shown.new.said.items
     (λ set h. each (answers set x) (packets_of h.shown) h) (λ set h. each (hands set 0 x) (packets_of h.shown) h) c.from_residual-in_err-answer_shown.ensures.0 c.in_err-answer_shown.ensures.does)
@@ -23,5 +25,6 @@ returns-clause-does g c =
     let x : Callee = callee_of c.args.callee in
     then_does g.T.Tag.mac c.args.deployment.now c.hand_shown.result c.args.self.now c.say.new.self c.hand_shown.new.self c.args.said.now.items c.say.new.said.items c.hand_shown.new.said.items
     (λ set. says set (Take x.node OUT_WINDOW 16)) (λ set h1. then_ (each (answers set x) (packets_of h1.shown) h1) (λ h2. each (hands set 0 x) (packets_of h2.shown) h2)) c.in_ok-say.ensures.does
-    (then_does g.T.Tag.mac c.args.deployment.now c.hand_shown.result c.say.new.self c.answer_shown.new.self c.hand_shown.new.self c.say.new.said.items c.answer_shown.new.said.items c.hand_shown.new.said.items
+    (then_does g.T.Tag.mac c.args.deployment.now c.hand_shown.result c.say.new.self c.answer_shown.new.self c.hand_shown.new.self c.say.new.said.items
+    c.answer_shown.new.said.items c.hand_shown.new.said.items
     (λ set h. each (answers set x) (packets_of h.shown) h) (λ set h. each (hands set 0 x) (packets_of h.shown) h) c.in_ok-answer_shown.ensures.does c.hand_shown.ensures.does)

@@ -6,7 +6,8 @@ use Rattle.sx_drive.proofs.honest.Honest.read.Goals as goal
 pub returns-in_err-say-clause-does : goal.returns-in_err-say-clause-does
 returns-in_err-say-clause-does g c =
     first_err g.T.Tag.mac c.args.deployment.now c.from_residual.result c.args.self.now c.say.new.self c.args.said.now.items c.say.new.said.items
-    (λ set. says set (Sense c.args.device c.args.value)) (λ set h1. then_ (if_there (samples set) (driver_of set.app c.args.device) h1) (settles set MOST_LINES)) c.from_residual.ensures.0 c.in_err-say.ensures.does
+    (λ set. says set (Sense c.args.device c.args.value)) (λ set h1. then_ (if_there (samples set) (driver_of set.app c.args.device) h1)
+    (settles set MOST_LINES)) c.from_residual.ensures.0 c.in_err-say.ensures.does
 
 pub returns-in_err-sample-clause-does : goal.returns-in_err-sample-clause-does
 returns-in_err-sample-clause-does g c =

@@ -6,7 +6,9 @@ use Rattle.sx_drive.specs.Driving.{Kept}
 use Rattle.sx_drive.proofs.honest.Honest.receiver.Goals as goal
 
 pub returns-in-Some-clause-found : goal.returns-in-Some-clause-found
-returns-in-Some-clause-found g c = c.receiver_of.ensures.found ∙ ap (option_and_then (receiver_of (deployed_as c.args.deployment.now).app)) (c.in-Some.ensures ∙ ap (λ (k : Kept). slice_get k.world.running.packets c.args.packet) c.self.view_is)
+returns-in-Some-clause-found g c = c.receiver_of.ensures.found ∙ ap (option_and_then (receiver_of (deployed_as c.args.deployment.now).app))
+    (c.in-Some.ensures ∙ ap (λ (k : Kept). slice_get k.world.running.packets c.args.packet) c.self.view_is)
 
 pub returns-in-None-clause-found : goal.returns-in-None-clause-found
-returns-in-None-clause-found g c = ap (option_and_then (receiver_of (deployed_as c.args.deployment.now).app)) (c.in-None.ensures ∙ ap (λ (k : Kept). slice_get k.world.running.packets c.args.packet) c.self.view_is)
+returns-in-None-clause-found g c = ap (option_and_then (receiver_of (deployed_as c.args.deployment.now).app))
+    (c.in-None.ensures ∙ ap (λ (k : Kept). slice_get k.world.running.packets c.args.packet) c.self.view_is)

@@ -23,4 +23,5 @@ returns-in_ok-call-in-Some-clause-does g c =
 
 pub returns-in-None-clause-does : goal.returns-in-None-clause-does
 returns-in-None-clause-does g c =
-    none_did g.T.Tag.mac c.args.deployment.now c.args.self.now c.args.said.now.items (λ set h. driver_of set.app c.args.device) samples (found_there g.T.Tag.mac c.args.deployment.now c.args.self.now (λ app. driver_of app c.args.device) None c.in-None.ensures.found)
+    none_did g.T.Tag.mac c.args.deployment.now c.args.self.now c.args.said.now.items (λ set h. driver_of set.app c.args.device) samples
+    (found_there g.T.Tag.mac c.args.deployment.now c.args.self.now (λ app. driver_of app c.args.device) None c.in-None.ensures.found)

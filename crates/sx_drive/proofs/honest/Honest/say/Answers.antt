@@ -23,9 +23,12 @@ perform-requires-clause-room g c = sym c.is_full.ensures ∙ c.if-is_full.false
 
 pub returns-clause-does : goal.returns-clause-does
 returns-clause-does g c =
-    room_does g.T.Tag.mac c.args.deployment.now c.perform.result (line_of c.args.line) c.args.self.now c.perform.new.self c.args.said.now.items c.perform.new.said.items (sym c.is_full.ensures ∙ c.if-is_full.false) c.perform.ensures.does
+    room_does g.T.Tag.mac c.args.deployment.now c.perform.result (line_of c.args.line) c.args.self.now c.perform.new.self c.args.said.now.items
+    c.perform.new.said.items (sym c.is_full.ensures ∙ c.if-is_full.false) c.perform.ensures.does
 
 pub returns-clause-goes_on : goal.returns-clause-goes_on
 returns-clause-goes_on g c =
-    does_goes g.T.Tag.mac c.args.deployment.now c.perform.result c.args.self.now c.perform.new.self c.args.said.now.items c.perform.new.said.items (λ set. says set (line_of c.args.line)) c.requires.going
-    (room_does g.T.Tag.mac c.args.deployment.now c.perform.result (line_of c.args.line) c.args.self.now c.perform.new.self c.args.said.now.items c.perform.new.said.items (sym c.is_full.ensures ∙ c.if-is_full.false) c.perform.ensures.does)
+    does_goes g.T.Tag.mac c.args.deployment.now c.perform.result c.args.self.now c.perform.new.self c.args.said.now.items c.perform.new.said.items
+    (λ set. says set (line_of c.args.line)) c.requires.going
+    (room_does g.T.Tag.mac c.args.deployment.now c.perform.result (line_of c.args.line) c.args.self.now c.perform.new.self c.args.said.now.items
+    c.perform.new.said.items (sym c.is_full.ensures ∙ c.if-is_full.false) c.perform.ensures.does)

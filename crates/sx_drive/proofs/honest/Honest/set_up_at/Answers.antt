@@ -12,4 +12,5 @@ returns-in-Some-clause-does g c =
 
 pub returns-in-None-clause-does : goal.returns-in-None-clause-does
 returns-in-None-clause-does g c =
-    none_did g.T.Tag.mac c.args.deployment.now c.args.self.now c.args.said.now.items (λ set h. callee_at set.app c.args.m) sets_up (found_there g.T.Tag.mac c.args.deployment.now c.args.self.now (λ app. callee_at app c.args.m) None c.in-None.ensures.found)
+    none_did g.T.Tag.mac c.args.deployment.now c.args.self.now c.args.said.now.items (λ set h. callee_at set.app c.args.m) sets_up
+    (found_there g.T.Tag.mac c.args.deployment.now c.args.self.now (λ app. callee_at app c.args.m) None c.in-None.ensures.found)

@@ -10,4 +10,5 @@ invariant_of-self c =
     (IsPaged-write c.self.inside.arena numbers i page _ c.self.invariant c.in-Some.is) c.in-Some.is)
 
 pub returns-in-Some : goal.returns-in-Some
-returns-in-Some c = rw (c.write_two.ensures, ← c.self.view_is) (word-is c.self.inside.arena c.self.inside.numbers c.args.at c.in-Some.page (c.args.value % 256) (c.args.value / 256) c.self.invariant c.requires c.in-Some.is)
+returns-in-Some c = rw (c.write_two.ensures, ← c.self.view_is) (word-is c.self.inside.arena c.self.inside.numbers c.args.at c.in-Some.page (c.args.value % 256)
+    (c.args.value / 256) c.self.invariant c.requires c.in-Some.is)
