@@ -3,6 +3,7 @@ use Rattle.std.proofs.Common.{◌≡◌, List, arith, Result, Ok, Err}
 use Rattle.sx_asm.specs.Assembled.{assembled}
 use Rattle.sx_io.specs.Reading.{Answer}
 use Rattle.sx_stage.specs.declared.fault.DeployFault.{DeployFault}
+use Rattle.sx_sched.specs.Reading.{Assembler}
 use Rattle.sx_head.specs.Head.{Head, Found, TooLong, NoMark, Unread}
 use Rattle.sx_deploy.specs.Deployment.{Deployed}
 use Rattle.sx_command_head.specs.Meanings.{Meaning}
@@ -12,15 +13,15 @@ use Rattle.sx_command_world.proofs.Stops.{good_zero, not_two}
 use Rattle.sx_command_deploy.specs.Afterwards.{head_status}
 use Rattle.sx_command_deploy.specs.Deploy.{found_status}
 
-pub found_zero : (r : Result Deployed DeployFault) (more : List Answer) → IsGoodRun assembled r more → found_status (schedule_status assembled) r more ≡ 0
-found_zero (Ok d) more good = good_zero d more good
-found_zero (Err f) more good = absurd good
+pub found_zero : (assemble : Assembler) (r : Result Deployed DeployFault) (more : List Answer) → IsGoodRun assemble r more → found_status (schedule_status assemble) r more ≡ 0
+found_zero assemble (Ok d) more good = good_zero assemble d more good
+found_zero assemble (Err f) more good = absurd good
 
-pub input_zero : (meaning : Meaning) (h : Head) → IsGoodInput assembled meaning h → head_status (schedule_status assembled) meaning h ≡ 0
-input_zero meaning (Found text more) good = found_zero (meaning text) more good
-input_zero meaning TooLong good = absurd good
-input_zero meaning NoMark good = absurd good
-input_zero meaning Unread good = absurd good
+pub input_zero : (assemble : Assembler) (meaning : Meaning) (h : Head) → IsGoodInput assemble meaning h → head_status (schedule_status assemble) meaning h ≡ 0
+input_zero assemble meaning (Found text more) good = found_zero assemble (meaning text) more good
+input_zero assemble meaning TooLong good = absurd good
+input_zero assemble meaning NoMark good = absurd good
+input_zero assemble meaning Unread good = absurd good
 
 pub found_not_two : (r : Result Deployed DeployFault) (more : List Answer) → found_status (schedule_status assembled) r more ≡ 2 → ⊥
 found_not_two (Ok d) more e = not_two d more e

@@ -51,4 +51,4 @@ is_good meaning is n h =
 
 -- so its status is 0
 pub status_zero : (meaning : Meaning) → IsMeaning meaning → (n : ℕ) → n ≤ 8000 → found_status (schedule_status assembled) (meaning bulk.head) (workload n) ≡ 0
-status_zero meaning is n h = found_zero (meaning bulk.head) (workload n) (is_good meaning is n h)
+status_zero meaning is n h = found_zero assembled (meaning bulk.head) (workload n) (is_good meaning is n h)

@@ -1,8 +1,8 @@
 //! That inputs which keep the rules are those of status 0.
 
 ghost use Rattle.std.specs.Prelude.{◌≡◌, List};
-ghost use Rattle.sx_asm.specs.Assembled.{assembled};
 ghost use Rattle.sx_io.specs.Reading.{Answer};
+ghost use Rattle.sx_sched.specs.Reading.{Assembler};
 ghost use Rattle.sx_head.specs.Head.{head};
 ghost use Rattle.sx_command_head.specs.Meanings.{Meaning};
 ghost use Rattle.sx_command_world.specs.WellFormed.{IsGoodInput};
@@ -12,7 +12,7 @@ ghost use Rattle.sx_command_deploy.specs.Deploy.{deploy_status};
 /// A deployment that keeps the rules, the line `%%` and a schedule that does have status 0. So
 /// `complete` of `RunSays` says of these that they are run to their end.
 pub fn good_input_has_status_0()
-    ensures { (meaning : Meaning) (answers : List Answer)
-        → IsGoodInput assembled meaning (head answers)
-        → deploy_status (schedule_status assembled) meaning answers ≡ 0 }
+    ensures { (assemble : Assembler) (meaning : Meaning) (answers : List Answer)
+        → IsGoodInput assemble meaning (head answers)
+        → deploy_status (schedule_status assemble) meaning answers ≡ 0 }
 {}

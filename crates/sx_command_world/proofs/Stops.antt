@@ -5,6 +5,7 @@ use Rattle.sx_io.specs.Reading.{Answer, Line, End, Long, Fault}
 use Rattle.sx_told.proofs.Endings.{Unfinished, Faultless}
 use Rattle.sx_trace.specs.Names.{NameLists}
 use Rattle.sx_sched.specs.Lines as lines
+use Rattle.sx_sched.specs.Reading.{Assembler}
 use Rattle.sx_deploy.specs.Deployment.{Deployed}
 use Rattle.sx_command_world.specs.Schedule.{Stop, AtEnd, Breaks, Schedule, judged_line, on_line, schedule}
 use Rattle.sx_command_world.specs.Schedule as sched
@@ -15,16 +16,17 @@ line_zero : (number : ℕ) (r : Result lines.Line ℕ) (rest : Schedule) → IsO
 line_zero number (Ok line) rest good h = h
 line_zero number (Err rule) rest good h = absurd (cc good)
 
-schedule_zero : (names : NameLists) (number : ℕ) (answers : List Answer) → IsWellFormed assembled names number answers → stop_status (schedule assembled names number answers).stop ≡ 0
-schedule_zero names number [] good = absurd good
-schedule_zero names number (End ∷ more) good = refl
-schedule_zero names number (Long ∷ more) good = absurd good
-schedule_zero names number (Fault ∷ more) good = absurd good
-schedule_zero names number (Line text ∷ more) good =
-    line_zero number (judged_line assembled names number text) (schedule assembled names (number + 1) more) good.0 (schedule_zero names (number + 1) more good.1)
+schedule_zero : (assemble : Assembler) (names : NameLists) (number : ℕ) (answers : List Answer) → IsWellFormed assemble names number answers
+    → stop_status (schedule assemble names number answers).stop ≡ 0
+schedule_zero assemble names number [] good = absurd good
+schedule_zero assemble names number (End ∷ more) good = refl
+schedule_zero assemble names number (Long ∷ more) good = absurd good
+schedule_zero assemble names number (Fault ∷ more) good = absurd good
+schedule_zero assemble names number (Line text ∷ more) good =
+    line_zero number (judged_line assemble names number text) (schedule assemble names (number + 1) more) good.0 (schedule_zero assemble names (number + 1) more good.1)
 
-pub good_zero : (d : Deployed) (answers : List Answer) → IsWellFormed assembled d.names 1 answers → schedule_status assembled d answers ≡ 0
-good_zero d answers good = schedule_zero d.names 1 answers good
+pub good_zero : (assemble : Assembler) (d : Deployed) (answers : List Answer) → IsWellFormed assemble d.names 1 answers → schedule_status assemble d answers ≡ 0
+good_zero assemble d answers good = schedule_zero assemble d.names 1 answers good
 
 line_not : (number n : ℕ) (r : Result lines.Line ℕ) (rest : Schedule) → (3 ≡ n → ⊥) → (stop_status rest.stop ≡ n → ⊥) → stop_status (on_line number r rest).stop ≡ n → ⊥
 line_not number n (Err rule) rest three h e = three e

@@ -3,4 +3,4 @@ use Rattle.sx_command_deploy.proofs.Good.{input_zero}
 use Rattle.sx_command_run.proofs.laws.good_input_has_status_0.Goals as goal
 
 pub returns : goal.returns
-returns c = λ meaning answers good. input_zero meaning (head answers) good
+returns c = λ assemble meaning answers good. input_zero assemble meaning (head answers) good
