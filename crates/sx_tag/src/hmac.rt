@@ -41,6 +41,13 @@ impl Tag for Hmac {
         }
     }
 
+    fn copy(&self, run: &HmacRun) -> HmacRun {
+        HmacRun {
+            inner: copied(&run.inner),
+            outer: copied(&run.outer),
+        }
+    }
+
     fn feed(&self, run: &mut HmacRun, part: &[u8]) {
         run.inner.update(part);
     }
@@ -54,6 +61,13 @@ impl Tag for Hmac {
     }
 
     ghost is_tag = { hmac_sha256-is_tag };
+}
+
+// A copy takes no memory, so it can't fail.
+fn copied(hash: &Sha256) -> Sha256
+    ensures { result ≡ hash.now }
+{
+    hash.clone().unwrap()
 }
 
 // A hash that holds the key, padded with zeros to a block, with the pad XORed into each byte.

@@ -18,6 +18,10 @@ pub trait Tag: Drop {
         requires { length key.now ≤ 64 }
         ensures { has result key.now [] };
 
+    /// A run of its own with the same key and message.
+    fn copy(&self, run: &Self::Run) -> Self::Run
+        ensures { (key message : List ℕ) → has run.now key message → has result key message };
+
     /// Appends a part to the message.
     fn feed(&self, run: &mut Self::Run, part: &[u8])
         ensures { (key message : List ℕ) → has run.old key message

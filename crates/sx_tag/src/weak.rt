@@ -32,6 +32,10 @@ impl Tag for Weak {
         }
     }
 
+    fn copy(&self, run: &WeakRun) -> WeakRun {
+        WeakRun { total: run.total }
+    }
+
     fn feed(&self, run: &mut WeakRun, part: &[u8]) {
         run.total = add_all(run.total, part);
     }

@@ -1,6 +1,7 @@
 //! Authenticated encryption of a header and a body.
 
 ghost use Rattle.std.specs.Prelude.{◌≡◌, ◌≢◌, ◌≤◌, ◌++◌, ◌↔◌, length, drop, IsNone, IsTrue};
+ghost use Rattle.std.specs.Prelude.{ℕ, List, []};
 ghost use Rattle.std.specs.Prelude.{bytes_eq};
 ghost use Rattle.sx_tag.specs.Wrap as spec;
 
@@ -27,8 +28,9 @@ pub fn wrap<T: Tag>(
         ++ drop (length body.now) cipher.old }
     ensures tag { result ≡ (spec.wrapped T.mac key.now ad.now body.now).tag }
 {
-    crypt(tag, key, ad, body, cipher);
-    wrap_tag(tag, key, ad, &cipher[..body.len()])
+    let begun = tag.begin(key);
+    crypt(tag, tag.copy(&begun), ad, body, cipher);
+    wrap_tag(tag, begun, ad, &cipher[..body.len()])
 }
 
 /// The body after a cipher, with zeros after it; `None` exactly where the tag isn't that of the
@@ -46,21 +48,23 @@ pub fn unwrap<T: Tag>(
     ensures body { result ≡ spec.unwrapped T.mac key.now ad.now cipher.now mac.now }
     ensures none { IsNone result ↔ (mac.now ≢ spec.wrap_tag T.mac key.now ad.now cipher.now) }
 {
-    let expected = wrap_tag(tag, key, ad, cipher);
+    let begun = tag.begin(key);
+    let expected = wrap_tag(tag, tag.copy(&begun), ad, cipher);
     if !is_same(mac, &expected) {
         return None;
     }
     let mut body = [0; 32];
-    crypt(tag, key, ad, cipher, &mut body);
+    crypt(tag, begun, ad, cipher, &mut body);
     Some(body)
 }
 
-#[tactic(auto, unfolding(crate::specs::Wrap::wrap_tag))]
-fn wrap_tag<T: Tag>(tag: &T, key: &[u8; 16], ad: &[u8], cipher: &[u8]) -> [u8; 16]
+// The tag, from a run that was begun with the key.
+fn wrap_tag<T: Tag>(tag: &T, begun: T::Run, ad: &[u8], cipher: &[u8]) -> [u8; 16]
     requires { length ad.now ≤ 32 }
-    ensures { result ≡ spec.wrap_tag T.mac key.now ad.now cipher.now }
+    ensures { (key : List ℕ) → T.has begun key []
+        → result ≡ spec.wrap_tag T.mac key ad.now cipher.now }
 {
-    let mut run = tag.begin(key);
+    let mut run = begun;
     tag.feed(&mut run, &[TAG_LABEL, ad.len() as u8]);
     tag.feed(&mut run, ad);
     tag.feed(&mut run, cipher);
@@ -74,15 +78,14 @@ fn is_same(tag: &[u8; 16], expected: &[u8; 16]) -> bool
     tag.as_slice() == expected.as_slice()
 }
 
-// Encrypts or decrypts at the start of `into`.
-#[tactic(auto, unfolding(crate::specs::Wrap::crypt))]
-fn crypt<T: Tag>(tag: &T, key: &[u8; 16], ad: &[u8], bytes: &[u8], into: &mut [u8; 32])
+// Encrypts or decrypts at the start of `into`, from a run that was begun with the key.
+fn crypt<T: Tag>(tag: &T, begun: T::Run, ad: &[u8], bytes: &[u8], into: &mut [u8; 32])
     requires ad { length ad.now ≤ 32 }
     requires bytes { length bytes.now ≤ 32 }
-    ensures { into.new ≡ spec.crypt T.mac key.now ad.now bytes.now
-        ++ drop (length bytes.now) into.old }
+    ensures { (key : List ℕ) → T.has begun key [] → into.new
+        ≡ spec.crypt T.mac key ad.now bytes.now ++ drop (length bytes.now) into.old }
 {
-    let mut run = tag.begin(key);
+    let mut run = begun;
     tag.feed(&mut run, &[STREAM_LABEL, ad.len() as u8]);
     tag.feed(&mut run, ad);
     tag.feed(&mut run, &[0]);
