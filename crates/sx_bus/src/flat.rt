@@ -35,6 +35,11 @@ impl Bus for FlatBus {
         self.memory[at as usize]
     }
 
+    fn holds(&self, at: u16, expected: &[u8]) -> bool {
+        let from = usize::from(at);
+        &self.memory[from..from + expected.len()] == expected
+    }
+
     fn put(&mut self, at: u16, byte: u8) {
         self.memory[at as usize] = byte;
     }

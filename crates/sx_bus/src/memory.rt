@@ -1,6 +1,7 @@
 //! The trait of memories of 65,536 bytes.
 
-ghost use Rattle.std.specs.Prelude.{◌≡◌, ◌+◌, ◌/◌, ◌%◌, ℕ, List, slice_index, slice_set};
+ghost use Rattle.std.specs.Prelude.{◌≡◌, ◌+◌, ◌/◌, ◌%◌, ◌≤◌, ℕ, List, slice_index, slice_set};
+ghost use Rattle.std.specs.Prelude.{length, take, drop, bytes_eq};
 ghost use Rattle.sx_bus.specs.Memory.{blank, AreMemoryBytes};
 
 /// A memory of 65,536 bytes. Its meaning is the list of these bytes.
@@ -10,6 +11,12 @@ pub trait Bus: Drop {
     /// The byte at an address.
     fn get(&self, at: u16) -> u8
         ensures { result ≡ slice_index (bytes self.now) at };
+
+    /// Whether these bytes stand from an address on.
+    fn holds(&self, at: u16, expected: &[u8]) -> bool
+        requires { at + length expected.now ≤ 65536 }
+        ensures { result
+            ≡ bytes_eq (take (length expected.now) (drop at (bytes self.now))) expected.now };
 
     /// Writes one byte and leaves all others.
     fn put(&mut self, at: u16, byte: u8)

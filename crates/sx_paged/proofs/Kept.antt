@@ -148,9 +148,13 @@ live-bytes : (x : Option (List ℕ)) → is_page x ≡ true → bytes_of x ≡ p
 live-bytes None e = cc
 live-bytes (Some b) e = refl
 
-held-is : (arena : Pages) (numbers : Numbers) (i p : ℕ) → IsPaged arena numbers → get_or numbers i None ≡ Some p → held arena p ≡ page_bytes (get_or (paged arena numbers) i None)
+pub held-is : (arena : Pages) (numbers : Numbers) (i p : ℕ) → IsPaged arena numbers → get_or numbers i None ≡ Some p → held arena p ≡ page_bytes (get_or (paged arena numbers) i None)
 held-is arena numbers i p is e =
     live-bytes (get_or arena p None) (is.live i p e) ∙ ap page_bytes (sym (get_or-paged arena numbers i ∙ ap (page_in arena) e))
+
+pub none-is : (arena : Pages) (numbers : Numbers) (i : ℕ) → get_or numbers i None ≡ None → replicate 256 0 ≡ page_bytes (get_or (paged arena numbers) i None)
+unfolding zeros
+none-is arena numbers i e = sym (ap page_bytes (get_or-paged arena numbers i ∙ ap (page_in arena) e))
 
 pub read-is : (arena : Pages) (numbers : Numbers) (at p : ℕ) → IsPaged arena numbers → get_or numbers (at / 256) None ≡ Some p → get_or (held arena p) (at % 256) 0 ≡ byte_at (paged arena numbers) at
 read-is arena numbers at p is e = ap (λ (bytes : List ℕ). get_or bytes (at % 256) 0) (held-is arena numbers (at / 256) p is e)

@@ -44,6 +44,10 @@ impl Bus for PagedBus {
         self.pages.get(at)
     }
 
+    fn holds(&self, at: u16, expected: &[u8]) -> bool {
+        self.pages.holds(at, expected)
+    }
+
     fn put(&mut self, at: u16, byte: u8)
         ensures bytes { joined self.new.pages ≡ slice_set (joined self.old.pages) at byte }
         ensures pages { self.new.pages ≡ after_put self.old.pages at byte }

@@ -1,13 +1,20 @@
 //! The pages, and where they are in the arena.
 
-ghost use Rattle.std.specs.Prelude.{◌≡◌, ◌<◌, ◌+◌, ◌%◌, ℕ, ◌/◌, true, replicate, get_or, IfOk, None};
+ghost use Rattle.std.specs.Prelude.{◌≡◌, ◌<◌, ◌≤◌, ◌+◌, ◌%◌, ℕ, ◌/◌, true, replicate, get_or, IfOk, None};
+ghost use Rattle.std.specs.Prelude.{length, take, drop, bytes_eq};
 ghost use Rattle.sx_pages.specs.Pages.{no_pages, size, is_live, with_byte};
-ghost use Rattle.sx_paged.specs.Memory.{byte_at, after_put};
+ghost use Rattle.sx_paged.specs.Memory.{IsMemory, byte_at, page_bytes, joined, after_put};
 ghost use Rattle.sx_paged.specs.Paged.{paged, IsPaged};
 
 use std::alloc::{AllocError as OutOfMemory, Global};
 use std::marker::Model;
 use sx_pages::Arena;
+
+/// How many bytes a page has.
+const PAGE_BYTES: usize = 256;
+
+/// What an absent page reads as.
+const BLANK_PAGE: [u8; PAGE_BYTES] = [0; PAGE_BYTES];
 
 /// The 256 pages of a memory, each of which has a page of the arena or none. Every live page of the
 /// arena is the page of one index alone.
@@ -50,6 +57,43 @@ impl Paged {
             Some(page) => self.arena.read(page, (at % 256) as u8),
             None => 0,
         }
+    }
+
+    /// The bytes of a page; zeros where it is absent.
+    fn page(&self, index: u8) -> &[u8]
+        ensures { result.now ≡ page_bytes (get_or self.now index None) }
+    {
+        match self.numbers[index as usize] {
+            Some(page) => self.arena.page(page),
+            None => &BLANK_PAGE,
+        }
+    }
+
+    /// Whether these bytes stand from an address on, where no page ends before them.
+    fn holds_on_page(&self, at: u16, expected: &[u8]) -> bool
+        requires shaped { IsMemory self.now }
+        requires within { at % 256 + length expected.now ≤ 256 }
+        ensures { result
+            ≡ bytes_eq (take (length expected.now) (drop at (joined self.now))) expected.now }
+    {
+        let from = (at % 256) as usize;
+        let page = self.page((at / 256) as u8);
+        &page[from..from + expected.len()] == expected
+    }
+
+    /// Whether these bytes stand from an address on: one comparison for each page that they meet.
+    pub(crate) fn holds(&self, at: u16, expected: &[u8]) -> bool
+        requires shaped { IsMemory self.now }
+        requires within { at + length expected.now ≤ 65536 }
+        ensures { result
+            ≡ bytes_eq (take (length expected.now) (drop at (joined self.now))) expected.now }
+    {
+        let room = PAGE_BYTES - (at % 256) as usize;
+        if expected.len() <= room {
+            return self.holds_on_page(at, expected);
+        }
+        let (first, rest) = expected.split_at(room);
+        self.holds_on_page(at, first) && self.holds(at + room as u16, rest)
     }
 
     /// Writes one byte, and makes the page where it is absent.

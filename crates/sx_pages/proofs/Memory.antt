@@ -1,7 +1,8 @@
 -- What the walks of the functions on the pointer share. Assumes `Logic`.
 --     slot_out, slot_in, slot_seen      one slot is taken out of the pages, put back with a byte, or seen
+--     page_seen      the bytes of a page that was written whole are seen
 --     of_room, to_room      room for the bytes of n pages is n pages of which nothing is written, and any pages are room
-use Rattle.std.proofs.Common.{◌≡◌, ℕ, zero, suc, ◌+◌, ◌*◌, ◌<◌, List, [], ◌∷◌, length, get_or, set, replicate, refl, sym, ◌∙◌, arith, Some, None}
+use Rattle.std.proofs.Common.{◌≡◌, ℕ, zero, suc, ◌+◌, ◌*◌, ◌<◌, List, [], ◌∷◌, length, get_or, set, map, replicate, refl, sym, ap, ◌∙◌, arith, Some, None}
 use Rattle.std.proofs.lemmas.List.Elements.{All-head, All-tail}
 use Rattle.std.specs.Prelude.{All}
 use Rattle.std.specs.Borrow.{u8}
@@ -15,10 +16,17 @@ use base.Fml.{fat}
 use types.Logic.{Logic, sem}
 use types.Kit.{‵, ◌⊛◌, ◌$◌, ◌∵◌, !, qed, by, move, keep, use1, use2, split, fsplit, fjoin, rewrite, frame, done}
 use denote.Index.{others, takes, puts, place_is, place_byte, place as nth}
-use denote.Memory.{part_at, each_shared}
+use denote.Memory.{part_at, each_shared, shared_of}
+use denote.Sharing.{beside}
+use denote.Slice.{elements_shared}
 use denote.Plain.{uint_out}
 use denote.RawPtr.Room.{room_cut, room_glue, past, past_bytes}
 use Rattle.sx_pages.specs.Ownership.{Slot, slot_own, in_page, page, in_block, pages_own, slot_lent, page_lent, pages_lent, unwritten_page, unwritten}
+
+-- slots that hold these bytes lend each of them
+bytes_lent : (bytes : List ℕ) (b o : ℕ) → page_lent (map Some bytes) b o ≡ elements_shared u8 bytes b o
+bytes_lent [] b o = refl
+bytes_lent (x ∷ bytes) b o = ap (λ (rest : Lft → Fml). beside (shared_of u8 x b o) rest) (bytes_lent bytes b (o + 1))
 
 pub nth_is : (o p at : ℕ) → nth 1 (nth 256 o p) at ≡ p * 256 + at + o
 nth_is o p at = place_byte (nth 256 o p) at ∙ omega (arith, place_is 256 o p)
@@ -98,3 +106,13 @@ module _ {M : Type 1} {𝓤 : Ura M} (𝓛 : Logic 𝓤) (b : ℕ) where
         use1 𝓛 (‵ (page_lent (get_or pages p []) b (nth 256 o p) κ)) (element_seen 256 page_lent pages p [] o hp) $
         use1 𝓛 (‵ (slot_lent (get_or (get_or pages p []) at None) b (nth 1 (nth 256 o p) at) κ)) (element_seen 1 slot_lent (get_or pages p []) at None (nth 256 o p) hat) $
         rewrite ! 0 (λ (k : ℕ). ‵ (slot_lent (get_or (get_or pages p []) at None) b k κ)) (nth_is o p at) refl $ done !
+
+    pub page_seen : (pages : List (List Slot)) (p o : ℕ) (bytes : List ℕ) → p < length pages → get_or pages p [] ≡ map Some bytes
+        → ent 𝓤 (sem 𝓛 (pages_lent pages b o κ)) (sem 𝓛 (elements_shared u8 bytes b (p * 256 + o) κ))
+    page_seen pages p o bytes hp is =
+        let at : nth 256 o p ≡ p * 256 + o = omega (arith, place_is 256 o p) in
+        qed 𝓛 (‵ (pages_lent pages b o κ) ∷ []) ∵
+        use1 𝓛 (‵ (page_lent (get_or pages p []) b (nth 256 o p) κ)) (element_seen 256 page_lent pages p [] o hp) $
+        rewrite ! 0 (λ (k : ℕ). ‵ (page_lent (get_or pages p []) b k κ)) at refl $
+        rewrite ! 0 (λ (slots : List Slot). ‵ (page_lent slots b (p * 256 + o) κ)) is refl $
+        rewrite ! 0 (λ (lent : Lft → Fml). ‵ (lent κ)) (bytes_lent bytes b (p * 256 + o)) refl $ done !

@@ -1,7 +1,9 @@
 -- The pages of a block are 256 of 256 slots, at the start and after a write.
-use Rattle.std.proofs.Common.{◌≡◌, ℕ, ◌<◌, List, [], length, get_or, set, ◌∙◌, arith, length-set, Some, None, ◌⊎◌, inl, inr}
+use Rattle.std.proofs.Common.{◌≡◌, ℕ, ◌<◌, List, [], ◌∷◌, length, get_or, set, map, ◌∙◌, refl, ap, arith, length-set, Some, None, ◌⊎◌, inl, inr}
 use Rattle.std.proofs.lemmas.List.{length-replicate}
-use Rattle.std.proofs.lemmas.List.Elements.{All-get_or, All-set, All-replicate}
+use Rattle.std.proofs.lemmas.List.Elements.{All-get_or, All-set, All-replicate, All-head, All-tail}
+use Rattle.std.specs.Prelude.{All}
+use Rattle.sx_pages.specs.Arena.{HasByte, byte_in}
 use Rattle.sx_pages.specs.Ownership.{Slot, IsArenaBlock, unwritten_page, unwritten}
 
 pub length-unwritten_page : length unwritten_page ≡ 256
@@ -19,6 +21,16 @@ pub IsArenaBlock-set : (pages : List (List Slot)) (p at byte : ℕ) → p < 256 
     → IsArenaBlock (set pages p (set (get_or pages p []) at (Some byte)))
 IsArenaBlock-set pages p at byte h is =
     (length-set pages p _ ∙ is.0, All-set (λ page. length page ≡ 256) pages p _ (length-set (get_or pages p []) at (Some byte) ∙ length-page pages p h is) is.1)
+
+some_byte : (slot : Slot) → HasByte slot → slot ≡ Some (byte_in slot)
+some_byte (Some byte) h = refl
+some_byte None h = let no = h.1 in cc
+
+-- slots that were all written hold their bytes
+pub bytes_there : (slots : List Slot) → All HasByte slots → slots ≡ map Some (map byte_in slots)
+bytes_there [] all = refl
+bytes_there (s ∷ slots) all =
+    (λ j. some_byte s (All-head HasByte s slots all) j ∷ bytes_there slots (All-tail HasByte s slots all) j)
 
 -- by cases
 pub choose : {A B X : Type 0} → A ⊎ B → (A → X) → (B → X) → X

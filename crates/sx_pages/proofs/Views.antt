@@ -99,6 +99,15 @@ pub read-is : (lives : List Bool) (pages : List (List Slot)) (p at byte : ℕ) �
 read-is lives pages p at byte e t is =
     sym (ap (λ (bytes : List ℕ). get_or bytes at 0) (held-live lives pages p e t) ∙ bytes-at (get_or pages p []) at ∙ ap byte_in is)
 
+-- the bytes of slots that hold these
+bytes-of : (bytes : List ℕ) → map byte_in (map Some bytes) ≡ bytes
+bytes-of [] = refl
+bytes-of (b ∷ bytes) = ap (λ (rest : List ℕ). b ∷ rest) (bytes-of bytes)
+
+pub page-is : (lives : List Bool) (pages : List (List Slot)) (p : ℕ) (bytes : List ℕ) → length lives ≡ length pages → get_or lives p false ≡ true
+    → get_or pages p [] ≡ map Some bytes → bytes ≡ held (pages_of lives pages) p
+page-is lives pages p bytes e t is = sym (held-live lives pages p e t ∙ ap (map byte_in) is ∙ bytes-of bytes)
+
 pub write-is : (lives : List Bool) (pages : List (List Slot)) (p at byte : ℕ) → length lives ≡ length pages → get_or lives p false ≡ true
     → pages_of lives (set pages p (set (get_or pages p []) at (Some byte))) ≡ set (pages_of lives pages) p (Some (set (held (pages_of lives pages) p) at byte))
 write-is lives pages p at byte e t =

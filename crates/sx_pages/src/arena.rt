@@ -93,6 +93,14 @@ impl Arena {
         *self.block.byte(page, at)
     }
 
+    /// What a live page holds.
+    pub fn page(&self, page: u8) -> &[u8]
+        requires { is_live self.now page ≡ true }
+        ensures { result.now ≡ held self.now page }
+    {
+        self.block.page(page)
+    }
+
     /// Writes the byte at the index `at` of a live page. All other bytes stay.
     pub fn write(&mut self, page: u8, at: u8, byte: u8)
         requires { is_live self.old page ≡ true }

@@ -1,6 +1,6 @@
 //! The block of memory behind a raw pointer. Everything that touches the pointer is in this file.
 
-ghost use Rattle.std.specs.Prelude.{◌≡◌, ◌<◌, List, All, get_or, slice_set, IfSome, Some};
+ghost use Rattle.std.specs.Prelude.{◌≡◌, ◌<◌, List, All, get_or, map, slice_set, IfSome, Some};
 ghost use Rattle.std.specs.Prelude.{[]};
 ghost use denote.RawPtr.{Ptr};
 ghost use Rattle.sx_pages.specs.Arena.{HasByte, slot_of, with_slot, zeroed, AllLinked, CanCopy};
@@ -11,6 +11,7 @@ ghost use base.Fml.{ftrue};
 
 use std::alloc::Allocator;
 use std::marker::{Model, PhantomData};
+use std::slice;
 
 /// The bytes of a block.
 const BYTES: usize = 65536;
@@ -71,6 +72,14 @@ impl Block {
         ensures { slot_of self.now.pages page at ≡ Some result.now }
     {
         unsafe { &*self.start.add(page as usize * 256 + at as usize) }
+    }
+
+    /// The bytes of a page that was written whole.
+    pub(crate) fn page(&self, page: u8) -> &[u8]
+        requires { All HasByte (get_or self.now.pages page []) }
+        ensures { get_or self.now.pages page [] ≡ map Some result.now }
+    {
+        unsafe { slice::from_raw_parts(self.start.add(page as usize * 256), 256) }
     }
 
     /// Writes one byte.
