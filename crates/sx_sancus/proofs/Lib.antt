@@ -1,2 +1,3 @@
 pub mod Padding
 pub mod Rows
+pub mod Stretches

@@ -1,6 +1,6 @@
 //! Identities of modules, fed to a run of the tag.
 
-ghost use Rattle.std.specs.Prelude.{◌≡◌, ◌++◌, ◌-◌, true, ℕ, List, None};
+ghost use Rattle.std.specs.Prelude.{◌≡◌, ◌+◌, ◌-◌, ◌<◌, ◌≤◌, ◌++◌, true, ℕ, List, None, length, take};
 ghost use Rattle.sx_bus.specs.Devices.{places_of};
 ghost use Rattle.sx_rules.specs.Admission.{refusal};
 ghost use Rattle.sx_tag.specs.Keys.{section_key, attest_tag};
@@ -15,6 +15,66 @@ use sx_executor::Executor;
 use sx_rules::Layout;
 use sx_tag::{Tag, begin_attest_tag, begin_module_key, feed_answer, finish_answer, layout_bytes};
 
+/// How many bytes of a public section are fed at once: a block of SHA-256.
+const PART: u16 = 64;
+
+/// Copies bytes of a public section, from an offset on.
+#[tactic(auto, unfolding(sx_machine::specs::Memory::bytes_from), using(std::proofs::lemmas::List::take_more_set))]
+fn copy_public<B: Bus>(executor: &Executor<B>, layout: &Layout, from: u16, into: &mut [u8])
+    requires right { reads_public executor.now layout.now ≡ true }
+    requires public { IsPublic executor.now layout.now }
+    requires within { from + length into.old ≤ layout.now.pub_to - layout.now.pub_from }
+    requires room { from + length into.old < 65536 }
+    ensures { into.new
+        ≡ bytes_from executor.now.mem (layout.now.pub_from + from) (length into.old) }
+{
+    for i in 0..into.len() {
+        into[i] = executor.public_byte(layout, from + i as u16);
+    }
+}
+
+/// Copies at most 64 bytes of a public section, from an offset on, to the start of a block.
+fn copy_part<B: Bus>(
+    executor: &Executor<B>,
+    layout: &Layout,
+    from: u16,
+    count: usize,
+    into: &mut [u8; PART as usize],
+)
+    requires right { reads_public executor.now layout.now ≡ true }
+    requires public { IsPublic executor.now layout.now }
+    requires within { from + count ≤ layout.now.pub_to - layout.now.pub_from }
+    requires room { from + count < 65536 }
+    requires short { count ≤ 64 }
+    ensures { take count into.new
+        ≡ bytes_from executor.now.mem (layout.now.pub_from + from) count }
+{
+    copy_public(executor, layout, from, &mut into[..count]);
+}
+
+/// Feeds at most 64 bytes of a public section, from an offset on.
+fn feed_part<B: Bus, T: Tag>(
+    executor: &Executor<B>,
+    tag: &T,
+    run: &mut T::Run,
+    layout: &Layout,
+    from: u16,
+    count: usize,
+)
+    requires right { reads_public executor.now layout.now ≡ true }
+    requires public { IsPublic executor.now layout.now }
+    requires within { from + count ≤ layout.now.pub_to - layout.now.pub_from }
+    requires room { from + count < 65536 }
+    requires short { count ≤ 64 }
+    ensures { (answer : List ℕ → List ℕ) (fed : List ℕ) → Leads T.has T.mac answer run.old fed
+        → Leads T.has T.mac answer run.new
+        (fed ++ bytes_from executor.now.mem (layout.now.pub_from + from) count) }
+{
+    let mut block = [0; PART as usize];
+    copy_part(executor, layout, from, count, &mut block);
+    feed_answer(tag, run, &block[..count]);
+}
+
 /// Feeds the bytes of a public section.
 fn feed_public<B: Bus, T: Tag>(executor: &Executor<B>, tag: &T, run: &mut T::Run, layout: &Layout)
     requires right { reads_public executor.now layout.now ≡ true }
@@ -23,9 +83,12 @@ fn feed_public<B: Bus, T: Tag>(executor: &Executor<B>, tag: &T, run: &mut T::Run
         → Leads T.has T.mac answer run.new (fed ++ bytes_from executor.now.mem layout.now.pub_from
         (layout.now.pub_to - layout.now.pub_from)) }
 {
-    for i in 0..layout.pub_to.saturating_sub(layout.pub_from) {
-        feed_answer(tag, run, &[executor.public_byte(layout, i)]);
+    let count = layout.pub_to.saturating_sub(layout.pub_from);
+    for i in 0..count / PART {
+        feed_part(executor, tag, run, layout, PART * i, PART as usize);
     }
+    let rest = count % PART;
+    feed_part(executor, tag, run, layout, count - rest, rest as usize);
 }
 
 /// Feeds the identity of a module with this layout, from the bytes as they are.
