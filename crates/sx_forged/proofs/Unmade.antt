@@ -1,5 +1,5 @@
 -- From power-on to the first `forged`, and what it then is.
-use Rattle.std.proofs.Common.{◌≡◌, ℕ, zero, suc, ◌+◌, ◌<◌, ◌⊎◌, inl, inr, List, [], ◌∷◌, ◌++◌, Option, Some, refl, sym, ◌∙◌, ap, subst, arith}
+use Rattle.std.proofs.Common.{◌≡◌, ℕ, zero, suc, ◌+◌, ◌<◌, ◌≤◌, ◌⊎◌, inl, inr, List, [], ◌∷◌, ◌++◌, Option, Some, refl, sym, ◌∙◌, ap, subst, arith, length}
 use Rattle.std.specs.Prelude.{slice_get}
 use Rattle.sx_trace.specs.declared.items.Item.{Item}
 use Rattle.sx_trace.specs.declared.items.Item.TheVariants as item
@@ -7,7 +7,11 @@ use Rattle.sx_machine.specs.State.{State}
 use Rattle.sx_sched.specs.Lines.{Line}
 use Rattle.sx_run.specs.Setting.{Setting}
 use Rattle.sx_run.specs.State.{World, switched_on}
-use Rattle.sx_run.specs.Law.{IsSoundSetting}
+use Rattle.sx_run.specs.Law.{IsSoundSetting, LinesInForm}
+use Rattle.sx_run.specs.Accepted.{setting_of, sites_of}
+use Rattle.sx_run.proofs.accepted.Settled.{settled}
+use Rattle.sx_run.proofs.accepted.FormedLines.{lines_in_form}
+use Rattle.sx_deploy.proofs.Sound.{sound}
 use Rattle.sx_run.specs.Acts.{at_node, after_step}
 use Rattle.sx_run.specs.Run.{run}
 use Rattle.sx_run.proofs.tie.Lists.{some_inj}
@@ -17,7 +21,8 @@ use Rattle.sx_guard.specs.Lines.{script_of}
 use Rattle.sx_guard.proofs.Guarding.{on_placed}
 use Rattle.sx_guard.proofs.Performing.{is_performed}
 use Rattle.sx_forged.specs.Moments.{Moment, moment_from, moment, shown_at, IsAmong, NoForged, NoneBefore}
-use Rattle.sx_forged.specs.Forgery.{ForgedUnmade, ForgedShown}
+use Rattle.sx_forged.specs.Forgery.{ForgedUnmade, ForgedShown, ForgedIsForgery}
+use Rattle.sx_forged.specs.Accepted.{AcceptedForged}
 use Rattle.sx_forged.specs.Logged.{IsEntered, LedgerTells}
 use Rattle.sx_forged.proofs.Turns.{AllTurn}
 use Rattle.sx_forged.proofs.Reaching.{InForm, ScriptInForm, done_turns, lines_form, starts_turning}
@@ -157,3 +162,14 @@ forged_shown set lines front rest who e none =
     let same : (run set (switched_on set) lines).items ≡ (performed set (script_of set lines) (switched_on set)).items = ap (λ (z : Rattle.sx_run.specs.State.Acted). z.items) (is_performed set lines (switched_on set) (on_placed set)) in
     let f = find set (script_of set lines) (switched_on set) front rest who (sym same ∙ e) none in
     (f.k, f.now, record { at = f.at; shown = f.shown; first = f.first })
+
+-- both, of the runs of an accepted deployment
+pub forged_is_forgery : (set : Setting) → IsSoundSetting set → (lines : List Line) → length lines ≤ 65536 → LinesInForm set lines → ForgedIsForgery set lines
+forged_is_forgery set sound lines few form front rest who e none =
+    let f = forged_shown set lines front rest who e none in
+    record { k = f.0; now = f.1; first = f.2; forgery = forged_unmade set sound lines few form f.0 f.1 who f.2 }
+
+pub accepted_forged : AcceptedForged
+accepted_forged text d read mac texts tag images lines few are =
+    forged_is_forgery (setting_of mac d texts) (settled mac d texts (sound text d read) images tag) lines few
+    (lines_in_form mac d (sites_of d.app.parts d.layouts d.providers texts) (sound text d read) lines are)

@@ -98,3 +98,16 @@ abbrev pub ForgedShown : Type 0
 ForgedShown = (set : Setting) (lines : List Line) (front rest : List Item) (who : Option ℕ)
     → (run set (switched_on set) lines).items ≡ front ++ item.Forged who ∷ rest → NoForged front
     → (k : ℕ) × (now : Moment) × FirstForged set lines k now who
+
+-- the moment that shows the first `forged` of a run, and the acceptance that it is
+pub record FirstForgery (set : Setting) (lines : List Line) (who : Option ℕ) : Type 0 where
+  pub k : ℕ
+  pub now : Moment
+  pub first : FirstForged set lines k now who
+  pub forgery : Forgery set lines k now.world who
+
+-- Wherever the items of a run have a first `forged`, it is such an acceptance.
+abbrev pub ForgedIsForgery : Setting → List Line → Type 0
+ForgedIsForgery set lines = (front rest : List Item) (who : Option ℕ)
+    → (run set (switched_on set) lines).items ≡ front ++ item.Forged who ∷ rest → NoForged front
+    → FirstForgery set lines who

@@ -7,3 +7,4 @@ pub mod Named
 pub mod Moments
 pub mod Forgery
 pub mod Logged
+pub mod Accepted

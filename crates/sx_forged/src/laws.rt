@@ -1,5 +1,6 @@
 //! What holds of every run. Each law is a function that does nothing: its contract is the law.
 
+ghost use Rattle.sx_forged.specs.Accepted.{AcceptedForged};
 ghost use Rattle.sx_forged.specs.Forgery.{ForgedShown, ForgedUnmade};
 ghost use Rattle.sx_forged.specs.Logged.{LedgerTells};
 ghost use Rattle.sx_forged.specs.Named.{NamesAgree};
@@ -35,6 +36,11 @@ pub fn forged_unmade()
 /// There is a moment that shows the first `forged` among the items of a run.
 pub fn forged_shown()
     ensures { ForgedShown }
+{}
+
+/// So is that of every run of a deployment that was accepted, from its text on.
+pub fn accepted_forged()
+    ensures { AcceptedForged }
 {}
 
 /// Until then the ledger has whatever deployed modules and the deployer wrapped, and nothing else.
