@@ -47,7 +47,8 @@ use Rattle.sx_forged.proofs.Turns.{setup_of, turn_of, NodeTurns}
 use Rattle.sx_forged.proofs.Forging.{among_append, touches_not, event_forged, UnwrapKinds}
 use Rattle.sx_forged.proofs.Logging.{AllLogged, SendsOwn}
 use Rattle.sx_forged.proofs.Opening.{Told, KeyedFrom, TakenFrom, AllMarks, unwraps_told}
-use Rattle.sx_forged.proofs.Packets.{tail_stands}
+use Rattle.sx_invoke.specs.Windows.{read_bytes, is_bad_window, in_window_size}
+use Rattle.sx_forged.proofs.Packets.{tail_stands, window_outside}
 use Rattle.sx_forged.proofs.Fields.{field_key, field_is, found_keyed}
 use Rattle.sx_forged.proofs.Sending.{Sent, wraps_sent, sent_sender}
 use Rattle.sx_forged.proofs.Keyed.{key_shows, NodeKeyed}
@@ -225,10 +226,20 @@ module _ (set : Setting) (lines : List Line) (k : ℕ) (w : World) (n : ℕ) (s 
     ]
 
     -- where the tag of a packet of this size stood
-    stood : (packet : List ℕ) (at : ℕ) → Rattle.sx_invoke.specs.Windows.read_bytes su (progress_at su before).devices (progress_at su before).mem (call_at before).input (at + 16) ≡ Ok packet → Presented set lines k (drop at packet)
-    stood packet at e =
+    stood : (packet : List ℕ) (at : ℕ) → at + 16 ≤ in_window_size → is_bad_window su (call_at before).input in_window_size ≡ false
+        → read_bytes su (progress_at su before).devices (progress_at su before).mem (call_at before).input (at + 16) ≡ Ok packet → Presented set lines k (drop at packet)
+    stood packet at le window e =
         let p = on.stood in
-        record { j = p.j; past = p.past; early = p.early; at = p.at; stands = InMemory n ((call_at before).input + at) before p.there (tail_stands su before.devices before.mem at 16 (call_at before).input packet e) }
+        let en = on.turn.enters in
+        record {
+          j = p.j;
+          past = p.past;
+          early = p.early;
+          at = p.at;
+          stands = InMemory n ((call_at before).input + at) before p.there
+              (window_outside su before.sections before.devices before.mem at 16 in_window_size (call_at before).input packet en.node.placed refl en.stands.lives le window e)
+              (tail_stands su before.devices before.mem at 16 (call_at before).input packet e);
+        }
 
     opens : s.boot ≤ 65536 → (who : Option ℕ) (id : ℕ) → who ≡ Some m → (step set.mac s).shown.event ≡ event.Unwrapped id → is_set_key_header (header_of x) ≡ true
         → is_made w.ledger (made_entry maker.Deployer m (step set.mac s).state.boot (header_of x) (body_of x)) ≡ false → Forgery set lines k w who
@@ -252,7 +263,7 @@ module _ (set : Setting) (lines : List Line) (k : ℕ) (w : World) (n : ℕ) (s 
           tag = drop key_tag_at f.packet;
           calls = subst (λ (z : Option ℕ). CallsFor set w z (header_of x) (OfModule m s.boot)) (sym named)
               (Opens m r.site s (header_of x) r.sited (subst (λ (i : ℕ). slice_get w.nodes i ≡ Some s) (sym at.node) there) few sk);
-          presented = stood f.packet key_tag_at f.read;
+          presented = stood f.packet key_tag_at (omega arith) f.window f.read;
           whole = o2.whole;
           unmade = λ body c was. refuted body cipher f.plain c was o2.is f.body_is (subst (λ (z : ℕ). is_made w.ledger (made_entry maker.Deployer m z (header_of x) (body_of x)) ≡ false) boot none);
         }
@@ -304,7 +315,7 @@ module _ (set : Setting) (lines : List Line) (k : ℕ) (w : World) (n : ℕ) (s 
           cipher = cipher;
           tag = drop value_tag_at t.packet;
           calls = subst (λ (z : Option ℕ). CallsFor set w z (header_of x) (OfLink (link_in (header_of x)) (epoch_in (header_of x)))) (sym named) (Takes m (header_of x) ev holds);
-          presented = stood t.packet value_tag_at t.read;
+          presented = stood t.packet value_tag_at (omega arith) t.window t.read;
           whole = o2.whole;
           unmade = λ body c was. refuted body cipher t.plain c was o2.is t.body_is;
         }

@@ -19,7 +19,7 @@ use Rattle.sx_invoke.specs.Setup.{Setup, Call}
 use Rattle.sx_invoke.specs.Marks as mark
 use Rattle.sx_invoke.specs.Marks.{Mark}
 use Rattle.sx_invoke.specs.ModuleState.{EndState, end_of, epoch_of, link_of}
-use Rattle.sx_invoke.specs.Windows.{two, write_bytes, read_bytes}
+use Rattle.sx_invoke.specs.Windows.{two, write_bytes, read_bytes, is_bad_window, in_window_size, out_window_size}
 use Rattle.sx_invoke.specs.Progress.{Progress, Invoked, Returns, Violates, Course, Going, Broken, and_on, finished, marks_in}
 use Rattle.sx_invoke.specs.Acts.{with_piece, copied_to, with_packet, event_packet, event_header, wrap_counted, with_packets, with_act, with_acts, actuated, own_window, handled}
 use Rattle.sx_invoke.specs.Protocol.{set_key_entry, attest_entry, input_entry, set_key_size, set_key_kind, ask_size, ask_kind, event_size, event_kind, no_entry, bad_window, other_kind, no_end, past_number, no_sample, last_number, key_size, value_size, header_size, key_tag_at, value_tag_at}
@@ -30,6 +30,7 @@ use Rattle.sx_invoke.specs.Entries.{received, with_received, is_kind, set_key, s
 pub record TakenFrom (s : Setup) (call : Call) (p : Progress) (header body : List ℕ) : Type 0 where
   pub packet : List ℕ
   pub read : read_bytes s p.devices p.mem call.input event_size ≡ Ok packet
+  pub window : is_bad_window s call.input in_window_size ≡ false
   pub kind : is_kind event_kind packet ≡ true
   pub index : ℕ
   pub «end» : End
@@ -45,6 +46,7 @@ pub record TakenFrom (s : Setup) (call : Call) (p : Progress) (header body : Lis
 pub record KeyedFrom (s : Setup) (call : Call) (p : Progress) (header body : List ℕ) : Type 0 where
   pub packet : List ℕ
   pub read : read_bytes s p.devices p.mem call.input set_key_size ≡ Ok packet
+  pub window : is_bad_window s call.input in_window_size ≡ false
   pub index : ℕ
   pub «end» : End
   pub found : end_on (link_of (field_in packet)) s.ends (side_of (second_in packet)) ≡ Some (index, «end»)
@@ -72,6 +74,10 @@ all_more P (x ∷ ms) m e h = (h.0, all_more P ms m e h.1)
 pub all_of : (P : Mark → Type 0) (before : List Mark) (m : Mark) (rest : List Mark) → AllMarks P (before ++ m ∷ rest) → P m
 all_of P [] m rest h = h.0
 all_of P (x ∷ before) m rest h = all_of P before m rest h.1
+
+no_left : (a b : Bool) → (a || b) ≡ false → a ≡ false
+no_left true b e = e
+no_left false b e = refl
 
 abbrev marks_on : Course → List Mark
 marks_on (Going p) = p.marks
@@ -155,14 +161,14 @@ module _ (s : Setup) (call : Call) (p0 : Progress) where
     by_packet size kind rest f (Err v) e = nothing
     by_packet size kind rest f (Ok packet) e = either (is_kind kind packet) (rest packet) (Returns other_kind p0) (λ g. f packet e g) (λ g. nothing)
 
-    by_key : (packet : List ℕ) → read_bytes s p0.devices p0.mem call.input set_key_size ≡ Ok packet → is_kind set_key_kind packet ≡ true → Good (set_key s packet p0)
-    by_key packet read kind = by_end (end_on (link_of (field_in packet)) s.ends (side_of (second_in packet))) refl
+    by_key : is_bad_window s call.input in_window_size ≡ false → (packet : List ℕ) → read_bytes s p0.devices p0.mem call.input set_key_size ≡ Ok packet → is_kind set_key_kind packet ≡ true → Good (set_key s packet p0)
+    by_key window packet read kind = by_end (end_on (link_of (field_in packet)) s.ends (side_of (second_in packet))) refl
       where
         by_tag : (e : ℕ × End) → end_on (link_of (field_in packet)) s.ends (side_of (second_in packet)) ≡ Some e
             → (u : Option (List ℕ)) → unwrapped s.mac s.section.key (header_in packet) (take key_size (drop header_size packet)) (drop key_tag_at packet) ≡ u → Good (key_opened e.0 packet u p0)
         by_tag e found None f = nothing
         by_tag e found (Some body) f = one (mark.Unwrapped (header_in packet) (take key_size body) true)
-            (record { packet = packet; read = read; index = e.0; «end» = e.1; found = found; kind = kind; plain = body; opens = f; header_is = refl; body_is = refl })
+            (record { packet = packet; read = read; window = window; index = e.0; «end» = e.1; found = found; kind = kind; plain = body; opens = f; header_is = refl; body_is = refl })
 
         by_end : (e : Option (ℕ × End)) → end_on (link_of (field_in packet)) s.ends (side_of (second_in packet)) ≡ e → Good (set_key_at s packet e p0)
         by_end None found = nothing
@@ -170,8 +176,8 @@ module _ (s : Setup) (call : Call) (p0 : Progress) where
             let u = unwrapped s.mac s.section.key (header_in packet) (take key_size (drop header_size packet)) (drop key_tag_at packet) in
             either (is_keyed (end_of p0.state.ends e.0) (field_in packet)) (Returns no_end p0) (key_opened e.0 packet u p0) (λ g. nothing) (λ g. by_tag e found u refl)
 
-    by_event : (packet : List ℕ) → read_bytes s p0.devices p0.mem call.input event_size ≡ Ok packet → is_kind event_kind packet ≡ true → Good (input s call packet p0)
-    by_event packet read kind = by_end (end_found (link_of (field_in packet)) To 0 s.ends) refl
+    by_event : is_bad_window s call.input in_window_size ≡ false → (packet : List ℕ) → read_bytes s p0.devices p0.mem call.input event_size ≡ Ok packet → is_kind event_kind packet ≡ true → Good (input s call packet p0)
+    by_event window packet read kind = by_end (end_found (link_of (field_in packet)) To 0 s.ends) refl
       where
         state_at : ℕ × End → EndState
         state_at e = end_of p0.state.ends e.0
@@ -183,7 +189,7 @@ module _ (s : Setup) (call : Call) (p0 : Progress) where
             let q = number_taken e.0 packet (take value_size body) (end_of p0.state.ends e.0) p0 in
             finished_keeps (handled s call (event.Input e.1.port (word body 0)) q) (handler_keeps (event.Input e.1.port (word body 0)) q
             (one (mark.Unwrapped (header_in packet) (take value_size body) false)
-            (record { packet = packet; read = read; kind = kind; index = e.0; «end» = e.1; found = found; is_open = op; epoch = ep; plain = body; opens = f; header_is = refl; body_is = refl })))
+            (record { packet = packet; read = read; window = window; kind = kind; index = e.0; «end» = e.1; found = found; is_open = op; epoch = ep; plain = body; opens = f; header_is = refl; body_is = refl })))
 
         by_number : (e : ℕ × End) → end_found (link_of (field_in packet)) To 0 s.ends ≡ Some e → (end_of p0.state.ends e.0).is_open ≡ true → epoch_of (end_of p0.state.ends e.0).field ≡ epoch_of (field_in packet)
             → Good (event_numbered s call e packet (end_of p0.state.ends e.0) p0)
@@ -220,19 +226,19 @@ module _ (s : Setup) (call : Call) (p0 : Progress) where
             either d.1.fresh (finished (handled s call (event.Sample d.1.value) q)) (Returns no_sample p0)
             (λ g. finished_keeps (handled s call (event.Sample d.1.value) q) (handler_keeps (event.Sample d.1.value) q (one (mark.Sampled d.0 d.1.value) tt))) (λ g. nothing)
 
-    by_entries : Good (entered s call p0)
+    by_entries : is_bad_window s call.input in_window_size ≡ false → Good (entered s call p0)
     unfolding entered
-    by_entries =
+    by_entries window =
         let x3 = sample s call p0 in
         let x2 = with_received s call event_size event_kind p0 (λ packet. input s call packet p0) in
         let x1 = with_received s call ask_size ask_kind p0 (λ packet. attest s call packet p0) in
         let x0 = with_received s call set_key_size set_key_kind p0 (λ packet. set_key s packet p0) in
         either (call.entry == set_key_entry) x0 (if call.entry == attest_entry then x1 else if call.entry == input_entry then x2 else x3)
-        (λ g. by_packet set_key_size set_key_kind (λ packet. set_key s packet p0) by_key (read_bytes s p0.devices p0.mem call.input set_key_size) refl)
+        (λ g. by_packet set_key_size set_key_kind (λ packet. set_key s packet p0) (by_key window) (read_bytes s p0.devices p0.mem call.input set_key_size) refl)
         (λ g. either (call.entry == attest_entry) x1 (if call.entry == input_entry then x2 else x3)
         (λ g. by_packet ask_size ask_kind (λ packet. attest s call packet p0) (λ packet r k. by_attest packet) (read_bytes s p0.devices p0.mem call.input ask_size) refl)
         (λ g. either (call.entry == input_entry) x2 x3
-        (λ g. by_packet event_size event_kind (λ packet. input s call packet p0) by_event (read_bytes s p0.devices p0.mem call.input event_size) refl)
+        (λ g. by_packet event_size event_kind (λ packet. input s call packet p0) (by_event window) (read_bytes s p0.devices p0.mem call.input event_size) refl)
         (λ g. by_sample)))
 
     -- each unwrap of an invocation is of a key or of an event
@@ -242,4 +248,4 @@ module _ (s : Setup) (call : Call) (p0 : Progress) where
         either (returns_inside s call) (Violates bad.Illegal p0) (if is_no_entry s call then Returns no_entry p0 else if has_bad_windows s call then Returns bad_window p0 else entered s call p0)
         (λ g. nothing)
         (λ g. either (is_no_entry s call) (Returns no_entry p0) (if has_bad_windows s call then Returns bad_window p0 else entered s call p0) (λ g. nothing)
-        (λ g. either (has_bad_windows s call) (Returns bad_window p0) (entered s call p0) (λ g. nothing) (λ g. by_entries)))
+        (λ g. either (has_bad_windows s call) (Returns bad_window p0) (entered s call p0) (λ g. nothing) (λ g. by_entries (no_left (is_bad_window s call.input in_window_size) (is_bad_window s call.output out_window_size) g))))

@@ -1,5 +1,5 @@
 -- What the first `forged` of a run says: a tag was accepted that nobody who holds its key made.
-use Rattle.std.specs.Prelude.{◌≡◌, ℕ, true, ◌≤◌, ◌⊎◌, List, [], ◌∷◌, ◌++◌, length, take, slice_get}
+use Rattle.std.specs.Prelude.{◌≡◌, ℕ, true, false, ◌≤◌, ◌⊎◌, List, [], ◌∷◌, ◌++◌, length, take, slice_get}
 use Rattle.std.specs.Prelude.{Option, Some, None}
 use Rattle.sx_trace.specs.declared.items.Item.{Item}
 use Rattle.sx_trace.specs.declared.items.Item.TheVariants as item
@@ -8,6 +8,7 @@ use Rattle.sx_ledger.specs.declared.entry.Maker.TheVariants as maker
 use Rattle.sx_tag.specs.Wrap.{crypt}
 use Rattle.sx_machine.specs.State.{State}
 use Rattle.sx_machine.specs.Memory.{bytes_from}
+use Rattle.sx_machine.specs.Ranges.{meets_private}
 use Rattle.sx_sched.specs.Lines.{Line}
 use Rattle.sx_run.specs.Setting.{Setting, Site}
 use Rattle.sx_run.specs.Ledger.{Made, NO_TARGET, made_entry, is_made}
@@ -59,10 +60,10 @@ pub data CallsFor (set : Setting) (w : World) : Option ℕ → List ℕ → KeyN
   Answers : (m boot : ℕ) (ask : List ℕ) → open_ask (slice_get w.deployer.open_asks m) ≡ Some ask
       → CallsFor set w None ask (OfModule m boot)
 
--- the tag stands in the memory of a node, or it is a packet
+-- the tag stands in the memory of a node, outside all private sections, or it is a packet
 pub data StandsIn (w : World) (tag : List ℕ) : Type 0 where
-  InMemory : (n at : ℕ) (s : State) → slice_get w.nodes n ≡ Some s → bytes_from s.mem at 16 ≡ tag
-      → StandsIn w tag
+  InMemory : (n at : ℕ) (s : State) → slice_get w.nodes n ≡ Some s
+      → meets_private s.sections.live at 16 ≡ false → bytes_from s.mem at 16 ≡ tag → StandsIn w tag
   AsPacket : (k : ℕ) → slice_get w.packets k ≡ Some tag → StandsIn w tag
 
 -- it stood so at a moment of the run, at the latest at the k-th
