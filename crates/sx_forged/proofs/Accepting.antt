@@ -118,7 +118,8 @@ runner_at set n m s id own f e =
 
 -- A section at a site has the module's key.
 
-pub section_key : (set : Setting) (n : ℕ) (s : State) (sec : Section) (site : Site) → NodeTurns set n s → Lives s.sections.live sec → is_at_site n s.mem sec site ≡ true → sec.key ≡ key_of set site s.boot
+pub section_key : (set : Setting) (n : ℕ) (s : State) (sec : Section) (site : Site) → NodeTurns set n s → Lives s.sections.live sec
+    → is_at_site n s.mem sec site ≡ true → sec.key ≡ key_of set site s.boot
 section_key set n s sec site all lives e =
     let at = at_site n s.mem sec site e in
     all.keys sec lives

@@ -1,5 +1,6 @@
 -- A node is reset at most once in a line, so in a schedule's run its boots are few.
-use Rattle.std.proofs.Common.{◌≡◌, ℕ, zero, suc, ◌+◌, ◌≤◌, ◌/◌, ◌==◌, ◌||◌, not, inl, inr, Bool, true, false, if◌then◌else◌, List, [], ◌∷◌, length, drop, Option, Some, None, Result, Ok, Err, refl, sym, ◌∙◌, ap, subst, arith}
+use Rattle.std.proofs.Common.{◌≡◌, ℕ, zero, suc, ◌+◌, ◌≤◌, ◌/◌, ◌==◌, ◌||◌, not, inl, inr, Bool, true, false, if◌then◌else◌, List, [], ◌∷◌, length, drop}
+use Rattle.std.proofs.Common.{Option, Some, None, Result, Ok, Err, refl, sym, ◌∙◌, ap, subst, arith}
 use Rattle.std.specs.Prelude.{slice_get, slice_set}
 use Rattle.std.proofs.lemmas.Bool.{true≢false, eqb-true}
 use Rattle.sx_trace.specs.declared.items.Item.TheVariants as item
@@ -86,7 +87,8 @@ act_boot set (act.Interrupt line) s = unless_boot (λ k. k ≤ s.boot + 1) (irq_
 -- What happens to one node.
 
 module _ (set : Setting) (w : World) where
-  one_few : (k j n : ℕ) (s t : State) (ns : List State) → Few k w → k ≤ j → slice_get w.nodes n ≡ Some s → t.boot ≤ j → ns ≡ slice_set w.nodes n t → (m : ℕ) (u : State) → slice_get ns m ≡ Some u → u.boot ≤ j
+  one_few : (k j n : ℕ) (s t : State) (ns : List State) → Few k w → k ≤ j → slice_get w.nodes n ≡ Some s → t.boot ≤ j → ns ≡ slice_set w.nodes n t
+      → (m : ℕ) (u : State) → slice_get ns m ≡ Some u → u.boot ≤ j
   one_few k j n s t ns h le there low e m u g =
       let g2 : slice_get (slice_set w.nodes n t) m ≡ Some u = subst (λ (z : List State). slice_get z m ≡ Some u) e g in
       elim (same_or_not m n) [
@@ -96,17 +98,20 @@ module _ (set : Setting) (w : World) where
         | inr ne ↦ let b = h m u (sym (get_other w.nodes n m t ne) ∙ g2) in omega (arith, b, le)
       ]
 
-  at_few : (k j n : ℕ) (f : State → Acted) (a : Act) → Few k w → k ≤ j → ((s : State) → s.boot ≤ k → (acted set.mac a s).state.boot ≤ j) → ((s : State) → (f s).world.nodes ≡ slice_set w.nodes n (acted set.mac a s).state)
+  at_few : (k j n : ℕ) (f : State → Acted) (a : Act) → Few k w → k ≤ j → ((s : State) → s.boot ≤ k → (acted set.mac a s).state.boot ≤ j)
+      → ((s : State) → (f s).world.nodes ≡ slice_set w.nodes n (acted set.mac a s).state)
       → (o : Option State) → slice_get w.nodes n ≡ o → Few j (at_node w f o).world
   at_few k j n f a h le low nodes None e = less_few k j w le h
   at_few k j n f a h le low nodes (Some s) e = one_few k j n s (acted set.mac a s).state (f s).world.nodes h le e (low s (h n s e)) (nodes s)
 
   -- a gentle act
-  gentle_few : (k n : ℕ) (f : State → Acted) (a : Act) → Few k w → Gentle a → ((s : State) → (f s).world.nodes ≡ slice_set w.nodes n (acted set.mac a s).state) → Few k (at_node w f (slice_get w.nodes n)).world
+  gentle_few : (k n : ℕ) (f : State → Acted) (a : Act) → Few k w → Gentle a → ((s : State) → (f s).world.nodes ≡ slice_set w.nodes n (acted set.mac a s).state)
+      → Few k (at_node w f (slice_get w.nodes n)).world
   gentle_few k n f a h g nodes = at_few k k n f a h (omega arith) (λ s low. let e = gentle_boot set a s g in omega (arith, e, low)) nodes (slice_get w.nodes n) refl
 
   -- any act
-  act_few : (k n : ℕ) (f : State → Acted) (a : Act) → Few k w → ((s : State) → (f s).world.nodes ≡ slice_set w.nodes n (acted set.mac a s).state) → Few (k + 1) (at_node w f (slice_get w.nodes n)).world
+  act_few : (k n : ℕ) (f : State → Acted) (a : Act) → Few k w → ((s : State) → (f s).world.nodes ≡ slice_set w.nodes n (acted set.mac a s).state)
+      → Few (k + 1) (at_node w f (slice_get w.nodes n)).world
   act_few k n f a h nodes = at_few k (k + 1) n f a h (omega arith) (λ s low. let e = act_boot set a s in omega (arith, e, low)) nodes (slice_get w.nodes n) refl
 
   take_few : (k n at len : ℕ) → Few k w → (o : Option State) → Few k (at_node w (λ s. after_take w n (take_from s at len).shown) o).world
@@ -174,7 +179,8 @@ done_reset set k (Answer m boot p) w h = more_few k (done set (Answer m boot p) 
 done_reset set k (Show i) w h = more_few k (done set (Show i) w).world (done_mild set k (Show i) w tt h)
 
 -- a step that leaves the count of its node's boots leaves all
-step_few : (set : Setting) (k n : ℕ) (w : World) (a b : Look) → Few k w → slice_get (looks w) n ≡ Some a → slice_get (looks (done set (Step n) w).world) n ≡ Some b → b.boot ≡ a.boot → Few k (done set (Step n) w).world
+step_few : (set : Setting) (k n : ℕ) (w : World) (a b : Look) → Few k w → slice_get (looks w) n ≡ Some a
+    → slice_get (looks (done set (Step n) w).world) n ≡ Some b → b.boot ≡ a.boot → Few k (done set (Step n) w).world
 step_few set k n w a b h la lb same m u g =
     elim (same_or_not m n) [
       | inl e ↦
@@ -289,7 +295,8 @@ module _ (set : Setting) (most : ℕ) where
   calling_few k e input output rest None le f = λ w h. f w (more_few k w h)
   calling_few k e input output rest (Some site) le f =
       unless_few site.node k (all (setting_of site.node (call_registers site e input output)) (finishing site.node rest)) rest le
-      (all_few k (setting_of site.node (call_registers site e input output)) (finishing site.node rest) (omega (arith, le)) (setting_mild site.node (call_registers site e input output)) (finish_few site.node k rest le f)) f
+      (all_few k (setting_of site.node (call_registers site e input output)) (finishing site.node rest) (omega (arith, le))
+      (setting_mild site.node (call_registers site e input output)) (finish_few site.node k rest le f)) f
 
   line_few : (k : ℕ) (l : Line) (rest : List Look → Script) → k + 1 ≤ most → From (k + 1) rest → From k (line_script set l rest)
   line_few k line.Blank rest le f = λ w h. f w (more_few k w h)

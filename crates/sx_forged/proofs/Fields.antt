@@ -1,5 +1,6 @@
 -- Open ends have the keys of their fields, and an invocation keeps that, where the key that it takes is that of its header.
-use Rattle.std.proofs.Common.{◌≡◌, ℕ, zero, suc, ◌+◌, ◌*◌, ◌<◌, ◌==◌, Bool, true, false, cond, ◌&&◌, ◌||◌, not, if◌then◌else◌, List, [], ◌∷◌, ◌++◌, length, take, drop, Option, Some, None, Result, Ok, Err, refl, sym, ◌∙◌, ap, subst, arith}
+use Rattle.std.proofs.Common.{◌≡◌, ℕ, zero, suc, ◌+◌, ◌*◌, ◌<◌, ◌==◌, Bool, true, false, cond, ◌&&◌, ◌||◌, not, if◌then◌else◌, List, [], ◌∷◌, ◌++◌, length}
+use Rattle.std.proofs.Common.{take, drop, Option, Some, None, Result, Ok, Err, refl, sym, ◌∙◌, ap, subst, arith}
 use Rattle.std.specs.Prelude.{nat_lt, slice_index}
 use Rattle.std.proofs.lemmas.Bool.{and_parts, eqb-true, true≢false}
 use Rattle.sx_lang.specs.declared.sides.Side.{Side}
@@ -26,9 +27,13 @@ use Rattle.sx_invoke.specs.ModuleState.{EndState, end_of, with_end, epoch_of, li
 use Rattle.sx_invoke.specs.Windows.{write_bytes, read_bytes}
 use Rattle.sx_invoke.specs.Progress.{Progress, Invoked, Returns, Violates, Course, Going, Broken, and_on, finished}
 use Rattle.sx_invoke.specs.Acts.{with_piece, copied_to, with_packet, event_packet, wrap_counted, with_packets, with_act, with_acts, actuated, own_window, handled}
-use Rattle.sx_invoke.specs.Protocol.{set_key_entry, attest_entry, input_entry, set_key_size, set_key_kind, ask_size, ask_kind, event_size, event_kind, no_entry, bad_window, other_kind, no_end, past_number, no_sample, last_number, key_size, value_size, header_size, key_tag_at, value_tag_at}
+use Rattle.sx_invoke.specs.Protocol.{set_key_entry, attest_entry, input_entry, set_key_size, set_key_kind, ask_size, ask_kind, event_size, event_kind, no_entry}
+use Rattle.sx_invoke.specs.Protocol.{bad_window, other_kind, no_end, past_number, no_sample, last_number, key_size, value_size, header_size, key_tag_at}
+use Rattle.sx_invoke.specs.Protocol.{value_tag_at}
 use Rattle.sx_invoke.specs.Invocation.{entered, invoke, returns_inside, is_no_entry, has_bad_windows}
-use Rattle.sx_invoke.specs.Entries.{received, with_received, is_kind, set_key, set_key_at, key_opened, is_keyed, attest, input, input_at, event_numbered, event_opened, sample, sample_of, sample_read, number_taken, field_in, second_in, header_in, end_on, end_found, end_is, side_of}
+use Rattle.sx_invoke.specs.Entries.{received, with_received, is_kind, set_key, set_key_at, key_opened, is_keyed, attest, input, input_at, event_numbered}
+use Rattle.sx_invoke.specs.Entries.{event_opened, sample, sample_of, sample_read, number_taken, field_in, second_in, header_in, end_on, end_found, end_is}
+use Rattle.sx_invoke.specs.Entries.{side_of}
 use Rattle.sx_forged.proofs.Opening.{AllMarks}
 
 -- the key of a connection field
@@ -93,7 +98,8 @@ found_if set link side j i f x o xs ys false t here next e g =
     (suc r.0, omega (arith, ri), subst (λ (z : EndState). KeyedEnd set f z) (next r.0) r.2, r.3)
 
 -- the end that is found
-pub found_keyed : (set : Setting) (link : ℕ) (side : Side) (j i : ℕ) (f : End) (es : List End) (xs : List EndState) → end_found link side j es ≡ Some (i, f) → KeyedEnds set es xs → Found set link j i f xs
+pub found_keyed : (set : Setting) (link : ℕ) (side : Side) (j i : ℕ) (f : End) (es : List End) (xs : List EndState) → end_found link side j es ≡ Some (i, f)
+    → KeyedEnds set es xs → Found set link j i f xs
 found_keyed set link side j i f [] xs e h = absurd cc
 found_keyed set link side j i f (x ∷ es) [] e h =
     found_if set link side j i f x (end_found link side (j + 1) es) [] [] (end_is link side x) refl (λ o. absurd (true≢false (sym o))) (λ d. refl) e

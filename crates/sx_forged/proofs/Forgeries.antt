@@ -1,5 +1,6 @@
 -- Where the first `forged` is shown, a tag was accepted that nobody who holds its key made.
-use Rattle.std.proofs.Common.{◌≡◌, ℕ, ◌+◌, ◌-◌, ◌*◌, ◌%◌, ◌/◌, ◌<◌, ◌≤◌, ◌==◌, ◌&&◌, ◌⊎◌, inl, inr, Bool, true, false, cond, List, [], ◌∷◌, ◌++◌, length, take, drop, replicate, slice_index, Option, Some, None, Ok, refl, sym, ◌∙◌, ap, subst, arith}
+use Rattle.std.proofs.Common.{◌≡◌, ℕ, ◌+◌, ◌-◌, ◌*◌, ◌%◌, ◌/◌, ◌<◌, ◌≤◌, ◌==◌, ◌&&◌, ◌⊎◌, inl, inr, Bool, true, false, cond, List, [], ◌∷◌, ◌++◌, length, take}
+use Rattle.std.proofs.Common.{drop, replicate, slice_index, Option, Some, None, Ok, refl, sym, ◌∙◌, ap, subst, arith}
 use Rattle.std.specs.Prelude.{slice_get, bytes_eq}
 use Rattle.std.proofs.lemmas.Bool.{true≢false, and_parts, eqb-true, eq-eqb, or_left, or_right}
 use Rattle.sx_trace.specs.declared.items.Item.TheVariants as item
@@ -79,12 +80,14 @@ opened_by mac key header cipher tag plain e = by (bytes_eq tag (take 16 (mac key
     some_same : (a b : List ℕ) → ◌≡◌ {A = Option (List ℕ)} (Some a) (Some b) → b ≡ a
     some_same a b e = cc
 
-    by : (b : Bool) → bytes_eq tag (take 16 (mac key (0x54 ∷ length header ∷ (header ++ cipher)))) ≡ b → cond {A = Option (List ℕ)} b (Some (padded (crypt mac key header cipher))) None ≡ Some plain → Opened mac key header cipher tag plain
+    by : (b : Bool) → bytes_eq tag (take 16 (mac key (0x54 ∷ length header ∷ (header ++ cipher)))) ≡ b
+        → cond {A = Option (List ℕ)} b (Some (padded (crypt mac key header cipher))) None ≡ Some plain → Opened mac key header cipher tag plain
     by true t e = record { whole = bytes_same tag _ t; is = some_same (padded (crypt mac key header cipher)) plain e }
     by false t e = absurd cc
 
 -- what is unwrapped is the body whose cipher it is
-body_back : (mac : Mac) (key header cipher plain body : List ℕ) (n : ℕ) → GivesTags mac → length body ≡ n → n ≤ 32 → crypt mac key header body ≡ cipher → plain ≡ padded (crypt mac key header cipher) → take n plain ≡ body
+body_back : (mac : Mac) (key header cipher plain body : List ℕ) (n : ℕ) → GivesTags mac → length body ≡ n → n ≤ 32 → crypt mac key header body ≡ cipher
+    → plain ≡ padded (crypt mac key header cipher) → take n plain ≡ body
 body_back mac key header cipher plain body n gives long few c is =
     let back : crypt mac key header cipher ≡ body = ap (crypt mac key header) (sym c) ∙ crypt_twice mac key header body gives (omega (arith, long, few)) in
     ap (take n) (is ∙ ap padded back) ∙ ap (λ (k : ℕ). take k (padded body)) (sym long) ∙ take_front body (replicate (32 - length body) 0)
@@ -108,7 +111,8 @@ own_told s call p header body false k h =
     let three = eqb-true (slice_index h.packet 0) event_kind (and_parts (slice_index h.packet 0 == event_kind) _ h.kind).0 in
     absurd (omega (arith, one, same, three))
 
-other_told : (s : Setup) (call : Call) (p : Progress) (header body : List ℕ) (own : Bool) → ((k : ℕ) → slice_index p.mem k < 256) → is_event_header header ≡ true → Told s call p (mark.Unwrapped header body own) → own ≡ false
+other_told : (s : Setup) (call : Call) (p : Progress) (header body : List ℕ) (own : Bool) → ((k : ℕ) → slice_index p.mem k < 256)
+    → is_event_header header ≡ true → Told s call p (mark.Unwrapped header body own) → own ≡ false
 other_told s call p header body false small e h = refl
 other_told s call p header body true small e h =
     let one = (key_begins header (key_shows s call p header body small h).0).1 in
@@ -150,7 +154,8 @@ entered m boot header body own ledger (inl a) =
     inl (
       a.0,
       subst (λ (b : Bool). is_made (cond {A = Observed} b (with_items (ledger ++ made_entry (maker.Module m) NO_TARGET boot header body ∷ []) (item.Vouch m (challenge_in header) ∷ []))
-          (cond {A = Observed} (is_event_header header && (length body == 2)) (with_items (ledger ++ made_entry (maker.Module m) NO_TARGET 0 header body ∷ []) []) (with_items ledger []))).ledger (made_entry (maker.Module m) NO_TARGET boot header body) ≡ true)
+          (cond {A = Observed} (is_event_header header && (length body == 2)) (with_items (ledger ++ made_entry (maker.Module m) NO_TARGET 0 header body ∷ [])
+          []) (with_items ledger []))).ledger (made_entry (maker.Module m) NO_TARGET boot header body) ≡ true)
           (sym both) (made_now ledger (made_entry (maker.Module m) NO_TARGET boot header body)),
     )
 entered m boot header body own ledger (inr v) =
@@ -159,8 +164,10 @@ entered m boot header body own ledger (inr v) =
     inr (
       v.0,
       subst (λ (b : Bool). is_made (cond {A = Observed} b (with_items (ledger ++ made_entry (maker.Module m) NO_TARGET boot header body ∷ []) (item.Vouch m (challenge_in header) ∷ []))
-          (cond {A = Observed} (is_event_header header && (length body == 2)) (with_items (ledger ++ made_entry (maker.Module m) NO_TARGET 0 header body ∷ []) []) (with_items ledger []))).ledger (made_entry (maker.Module m) NO_TARGET 0 header body) ≡ true)
-          (sym none) (subst (λ (b : Bool). is_made (cond {A = Observed} b (with_items (ledger ++ made_entry (maker.Module m) NO_TARGET 0 header body ∷ []) []) (with_items ledger [])).ledger (made_entry (maker.Module m) NO_TARGET 0 header body) ≡ true)
+          (cond {A = Observed} (is_event_header header && (length body == 2)) (with_items (ledger ++ made_entry (maker.Module m) NO_TARGET 0 header body ∷ [])
+          []) (with_items ledger []))).ledger (made_entry (maker.Module m) NO_TARGET 0 header body) ≡ true)
+          (sym none) (subst (λ (b : Bool). is_made (cond {A = Observed} b (with_items (ledger ++ made_entry (maker.Module m) NO_TARGET 0 header body ∷ []) [])
+          (with_items ledger [])).ledger (made_entry (maker.Module m) NO_TARGET 0 header body) ≡ true)
           (sym both) (made_now ledger (made_entry (maker.Module m) NO_TARGET 0 header body))),
     )
 
@@ -179,7 +186,8 @@ module _ (set : Setting) (lines : List Line) (k : ℕ) (w : World) (n : ℕ) (s 
   abbrev x : Exchange
   x = (step set.mac s).state.exchange
 
-  module _ (m : ℕ) (own : Section) (found : section_of s.sections.live (own_of s) ≡ Some own) (runs : module_of set.sites n s (own_of s) ≡ Some m) (quiet : violation_of (step set.mac s).shown.event ≡ None) where
+  module _ (m : ℕ) (own : Section) (found : section_of s.sections.live (own_of s) ≡ Some own) (runs : module_of set.sites n s (own_of s) ≡ Some m)
+      (quiet : violation_of (step set.mac s).shown.event ≡ None) where
     r : Runner set n m s own
     r = runner_at set n m s (own_of s) own found runs
 
@@ -250,7 +258,8 @@ module _ (set : Setting) (lines : List Line) (k : ℕ) (w : World) (n : ℕ) (s 
         subst (λ (b : Bool). Told su (call_at before) (progress_at su before) (mark.Unwrapped (header_of x) (body_of x) b)) mine t in
         let right : key_at set s.boot (slice_get set.sites m) ≡ own.key = ap (key_at set s.boot) r.sited ∙ sym (section_key set n s own r.site all lives r.at) in
         let cipher = take key_size (drop header_size f.packet) in
-        let o : Opened set.mac own.key (header_in f.packet) cipher (drop key_tag_at f.packet) f.plain = opened_by set.mac own.key (header_in f.packet) cipher (drop key_tag_at f.packet) f.plain f.opens in
+        let o : Opened set.mac own.key (header_in f.packet) cipher (drop key_tag_at f.packet) f.plain = opened_by set.mac own.key (header_in f.packet) cipher
+        (drop key_tag_at f.packet) f.plain f.opens in
         let o2 : Opened set.mac (key_at set s.boot (slice_get set.sites m)) (header_of x) cipher (drop key_tag_at f.packet) f.plain =
         subst (λ (z : List ℕ). Opened set.mac z (header_of x) cipher (drop key_tag_at f.packet) f.plain) (sym right)
         (subst (λ (z : List ℕ). Opened set.mac own.key z cipher (drop key_tag_at f.packet) f.plain) (sym f.header_is) o) in

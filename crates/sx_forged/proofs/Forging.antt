@@ -155,11 +155,13 @@ pub answers_forge : (set : Setting) (w : World) (m boot : ℕ) (site : Site) (an
 unfolding wrap_tag crypt
 answers_forge set w m boot site answer who h = verdict (open_ask (slice_get w.deployer.open_asks m)) refl h
   where
-    verdict : (o : Option (List ℕ)) → open_ask (slice_get w.deployer.open_asks m) ≡ o → IsAmong (item.Forged who) (after_verdict set w m site boot answer o).items → AnswerForged set w m boot site answer who
+    verdict : (o : Option (List ℕ)) → open_ask (slice_get w.deployer.open_asks m) ≡ o
+        → IsAmong (item.Forged who) (after_verdict set w m site boot answer o).items → AnswerForged set w m boot site answer who
     verdict None e h = elim h [ inl f ↦ absurd cc | inr r ↦ absurd r ]
     verdict (Some ask) e h = by (accepts set site w.deployer m boot answer (Some ask) (attested_at (slice_get w.deployer.attested m))) refl h
       where
-        accepted : (b : Bool) → is_made w.ledger (made_entry (maker.Module m) NO_TARGET boot ask []) ≡ b → IsAmong (item.Forged who) (unless_made None b (item.Attested m boot)) → (who ≡ None) × (b ≡ false)
+        accepted : (b : Bool) → is_made w.ledger (made_entry (maker.Module m) NO_TARGET boot ask []) ≡ b
+            → IsAmong (item.Forged who) (unless_made None b (item.Attested m boot)) → (who ≡ None) × (b ≡ false)
         accepted b f h = forged_unless who None b (item.Attested m boot) (λ e. absurd cc) h
 
         by : (b : Bool) → accepts set site w.deployer m boot answer (Some ask) (attested_at (slice_get w.deployer.attested m)) ≡ b

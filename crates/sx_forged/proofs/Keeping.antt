@@ -109,12 +109,14 @@ fresh_keyed set n s m q site sec dep at zeros =
     let bytes : private_bytes sec.layout s.mem ≡ replicate (module_data_size q.tree (length es)) 0 = zeros ∙ ap (λ k. replicate k 0) size in
     subst (λ (z : ModuleState). KeyedEnds set es z.ends) (sym (ap (λ bs. state_of q.tree es bs) bytes ∙ dep.realizes.zeros)) (first_keyed set es)
 
-module _ (set : Setting) (Past : State → Type 0) (w : World) (n : ℕ) (s : State) (sound : IsSoundSetting set) (all : NodeTurns set n s) (h : NodeKeyed set Past n s) (here : Past s) (logged : AllLogged set w.ledger)
+module _ (set : Setting) (Past : State → Type 0) (w : World) (n : ℕ) (s : State) (sound : IsSoundSetting set) (all : NodeTurns set n s)
+    (h : NodeKeyed set Past n s) (here : Past s) (logged : AllLogged set w.ledger)
     (clean : NoForged (after_step set w n s).items) where
   abbrev t : State
   t = (step set.mac s).state
 
-  module _ (quiet : violation_of (step set.mac s).shown.event ≡ None) (m : ℕ) (q : PartTree) (site : Site) (sec : Section) (part : slice_get set.app.parts m ≡ Some q) (sited : slice_get set.sites m ≡ Some site)
+  module _ (quiet : violation_of (step set.mac s).shown.event ≡ None) (m : ℕ) (q : PartTree) (site : Site) (sec : Section)
+      (part : slice_get set.app.parts m ≡ Some q) (sited : slice_get set.sites m ≡ Some site)
       (lives : Lives t.sections.live sec) (at : is_at_site n t.mem sec site ≡ true) where
     nz2 : sec.id ≢ 0
     nz2 = nonzero t sec (acted_is_node set.mac act.Step s tt all.node) lives
@@ -170,12 +172,14 @@ module _ (set : Setting) (Past : State → Type 0) (w : World) (n : ℕ) (s : St
 abbrev Outside : State → State → Type 0
 Outside s t = (t ≡ s) ⊎ (((sec : Section) → Lives t.sections.live sec → ⊥) ⊎ ((t.sections ≡ s.sections) × (s.cur ≡ 0) × (t.cur ≡ 0)))
 
-unless_outside : {T : Type 0} (o : Option Refused) (s : State) (done : Shown T) → (o ≡ None → ((sec : Section) → Lives done.state.sections.live sec → ⊥) ⊎ ((done.state.sections ≡ s.sections) × (s.cur ≡ 0) × (done.state.cur ≡ 0)))
+unless_outside : {T : Type 0} (o : Option Refused) (s : State) (done : Shown T)
+    → (o ≡ None → ((sec : Section) → Lives done.state.sections.live sec → ⊥) ⊎ ((done.state.sections ≡ s.sections) × (s.cur ≡ 0) × (done.state.cur ≡ 0)))
     → Outside s (unless o s done).state
 unless_outside None s done f = inr (f refl)
 unless_outside (Some r) s done f = inl refl
 
-interrupted_outside : (s : State) (o : Outcome) → s.cur ≡ 0 → ((sec : Section) → Lives (interrupted s o).state.sections.live sec → ⊥) ⊎ (((interrupted s o).state.sections ≡ s.sections) × (s.cur ≡ 0) × ((interrupted s o).state.cur ≡ 0))
+interrupted_outside : (s : State) (o : Outcome) → s.cur ≡ 0 → ((sec : Section) → Lives (interrupted s o).state.sections.live sec → ⊥)
+    ⊎ (((interrupted s o).state.sections ≡ s.sections) × (s.cur ≡ 0) × ((interrupted s o).state.cur ≡ 0))
 interrupted_outside s (Finished regs x) h = inr (refl, h, h)
 interrupted_outside s (Violated v) h = inl (λ sec l. l)
 interrupted_outside s (Module regs x t e c) h = inr (refl, h, h)
@@ -183,12 +187,17 @@ interrupted_outside s (Module regs x t e c) h = inr (refl, h, h)
 act_outside : (set : Setting) (a : Act) (s : State) → (a ≡ act.Step → ⊥) → Outside s (acted set.mac a s).state
 act_outside set act.Step s ne = absurd (ne refl)
 act_outside set act.Restart s ne = inr (inl (λ sec l. l))
-act_outside set (act.Put at bytes) s ne = unless_outside {T = Unit {0}} (put_refusal s at (length bytes)) s (record { state = record s { mem = put_bytes s.mem at bytes }; shown = tt }) (λ e. let i = not_busy s _ e in inr (refl, i, i))
-act_outside set (act.Set r v) s ne = unless_outside {T = Unit {0}} (busy s) s (record { state = record s { regs = set_reg s.regs r v; last = if r == 0 then 0 else s.last }; shown = tt }) (λ e. let i = busy_idle s e in inr (refl, i, i))
+act_outside set (act.Put at bytes) s ne = unless_outside {T = Unit {0}} (put_refusal s at (length bytes)) s
+    (record { state = record s { mem = put_bytes s.mem at bytes }; shown = tt }) (λ e. let i = not_busy s _ e in inr (refl, i, i))
+act_outside set (act.Set r v) s ne =
+    unless_outside {T = Unit {0}} (busy s) s (record { state = record s { regs = set_reg s.regs r v; last = if r == 0 then 0 else s.last }; shown = tt })
+    (λ e. let i = busy_idle s e in inr (refl, i, i))
 act_outside set (act.Take at k) s ne = unless_outside (take_refusal s at k) s _ (λ e. let i = not_busy s _ e in inr (refl, i, i))
-act_outside set (act.Sense device v) s ne = unless_outside {T = Unit {0}} (busy s) s (record { state = record s { devices = with_sample s.devices device v }; shown = tt }) (λ e. let i = busy_idle s e in inr (refl, i, i))
+act_outside set (act.Sense device v) s ne = unless_outside {T = Unit {0}} (busy s) s
+    (record { state = record s { devices = with_sample s.devices device v }; shown = tt }) (λ e. let i = busy_idle s e in inr (refl, i, i))
 act_outside set (act.Interrupt line) s ne =
-    unless_outside (irq_refusal s) s (interrupted s (exec s.sections 0 (interrupt line s.regs) (start s))) (λ e. interrupted_outside s (exec s.sections 0 (interrupt line s.regs) (start s)) (not_busy s _ e))
+    unless_outside (irq_refusal s) s (interrupted s (exec s.sections 0 (interrupt line s.regs) (start s)))
+    (λ e. interrupted_outside s (exec s.sections 0 (interrupt line s.regs) (start s)) (not_busy s _ e))
 
 from_outside : (sec : Section) (a : Act) (s : State) → (a ≡ act.Step → ⊥) → FromOutside sec a s
 from_outside sec act.Step s ne = absurd (ne refl)
@@ -199,7 +208,8 @@ from_outside sec (act.Take at k) s ne = tt
 from_outside sec (act.Sense device v) s ne = tt
 from_outside sec (act.Interrupt line) s ne = tt
 
-other_keyed : (set : Setting) (Past : State → Type 0) (n : ℕ) (a : Act) (s : State) → ActInForm a → (a ≡ act.Step → ⊥) → NodeTurns set n s → NodeKeyed set Past n s → NodeKeyed set Past n (acted set.mac a s).state
+other_keyed : (set : Setting) (Past : State → Type 0) (n : ℕ) (a : Act) (s : State) → ActInForm a → (a ≡ act.Step → ⊥) → NodeTurns set n s
+    → NodeKeyed set Past n s → NodeKeyed set Past n (acted set.mac a s).state
 other_keyed set Past n a s form ne all h = elim (act_outside set a s ne) [
   | inl same ↦ subst (λ (z : State). NodeKeyed set Past n z) (sym same) h
   | inr k ↦ elim k [
@@ -225,7 +235,8 @@ AllKeyed set Past w = (n : ℕ) (s : State) → slice_get w.nodes n ≡ Some s �
 pub later_all : (set : Setting) (Past Later : ℕ → State → Type 0) (w : World) → ((n : ℕ) (t : State) → Past n t → Later n t) → AllKeyed set Past w → AllKeyed set Later w
 later_all set Past Later w f h n s e = later_keyed set (Past n) (Later n) n s (f n) (h n s e)
 
-module _ (set : Setting) (Past : ℕ → State → Type 0) (x : Happening) (w : World) (sound : IsSoundSetting set) (form : InForm x) (turns : AllTurn set w) (logged : AllLogged set w.ledger) (h : AllKeyed set Past w)
+module _ (set : Setting) (Past : ℕ → State → Type 0) (x : Happening) (w : World) (sound : IsSoundSetting set) (form : InForm x) (turns : AllTurn set w)
+    (logged : AllLogged set w.ledger) (h : AllKeyed set Past w)
     (here : (n : ℕ) (s : State) → slice_get w.nodes n ≡ Some s → Past n s) (clean : NoForged (done set x w).items) where
   act_keyed : (k : ℕ) (a : Act) (s : State) → slice_get w.nodes k ≡ Some s → ActInForm a → (a ≡ act.Step → x ≡ Step k) → NodeKeyed set (Past k) k (acted set.mac a s).state
   act_keyed k a s there f own = elim (is_step a) [

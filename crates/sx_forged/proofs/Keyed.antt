@@ -1,5 +1,6 @@
 -- Open ends have the keys of their connections, until a `forged` shows.
-use Rattle.std.proofs.Common.{◌≡◌, ℕ, zero, suc, ◌+◌, ◌*◌, ◌%◌, ◌<◌, ◌==◌, ◌⊎◌, inl, inr, Bool, true, false, cond, ◌&&◌, if◌then◌else◌, List, [], ◌∷◌, ◌++◌, slice_index, Option, Some, None, refl, sym, ◌∙◌, ap, subst, arith}
+use Rattle.std.proofs.Common.{◌≡◌, ℕ, zero, suc, ◌+◌, ◌*◌, ◌%◌, ◌<◌, ◌==◌, ◌⊎◌, inl, inr, Bool, true, false, cond, ◌&&◌, if◌then◌else◌, List, [], ◌∷◌, ◌++◌}
+use Rattle.std.proofs.Common.{slice_index, Option, Some, None, refl, sym, ◌∙◌, ap, subst, arith}
 use Rattle.std.specs.Prelude.{slice_get}
 use Rattle.std.specs.List.{list_any}
 use Rattle.std.proofs.lemmas.Bool.{true≢false, and_parts, eqb-true, or_left, or_right}
@@ -78,7 +79,8 @@ found_any : (link : ℕ) (side : Side) (j : ℕ) (es : List End) (f : ℕ × End
 found_any link side j [] f e = absurd cc
 found_any link side j (x ∷ es) f e = by (end_is link side x) refl e (λ g. found_any link side (j + 1) es f g)
   where
-    by : (b : Bool) → end_is link side x ≡ b → cond {A = Option (ℕ × End)} b (Some (j, x)) (end_found link side (j + 1) es) ≡ Some f → (end_found link side (j + 1) es ≡ Some f → list_any (is_end link side) es ≡ true)
+    by : (b : Bool) → end_is link side x ≡ b → cond {A = Option (ℕ × End)} b (Some (j, x)) (end_found link side (j + 1) es) ≡ Some f
+        → (end_found link side (j + 1) es ≡ Some f → list_any (is_end link side) es ≡ true)
         → list_any (is_end link side) (x ∷ es) ≡ true
     by true t e g = or_left (is_end link side x) (list_any (is_end link side) es) (ap (λ (z : Bool). (x.link == link) && z) (same_sides x.side side) ∙ t)
     by false t e g = or_right (is_end link side x) (list_any (is_end link side) es) (g e)
@@ -112,7 +114,8 @@ six_shows a b c d e f es g one none lt h =
           (refl, found_any c To 0 es g (subst (λ (s : Side). end_found c s 0 es ≡ Some g) z.1 found)))))
     ]
 
-packet_shows : (es : List End) (packet : List ℕ) (g : ℕ × End) → Bytes 38 packet → is_kind 1 packet ≡ true → end_on (link_of (field_in packet)) es (side_of (second_in packet)) ≡ Some g → Shows es (header_in packet)
+packet_shows : (es : List End) (packet : List ℕ) (g : ℕ × End) → Bytes 38 packet → is_kind 1 packet ≡ true
+    → end_on (link_of (field_in packet)) es (side_of (second_in packet)) ≡ Some g → Shows es (header_in packet)
 packet_shows es [] g h k e = absurd (omega (arith, h.long))
 packet_shows es (a ∷ []) g h k e = absurd (omega (arith, h.long))
 packet_shows es (a ∷ b ∷ []) g h k e = absurd (omega (arith, h.long))
@@ -161,7 +164,8 @@ honest set w n m id s clean runs e h = by (is_made w.ledger (made_entry maker.De
         both (is_set_key_header (header_of x)) (has_end set.app m (link_in (header_of x)) (side_in (header_of x))) h.0 h.1 in
         let made = is_made w.ledger (made_entry maker.Deployer m r.state.boot (header_of x) (body_of x)) in
         let opens = item.Open m (link_in (header_of x)) (side_in (header_of x)) (epoch_in (header_of x)) in
-        let rest = if is_event_header (header_of x) && has_end set.app m (link_in (header_of x)) To then unless_made (Some m) (is_made w.ledger (made_entry (maker.Module (sender_of set.app (link_in (header_of x)))) NO_TARGET 0 (header_of x) (body_of x)))
+        let rest = if is_event_header (header_of x) && has_end set.app m (link_in (header_of x)) To then unless_made (Some m)
+        (is_made w.ledger (made_entry (maker.Module (sender_of set.app (link_in (header_of x)))) NO_TARGET 0 (header_of x) (body_of x)))
         (item.Take m (link_in (header_of x)) (65536 * epoch_in (header_of x) + last_in (header_of x)) (value_in (body_of x))) else [] in
         let one : IsAmong (item.Forged (Some m)) (unless_made (Some m) made opens) = subst (λ (b : Bool). IsAmong (item.Forged (Some m)) (unless_made (Some m) b opens)) (sym q) (inl refl) in
         let two : IsAmong (item.Forged (Some m)) (has_unwrapped set.app m r.state.boot (header_of x) (body_of x) w.ledger) =
@@ -188,12 +192,14 @@ module _ (set : Setting) (w : World) (n : ℕ) (s : State) (sound : IsSoundSetti
   abbrev x : Exchange
   x = (step set.mac s).state.exchange
 
-  key_of_entry : (m : ℕ) → is_made w.ledger (made_entry maker.Deployer m (step set.mac s).state.boot (header_of x) (body_of x)) ≡ true → body_of x ≡ field_key set (link_in (header_of x) + 256 * epoch_in (header_of x))
+  key_of_entry : (m : ℕ) → is_made w.ledger (made_entry maker.Deployer m (step set.mac s).state.boot (header_of x) (body_of x)) ≡ true
+      → body_of x ≡ field_key set (link_in (header_of x) + 256 * epoch_in (header_of x))
   key_of_entry m made =
       let f = logged (made_entry maker.Deployer m (step set.mac s).state.boot (header_of x) (body_of x)) made in
       ap (λ (z : Made). z.body) f.1 ∙ sym (ap (λ (z : Made). field_key set (link_in z.header + 256 * epoch_in z.header)) f.1)
 
-  key_event : (m : ℕ) (own : Section) → section_of s.sections.live (own_of s) ≡ Some own → Lives s.sections.live own → own_of s ≡ own.id → module_of set.sites n s (own_of s) ≡ Some m → (e : Event) → (step set.mac s).shown.event ≡ e
+  key_event : (m : ℕ) (own : Section) → section_of s.sections.live (own_of s) ≡ Some own → Lives s.sections.live own → own_of s ≡ own.id
+      → module_of set.sites n s (own_of s) ≡ Some m → (e : Event) → (step set.mac s).shown.event ≡ e
       → AllMarks (KeyMark set) (marks_of_event e x)
   key_event m own found lives is runs event.Quiet e = tt
   key_event m own found lives is runs (event.Reset v) e = tt
@@ -219,10 +225,12 @@ module _ (set : Setting) (w : World) (n : ℕ) (s : State) (sound : IsSoundSetti
       let found : section_of s.sections.live (own_of s) ≡ Some sec = subst (λ i. section_of s.sections.live i ≡ Some sec) (sym is) (placed_found s.sections sec all.node.placed lives) in
       by (deployed set.sites n s.mem sec) refl found
     where
-      by : (o : Option ℕ) → deployed set.sites n s.mem sec ≡ o → section_of s.sections.live (own_of s) ≡ Some sec → AllMarks (KeyMark set) (marks_of (step set.mac s).shown (step set.mac s).state.exchange)
+      by : (o : Option ℕ) → deployed set.sites n s.mem sec ≡ o → section_of s.sections.live (own_of s) ≡ Some sec
+          → AllMarks (KeyMark set) (marks_of (step set.mac s).shown (step set.mac s).state.exchange)
       by None e found = absurd (position_some (is_at_site n s.mem sec) 0 set.sites k site sited at e)
       by (Some m) e found =
-          all_append (KeyMark set) (marks_of_touches (step set.mac s).shown.touch) (marks_of_event (step set.mac s).shown.event (step set.mac s).state.exchange) (touch_marks set (step set.mac s).shown.touch)
+          all_append (KeyMark set) (marks_of_touches (step set.mac s).shown.touch) (marks_of_event (step set.mac s).shown.event (step set.mac s).state.exchange)
+          (touch_marks set (step set.mac s).shown.touch)
           (key_event m sec found lives is (ap (λ o. Rattle.std.specs.Option.option_and_then (deployed set.sites n s.mem) o) found ∙ e) (step set.mac s).shown.event refl)
 
 -- The invariant of a node. `Past` are the states in which the node stood until now.
@@ -256,7 +264,8 @@ pub record Kept (n : ℕ) (s t : State) (sec : Section) : Type 0 where
   pub private : private_bytes sec.layout t.mem ≡ private_bytes sec.layout s.mem
   pub public : public_bytes sec.layout t.mem ≡ public_bytes sec.layout s.mem
 
-pub kept_by : (set : Setting) (n : ℕ) (a : Act) (s : State) (sec : Section) → Placed s.sections → Lives s.sections.live sec → FromOutside sec a s → Lives (acted set.mac a s).state.sections.live sec → Kept n s (acted set.mac a s).state sec
+pub kept_by : (set : Setting) (n : ℕ) (a : Act) (s : State) (sec : Section) → Placed s.sections → Lives s.sections.live sec → FromOutside sec a s
+    → Lives (acted set.mac a s).state.sections.live sec → Kept n s (acted set.mac a s).state sec
 kept_by set n a s sec placed lives from after = elim ((acts_guarded set.mac sec a s placed lives from).kept) [
   | inr r ↦ absurd (subst (λ (z : State). Lives z.sections.live sec) r after)
   | inl k ↦ elim (public_kept set.mac a s sec placed lives) [
@@ -266,14 +275,16 @@ kept_by set n a s sec placed lives from after = elim ((acts_guarded set.mac sec 
 ]
 
 -- a module that rests before and after
-pub rest_kept : (set : Setting) (Past : State → Type 0) (n m : ℕ) (q : PartTree) (site : Site) (s t : State) (sec : Section) → NodeKeyed set Past n s → slice_get set.app.parts m ≡ Some q → slice_get set.sites m ≡ Some site
+pub rest_kept : (set : Setting) (Past : State → Type 0) (n m : ℕ) (q : PartTree) (site : Site) (s t : State) (sec : Section) → NodeKeyed set Past n s
+    → slice_get set.app.parts m ≡ Some q → slice_get set.sites m ≡ Some site
     → Lives s.sections.live sec → Kept n s t sec → is_at_site n t.mem sec site ≡ true → (s.cur ≡ sec.id → ⊥) → KeyedRest set m q sec t
 rest_kept set Past n m q site s t sec h part sited lives k at ne =
     subst (λ (bs : List ℕ). KeyedEnds set (ends_of set.app m) (state_of q.tree (ends_of set.app m) bs).ends) (sym k.private)
     (h.rests m q site sec part sited lives (sym (at_site_same n s.mem t.mem sec site k.public) ∙ at) ne)
 
 -- a module whose turn ended
-pub ended : (set : Setting) (Past : State → Type 0) (m : ℕ) (q : PartTree) (site : Site) (sec : Section) (s : State) → (k : KeyedTurn set Past m q site sec s) → (own_of s ≡ sec.id → ⊥) → KeyedRest set m q sec s
+pub ended : (set : Setting) (Past : State → Type 0) (m : ℕ) (q : PartTree) (site : Site) (sec : Section) (s : State) → (k : KeyedTurn set Past m q site sec s)
+    → (own_of s ≡ sec.id → ⊥) → KeyedRest set m q sec s
 ended set Past m q site sec s k out = by k.turn.bound k.turn.comes
   where
     setup : Setup

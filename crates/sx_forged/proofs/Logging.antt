@@ -37,11 +37,15 @@ none_long (b ∷ bs) e = absurd (omega (arith, eqb-true (length (b ∷ bs)) 0 e)
 abbrev pub SendsOwn : Setting → ℕ → List ℕ → Type 0
 SendsOwn set m header = is_event_header header ≡ true → sender_of set.app (link_in header) ≡ m
 
-wrapped_logged : (set : Setting) (m boot : ℕ) (header body : List ℕ) (own : Bool) (ledger : List Made) → SendsOwn set m header → AllLogged set ledger → AllLogged set (has_wrapped m boot header body own ledger).ledger
+wrapped_logged : (set : Setting) (m boot : ℕ) (header body : List ℕ) (own : Bool) (ledger : List Made) → SendsOwn set m header → AllLogged set ledger
+    → AllLogged set (has_wrapped m boot header body own ledger).ledger
 wrapped_logged set m boot header body own ledger sends h = by (is_ask header && ((length body == 0) && own)) refl (is_event_header header && (length body == 2)) refl
   where
     by : (p : Bool) → (is_ask header && ((length body == 0) && own)) ≡ p → (q : Bool) → (is_event_header header && (length body == 2)) ≡ q
-        → AllLogged set (cond {A = Observed} p (record { items = Rattle.sx_trace.specs.declared.items.Item.TheVariants.Vouch m (challenge_in header) ∷ []; ledger = ledger ++ made_entry (maker.Module m) NO_TARGET boot header body ∷ [] })
+        → AllLogged set (cond {A = Observed} p (record {
+          items = Rattle.sx_trace.specs.declared.items.Item.TheVariants.Vouch m (challenge_in header) ∷ [];
+          ledger = ledger ++ made_entry (maker.Module m) NO_TARGET boot header body ∷ [];
+        })
         (cond {A = Observed} q (record { items = []; ledger = ledger ++ made_entry (maker.Module m) NO_TARGET 0 header body ∷ [] }) (record { items = []; ledger = ledger }))).ledger
     by true e q f =
         let p = and_parts (is_ask header) ((length body == 0) && own) e in
@@ -55,7 +59,8 @@ wrapped_logged set m boot header body own ledger sends h = by (is_ask header && 
 abbrev Wraps : Setting → Option ℕ → State → Event → Type 0
 Wraps set runner s e = (m id : ℕ) → runner ≡ Some m → e ≡ event.Wrapped id → SendsOwn set m (header_of s.exchange)
 
-event_logged : (set : Setting) (n : ℕ) (runner : Option ℕ) (s : State) (ledger : List Made) (e : Event) → Wraps set runner s e → AllLogged set ledger → AllLogged set (event_seen set n runner s ledger e).ledger
+event_logged : (set : Setting) (n : ℕ) (runner : Option ℕ) (s : State) (ledger : List Made) (e : Event) → Wraps set runner s e → AllLogged set ledger
+    → AllLogged set (event_seen set n runner s ledger e).ledger
 event_logged set n None s ledger event.Quiet g h = h
 event_logged set n (Some m) s ledger event.Quiet g h = h
 event_logged set n runner s ledger (event.Reset v) g h = h
@@ -97,7 +102,8 @@ abbrev pub NextWraps : Setting → World → Type 0
 NextWraps set w = (n : ℕ) (s : State) → slice_get w.nodes n ≡ Some s → Wraps set (module_of set.sites n s (own_of s)) (step set.mac s).state (step set.mac s).shown.event
 
 module _ (set : Setting) (w : World) (wraps : NextWraps set w) (h : AllLogged set w.ledger) where
-  at_logged : (n : ℕ) (f : State → Acted) → ((s : State) → slice_get w.nodes n ≡ Some s → AllLogged set (f s).world.ledger) → (o : Option State) → slice_get w.nodes n ≡ o → AllLogged set (at_node w f o).world.ledger
+  at_logged : (n : ℕ) (f : State → Acted) → ((s : State) → slice_get w.nodes n ≡ Some s → AllLogged set (f s).world.ledger) → (o : Option State)
+      → slice_get w.nodes n ≡ o → AllLogged set (at_node w f o).world.ledger
   at_logged n f g None e = h
   at_logged n f g (Some s) e = g s e
 

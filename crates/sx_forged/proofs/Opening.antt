@@ -22,9 +22,12 @@ use Rattle.sx_invoke.specs.ModuleState.{EndState, end_of, epoch_of, link_of}
 use Rattle.sx_invoke.specs.Windows.{two, write_bytes, read_bytes, is_bad_window, in_window_size, out_window_size}
 use Rattle.sx_invoke.specs.Progress.{Progress, Invoked, Returns, Violates, Course, Going, Broken, and_on, finished, marks_in}
 use Rattle.sx_invoke.specs.Acts.{with_piece, copied_to, with_packet, event_packet, event_header, wrap_counted, with_packets, with_act, with_acts, actuated, own_window, handled}
-use Rattle.sx_invoke.specs.Protocol.{set_key_entry, attest_entry, input_entry, set_key_size, set_key_kind, ask_size, ask_kind, event_size, event_kind, no_entry, bad_window, other_kind, no_end, past_number, no_sample, last_number, key_size, value_size, header_size, key_tag_at, value_tag_at}
+use Rattle.sx_invoke.specs.Protocol.{set_key_entry, attest_entry, input_entry, set_key_size, set_key_kind, ask_size, ask_kind, event_size, event_kind, no_entry}
+use Rattle.sx_invoke.specs.Protocol.{bad_window, other_kind, no_end, past_number, no_sample, last_number, key_size, value_size, header_size, key_tag_at}
+use Rattle.sx_invoke.specs.Protocol.{value_tag_at}
 use Rattle.sx_invoke.specs.Invocation.{entered, invoke, returns_inside, is_no_entry, has_bad_windows}
-use Rattle.sx_invoke.specs.Entries.{received, with_received, is_kind, set_key, set_key_at, key_opened, is_keyed, attest, input, input_at, event_numbered, event_opened, sample, sample_of, sample_read, number_taken, field_in, second_in, header_in, end_on, end_found, side_of}
+use Rattle.sx_invoke.specs.Entries.{received, with_received, is_kind, set_key, set_key_at, key_opened, is_keyed, attest, input, input_at, event_numbered}
+use Rattle.sx_invoke.specs.Entries.{event_opened, sample, sample_of, sample_read, number_taken, field_in, second_in, header_in, end_on, end_found, side_of}
 
 -- An event that the invocation takes: the packet that it read, for an end that is open in its epoch, and its tag is that under the end's key.
 pub record TakenFrom (s : Setup) (call : Call) (p : Progress) (header body : List ℕ) : Type 0 where
@@ -161,7 +164,8 @@ module _ (s : Setup) (call : Call) (p0 : Progress) where
     by_packet size kind rest f (Err v) e = nothing
     by_packet size kind rest f (Ok packet) e = either (is_kind kind packet) (rest packet) (Returns other_kind p0) (λ g. f packet e g) (λ g. nothing)
 
-    by_key : is_bad_window s call.input in_window_size ≡ false → (packet : List ℕ) → read_bytes s p0.devices p0.mem call.input set_key_size ≡ Ok packet → is_kind set_key_kind packet ≡ true → Good (set_key s packet p0)
+    by_key : is_bad_window s call.input in_window_size ≡ false → (packet : List ℕ) → read_bytes s p0.devices p0.mem call.input set_key_size ≡ Ok packet
+        → is_kind set_key_kind packet ≡ true → Good (set_key s packet p0)
     by_key window packet read kind = by_end (end_on (link_of (field_in packet)) s.ends (side_of (second_in packet))) refl
       where
         by_tag : (e : ℕ × End) → end_on (link_of (field_in packet)) s.ends (side_of (second_in packet)) ≡ Some e
@@ -176,27 +180,46 @@ module _ (s : Setup) (call : Call) (p0 : Progress) where
             let u = unwrapped s.mac s.section.key (header_in packet) (take key_size (drop header_size packet)) (drop key_tag_at packet) in
             either (is_keyed (end_of p0.state.ends e.0) (field_in packet)) (Returns no_end p0) (key_opened e.0 packet u p0) (λ g. nothing) (λ g. by_tag e found u refl)
 
-    by_event : is_bad_window s call.input in_window_size ≡ false → (packet : List ℕ) → read_bytes s p0.devices p0.mem call.input event_size ≡ Ok packet → is_kind event_kind packet ≡ true → Good (input s call packet p0)
+    by_event : is_bad_window s call.input in_window_size ≡ false → (packet : List ℕ) → read_bytes s p0.devices p0.mem call.input event_size ≡ Ok packet
+        → is_kind event_kind packet ≡ true → Good (input s call packet p0)
     by_event window packet read kind = by_end (end_found (link_of (field_in packet)) To 0 s.ends) refl
       where
         state_at : ℕ × End → EndState
         state_at e = end_of p0.state.ends e.0
 
-        by_tag : (e : ℕ × End) → end_found (link_of (field_in packet)) To 0 s.ends ≡ Some e → (end_of p0.state.ends e.0).is_open ≡ true → epoch_of (end_of p0.state.ends e.0).field ≡ epoch_of (field_in packet)
-            → (u : Option (List ℕ)) → unwrapped s.mac (end_of p0.state.ends e.0).key (header_in packet) (take value_size (drop header_size packet)) (drop value_tag_at packet) ≡ u → Good (event_opened s call e packet u p0)
+        by_tag : (e : ℕ × End) → end_found (link_of (field_in packet)) To 0 s.ends ≡ Some e → (end_of p0.state.ends e.0).is_open ≡ true
+            → epoch_of (end_of p0.state.ends e.0).field ≡ epoch_of (field_in packet)
+            → (u : Option (List ℕ)) → unwrapped s.mac (end_of p0.state.ends e.0).key (header_in packet) (take value_size (drop header_size packet))
+            (drop value_tag_at packet) ≡ u → Good (event_opened s call e packet u p0)
         by_tag e found op ep None f = nothing
         by_tag e found op ep (Some body) f =
             let q = number_taken e.0 packet (take value_size body) (end_of p0.state.ends e.0) p0 in
             finished_keeps (handled s call (event.Input e.1.port (word body 0)) q) (handler_keeps (event.Input e.1.port (word body 0)) q
             (one (mark.Unwrapped (header_in packet) (take value_size body) false)
-            (record { packet = packet; read = read; window = window; kind = kind; index = e.0; «end» = e.1; found = found; is_open = op; epoch = ep; plain = body; opens = f; header_is = refl; body_is = refl })))
+            (record {
+              packet = packet;
+              read = read;
+              window = window;
+              kind = kind;
+              index = e.0;
+              «end» = e.1;
+              found = found;
+              is_open = op;
+              epoch = ep;
+              plain = body;
+              opens = f;
+              header_is = refl;
+              body_is = refl;
+            })))
 
-        by_number : (e : ℕ × End) → end_found (link_of (field_in packet)) To 0 s.ends ≡ Some e → (end_of p0.state.ends e.0).is_open ≡ true → epoch_of (end_of p0.state.ends e.0).field ≡ epoch_of (field_in packet)
+        by_number : (e : ℕ × End) → end_found (link_of (field_in packet)) To 0 s.ends ≡ Some e → (end_of p0.state.ends e.0).is_open ≡ true
+            → epoch_of (end_of p0.state.ends e.0).field ≡ epoch_of (field_in packet)
             → Good (event_numbered s call e packet (end_of p0.state.ends e.0) p0)
         by_number e found op ep =
             let state = end_of p0.state.ends e.0 in
             let u = unwrapped s.mac state.key (header_in packet) (take value_size (drop header_size packet)) (drop value_tag_at packet) in
-            either (nat_lt (second_in packet) state.number || (second_in packet == last_number)) (Returns past_number p0) (event_opened s call e packet u p0) (λ g. nothing) (λ g. by_tag e found op ep u refl)
+            either (nat_lt (second_in packet) state.number || (second_in packet == last_number)) (Returns past_number p0) (event_opened s call e packet u p0)
+            (λ g. nothing) (λ g. by_tag e found op ep u refl)
 
         open_parts : (a b : Bool) → (not a || not b) ≡ false → (a ≡ true) × (b ≡ true)
         open_parts true true e = (refl, refl)
@@ -208,7 +231,8 @@ module _ (s : Setup) (call : Call) (p0 : Progress) where
         by_end (Some e) found =
             let state = end_of p0.state.ends e.0 in
             either (not state.is_open || not (epoch_of state.field == epoch_of (field_in packet))) (Returns no_end p0) (event_numbered s call e packet state p0) (λ g. nothing)
-            (λ g. let both = open_parts state.is_open (epoch_of state.field == epoch_of (field_in packet)) g in by_number e found both.0 (eqb-true (epoch_of state.field) (epoch_of (field_in packet)) both.1))
+            (λ g. let both = open_parts state.is_open (epoch_of state.field == epoch_of (field_in packet)) g in
+            by_number e found both.0 (eqb-true (epoch_of state.field) (epoch_of (field_in packet)) both.1))
 
     by_attest : (ask : List ℕ) → Good (attest s call ask p0)
     by_attest ask =
@@ -248,4 +272,5 @@ module _ (s : Setup) (call : Call) (p0 : Progress) where
         either (returns_inside s call) (Violates bad.Illegal p0) (if is_no_entry s call then Returns no_entry p0 else if has_bad_windows s call then Returns bad_window p0 else entered s call p0)
         (λ g. nothing)
         (λ g. either (is_no_entry s call) (Returns no_entry p0) (if has_bad_windows s call then Returns bad_window p0 else entered s call p0) (λ g. nothing)
-        (λ g. either (has_bad_windows s call) (Returns bad_window p0) (entered s call p0) (λ g. nothing) (λ g. by_entries (no_left (is_bad_window s call.input in_window_size) (is_bad_window s call.output out_window_size) g))))
+        (λ g. either (has_bad_windows s call) (Returns bad_window p0) (entered s call p0) (λ g. nothing)
+        (λ g. by_entries (no_left (is_bad_window s call.input in_window_size) (is_bad_window s call.output out_window_size) g))))

@@ -1,5 +1,6 @@
 -- The bytes of a packet that is read, and where they stood.
-use Rattle.std.proofs.Common.{◌≡◌, ℕ, zero, suc, ◌+◌, ◌-◌, ◌<◌, ◌≤◌, ◌==◌, ◌⊎◌, inl, inr, Bool, true, false, ◌&&◌, ◌||◌, not, if◌then◌else◌, List, [], ◌∷◌, ◌++◌, length, drop, slice_index, Option, Some, None, Result, Ok, Err, refl, sym, ◌∙◌, ap, ap₂, subst, arith}
+use Rattle.std.proofs.Common.{◌≡◌, ℕ, zero, suc, ◌+◌, ◌-◌, ◌<◌, ◌≤◌, ◌==◌, ◌⊎◌, inl, inr, Bool, true, false, ◌&&◌, ◌||◌, not, if◌then◌else◌, List, [], ◌∷◌}
+use Rattle.std.proofs.Common.{◌++◌, length, drop, slice_index, Option, Some, None, Result, Ok, Err, refl, sym, ◌∙◌, ap, ap₂, subst, arith}
 use Rattle.std.specs.List.{list_any}
 use Rattle.std.specs.Prelude.{nat_lt}
 use Rattle.std.proofs.lemmas.Bool.{and_parts, eqb-true, true≢false}
@@ -88,7 +89,8 @@ read_front s devices mem (suc n) at bs e = first (read_byte s devices mem at) re
     same : (a b : List ℕ) → ◌≡◌ {A = Result (List ℕ) Violation} (Ok a) (Ok b) → b ≡ a
     same a b e = cc
 
-    last : (b : ℕ) → b ≡ slice_index mem at → (r : Result (List ℕ) Violation) → ((xs : List ℕ) → r ≡ Ok xs → xs ≡ front mem (at + 1) n) → then_ r (λ xs. Ok (b ∷ xs)) ≡ Ok bs → bs ≡ front mem at (suc n)
+    last : (b : ℕ) → b ≡ slice_index mem at → (r : Result (List ℕ) Violation) → ((xs : List ℕ) → r ≡ Ok xs → xs ≡ front mem (at + 1) n)
+        → then_ r (λ xs. Ok (b ∷ xs)) ≡ Ok bs → bs ≡ front mem at (suc n)
     last b is (Err v) f e = absurd cc
     last b is (Ok xs) f e = same (b ∷ xs) bs e ∙ ap₂ (λ (x : ℕ) (l : List ℕ). x ∷ l) is (f xs refl)
 
@@ -155,7 +157,8 @@ read_allowed s devices mem (suc n) at bs e i lt = first (read_byte s devices mem
     here b q (Ok xs) f e zero lt = let z : at ≡ at + 0 = omega arith in subst (λ (k : ℕ). may s.live s.section.id Read k ≡ true) z (allowed_one s devices mem at b q)
     here b q (Ok xs) f e (suc j) lt = let z : at + 1 + j ≡ at + suc j = omega arith in subst (λ (k : ℕ). may s.live s.section.id Read k ≡ true) z (f xs refl j (omega (arith, lt)))
 
-    first : (r : Result ℕ Violation) → read_byte s devices mem at ≡ r → (r2 : Result (List ℕ) Violation) → ((xs : List ℕ) → r2 ≡ Ok xs → (j : ℕ) → j < n → may s.live s.section.id Read (at + 1 + j) ≡ true)
+    first : (r : Result ℕ Violation) → read_byte s devices mem at ≡ r → (r2 : Result (List ℕ) Violation)
+        → ((xs : List ℕ) → r2 ≡ Ok xs → (j : ℕ) → j < n → may s.live s.section.id Read (at + 1 + j) ≡ true)
         → then_ r (λ b. then_ r2 (λ xs. Ok (b ∷ xs))) ≡ Ok bs → (i : ℕ) → i < suc n → may s.live s.section.id Read (at + i) ≡ true
     first (Err v) q r2 f e i lt = absurd cc
     first (Ok b) q r2 f e i lt = here b q r2 f e i lt
@@ -208,7 +211,8 @@ wide_of l h =
 
 -- the part of a window from k on, of n bytes, meets no private section
 pub window_outside : (s : Setup) (t : Sections) (devices : List Window) (mem : List ℕ) (k n all at : ℕ) (bs : List ℕ) → Placed t → s.live ≡ t.live → Lives t.live s.section
-    → k + n ≤ all → (passes_end at all || meets at all s.section.layout.priv_from s.section.layout.priv_to) ≡ false → read_bytes s devices mem at (k + n) ≡ Ok bs → meets_private t.live (at + k) n ≡ false
+    → k + n ≤ all → (passes_end at all || meets at all s.section.layout.priv_from s.section.layout.priv_to) ≡ false
+    → read_bytes s devices mem at (k + n) ≡ Ok bs → meets_private t.live (at + k) n ≡ false
 unfolding may
 window_outside s t devices mem k n all at bs placed live own le window read =
     none_any (λ x. meets (at + k) n x.layout.priv_from x.layout.priv_to) t.live each

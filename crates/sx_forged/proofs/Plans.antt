@@ -8,7 +8,8 @@ use Rattle.sx_rules.specs.Access.{Sections}
 use Rattle.sx_tag.specs.Mac.{Mac}
 use Rattle.sx_machine.specs.Memory.{even, bytes_from, put_bytes}
 use Rattle.sx_machine.specs.Plan.{Plan, Done, Tell, Stop, Fetch, Load, Store, Need, Writable, Bytes, Put}
-use Rattle.sx_machine.specs.Run.{Moment, Outcome, Finished, Violated, Module, may_at, may_range, may_each, device_of, read_place, load, write_place, store, fetch_place, fetch, after_read, after_write, after_fetch, exec}
+use Rattle.sx_machine.specs.Run.{Moment, Outcome, Finished, Violated, Module, may_at, may_range, may_each, device_of, read_place, load, write_place, store}
+use Rattle.sx_machine.specs.Run.{fetch_place, fetch, after_read, after_write, after_fetch, exec}
 use Rattle.sx_machine.proofs.Lengths.{length-bytes_from}
 use Rattle.sx_forged.proofs.Tables.{LikeAll, may_like, extends_like}
 
@@ -81,7 +82,8 @@ module _ (mac nac : Mac) where
         subst (λ (r : Result ℕ Violation). LikeOutcome (after_fetch (fetch t.live own at x) (λ w. exec t own (k w) x)) (after_fetch r (λ w. exec u own (k w) x))) (sym (fetch_same at x))
         (fetch_like (fetch t.live own at x) (λ w. exec t own (k w) x) (λ w. exec u own (k w) x) (λ w. same_alike (k w) x))
     same_alike (Load wide at k) x =
-        subst (λ (r : Result (ℕ × Moment) Violation). LikeOutcome (after_read (load t.live own wide at x) (λ v y. exec t own (k v) y)) (after_read r (λ v y. exec u own (k v) y))) (sym (load_same wide at x))
+        subst (λ (r : Result (ℕ × Moment) Violation). LikeOutcome (after_read (load t.live own wide at x) (λ v y. exec t own (k v) y))
+        (after_read r (λ v y. exec u own (k v) y))) (sym (load_same wide at x))
         (read_like (load t.live own wide at x) (λ v y. exec t own (k v) y) (λ v y. exec u own (k v) y) (λ v y. same_alike (k v) y))
     same_alike (Store wide at v k) x =
         subst (λ (r : Result Moment Violation). LikeOutcome (after_write (store t.live own wide at v x) (λ y. exec t own k y)) (after_write r (λ y. exec u own k y))) (sym (store_same wide at v x))

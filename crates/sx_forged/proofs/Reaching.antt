@@ -1,5 +1,6 @@
 -- Every act of a run keeps the turns.
-use Rattle.std.proofs.Common.{◌≡◌, ℕ, zero, suc, ◌+◌, ◌-◌, ◌/◌, ◌<◌, ◌⊎◌, inl, inr, ◌==◌, Bool, true, false, cond, if◌then◌else◌, List, [], ◌∷◌, length, drop, Option, Some, None, refl, sym, ◌∙◌, ap, subst, arith}
+use Rattle.std.proofs.Common.{◌≡◌, ℕ, zero, suc, ◌+◌, ◌-◌, ◌/◌, ◌<◌, ◌⊎◌, inl, inr, ◌==◌, Bool, true, false, cond, if◌then◌else◌, List, [], ◌∷◌, length, drop}
+use Rattle.std.proofs.Common.{Option, Some, None, refl, sym, ◌∙◌, ap, subst, arith}
 use Rattle.std.specs.Prelude.{slice_get, slice_set, Result, Ok, Err}
 use Rattle.std.proofs.lemmas.Bool.{eqb-true}
 use Rattle.sx_sched.specs.Lines as line
@@ -187,7 +188,8 @@ steps_form : (stops : Look → Bool) (last : List Happening) (n k : ℕ) (rest :
 steps_form stops last n zero rest f h now = all_form last rest f h now
 steps_form stops last n (suc k) rest f h now = by (steps_form stops last n k rest f h) (slice_get now n)
   where
-    by : Rest (steps stops last n k rest) → (o : Option Look) → ScriptInForm (where_node o (λ a. Do (Step n) (λ next. if ends stops a (slice_get next n) then rest next else steps stops last n k rest next)) (rest now))
+    by : Rest (steps stops last n k rest) → (o : Option Look) → ScriptInForm (where_node o
+        (λ a. Do (Step n) (λ next. if ends stops a (slice_get next n) then rest next else steps stops last n k rest next)) (rest now))
     by more None = h now
     by more (Some a) = (tt, λ next. if_form (ends stops a (slice_get next n)) (rest next) (steps stops last n k rest next) (h next) (more next))
 

@@ -103,7 +103,8 @@ module _ (a : Setting) (nac : Mac) (keys : List (List ℕ)) (secret : List ℕ) 
 
   put_on_like : (w : World) (ns : List State) (n at : ℕ) (bytes : List ℕ) → Nodes w.nodes ns → Like (put_on n at bytes w) (put_on n at bytes (with_nodes w ns))
   put_on_like w ns n at bytes h =
-      on_node w ns n (λ s. done_on w n [] (put s at bytes)) (λ t. done_on (with_nodes w ns) n [] (put t at bytes)) h (λ s t g. done_like w ns n [] (put s at bytes) (put t at bytes) h (put_like a.mac nac s t at bytes g))
+      on_node w ns n (λ s. done_on w n [] (put s at bytes)) (λ t. done_on (with_nodes w ns) n [] (put t at bytes)) h
+      (λ s t g. done_like w ns n [] (put s at bytes) (put t at bytes) h (put_like a.mac nac s t at bytes g))
 
   give_like : (w : World) (ns : List State) (n at : ℕ) (o : Option (List ℕ)) → Nodes w.nodes ns → Like (give w n at o) (give (with_nodes w ns) n at o)
   give_like w ns n at None h = (refl, like_nodes a.mac nac w ns h)
@@ -112,7 +113,8 @@ module _ (a : Setting) (nac : Mac) (keys : List (List ℕ)) (secret : List ℕ) 
   sensed_like : (w : World) (ns : List State) (d v : ℕ) (o : Option AppDevice) → Nodes w.nodes ns → Like (sense_at a w d v o) (sense_at b (with_nodes w ns) d v o)
   sensed_like w ns d v None h = (refl, like_nodes a.mac nac w ns h)
   sensed_like w ns d v (Some x) h =
-      on_node w ns x.node (λ s. done_on w x.node (item.Sense d v ∷ []) (sense s (place_at a x.node d) v)) (λ t. done_on (with_nodes w ns) x.node (item.Sense d v ∷ []) (sense t (place_at a x.node d) v)) h (λ s t g.
+      on_node w ns x.node (λ s. done_on w x.node (item.Sense d v ∷ []) (sense s (place_at a x.node d) v))
+      (λ t. done_on (with_nodes w ns) x.node (item.Sense d v ∷ []) (sense t (place_at a x.node d) v)) h (λ s t g.
       done_like w ns x.node (item.Sense d v ∷ []) (sense s (place_at a x.node d) v) (sense t (place_at a x.node d) v) h (sense_like a.mac nac s t (place_at a x.node d) v g))
 
   -- one thing happens
@@ -121,7 +123,8 @@ module _ (a : Setting) (nac : Mac) (keys : List (List ℕ)) (secret : List ℕ) 
   happens_like (Step n) w ns h = on_node w ns n (after_step a w n) (after_step b (with_nodes w ns) n) h (λ s t g. stepped_like w ns n s t h g)
   happens_like (Put n at bytes) w ns h = put_on_like w ns n at bytes h
   happens_like (Set n r v) w ns h =
-      on_node w ns n (λ s. done_on w n [] (set_register s r v)) (λ t. done_on (with_nodes w ns) n [] (set_register t r v)) h (λ s t g. done_like w ns n [] (set_register s r v) (set_register t r v) h (set_like a.mac nac s t r v g))
+      on_node w ns n (λ s. done_on w n [] (set_register s r v)) (λ t. done_on (with_nodes w ns) n [] (set_register t r v)) h
+      (λ s t g. done_like w ns n [] (set_register s r v) (set_register t r v) h (set_like a.mac nac s t r v g))
   happens_like (Take n at len) w ns h =
       on_node w ns n (λ s. after_take w n (take_from s at len).shown) (λ t. after_take (with_nodes w ns) n (take_from t at len).shown) h (λ s t g.
       subst (λ (z : Result (List ℕ) Refused). Like (after_take w n (take_from s at len).shown) (after_take (with_nodes w ns) n z)) (take_like a.mac nac s t at len g).0
@@ -134,7 +137,8 @@ module _ (a : Setting) (nac : Mac) (keys : List (List ℕ)) (secret : List ℕ) 
       let one = irq_like a.mac nac s t k g in
       interrupted_like w ns n (irq s k).state (irq t k).state (irq s k).shown (irq t k).shown h one.0 one.1)
   happens_like (Reset n) w ns h =
-      on_node w ns n (λ s. only (with_node w n (reset s) w.ledger w.steps) (item.Reset n Asked ∷ [])) (λ t. only (with_node (with_nodes w ns) n (reset t) w.ledger w.steps) (item.Reset n Asked ∷ [])) h (λ s t g.
+      on_node w ns n (λ s. only (with_node w n (reset s) w.ledger w.steps) (item.Reset n Asked ∷ []))
+      (λ t. only (with_node (with_nodes w ns) n (reset t) w.ledger w.steps) (item.Reset n Asked ∷ [])) h (λ s t g.
       (refl, record { rest = refl; nodes = put_in_like a.mac nac w.nodes ns n (reset s) (reset t) h (reset_states a.mac nac s t g) }))
   happens_like (Ask m) w ns h = (refl, record { rest = refl; nodes = h })
   happens_like (Answer m boot k) w ns h = answer_like a nac keys secret agree w ns m boot (slice_get a.sites m) (slice_get w.packets k) h

@@ -1,5 +1,6 @@
 -- What an invocation wraps: answers under its own key, and events of connections that it sends on.
-use Rattle.std.proofs.Common.{inl, inr, ◌⊎◌, ◌≡◌, ℕ, zero, suc, ◌+◌, ◌*◌, ◌==◌, Bool, true, false, ◌&&◌, ◌||◌, not, if◌then◌else◌, List, [], ◌∷◌, ◌++◌, length, take, drop, Option, Some, None, Result, Ok, Err, refl, sym, ◌∙◌, ap, subst, arith}
+use Rattle.std.proofs.Common.{inl, inr, ◌⊎◌, ◌≡◌, ℕ, zero, suc, ◌+◌, ◌*◌, ◌==◌, Bool, true, false, ◌&&◌, ◌||◌, not, if◌then◌else◌, List, [], ◌∷◌, ◌++◌, length}
+use Rattle.std.proofs.Common.{take, drop, Option, Some, None, Result, Ok, Err, refl, sym, ◌∙◌, ap, subst, arith}
 use Rattle.std.specs.Prelude.{nat_lt, slice_get}
 use Rattle.std.proofs.lemmas.Bool.{and_parts, true≢false}
 use Rattle.sx_lang.specs.declared.sides.Side.{Side}
@@ -25,9 +26,12 @@ use Rattle.sx_invoke.specs.ModuleState.{EndState, end_of, epoch_of, link_of}
 use Rattle.sx_invoke.specs.Windows.{two, write_bytes, read_bytes}
 use Rattle.sx_invoke.specs.Progress.{marks_in, Progress, Invoked, Returns, Violates, Course, Going, Broken, and_on, finished}
 use Rattle.sx_invoke.specs.Acts.{event_header, with_piece, copied_to, with_packet, event_packet, wrap_counted, with_packets, with_act, with_acts, actuated, own_window, handled}
-use Rattle.sx_invoke.specs.Protocol.{set_key_entry, attest_entry, input_entry, set_key_size, set_key_kind, ask_size, ask_kind, event_size, event_kind, no_entry, bad_window, other_kind, no_end, past_number, no_sample, last_number, key_size, value_size, header_size, key_tag_at, value_tag_at}
+use Rattle.sx_invoke.specs.Protocol.{set_key_entry, attest_entry, input_entry, set_key_size, set_key_kind, ask_size, ask_kind, event_size, event_kind, no_entry}
+use Rattle.sx_invoke.specs.Protocol.{bad_window, other_kind, no_end, past_number, no_sample, last_number, key_size, value_size, header_size, key_tag_at}
+use Rattle.sx_invoke.specs.Protocol.{value_tag_at}
 use Rattle.sx_invoke.specs.Invocation.{entered, invoke, returns_inside, is_no_entry, has_bad_windows}
-use Rattle.sx_invoke.specs.Entries.{received, with_received, is_kind, set_key, set_key_at, key_opened, is_keyed, attest, input, input_at, event_numbered, event_opened, sample, sample_of, sample_read, number_taken, field_in, second_in, header_in, end_on, end_found, side_of}
+use Rattle.sx_invoke.specs.Entries.{received, with_received, is_kind, set_key, set_key_at, key_opened, is_keyed, attest, input, input_at, event_numbered}
+use Rattle.sx_invoke.specs.Entries.{event_opened, sample, sample_of, sample_read, number_taken, field_in, second_in, header_in, end_on, end_found, side_of}
 use Rattle.sx_forged.proofs.Opening.{AllMarks}
 use Rattle.sx_forged.proofs.Fields.{KeyedEnd, KeyedEnds, same_keyed}
 use Rattle.sx_forged.proofs.Packets.{read_long}
@@ -95,7 +99,8 @@ module _ (set : Setting) (s : Setup) (call : Call) where
       go true o =
           let en = end_of p.state.ends k in
           let keyed = keyed_get set s.ends p.state.ends k e at h.0 (and_parts en.is_open (nat_lt en.number last_number) o).0 in
-          piece_keeps (event_packet s en v) (wrap_counted k en v p) (same_keyed set s.ends p.state.ends k _ h.0, all_more (Sent s) p.marks (mark.Wrapped (event_header en) (two v) false) (inr (refl, refl, refl, k, e, at, side, keyed.1)) h.1)
+          piece_keeps (event_packet s en v) (wrap_counted k en v p)
+          (same_keyed set s.ends p.state.ends k _ h.0, all_more (Sent s) p.marks (mark.Wrapped (event_header en) (two v) false) (inr (refl, refl, refl, k, e, at, side, keyed.1)) h.1)
       go false o = h
 
   abbrev At : ℕ → List End → Type 0
@@ -103,7 +108,8 @@ module _ (set : Setting) (s : Setup) (call : Call) where
 
   packets_keep : (output v k : ℕ) (es : List End) → At k es → Keeps (with_packets s call output v k es)
   packets_keep output v k [] at p h = h
-  packets_keep output v k (e ∷ es) at p h = go (is_sending output e.side e.port) refl (packets_keep output v (k + 1) es (λ j f g. subst (λ i. slice_get s.ends i ≡ Some f) (omega arith) (at (suc j) f g)))
+  packets_keep output v k (e ∷ es) at p h = go (is_sending output e.side e.port) refl
+      (packets_keep output v (k + 1) es (λ j f g. subst (λ i. slice_get s.ends i ≡ Some f) (omega arith) (at (suc j) f g)))
     where
       go : (b : Bool) → is_sending output e.side e.port ≡ b → Keeps (with_packets s call output v (k + 1) es)
           → Fine (on (if b then and_on (with_packet s call v k p) (with_packets s call output v (k + 1) es) else with_packets s call output v (k + 1) es p))
@@ -197,7 +203,8 @@ module _ (set : Setting) (s : Setup) (call : Call) where
         by_device (Some d) =
             let q = sample_read d p0 in
             either d.1.fresh (finished (handled s call (event.Sample d.1.value) q)) (Returns no_sample p0)
-            (λ g. finished_sends (handled s call (event.Sample d.1.value) q) (handler_sends (event.Sample d.1.value) q (start, all_more (Sent s) p0.marks (mark.Sampled d.0 d.1.value) tt nothing))) (λ g. nothing)
+            (λ g. finished_sends (handled s call (event.Sample d.1.value) q)
+            (handler_sends (event.Sample d.1.value) q (start, all_more (Sent s) p0.marks (mark.Sampled d.0 d.1.value) tt nothing))) (λ g. nothing)
 
     by_entries : AllSent (entered s call p0)
     unfolding entered

@@ -80,7 +80,8 @@ module _ (set : Setting) (lines : List Line) (k : ℕ) (now : Moment) (who : Opt
   w = now.world
 
   -- an answer that the deployer accepts
-  accepted : (m boot p : ℕ) (site : Site) (answer : List ℕ) → slice_get set.sites m ≡ Some site → slice_get w.packets p ≡ Some answer → AnswerForged set w m boot site answer who → Forgery set lines k w who
+  accepted : (m boot p : ℕ) (site : Site) (answer : List ℕ) → slice_get set.sites m ≡ Some site → slice_get w.packets p ≡ Some answer
+      → AnswerForged set w m boot site answer who → Forgery set lines k w who
   accepted m boot p site answer sited packet a =
       let right : key_at set boot (slice_get set.sites m) ≡ key_of set site boot = ap (key_at set boot) sited in
       record {
@@ -102,7 +103,8 @@ module _ (set : Setting) (lines : List Line) (k : ℕ) (now : Moment) (who : Opt
           absurd (omega (arith, long, none))
       refuted body e (inr was) = true≢false (sym was ∙ subst (λ (z : List ℕ). is_made w.ledger (made_entry (maker.Module m) NO_TARGET boot a.ask z) ≡ false) (sym e) a.unmade)
 
-  answered : (m boot p : ℕ) (o : Option Site) → slice_get set.sites m ≡ o → (q : Option (List ℕ)) → slice_get w.packets p ≡ q → IsAmong (item.Forged who) (after_answer set w m boot o q).items → Forgery set lines k w who
+  answered : (m boot p : ℕ) (o : Option Site) → slice_get set.sites m ≡ o → (q : Option (List ℕ)) → slice_get w.packets p ≡ q
+      → IsAmong (item.Forged who) (after_answer set w m boot o q).items → Forgery set lines k w who
   answered m boot p None e q f h = elim h [ inl e ↦ absurd cc | inr z ↦ absurd z ]
   answered m boot p (Some site) e None f h = elim h [ inl e ↦ absurd cc | inr z ↦ absurd z ]
   answered m boot p (Some site) e (Some answer) f h = accepted m boot p site answer e f (answers_forge set w m boot site answer who h)
@@ -120,7 +122,8 @@ module _ (set : Setting) (lines : List Line) (k : ℕ) (now : Moment) (who : Opt
   shows_forgery (Give p n at) f h = absurd (give_not set w who n at (slice_get w.packets p) h)
   shows_forgery (Forge bytes) f h = elim h [ inl e ↦ absurd cc | inr z ↦ absurd z ]
   shows_forgery (Sense d v) f h = absurd (sense_not set w who d v (slice_get set.app.devices d) h)
-  shows_forgery (Irq n i) f h = absurd (at_not set w who (λ s. after_interrupt set w n (irq s i).state (irq s i).shown) (λ s. irq_not set w who n (irq s i).state (irq s i).shown) (slice_get w.nodes n) h)
+  shows_forgery (Irq n i) f h = absurd (at_not set w who (λ s. after_interrupt set w n (irq s i).state (irq s i).shown)
+      (λ s. irq_not set w who n (irq s i).state (irq s i).shown) (slice_get w.nodes n) h)
   shows_forgery (Reset n) f h = absurd (at_not set w who _ (λ s t. elim t [ inl e ↦ cc | inr z ↦ z ]) (slice_get w.nodes n) h)
   shows_forgery (Ask m) f h = elim h [ inl e ↦ absurd cc | inr r ↦ elim r [ inl e ↦ absurd cc | inr z ↦ absurd z ] ]
   shows_forgery (Answer m boot p) f h = answered m boot p (slice_get set.sites m) refl (slice_get w.packets p) refl h

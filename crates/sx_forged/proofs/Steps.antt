@@ -90,7 +90,8 @@ module _ (mac nac : Mac) where
 
       attempt_like : LikeOutcome mac nac (attempt mac s) (attempt nac twin)
       attempt_like =
-          ifs_like mac nac (word_outside s.sections.live (pc_of s)) (word_outside u.live (pc_of s)) (ordered mac s (device_at s.devices (pc_of s))) (ordered nac twin (device_at s.devices (pc_of s))) bad.Fetch
+          ifs_like mac nac (word_outside s.sections.live (pc_of s)) (word_outside u.live (pc_of s)) (ordered mac s (device_at s.devices (pc_of s)))
+          (ordered nac twin (device_at s.devices (pc_of s))) bad.Fetch
           (word_outside_like mac nac s.sections.live u.live (pc_of s) like) (ordered_like (device_at s.devices (pc_of s)))
 
       -- the state after an instruction of `own`, where PC is in the section of the id `at`
@@ -111,7 +112,8 @@ module _ (mac nac : Mac) where
       after_like regs x v w exchange h e =
           let at = holder v.live (slice_index regs 0) in
           subst (λ (own : ℕ). LikeState (state_after s (own_of s) regs x v exchange) (ended twin w regs x exchange own (holder w.live (slice_index regs 0)) (entered_from twin own))) (sym own_same)
-          (subst (λ (a : ℕ). LikeState (state_after s (own_of s) regs x v exchange) (ended twin w regs x exchange (own_of s) a (entered_from twin (own_of s)))) (sym (holder_like mac nac v.live w.live (slice_index regs 0) h))
+          (subst (λ (a : ℕ). LikeState (state_after s (own_of s) regs x v exchange) (ended twin w regs x exchange (own_of s) a (entered_from twin (own_of s))))
+          (sym (holder_like mac nac v.live w.live (slice_index regs 0) h))
           (subst (λ (c : ℕ). LikeState (state_after s (own_of s) regs x v exchange) (ended twin w regs x exchange (own_of s) at c)) (sym (caller_same (own_of s)))
           (record { rest = refl; sections = h; next = e; keys = keys })))
 

@@ -1,5 +1,6 @@
 -- One act on a node keeps the turns of deployed modules.
-use Rattle.std.proofs.Common.{◌≡◌, ◌≢◌, ℕ, ◌<◌, ◌⊎◌, inl, inr, ◌==◌, ◌||◌, not, Bool, true, false, cond, if◌then◌else◌, List, [], ◌∷◌, ◌++◌, length, Option, Some, None, refl, sym, ◌∙◌, ap, subst, arith}
+use Rattle.std.proofs.Common.{◌≡◌, ◌≢◌, ℕ, ◌<◌, ◌⊎◌, inl, inr, ◌==◌, ◌||◌, not, Bool, true, false, cond, if◌then◌else◌, List, [], ◌∷◌, ◌++◌, length, Option}
+use Rattle.std.proofs.Common.{Some, None, refl, sym, ◌∙◌, ap, subst, arith}
 use Rattle.std.specs.Prelude.{slice_get}
 use Rattle.std.proofs.lemmas.Bool.{true≢false, eqb-true, or_cases, not-true}
 use Rattle.sx_lang.specs.declared.tree.DeviceKind.{DeviceKind}
@@ -177,7 +178,19 @@ module _ (set : Setting) (n m : ℕ) (q : PartTree) (site : Site) (s : State) (s
       (Aborted (turn_of set m q sec u.before)) (Exited (setup_of set m q sec u.before) (turn_of set m q sec u.before) u.before) u.bound
       (record { node = s; marks = u.seen; event = u.last }) _ (watch_goes set.mac s u.seen u.last quiet) u.comes) [
         | inl out ↦ absurd (r.runs out)
-        | inr on ↦ (record { before = u.before; enters = u.enters; boot = u.boot ∙ sym (onward set.mac s quiet).boot; bound = on.0; seen = u.seen ++ marks; last = (step set.mac s).shown.event; comes = on.3 }, refl, refl)
+        | inr on ↦ (
+          record {
+            before = u.before;
+            enters = u.enters;
+            boot = u.boot ∙ sym (onward set.mac s quiet).boot;
+            bound = on.0;
+            seen = u.seen ++ marks;
+            last = (step set.mac s).shown.event;
+            comes = on.3;
+          },
+          refl,
+          refl,
+        )
       ]
 
   pub goes_on : (t : InTurn set m q site sec (step set.mac s).state) × (t.before ≡ running.turn.before) × (t.seen ≡ running.turn.seen ++ marks)
@@ -232,7 +245,8 @@ act_idles mac (Set r v) s ne = unless_idles {T = Unit {0}} (busy s) s (record { 
 act_idles mac (Take at k) s ne = unless_idles (take_refusal s at k) s _ (λ e. not_busy s _ e)
 act_idles mac (Sense device v) s ne = unless_idles {T = Unit {0}} (busy s) s (record { state = record s { devices = with_sample s.devices device v }; shown = tt }) (λ e. busy_idle s e)
 act_idles mac (Interrupt line) s ne =
-    unless_idles (irq_refusal s) s (interrupted s (exec s.sections 0 (interrupt line s.regs) (start s))) (λ e. interrupted_idle s (exec s.sections 0 (interrupt line s.regs) (start s)) (not_busy s _ e))
+    unless_idles (irq_refusal s) s (interrupted s (exec s.sections 0 (interrupt line s.regs) (start s)))
+    (λ e. interrupted_idle s (exec s.sections 0 (interrupt line s.regs) (start s)) (not_busy s _ e))
 
 pub is_step : (act : Act) → (act ≡ Step) ⊎ (act ≡ Step → ⊥)
 is_step Step = inl refl

@@ -43,7 +43,8 @@ module _ (set : Setting) (lines : List Line) (sound : IsSoundSetting set) where
   later : (k n : ℕ) (s : State) → Stood set lines k n s → Stood set lines (k + 1) n s
   later k n s h = let e = h.early in record { j = h.j; past = h.past; early = omega (arith, e); at = h.at; there = h.there }
 
-  reached : (i : ℕ) (script : Script) (w : World) → ((d : ℕ) → moment_from set d script w ≡ moment set lines (i + d)) → ScriptInForm script → AllTurn set w → AllLogged set w.ledger → AllKeyed set (Stood set lines i) w
+  reached : (i : ℕ) (script : Script) (w : World) → ((d : ℕ) → moment_from set d script w ≡ moment set lines (i + d)) → ScriptInForm script → AllTurn set w
+      → AllLogged set w.ledger → AllKeyed set (Stood set lines i) w
       → (d : ℕ) (now : Moment) → moment_from set d script w ≡ Some now → NoneBefore set lines (i + d) → Holds set lines (i + d) now
   reached i End w same f t l h d now e none = absurd cc
   reached i (Do x rest) w same f t l h zero now e none =
@@ -82,7 +83,8 @@ ledger_tells set sound lines form k now at none =
     record {
       entries = h.logged;
       wraps = λ n m id s next there runs e.
-          let entered = step_enters set lines k now.world n s sound (h.turns n s there) (h.keyed n s there) (record { j = k; past = now; early = omega arith; at = at; there = there }) h.logged there m id runs e in
+          let entered = step_enters set lines k now.world n s sound (h.turns n s there) (h.keyed n s there)
+          (record { j = k; past = now; early = omega arith; at = at; there = there }) h.logged there m id runs e in
           let ledger : (done set now.next now.world).world.ledger ≡ (after_step set now.world n s).world.ledger =
           ap (λ (y : Happening). (done set y now.world).world.ledger) next
           ∙ ap (λ (o : Option State). (at_node now.world (after_step set now.world n) o).world.ledger) there in
@@ -128,7 +130,8 @@ back_none : (i : Item) (xs ys : List Item) → IsAmong i ys → IsAmong i (xs ++
 back_none i [] ys h = h
 back_none i (x ∷ xs) ys h = inr (back_none i xs ys h)
 
-find : (set : Setting) (script : Script) (w : World) (front rest : List Item) (who : Option ℕ) → (performed set script w).items ≡ front ++ item.Forged who ∷ rest → NoForged front → Found set script w who
+find : (set : Setting) (script : Script) (w : World) (front rest : List Item) (who : Option ℕ)
+    → (performed set script w).items ≡ front ++ item.Forged who ∷ rest → NoForged front → Found set script w who
 find set End w [] rest who e none = absurd (empty (item.Forged who) rest e)
   where
     empty : (i : Item) (r : List Item) → ◌≡◌ {A = List Item} [] (i ∷ r) → ⊥
@@ -148,18 +151,21 @@ find set (Do x next) w front rest who e none =
             now = f.now;
             at = f.at;
             shown = f.shown;
-            first = λ j past lt g. earlier x next w (done set x w).items (λ who2 h. none who2 (subst (IsAmong (item.Forged who2)) (sym t.2) (front_none (item.Forged who2) (done set x w).items t.0 h))) refl f j past lt g;
+            first = λ j past lt g. earlier x next w (done set x w).items (λ who2 h. none who2
+                (subst (IsAmong (item.Forged who2)) (sym t.2) (front_none (item.Forged who2) (done set x w).items t.0 h))) refl f j past lt g;
           }
     ]
   where
-    earlier : (x : Happening) (next : List Rattle.sx_guard.specs.Script.Look → Script) (w : World) (items : List Item) → NoForged items → items ≡ (done set x w).items → (f : Found set (next (looks (done set x w).world)) (done set x w).world who)
+    earlier : (x : Happening) (next : List Rattle.sx_guard.specs.Script.Look → Script) (w : World) (items : List Item) → NoForged items
+        → items ≡ (done set x w).items → (f : Found set (next (looks (done set x w).world)) (done set x w).world who)
         → (j : ℕ) (past : Moment) → j < suc f.k → moment_from set j (Do x next) w ≡ Some past → NoForged (shown_at set past)
     earlier x next w items none is f zero past lt g = subst (λ (z : Moment). NoForged (shown_at set z)) (some_inj (record { next = x; world = w }) past g) (subst NoForged is none)
     earlier x next w items none is f (suc j) past lt g = f.first j past (omega (arith, lt)) g
 
 pub forged_shown : ForgedShown
 forged_shown set lines front rest who e none =
-    let same : (run set (switched_on set) lines).items ≡ (performed set (script_of set lines) (switched_on set)).items = ap (λ (z : Rattle.sx_run.specs.State.Acted). z.items) (is_performed set lines (switched_on set) (on_placed set)) in
+    let same : (run set (switched_on set) lines).items ≡ (performed set (script_of set lines) (switched_on set)).items =
+    ap (λ (z : Rattle.sx_run.specs.State.Acted). z.items) (is_performed set lines (switched_on set) (on_placed set)) in
     let f = find set (script_of set lines) (switched_on set) front rest who (sym same ∙ e) none in
     (f.k, f.now, record { at = f.at; shown = f.shown; first = f.first })
 

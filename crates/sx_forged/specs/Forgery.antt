@@ -1,5 +1,6 @@
 -- What the first `forged` of a run says: a tag was accepted that nobody who holds its key made.
-use Rattle.std.specs.Prelude.{◌≡◌, ℕ, true, false, ◌≤◌, ◌⊎◌, List, [], ◌∷◌, ◌++◌, length, take, slice_get}
+use Rattle.std.specs.Prelude.{◌≡◌, ℕ, true, false, ◌≤◌, ◌⊎◌, List, [], ◌∷◌, ◌++◌, length, take}
+use Rattle.std.specs.Prelude.{slice_get}
 use Rattle.std.specs.Prelude.{Option, Some, None}
 use Rattle.sx_trace.specs.declared.items.Item.{Item}
 use Rattle.sx_trace.specs.declared.items.Item.TheVariants as item
@@ -84,7 +85,8 @@ pub record Forgery (set : Setting) (lines : List Line) (k : ℕ) (w : World) (wh
   pub tag : List ℕ
   pub calls : CallsFor set w who header key
   pub presented : Presented set lines k tag
-  pub whole : tag ≡ take 16 (set.mac (key_named set key) (0x54 ∷ length header ∷ (header ++ cipher)))
+  pub whole : tag
+      ≡ take 16 (set.mac (key_named set key) (0x54 ∷ length header ∷ (header ++ cipher)))
   pub unmade : (body : List ℕ) → crypt set.mac (key_named set key) header body ≡ cipher
       → WasWrapped w.ledger key header body → ⊥
 

@@ -38,7 +38,8 @@ IsEntered set n s m ledger =
 pub record KeepsLog (set : Setting) (now : Moment) : Type 0 where
   pub entries : (e : Made) → is_made now.world.ledger e ≡ true → IsLogged set e.maker e
   pub wraps : (n m id : ℕ) (s : State) → now.next ≡ Step n → slice_get now.world.nodes n ≡ Some s
-      → module_of set.sites n s (own_of s) ≡ Some m → (step set.mac s).shown.event ≡ event.Wrapped id
+      → module_of set.sites n s (own_of s) ≡ Some m
+      → (step set.mac s).shown.event ≡ event.Wrapped id
       → IsEntered set n s m (done set now.next now.world).world.ledger
 
 abbrev pub LedgerTells : Type 0
