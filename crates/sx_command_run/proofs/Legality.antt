@@ -1,4 +1,4 @@
--- The items of every run of a deployment that was accepted are legal, up to the first that is forged.
+-- The items of every run of a deployment that was accepted are legal, up to the first that is forged; and what that is.
 use Rattle.std.proofs.Common.{◌≡◌, ◌∙◌, ℕ, ◌+◌, ◌≤◌, Bool, true, false, List, [], ◌∷◌, length, nat_lt, refl, sym, ap, subst, arith, Result, Ok, Err}
 use Rattle.std.proofs.lemmas.Bool.{ltb-false}
 use Rattle.std.specs.Prelude.{if◌then◌else◌}
@@ -14,9 +14,11 @@ use Rattle.sx_sched.specs.Reading.{said_line}
 use Rattle.sx_sched.proofs.Form.{said_in_form}
 use Rattle.sx_deploy.specs.Deployment.{Deployed, IsRead}
 use Rattle.sx_model.specs.Legal.{Legal, before}
-use Rattle.sx_run.specs.Accepted.{AreImages}
+use Rattle.sx_run.specs.Accepted.{AreImages, setting_of}
 use Rattle.sx_run.specs.AcceptedLaw.{AreLines}
 use Rattle.sx_run.proofs.AcceptedRunsLegal.{accepted_runs_legal}
+use Rattle.sx_forged.specs.Forgery.{ForgedIsForgery}
+use Rattle.sx_forged.proofs.Unmade.{accepted_forged}
 use Rattle.sx_command_world.specs.Schedule.{Schedule, or_rule, judged_line, on_line, schedule}
 use Rattle.sx_command_run.specs.Run.{items_of}
 
@@ -71,3 +73,9 @@ pub items_legal : (mac : Mac) (text : List ℕ) (d : Deployed) (texts : List (Li
 items_legal mac text d texts tag read images more =
     let k = schedule_kept d.names 1 more (omega arith) in
     accepted_runs_legal text d read mac texts tag images (schedule assembled d.names 1 more).lines (omega (arith, k.few)) k.form
+
+pub items_forged : (mac : Mac) (text : List ℕ) (d : Deployed) (texts : List (List ℕ)) → IsTag mac → IsRead text (Ok d) → AreImages mac d texts
+    → (more : List Answer) → ForgedIsForgery (setting_of mac d texts) (schedule assembled d.names 1 more).lines
+items_forged mac text d texts tag read images more =
+    let k = schedule_kept d.names 1 more (omega arith) in
+    accepted_forged text d read mac texts tag images (schedule assembled d.names 1 more).lines (omega (arith, k.few)) k.form

@@ -13,7 +13,9 @@ use Rattle.sx_command_deploy.proofs.Said.{deploy_not_two, deploy_says}
 use Rattle.sx_command_run.specs.Run.{items_of, run_deployed}
 use Rattle.sx_command_run.specs.Runs.{RunSays, RunsWith, run_part}
 use Rattle.sx_guard.proofs.Performing.{runs_guarded}
-use Rattle.sx_command_run.proofs.Legality.{items_legal}
+use Rattle.sx_forged.specs.Forgery.{ForgedIsForgery}
+use Rattle.sx_command_world.specs.Schedule.{schedule}
+use Rattle.sx_command_run.proofs.Legality.{items_legal, items_forged}
 use Rattle.sx_command_run.proofs.Owing.{run_owes}
 
 legal_by : (mac : Mac) (deployment : Option (List ℕ)) (texts : List (List ℕ)) (d : Deployed) → IsTag mac → Deploys deployment d → AreImages mac d texts
@@ -21,10 +23,16 @@ legal_by : (mac : Mac) (deployment : Option (List ℕ)) (texts : List (List ℕ)
 legal_by mac None texts d tag deploys images schedule = absurd deploys
 legal_by mac (Some text) texts d tag deploys images schedule = items_legal mac text d texts tag deploys images schedule
 
+forged_by : (mac : Mac) (deployment : Option (List ℕ)) (texts : List (List ℕ)) (d : Deployed) → IsTag mac → Deploys deployment d → AreImages mac d texts
+    → (answers : List Answer) → ForgedIsForgery (setting_of mac d texts) (schedule assembled d.names 1 answers).lines
+forged_by mac None texts d tag deploys images answers = absurd deploys
+forged_by mac (Some text) texts d tag deploys images answers = items_forged mac text d texts tag deploys images answers
+
 -- what holds of images that realize their modules
 runs_with : (mac : Mac) → IsTag mac → (deployment : Option (List ℕ)) (texts : List (List ℕ)) → ((d : Deployed) → Deploys deployment d → AreImages mac d texts) → RunsWith assembled mac deployment texts
 runs_with mac tag deployment texts realize = record {
   legal = λ d deploys schedule. legal_by mac deployment texts d tag deploys (realize d deploys) schedule;
+  forged = λ d deploys answers. forged_by mac deployment texts d tag deploys (realize d deploys) answers;
   guarded = λ d lines. runs_guarded (setting_of mac d texts) lines;
 }
 

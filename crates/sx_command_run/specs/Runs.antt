@@ -15,7 +15,11 @@ use Rattle.sx_command_deploy.specs.Deploys.{DeploySays, OwnPart}
 use Rattle.sx_sched.specs.Lines.{Line}
 use Rattle.sx_sched.specs.Reading.{Assembler}
 use Rattle.sx_guard.specs.Guarded.{GuardedRun}
+use Rattle.sx_forged.specs.Forgery.{ForgedIsForgery}
+use Rattle.sx_forged.specs.Named.{NamesAgree}
+use Rattle.sx_forged.specs.Unseen.{RunsKeysUnseen}
 use Rattle.sx_command_run.specs.Run.{items_of, run_deployed}
+use Rattle.sx_command_world.specs.Schedule.{schedule}
 use Rattle.sx_command_world.specs.Statuses.{schedule_status}
 
 -- Whatever the schedule is, the items of its run with these images are legal up to the first that
@@ -25,6 +29,8 @@ pub record RunsWith (assemble : Assembler) (mac : Mac) (deployment : Option (Lis
     (texts : List (List ℕ)) : Type 0 where
   pub legal : (d : Deployed) → Deploys deployment d → (schedule : List Answer)
       → Legal d.app (before (items_of assemble mac d texts schedule))
+  pub forged : (d : Deployed) → Deploys deployment d → (answers : List Answer)
+      → ForgedIsForgery (setting_of mac d texts) (schedule assemble d.names 1 answers).lines
   pub guarded : (d : Deployed) (lines : List Line) → GuardedRun (setting_of mac d texts) lines
 
 -- what is `run`'s own behind the head; it is cut short only where memory runs out
@@ -49,3 +55,5 @@ pub record RunTold (assemble : Assembler) (mac : Mac) (tells to_tell : Bool) (m0
   pub reader : (d : Deployed) (items : List Item) → Legal d.app items → TellsReader d.app items
   pub causes : (text : List ℕ) (d : Deployed) → IsRead text (Ok d) → (items : List Item)
       → Legal d.app items → HasCauses d.app items
+  pub keys : RunsKeysUnseen
+  pub named : NamesAgree

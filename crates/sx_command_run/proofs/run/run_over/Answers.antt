@@ -1,6 +1,8 @@
 use Rattle.sx_model.proofs.Telling.{tells}
 use Rattle.sx_explain.proofs.Caused.{legal_has_causes}
 use Rattle.sx_deploy.proofs.ValidApp.{app_valid}
+use Rattle.sx_forged.proofs.Naming.{names_agree}
+use Rattle.sx_forged.proofs.Scripts.{runs_keys_unseen}
 use Rattle.sx_command_run.proofs.Said.{run_says}
 use Rattle.sx_command_run.proofs.run.run_over.Goals as goal
 
@@ -8,5 +10,7 @@ pub returns : goal.returns
 returns g c = record {
   says = run_says g.T.Tag.mac g.met.T.Tag.is_tag c.deploy_over.ensures;
   reader = λ d items legal. tells d.app items legal;
+  keys = runs_keys_unseen;
+  named = names_agree;
   causes = λ text d read items legal. legal_has_causes d.app items (app_valid text d read) legal;
 }
