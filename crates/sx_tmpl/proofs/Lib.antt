@@ -1,3 +1,4 @@
 pub mod Running
 pub mod Operations
 pub mod Texts
+pub mod Putting

@@ -8,3 +8,4 @@ pub mod Words
 pub mod Flags
 pub mod Holding
 pub mod Outcomes
+pub mod Instructions

@@ -1,14 +1,16 @@
 -- What the code of `emit` computes with; nobody has to believe it. An operation's words are below
 -- 65,536, and a table has the addresses of a text.
 use Rattle.std.specs.Prelude.{◌≡◌, ℕ, ◌+◌, ◌*◌, ◌<◌, ◌≤◌, Bool, true, false, List, length}
-use Rattle.std.specs.Prelude.{slice_index}
+use Rattle.std.specs.Prelude.{[], ◌∷◌, replicate, slice_index, slice_index_or, slice_set}
 use Rattle.sx_rules.specs.declared.section.Layout.{Layout}
 use Rattle.sx_mean.specs.Offsets as offsets
+use Rattle.sx_mean.specs.Working.{saved_at}
 use Rattle.sx_ir.specs.declared.ir.Ir.{Ir}
 use Rattle.sx_ir.specs.declared.ir.Ir.TheVariants as ir
 use Rattle.sx_ir.specs.declared.ir.Code.{Code}
-use Rattle.sx_ir.specs.Sizes.{routines}
+use Rattle.sx_ir.specs.Sizes.{exit_bytes, has_routine, packet_bytes, routines, slot_bytes}
 use Rattle.sx_tmpl.specs.declared.table.Table.{Table}
+use Rattle.sx_tmpl.specs.Scratch as scratch
 use Rattle.sx_tmpl.specs.Text.{part_place, places_of}
 
 -- key, header with cipher and tag, and body end below 65,536
@@ -30,18 +32,22 @@ OperationFits l code (ir.JumpZero q) = q < length code.ops.items
 OperationFits l code (ir.Packet k) = Unit {0}
 OperationFits l code ir.Drop = Unit {0}
 OperationFits l code ir.Emit = Unit {0}
-OperationFits l code ir.Stop = l.priv_from + 104 < 65536
-OperationFits l code (ir.Saved r) = (12 ≤ r) × (r ≤ 15) × (l.priv_from + 12 < 65536)
-OperationFits l code ir.Inside = l.priv_from + 12 < 65536
-OperationFits l code (ir.Meets r n) = (12 ≤ r) × (r ≤ 15) × (2 ≤ n) × (l.priv_from + 12 < 65536)
-OperationFits l code (ir.CopyIn n o) = (l.priv_from + 8 < 65536) × (l.priv_from + o < 65536)
-OperationFits l code (ir.CopyOut n o) = (l.priv_from + 10 < 65536) × (l.priv_from + o < 65536)
+OperationFits l code ir.Stop = l.priv_from + scratch.return_at < 65536
+OperationFits l code (ir.Saved r) = (12 ≤ r) × (r ≤ 15) × (l.priv_from + saved_at r < 65536)
+OperationFits l code ir.Inside = l.priv_from + scratch.caller_at < 65536
+OperationFits l code (ir.Meets r n) =
+    (12 ≤ r) × (r ≤ 15) × (2 ≤ n) × (l.priv_from + saved_at r < 65536)
+OperationFits l code (ir.CopyIn n o) =
+    (l.priv_from + scratch.in_window_at < 65536) × (l.priv_from + o < 65536)
+OperationFits l code (ir.CopyOut n o) =
+    (l.priv_from + scratch.out_window_at < 65536) × (l.priv_from + o < 65536)
 OperationFits l code (ir.Seal k h hn b bn) = AreSealed l.priv_from k h hn b bn
 OperationFits l code (ir.Open k h hn b bn) = AreSealed l.priv_from k h hn b bn
 OperationFits l code (ir.SetEnd k) = l.priv_from + offsets.end_at k < 65536
 OperationFits l code ir.Sense = Unit {0}
 OperationFits l code (ir.Handler h) = (h < length code.parts.items)
-    × (part_place code.parts.items h < length code.ops.items) × (l.priv_from + 104 < 65536)
+    × (part_place code.parts.items h < length code.ops.items)
+    × (l.priv_from + scratch.return_at < 65536)
 OperationFits l code ir.Leave = Unit {0}
 
 -- an operation whose words name no place and no routine
@@ -54,6 +60,25 @@ is_plain (ir.Handler h) = false
 is_plain ir.Leave = false
 is_plain i = true
 
+-- the end that an operation makes a packet of is marked
+abbrev pub with_mark : Ir → List Bool → List Bool
+with_mark (ir.Packet k) marks = slice_set marks k true
+with_mark i marks = marks
+
+-- so are those of all operations
+abbrev pub with_marks : List Ir → List Bool → List Bool
+with_marks [] marks = marks
+with_marks (i ∷ ops) marks = with_marks ops (with_mark i marks)
+
+-- no end is marked
+unfoldable pub no_marks : ℕ → List Bool
+no_marks n = replicate n false
+
+-- for each end that a byte names, whether it has a packet routine
+pub record AreMarks (ops : List Ir) (marks : List Bool) : Type 0 where
+  pub count : length marks ≡ 256
+  pub each : (k : ℕ) → k < 256 → slice_index_or marks k false ≡ has_routine ops k
+
 -- for each of the first n ends, how many of those before it have a packet routine
 pub record AreCounts (ops : List Ir) (n : ℕ) (counts : List ℕ) : Type 0 where
   pub count : length counts ≡ n
@@ -63,6 +88,7 @@ pub record AreCounts (ops : List Ir) (n : ℕ) (counts : List ℕ) : Type 0 wher
 pub record IsTable (l : Layout) (code : Code) (t : Table) : Type 0 where
   pub places : t.places.items ≡ places_of l code
   pub count : length t.places.items ≡ length code.ops.items + 1
+  pub marks : AreMarks code.ops.items t.marks.items
   pub counts : AreCounts code.ops.items 256 t.routines.items
-  pub below : slice_index t.places.items (length code.ops.items) + 98
-      + 112 * routines code.ops.items 256 < 65536
+  pub below : slice_index t.places.items (length code.ops.items) + (exit_bytes + slot_bytes)
+      + packet_bytes * routines code.ops.items 256 < 65536

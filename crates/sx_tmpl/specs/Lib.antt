@@ -1,3 +1,6 @@
+pub mod Shaped
+pub mod Scratch
+pub mod Assembly
 pub mod Running
 pub mod Shows
 pub mod Template

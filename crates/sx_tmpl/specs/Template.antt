@@ -1,14 +1,23 @@
--- The words of each operation's template. Nobody has to believe this file for what an image
--- realizes. The assembly notation beside the words is that of TI's guide: `#` an immediate, `&` an
--- absolute address, `.+n` a jump over n words.
-use Rattle.std.specs.Prelude.{◌-◌, ℕ, zero, suc, ◌+◌, List, [], ◌∷◌}
+-- The instructions of each operation's template, and their words. Nobody has to believe this file
+-- for what an image realizes.
+use Rattle.std.specs.Prelude.{◌-◌, ℕ, zero, suc, ◌+◌, List, [], ◌∷◌, ◌++◌, ℤ}
 use Rattle.sx_rules.specs.declared.section.Layout.{Layout}
+use Rattle.sx_isa.specs.declared.instruction.Instr.{Instr}
+use Rattle.sx_isa.specs.declared.instruction.Operand.{Operand}
+use Rattle.sx_isa.specs.Standing.{words_of}
 use Rattle.sx_mean.specs.Offsets as offsets
 use Rattle.sx_mean.specs.Working as working
+use Rattle.sx_invoke.specs.Protocol as protocol
 use Rattle.sx_ir.specs.declared.ir.IrOp.{IrOp}
 use Rattle.sx_ir.specs.declared.ir.IrOp.TheVariants as op
 use Rattle.sx_ir.specs.declared.ir.Ir.{Ir}
 use Rattle.sx_ir.specs.declared.ir.Ir.TheVariants as ir
+use Rattle.sx_tmpl.specs.Scratch as scratch
+use Rattle.sx_tmpl.specs.Assembly.{sp, sr, r4, r5, r6, r7, r8, r9, r10, r11, r12, r13, r14, r15}
+use Rattle.sx_tmpl.specs.Assembly.{#◌, ##◌, &◌, ◌⟨◌⟩}
+use Rattle.sx_tmpl.specs.Assembly.{indirect, increment, mov, mov_b, add, sub, cmp, bis, xor, and}
+use Rattle.sx_tmpl.specs.Assembly.{push, call, pop, ret, br, clr, tst, inc, incd, dec, rla, ahead}
+use Rattle.sx_tmpl.specs.Assembly.{back, jnz, jz, jnc, jc, jmp, wrap, unwrap}
 
 -- the addresses of places, of the ends' packet routines, of handlers' parts, the place of the exit,
 -- and the address of the routine that opens a slot
@@ -19,84 +28,194 @@ pub record Addresses : Type 0 where
   pub exit : ℕ
   pub slots : ℕ
 
--- A product by shifts and adds, from the highest bit on:
---     POP R12; POP R13; CLR R14; MOV #16, R15
---     turn: RLA R14; RLA R12; JNC .+1; ADD R13, R14; DEC R15; JNZ turn
---     PUSH R14
+-- A product by shifts and adds, from the highest bit on.
+abbrev pub multiply : List Instr
+multiply =
+    pop r12
+    ∷ pop r13
+    ∷ clr r14
+    ∷ mov (# 16) r15
+    -- turn:
+    ∷ rla r14
+    ∷ rla r12
+    ∷ jnc (ahead 1)
+    ∷ add r13 r14
+    ∷ dec r15
+    ∷ jnz (back 6)  -- turn
+    ∷ push r14
+    ∷ []
+
+-- 1 where the comparison of the two topmost words doesn't take this jump over two words, else 0
+abbrev pub comparison : (ℤ → Instr) → List Instr
+comparison jump =
+    pop r12
+    ∷ cmp r12 (0 ⟨ sp ⟩)
+    ∷ clr (0 ⟨ sp ⟩)
+    ∷ jump (ahead 2)
+    ∷ mov (# 1) (0 ⟨ sp ⟩)
+    ∷ []
+
+-- a number minus the topmost word
+abbrev pub subtraction : Operand → List Instr
+subtraction from = mov from r12 ∷ sub (indirect sp) r12 ∷ mov r12 (0 ⟨ sp ⟩) ∷ []
+
+-- the instructions of each operation on words
+abbrev pub operator : IrOp → List Instr
+operator op.Add = add (increment sp) (0 ⟨ sp ⟩) ∷ []
+operator op.Sub = sub (increment sp) (0 ⟨ sp ⟩) ∷ []
+operator op.Mul = multiply
+operator op.And = and (increment sp) (0 ⟨ sp ⟩) ∷ []
+operator op.Or = bis (increment sp) (0 ⟨ sp ⟩) ∷ []
+operator op.Xor = xor (increment sp) (0 ⟨ sp ⟩) ∷ []
+operator op.Eq = comparison jnz
+operator op.Lt = comparison jc
+operator op.Neg = subtraction (# 0)
+operator op.Inv = subtraction (# 65535)
+operator op.Not =
+    tst (0 ⟨ sp ⟩) ∷ clr (0 ⟨ sp ⟩) ∷ jnz (ahead 2) ∷ mov (# 1) (0 ⟨ sp ⟩) ∷ []
+
+-- the element at the index on the stack, or 0
+abbrev pub load_at : ℕ → ℕ → List Instr
+load_at start n =
+    pop r12
+    ∷ cmp (## n) r12
+    ∷ jc (ahead 4)
+    ∷ add r12 r12
+    ∷ push (start ⟨ r12 ⟩)
+    ∷ jmp (ahead 1)
+    ∷ push (# 0)
+    ∷ []
+
+-- the word on the stack goes to the element at the index below it
+abbrev pub store_at : ℕ → ℕ → List Instr
+store_at start n =
+    pop r13
+    ∷ pop r12
+    ∷ cmp (## n) r12
+    ∷ jc (ahead 3)
+    ∷ add r12 r12
+    ∷ mov r13 (start ⟨ r12 ⟩)
+    ∷ []
+
+-- their words
 abbrev pub multiply_words : List ℕ
-multiply_words = 0x413c ∷ 0x413d ∷ 0x430e ∷ 0x403f ∷ 16 ∷ 0x5e0e ∷ 0x5c0c ∷ 0x2801 ∷ 0x5d0e ∷ 0x831f
-    ∷ 0x23fa ∷ 0x120e ∷ []
+multiply_words = words_of multiply
 
--- the words of each operation on words
 abbrev pub operator_words : IrOp → List ℕ
--- ADD @SP+, 0(SP), and SUB, AND, BIS and XOR likewise
-operator_words op.Add = 0x51b1 ∷ 0 ∷ []
-operator_words op.Sub = 0x81b1 ∷ 0 ∷ []
-operator_words op.Mul = multiply_words
-operator_words op.And = 0xf1b1 ∷ 0 ∷ []
-operator_words op.Or = 0xd1b1 ∷ 0 ∷ []
-operator_words op.Xor = 0xe1b1 ∷ 0 ∷ []
--- POP R12; CMP R12, 0(SP); CLR 0(SP); JNZ .+2; MOV #1, 0(SP)
-operator_words op.Eq = 0x413c ∷ 0x9c81 ∷ 0 ∷ 0x4381 ∷ 0 ∷ 0x2002 ∷ 0x4391 ∷ 0 ∷ []
--- the same with JC, the unsigned comparison
-operator_words op.Lt = 0x413c ∷ 0x9c81 ∷ 0 ∷ 0x4381 ∷ 0 ∷ 0x2c02 ∷ 0x4391 ∷ 0 ∷ []
--- CLR R12, or MOV #-1, R12; SUB @SP, R12; MOV R12, 0(SP)
-operator_words op.Neg = 0x430c ∷ 0x812c ∷ 0x4c81 ∷ 0 ∷ []
-operator_words op.Inv = 0x433c ∷ 0x812c ∷ 0x4c81 ∷ 0 ∷ []
--- TST 0(SP); CLR 0(SP); JNZ .+2; MOV #1, 0(SP)
-operator_words op.Not = 0x9381 ∷ 0 ∷ 0x4381 ∷ 0 ∷ 0x2002 ∷ 0x4391 ∷ 0 ∷ []
+operator_words o = words_of (operator o)
 
--- the element at the index on the stack, or 0:
---     POP R12; CMP #n, R12; JC .+4; ADD R12, R12; PUSH start(R12); JMP .+1; PUSH #0
 abbrev pub load_at_words : ℕ → ℕ → List ℕ
-load_at_words start n =
-    0x413c ∷ 0x903c ∷ n ∷ 0x2c04 ∷ 0x5c0c ∷ 0x121c ∷ start ∷ 0x3c01 ∷ 0x1203 ∷ []
+load_at_words start n = words_of (load_at start n)
 
--- POP R13; POP R12; CMP #n, R12; JC .+3; ADD R12, R12; MOV R13, start(R12)
 abbrev pub store_at_words : ℕ → ℕ → List ℕ
-store_at_words start n = 0x413d ∷ 0x413c ∷ 0x903c ∷ n ∷ 0x2c03 ∷ 0x5c0c ∷ 0x4d8c ∷ start ∷ []
+store_at_words start n = words_of (store_at start n)
 
--- MOV &back, R12; CMP #from, R12; JNC .+4; CMP #to, R12; JC .+1; a word that is no instruction
+-- an address that is kept here goes on outside the public section; inside, a word stands that is no
+-- instruction
+abbrev pub inside : ℕ → ℕ → ℕ → List Instr
+inside kept from to =
+    mov (& kept) r12
+    ∷ cmp (## from) r12
+    ∷ jnc (ahead 4)
+    ∷ cmp (## to) r12
+    ∷ jc (ahead 1)
+    ∷ []
+
 abbrev pub inside_words : ℕ → ℕ → ℕ → List ℕ
-inside_words back from to = 0x421c ∷ back ∷ 0x903c ∷ from ∷ 0x2804 ∷ 0x903c ∷ to ∷ 0x2c01 ∷ 0 ∷ []
+inside_words kept from to = words_of (inside kept from to) ++ 0 ∷ []
 
 -- A window of n bytes at the saved register passes 0xFFFF from 65537 - n on; else it meets the
--- private section where it begins below the section's end and doesn't end before its start:
---     MOV &saved, R12; CMP #65537-n, R12; JC .+6; CMP #to, R12; JC .+5;
---     CMP #from+1-n, R12; JNC .+2; PUSH #1; JMP .+1; PUSH #0
+-- private section where it begins below the section's end and doesn't end before its start.
+abbrev pub meets : ℕ → ℕ → ℕ → ℕ → List Instr
+meets saved from to n =
+    mov (& saved) r12
+    ∷ cmp (## (65537 - n)) r12
+    ∷ jc (ahead 6)  -- bad
+    ∷ cmp (## to) r12
+    ∷ jc (ahead 5)  -- good
+    ∷ cmp (## (from + 1 - n)) r12
+    ∷ jnc (ahead 2)  -- good
+    -- bad:
+    ∷ push (# 1)
+    ∷ jmp (ahead 1)
+    -- good:
+    ∷ push (# 0)
+    ∷ []
+
 abbrev pub meets_words : ℕ → ℕ → ℕ → ℕ → List ℕ
-meets_words saved from to n = 0x421c ∷ saved ∷ 0x903c ∷ (65537 - n) ∷ 0x2c06 ∷ 0x903c ∷ to ∷ 0x2c05
-    ∷ 0x903c ∷ (from + 1 - n) ∷ 0x2802 ∷ 0x1213 ∷ 0x3c01 ∷ 0x1203 ∷ []
+meets_words saved from to n = words_of (meets saved from to n)
 
--- MOV &window, R12; MOV #to, R13; MOV #n, R15
--- turn: MOV.B @R12+, 0(R13); INC R13; DEC R15; JNZ turn
+-- n bytes of the window go to an address
+abbrev pub copy_in : ℕ → ℕ → ℕ → List Instr
+copy_in window to n =
+    mov (& window) r12
+    ∷ mov (## to) r13
+    ∷ mov (## n) r15
+    -- turn:
+    ∷ mov_b (increment r12) (0 ⟨ r13 ⟩)
+    ∷ inc r13
+    ∷ dec r15
+    ∷ jnz (back 5)  -- turn
+    ∷ []
+
 abbrev pub copy_in_words : ℕ → ℕ → ℕ → List ℕ
-copy_in_words window to n =
-    0x421c ∷ window ∷ 0x403d ∷ to ∷ 0x403f ∷ n ∷ 0x4cfd ∷ 0 ∷ 0x531d ∷ 0x831f ∷ 0x23fb ∷ []
+copy_in_words window to n = words_of (copy_in window to n)
 
--- POP R12; ADD &window, R12; MOV #from, R13; MOV #n, R15
--- turn: MOV.B @R13+, 0(R12); INC R12; DEC R15; JNZ turn
+-- n bytes from an address go to the window, at the offset on the stack
+abbrev pub copy_out : ℕ → ℕ → ℕ → List Instr
+copy_out window from n =
+    pop r12
+    ∷ add (& window) r12
+    ∷ mov (## from) r13
+    ∷ mov (## n) r15
+    -- turn:
+    ∷ mov_b (increment r13) (0 ⟨ r12 ⟩)
+    ∷ inc r12
+    ∷ dec r15
+    ∷ jnz (back 5)  -- turn
+    ∷ []
+
 abbrev pub copy_out_words : ℕ → ℕ → ℕ → List ℕ
-copy_out_words window from n = 0x413c ∷ 0x521c ∷ window ∷ 0x403d ∷ from ∷ 0x403f ∷ n ∷ 0x4dfc ∷ 0
-    ∷ 0x531c ∷ 0x831f ∷ 0x23fb ∷ []
+copy_out_words window from n = words_of (copy_out window from n)
 
 -- the address of a key, or 0 for the module's own
 abbrev pub key_word : ℕ → ℕ → ℕ
 key_word base zero = 0
 key_word base (suc k) = base + suc k
 
--- MOV #key, R9; MOV #header, R10; MOV #hn, R11; MOV #body, R12; MOV #bn, R13; MOV #cipher, R14; MOV
--- #tag, R15; wrap; CLR R9
-abbrev pub seal_words : (key header hn body bn cipher tag : ℕ) → List ℕ
-seal_words key header hn body bn cipher tag =
-    0x4039 ∷ key ∷ 0x403a ∷ header ∷ 0x403b ∷ hn ∷ 0x403c ∷ body ∷ 0x403d ∷ bn ∷ 0x403e ∷ cipher
-    ∷ 0x403f ∷ tag ∷ 0x1384 ∷ 0x4309 ∷ []
+-- a module instruction takes addresses and lengths in R9 to R15
+abbrev pub seal : (key header hn body bn cipher tag : ℕ) → List Instr
+seal key header hn body bn cipher tag =
+    mov (## key) r9
+    ∷ mov (## header) r10
+    ∷ mov (## hn) r11
+    ∷ mov (## body) r12
+    ∷ mov (## bn) r13
+    ∷ mov (## cipher) r14
+    ∷ mov (## tag) r15
+    ∷ wrap
+    ∷ clr r9
+    ∷ []
 
--- the same with cipher and body exchanged, and unwrap; PUSH R15
+-- unwrap leaves in R15 whether the tag was right
+abbrev pub unseal : (key header hn cipher bn body tag : ℕ) → List Instr
+unseal key header hn cipher bn body tag =
+    mov (## key) r9
+    ∷ mov (## header) r10
+    ∷ mov (## hn) r11
+    ∷ mov (## cipher) r12
+    ∷ mov (## bn) r13
+    ∷ mov (## body) r14
+    ∷ mov (## tag) r15
+    ∷ unwrap
+    ∷ push r15
+    ∷ []
+
+abbrev pub seal_words : (key header hn body bn cipher tag : ℕ) → List ℕ
+seal_words key header hn body bn cipher tag = words_of (seal key header hn body bn cipher tag)
+
 abbrev pub open_words : (key header hn cipher bn body tag : ℕ) → List ℕ
-open_words key header hn cipher bn body tag =
-    0x4039 ∷ key ∷ 0x403a ∷ header ∷ 0x403b ∷ hn ∷ 0x403c ∷ cipher ∷ 0x403d ∷ bn ∷ 0x403e ∷ body
-    ∷ 0x403f ∷ tag ∷ 0x1385 ∷ 0x120f ∷ []
+open_words key header hn cipher bn body tag = words_of (unseal key header hn cipher bn body tag)
 
 -- A seal by offsets from the base: behind the header stand the cipher and the tag.
 abbrev pub sealing_words : (base k h hn b bn : ℕ) → List ℕ
@@ -110,94 +229,156 @@ opening_words base k h hn b bn =
     open_words (key_word base k) (base + h) hn (base + (h + hn)) bn (base + b)
     (base + (h + hn + bn))
 
--- CLR &pieces; MOV #next, &back; BR #part
+-- a handler's part, which returns to the next operation; no piece is made yet
+abbrev pub handler : ℕ → ℕ → ℕ → List Instr
+handler base next part =
+    clr (& (base + working.pieces_at))
+    ∷ mov (## next) (& (base + scratch.return_at))
+    ∷ br (## part)
+    ∷ []
+
 abbrev pub handler_words : ℕ → ℕ → ℕ → List ℕ
-handler_words base next part =
-    0x4382 ∷ (base + 4) ∷ 0x40b2 ∷ next ∷ (base + 104) ∷ 0x4030 ∷ part ∷ []
+handler_words base next part = words_of (handler base next part)
 
 -- the words of an operation at a place, in a module of this layout
 abbrev pub template : Layout → Addresses → ℕ → Ir → List ℕ
--- PUSH #n; PUSH &o; POP &o
-template l a p (ir.Push n) = 0x1230 ∷ n ∷ []
-template l a p (ir.Load o) = 0x1212 ∷ (l.priv_from + o) ∷ []
-template l a p (ir.Store o) = 0x41b2 ∷ (l.priv_from + o) ∷ []
+template l a p (ir.Push n) = words_of (push (## n) ∷ [])
+template l a p (ir.Load o) = words_of (push (& (l.priv_from + o)) ∷ [])
+template l a p (ir.Store o) = words_of (pop (& (l.priv_from + o)) ∷ [])
 template l a p (ir.LoadAt o n) = load_at_words (l.priv_from + o) n
 template l a p (ir.StoreAt o n) = store_at_words (l.priv_from + o) n
 template l a p (ir.Op f) = operator_words f
--- BR #q
-template l a p (ir.Jump q) = 0x4030 ∷ a.at q ∷ []
--- POP R12; TST R12; JNZ .+2; BR #q
-template l a p (ir.JumpZero q) = 0x413c ∷ 0x930c ∷ 0x2002 ∷ 0x4030 ∷ a.at q ∷ []
--- CALL #packet
-template l a p (ir.Packet k) = 0x12b0 ∷ a.packet k ∷ []
--- INCD SP
-template l a p ir.Drop = 0x5321 ∷ []
--- POP &device
-template l a p ir.Emit = 0x41b2 ∷ l.priv_from ∷ []
--- BR &back
-template l a p ir.Stop = 0x4210 ∷ (l.priv_from + 104) ∷ []
--- PUSH &saved
-template l a p (ir.Saved r) = 0x1212 ∷ (l.priv_from + working.saved_at r) ∷ []
-template l a p ir.Inside = inside_words (l.priv_from + 12) l.pub_from l.pub_to
+template l a p (ir.Jump q) = words_of (br (## (a.at q)) ∷ [])
+template l a p (ir.JumpZero q) =
+    words_of (pop r12 ∷ tst r12 ∷ jnz (ahead 2) ∷ br (## (a.at q)) ∷ [])
+template l a p (ir.Packet k) = words_of (call (## (a.packet k)) ∷ [])
+template l a p ir.Drop = words_of (incd sp ∷ [])
+template l a p ir.Emit = words_of (pop (& l.priv_from) ∷ [])
+template l a p ir.Stop = words_of (br (& (l.priv_from + scratch.return_at)) ∷ [])
+template l a p (ir.Saved r) = words_of (push (& (l.priv_from + working.saved_at r)) ∷ [])
+template l a p ir.Inside = inside_words (l.priv_from + scratch.caller_at) l.pub_from l.pub_to
 template l a p (ir.Meets r n) =
     meets_words (l.priv_from + working.saved_at r) l.priv_from l.priv_to n
-template l a p (ir.CopyIn n o) = copy_in_words (l.priv_from + 8) (l.priv_from + o) n
-template l a p (ir.CopyOut n o) = copy_out_words (l.priv_from + 10) (l.priv_from + o) n
+template l a p (ir.CopyIn n o) =
+    copy_in_words (l.priv_from + scratch.in_window_at) (l.priv_from + o) n
+template l a p (ir.CopyOut n o) =
+    copy_out_words (l.priv_from + scratch.out_window_at) (l.priv_from + o) n
 template l a p (ir.Seal k h hn b bn) = sealing_words l.priv_from k h hn b bn
 template l a p (ir.Open k h hn b bn) = opening_words l.priv_from k h hn b bn
--- MOV #slot, R12; CALL #slots
-template l a p (ir.SetEnd k) = 0x403c ∷ (l.priv_from + offsets.end_at k) ∷ 0x12b0 ∷ a.slots ∷ []
--- PUSH &device
-template l a p ir.Sense = 0x1212 ∷ l.priv_from ∷ []
+template l a p (ir.SetEnd k) =
+    words_of (mov (## (l.priv_from + offsets.end_at k)) r12 ∷ call (## a.slots) ∷ [])
+template l a p ir.Sense = words_of (push (& l.priv_from) ∷ [])
 template l a p (ir.Handler h) = handler_words l.priv_from (a.at (p + 1)) (a.at (a.part h))
--- BR #exit
-template l a p ir.Leave = 0x4030 ∷ a.at a.exit ∷ []
+template l a p ir.Leave = words_of (br (## (a.at a.exit)) ∷ [])
 
--- The entry keeps SP and the caller's registers, and begins the stack:
---     MOV SP, &148; MOV R12, &6; MOV R13, &8; MOV R14, &10; MOV R15, &12; MOV #512, SP
---     (offsets of the private section)
+-- The entry keeps SP and the caller's registers, and begins the stack.
+abbrev pub entry : ℕ → List Instr
+entry base =
+    mov sp (& (base + scratch.caller_sp_at))
+    ∷ mov r12 (& (base + working.saved_at 12))
+    ∷ mov r13 (& (base + working.saved_at 13))
+    ∷ mov r14 (& (base + working.saved_at 14))
+    ∷ mov r15 (& (base + working.saved_at 15))
+    ∷ mov (## (base + working.stack_to)) sp
+    ∷ []
+
 abbrev pub entry_words : ℕ → List ℕ
-entry_words base = 0x4182 ∷ (base + 148) ∷ 0x4c82 ∷ (base + 6) ∷ 0x4d82 ∷ (base + 8) ∷ 0x4e82
-    ∷ (base + 10) ∷ 0x4f82 ∷ (base + 12) ∷ 0x4031 ∷ (base + 512) ∷ []
+entry_words base = words_of (entry base)
 
 -- The exit takes the number of pieces and the status, sets the other registers to 0, and returns
--- with the caller's SP:
---     POP R13; POP R12; CLR R4 .. R11, R14, R15, SR; MOV &148, SP; MOV &12, PC
+-- with the caller's SP.
+abbrev pub leave : ℕ → List Instr
+leave base =
+    pop r13
+    ∷ pop r12
+    ∷ clr r4
+    ∷ clr r5
+    ∷ clr r6
+    ∷ clr r7
+    ∷ clr r8
+    ∷ clr r9
+    ∷ clr r10
+    ∷ clr r11
+    ∷ clr r14
+    ∷ clr r15
+    ∷ clr sr
+    ∷ mov (& (base + scratch.caller_sp_at)) sp
+    ∷ br (& (base + scratch.caller_at))
+    ∷ []
+
 abbrev pub leave_words : ℕ → List ℕ
-leave_words base = 0x413d ∷ 0x413c ∷ 0x4304 ∷ 0x4305 ∷ 0x4306 ∷ 0x4307 ∷ 0x4308 ∷ 0x4309 ∷ 0x430a
-    ∷ 0x430b ∷ 0x430e ∷ 0x430f ∷ 0x4302 ∷ 0x4211 ∷ (base + 148) ∷ 0x4210 ∷ (base + 12) ∷ []
+leave_words base = words_of (leave base)
+
+-- two bytes of the plain key go to the slot at R12
+abbrev pub key_part : ℕ → ℕ → Instr
+key_part base i = mov (& (base + (working.plain_at + i))) ((8 + i) ⟨ r12 ⟩)
 
 -- The routine that opens the slot at R12: the connection field of the copied packet, number 0,
--- open, and the eight words of the plain key; RET.
+-- open, and the eight words of the plain key.
+abbrev pub open_slot : ℕ → List Instr
+open_slot base =
+    mov (& (base + scratch.copied_connection_at)) (0 ⟨ r12 ⟩)
+    ∷ clr (2 ⟨ r12 ⟩)
+    ∷ mov (# 1) (4 ⟨ r12 ⟩)
+    ∷ key_part base 0
+    ∷ key_part base 2
+    ∷ key_part base 4
+    ∷ key_part base 6
+    ∷ key_part base 8
+    ∷ key_part base 10
+    ∷ key_part base 12
+    ∷ key_part base 14
+    ∷ ret
+    ∷ []
+
 abbrev pub slot_words : ℕ → List ℕ
-slot_words base =
-    0x429c ∷ (base + 18) ∷ 0 ∷ 0x438c ∷ 2 ∷ 0x439c ∷ 4
-    ∷ 0x429c ∷ (base + 56) ∷ 8 ∷ 0x429c ∷ (base + 58) ∷ 10 ∷ 0x429c ∷ (base + 60) ∷ 12 ∷ 0x429c
-    ∷ (base + 62) ∷ 14
-    ∷ 0x429c ∷ (base + 64) ∷ 16 ∷ 0x429c ∷ (base + 66) ∷ 18 ∷ 0x429c ∷ (base + 68) ∷ 20 ∷ 0x429c
-    ∷ (base + 70) ∷ 22
-    ∷ 0x4130 ∷ []
+slot_words base = words_of (open_slot base)
 
 -- The packet routine of the k-th end tests that the end is open and its number below 65,535, makes
--- the header and the body, wraps, copies the packet to its offset in the out-window, and counts:
---     TST &open; JZ ret; CMP #-1, &number; JZ ret; MOV #3, &106; MOV &field, &108;
---     MOV &number, &110; MOV 2(SP), &130
---     MOV #key, R9; MOV #106, R10; MOV #6, R11; MOV #130, R12; MOV #2, R13; MOV #112, R14;
---     MOV #114, R15; wrap
---     MOV &pieces, R12; ADD R12, R12 (3 times); MOV R12, R14; ADD R12, R12; ADD R14, R12;
---     ADD &window, R12; MOV #106, R13; MOV #24, R15
---     turn: MOV.B @R13+, 0(R12); INC R12; DEC R15; JNZ turn
---     INC &number; INC &pieces
---     ret: RET
+-- the header and the body, wraps, copies the packet to its offset in the out-window, 24 bytes for
+-- each piece, and counts.
+abbrev pub routine : ℕ → ℕ → List Instr
+routine base k =
+    tst (& (base + offsets.end_open_at k))
+    ∷ jz (ahead 52)  -- done
+    ∷ cmp (# protocol.last_number) (& (base + offsets.end_number_at k))
+    ∷ jz (ahead 49)  -- done
+    ∷ mov (# protocol.event_kind) (& (base + scratch.kind_at))
+    ∷ mov (& (base + offsets.end_at k)) (& (base + scratch.connection_at))
+    ∷ mov (& (base + offsets.end_number_at k)) (& (base + scratch.number_at))
+    ∷ mov (2 ⟨ sp ⟩) (& (base + scratch.body_at))
+    -- wrap
+    ∷ mov (## (base + offsets.end_key_at k)) r9
+    ∷ mov (## (base + scratch.kind_at)) r10
+    ∷ mov (# protocol.header_size) r11
+    ∷ mov (## (base + scratch.body_at)) r12
+    ∷ mov (# protocol.value_size) r13
+    ∷ mov (## (base + scratch.cipher_at)) r14
+    ∷ mov (## (base + scratch.tag_at)) r15
+    ∷ wrap
+    -- a packet's size times the count of pieces
+    ∷ mov (& (base + working.pieces_at)) r12
+    ∷ rla r12
+    ∷ rla r12
+    ∷ rla r12
+    ∷ mov r12 r14
+    ∷ rla r12
+    ∷ add r14 r12
+    -- copy
+    ∷ add (& (base + scratch.out_window_at)) r12
+    ∷ mov (## (base + scratch.kind_at)) r13
+    ∷ mov (# protocol.event_size) r15
+    -- turn:
+    ∷ mov_b (increment r13) (0 ⟨ r12 ⟩)
+    ∷ inc r12
+    ∷ dec r15
+    ∷ jnz (back 5)  -- turn
+    -- count
+    ∷ inc (& (base + offsets.end_number_at k))
+    ∷ inc (& (base + working.pieces_at))
+    -- done:
+    ∷ ret
+    ∷ []
+
 abbrev pub routine_words : ℕ → ℕ → List ℕ
-routine_words base k =
-    0x9382 ∷ (base + offsets.end_open_at k) ∷ 0x2434 ∷ 0x93b2 ∷ (base + offsets.end_number_at k)
-    ∷ 0x2431
-    ∷ 0x40b2 ∷ 3 ∷ (base + 106) ∷ 0x4292 ∷ (base + offsets.end_at k) ∷ (base + 108) ∷ 0x4292
-    ∷ (base + offsets.end_number_at k) ∷ (base + 110) ∷ 0x4192 ∷ 2 ∷ (base + 130)
-    ∷ 0x4039 ∷ (base + offsets.end_key_at k) ∷ 0x403a ∷ (base + 106) ∷ 0x403b ∷ 6 ∷ 0x403c
-    ∷ (base + 130) ∷ 0x432d ∷ 0x403e ∷ (base + 112) ∷ 0x403f ∷ (base + 114) ∷ 0x1384
-    ∷ 0x421c ∷ (base + working.pieces_at) ∷ 0x5c0c ∷ 0x5c0c ∷ 0x5c0c ∷ 0x4c0e ∷ 0x5c0c ∷ 0x5e0c
-    ∷ 0x521c ∷ (base + 10) ∷ 0x403d ∷ (base + 106) ∷ 0x403f ∷ 24
-    ∷ 0x4dfc ∷ 0 ∷ 0x531c ∷ 0x831f ∷ 0x23fb ∷ 0x5392 ∷ (base + offsets.end_number_at k) ∷ 0x5392
-    ∷ (base + working.pieces_at) ∷ 0x4130 ∷ []
+routine_words base k = words_of (routine base k)

@@ -9,8 +9,10 @@
 //! `specs/Running.antt`, a module in mid-run.
 #![tactic(auto)]
 
+mod assembly;
 mod put;
 mod routines;
+mod scratch;
 mod table;
 mod templates;
 mod text;

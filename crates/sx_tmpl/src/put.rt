@@ -1,9 +1,13 @@
 //! Appending of words to a text.
 
-ghost use Rattle.std.specs.Prelude.{◌∷◌, [], OnOk};
+ghost use Rattle.std.specs.Prelude.{◌≡◌, true, ◌∷◌, [], OnOk};
+ghost use Rattle.sx_isa.specs.Spelling.{spelling};
+ghost use Rattle.sx_isa.specs.Standing.{words_of};
+ghost use Rattle.sx_tmpl.specs.Shaped.{are_shaped, is_shaped};
 ghost use Rattle.sx_tmpl.specs.Text.{PutsWords};
 
 use std::alloc::AllocError as OutOfMemory;
+use sx_isa::{Instr, encode};
 
 /// Appends a word, its low byte first.
 fn put_word(text: &mut Vec<u8>, word: u16) -> Result<(), OutOfMemory>
@@ -20,6 +24,27 @@ pub fn put_words(text: &mut Vec<u8>, words: &[u16]) -> Result<(), OutOfMemory>
 {
     for word in words {
         put_word(text, *word)?;
+    }
+    Ok(())
+}
+
+/// Appends the words of an instruction.
+fn put_instruction(text: &mut Vec<u8>, instruction: Instr) -> Result<(), OutOfMemory>
+    requires { is_shaped instruction ≡ true }
+    ensures { OnOk result (PutsWords (spelling instruction) text.old.items text.new.items) }
+{
+    let words = encode(&instruction);
+    put_words(text, &words.w[..usize::from(words.len)])
+}
+
+/// Appends the words of instructions, one after the other. The error says that memory ran out.
+#[tactic(auto, using(crate::proofs::Putting::written, crate::proofs::Putting::shaped_here, crate::proofs::Putting::shaped_behind))]
+pub fn put_instructions(text: &mut Vec<u8>, instructions: &[Instr]) -> Result<(), OutOfMemory>
+    requires { are_shaped instructions.now ≡ true }
+    ensures { OnOk result (PutsWords (words_of instructions.now) text.old.items text.new.items) }
+{
+    for instruction in instructions {
+        put_instruction(text, *instruction)?;
     }
     Ok(())
 }

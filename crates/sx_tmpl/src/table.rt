@@ -1,13 +1,30 @@
 //! Where the parts of a text stand.
 
-ghost use Rattle.std.specs.Prelude.{◌≡◌, ◌<◌, ◌+◌, IfOk, length, slice_index};
+ghost use Rattle.std.specs.Prelude.{◌≡◌, ◌<◌, ◌+◌, IfOk, length, slice_index, slice_index_or};
+ghost use Rattle.std.specs.Prelude.{false};
 ghost use Rattle.sx_ir.specs.Sizes.{bytes, has_routine, op_bytes, ops_bytes};
-ghost use Rattle.sx_tmpl.specs.Fits.{AreCounts, IsTable};
+ghost use Rattle.sx_tmpl.specs.Fits.{AreCounts, AreMarks, IsTable, no_marks, with_mark};
+ghost use Rattle.sx_tmpl.specs.Fits.{with_marks};
 ghost use Rattle.sx_tmpl.specs.Text.{places_from};
 
 use std::alloc::{AllocError as OutOfMemory, Global};
-use sx_ir::{Code, Ir, has_routine, op_bytes};
+use sx_ir::{Code, Ir, op_bytes};
 use sx_rules::Layout;
+
+/// The bytes of the entry.
+const ENTRY: u16 = 24;
+
+/// The bytes of the exit.
+pub const EXIT: u16 = 34;
+
+/// The bytes of the routine that opens a slot.
+pub const SLOT_ROUTINE: u16 = 64;
+
+/// The bytes of an end's packet routine.
+pub const PACKET_ROUTINE: u16 = 112;
+
+/// As many ends as a byte names.
+pub const END_COUNT: usize = 256;
 
 /// Where the parts of a code's text stand. After the operations stand the exit, the routine that
 /// opens a slot, and a packet routine for each end of which some operation makes a packet.
@@ -15,6 +32,8 @@ use sx_rules::Layout;
 pub struct Table {
     /// The address of each operation, and last that of the exit.
     pub places: Vec<u16>,
+    /// For each end, whether it has a packet routine.
+    pub marks: Vec<bool>,
     /// For each end, how many packet routines stand before its own.
     pub routines: Vec<u16>,
 }
@@ -27,9 +46,14 @@ impl Table {
         requires { layout.now.pub_from + bytes code.now.ops.items < 65536 }
         ensures { IfOk result (λ table. IsTable layout.now code.now table) }
     {
-        let places = places(alloc, layout.pub_from + 24, &code.ops)?;
-        let routines = routine_counts(alloc, &code.ops)?;
-        Ok(Table { places, routines })
+        let places = places(alloc, layout.pub_from + ENTRY, &code.ops)?;
+        let marks = marks(alloc, &code.ops)?;
+        let routines = routine_counts(alloc, &code.ops, &marks)?;
+        Ok(Table {
+            places,
+            marks,
+            routines,
+        })
     }
 
     /// The address of a place; the place after the operations is the exit's.
@@ -38,6 +62,15 @@ impl Table {
         ensures { result ≡ slice_index self.now.places.items place }
     {
         self.places[place]
+    }
+
+    /// Whether an end has a packet routine.
+    pub fn has_routine(&self, code: &Code, layout: &Layout, end: usize) -> bool
+        requires table { IsTable layout.now code.now self.now }
+        requires end { end < 256 }
+        ensures { result ≡ has_routine code.now.ops.items end }
+    {
+        has_routine(&code.ops, &self.marks, end)
     }
 
     /// How many packet routines stand before that of an end.
@@ -64,16 +97,68 @@ fn places(alloc: Global, from: u16, ops: &[Ir]) -> Result<Vec<u16>, OutOfMemory>
     Ok(places)
 }
 
+/// As many ends without a mark. The count is a variable, since no proof is to compute them.
+#[tactic(auto, unfolding(crate::specs::Fits::no_marks))]
+fn no_marks(alloc: Global, count: usize) -> Result<Vec<bool>, OutOfMemory>
+    ensures marks { IfOk result (λ marks. marks.items ≡ no_marks count) }
+    ensures length { IfOk result (λ marks. length marks.items ≡ count) }
+{
+    vec![in alloc; false; count]
+}
+
+/// Marks the end that an operation makes a packet of.
+fn mark(marks: &mut [bool], op: &Ir)
+    requires { length marks.old ≡ 256 }
+    ensures marks { marks.new ≡ with_mark op.now marks.old }
+    ensures length { length marks.new ≡ 256 }
+{
+    match op {
+        Ir::Packet(end) => marks[*end as usize] = true,
+        _ => {}
+    }
+}
+
+/// For each end, whether it has a packet routine: one pass over the operations marks those that
+/// have one, and all else asks the marks.
+fn marks(alloc: Global, ops: &[Ir]) -> Result<Vec<bool>, OutOfMemory>
+    ensures { IfOk result (λ marks. AreMarks ops.now marks.items) }
+{
+    let mut marks = no_marks(alloc, END_COUNT)?;
+    for op in ops {
+        mark(&mut marks, op);
+    }
+    Ok(marks)
+}
+
+fn is_marked(marks: &[bool], end: usize) -> bool
+    ensures { result ≡ slice_index_or marks.now end false }
+{
+    match marks.get(end) {
+        Some(true) => true,
+        _ => false,
+    }
+}
+
+/// Whether an end has a packet routine, by the marks of these operations.
+fn has_routine(ops: &[Ir], marks: &[bool], end: usize) -> bool
+    requires marks { AreMarks ops.now marks.now }
+    requires end { end < 256 }
+    ensures { result ≡ has_routine ops.now end }
+{
+    is_marked(marks, end)
+}
+
 /// For each end, how many of those before it have a packet routine.
 #[tactic(auto, using(crate::proofs::Texts::TextTurns::counts_none, crate::proofs::Texts::TextTurns::no_routines, crate::proofs::Texts::TextTurns::counts_turn, crate::proofs::Texts::TextTurns::one_more, crate::proofs::Texts::TextTurns::none_more))]
-fn routine_counts(alloc: Global, ops: &[Ir]) -> Result<Vec<u16>, OutOfMemory>
+fn routine_counts(alloc: Global, ops: &[Ir], marks: &[bool]) -> Result<Vec<u16>, OutOfMemory>
+    requires { AreMarks ops.now marks.now }
     ensures { IfOk result (λ counts. AreCounts ops.now 256 counts.items) }
 {
     let mut counts = Vec::new(alloc);
     let mut count: u16 = 0;
-    for end in 0..256 {
+    for end in 0..END_COUNT {
         counts.push(count)?;
-        if has_routine(ops, end) {
+        if has_routine(ops, marks, end) {
             count += 1;
         }
     }

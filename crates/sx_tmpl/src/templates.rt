@@ -1,7 +1,8 @@
 //! The template of each operation.
 
 ghost use Rattle.std.specs.Prelude.{◌≡◌, ℕ, ◌≤◌, ◌<◌, ◌+◌, ◌*◌, OnOk, length, true};
-ghost use Rattle.sx_ir.specs.Sizes.{routines};
+ghost use Rattle.sx_ir.specs.Sizes.{exit_bytes, packet_bytes, routines, slot_bytes};
+ghost use Rattle.sx_tmpl.specs.Scratch.{return_at};
 ghost use Rattle.sx_tmpl.specs.Fits.{AreSealed, OperationFits, IsTable, is_plain};
 ghost use Rattle.sx_tmpl.specs.Template.{Addresses, copy_in_words, copy_out_words, handler_words};
 ghost use Rattle.sx_tmpl.specs.Template.{inside_words, key_word, load_at_words, meets_words};
@@ -9,70 +10,95 @@ ghost use Rattle.sx_tmpl.specs.Template.{multiply_words, opening_words, operator
 ghost use Rattle.sx_tmpl.specs.Template.{sealing_words, store_at_words, template};
 ghost use Rattle.sx_tmpl.specs.Text.{addresses, part_place, PutsWords};
 
+use crate::assembly::{POPPED, R9, R10, R11, R12, R13, R14, R15, SP, TOP, put};
 use crate::put::put_words;
-use crate::table::Table;
+use crate::scratch::{CALLER, IN_WINDOW, OUT_WINDOW, RETURN};
+use crate::table::{EXIT, PACKET_ROUTINE, SLOT_ROUTINE, Table};
 use std::alloc::AllocError as OutOfMemory;
 use sx_ir::{Code, Ir, IrOp};
-use sx_mean::offsets::{end_at, saved_at};
+use sx_isa::Operand::{Absolute, Const, Immediate, Increment, Indexed, Indirect};
+use sx_mean::offsets::{PIECES, end_at, saved_at};
 use sx_rules::Layout;
 
 fn put_product(text: &mut Vec<u8>) -> Result<(), OutOfMemory>
     ensures { OnOk result (PutsWords multiply_words text.old.items text.new.items) }
 {
-    let words = [
-        0x413c, 0x413d, 0x430e, 0x403f, 16, 0x5e0e, 0x5c0c, 0x2801, 0x5d0e, 0x831f, 0x23fa, 0x120e,
-    ];
-    put_words(text, &words)
+    put! {
+        text;
+        pop R12;
+        pop R13;
+        clr R14;
+        mov Immediate(16), R15;
+        rla R14;
+        rla R12;
+        jnc 1;
+        add R13, R14;
+        dec R15;
+        jnz -6;
+        push R14;
+    }
 }
 
 fn put_operator(text: &mut Vec<u8>, operator: IrOp) -> Result<(), OutOfMemory>
     ensures { OnOk result (PutsWords (operator_words operator) text.old.items text.new.items) }
 {
     match operator {
-        IrOp::Add => put_words(text, &[0x51b1, 0]),
-        IrOp::Sub => put_words(text, &[0x81b1, 0]),
+        IrOp::Add => put! { text; add POPPED, TOP; },
+        IrOp::Sub => put! { text; sub POPPED, TOP; },
         IrOp::Mul => put_product(text),
-        IrOp::And => put_words(text, &[0xf1b1, 0]),
-        IrOp::Or => put_words(text, &[0xd1b1, 0]),
-        IrOp::Xor => put_words(text, &[0xe1b1, 0]),
-        IrOp::Eq => put_words(text, &[0x413c, 0x9c81, 0, 0x4381, 0, 0x2002, 0x4391, 0]),
-        IrOp::Lt => put_words(text, &[0x413c, 0x9c81, 0, 0x4381, 0, 0x2c02, 0x4391, 0]),
-        IrOp::Neg => put_words(text, &[0x430c, 0x812c, 0x4c81, 0]),
-        IrOp::Inv => put_words(text, &[0x433c, 0x812c, 0x4c81, 0]),
-        IrOp::Not => put_words(text, &[0x9381, 0, 0x4381, 0, 0x2002, 0x4391, 0]),
+        IrOp::And => put! { text; and POPPED, TOP; },
+        IrOp::Or => put! { text; bis POPPED, TOP; },
+        IrOp::Xor => put! { text; xor POPPED, TOP; },
+        IrOp::Eq => put! { text; pop R12; cmp R12, TOP; clr TOP; jnz 2; mov Const(1), TOP; },
+        IrOp::Lt => put! { text; pop R12; cmp R12, TOP; clr TOP; jc 2; mov Const(1), TOP; },
+        IrOp::Neg => put! { text; clr R12; sub Indirect(1), R12; mov R12, TOP; },
+        IrOp::Inv => put! { text; mov Const(0xffff), R12; sub Indirect(1), R12; mov R12, TOP; },
+        IrOp::Not => put! { text; tst TOP; clr TOP; jnz 2; mov Const(1), TOP; },
     }
 }
 
 fn put_load_at(text: &mut Vec<u8>, start: u16, length: u16) -> Result<(), OutOfMemory>
     ensures { OnOk result (PutsWords (load_at_words start length) text.old.items text.new.items) }
 {
-    put_words(
-        text,
-        &[
-            0x413c, 0x903c, length, 0x2c04, 0x5c0c, 0x121c, start, 0x3c01, 0x1203,
-        ],
-    )
+    put! {
+        text;
+        pop R12;
+        cmp Immediate(length), R12;
+        jc 4;
+        add R12, R12;
+        push Indexed(12, start);
+        jmp 1;
+        push Const(0);
+    }
 }
 
 fn put_store_at(text: &mut Vec<u8>, start: u16, length: u16) -> Result<(), OutOfMemory>
     ensures { OnOk result (PutsWords (store_at_words start length) text.old.items text.new.items) }
 {
-    put_words(
-        text,
-        &[
-            0x413d, 0x413c, 0x903c, length, 0x2c03, 0x5c0c, 0x4d8c, start,
-        ],
-    )
+    put! {
+        text;
+        pop R13;
+        pop R12;
+        cmp Immediate(length), R12;
+        jc 3;
+        add R12, R12;
+        mov R13, Indexed(12, start);
+    }
 }
 
 /// `back` is where the caller's return address is kept, `from` and `to` bound the public section.
 fn put_inside(text: &mut Vec<u8>, back: u16, from: u16, to: u16) -> Result<(), OutOfMemory>
     ensures { OnOk result (PutsWords (inside_words back from to) text.old.items text.new.items) }
 {
-    put_words(
-        text,
-        &[0x421c, back, 0x903c, from, 0x2804, 0x903c, to, 0x2c01, 0],
-    )
+    put! {
+        text;
+        mov Absolute(back), R12;
+        cmp Immediate(from), R12;
+        jnc 4;
+        cmp Immediate(to), R12;
+        jc 1;
+    }?;
+    put_words(text, &[0])
 }
 
 /// `saved` is where the caller's register is kept, `from` and `to` bound the private section.
@@ -90,11 +116,19 @@ fn put_meets(
 {
     let past = u16::MAX - length + 2;
     let before = (from + 1).saturating_sub(length);
-    let words = [
-        0x421c, saved, 0x903c, past, 0x2c06, 0x903c, to, 0x2c05, 0x903c, before, 0x2802, 0x1213,
-        0x3c01, 0x1203,
-    ];
-    put_words(text, &words)
+    put! {
+        text;
+        mov Absolute(saved), R12;
+        cmp Immediate(past), R12;
+        jc 6;
+        cmp Immediate(to), R12;
+        jc 5;
+        cmp Immediate(before), R12;
+        jnc 2;
+        push Const(1);
+        jmp 1;
+        push Const(0);
+    }
 }
 
 /// `window` is where the caller's in-window is kept, and `to` where its bytes go.
@@ -102,12 +136,16 @@ fn put_copy_in(text: &mut Vec<u8>, window: u16, to: u16, count: u16) -> Result<(
     ensures { OnOk result (PutsWords (copy_in_words window to count) text.old.items
         text.new.items) }
 {
-    put_words(
-        text,
-        &[
-            0x421c, window, 0x403d, to, 0x403f, count, 0x4cfd, 0, 0x531d, 0x831f, 0x23fb,
-        ],
-    )
+    put! {
+        text;
+        mov Absolute(window), R12;
+        mov Immediate(to), R13;
+        mov Immediate(count), R15;
+        mov_b Increment(12), Indexed(13, 0);
+        inc R13;
+        dec R15;
+        jnz -5;
+    }
 }
 
 /// `window` is where the caller's out-window is kept, and `from` where the bytes are.
@@ -115,23 +153,30 @@ fn put_copy_out(text: &mut Vec<u8>, window: u16, from: u16, count: u16) -> Resul
     ensures { OnOk result (PutsWords (copy_out_words window from count) text.old.items
         text.new.items) }
 {
-    put_words(
-        text,
-        &[
-            0x413c, 0x521c, window, 0x403d, from, 0x403f, count, 0x4dfc, 0, 0x531c, 0x831f, 0x23fb,
-        ],
-    )
+    put! {
+        text;
+        pop R12;
+        add Absolute(window), R12;
+        mov Immediate(from), R13;
+        mov Immediate(count), R15;
+        mov_b Increment(13), Indexed(12, 0);
+        inc R12;
+        dec R15;
+        jnz -5;
+    }
 }
 
 /// `next` is the address of the next operation, `part` that of the handler's part.
 fn put_handler(text: &mut Vec<u8>, base: u16, next: u16, part: u16) -> Result<(), OutOfMemory>
-    requires { base + 104 < 65536 }
+    requires { base + return_at < 65536 }
     ensures { OnOk result (PutsWords (handler_words base next part) text.old.items text.new.items) }
 {
-    put_words(
-        text,
-        &[0x4382, base + 4, 0x40b2, next, base + 104, 0x4030, part],
-    )
+    put! {
+        text;
+        clr Absolute(base + PIECES);
+        mov Immediate(next), Absolute(base + RETURN);
+        br Immediate(part);
+    }
 }
 
 /// The first place of a handler's part.
@@ -171,11 +216,18 @@ fn put_seal(
     let (key, header, body) = (key_address(base, key), base + header, base + body);
     let (cipher, tag) = (base + cipher, base + tag);
     let (header_len, length) = (u16::from(header_length), u16::from(length));
-    let words = [
-        0x4039, key, 0x403a, header, 0x403b, header_len, 0x403c, body, 0x403d, length, 0x403e,
-        cipher, 0x403f, tag, 0x1384, 0x4309,
-    ];
-    put_words(text, &words)
+    put! {
+        text;
+        mov Immediate(key), R9;
+        mov Immediate(header), R10;
+        mov Immediate(header_len), R11;
+        mov Immediate(body), R12;
+        mov Immediate(length), R13;
+        mov Immediate(cipher), R14;
+        mov Immediate(tag), R15;
+        wrap;
+        clr R9;
+    }
 }
 
 /// As `put_seal`, where the cipher is opened.
@@ -197,11 +249,18 @@ fn put_open(
     let (key, header, body) = (key_address(base, key), base + header, base + body);
     let (cipher, tag) = (base + cipher, base + tag);
     let (header_len, length) = (u16::from(header_length), u16::from(length));
-    let words = [
-        0x4039, key, 0x403a, header, 0x403b, header_len, 0x403c, cipher, 0x403d, length, 0x403e,
-        body, 0x403f, tag, 0x1385, 0x120f,
-    ];
-    put_words(text, &words)
+    put! {
+        text;
+        mov Immediate(key), R9;
+        mov Immediate(header), R10;
+        mov Immediate(header_len), R11;
+        mov Immediate(cipher), R12;
+        mov Immediate(length), R13;
+        mov Immediate(body), R14;
+        mov Immediate(tag), R15;
+        unwrap;
+        push R15;
+    }
 }
 
 /// The address of a place.
@@ -217,8 +276,8 @@ fn place_address(table: &Table, code: &Code, layout: &Layout, place: usize) -> u
 fn routines_before(table: &Table, code: &Code, layout: &Layout, end: u8) -> u16
     requires table { IsTable layout.now code.now table.now }
     ensures count { result ≡ routines code.now.ops.items end }
-    ensures below { (addresses layout.now code.now).at (length code.now.ops.items) + 98
-        + 112 * result < 65536 }
+    ensures below { (addresses layout.now code.now).at (length code.now.ops.items)
+        + (exit_bytes + slot_bytes) + packet_bytes * result < 65536 }
 {
     table.preceding(usize::from(end))
 }
@@ -229,7 +288,7 @@ fn packet_address(table: &Table, code: &Code, layout: &Layout, end: u8) -> u16
     ensures { result ≡ (addresses layout.now code.now).packet end }
 {
     let exit = place_address(table, code, layout, code.ops.len());
-    exit + (34 + 64) + 112 * routines_before(table, code, layout, end)
+    exit + (EXIT + SLOT_ROUTINE) + PACKET_ROUTINE * routines_before(table, code, layout, end)
 }
 
 /// Appends the words of an operation that names no place and no routine: they are the same at each
@@ -247,30 +306,30 @@ fn put_plain(
 {
     let base = layout.priv_from;
     match operation {
-        Ir::Push(word) => put_words(text, &[0x1230, word]),
-        Ir::Load(offset) => put_words(text, &[0x1212, base + offset]),
-        Ir::Store(offset) => put_words(text, &[0x41b2, base + offset]),
+        Ir::Push(word) => put! { text; push Immediate(word); },
+        Ir::Load(offset) => put! { text; push Absolute(base + offset); },
+        Ir::Store(offset) => put! { text; pop Absolute(base + offset); },
         Ir::LoadAt(offset, length) => put_load_at(text, base + offset, length),
         Ir::StoreAt(offset, length) => put_store_at(text, base + offset, length),
         Ir::Op(operator) => put_operator(text, operator),
-        Ir::Drop => put_words(text, &[0x5321]),
-        Ir::Emit => put_words(text, &[0x41b2, base]),
-        Ir::Stop => put_words(text, &[0x4210, base + 104]),
-        Ir::Saved(register) => put_words(text, &[0x1212, base + saved_at(register)]),
-        Ir::Inside => put_inside(text, base + 12, layout.pub_from, layout.pub_to),
+        Ir::Drop => put! { text; incd SP; },
+        Ir::Emit => put! { text; pop Absolute(base); },
+        Ir::Stop => put! { text; br Absolute(base + RETURN); },
+        Ir::Saved(register) => put! { text; push Absolute(base + saved_at(register)); },
+        Ir::Inside => put_inside(text, base + CALLER, layout.pub_from, layout.pub_to),
         Ir::Meets(register, length) => {
             let saved = base + saved_at(register);
             put_meets(text, saved, base, layout.priv_to, length)
         }
-        Ir::CopyIn(count, offset) => put_copy_in(text, base + 8, base + offset, count),
-        Ir::CopyOut(count, offset) => put_copy_out(text, base + 10, base + offset, count),
+        Ir::CopyIn(count, offset) => put_copy_in(text, base + IN_WINDOW, base + offset, count),
+        Ir::CopyOut(count, offset) => put_copy_out(text, base + OUT_WINDOW, base + offset, count),
         Ir::Seal(key, header, header_length, body, length) => {
             put_seal(text, base, key, header, header_length, body, length)
         }
         Ir::Open(key, header, header_length, body, length) => {
             put_open(text, base, key, header, header_length, body, length)
         }
-        Ir::Sense => put_words(text, &[0x1212, base]),
+        Ir::Sense => put! { text; push Absolute(base); },
         _ => Ok(()),
     }
 }
@@ -295,20 +354,21 @@ pub fn put_operation(
     match operation {
         Ir::Jump(to) => {
             let to = place_address(table, code, layout, usize::from(to));
-            put_words(text, &[0x4030, to])
+            put! { text; br Immediate(to); }
         }
         Ir::JumpZero(to) => {
             let to = place_address(table, code, layout, usize::from(to));
-            put_words(text, &[0x413c, 0x930c, 0x2002, 0x4030, to])
+            put! { text; pop R12; tst R12; jnz 2; br Immediate(to); }
         }
-        Ir::Packet(end) => put_words(text, &[0x12b0, packet_address(table, code, layout, end)]),
-        Ir::SetEnd(end) => put_words(text, &[0x403c, base + end_at(end), 0x12b0, exit + 34]),
+        Ir::Packet(end) => put! { text; call Immediate(packet_address(table, code, layout, end)); },
+        Ir::SetEnd(end) =>
+            put! { text; mov Immediate(base + end_at(end)), R12; call Immediate(exit + EXIT); },
         Ir::Handler(handler) => {
             let next = place_address(table, code, layout, place + 1);
             let part = usize::from(first_place(&code.parts, handler));
             put_handler(text, base, next, place_address(table, code, layout, part))
         }
-        Ir::Leave => put_words(text, &[0x4030, exit]),
+        Ir::Leave => put! { text; br Immediate(exit); },
         _ => put_plain(text, code, layout, operation),
     }
 }

@@ -3,6 +3,7 @@
 ghost use Rattle.std.specs.Prelude.{◌≡◌, ◌<◌, ◌+◌, ◌*◌, ℕ, OnOk, IfOk, IsTrue, Some, length};
 ghost use Rattle.std.specs.Prelude.{slice_get};
 ghost use Rattle.sx_mean.specs.Offsets.{end_at};
+ghost use Rattle.sx_mean.specs.Working.{stack_to};
 ghost use Rattle.sx_ir.specs.Sizes.{bytes, has_routine};
 ghost use Rattle.sx_ir.specs.declared.ir.Ir.{Ir};
 ghost use Rattle.sx_ir.specs.Sound.{is_sound};
@@ -13,10 +14,10 @@ ghost use Rattle.sx_tmpl.specs.Text.{text_words, words_of, PutsWords};
 
 use crate::put::put_words;
 use crate::routines::{put_entry, put_exit, put_routine, put_slots};
-use crate::table::Table;
+use crate::table::{END_COUNT, Table};
 use crate::templates::put_operation;
 use std::alloc::{AllocError as OutOfMemory, Global};
-use sx_ir::{Code, has_routine};
+use sx_ir::Code;
 use sx_rules::Layout;
 use sx_tag::Tag;
 
@@ -40,15 +41,23 @@ fn put_operations(
 }
 
 /// Appends the packet routine of an end that has one.
-fn put_packet(text: &mut Vec<u8>, code: &Code, base: u16, end: u16) -> Result<(), OutOfMemory>
+fn put_packet(
+    text: &mut Vec<u8>,
+    code: &Code,
+    layout: &Layout,
+    table: &Table,
+    end: usize,
+) -> Result<(), OutOfMemory>
+    requires table { IsTable layout.now code.now table.now }
     requires end { end < 256 }
-    requires slot { IsTrue (has_routine code.now.ops.items end) → base + (end_at end + 24) < 65536 }
-    requires base { base + 512 < 65536 }
-    ensures { OnOk result (PutsWords (packet_words_of base code.now.ops.items end) text.old.items
-        text.new.items) }
+    requires slot { IsTrue (has_routine code.now.ops.items end)
+        → layout.now.priv_from + end_at (end + 1) < 65536 }
+    requires base { layout.now.priv_from + stack_to < 65536 }
+    ensures { OnOk result (PutsWords (packet_words_of layout.now.priv_from code.now.ops.items end)
+        text.old.items text.new.items) }
 {
-    if has_routine(&code.ops, end) {
-        put_routine(text, base, end as u8)
+    if table.has_routine(code, layout, end) {
+        put_routine(text, layout.priv_from, end as u8)
     } else {
         Ok(())
     }
@@ -56,15 +65,21 @@ fn put_packet(text: &mut Vec<u8>, code: &Code, base: u16, end: u16) -> Result<()
 
 /// Appends the packet routines.
 #[tactic(auto, using(crate::proofs::Texts::TextTurns::packets_none, crate::proofs::Texts::TextTurns::packets_turn))]
-fn put_packets(text: &mut Vec<u8>, code: &Code, base: u16) -> Result<(), OutOfMemory>
+fn put_packets(
+    text: &mut Vec<u8>,
+    code: &Code,
+    layout: &Layout,
+    table: &Table,
+) -> Result<(), OutOfMemory>
+    requires table { IsTable layout.now code.now table.now }
     requires slots { (k : ℕ) → k < 256 → IsTrue (has_routine code.now.ops.items k)
-        → base + (end_at k + 24) < 65536 }
-    requires base { base + 512 < 65536 }
-    ensures { OnOk result (PutsWords (packet_words base code.now.ops.items 256) text.old.items
-        text.new.items) }
+        → layout.now.priv_from + end_at (k + 1) < 65536 }
+    requires base { layout.now.priv_from + stack_to < 65536 }
+    ensures { OnOk result (PutsWords (packet_words layout.now.priv_from code.now.ops.items 256)
+        text.old.items text.new.items) }
 {
-    for end in 0..256 {
-        put_packet(text, code, base, end)?;
+    for end in 0..END_COUNT {
+        put_packet(text, code, layout, table, end)?;
     }
     Ok(())
 }
@@ -77,11 +92,11 @@ fn put_text(
     table: &Table,
 ) -> Result<(), OutOfMemory>
     requires table { IsTable layout.now code.now table.now }
-    requires base { layout.now.priv_from + 512 < 65536 }
+    requires base { layout.now.priv_from + stack_to < 65536 }
     requires fits { (p : ℕ) (i : Ir) → slice_get code.now.ops.items p ≡ Some i
         → OperationFits layout.now code.now i }
     requires slots { (k : ℕ) → k < 256 → IsTrue (has_routine code.now.ops.items k)
-        → layout.now.priv_from + (end_at k + 24) < 65536 }
+        → layout.now.priv_from + end_at (k + 1) < 65536 }
     ensures { OnOk result (PutsWords (text_words layout.now code.now) text.old.items
         text.new.items) }
 {
@@ -89,7 +104,7 @@ fn put_text(
     put_operations(text, code, layout, table)?;
     put_exit(text, layout.priv_from)?;
     put_slots(text, layout.priv_from)?;
-    put_packets(text, code, layout.priv_from)?;
+    put_packets(text, code, layout, table)?;
     put_words(text, &[0])?;
     Ok(())
 }

@@ -1,7 +1,19 @@
 -- Arithmetic, and the end of a value.
+use Rattle.sx_tmpl.specs.Assembly.{#◌, clr, incd, indirect, mov, r12, sp, sub, tst, ◌⟨◌⟩}
+use Rattle.sx_tmpl.proofs.Running.Instructions.{step}
 use Rattle.std.proofs.Common.{◌≡◌, ℕ, ◌+◌, ◌-◌, ◌%◌, ◌<◌, inl, inr, false, not, List, [], ◌∷◌, length, refl, sym, ◌∙◌, ap, subst, arith}
-use Rattle.sx_isa.specs.declared.instruction.Operand.TheVariants.{Reg, Indexed, Indirect, Increment, Const}
+use Rattle.sx_isa.specs.declared.instruction.Operand.TheVariants.{Indexed, Increment}
+use Rattle.sx_isa.specs.declared.instruction.Op2.{Op2}
 use Rattle.sx_isa.specs.declared.instruction.Op2.TheVariants as op2
+use Rattle.sx_isa.specs.Instructions.{first_word}
+use Rattle.sx_isa.specs.Standing.{words_of}
+use Rattle.sx_alu.specs.declared.flags.Flags.{Flags}
+use Rattle.sx_machine.specs.Plan.{Load}
+use Rattle.sx_machine.specs.Registers.{flags}
+use Rattle.sx_machine.specs.Rows.{computed, into_memory, on_memory}
+use Rattle.sx_tmpl.specs.Assembly.{sp, increment, ◌⟨◌⟩, sub, and, bis, xor}
+use Rattle.sx_tmpl.proofs.Running.Owes.{Owes}
+use Rattle.sx_lang.specs.declared.tree.BinOp.{BinOp}
 use Rattle.sx_alu.specs.Status.{flags_of}
 use Rattle.sx_lang.specs.declared.tree.BinOp.TheVariants as binary
 use Rattle.sx_lang.specs.declared.tree.UnOp.TheVariants as unary
@@ -13,11 +25,12 @@ use Rattle.sx_invoke.specs.Marks.{Mark}
 use Rattle.sx_image.specs.Watched.{Watched}
 use Rattle.sx_ir.specs.Conf.{Conf}
 use Rattle.sx_ir.specs.Meaning.{next}
-use Rattle.sx_tmpl.specs.Running.{Fixed}
+use Rattle.sx_tmpl.specs.Running.{Fixed, regs16, running}
+use Rattle.sx_tmpl.specs.Shows.{Stood}
 use Rattle.sx_tmpl.proofs.Running.MidRun.{Stands, put_cell}
-use Rattle.sx_tmpl.proofs.Running.Steps.{one, two}
+use Rattle.sx_tmpl.proofs.Running.Steps.{NoTell, Reads, Then, two}
 use Rattle.sx_tmpl.proofs.Running.Flags.{flags_stay, flags_after, equal, unequal}
-use Rattle.std.specs.Prelude.{◌==◌}
+use Rattle.std.specs.Prelude.{◌==◌, true}
 use Rattle.std.proofs.lemmas.Bool.{cases_eq, eq-eqb, ne_eqb}
 use Rattle.sx_tmpl.proofs.Operations.Plain.{inside, Leads, stood}
 use Rattle.sx_tmpl.proofs.Running.Words as w
@@ -30,8 +43,13 @@ module _ (f : Fixed) (st : Stands f) (all : List Mark) (B : Watched → Violatio
   abbrev L : ℕ → List ℕ → ℕ → Conf → Conf → Type 0
   L n ws count c c2 = Leads f st all B at n ws count c c2
 
-  pub sub_leads : (c : Conf) (x y : ℕ) (rest : List ℕ) → L 2 (0x81b1 ∷ 0 ∷ []) 1 (record c { stack = y ∷ x ∷ rest }) (next c (combine binary.Sub x y ∷ rest))
-  sub_leads c x y rest r d t on sh safe =
+  -- an operation on the two topmost words that is one instruction
+  binary_leads : (op : Op2) (b : BinOp) → Reads (first_word (Two op false (Increment 1) (Indexed 1 0))) 2 (λ x y. Two op false (Increment 1) (Indexed 1 x))
+      → ((a s : ℕ) (regs : List ℕ) → on_memory op true a s regs ≡ Load true a (λ d. into_memory true true a (computed op true s d (flags regs)) regs))
+      → (c : Conf) (x y : ℕ) (rest : List ℕ)
+      → ((fl : Flags) → x < 65536 → y < 65536 → ((computed op true y x fl).0 ≡ combine b x y) × (combine b x y < 65536))
+      → L 2 (words_of (Two op false (Increment 1) (Indexed 1 0) ∷ [])) 1 (record c { stack = y ∷ x ∷ rest }) (next c (combine b x y ∷ rest))
+  binary_leads op b reads plan c x y rest value r d t on sh safe =
       let h = sh.holds in
       let top = h.top in
       let ly : y < 65536 = subst (λ (n : ℕ). n < 65536) h.words.0 (cell_below f st d.mem r.sp safe.memory) in
@@ -40,15 +58,19 @@ module _ (f : Fixed) (st : Stands f) (all : List Mark) (B : Watched → Violatio
       let p2 = stack_word f st (r.sp + 2) (length (x ∷ rest)) (omega arith) (omega arith) (omega (arith, h.room)) in
       let up : (r.sp + 2) % 65536 ≡ r.sp + 2 = omega (arith, st.beneath, st.room) in
       let up0 : ((r.sp + 2) % 65536 + 0) % 65536 ≡ r.sp + 2 = omega (arith, st.beneath, st.room) in
-      let z = combine binary.Sub x y in
-      let r2 = record r { pc = at c.place + 4; sp = r.sp + 2; sr = flags_after op2.Sub y x r.sr } in
-      two f st all B _ t 0 0x81b1 0 (λ x y. Two op2.Sub false (Increment 1) (Indexed 1 x)) refl refl (omega arith) w.sub_top event.Quiet r d 0 (omega (arith, sh.pc)) safe (
+      let z = combine b x y in
+      let is = value (flags_of r.sr) lx ly in
+      let r2 = record r { pc = at c.place + 4; sp = r.sp + 2; sr = flags_after op y x r.sr } in
+      let popped = regs16 f (record r { pc = at c.place + 4; sp = (r.sp + 2) % 65536 }) in
+      let Q = Stood f all at (next c (z ∷ rest)) in
+      two f st all B Q t 0 (first_word (Two op false (Increment 1) (Indexed 1 0))) 0 (λ x y. Two op false (Increment 1) (Indexed 1 x)) refl refl (omega arith) reads event.Quiet r d 0
+      (omega (arith, sh.pc)) safe (
         r.sp,
         refl,
         p1,
         y,
         h.words.0,
-        (
+        subst (λ p. Owes f (Then f st all B Q 0 d) (NoTell f st all B Q) (B (running f r d)) p d.mem) (sym (plan (((r.sp + 2) % 65536 + 0) % 65536) y popped)) (
           r.sp + 2,
           up0,
           p2,
@@ -59,8 +81,8 @@ module _ (f : Fixed) (st : Stands f) (all : List Mark) (B : Watched → Violatio
             up0,
             p2,
             z,
-            omega arith,
-            omega arith,
+            is.0,
+            is.1,
             λ kept. (
               r2,
               rw up refl,
@@ -73,134 +95,17 @@ module _ (f : Fixed) (st : Stands f) (all : List Mark) (B : Watched → Violatio
         ),
       )
 
-  pub and_leads : (c : Conf) (x y : ℕ) (rest : List ℕ) → L 2 (0xf1b1 ∷ 0 ∷ []) 1 (record c { stack = y ∷ x ∷ rest }) (next c (combine binary.And x y ∷ rest))
-  and_leads c x y rest r d t on sh safe =
-      let h = sh.holds in
-      let top = h.top in
-      let ly : y < 65536 = subst (λ (n : ℕ). n < 65536) h.words.0 (cell_below f st d.mem r.sp safe.memory) in
-      let lx : x < 65536 = subst (λ (n : ℕ). n < 65536) h.words.1.0 (cell_below f st d.mem (r.sp + 2) safe.memory) in
-      let p1 = stack_word f st r.sp (length (y ∷ x ∷ rest)) top (omega arith) (omega (arith, h.room)) in
-      let p2 = stack_word f st (r.sp + 2) (length (x ∷ rest)) (omega arith) (omega arith) (omega (arith, h.room)) in
-      let up : (r.sp + 2) % 65536 ≡ r.sp + 2 = omega (arith, st.beneath, st.room) in
-      let up0 : ((r.sp + 2) % 65536 + 0) % 65536 ≡ r.sp + 2 = omega (arith, st.beneath, st.room) in
-      let z = combine binary.And x y in
-      let r2 = record r { pc = at c.place + 4; sp = r.sp + 2; sr = flags_after op2.And y x r.sr } in
-      two f st all B _ t 0 0xf1b1 0 (λ x y. Two op2.And false (Increment 1) (Indexed 1 x)) refl refl (omega arith) w.and_top event.Quiet r d 0 (omega (arith, sh.pc)) safe (
-        r.sp,
-        refl,
-        p1,
-        y,
-        h.words.0,
-        (
-          r.sp + 2,
-          up0,
-          p2,
-          x,
-          h.words.1.0,
-          (
-            r.sp + 2,
-            up0,
-            p2,
-            z,
-            refl,
-            and_lt 16 x y lx ly,
-            λ kept. (
-              r2,
-              rw up refl,
-              inside t 2 (omega arith),
-              λ safe2.
-                  stood f st all B at (next c (z ∷ rest)) r2 (put_cell d.mem (r.sp + 2) z) d 0 safe2 (omega (arith, on))
-                  (holds_replace f st at c.back x z rest c.priv c.mem (r.sp + 2) d.mem safe.memory (holds_pop f st at c.back y (x ∷ rest) c.priv c.mem r.sp d.mem h)) sh.devices sh.marks,
-            ),
-          ),
-        ),
-      )
+  pub sub_leads : (c : Conf) (x y : ℕ) (rest : List ℕ) → L 2 (words_of (sub (increment sp) (0 ⟨ sp ⟩) ∷ [])) 1 (record c { stack = y ∷ x ∷ rest }) (next c (combine binary.Sub x y ∷ rest))
+  sub_leads c x y rest = binary_leads op2.Sub binary.Sub w.sub_top (λ a s regs. refl) c x y rest (λ fl lx ly. (omega arith, omega arith))
 
-  pub or_leads : (c : Conf) (x y : ℕ) (rest : List ℕ) → L 2 (0xd1b1 ∷ 0 ∷ []) 1 (record c { stack = y ∷ x ∷ rest }) (next c (combine binary.Or x y ∷ rest))
-  or_leads c x y rest r d t on sh safe =
-      let h = sh.holds in
-      let top = h.top in
-      let ly : y < 65536 = subst (λ (n : ℕ). n < 65536) h.words.0 (cell_below f st d.mem r.sp safe.memory) in
-      let lx : x < 65536 = subst (λ (n : ℕ). n < 65536) h.words.1.0 (cell_below f st d.mem (r.sp + 2) safe.memory) in
-      let p1 = stack_word f st r.sp (length (y ∷ x ∷ rest)) top (omega arith) (omega (arith, h.room)) in
-      let p2 = stack_word f st (r.sp + 2) (length (x ∷ rest)) (omega arith) (omega arith) (omega (arith, h.room)) in
-      let up : (r.sp + 2) % 65536 ≡ r.sp + 2 = omega (arith, st.beneath, st.room) in
-      let up0 : ((r.sp + 2) % 65536 + 0) % 65536 ≡ r.sp + 2 = omega (arith, st.beneath, st.room) in
-      let z = combine binary.Or x y in
-      let r2 = record r { pc = at c.place + 4; sp = r.sp + 2; sr = flags_after op2.Bis y x r.sr } in
-      two f st all B _ t 0 0xd1b1 0 (λ x y. Two op2.Bis false (Increment 1) (Indexed 1 x)) refl refl (omega arith) w.or_top event.Quiet r d 0 (omega (arith, sh.pc)) safe (
-        r.sp,
-        refl,
-        p1,
-        y,
-        h.words.0,
-        (
-          r.sp + 2,
-          up0,
-          p2,
-          x,
-          h.words.1.0,
-          (
-            r.sp + 2,
-            up0,
-            p2,
-            z,
-            refl,
-            or_lt 16 x y lx ly,
-            λ kept. (
-              r2,
-              rw up refl,
-              inside t 2 (omega arith),
-              λ safe2.
-                  stood f st all B at (next c (z ∷ rest)) r2 (put_cell d.mem (r.sp + 2) z) d 0 safe2 (omega (arith, on))
-                  (holds_replace f st at c.back x z rest c.priv c.mem (r.sp + 2) d.mem safe.memory (holds_pop f st at c.back y (x ∷ rest) c.priv c.mem r.sp d.mem h)) sh.devices sh.marks,
-            ),
-          ),
-        ),
-      )
+  pub and_leads : (c : Conf) (x y : ℕ) (rest : List ℕ) → L 2 (words_of (and (increment sp) (0 ⟨ sp ⟩) ∷ [])) 1 (record c { stack = y ∷ x ∷ rest }) (next c (combine binary.And x y ∷ rest))
+  and_leads c x y rest = binary_leads op2.And binary.And w.and_top (λ a s regs. refl) c x y rest (λ fl lx ly. (refl, and_lt 16 x y lx ly))
 
-  pub xor_leads : (c : Conf) (x y : ℕ) (rest : List ℕ) → L 2 (0xe1b1 ∷ 0 ∷ []) 1 (record c { stack = y ∷ x ∷ rest }) (next c (combine binary.Xor x y ∷ rest))
-  xor_leads c x y rest r d t on sh safe =
-      let h = sh.holds in
-      let top = h.top in
-      let ly : y < 65536 = subst (λ (n : ℕ). n < 65536) h.words.0 (cell_below f st d.mem r.sp safe.memory) in
-      let lx : x < 65536 = subst (λ (n : ℕ). n < 65536) h.words.1.0 (cell_below f st d.mem (r.sp + 2) safe.memory) in
-      let p1 = stack_word f st r.sp (length (y ∷ x ∷ rest)) top (omega arith) (omega (arith, h.room)) in
-      let p2 = stack_word f st (r.sp + 2) (length (x ∷ rest)) (omega arith) (omega arith) (omega (arith, h.room)) in
-      let up : (r.sp + 2) % 65536 ≡ r.sp + 2 = omega (arith, st.beneath, st.room) in
-      let up0 : ((r.sp + 2) % 65536 + 0) % 65536 ≡ r.sp + 2 = omega (arith, st.beneath, st.room) in
-      let z = combine binary.Xor x y in
-      let r2 = record r { pc = at c.place + 4; sp = r.sp + 2; sr = flags_after op2.Xor y x r.sr } in
-      two f st all B _ t 0 0xe1b1 0 (λ x y. Two op2.Xor false (Increment 1) (Indexed 1 x)) refl refl (omega arith) w.xor_top event.Quiet r d 0 (omega (arith, sh.pc)) safe (
-        r.sp,
-        refl,
-        p1,
-        y,
-        h.words.0,
-        (
-          r.sp + 2,
-          up0,
-          p2,
-          x,
-          h.words.1.0,
-          (
-            r.sp + 2,
-            up0,
-            p2,
-            z,
-            refl,
-            xor_lt 16 x y lx ly,
-            λ kept. (
-              r2,
-              rw up refl,
-              inside t 2 (omega arith),
-              λ safe2.
-                  stood f st all B at (next c (z ∷ rest)) r2 (put_cell d.mem (r.sp + 2) z) d 0 safe2 (omega (arith, on))
-                  (holds_replace f st at c.back x z rest c.priv c.mem (r.sp + 2) d.mem safe.memory (holds_pop f st at c.back y (x ∷ rest) c.priv c.mem r.sp d.mem h)) sh.devices sh.marks,
-            ),
-          ),
-        ),
-      )
+  pub or_leads : (c : Conf) (x y : ℕ) (rest : List ℕ) → L 2 (words_of (bis (increment sp) (0 ⟨ sp ⟩) ∷ [])) 1 (record c { stack = y ∷ x ∷ rest }) (next c (combine binary.Or x y ∷ rest))
+  or_leads c x y rest = binary_leads op2.Bis binary.Or w.or_top (λ a s regs. refl) c x y rest (λ fl lx ly. (refl, or_lt 16 x y lx ly))
+
+  pub xor_leads : (c : Conf) (x y : ℕ) (rest : List ℕ) → L 2 (words_of (xor (increment sp) (0 ⟨ sp ⟩) ∷ [])) 1 (record c { stack = y ∷ x ∷ rest }) (next c (combine binary.Xor x y ∷ rest))
+  xor_leads c x y rest = binary_leads op2.Xor binary.Xor w.xor_top (λ a s regs. refl) c x y rest (λ fl lx ly. (refl, xor_lt 16 x y lx ly))
 
   pub neg_leads : (c : Conf) (x : ℕ) (rest : List ℕ) → L 4 (0x430c ∷ 0x812c ∷ 0x4c81 ∷ 0 ∷ []) 3 (record c { stack = x ∷ rest }) (next c (apply unary.Neg x ∷ rest))
   neg_leads c x rest r d t on sh safe =
@@ -215,13 +120,13 @@ module _ (f : Fixed) (st : Stands f) (all : List Mark) (B : Watched → Violatio
       let r1 = record r { pc = at c.place + 2; r12 = 0 } in
       let r2 = record r { pc = at c.place + 4; sr = sr1; r12 = z } in
       let r3 = record r2 { pc = at c.place + 8 } in
-      one f st all B _ t 0 0x430c (λ x y. Two op2.Mov false (Const 0) (Reg 12)) refl (omega arith) w.zero_12 event.Quiet r d 2 (omega (arith, sh.pc)) safe
+      step f st all B _ t 0 (clr r12) refl (omega arith) refl refl event.Quiet r d 2 (omega (arith, sh.pc)) safe
       (λ kept. (
         r1,
         rw (flags_stay r.sr) refl,
         inside t 1 (omega arith),
         λ s1.
-            one f st all B _ t 1 0x812c (λ x y. Two op2.Sub false (Indirect 1) (Reg 12)) refl (omega arith) w.sub_from_12 event.Quiet r1 d 1 refl s1 (
+            step f st all B _ t 1 (sub (indirect sp) r12) refl (omega arith) refl refl event.Quiet r1 d 1 refl s1 (
               r.sp,
               refl,
               p1,
@@ -232,7 +137,7 @@ module _ (f : Fixed) (st : Stands f) (all : List Mark) (B : Watched → Violatio
                 rw value refl,
                 inside t 2 (omega arith),
                 λ s2.
-                    two f st all B _ t 2 0x4c81 0 (λ x y. Two op2.Mov false (Reg 12) (Indexed 1 x)) refl refl (omega arith) w.put_12_top event.Quiet r2 d 0 refl s2 (
+                    step f st all B _ t 2 (mov r12 (0 ⟨ sp ⟩)) refl (omega arith) refl refl event.Quiet r2 d 0 refl s2 (
                       r.sp,
                       up0,
                       p1,
@@ -265,13 +170,13 @@ module _ (f : Fixed) (st : Stands f) (all : List Mark) (B : Watched → Violatio
       let r1 = record r { pc = at c.place + 2; r12 = 65535 } in
       let r2 = record r { pc = at c.place + 4; sr = sr1; r12 = z } in
       let r3 = record r2 { pc = at c.place + 8 } in
-      one f st all B _ t 0 0x433c (λ x y. Two op2.Mov false (Const 65535) (Reg 12)) refl (omega arith) w.ones_12 event.Quiet r d 2 (omega (arith, sh.pc)) safe
+      step f st all B _ t 0 (mov (# 65535) r12) refl (omega arith) refl refl event.Quiet r d 2 (omega (arith, sh.pc)) safe
       (λ kept. (
         r1,
         rw (flags_stay r.sr) refl,
         inside t 1 (omega arith),
         λ s1.
-            one f st all B _ t 1 0x812c (λ x y. Two op2.Sub false (Indirect 1) (Reg 12)) refl (omega arith) w.sub_from_12 event.Quiet r1 d 1 refl s1 (
+            step f st all B _ t 1 (sub (indirect sp) r12) refl (omega arith) refl refl event.Quiet r1 d 1 refl s1 (
               r.sp,
               refl,
               p1,
@@ -282,7 +187,7 @@ module _ (f : Fixed) (st : Stands f) (all : List Mark) (B : Watched → Violatio
                 rw value refl,
                 inside t 2 (omega arith),
                 λ s2.
-                    two f st all B _ t 2 0x4c81 0 (λ x y. Two op2.Mov false (Reg 12) (Indexed 1 x)) refl refl (omega arith) w.put_12_top event.Quiet r2 d 0 refl s2 (
+                    step f st all B _ t 2 (mov r12 (0 ⟨ sp ⟩)) refl (omega arith) refl refl event.Quiet r2 d 0 refl s2 (
                       r.sp,
                       up0,
                       p1,
@@ -316,7 +221,7 @@ module _ (f : Fixed) (st : Stands f) (all : List Mark) (B : Watched → Violatio
         | inl e ↦ equal 0 x r.sr (omega arith) e ∙ sym (eq-eqb x 0 e)
         | inr ne ↦ unequal 0 x r.sr (omega arith) lx ne ∙ sym (ne_eqb x 0 ne)
       ] in
-      two f st all B _ t 0 0x9381 0 (λ x y. Two op2.Cmp false (Const 0) (Indexed 1 x)) refl refl (omega arith) w.test_top event.Quiet r d 3 (omega (arith, sh.pc)) safe (
+      step f st all B _ t 0 (tst (0 ⟨ sp ⟩)) refl (omega arith) refl refl event.Quiet r d 3 (omega (arith, sh.pc)) safe (
         r.sp,
         up0,
         p1,
@@ -327,7 +232,7 @@ module _ (f : Fixed) (st : Stands f) (all : List Mark) (B : Watched → Violatio
           refl,
           inside t 2 (omega arith),
           λ s1.
-              two f st all B _ t 2 0x4381 0 (λ x y. Two op2.Mov false (Const 0) (Indexed 1 x)) refl refl (omega arith) w.zero_top event.Quiet r1 d 2 refl s1 (
+              step f st all B _ t 2 (clr (0 ⟨ sp ⟩)) refl (omega arith) refl refl event.Quiet r1 d 2 refl s1 (
                 r.sp,
                 up0,
                 p1,
@@ -352,7 +257,7 @@ module _ (f : Fixed) (st : Stands f) (all : List Mark) (B : Watched → Violatio
       let p1 = stack_word f st r.sp (length (x ∷ rest)) h.top (omega arith) (omega (arith, h.room)) in
       let up : (r.sp % 65536 + 2 + 0) % 65536 - (r.sp % 65536 + 2 + 0) % 65536 % 2 ≡ r.sp + 2 = omega (arith, p1.high, p1.is_even, st.beneath) in
       let r2 = record r { pc = at c.place + 2; sp = r.sp + 2; sr = flags_after op2.Add 2 (r.sp % 65536) r.sr } in
-      one f st all B _ t 0 0x5321 (λ x y. Two op2.Add false (Const 2) (Reg 1)) refl (omega arith) w.drop_word event.Quiet r d 0 (omega (arith, sh.pc)) safe
+      step f st all B _ t 0 (incd sp) refl (omega arith) refl refl event.Quiet r d 0 (omega (arith, sh.pc)) safe
       (λ kept. (
         r2,
         rw up refl,

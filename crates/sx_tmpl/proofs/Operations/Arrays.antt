@@ -1,9 +1,8 @@
 -- Elements of arrays, by an index at run time.
-use Rattle.std.proofs.Common.{◌≡◌, ℕ, suc, ◌+◌, ◌*◌, ◌%◌, ◌<◌, ◌≤◌, ◌⊎◌, inl, inr, false, cond, List, [], ◌∷◌, length, refl, sym, ap, subst, arith}
-use Rattle.sx_isa.specs.declared.instruction.Operand.TheVariants.{Reg, Indexed, Increment, Immediate, Const}
+use Rattle.sx_tmpl.specs.Assembly.{##◌, #◌, ahead, cmp, jc, jmp, mov, pop, push, r12, r13, rla, sp, ◌⟨◌⟩}
+use Rattle.sx_tmpl.proofs.Running.Instructions.{step}
+use Rattle.std.proofs.Common.{◌≡◌, ℕ, suc, ◌+◌, ◌*◌, ◌%◌, ◌<◌, ◌≤◌, ◌⊎◌, inl, inr, cond, List, [], ◌∷◌, length, refl, sym, ap, subst, arith}
 use Rattle.sx_isa.specs.declared.instruction.Op2.TheVariants as op2
-use Rattle.sx_isa.specs.declared.instruction.Op1.TheVariants as op1
-use Rattle.sx_isa.specs.declared.instruction.Instr.TheVariants.{Two, One, Jump}
 use Rattle.sx_rules.specs.declared.access.Violation.{Violation}
 use Rattle.sx_machine.specs.declared.kinds.Event.TheVariants as event
 use Rattle.sx_machine.specs.Memory.{word, put_word}
@@ -14,12 +13,10 @@ use Rattle.sx_ir.specs.Meaning.{next, element, with_element}
 use Rattle.sx_tmpl.specs.Running.{Regs, Fixed, Data, running, Safe}
 use Rattle.sx_tmpl.proofs.Running.MidRun.{Stands, Runs, put_cell}
 use Rattle.sx_tmpl.specs.Shows.{base_of, IsData, MemoryHolds, ShowsConfiguration}
-use Rattle.sx_tmpl.proofs.Running.Steps.{Text, one, two}
+use Rattle.sx_tmpl.proofs.Running.Steps.{Text}
 use Rattle.sx_tmpl.proofs.Running.Flags.{flags_after, no_borrow, borrow}
-use Rattle.std.specs.Prelude.{pos}
 use Rattle.std.proofs.lemmas.Bool.{cases_lt, lt-ltb, le-ltb}
 use Rattle.sx_tmpl.proofs.Operations.Plain.{inside, Leads, stood}
-use Rattle.sx_tmpl.proofs.Running.Words as w
 use Rattle.sx_tmpl.proofs.Running.Holding.{stack_word, data_word, holds_push, holds_pop, holds_store, holds_word, cell_below}
 
 -- an array of the data: its offset and length in words
@@ -50,7 +47,7 @@ module _ (f : Fixed) (st : Stands f) (all : List Mark) (B : Watched → Violatio
       let up : (r.sp + 2) % 65536 ≡ r.sp + 2 = omega (arith, p1.high, st.beneath) in
       let r1 = record r { pc = at c.place + 2; sp = r.sp + 2; r12 = i; sr = flags_after op2.Mov 0 0 r.sr } in
       let r2 = record r1 { pc = at c.place + 6; sr = flags_after op2.Cmp (n % 65536) (i % 65536) r1.sr } in
-      one f st all B Q t 0 0x413c (λ x y. Two op2.Mov false (Increment 1) (Reg 12)) refl (omega arith) w.pop_12 event.Quiet r d (suc k) (omega (arith, sh.pc)) safe (
+      step f st all B Q t 0 (pop r12) refl (omega arith) refl refl event.Quiet r d (suc k) (omega (arith, sh.pc)) safe (
         r.sp,
         refl,
         p1,
@@ -61,7 +58,7 @@ module _ (f : Fixed) (st : Stands f) (all : List Mark) (B : Watched → Violatio
           rw up refl,
           inside t 1 (omega arith),
           λ s1.
-              two f st all B Q t 1 0x903c n (λ x y. Two op2.Cmp false (Immediate x) (Reg 12)) refl refl (omega arith) w.cmp_immediate_12 event.Quiet r1 d k refl s1
+              step f st all B Q t 1 (cmp (## n) r12) refl (omega arith) refl refl event.Quiet r1 d k refl s1
               (λ kept. (r2, refl, inside t 3 (omega arith), after)),
         ),
       )
@@ -98,19 +95,19 @@ module _ (f : Fixed) (st : Stands f) (all : List Mark) (B : Watched → Violatio
       let r5 = record r4 { pc = at c.place + 14; sp = r.sp } in
       let r6 = record r5 { pc = at c.place + 18 } in
       load_begins _ c o n i 4 rest r d t sh safe (λ s2.
-      one f st all B _ t 3 0x2c04 (λ x y. Jump 3 (pos 4)) refl (omega arith) w.jc_4 event.Quiet r2 d 3 refl s2
+      step f st all B _ t 3 (jc (ahead 4)) refl (omega arith) refl refl event.Quiet r2 d 3 refl s2
       (λ kept. (
         r3,
         rw j refl,
         inside t 4 (omega arith),
         λ s3.
-            one f st all B _ t 4 0x5c0c (λ x y. Two op2.Add false (Reg 12) (Reg 12)) refl (omega arith) w.double_12 event.Quiet r3 d 2 refl s3
+            step f st all B _ t 4 (rla r12) refl (omega arith) refl refl event.Quiet r3 d 2 refl s3
             (λ kept. (
               r4,
               rw twice refl,
               inside t 5 (omega arith),
               λ s4.
-                  two f st all B _ t 5 0x121c (base_of f + o) (λ x y. One op1.Push false (Indexed 12 x)) refl refl (omega arith) w.push_indexed_12 event.Quiet r4 d 1 refl s4 (
+                  step f st all B _ t 5 (push ((base_of f + o) ⟨ r12 ⟩)) refl (omega arith) refl refl event.Quiet r4 d 1 refl s4 (
                     base_of f + (o + 2 * i),
                     place,
                     po,
@@ -128,7 +125,7 @@ module _ (f : Fixed) (st : Stands f) (all : List Mark) (B : Watched → Violatio
                         rw down refl,
                         inside t 7 (omega arith),
                         λ s5.
-                            one f st all B _ t 7 0x3c01 (λ x y. Jump 7 (pos 1)) refl (omega arith) w.jmp_1 event.Quiet r5 (record d { mem = m5 }) 0 refl s5
+                            step f st all B _ t 7 (jmp (ahead 1)) refl (omega arith) refl refl event.Quiet r5 (record d { mem = m5 }) 0 refl s5
                             (λ kept. (
                               r6,
                               rw to refl,
@@ -161,13 +158,13 @@ module _ (f : Fixed) (st : Stands f) (all : List Mark) (B : Watched → Violatio
       let r3 = record r2 { pc = at c.place + 16 } in
       let r4 = record r3 { pc = at c.place + 18; sp = r.sp } in
       load_begins _ c o n i 4 rest r d t sh safe (λ s2.
-      one f st all B _ t 3 0x2c04 (λ x y. Jump 3 (pos 4)) refl (omega arith) w.jc_4 event.Quiet r2 d 3 refl s2
+      step f st all B _ t 3 (jc (ahead 4)) refl (omega arith) refl refl event.Quiet r2 d 3 refl s2
       (λ kept. (
         r3,
         rw (j, to) refl,
         inside t 8 (omega arith),
         λ s3.
-            one f st all B _ t 8 0x1203 (λ x y. One op1.Push false (Const 0)) refl (omega arith) w.push_zero event.Quiet r3 d 2 refl s3 (
+            step f st all B _ t 8 (push (# 0)) refl (omega arith) refl refl event.Quiet r3 d 2 refl s3 (
               r.sp,
               down,
               p1,
@@ -209,7 +206,7 @@ module _ (f : Fixed) (st : Stands f) (all : List Mark) (B : Watched → Violatio
       let r1 = record r { pc = at c.place + 2; sp = r.sp + 2; r13 = v; sr = flags_after op2.Mov 0 0 r.sr } in
       let r2 = record r1 { pc = at c.place + 4; sp = r.sp + 4; r12 = i; sr = flags_after op2.Mov 0 0 r1.sr } in
       let r3 = record r2 { pc = at c.place + 8; sr = flags_after op2.Cmp (n % 65536) (i % 65536) r2.sr } in
-      one f st all B Q t 0 0x413d (λ x y. Two op2.Mov false (Increment 1) (Reg 13)) refl (omega arith) w.pop_13 event.Quiet r d (suc (suc k)) (omega (arith, sh.pc)) safe (
+      step f st all B Q t 0 (pop r13) refl (omega arith) refl refl event.Quiet r d (suc (suc k)) (omega (arith, sh.pc)) safe (
         r.sp,
         refl,
         p1,
@@ -220,7 +217,7 @@ module _ (f : Fixed) (st : Stands f) (all : List Mark) (B : Watched → Violatio
           rw up refl,
           inside t 1 (omega arith),
           λ s1.
-              one f st all B Q t 1 0x413c (λ x y. Two op2.Mov false (Increment 1) (Reg 12)) refl (omega arith) w.pop_12 event.Quiet r1 d (suc k) refl s1 (
+              step f st all B Q t 1 (pop r12) refl (omega arith) refl refl event.Quiet r1 d (suc k) refl s1 (
                 r.sp + 2,
                 refl,
                 p2,
@@ -231,7 +228,7 @@ module _ (f : Fixed) (st : Stands f) (all : List Mark) (B : Watched → Violatio
                   rw up2 refl,
                   inside t 2 (omega arith),
                   λ s2.
-                      two f st all B Q t 2 0x903c n (λ x y. Two op2.Cmp false (Immediate x) (Reg 12)) refl refl (omega arith) w.cmp_immediate_12 event.Quiet r2 d k refl s2
+                      step f st all B Q t 2 (cmp (## n) r12) refl (omega arith) refl refl event.Quiet r2 d k refl s2
                       (λ kept. (r3, refl, inside t 4 (omega arith), after)),
                 ),
               ),
@@ -263,19 +260,19 @@ module _ (f : Fixed) (st : Stands f) (all : List Mark) (B : Watched → Violatio
       let r5 = record r4 { pc = at c.place + 12; r12 = 2 * i; sr = flags_after op2.Add (i % 65536) (i % 65536) sr3 } in
       let r6 = record r5 { pc = at c.place + 16; sr = flags_after op2.Mov 0 0 r5.sr } in
       store_begins _ c o n i v 3 rest r d t sh safe (λ s3.
-      one f st all B _ t 4 0x2c03 (λ x y. Jump 3 (pos 3)) refl (omega arith) w.jc_3 event.Quiet r3 d 2 refl s3
+      step f st all B _ t 4 (jc (ahead 3)) refl (omega arith) refl refl event.Quiet r3 d 2 refl s3
       (λ kept. (
         r4,
         rw j refl,
         inside t 5 (omega arith),
         λ s4.
-            one f st all B _ t 5 0x5c0c (λ x y. Two op2.Add false (Reg 12) (Reg 12)) refl (omega arith) w.double_12 event.Quiet r4 d 1 refl s4
+            step f st all B _ t 5 (rla r12) refl (omega arith) refl refl event.Quiet r4 d 1 refl s4
             (λ kept. (
               r5,
               rw twice refl,
               inside t 6 (omega arith),
               λ s5.
-                  two f st all B _ t 6 0x4d8c (base_of f + o) (λ x y. Two op2.Mov false (Reg 13) (Indexed 12 x)) refl refl (omega arith) w.store_13_indexed_12 event.Quiet r5 d 0 refl s5 (
+                  step f st all B _ t 6 (mov r13 ((base_of f + o) ⟨ r12 ⟩)) refl (omega arith) refl refl event.Quiet r5 d 0 refl s5 (
                     base_of f + (o + 2 * i),
                     place,
                     po,
@@ -307,7 +304,7 @@ module _ (f : Fixed) (st : Stands f) (all : List Mark) (B : Watched → Violatio
       let r3 = record r { pc = at c.place + 8; sp = r.sp + 4; r12 = i; r13 = v; sr = sr3 } in
       let r4 = record r3 { pc = at c.place + 16 } in
       store_begins _ c o n i v 3 rest r d t sh safe (λ s3.
-      one f st all B _ t 4 0x2c03 (λ x y. Jump 3 (pos 3)) refl (omega arith) w.jc_3 event.Quiet r3 d 2 refl s3
+      step f st all B _ t 4 (jc (ahead 3)) refl (omega arith) refl refl event.Quiet r3 d 2 refl s3
       (λ kept. (
         r4,
         rw (j, to) refl,

@@ -1,6 +1,9 @@
 -- Operations whose template branches.
+use Rattle.sx_tmpl.specs.Assembly as asm
+use Rattle.sx_tmpl.specs.Assembly.{##◌, #◌, ahead, br, clr, cmp, increment, jnz, pc, pop, r12, sp, tst, ◌⟨◌⟩}
+use Rattle.sx_tmpl.proofs.Running.Instructions.{step}
 use Rattle.std.proofs.Common.{◌≡◌, ℕ, suc, ◌+◌, ◌-◌, ◌*◌, ◌%◌, ◌<◌, ◌≤◌, inl, inr, Bool, true, false, not, List, [], ◌∷◌, length, Some, refl, sym, ◌∙◌, ap, subst, arith}
-use Rattle.sx_isa.specs.declared.instruction.Operand.TheVariants.{Reg, Indexed, Increment, Immediate, Const}
+use Rattle.sx_isa.specs.declared.instruction.Operand.TheVariants.{Indexed, Const}
 use Rattle.sx_isa.specs.declared.instruction.Op2.TheVariants as op2
 use Rattle.sx_alu.specs.Status.{flags_of}
 use Rattle.sx_lang.specs.declared.tree.BinOp.TheVariants as binary
@@ -33,7 +36,7 @@ module _ (f : Fixed) (st : Stands f) (all : List Mark) (B : Watched → Violatio
   jump_leads c q to ev r d t on sh safe =
       let e : at q % 65536 - at q % 65536 % 2 ≡ at q = omega (arith, to.to, st.below) in
       let r2 = record r { pc = at q; sr = flags_after op2.Mov 0 0 r.sr } in
-      two f st all B _ t 0 0x4030 (at q) (λ x y. Two op2.Mov false (Immediate x) (Reg 0)) refl refl (omega arith) w.goto event.Quiet r d 0 (omega (arith, sh.pc)) safe
+      step f st all B _ t 0 (br (## (at q))) refl (omega arith) refl refl event.Quiet r d 0 (omega (arith, sh.pc)) safe
       (λ kept. (r2, rw e refl, to, λ safe2. stood f st all B at (record c { place = q }) r2 d.mem d 0 safe2 refl sh.holds sh.devices sh.marks))
 
   -- the first two instructions of a test of the top word
@@ -47,7 +50,7 @@ module _ (f : Fixed) (st : Stands f) (all : List Mark) (B : Watched → Violatio
       let up : (r.sp + 2) % 65536 ≡ r.sp + 2 = omega (arith, p1.high, st.beneath) in
       let r1 = record r { pc = at c.place + 2; sp = r.sp + 2; r12 = x; sr = flags_after op2.Mov 0 0 r.sr } in
       let r2 = record r1 { pc = at c.place + 4; sr = flags_after op2.Cmp 0 (x % 65536) r1.sr } in
-      one f st all B Q t 0 0x413c (λ x y. Two op2.Mov false (Increment 1) (Reg 12)) refl (omega arith) w.pop_12 event.Quiet r d (suc k) (omega (arith, sh.pc)) safe (
+      step f st all B Q t 0 (pop r12) refl (omega arith) refl refl event.Quiet r d (suc k) (omega (arith, sh.pc)) safe (
         r.sp,
         refl,
         p1,
@@ -58,7 +61,7 @@ module _ (f : Fixed) (st : Stands f) (all : List Mark) (B : Watched → Violatio
           rw up refl,
           inside t 1 (omega arith),
           λ s1.
-              one f st all B Q t 1 0x930c (λ x y. Two op2.Cmp false (Const 0) (Reg 12)) refl (omega arith) w.test_12 event.Quiet r1 d k refl s1
+              step f st all B Q t 1 (tst r12) refl (omega arith) refl refl event.Quiet r1 d k refl s1
               (λ kept. (r2, refl, inside t 2 (omega arith), after)),
         ),
       )
@@ -74,13 +77,13 @@ module _ (f : Fixed) (st : Stands f) (all : List Mark) (B : Watched → Violatio
       let r2 = record r { pc = at c.place + 4; sp = r.sp + 2; r12 = 0; sr = flags_after op2.Cmp 0 (0 % 65536) sr1 } in
       let r3 = record r2 { pc = at c.place + 6 } in
       let r4 = record r3 { pc = at q; sr = flags_after op2.Mov 0 0 r3.sr } in
-      one f st all B _ t 2 0x2002 (λ x y. Jump 0 (pos 2)) refl (omega arith) w.jne_2 event.Quiet r2 d 1 refl s2
+      step f st all B _ t 2 (jnz (ahead 2)) refl (omega arith) refl refl event.Quiet r2 d 1 refl s2
       (λ kept. (
         r3,
         rw z refl,
         inside t 3 (omega arith),
         λ s3.
-            two f st all B _ t 3 0x4030 (at q) (λ x y. Two op2.Mov false (Immediate x) (Reg 0)) refl refl (omega arith) w.goto event.Quiet r3 d 0 refl s3
+            step f st all B _ t 3 (br (## (at q))) refl (omega arith) refl refl event.Quiet r3 d 0 refl s3
             (λ kept. (
               r4,
               rw e refl,
@@ -100,7 +103,7 @@ module _ (f : Fixed) (st : Stands f) (all : List Mark) (B : Watched → Violatio
       tested _ c (suc v) q rest 2 r d t sh safe (λ s2.
       let r2 = record r { pc = at c.place + 4; sp = r.sp + 2; r12 = suc v; sr = flags_after op2.Cmp 0 (suc v % 65536) sr1 } in
       let r3 = record r2 { pc = at c.place + 10 } in
-      one f st all B _ t 2 0x2002 (λ x y. Jump 0 (pos 2)) refl (omega arith) w.jne_2 event.Quiet r2 d 1 refl s2
+      step f st all B _ t 2 (jnz (ahead 2)) refl (omega arith) refl refl event.Quiet r2 d 1 refl s2
       (λ kept. (
         r3,
         rw (z, to) refl,
@@ -174,7 +177,7 @@ module _ (f : Fixed) (st : Stands f) (all : List Mark) (B : Watched → Violatio
       let r1 = record r { pc = at c.place + 2; sp = sp; r12 = y; sr = flags_after op2.Mov 0 0 r.sr } in
       let r2 = record r1 { pc = at c.place + 6; sr = flags_after op2.Cmp (y % 65536) x r1.sr } in
       let r3 = record r2 { pc = at c.place + 10; sr = flags_after op2.Mov 0 0 r2.sr } in
-      one f st all B _ t 0 0x413c (λ x y. Two op2.Mov false (Increment 1) (Reg 12)) refl (omega arith) w.pop_12 event.Quiet r d 4 (omega (arith, sh.pc)) safe (
+      step f st all B _ t 0 (pop r12) refl (omega arith) refl refl event.Quiet r d 4 (omega (arith, sh.pc)) safe (
         r.sp,
         refl,
         p1,
@@ -185,7 +188,7 @@ module _ (f : Fixed) (st : Stands f) (all : List Mark) (B : Watched → Violatio
           rw up refl,
           inside t 1 (omega arith),
           λ s1.
-              two f st all B _ t 1 0x9c81 0 (λ x y. Two op2.Cmp false (Reg 12) (Indexed 1 x)) refl refl (omega arith) w.cmp_12_top event.Quiet r1 d 3 refl s1 (
+              step f st all B _ t 1 (cmp r12 (0 ⟨ asm.sp ⟩)) refl (omega arith) refl refl event.Quiet r1 d 3 refl s1 (
                 sp,
                 up0,
                 p2,
@@ -196,7 +199,7 @@ module _ (f : Fixed) (st : Stands f) (all : List Mark) (B : Watched → Violatio
                   refl,
                   inside t 3 (omega arith),
                   λ s2.
-                      two f st all B _ t 3 0x4381 0 (λ x y. Two op2.Mov false (Const 0) (Indexed 1 x)) refl refl (omega arith) w.zero_top event.Quiet r2 d 2 refl s2 (
+                      step f st all B _ t 3 (clr (0 ⟨ asm.sp ⟩)) refl (omega arith) refl refl event.Quiet r2 d 2 refl s2 (
                         sp,
                         up0,
                         p2,

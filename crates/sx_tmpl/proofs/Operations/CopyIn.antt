@@ -1,8 +1,9 @@
 -- A copy from a window outside into the private section, which the first refused byte ends.
-use Rattle.std.proofs.Common.{◌≡◌, ℕ, zero, suc, ◌+◌, ◌*◌, ◌%◌, ◌<◌, ◌≤◌, inl, inr, true, false, List, [], ◌∷◌, length, Option, Some, None, refl, sym, ◌∙◌, ap, subst, arith, slice_index}
-use Rattle.sx_isa.specs.declared.instruction.Operand.TheVariants.{Reg, Indexed, Increment, Absolute, Immediate, Const}
+use Rattle.sx_tmpl.specs.Assembly as asm
+use Rattle.sx_tmpl.specs.Assembly.{##◌, #◌, &◌, back, dec, inc, increment, jnz, mov, mov_b, r12, r13, r15, ◌⟨◌⟩}
+use Rattle.sx_tmpl.proofs.Running.Instructions.{step}
+use Rattle.std.proofs.Common.{◌≡◌, ℕ, zero, suc, ◌+◌, ◌*◌, ◌%◌, ◌<◌, ◌≤◌, inl, inr, false, List, [], ◌∷◌, length, Option, Some, None, refl, sym, ◌∙◌, ap, subst, arith, slice_index}
 use Rattle.sx_isa.specs.declared.instruction.Op2.TheVariants as op2
-use Rattle.sx_isa.specs.declared.instruction.Instr.TheVariants.{Two, Jump}
 use Rattle.sx_rules.specs.declared.access.Violation.{Violation}
 use Rattle.sx_machine.specs.declared.kinds.Event.TheVariants as event
 use Rattle.std.specs.Prelude.{slice_set, Result, Ok, Err}
@@ -28,11 +29,9 @@ use Rattle.sx_image.specs.Watched.{Watched}
 use Rattle.sx_tmpl.specs.Running.{Regs, Fixed, Data, running, Safe}
 use Rattle.sx_tmpl.proofs.Running.MidRun.{Stands, Runs}
 use Rattle.sx_tmpl.specs.Shows.{base_of, IsData, MemoryHolds}
-use Rattle.sx_tmpl.proofs.Running.Steps.{Text, one, two}
+use Rattle.sx_tmpl.proofs.Running.Steps.{Text}
 use Rattle.sx_tmpl.proofs.Running.Flags.{flags_after, equal, unequal}
-use Rattle.std.specs.Prelude.{negsuc}
 use Rattle.sx_tmpl.proofs.Operations.Plain.{inside}
-use Rattle.sx_tmpl.proofs.Running.Words as w
 use Rattle.sx_tmpl.proofs.Running.Holding.{data_word, holds_word}
 
 abbrev pub copy_in_words : ℕ → ℕ → ℕ → List ℕ
@@ -79,13 +78,13 @@ module _ (f : Fixed) (st : Stands f) (all : List Mark) (B : Watched → Violatio
         let z = equal 1 1 sr (omega arith) refl in
         let r0 = record r { pc = P + 18; sr = sr; r12 = src; r13 = dst; r15 = 1 } in
         let r1 = record r { pc = P + 20; sr = sr1; r12 = src; r13 = dst; r15 = 0 } in
-        one f st all B Q t 9 0x831f (λ x y. Two op2.Sub false (Const 1) (Reg 15)) refl (omega arith) w.count_15 event.Quiet r0 d (suc j) refl safe
+        step f st all B Q t 9 (dec r15) refl (omega arith) refl refl event.Quiet r0 d (suc j) refl safe
         (λ kept. (
           r1,
           refl,
           inside t 10 (omega arith),
           λ s1.
-              one f st all B Q t 10 0x23fb (λ x y. Jump 0 (negsuc 4)) refl (omega arith) w.jne_back_5 event.Quiet r1 d j refl s1
+              step f st all B Q t 10 (jnz (asm.back 5)) refl (omega arith) refl refl event.Quiet r1 d j refl s1
               (λ kept. (record r1 { pc = P + 22 }, rw z refl, inside t 11 (omega arith), after sr1)),
         ))
     count_down r d sr src dst (suc left) j lt safe after =
@@ -95,13 +94,13 @@ module _ (f : Fixed) (st : Stands f) (all : List Mark) (B : Watched → Violatio
         let to : (P + 22 + 65526) % 65536 ≡ P + 12 = omega (arith, t.to, st.below) in
         let r0 = record r { pc = P + 18; sr = sr; r12 = src; r13 = dst; r15 = suc (suc left) } in
         let r1 = record r { pc = P + 20; sr = sr1; r12 = src; r13 = dst; r15 = suc left } in
-        one f st all B Q t 9 0x831f (λ x y. Two op2.Sub false (Const 1) (Reg 15)) refl (omega arith) w.count_15 event.Quiet r0 d (suc j) refl safe
+        step f st all B Q t 9 (dec r15) refl (omega arith) refl refl event.Quiet r0 d (suc j) refl safe
         (λ kept. (
           r1,
           rw less refl,
           inside t 10 (omega arith),
           λ s1.
-              one f st all B Q t 10 0x23fb (λ x y. Jump 0 (negsuc 4)) refl (omega arith) w.jne_back_5 event.Quiet r1 d j refl s1
+              step f st all B Q t 10 (jnz (asm.back 5)) refl (omega arith) refl refl event.Quiet r1 d j refl s1
               (λ kept. (record r1 { pc = P + 12 }, rw (z, to) refl, inside t 6 (omega arith), after sr1)),
         ))
 
@@ -125,7 +124,7 @@ module _ (f : Fixed) (st : Stands f) (all : List Mark) (B : Watched → Violatio
         let r1 = record r { pc = P + 16; sr = sr; r12 = (src + 1) % 65536; r13 = dst; r15 = suc left } in
         let sr2 = flags_after op2.Add 1 (dst % 65536) sr in
         let r2 = record r1 { pc = P + 18; sr = sr2; r13 = base_of f + (o + 1) } in
-        two f st all B Q t 6 0x4cfd 0 (λ x y. Two op2.Mov true (Increment 12) (Indexed 13 x)) refl refl (omega arith) w.move_byte_12_13 event.Quiet (turn_at r sr src dst (suc left)) d
+        step f st all B Q t 6 (mov_b (increment r12) (0 ⟨ r13 ⟩)) refl (omega arith) refl refl event.Quiet (turn_at r sr src dst (suc left)) d
         (suc (suc (suc j))) refl safe (
           src,
           refl,
@@ -140,7 +139,7 @@ module _ (f : Fixed) (st : Stands f) (all : List Mark) (B : Watched → Violatio
               rw (flags_stay sr) refl,
               inside t 8 (omega arith),
               λ s1.
-                  one f st all B Q t 8 0x531d (λ x y. Two op2.Add false (Const 1) (Reg 13)) refl (omega arith) w.raise_13 event.Quiet r1 (record d { mem = m1 }) (suc (suc j)) refl s1
+                  step f st all B Q t 8 (inc r13) refl (omega arith) refl refl event.Quiet r1 (record d { mem = m1 }) (suc (suc j)) refl s1
                   (λ kept2. (
                     r2,
                     rw up refl,
@@ -223,7 +222,7 @@ module _ (f : Fixed) (st : Stands f) (all : List Mark) (B : Watched → Violatio
         let r1 = record r { pc = P + 4; r12 = src } in
         let r2 = record r1 { pc = P + 8; r13 = base_of f + from_ } in
         let r3 = record r2 { pc = P + 12; r15 = suc n } in
-        two f st all B Q t 0 0x421c (base_of f + 8) (λ x y. Two op2.Mov false (Absolute x) (Reg 12)) refl refl (omega arith) w.get_12 event.Quiet r d _ pc safe (
+        step f st all B Q t 0 (mov (& (base_of f + 8)) r12) refl (omega arith) refl refl event.Quiet r d _ pc safe (
           base_of f + 8,
           refl,
           p8,
@@ -234,13 +233,13 @@ module _ (f : Fixed) (st : Stands f) (all : List Mark) (B : Watched → Violatio
             rw stay refl,
             inside t 2 (omega arith),
             λ s1.
-                two f st all B Q t 2 0x403d (base_of f + from_) (λ x y. Two op2.Mov false (Immediate x) (Reg 13)) refl refl (omega arith) w.load_13 event.Quiet r1 d _ refl s1
+                step f st all B Q t 2 (mov (## (base_of f + from_)) r13) refl (omega arith) refl refl event.Quiet r1 d _ refl s1
                 (λ kept. (
                   r2,
                   rw (stay, e13) refl,
                   inside t 4 (omega arith),
                   λ s2.
-                      two f st all B Q t 4 0x403f count (λ x y. Two op2.Mov false (Immediate x) (Reg 15)) refl refl (omega arith) w.load_15 event.Quiet r2 d _ refl s2
+                      step f st all B Q t 4 (mov (## count) r15) refl (omega arith) refl refl event.Quiet r2 d _ refl s2
                       (λ kept. (
                         r3,
                         rw (stay, e15) refl,

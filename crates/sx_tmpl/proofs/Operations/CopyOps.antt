@@ -1,10 +1,10 @@
 -- The copies as operations.
+use Rattle.sx_tmpl.specs.Assembly.{##◌, &◌, add, mov, pop, r12, r13, r15}
+use Rattle.sx_tmpl.proofs.Running.Instructions.{step}
 use Rattle.std.proofs.Common.{◌≡◌, ℕ, suc, ◌+◌, ◌*◌, ◌%◌, ◌<◌, ◌≤◌, inl, inr, Bool, true, false, not, ◌&&◌, cond, nat_le, nat_lt, cond, nat_le, nat_lt, List}
 use Rattle.std.proofs.Common.{[], ◌∷◌, length, refl, sym, ◌∙◌, ap, subst, arith}
 use Rattle.sx_reach.specs.Reach.{Here}
-use Rattle.sx_isa.specs.declared.instruction.Operand.TheVariants.{Reg, Increment, Absolute, Immediate}
 use Rattle.sx_isa.specs.declared.instruction.Op2.TheVariants as op2
-use Rattle.sx_isa.specs.declared.instruction.Instr.TheVariants.{Two}
 use Rattle.sx_rules.specs.declared.access.Violation.{Violation}
 use Rattle.sx_machine.specs.declared.kinds.Event.TheVariants as event
 use Rattle.std.specs.Prelude.{Result, Ok, Err}
@@ -39,12 +39,11 @@ use Rattle.sx_ir.specs.Meaning.{next}
 use Rattle.sx_tmpl.specs.Running.{Regs, Fixed, Data, running, Safe}
 use Rattle.sx_tmpl.proofs.Running.MidRun.{Stands, Runs}
 use Rattle.sx_tmpl.specs.Shows.{base_of, MemoryHolds, ShowsConfiguration, Stood}
-use Rattle.sx_tmpl.proofs.Running.Steps.{Text, one, two}
+use Rattle.sx_tmpl.proofs.Running.Steps.{Text}
 use Rattle.sx_tmpl.proofs.Running.Flags.{flags_after}
 use Rattle.std.specs.Prelude.{nat_lt}
 use Rattle.std.proofs.lemmas.Bool.{cases_lt, lt-ltb}
 use Rattle.sx_tmpl.proofs.Operations.Plain.{inside, Leads}
-use Rattle.sx_tmpl.proofs.Running.Words as w
 use Rattle.sx_tmpl.proofs.Running.Holding.{stack_word, data_word, holds_pop, holds_word}
 
 -- an operation that may break: it goes on, breaks in a violation, or has no meaning
@@ -222,7 +221,7 @@ module _ (f : Fixed) (st : Stands f) (all : List Mark) (B : Watched → Violatio
           let r3 = record r2 { pc = at c.place + 10; r13 = base_of f + o } in
           let r4 = record r3 { pc = at c.place + 14; r15 = suc n } in
           weaker Q (suc (suc (suc (suc (4 * suc n))))) (8 + 4 * suc n) (running f r d) (omega arith)
-          (one f st all B Q t 0 0x413c (λ x y. Two op2.Mov false (Increment 1) (Reg 12)) refl (omega arith) w.pop_12 event.Quiet r d _ (omega (arith, sh.pc)) safe (
+          (step f st all B Q t 0 (pop r12) refl (omega arith) refl refl event.Quiet r d _ (omega (arith, sh.pc)) safe (
             r.sp,
             refl,
             p1,
@@ -233,7 +232,7 @@ module _ (f : Fixed) (st : Stands f) (all : List Mark) (B : Watched → Violatio
               rw (up, stay) refl,
               inside t 1 (omega arith),
               λ s1.
-                  two f st all B Q t 1 0x521c (base_of f + 10) (λ x y. Two op2.Add false (Absolute x) (Reg 12)) refl refl (omega arith) w.add_absolute_12 event.Quiet r1 d _ refl s1 (
+                  step f st all B Q t 1 (add (& (base_of f + 10)) r12) refl (omega arith) refl refl event.Quiet r1 d _ refl s1 (
                     base_of f + 10,
                     refl,
                     p10,
@@ -244,13 +243,13 @@ module _ (f : Fixed) (st : Stands f) (all : List Mark) (B : Watched → Violatio
                       rw sum refl,
                       inside t 3 (omega arith),
                       λ s2.
-                          two f st all B Q t 3 0x403d (base_of f + o) (λ x y. Two op2.Mov false (Immediate x) (Reg 13)) refl refl (omega arith) w.load_13 event.Quiet r2 d _ refl s2
+                          step f st all B Q t 3 (mov (## (base_of f + o)) r13) refl (omega arith) refl refl event.Quiet r2 d _ refl s2
                           (λ kept. (
                             r3,
                             rw (flags_stay sr2, e13) refl,
                             inside t 5 (omega arith),
                             λ s3.
-                                two f st all B Q t 5 0x403f (suc n) (λ x y. Two op2.Mov false (Immediate x) (Reg 15)) refl refl (omega arith) w.load_15 event.Quiet r3 d _ refl s3
+                                step f st all B Q t 5 (mov (## (suc n)) r15) refl (omega arith) refl refl event.Quiet r3 d _ refl s3
                                 (λ kept. (
                                   r4,
                                   rw (flags_stay sr2, e15) refl,

@@ -1,8 +1,10 @@
 -- The entry: from any registers to the first configuration.
+use Rattle.sx_tmpl.specs.Assembly.{##◌, &◌, mov, r12, r13, r14, r15, sp}
+use Rattle.sx_tmpl.proofs.Running.Instructions.{step}
 use Rattle.sx_tmpl.specs.Template.{entry_words}
 use Rattle.std.proofs.Common.{◌≡◌, ◌≢◌, ℕ, suc, ◌+◌, ◌-◌, ◌*◌, ◌%◌, ◌<◌, ◌≤◌, inl, inr, true, false, cond, List, [], length, None, refl, sym, ◌∙◌, ap, arith, slice_index}
 use Rattle.sx_reach.specs.Reach.{Here}
-use Rattle.sx_isa.specs.declared.instruction.Operand.TheVariants.{Reg, Absolute, Immediate}
+use Rattle.sx_isa.specs.declared.instruction.Operand.TheVariants.{Reg, Absolute}
 use Rattle.sx_isa.specs.declared.instruction.Op2.TheVariants as op2
 use Rattle.sx_isa.specs.declared.instruction.Instr.TheVariants.{Two}
 use Rattle.sx_rules.specs.declared.access.Violation.{Violation}
@@ -39,7 +41,7 @@ use Rattle.sx_machine.specs.Rows.{row}
 use Rattle.sx_machine.specs.Registers.{at_pc}
 use Rattle.sx_tmpl.specs.Running.{OutsideKept}
 use Rattle.sx_tmpl.proofs.Running.Owes.{Owes}
-use Rattle.sx_tmpl.proofs.Running.Steps.{Text, InText, Then, NoTell, two}
+use Rattle.sx_tmpl.proofs.Running.Steps.{Text, InText, Then, NoTell}
 use Rattle.std.specs.Prelude.{◌==◌}
 use Rattle.std.proofs.lemmas.Bool.{eq-eqb, ne_eqb}
 use Rattle.sx_tmpl.proofs.Operations.Plain.{inside}
@@ -232,7 +234,7 @@ module _ (f : Fixed) (st : Stands f) (all : List Mark) (B : Watched → Violatio
           rw (stay, next) refl,
           inside t 2 (omega arith),
           λ s0.
-              two f st all B (Q0 priv outside r d) t 2 0x4c82 (b + 6) (λ x y. Two op2.Mov false (Reg 12) (Absolute x)) refl refl (omega arith) w.put_12 event.Quiet r0
+              step f st all B (Q0 priv outside r d) t 2 (mov r12 (& (b + 6))) refl (omega arith) refl refl event.Quiet r0
               (record d { mem = m0 }) 4 refl s0 (
                 b + 6,
                 refl,
@@ -245,7 +247,7 @@ module _ (f : Fixed) (st : Stands f) (all : List Mark) (B : Watched → Violatio
                   rw stay refl,
                   inside t 4 (omega arith),
                   λ s1.
-                      two f st all B (Q0 priv outside r d) t 4 0x4d82 (b + 8) (λ x y. Two op2.Mov false (Reg 13) (Absolute x)) refl refl (omega arith) w.put_13 event.Quiet r1
+                      step f st all B (Q0 priv outside r d) t 4 (mov r13 (& (b + 8))) refl (omega arith) refl refl event.Quiet r1
                       (record d { mem = m1 }) 3 refl s1 (
                         b + 8,
                         refl,
@@ -258,7 +260,7 @@ module _ (f : Fixed) (st : Stands f) (all : List Mark) (B : Watched → Violatio
                           rw stay refl,
                           inside t 6 (omega arith),
                           λ s2.
-                              two f st all B (Q0 priv outside r d) t 6 0x4e82 (b + 10) (λ x y. Two op2.Mov false (Reg 14) (Absolute x)) refl refl (omega arith) w.put_14 event.Quiet r2
+                              step f st all B (Q0 priv outside r d) t 6 (mov r14 (& (b + 10))) refl (omega arith) refl refl event.Quiet r2
                               (record d { mem = m2 }) 2 refl s2 (
                                 b + 10,
                                 refl,
@@ -271,7 +273,7 @@ module _ (f : Fixed) (st : Stands f) (all : List Mark) (B : Watched → Violatio
                                   rw stay refl,
                                   inside t 8 (omega arith),
                                   λ s3.
-                                      two f st all B (Q0 priv outside r d) t 8 0x4f82 (b + 12) (λ x y. Two op2.Mov false (Reg 15) (Absolute x)) refl refl (omega arith) w.put_15 event.Quiet r3
+                                      step f st all B (Q0 priv outside r d) t 8 (mov r15 (& (b + 12))) refl (omega arith) refl refl event.Quiet r3
                                       (record d { mem = m3 }) 1 refl s3 (
                                         b + 12,
                                         refl,
@@ -284,8 +286,7 @@ module _ (f : Fixed) (st : Stands f) (all : List Mark) (B : Watched → Violatio
                                           rw stay refl,
                                           inside t 10 (omega arith),
                                           λ s4.
-                                              two f st all B (Q0 priv outside r d) t 10 0x4031 (b + 512) (λ x y. Two op2.Mov false (Immediate x) (Reg 1)) refl refl
-                                              (omega arith) w.load_sp event.Quiet r4 (record d { mem = m4 }) 0 refl s4
+                                              step f st all B (Q0 priv outside r d) t 10 (mov (## (b + 512)) sp) refl (omega arith) refl refl event.Quiet r4 (record d { mem = m4 }) 0 refl s4
                                               (λ k5. (
                                                 r5,
                                                 rw (stay, sp2) refl,

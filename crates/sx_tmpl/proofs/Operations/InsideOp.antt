@@ -1,9 +1,9 @@
 -- The test of the return address, whose violation is an illegal word.
+use Rattle.sx_tmpl.specs.Assembly.{##◌, &◌, ahead, cmp, jc, jnc, mov, r12}
+use Rattle.sx_tmpl.proofs.Running.Instructions.{step}
 use Rattle.std.proofs.Common.{◌≡◌, ℕ, suc, ◌+◌, ◌*◌, ◌%◌, ◌<◌, ◌≤◌, inl, inr, Bool, true, false, cond, nat_le, cond, nat_le, List, [], ◌∷◌, Some, refl, sym, ◌∙◌, ap, subst, arith}
 use Rattle.sx_reach.specs.Reach.{Here}
-use Rattle.sx_isa.specs.declared.instruction.Operand.TheVariants.{Reg, Absolute, Immediate}
 use Rattle.sx_isa.specs.declared.instruction.Op2.TheVariants as op2
-use Rattle.sx_isa.specs.declared.instruction.Instr.TheVariants.{Two, Jump}
 use Rattle.sx_rules.specs.declared.access.Violation.{Violation}
 use Rattle.sx_machine.specs.declared.kinds.Event.TheVariants as event
 use Rattle.std.proofs.lemmas.Bool.{true≢false}
@@ -32,12 +32,11 @@ use Rattle.sx_ir.specs.Meaning.{next}
 use Rattle.sx_tmpl.specs.Running.{Regs, regs16, Fixed, Data, running, Safe, cell}
 use Rattle.sx_tmpl.proofs.Running.MidRun.{Stands, Runs}
 use Rattle.sx_tmpl.specs.Shows.{base_of, MemoryHolds, ShowsConfiguration, Stood}
-use Rattle.sx_tmpl.proofs.Running.Steps.{Text, one, two}
+use Rattle.sx_tmpl.proofs.Running.Steps.{Text}
 use Rattle.sx_tmpl.proofs.Running.Flags.{flags_after, no_borrow, borrow}
-use Rattle.std.specs.Prelude.{pos, slice_get}
+use Rattle.std.specs.Prelude.{slice_get}
 use Rattle.std.proofs.lemmas.Bool.{cases_lt, lt-ltb, le-ltb, le-leb, lt-leb, and_left, and_right}
 use Rattle.sx_tmpl.proofs.Operations.Plain.{inside, Leads}
-use Rattle.sx_tmpl.proofs.Running.Words as w
 use Rattle.sx_tmpl.proofs.Running.Holding.{data_word, holds_word, cell_below}
 
 module _ (f : Fixed) (st : Stands f) (all : List Mark) (B : Watched → Violation → Type 0) (Q : Watched → Type 0) where
@@ -88,7 +87,7 @@ module _ (f : Fixed) (st : Stands f) (all : List Mark) (B : Watched → Violatio
       let r4 = record r3 { pc = at c.place + 14; sr = sr2 } in
       let to : (at c.place + 10 + 8) % 65536 ≡ at c.place + 18 = omega (arith, t.to) in
       let to2 : (at c.place + 16 + 2) % 65536 ≡ at c.place + 18 = omega (arith, t.to) in
-      two f st all B Q t 0 0x421c (base_of f + 12) (λ x y. Two op2.Mov false (Absolute x) (Reg 12)) refl refl (omega arith) w.get_12 event.Quiet r d 5 (omega (arith, sh.pc)) safe (
+      step f st all B Q t 0 (mov (& (base_of f + 12)) r12) refl (omega arith) refl refl event.Quiet r d 5 (omega (arith, sh.pc)) safe (
         base_of f + 12,
         refl,
         p12,
@@ -99,7 +98,7 @@ module _ (f : Fixed) (st : Stands f) (all : List Mark) (B : Watched → Violatio
           rw (flags_stay r.sr) refl,
           inside t 2 (omega arith),
           λ s1.
-              two f st all B Q t 2 0x903c l.pub_from (λ x y. Two op2.Cmp false (Immediate x) (Reg 12)) refl refl (omega arith) w.cmp_immediate_12 event.Quiet r1 d 4 refl s1
+              step f st all B Q t 2 (cmp (## l.pub_from) r12) refl (omega arith) refl refl event.Quiet r1 d 4 refl s1
               (λ kept. (
                 r2,
                 refl,
@@ -109,17 +108,17 @@ module _ (f : Fixed) (st : Stands f) (all : List Mark) (B : Watched → Violatio
                       | inl lo ↦
                           let out : in_public f.setup.section (even x) ≡ false = and_left _ _ (lt-leb l.pub_from (even x) (omega arith)) in
                           let no_ = borrow (l.pub_from % 65536) (x % 65536) r.sr (omega arith) (omega arith) in
-                          one f st all B Q t 4 0x2804 (λ x y. Jump 2 (pos 4)) refl (omega arith) w.jnc_4 event.Quiet r2 d 3 refl s2
+                          step f st all B Q t 4 (jnc (ahead 4)) refl (omega arith) refl refl event.Quiet r2 d 3 refl s2
                           (λ kept. (record r2 { pc = at c.place + 18 }, rw (no_, to) refl, inside t 9 (omega arith), λ s3. Here (done out (record r2 { pc = at c.place + 18 }) refl refl s3)))
                       | inr ge ↦
                           let yes_ = no_borrow (l.pub_from % 65536) (x % 65536) r.sr (omega arith) (omega arith) in
-                          one f st all B Q t 4 0x2804 (λ x y. Jump 2 (pos 4)) refl (omega arith) w.jnc_4 event.Quiet r2 d 3 refl s2
+                          step f st all B Q t 4 (jnc (ahead 4)) refl (omega arith) refl refl event.Quiet r2 d 3 refl s2
                           (λ kept. (
                             r3,
                             rw yes_ refl,
                             inside t 5 (omega arith),
                             λ s3.
-                                two f st all B Q t 5 0x903c l.pub_to (λ x y. Two op2.Cmp false (Immediate x) (Reg 12)) refl refl (omega arith) w.cmp_immediate_12 event.Quiet r3 d 2 refl s3
+                                step f st all B Q t 5 (cmp (## l.pub_to) r12) refl (omega arith) refl refl event.Quiet r3 d 2 refl s3
                                 (λ kept. (
                                   r4,
                                   refl,
@@ -129,7 +128,7 @@ module _ (f : Fixed) (st : Stands f) (all : List Mark) (B : Watched → Violatio
                                         | inl lt ↦
                                             let in_ : in_public f.setup.section (even x) ≡ true = and_from _ _ (le-leb l.pub_from (even x) (omega arith)) (lt-ltb (even x) l.pub_to (omega arith)) in
                                             let no_ = borrow (l.pub_to % 65536) (x % 65536) sr1 (omega arith) (omega arith) in
-                                            one f st all B Q t 7 0x2c01 (λ x y. Jump 3 (pos 1)) refl (omega arith) w.jc_1 event.Quiet r4 d 1 refl s4
+                                            step f st all B Q t 7 (jc (ahead 1)) refl (omega arith) refl refl event.Quiet r4 d 1 refl s4
                                             (λ kept. (
                                               record r4 { pc = at c.place + 16 },
                                               rw no_ refl,
@@ -141,7 +140,7 @@ module _ (f : Fixed) (st : Stands f) (all : List Mark) (B : Watched → Violatio
                                         | inr ge2 ↦
                                             let out : in_public f.setup.section (even x) ≡ false = and_right (nat_le l.pub_from (even x)) _ (le-ltb (even x) l.pub_to (omega arith)) in
                                             let yes2 = no_borrow (l.pub_to % 65536) (x % 65536) sr1 (omega arith) (omega arith) in
-                                            one f st all B Q t 7 0x2c01 (λ x y. Jump 3 (pos 1)) refl (omega arith) w.jc_1 event.Quiet r4 d 1 refl s4
+                                            step f st all B Q t 7 (jc (ahead 1)) refl (omega arith) refl refl event.Quiet r4 d 1 refl s4
                                             (λ kept. (
                                               record r4 { pc = at c.place + 18 },
                                               rw (yes2, to2) refl,

@@ -1,8 +1,10 @@
 -- The return to the caller.
+use Rattle.sx_tmpl.specs.Assembly.{&◌, clr, mov, pop, r10, r11, r12, r13, r14, r15, r4, r5, r6, r7, r8, r9, sp, sr}
+use Rattle.sx_tmpl.proofs.Running.Instructions.{step}
 use Rattle.sx_tmpl.specs.Template.{leave_words}
 use Rattle.std.proofs.Common.{◌≡◌, ℕ, suc, ◌+◌, ◌-◌, ◌*◌, ◌%◌, ◌<◌, ◌≤◌, inl, inr, Bool, true, false, List, [], ◌∷◌, length, Some, refl, sym, ◌∙◌, ap, arith}
 use Rattle.sx_reach.specs.Reach.{Here}
-use Rattle.sx_isa.specs.declared.instruction.Operand.TheVariants.{Reg, Increment, Absolute, Const}
+use Rattle.sx_isa.specs.declared.instruction.Operand.TheVariants.{Reg, Absolute}
 use Rattle.sx_isa.specs.declared.instruction.Op2.TheVariants as op2
 use Rattle.sx_isa.specs.declared.instruction.Instr.TheVariants.{Two}
 use Rattle.sx_rules.specs.declared.access.Violation.{Violation}
@@ -34,7 +36,7 @@ use Rattle.sx_tmpl.specs.Shows.{base_of, IsData, MemoryHolds, ShowsConfiguration
 use Rattle.sx_machine.specs.Rows.{row}
 use Rattle.sx_machine.specs.Registers.{at_pc}
 use Rattle.sx_tmpl.specs.Running.{OutsideKept}
-use Rattle.sx_tmpl.proofs.Running.Steps.{Text, InText, NoTell, one, two}
+use Rattle.sx_tmpl.proofs.Running.Steps.{Text, InText, NoTell}
 use Rattle.sx_tmpl.proofs.Running.Flags.{flags_after}
 use Rattle.std.specs.Prelude.{slice_get, ◌==◌}
 use Rattle.std.proofs.lemmas.Bool.{cases_eq, eq-eqb, ne_eqb}
@@ -180,7 +182,7 @@ module _ (f : Fixed) (st : Stands f) (all : List Mark) (B : Watched → Violatio
       let q10 = record q9 { pc = at c.place + 24; r15 = 0 } in
       let q11 = record q10 { pc = at c.place + 26; sr = 0 } in
       let q12 = record q11 { pc = at c.place + 30; sp = f.sp } in
-      one f st all B Q t 0 0x413d (λ x y. Two op2.Mov false (Increment 1) (Reg 13)) refl (omega arith) w.pop_13 event.Quiet r d 14 (omega (arith, sh.pc)) safe (
+      step f st all B Q t 0 (pop r13) refl (omega arith) refl refl event.Quiet r d 14 (omega (arith, sh.pc)) safe (
         r.sp,
         refl,
         p1,
@@ -191,7 +193,7 @@ module _ (f : Fixed) (st : Stands f) (all : List Mark) (B : Watched → Violatio
           rw (up, stay) refl,
           inside t 1 (omega arith),
           λ s1.
-              one f st all B Q t 1 0x413c (λ x y. Two op2.Mov false (Increment 1) (Reg 12)) refl (omega arith) w.pop_12 event.Quiet r1 d 13 refl s1 (
+              step f st all B Q t 1 (pop r12) refl (omega arith) refl refl event.Quiet r1 d 13 refl s1 (
                 r.sp + 2,
                 refl,
                 p2,
@@ -202,76 +204,73 @@ module _ (f : Fixed) (st : Stands f) (all : List Mark) (B : Watched → Violatio
                   rw (up2, stay) refl,
                   inside t 2 (omega arith),
                   λ z0.
-                      one f st all B Q t 2 0x4304 (λ x y. Two op2.Mov false (Const 0) (Reg 4)) refl (omega arith) w.zero_4 event.Quiet q0 d 12 refl z0
+                      step f st all B Q t 2 (clr r4) refl (omega arith) refl refl event.Quiet q0 d 12 refl z0
                       (λ kept. (
                         q1,
                         rw stay refl,
                         inside t 3 (omega arith),
                         λ z1.
-                            one f st all B Q t 3 0x4305 (λ x y. Two op2.Mov false (Const 0) (Reg 5)) refl (omega arith) w.zero_5 event.Quiet q1 d 11 refl z1
+                            step f st all B Q t 3 (clr r5) refl (omega arith) refl refl event.Quiet q1 d 11 refl z1
                             (λ kept. (
                               q2,
                               rw stay refl,
                               inside t 4 (omega arith),
                               λ z2.
-                                  one f st all B Q t 4 0x4306 (λ x y. Two op2.Mov false (Const 0) (Reg 6)) refl (omega arith) w.zero_6 event.Quiet q2 d 10 refl z2
+                                  step f st all B Q t 4 (clr r6) refl (omega arith) refl refl event.Quiet q2 d 10 refl z2
                                   (λ kept. (
                                     q3,
                                     rw stay refl,
                                     inside t 5 (omega arith),
                                     λ z3.
-                                        one f st all B Q t 5 0x4307 (λ x y. Two op2.Mov false (Const 0) (Reg 7)) refl (omega arith) w.zero_7 event.Quiet q3 d 9 refl z3
+                                        step f st all B Q t 5 (clr r7) refl (omega arith) refl refl event.Quiet q3 d 9 refl z3
                                         (λ kept. (
                                           q4,
                                           rw stay refl,
                                           inside t 6 (omega arith),
                                           λ z4.
-                                              one f st all B Q t 6 0x4308 (λ x y. Two op2.Mov false (Const 0) (Reg 8)) refl (omega arith) w.zero_8 event.Quiet q4 d 8 refl z4
+                                              step f st all B Q t 6 (clr r8) refl (omega arith) refl refl event.Quiet q4 d 8 refl z4
                                               (λ kept. (
                                                 q5,
                                                 rw stay refl,
                                                 inside t 7 (omega arith),
                                                 λ z5.
-                                                    one f st all B Q t 7 0x4309 (λ x y. Two op2.Mov false (Const 0) (Reg 9)) refl (omega arith) w.zero_9 event.Quiet q5 d 7 refl z5
+                                                    step f st all B Q t 7 (clr r9) refl (omega arith) refl refl event.Quiet q5 d 7 refl z5
                                                     (λ kept. (
                                                       q6,
                                                       rw stay refl,
                                                       inside t 8 (omega arith),
                                                       λ z6.
-                                                          one f st all B Q t 8 0x430a (λ x y. Two op2.Mov false (Const 0) (Reg 10)) refl (omega arith) w.zero_10 event.Quiet q6 d 6 refl z6
+                                                          step f st all B Q t 8 (clr r10) refl (omega arith) refl refl event.Quiet q6 d 6 refl z6
                                                           (λ kept. (
                                                             q7,
                                                             rw stay refl,
                                                             inside t 9 (omega arith),
                                                             λ z7.
-                                                                one f st all B Q t 9 0x430b (λ x y. Two op2.Mov false (Const 0) (Reg 11)) refl (omega arith) w.zero_11 event.Quiet q7 d 5 refl z7
+                                                                step f st all B Q t 9 (clr r11) refl (omega arith) refl refl event.Quiet q7 d 5 refl z7
                                                                 (λ kept. (
                                                                   q8,
                                                                   rw stay refl,
                                                                   inside t 10 (omega arith),
                                                                   λ z8.
-                                                                      one f st all B Q t 10 0x430e (λ x y. Two op2.Mov false (Const 0) (Reg 14)) refl (omega arith) w.zero_14 event.Quiet q8 d 4 refl z8
+                                                                      step f st all B Q t 10 (clr r14) refl (omega arith) refl refl event.Quiet q8 d 4 refl z8
                                                                       (λ kept. (
                                                                         q9,
                                                                         rw stay refl,
                                                                         inside t 11 (omega arith),
                                                                         λ z9.
-                                                                            one f st all B Q t 11 0x430f (λ x y. Two op2.Mov false (Const 0) (Reg 15)) refl
-                                                                            (omega arith) w.zero_15 event.Quiet q9 d 3 refl z9
+                                                                            step f st all B Q t 11 (clr r15) refl (omega arith) refl refl event.Quiet q9 d 3 refl z9
                                                                             (λ kept. (
                                                                               q10,
                                                                               rw stay refl,
                                                                               inside t 12 (omega arith),
                                                                               λ z10.
-                                                                                  one f st all B Q t 12 0x4302 (λ x y. Two op2.Mov false (Const 0) (Reg 2)) refl
-                                                                                  (omega arith) w.clear_status event.Quiet q10 d 2 refl z10
+                                                                                  step f st all B Q t 12 (clr sr) refl (omega arith) refl refl event.Quiet q10 d 2 refl z10
                                                                                   (λ kept. (
                                                                                     q11,
                                                                                     refl,
                                                                                     inside t 13 (omega arith),
                                                                                     λ z11.
-                                                                                        two f st all B Q t 13 0x4211 (base_of f + 148) (λ x y. Two op2.Mov false (Absolute x) (Reg 1)) refl refl
-                                                                                        (omega arith) w.get_sp event.Quiet q11 d 1 refl z11 (
+                                                                                        step f st all B Q t 13 (mov (& (base_of f + 148)) sp) refl (omega arith) refl refl event.Quiet q11 d 1 refl z11 (
                                                                                           base_of f + 148,
                                                                                           refl,
                                                                                           p148,

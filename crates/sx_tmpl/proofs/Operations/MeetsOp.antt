@@ -1,9 +1,8 @@
 -- The test of a window.
+use Rattle.sx_tmpl.specs.Assembly.{##◌, #◌, &◌, ahead, cmp, jc, jmp, jnc, mov, push, r12}
+use Rattle.sx_tmpl.proofs.Running.Instructions.{step}
 use Rattle.std.proofs.Common.{◌≡◌, ℕ, suc, ◌+◌, ◌-◌, ◌%◌, ◌<◌, ◌≤◌, inl, inr, Bool, true, false, ◌&&◌, nat_lt, nat_lt, List, [], ◌∷◌, length, refl, sym, subst, arith}
-use Rattle.sx_isa.specs.declared.instruction.Operand.TheVariants.{Reg, Absolute, Immediate, Const}
 use Rattle.sx_isa.specs.declared.instruction.Op2.TheVariants as op2
-use Rattle.sx_isa.specs.declared.instruction.Op1.TheVariants as op1
-use Rattle.sx_isa.specs.declared.instruction.Instr.TheVariants.{Two, One, Jump}
 use Rattle.sx_rules.specs.declared.access.Violation.{Violation}
 use Rattle.sx_machine.specs.declared.kinds.Event.TheVariants as event
 use Rattle.std.proofs.lemmas.Bool.{or_right, and_from}
@@ -20,12 +19,10 @@ use Rattle.sx_ir.specs.Meaning.{next}
 use Rattle.sx_tmpl.specs.Running.{Regs, Fixed, running, Safe}
 use Rattle.sx_tmpl.proofs.Running.MidRun.{Stands, Runs, put_cell}
 use Rattle.sx_tmpl.specs.Shows.{base_of, MemoryHolds, Stood}
-use Rattle.sx_tmpl.proofs.Running.Steps.{one, two}
 use Rattle.sx_tmpl.proofs.Running.Flags.{flags_after, no_borrow, borrow}
-use Rattle.std.specs.Prelude.{pos, nat_lt}
+use Rattle.std.specs.Prelude.{nat_lt}
 use Rattle.std.proofs.lemmas.Bool.{cases_lt, lt-ltb, le-ltb, and_right}
 use Rattle.sx_tmpl.proofs.Operations.Plain.{inside, Leads, stood}
-use Rattle.sx_tmpl.proofs.Running.Words as w
 use Rattle.sx_tmpl.proofs.Running.Holding.{stack_word, data_word, holds_push, holds_word, cell_below}
 use Rattle.sx_lists.specs.Truth.{truth}
 
@@ -83,7 +80,7 @@ module _ (f : Fixed) (st : Stands f) (all : List Mark) (B : Watched → Violatio
       let t1 : (at c.place + 10 + 12) % 65536 ≡ at c.place + 22 = omega (arith, t.to) in
       let t2 : (at c.place + 16 + 10) % 65536 ≡ at c.place + 26 = omega (arith, t.to) in
       let t3 : (at c.place + 22 + 4) % 65536 ≡ at c.place + 26 = omega (arith, t.to) in
-      two f st all B _ t 0 0x421c (base_of f + o) (λ x y. Two op2.Mov false (Absolute x) (Reg 12)) refl refl (omega arith) w.get_12 event.Quiet r d 8 (omega (arith, sh.pc)) safe (
+      step f st all B _ t 0 (mov (& (base_of f + o)) r12) refl (omega arith) refl refl event.Quiet r d 8 (omega (arith, sh.pc)) safe (
         base_of f + o,
         refl,
         po,
@@ -94,7 +91,7 @@ module _ (f : Fixed) (st : Stands f) (all : List Mark) (B : Watched → Violatio
           rw (flags_stay r.sr) refl,
           inside t 2 (omega arith),
           λ s1.
-              two f st all B _ t 2 0x903c k1 (λ x y. Two op2.Cmp false (Immediate x) (Reg 12)) refl refl (omega arith) w.cmp_immediate_12 event.Quiet r1 d 7 refl s1
+              step f st all B _ t 2 (cmp (## k1) r12) refl (omega arith) refl refl event.Quiet r1 d 7 refl s1
               (λ kept. (
                 r2,
                 refl,
@@ -102,7 +99,7 @@ module _ (f : Fixed) (st : Stands f) (all : List Mark) (B : Watched → Violatio
                 λ s2.
                     elim (cases_lt x k1) [
                       | inr ge ↦
-                          one f st all B _ t 4 0x2c06 (λ x y. Jump 3 (pos 6)) refl (omega arith) w.jc_6 event.Quiet r2 d 6 refl s2
+                          step f st all B _ t 4 (jc (ahead 6)) refl (omega arith) refl refl event.Quiet r2 d 6 refl s2
                           (λ kept. (
                             record r2 { pc = at c.place + 22 },
                             rw (no_borrow (k1 % 65536) (x % 65536) r.sr (omega arith) (omega arith), t1) refl,
@@ -111,13 +108,13 @@ module _ (f : Fixed) (st : Stands f) (all : List Mark) (B : Watched → Violatio
                             λ s3. ending true (bad_end f x n ge small) (record r2 { pc = at c.place + 22 }) 4 refl refl s3,
                           ))
                       | inl lt1 ↦
-                          one f st all B _ t 4 0x2c06 (λ x y. Jump 3 (pos 6)) refl (omega arith) w.jc_6 event.Quiet r2 d 6 refl s2
+                          step f st all B _ t 4 (jc (ahead 6)) refl (omega arith) refl refl event.Quiet r2 d 6 refl s2
                           (λ kept. (
                             r3,
                             rw (borrow (k1 % 65536) (x % 65536) r.sr (omega arith) (omega arith)) refl,
                             inside t 5 (omega arith),
                             λ s3.
-                                two f st all B _ t 5 0x903c l.priv_to (λ x y. Two op2.Cmp false (Immediate x) (Reg 12)) refl refl (omega arith) w.cmp_immediate_12 event.Quiet r3 d 5 refl s3
+                                step f st all B _ t 5 (cmp (## l.priv_to) r12) refl (omega arith) refl refl event.Quiet r3 d 5 refl s3
                                 (λ kept. (
                                   r4,
                                   refl,
@@ -125,7 +122,7 @@ module _ (f : Fixed) (st : Stands f) (all : List Mark) (B : Watched → Violatio
                                   λ s4.
                                       elim (cases_lt x l.priv_to) [
                                         | inr ge2 ↦
-                                            one f st all B _ t 7 0x2c05 (λ x y. Jump 3 (pos 5)) refl (omega arith) w.jc_5 event.Quiet r4 d 4 refl s4
+                                            step f st all B _ t 7 (jc (ahead 5)) refl (omega arith) refl refl event.Quiet r4 d 4 refl s4
                                             (λ kept. (
                                               record r4 { pc = at c.place + 26 },
                                               rw (no_borrow (l.priv_to % 65536) (x % 65536) sr1 (omega arith) (omega arith), t2) refl,
@@ -134,13 +131,13 @@ module _ (f : Fixed) (st : Stands f) (all : List Mark) (B : Watched → Violatio
                                               λ s5. ending false (good_above f x n lt1 small ge2) (record r4 { pc = at c.place + 26 }) 2 refl refl s5,
                                             ))
                                         | inl lt2 ↦
-                                            one f st all B _ t 7 0x2c05 (λ x y. Jump 3 (pos 5)) refl (omega arith) w.jc_5 event.Quiet r4 d 4 refl s4
+                                            step f st all B _ t 7 (jc (ahead 5)) refl (omega arith) refl refl event.Quiet r4 d 4 refl s4
                                             (λ kept. (
                                               r5,
                                               rw (borrow (l.priv_to % 65536) (x % 65536) sr1 (omega arith) (omega arith)) refl,
                                               inside t 8 (omega arith),
                                               λ s5.
-                                                  two f st all B _ t 8 0x903c k3 (λ x y. Two op2.Cmp false (Immediate x) (Reg 12)) refl refl (omega arith) w.cmp_immediate_12 event.Quiet r5 d 3 refl s5
+                                                  step f st all B _ t 8 (cmp (## k3) r12) refl (omega arith) refl refl event.Quiet r5 d 3 refl s5
                                                   (λ kept. (
                                                     r6,
                                                     refl,
@@ -148,7 +145,7 @@ module _ (f : Fixed) (st : Stands f) (all : List Mark) (B : Watched → Violatio
                                                     λ s6.
                                                         elim (cases_lt x k3) [
                                                           | inl lt3 ↦
-                                                              one f st all B _ t 10 0x2802 (λ x y. Jump 2 (pos 2)) refl (omega arith) w.jnc_2 event.Quiet r6 d 2 refl s6
+                                                              step f st all B _ t 10 (jnc (ahead 2)) refl (omega arith) refl refl event.Quiet r6 d 2 refl s6
                                                               (λ kept. (
                                                                 record r6 { pc = at c.place + 26 },
                                                                 rw (borrow (k3 % 65536) (x % 65536) sr2 (omega arith) (omega arith), t3) refl,
@@ -157,7 +154,7 @@ module _ (f : Fixed) (st : Stands f) (all : List Mark) (B : Watched → Violatio
                                                                 λ s7. ending false (good_below f x n lt1 small lt3) (record r6 { pc = at c.place + 26 }) 0 refl refl s7,
                                                               ))
                                                           | inr ge3 ↦
-                                                              one f st all B _ t 10 0x2802 (λ x y. Jump 2 (pos 2)) refl (omega arith) w.jnc_2 event.Quiet r6 d 2 refl s6
+                                                              step f st all B _ t 10 (jnc (ahead 2)) refl (omega arith) refl refl event.Quiet r6 d 2 refl s6
                                                               (λ kept. (
                                                                 record r6 { pc = at c.place + 22 },
                                                                 rw (no_borrow (k3 % 65536) (x % 65536) sr2 (omega arith) (omega arith)) refl,
@@ -195,7 +192,7 @@ module _ (f : Fixed) (st : Stands f) (all : List Mark) (B : Watched → Violatio
           let hp = holds_push f st at c.back c.stack c.priv c.mem r2.sp d.mem sp 1 safe.memory (subst (λ s. MemoryHolds f at c.back c.stack c.priv c.mem s d.mem) (sym sp_) h) (omega arith)
           (omega arith) in
           subst (λ v. Runs f all B (Stood f all at (next c (truth v ∷ c.stack))) (suc (suc j)) (running f r2 d)) (sym e)
-          (one f st all B _ t 11 0x1213 (λ x y. One op1.Push false (Const 1)) refl (omega arith) w.push_one event.Quiet r2 d (suc j) pc safe2 (
+          (step f st all B _ t 11 (push (# 1)) refl (omega arith) refl refl event.Quiet r2 d (suc j) pc safe2 (
             sp,
             down,
             pr,
@@ -207,7 +204,7 @@ module _ (f : Fixed) (st : Stands f) (all : List Mark) (B : Watched → Violatio
               rw down refl,
               inside t 12 (omega arith),
               λ s3.
-                  one f st all B _ t 12 0x3c01 (λ x y. Jump 7 (pos 1)) refl (omega arith) w.jmp_1 event.Quiet r3 (record d { mem = put_cell d.mem sp 1 }) j refl s3
+                  step f st all B _ t 12 (jmp (ahead 1)) refl (omega arith) refl refl event.Quiet r3 (record d { mem = put_cell d.mem sp 1 }) j refl s3
                   (λ kept2. (r4, rw to2_ refl, inside t 14 (omega arith), λ s4. stood f st all B at (next c (1 ∷ c.stack)) r4 (put_cell d.mem sp 1) d j s4 (omega (arith, on)) hp sh.devices sh.marks)),
             ),
           ))
@@ -224,7 +221,7 @@ module _ (f : Fixed) (st : Stands f) (all : List Mark) (B : Watched → Violatio
           let hp = holds_push f st at c.back c.stack c.priv c.mem r2.sp d.mem sp 0 safe.memory (subst (λ s. MemoryHolds f at c.back c.stack c.priv c.mem s d.mem) (sym sp_) h) (omega arith)
           (omega arith) in
           subst (λ v. Runs f all B (Stood f all at (next c (truth v ∷ c.stack))) (suc (suc j)) (running f r2 d)) (sym e)
-          (one f st all B _ t 13 0x1203 (λ x y. One op1.Push false (Const 0)) refl (omega arith) w.push_zero event.Quiet r2 d (suc j) pc safe2 (
+          (step f st all B _ t 13 (push (# 0)) refl (omega arith) refl refl event.Quiet r2 d (suc j) pc safe2 (
             sp,
             down,
             pr,

@@ -1,13 +1,12 @@
 -- The product, by a loop of sixteen turns.
+use Rattle.sx_tmpl.specs.Assembly.{##◌, add, ahead, back, clr, dec, jnc, jnz, mov, pop, push, r12, r13, r14, r15, rla}
+use Rattle.sx_tmpl.proofs.Running.Instructions.{step}
 use Rattle.std.proofs.Common.{◌≡◌, ℕ, zero, suc, ◌+◌, ◌*◌, ◌/◌, ◌%◌, ◌<◌, ◌≤◌, true, false, List, [], ◌∷◌, length, refl, ◌∙◌, ap, subst, arith}
 use Rattle.sx_reach.specs.Reach.{Here}
-use Rattle.sx_isa.specs.declared.instruction.Operand.TheVariants.{Reg, Increment, Immediate, Const}
 use Rattle.sx_isa.specs.declared.instruction.Op2.TheVariants as op2
 use Rattle.sx_alu.specs.Status.{flags_of}
 use Rattle.sx_lang.specs.declared.tree.BinOp.TheVariants as binary
 use Rattle.sx_mean.specs.Meaning.{combine}
-use Rattle.sx_isa.specs.declared.instruction.Op1.TheVariants as op1
-use Rattle.sx_isa.specs.declared.instruction.Instr.TheVariants.{Two, One, Jump}
 use Rattle.sx_rules.specs.declared.access.Violation.{Violation}
 use Rattle.sx_machine.specs.declared.kinds.Event.TheVariants as event
 use Rattle.sx_invoke.specs.Marks.{Mark}
@@ -16,11 +15,9 @@ use Rattle.sx_ir.specs.Conf.{Conf}
 use Rattle.sx_ir.specs.Meaning.{next}
 use Rattle.sx_tmpl.specs.Running.{Regs, Fixed, Data, running, Safe}
 use Rattle.sx_tmpl.proofs.Running.MidRun.{Stands, Runs, put_cell}
-use Rattle.sx_tmpl.proofs.Running.Steps.{Text, one, two}
+use Rattle.sx_tmpl.proofs.Running.Steps.{Text}
 use Rattle.sx_tmpl.proofs.Running.Flags.{flags_stay, carried, not_carried, flags_after, equal, unequal}
-use Rattle.std.specs.Prelude.{pos, negsuc}
 use Rattle.sx_tmpl.proofs.Operations.Plain.{inside, Leads, stood}
-use Rattle.sx_tmpl.proofs.Running.Words as w
 use Rattle.sx_tmpl.proofs.Running.Holding.{stack_word, holds_pop, holds_replace, cell_below}
 use Rattle.sx_reach.specs.Reach.{Next, Ends}
 use Rattle.sx_tmpl.proofs.Operations.Product.{turn, turns, product_is}
@@ -53,13 +50,13 @@ module _ (f : Fixed) (st : Stands f) (all : List Mark) (B : Watched → Violatio
       let z = equal 1 1 sr (omega arith) refl in
       let r = record r0 { pc = P + 18; sr = sr; r12 = a; r13 = x; r14 = acc; r15 = 1 } in
       let r1 = record r { pc = P + 20; sr = sr1; r15 = 0 } in
-      one f st all B Q t 9 0x831f (λ x y. Two op2.Sub false (Const 1) (Reg 15)) refl (omega arith) w.count_15 event.Quiet r d (suc j) refl safe
+      step f st all B Q t 9 (dec r15) refl (omega arith) refl refl event.Quiet r d (suc j) refl safe
       (λ kept. (
         r1,
         refl,
         inside t 10 (omega arith),
         λ s1.
-            one f st all B Q t 10 0x23fa (λ x y. Jump 0 (negsuc 5)) refl (omega arith) w.jne_back_6 event.Quiet r1 d j refl s1
+            step f st all B Q t 10 (jnz (back 6)) refl (omega arith) refl refl event.Quiet r1 d j refl s1
             (λ kept. (record r1 { pc = P + 22 }, rw z refl, inside t 11 (omega arith), after sr1)),
       ))
   count_down sr a acc (suc n) j lt safe after =
@@ -69,13 +66,13 @@ module _ (f : Fixed) (st : Stands f) (all : List Mark) (B : Watched → Violatio
       let to : (P + 22 + 65524) % 65536 ≡ P + 10 = omega (arith, t.to, st.below) in
       let r = record r0 { pc = P + 18; sr = sr; r12 = a; r13 = x; r14 = acc; r15 = suc (suc n) } in
       let r1 = record r { pc = P + 20; sr = sr1; r15 = suc n } in
-      one f st all B Q t 9 0x831f (λ x y. Two op2.Sub false (Const 1) (Reg 15)) refl (omega arith) w.count_15 event.Quiet r d (suc j) refl safe
+      step f st all B Q t 9 (dec r15) refl (omega arith) refl refl event.Quiet r d (suc j) refl safe
       (λ kept. (
         r1,
         rw less refl,
         inside t 10 (omega arith),
         λ s1.
-            one f st all B Q t 10 0x23fa (λ x y. Jump 0 (negsuc 5)) refl (omega arith) w.jne_back_6 event.Quiet r1 d j refl s1
+            step f st all B Q t 10 (jnz (back 6)) refl (omega arith) refl refl event.Quiet r1 d j refl s1
             (λ kept. (record r1 { pc = P + 10 }, rw (z, to) refl, inside t 5 (omega arith), after sr1)),
       ))
 
@@ -89,7 +86,7 @@ module _ (f : Fixed) (st : Stands f) (all : List Mark) (B : Watched → Violatio
       let to : (P + 16 + 2) % 65536 ≡ P + 18 = omega (arith, t.to, st.below) in
       let r = record r0 { pc = P + 14; sr = sr; r12 = a; r13 = x; r14 = dbl; r15 = suc n } in
       more (suc (suc (suc j))) (suc (suc (suc (suc j)))) _ (omega arith)
-      (one f st all B Q t 7 0x2801 (λ x y. Jump 2 (pos 1)) refl (omega arith) w.jnc_1 event.Quiet r d (suc (suc j)) refl safe
+      (step f st all B Q t 7 (jnc (ahead 1)) refl (omega arith) refl refl event.Quiet r d (suc (suc j)) refl safe
       (λ kept. (record r { pc = P + 18 }, rw (no_, to) refl, inside t 9 (omega arith), λ s1. count_down sr a dbl n j lt s1 after)))
   add_or_not (suc zero) sr sr0 s e a acc n j is isr ls le la lt safe after =
       let dbl = (acc + acc) % 65536 in
@@ -99,13 +96,13 @@ module _ (f : Fixed) (st : Stands f) (all : List Mark) (B : Watched → Violatio
       let r1 = record r { pc = P + 16 } in
       let sr2 = flags_after op2.Add (x % 65536) (dbl % 65536) sr in
       let r2 = record r { pc = P + 18; sr = sr2; r14 = (dbl + x) % 65536 } in
-      one f st all B Q t 7 0x2801 (λ x y. Jump 2 (pos 1)) refl (omega arith) w.jnc_1 event.Quiet r d (suc (suc (suc j))) refl safe
+      step f st all B Q t 7 (jnc (ahead 1)) refl (omega arith) refl refl event.Quiet r d (suc (suc (suc j))) refl safe
       (λ kept. (
         r1,
         rw yes_ refl,
         inside t 8 (omega arith),
         λ s1.
-            one f st all B Q t 8 0x5d0e (λ x y. Two op2.Add false (Reg 13) (Reg 14)) refl (omega arith) w.add_13_14 event.Quiet r1 d (suc (suc j)) refl s1
+            step f st all B Q t 8 (add r13 r14) refl (omega arith) refl refl event.Quiet r1 d (suc (suc j)) refl s1
             (λ kept. (r2, rw sum refl, inside t 9 (omega arith), λ s2. count_down sr2 a ((dbl + x) % 65536) n j lt s2 after)),
       ))
   add_or_not (suc (suc c)) sr sr0 s e a acc n j is isr ls le la lt safe after = absurd (omega arith)
@@ -121,13 +118,13 @@ module _ (f : Fixed) (st : Stands f) (all : List Mark) (B : Watched → Violatio
       let r = record r0 { pc = P + 10; sr = sr; r12 = a; r13 = x; r14 = acc; r15 = suc n } in
       let r1 = record r { pc = P + 12; sr = sr1; r14 = (acc + acc) % 65536 } in
       let r2 = record r1 { pc = P + 14; sr = sr2; r12 = (a + a) % 65536 } in
-      one f st all B Q t 5 0x5e0e (λ x y. Two op2.Add false (Reg 14) (Reg 14)) refl (omega arith) w.double_14 event.Quiet r d (suc (suc (suc (suc (suc j))))) refl safe
+      step f st all B Q t 5 (rla r14) refl (omega arith) refl refl event.Quiet r d (suc (suc (suc (suc (suc j))))) refl safe
       (λ kept. (
         r1,
         rw e1 refl,
         inside t 6 (omega arith),
         λ s1.
-            one f st all B Q t 6 0x5c0c (λ x y. Two op2.Add false (Reg 12) (Reg 12)) refl (omega arith) w.double_12 event.Quiet r1 d (suc (suc (suc (suc j)))) refl s1
+            step f st all B Q t 6 (rla r12) refl (omega arith) refl refl event.Quiet r1 d (suc (suc (suc (suc j)))) refl s1
             (λ kept. (
               r2,
               rw e2 refl,
@@ -169,7 +166,7 @@ module _ (f : Fixed) (st : Stands f) (all : List Mark) (B : Watched → Violatio
       let r3 = record r2 { pc = at c.place + 6; r14 = 0 } in
       let r4 = record r3 { pc = at c.place + 10; r15 = 16 } in
       let h1 = holds_pop f st at c.back y (x ∷ rest) c.priv c.mem r.sp d.mem h in
-      one f st all B _ t 0 0x413c (λ x y. Two op2.Mov false (Increment 1) (Reg 12)) refl (omega arith) w.pop_12 event.Quiet r d 100 (omega (arith, sh.pc)) safe (
+      step f st all B _ t 0 (pop r12) refl (omega arith) refl refl event.Quiet r d 100 (omega (arith, sh.pc)) safe (
         r.sp,
         refl,
         p1,
@@ -180,7 +177,7 @@ module _ (f : Fixed) (st : Stands f) (all : List Mark) (B : Watched → Violatio
           rw (up, stay) refl,
           inside t 1 (omega arith),
           λ s1.
-              one f st all B _ t 1 0x413d (λ x y. Two op2.Mov false (Increment 1) (Reg 13)) refl (omega arith) w.pop_13 event.Quiet r1 d 99 refl s1 (
+              step f st all B _ t 1 (pop r13) refl (omega arith) refl refl event.Quiet r1 d 99 refl s1 (
                 r.sp + 2,
                 refl,
                 p2,
@@ -191,13 +188,13 @@ module _ (f : Fixed) (st : Stands f) (all : List Mark) (B : Watched → Violatio
                   rw (up2, stay) refl,
                   inside t 2 (omega arith),
                   λ s2.
-                      one f st all B _ t 2 0x430e (λ x y. Two op2.Mov false (Const 0) (Reg 14)) refl (omega arith) w.zero_14 event.Quiet r2 d 98 refl s2
+                      step f st all B _ t 2 (clr r14) refl (omega arith) refl refl event.Quiet r2 d 98 refl s2
                       (λ kept. (
                         r3,
                         rw stay refl,
                         inside t 3 (omega arith),
                         λ s3.
-                            two f st all B _ t 3 0x403f 16 (λ x y. Two op2.Mov false (Immediate x) (Reg 15)) refl refl (omega arith) w.load_15 event.Quiet r3 d 97 refl s3
+                            step f st all B _ t 3 (mov (## 16) r15) refl (omega arith) refl refl event.Quiet r3 d 97 refl s3
                             (λ kept. (
                               r4,
                               rw stay refl,
@@ -209,7 +206,7 @@ module _ (f : Fixed) (st : Stands f) (all : List Mark) (B : Watched → Violatio
                                   let cut : v % 65536 ≡ z = omega arith in
                                   let r5 = record r4 { pc = at c.place + 22; sr = sr; r12 = a2; r13 = x; r14 = v; r15 = 0 } in
                                   let r6 = record r5 { pc = at c.place + 24; sp = r.sp + 2 } in
-                                  one f st all B _ t 11 0x120e (λ x y. One op1.Push false (Reg 14)) refl (omega arith) w.push_14 event.Quiet r5 d 0 refl s5 (
+                                  step f st all B _ t 11 (push r14) refl (omega arith) refl refl event.Quiet r5 d 0 refl s5 (
                                     r.sp + 2,
                                     down,
                                     p2,

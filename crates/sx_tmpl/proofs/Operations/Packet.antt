@@ -1,11 +1,14 @@
 -- The routine of an end's packet.
+use Rattle.sx_tmpl.specs.Assembly as asm
+use Rattle.sx_tmpl.specs.Assembly.{##◌, #◌, &◌, add, ahead, cmp, inc, increment, jz, mov, pc, pop, r10, r11, r12, r13, r14, r15, r9, sp, tst, ◌⟨◌⟩}
+use Rattle.sx_tmpl.proofs.Running.Instructions.{step}
 use Rattle.sx_tmpl.specs.Template.{routine_words}
 use Rattle.std.proofs.Common.{◌≡◌, ℕ, suc, ◌+◌, ◌-◌, ◌*◌, ◌/◌, ◌%◌, ◌<◌, ◌≤◌, inl, inr, Bool, true, false, not, ◌&&◌, List, [], ◌∷◌, ◌++◌}
 use Rattle.std.proofs.Common.{length, Option, Some, refl, sym, ◌∙◌, ap, subst, arith}
 use Rattle.sx_reach.specs.Reach.{Here}
-use Rattle.sx_isa.specs.declared.instruction.Operand.TheVariants.{Reg, Indexed, Increment, Absolute, Immediate, Const}
+use Rattle.sx_isa.specs.declared.instruction.Operand.TheVariants.{Reg}
 use Rattle.sx_isa.specs.declared.instruction.Op2.TheVariants as op2
-use Rattle.sx_isa.specs.declared.instruction.Instr.TheVariants.{Two, Jump}
+use Rattle.sx_isa.specs.declared.instruction.Instr.TheVariants.{Two}
 use Rattle.sx_rules.specs.declared.access.Violation.{Violation}
 use Rattle.sx_machine.specs.declared.kinds.Event.{Event}
 use Rattle.sx_machine.specs.declared.kinds.Event.TheVariants as event
@@ -30,7 +33,6 @@ use Rattle.sx_invoke.specs.Acts.{event_header, event_packet}
 use Rattle.sx_invoke.specs.Marks as mark
 use Rattle.sx_invoke.specs.Marks.{HasPrefix}
 use Rattle.sx_tmpl.specs.Running.{running_after}
-use Rattle.sx_tmpl.proofs.Running.Steps.{three}
 use Rattle.sx_tmpl.proofs.Running.Flags.{flags_stay}
 use Rattle.sx_tmpl.proofs.Operations.Sealing.{KeyIn, Buffers, wrap_as}
 use Rattle.sx_machine.specs.Memory.{word, put_word}
@@ -39,9 +41,9 @@ use Rattle.sx_image.specs.Watched.{Watched}
 use Rattle.sx_tmpl.specs.Running.{Regs, Fixed, Data, running, Safe, cell}
 use Rattle.sx_tmpl.proofs.Running.MidRun.{Stands, Runs, put_cell}
 use Rattle.sx_tmpl.specs.Shows.{base_of, IsData, MemoryHolds}
-use Rattle.sx_tmpl.proofs.Running.Steps.{Text, InText, one, two}
+use Rattle.sx_tmpl.proofs.Running.Steps.{Text, InText, one}
 use Rattle.sx_tmpl.proofs.Running.Flags.{flags_after, equal, unequal}
-use Rattle.std.specs.Prelude.{pos, slice_get, nat_lt, ◌==◌}
+use Rattle.std.specs.Prelude.{slice_get, nat_lt, ◌==◌}
 use Rattle.std.proofs.lemmas.Bool.{cases_eq, lt-ltb, le-ltb, eq-eqb, ne_eqb}
 use Rattle.sx_tmpl.proofs.Operations.Plain.{inside}
 use Rattle.sx_tmpl.proofs.Running.Words as w
@@ -90,7 +92,7 @@ module _ (f : Fixed) (st : Stands f) (all : List Mark) (B : Watched → Violatio
       let r2 = record r { pc = A + 6; sr = sr1 } in
       let r3 = record r { pc = A + 10; sr = sr3 } in
       let ready : (b : Bool) → (e.is_open ≡ b) → is_ready e ≡ (b && nat_lt e.number 65535) = λ b x. ap (λ b. b && nat_lt e.number 65535) x in
-      two f st all B Q t 0 0x9382 (base_of f + offsets.end_open_at k) (λ x y. Two op2.Cmp false (Const 0) (Absolute x)) refl refl (omega arith) w.test_absolute event.Quiet r d _ pc safe (
+      step f st all B Q t 0 (tst (& (base_of f + offsets.end_open_at k))) refl (omega arith) refl refl event.Quiet r d _ pc safe (
         base_of f + offsets.end_open_at k,
         refl,
         so.1,
@@ -105,7 +107,7 @@ module _ (f : Fixed) (st : Stands f) (all : List Mark) (B : Watched → Violatio
                 | inl z ↦
                     let to : (A + 6 + 104) % 65536 ≡ A + 110 = omega (arith, t.to, st.below) in
                     let no_ : is_ready e ≡ false = ready false (sym (ap (λ (x : EndState). x.is_open) is) ∙ ap not (eq-eqb open_ 0 z)) in
-                    one f st all B Q t 2 0x2434 (λ x y. Jump 1 (pos 52)) refl (omega arith) w.jeq_52 event.Quiet r1 d _ refl s1
+                    step f st all B Q t 2 (jz (ahead 52)) refl (omega arith) refl refl event.Quiet r1 d _ refl s1
                     (λ kept. (
                       record r { pc = A + 110; sr = sr1 },
                       rw (equal 0 open_ r.sr (omega arith) z, to) refl,
@@ -115,14 +117,13 @@ module _ (f : Fixed) (st : Stands f) (all : List Mark) (B : Watched → Violatio
                     ))
                 | inr nz ↦
                     let is_open : e.is_open ≡ true = sym (ap (λ (x : EndState). x.is_open) is) ∙ ap not (ne_eqb open_ 0 nz) in
-                    one f st all B Q t 2 0x2434 (λ x y. Jump 1 (pos 52)) refl (omega arith) w.jeq_52 event.Quiet r1 d _ refl s1
+                    step f st all B Q t 2 (jz (ahead 52)) refl (omega arith) refl refl event.Quiet r1 d _ refl s1
                     (λ kept. (
                       r2,
                       rw (unequal 0 open_ r.sr (omega arith) lo nz) refl,
                       inside t 3 (omega arith),
                       λ s2.
-                          two f st all B Q t 3 0x93b2 (base_of f + offsets.end_number_at k) (λ x y. Two op2.Cmp false (Const 65535) (Absolute x)) refl refl
-                          (omega arith) w.test_full event.Quiet r2 d _ refl s2 (
+                          step f st all B Q t 3 (cmp (# 65535) (& (base_of f + offsets.end_number_at k))) refl (omega arith) refl refl event.Quiet r2 d _ refl s2 (
                             base_of f + offsets.end_number_at k,
                             refl,
                             sn.1,
@@ -137,11 +138,11 @@ module _ (f : Fixed) (st : Stands f) (all : List Mark) (B : Watched → Violatio
                                     | inl z ↦
                                         let to : (A + 12 + 98) % 65536 ≡ A + 110 = omega (arith, t.to, st.below) in
                                         let no_ : is_ready e ≡ false = ready true is_open ∙ le-ltb e.number 65535 (omega (arith, ap (λ (x : EndState). x.number) is)) in
-                                        one f st all B Q t 5 0x2431 (λ x y. Jump 1 (pos 49)) refl (omega arith) w.jeq_49 event.Quiet r3 d _ refl s3
+                                        step f st all B Q t 5 (jz (ahead 49)) refl (omega arith) refl refl event.Quiet r3 d _ refl s3
                                         (λ kept. (record r { pc = A + 110; sr = sr3 }, rw (equal 65535 number sr1 (omega arith) z, to) refl, inside t 55 (omega arith), λ s4. skip no_ sr3 s4))
                                     | inr nz2 ↦
                                         let yes_ : is_ready e ≡ true = ready true is_open ∙ lt-ltb e.number 65535 (omega (arith, ap (λ (x : EndState). x.number) is)) in
-                                        one f st all B Q t 5 0x2431 (λ x y. Jump 1 (pos 49)) refl (omega arith) w.jeq_49 event.Quiet r3 d _ refl s3
+                                        step f st all B Q t 5 (jz (ahead 49)) refl (omega arith) refl refl event.Quiet r3 d _ refl s3
                                         (λ kept. (record r { pc = A + 12; sr = sr3 }, rw (unequal 65535 number sr1 (omega arith) ln nz2) refl, inside t 6 (omega arith), λ s4. go_on yes_ sr3 s4))
                                   ],
                             ),
@@ -201,7 +202,7 @@ module _ (f : Fixed) (st : Stands f) (all : List Mark) (B : Watched → Violatio
       let r2 = record r { pc = A + 24 } in
       let r3 = record r { pc = A + 30 } in
       let r4 = record r { pc = A + 36 } in
-      three f st all B Q t 6 0x40b2 3 (b + 106) (λ x y. Two op2.Mov false (Immediate x) (Absolute y)) refl refl refl (omega arith) w.set_word event.Quiet r d _ pc safe (
+      step f st all B Q t 6 (mov (## 3) (& (b + 106))) refl (omega arith) refl refl event.Quiet r d _ pc safe (
         b + 106,
         refl,
         p106,
@@ -213,7 +214,7 @@ module _ (f : Fixed) (st : Stands f) (all : List Mark) (B : Watched → Violatio
           rw stay refl,
           inside t 9 (omega arith),
           λ s1.
-              three f st all B Q t 9 0x4292 (b + offsets.end_at k) (b + 108) (λ x y. Two op2.Mov false (Absolute x) (Absolute y)) refl refl refl (omega arith) w.move_absolute event.Quiet r1
+              step f st all B Q t 9 (mov (& (b + offsets.end_at k)) (& (b + 108))) refl (omega arith) refl refl event.Quiet r1
               (record d { mem = m1 }) _ refl s1 (
                 b + offsets.end_at k,
                 refl,
@@ -232,8 +233,7 @@ module _ (f : Fixed) (st : Stands f) (all : List Mark) (B : Watched → Violatio
                     rw stay refl,
                     inside t 12 (omega arith),
                     λ s2.
-                        three f st all B Q t 12 0x4292 (b + offsets.end_number_at k) (b + 110) (λ x y. Two op2.Mov false (Absolute x) (Absolute y)) refl refl refl
-                        (omega arith) w.move_absolute event.Quiet r2 (record d { mem = m2 }) _ refl s2 (
+                        step f st all B Q t 12 (mov (& (b + offsets.end_number_at k)) (& (b + 110))) refl (omega arith) refl refl event.Quiet r2 (record d { mem = m2 }) _ refl s2 (
                           b + offsets.end_number_at k,
                           refl,
                           sn.1,
@@ -251,7 +251,7 @@ module _ (f : Fixed) (st : Stands f) (all : List Mark) (B : Watched → Violatio
                               rw stay refl,
                               inside t 15 (omega arith),
                               λ s3.
-                                  three f st all B Q t 15 0x4192 2 (b + 130) (λ x y. Two op2.Mov false (Indexed 1 x) (Absolute y)) refl refl refl (omega arith) w.move_under_top event.Quiet r3
+                                  step f st all B Q t 15 (mov (2 ⟨ sp ⟩) (& (b + 130))) refl (omega arith) refl refl event.Quiet r3
                                   (record d { mem = m3 }) _ refl s3 (
                                     r.sp + 2,
                                     up,
@@ -356,43 +356,43 @@ module _ (f : Fixed) (st : Stands f) (all : List Mark) (B : Watched → Violatio
       let packet : BytesAt mt (b + 106) (event_packet f.setup e v) =
       bytes_append mt (b + 106) (event_header e) (W.cipher ++ W.tag) at_header
       (subst (λ a. BytesAt mt a (W.cipher ++ W.tag)) (omega arith) (bytes_append mt (b + 112) W.cipher W.tag at_cipher (subst (λ a. BytesAt mt a W.tag) (omega arith) at_tag))) in
-      two f st all B Q t 18 0x4039 (b + offsets.end_key_at k) (λ x y. Two op2.Mov false (Immediate x) (Reg 9)) refl refl (omega arith) w.load_9 event.Quiet r d _ pc safe
+      step f st all B Q t 18 (mov (## (b + offsets.end_key_at k)) r9) refl (omega arith) refl refl event.Quiet r d _ pc safe
       (λ kept. (
         r1,
         rw (stay, kx) refl,
         inside t 20 (omega arith),
         λ s1.
-            two f st all B Q t 20 0x403a (b + 106) (λ x y. Two op2.Mov false (Immediate x) (Reg 10)) refl refl (omega arith) w.load_10 event.Quiet r1 d _ refl s1
+            step f st all B Q t 20 (mov (## (b + 106)) r10) refl (omega arith) refl refl event.Quiet r1 d _ refl s1
             (λ kept. (
               r2,
               rw (stay, x106) refl,
               inside t 22 (omega arith),
               λ s2.
-                  two f st all B Q t 22 0x403b 6 (λ x y. Two op2.Mov false (Immediate x) (Reg 11)) refl refl (omega arith) w.load_11 event.Quiet r2 d _ refl s2
+                  step f st all B Q t 22 (mov (## 6) r11) refl (omega arith) refl refl event.Quiet r2 d _ refl s2
                   (λ kept. (
                     r3,
                     rw stay refl,
                     inside t 24 (omega arith),
                     λ s3.
-                        two f st all B Q t 24 0x403c (b + 130) (λ x y. Two op2.Mov false (Immediate x) (Reg 12)) refl refl (omega arith) w.load_12 event.Quiet r3 d _ refl s3
+                        step f st all B Q t 24 (mov (## (b + 130)) r12) refl (omega arith) refl refl event.Quiet r3 d _ refl s3
                         (λ kept. (
                           r4,
                           rw (stay, x130) refl,
                           inside t 26 (omega arith),
                           λ s4.
-                              one f st all B Q t 26 0x432d (λ x y. Two op2.Mov false (Const 2) (Reg 13)) refl (omega arith) w.two_13 event.Quiet r4 d _ refl s4
+                              step f st all B Q t 26 (mov (# 2) r13) refl (omega arith) refl refl event.Quiet r4 d _ refl s4
                               (λ kept. (
                                 r5,
                                 rw stay refl,
                                 inside t 27 (omega arith),
                                 λ s5.
-                                    two f st all B Q t 27 0x403e (b + 112) (λ x y. Two op2.Mov false (Immediate x) (Reg 14)) refl refl (omega arith) w.load_14 event.Quiet r5 d _ refl s5
+                                    step f st all B Q t 27 (mov (## (b + 112)) r14) refl (omega arith) refl refl event.Quiet r5 d _ refl s5
                                     (λ kept. (
                                       r6,
                                       rw (stay, x112) refl,
                                       inside t 29 (omega arith),
                                       λ s6.
-                                          two f st all B Q t 29 0x403f (b + 114) (λ x y. Two op2.Mov false (Immediate x) (Reg 15)) refl refl (omega arith) w.load_15 event.Quiet r6 d _ refl s6
+                                          step f st all B Q t 29 (mov (## (b + 114)) r15) refl (omega arith) refl refl event.Quiet r6 d _ refl s6
                                           (λ kept. (
                                             r7,
                                             rw (stay, x114) refl,
@@ -449,7 +449,7 @@ module _ (f : Fixed) (st : Stands f) (all : List Mark) (B : Watched → Violatio
       let rp = data_read 4 stack outside r.sp d.mem (omega arith) (omega arith) refl h in
       let ro = data_read 10 stack outside r.sp d.mem (omega arith) (omega arith) refl h in
       let r1 = record r { pc = A + 68; r12 = p } in
-      two f st all B Q t 32 0x421c (b + 4) (λ x y. Two op2.Mov false (Absolute x) (Reg 12)) refl refl (omega arith) w.get_12 e r d _ pc safe (
+      step f st all B Q t 32 (mov (& (b + 4)) r12) refl (omega arith) refl refl e r d _ pc safe (
         b + 4,
         refl,
         rp.1,
@@ -467,7 +467,7 @@ module _ (f : Fixed) (st : Stands f) (all : List Mark) (B : Watched → Violatio
               let cutx : x % 65536 ≡ x = omega arith in
               let r4 = record r { pc = A + 74; sr = sr4; r12 = x } in
               let r5 = record r { pc = A + 76; sr = sr4; r12 = x; r14 = x } in
-              one f st all B Q t 37 0x4c0e (λ x y. Two op2.Mov false (Reg 12) (Reg 14)) refl (omega arith) w.move_12_14 event.Quiet r4 d _ refl s4
+              step f st all B Q t 37 (mov r12 r14) refl (omega arith) refl refl event.Quiet r4 d _ refl s4
               (λ kept. (
                 r5,
                 rw (flags_stay sr4, cutx) refl,
@@ -479,7 +479,7 @@ module _ (f : Fixed) (st : Stands f) (all : List Mark) (B : Watched → Violatio
                     let sr7 = flags_after op2.Add (x % 65536) (y % 65536) sr6 in
                     let r6 = record r { pc = A + 78; sr = sr6; r12 = y; r14 = x } in
                     let r7 = record r { pc = A + 80; sr = sr7; r12 = 24 * p; r14 = x } in
-                    one f st all B Q t 39 0x5e0c (λ x y. Two op2.Add false (Reg 14) (Reg 12)) refl (omega arith) w.add_14_12 event.Quiet r6 d _ refl s6
+                    step f st all B Q t 39 (add r14 r12) refl (omega arith) refl refl event.Quiet r6 d _ refl s6
                     (λ kept. (
                       r7,
                       rw z refl,
@@ -502,7 +502,7 @@ module _ (f : Fixed) (st : Stands f) (all : List Mark) (B : Watched → Violatio
           let r8 = record r { pc = A + 84; sr = sr8; r12 = out + 24 * p; r14 = r14 } in
           let r9 = record r8 { pc = A + 88; r13 = b + 106 } in
           let r10 = record r9 { pc = A + 92; r15 = 24 } in
-          two f st all B Q t 40 0x521c (b + 10) (λ x y. Two op2.Add false (Absolute x) (Reg 12)) refl refl (omega arith) w.add_absolute_12 event.Quiet r7 d _ refl s7 (
+          step f st all B Q t 40 (add (& (b + 10)) r12) refl (omega arith) refl refl event.Quiet r7 d _ refl s7 (
             b + 10,
             refl,
             ro.1,
@@ -513,13 +513,13 @@ module _ (f : Fixed) (st : Stands f) (all : List Mark) (B : Watched → Violatio
               rw sum refl,
               inside t 42 (omega arith),
               λ s8.
-                  two f st all B Q t 42 0x403d (b + 106) (λ x y. Two op2.Mov false (Immediate x) (Reg 13)) refl refl (omega arith) w.load_13 event.Quiet r8 d _ refl s8
+                  step f st all B Q t 42 (mov (## (b + 106)) r13) refl (omega arith) refl refl event.Quiet r8 d _ refl s8
                   (λ kept. (
                     r9,
                     rw (flags_stay sr8, x106) refl,
                     inside t 44 (omega arith),
                     λ s9.
-                        two f st all B Q t 44 0x403f 24 (λ x y. Two op2.Mov false (Immediate x) (Reg 15)) refl refl (omega arith) w.load_15 event.Quiet r9 d _ refl s9
+                        step f st all B Q t 44 (mov (## 24) r15) refl (omega arith) refl refl event.Quiet r9 d _ refl s9
                         (λ kept. (r10, rw (flags_stay sr8) refl, inside t 46 (omega arith), after sr8 r14)),
                   )),
             ),
@@ -534,7 +534,7 @@ module _ (f : Fixed) (st : Stands f) (all : List Mark) (B : Watched → Violatio
       let p1 = stack_word f st r.sp (length (ret ∷ stack)) h.top (omega arith) (omega (arith, h.room)) in
       let up : (r.sp + 2) % 65536 ≡ r.sp + 2 = omega (arith, p1.high, st.beneath) in
       let kept_even : ret - ret % 2 ≡ ret = omega arith in
-      one f st all B Q t 55 0x4130 (λ x y. Two op2.Mov false (Increment 1) (Reg 0)) refl (omega arith) w.return_ event.Quiet r d j pc safe (
+      step f st all B Q t 55 asm.ret refl (omega arith) refl refl event.Quiet r d j pc safe (
         r.sp,
         refl,
         p1,
@@ -579,7 +579,7 @@ module _ (f : Fixed) (st : Stands f) (all : List Mark) (B : Watched → Violatio
       let sr2 = flags_after op2.Add 1 p sr1 in
       let r1 = record r { pc = A + 106; sr = sr1 } in
       let r2 = record r { pc = A + 110; sr = sr2 } in
-      two f st all B Q t 51 0x5392 (b + o) (λ x y. Two op2.Add false (Const 1) (Absolute x)) refl refl (omega arith) w.raise_absolute event.Quiet r d _ pc safe (
+      step f st all B Q t 51 (inc (& (b + o))) refl (omega arith) refl refl event.Quiet r d _ pc safe (
         b + o,
         refl,
         sn.1,
@@ -597,7 +597,7 @@ module _ (f : Fixed) (st : Stands f) (all : List Mark) (B : Watched → Violatio
             refl,
             inside t 53 (omega arith),
             λ s1.
-                two f st all B Q t 53 0x5392 (b + 4) (λ x y. Two op2.Add false (Const 1) (Absolute x)) refl refl (omega arith) w.raise_absolute event.Quiet r1 (record d { mem = m1 }) _ refl s1 (
+                step f st all B Q t 53 (inc (& (b + 4))) refl (omega arith) refl refl event.Quiet r1 (record d { mem = m1 }) _ refl s1 (
                   b + 4,
                   refl,
                   pp,

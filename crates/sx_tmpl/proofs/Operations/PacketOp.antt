@@ -1,10 +1,9 @@
 -- The operation that makes an end's packet: a call of its routine.
+use Rattle.sx_tmpl.specs.Assembly.{##◌, call}
+use Rattle.sx_tmpl.proofs.Running.Instructions.{step}
 use Rattle.sx_tmpl.specs.Template.{routine_words}
 use Rattle.std.proofs.Common.{◌≡◌, ℕ, suc, ◌+◌, ◌-◌, ◌*◌, ◌%◌, ◌<◌, ◌≤◌, inl, inr, Bool, true, false, not, cond, nat_le, nat_lt, List, [], ◌∷◌, ◌++◌, length, refl, sym, ◌∙◌, ap, subst, arith}
 use Rattle.sx_reach.specs.Reach.{Here}
-use Rattle.sx_isa.specs.declared.instruction.Operand.TheVariants.{Immediate}
-use Rattle.sx_isa.specs.declared.instruction.Op1.TheVariants as op1
-use Rattle.sx_isa.specs.declared.instruction.Instr.TheVariants.{One}
 use Rattle.sx_rules.specs.declared.access.Violation.{Violation}
 use Rattle.sx_machine.specs.declared.kinds.Event.TheVariants as event
 use Rattle.std.specs.Prelude.{Result, Ok, Err}
@@ -34,14 +33,13 @@ use Rattle.sx_ir.specs.Meaning.{next}
 use Rattle.sx_tmpl.specs.Running.{Regs, Fixed, Data, running, Safe}
 use Rattle.sx_tmpl.proofs.Running.MidRun.{Stands, Runs, put_cell}
 use Rattle.sx_tmpl.specs.Shows.{base_of, MemoryHolds, ShowsConfiguration, Stood}
-use Rattle.sx_tmpl.proofs.Running.Steps.{Text, InText, two}
+use Rattle.sx_tmpl.proofs.Running.Steps.{Text, InText}
 use Rattle.std.specs.Prelude.{nat_lt}
 use Rattle.std.proofs.lemmas.Bool.{cases_lt, lt-ltb}
 use Rattle.sx_tmpl.proofs.Operations.Plain.{inside, Leads}
 use Rattle.sx_tmpl.proofs.Texts.Made.{made_bytes-append, made_prefix}
 use Rattle.sx_ir.specs.Meaning.{has_packet_room}
 use Rattle.sx_invoke.specs.Pieces.{made_bytes}
-use Rattle.sx_tmpl.proofs.Running.Words as w
 use Rattle.sx_tmpl.proofs.Running.Holding.{stack_word, holds_push}
 
 -- with the packet's wrap the marks make its bytes, too
@@ -124,7 +122,7 @@ module _ (f : Fixed) (st : Stands f) (all : List Mark) (B : Watched → Violatio
       let ev : ret % 2 ≡ 0 = omega (arith, t.is_even) in
       let d1 : Data = record d { mem = m1 } in
       subst (λ n. Runs f all B Q n (running f r d)) (omega arith)
-      (two f st all B Q t 0 0x12b0 A (λ x y. One op1.Call false (Immediate x)) refl refl (omega arith) w.call event.Quiet r d (suc (suc (suc (suc (121 + j))))) (omega (arith, sh.pc)) safe (
+      (step f st all B Q t 0 (call (## A)) refl (omega arith) refl refl event.Quiet r d (suc (suc (suc (suc (121 + j))))) (omega (arith, sh.pc)) safe (
         sp,
         down,
         pr,

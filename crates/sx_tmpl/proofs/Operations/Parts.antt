@@ -1,8 +1,7 @@
 -- Handlers' parts: the place to return to lies in a word that only templates use.
-use Rattle.std.proofs.Common.{◌≡◌, ℕ, ◌+◌, ◌-◌, ◌%◌, ◌≤◌, inl, false, List, [], ◌∷◌, length, Some, None, refl, arith}
-use Rattle.sx_isa.specs.declared.instruction.Operand.TheVariants.{Reg, Absolute, Immediate, Const}
-use Rattle.sx_isa.specs.declared.instruction.Op2.TheVariants as op2
-use Rattle.sx_isa.specs.declared.instruction.Instr.TheVariants.{Two}
+use Rattle.sx_tmpl.specs.Assembly.{##◌, &◌, br, clr, mov}
+use Rattle.sx_tmpl.proofs.Running.Instructions.{step}
+use Rattle.std.proofs.Common.{◌≡◌, ℕ, ◌+◌, ◌-◌, ◌%◌, ◌≤◌, inl, List, [], ◌∷◌, length, Some, None, refl, arith}
 use Rattle.sx_rules.specs.declared.access.Violation.{Violation}
 use Rattle.sx_machine.specs.declared.kinds.Event.TheVariants as event
 use Rattle.sx_machine.specs.Memory.{put_word}
@@ -12,10 +11,9 @@ use Rattle.sx_ir.specs.Conf.{Conf}
 use Rattle.sx_tmpl.specs.Running.{Fixed}
 use Rattle.sx_tmpl.proofs.Running.MidRun.{Stands, put_cell}
 use Rattle.sx_tmpl.specs.Shows.{base_of}
-use Rattle.sx_tmpl.proofs.Running.Steps.{three, InText, two}
+use Rattle.sx_tmpl.proofs.Running.Steps.{InText}
 use Rattle.sx_tmpl.proofs.Running.Flags.{flags_stay}
 use Rattle.sx_tmpl.proofs.Operations.Plain.{inside, Leads, stood}
-use Rattle.sx_tmpl.proofs.Running.Words as w
 use Rattle.sx_tmpl.proofs.Running.Holding.{holds_return, holds_forget, data_word, holds_store}
 
 module _ (f : Fixed) (st : Stands f) (all : List Mark) (B : Watched → Violation → Type 0) (at : ℕ → ℕ) where
@@ -39,7 +37,7 @@ module _ (f : Fixed) (st : Stands f) (all : List Mark) (B : Watched → Violatio
       let r1 = record r { pc = at c.place + 4 } in
       let r2 = record r { pc = at c.place + 10 } in
       let r3 = record r { pc = at q } in
-      two f st all B _ t 0 0x4382 (base_of f + 4) (λ x y. Two op2.Mov false (Const 0) (Absolute x)) refl refl (omega arith) w.clear_absolute event.Quiet r d 2 (omega (arith, sh.pc)) safe (
+      step f st all B _ t 0 (clr (& (base_of f + 4))) refl (omega arith) refl refl event.Quiet r d 2 (omega (arith, sh.pc)) safe (
         base_of f + 4,
         refl,
         p4,
@@ -51,7 +49,7 @@ module _ (f : Fixed) (st : Stands f) (all : List Mark) (B : Watched → Violatio
           rw stay refl,
           inside t 2 (omega arith),
           λ s1.
-              three f st all B _ t 2 0x40b2 ret (base_of f + 104) (λ x y. Two op2.Mov false (Immediate x) (Absolute y)) refl refl refl (omega arith) w.set_word event.Quiet r1
+              step f st all B _ t 2 (mov (## ret) (& (base_of f + 104))) refl (omega arith) refl refl event.Quiet r1
               (record d { mem = m1 }) 1 refl s1 (
                 base_of f + 104,
                 refl,
@@ -64,7 +62,7 @@ module _ (f : Fixed) (st : Stands f) (all : List Mark) (B : Watched → Violatio
                   rw stay refl,
                   inside t 5 (omega arith),
                   λ s2.
-                      two f st all B _ t 5 0x4030 (at q) (λ x y. Two op2.Mov false (Immediate x) (Reg 0)) refl refl (omega arith) w.goto event.Quiet r2 (record d { mem = m2 }) 0 refl s2
+                      step f st all B _ t 5 (br (## (at q))) refl (omega arith) refl refl event.Quiet r2 (record d { mem = m2 }) 0 refl s2
                       (λ k3. (
                         r3,
                         rw (stay, e) refl,
@@ -85,7 +83,7 @@ module _ (f : Fixed) (st : Stands f) (all : List Mark) (B : Watched → Violatio
       let e : at p - at p % 2 ≡ at p = omega arith in
       let p104 = data_word f st 104 (omega arith) refl (omega (arith, st.room)) in
       let r2 = record r { pc = at p } in
-      two f st all B _ t 0 0x4210 (base_of f + 104) (λ x y. Two op2.Mov false (Absolute x) (Reg 0)) refl refl (omega arith) w.goto_stored event.Quiet r d 0 (omega (arith, sh.pc)) safe (
+      step f st all B _ t 0 (br (& (base_of f + 104))) refl (omega arith) refl refl event.Quiet r d 0 (omega (arith, sh.pc)) safe (
         base_of f + 104,
         refl,
         p104,

@@ -1,12 +1,11 @@
 -- Operations whose template goes straight on.
-use Rattle.std.proofs.Common.{◌≡◌, ℕ, ◌+◌, ◌-◌, ◌*◌, ◌%◌, ◌<◌, ◌≤◌, false, List, [], ◌∷◌, length, refl, subst, arith}
+use Rattle.sx_tmpl.specs.Assembly.{##◌, &◌, add, increment, pop, push, sp, ◌⟨◌⟩}
+use Rattle.sx_tmpl.proofs.Running.Instructions.{step}
+use Rattle.std.proofs.Common.{◌≡◌, ℕ, ◌+◌, ◌-◌, ◌*◌, ◌%◌, ◌<◌, ◌≤◌, List, [], ◌∷◌, length, refl, subst, arith}
 use Rattle.sx_reach.specs.Reach.{Here}
-use Rattle.sx_isa.specs.declared.instruction.Operand.TheVariants.{Indexed, Increment, Absolute, Immediate}
 use Rattle.sx_isa.specs.declared.instruction.Op2.TheVariants as op2
 use Rattle.sx_lang.specs.declared.tree.BinOp.TheVariants as binary
 use Rattle.sx_mean.specs.Meaning.{combine}
-use Rattle.sx_isa.specs.declared.instruction.Op1.TheVariants as op1
-use Rattle.sx_isa.specs.declared.instruction.Instr.TheVariants.{Two, One}
 use Rattle.sx_rules.specs.declared.access.Violation.{Violation}
 use Rattle.sx_machine.specs.declared.kinds.Event.TheVariants as event
 use Rattle.sx_machine.specs.Memory.{word, put_word}
@@ -17,9 +16,8 @@ use Rattle.sx_ir.specs.Meaning.{next}
 use Rattle.sx_tmpl.specs.Running.{Regs, Fixed, Data, running, Safe}
 use Rattle.sx_tmpl.proofs.Running.MidRun.{Stands, Runs, put_cell}
 use Rattle.sx_tmpl.specs.Shows.{base_of, IsData, MemoryHolds, ShowsConfiguration, Stood}
-use Rattle.sx_tmpl.proofs.Running.Steps.{Text, InText, two}
+use Rattle.sx_tmpl.proofs.Running.Steps.{Text, InText}
 use Rattle.sx_tmpl.proofs.Running.Flags.{flags_after}
-use Rattle.sx_tmpl.proofs.Running.Words as w
 use Rattle.sx_tmpl.proofs.Running.Holding.{stack_word, data_word, holds_push, holds_pop, holds_replace, holds_store, holds_word, cell_below}
 
 pub inside : {f : Fixed} {P n : ℕ} {ws : List ℕ} → Text f P n ws → (k : ℕ) → k ≤ n → InText f (P + 2 * k)
@@ -46,7 +44,7 @@ module _ (f : Fixed) (st : Stands f) (all : List Mark) (B : Watched → Violatio
       let pr = stack_word f st sp (length (x ∷ c.stack)) (omega arith) (omega arith) (omega arith) in
       let down : (r.sp + 65534) % 65536 ≡ sp = omega (arith, st.beneath, st.room) in
       let r2 = record r { pc = at c.place + 4; sp = sp } in
-      two f st all B _ t 0 0x1230 x (λ x y. One op1.Push false (Immediate x)) refl refl (omega arith) w.push_immediate event.Quiet r d 0 (omega (arith, sh.pc)) safe (
+      step f st all B _ t 0 (push (## x)) refl (omega arith) refl refl event.Quiet r d 0 (omega (arith, sh.pc)) safe (
         sp,
         down,
         pr,
@@ -74,7 +72,7 @@ module _ (f : Fixed) (st : Stands f) (all : List Mark) (B : Watched → Violatio
       let is = holds_word f st at c.back c.stack c.priv c.mem r.sp d.mem o h ev i fits in
       let down : (r.sp + 65534) % 65536 ≡ sp = omega (arith, st.beneath, st.room) in
       let r2 = record r { pc = at c.place + 4; sp = sp } in
-      two f st all B _ t 0 0x1212 (base_of f + o) (λ x y. One op1.Push false (Absolute x)) refl refl (omega arith) w.push_absolute event.Quiet r d 0 (omega (arith, sh.pc)) safe (
+      step f st all B _ t 0 (push (& (base_of f + o))) refl (omega arith) refl refl event.Quiet r d 0 (omega (arith, sh.pc)) safe (
         base_of f + o,
         refl,
         po,
@@ -107,7 +105,7 @@ module _ (f : Fixed) (st : Stands f) (all : List Mark) (B : Watched → Violatio
       let po = data_word f st o i.low ev (omega (arith, h.size)) in
       let up : (r.sp + 2) % 65536 ≡ r.sp + 2 = omega (arith, st.beneath, st.room) in
       let r2 = record r { pc = at c.place + 4; sp = r.sp + 2; sr = flags_after op2.Mov 0 0 r.sr } in
-      two f st all B _ t 0 0x41b2 (base_of f + o) (λ x y. Two op2.Mov false (Increment 1) (Absolute x)) refl refl (omega arith) w.pop_absolute event.Quiet r d 0 (omega (arith, sh.pc)) safe (
+      step f st all B _ t 0 (pop (& (base_of f + o))) refl (omega arith) refl refl event.Quiet r d 0 (omega (arith, sh.pc)) safe (
         r.sp,
         refl,
         p1,
@@ -141,7 +139,7 @@ module _ (f : Fixed) (st : Stands f) (all : List Mark) (B : Watched → Violatio
       let up0 : ((r.sp + 2) % 65536 + 0) % 65536 ≡ r.sp + 2 = omega (arith, st.beneath, st.room) in
       let z = combine binary.Add x y in
       let r2 = record r { pc = at c.place + 4; sp = r.sp + 2; sr = flags_after op2.Add y x r.sr } in
-      two f st all B _ t 0 0x51b1 0 (λ x y. Two op2.Add false (Increment 1) (Indexed 1 x)) refl refl (omega arith) w.add_top event.Quiet r d 0 (omega (arith, sh.pc)) safe (
+      step f st all B _ t 0 (add (increment sp) (0 ⟨ sp ⟩)) refl (omega arith) refl refl event.Quiet r d 0 (omega (arith, sh.pc)) safe (
         r.sp,
         refl,
         p1,

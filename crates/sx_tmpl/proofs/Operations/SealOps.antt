@@ -1,11 +1,12 @@
 -- Wrap and unwrap as operations.
+use Rattle.sx_tmpl.specs.Assembly.{##◌, clr, mov, r10, r11, r12, r13, r14, r15, r9}
+use Rattle.sx_tmpl.proofs.Running.Instructions.{step}
 use Rattle.std.proofs.Common.{◌≡◌, ℕ, zero, suc, ◌+◌, ◌-◌, ◌*◌, ◌%◌, ◌<◌, ◌≤◌, ◌⊎◌, inl, inr, false}
 use Rattle.std.proofs.Common.{List, [], ◌∷◌, ◌++◌, length, Option, Some, None, refl, sym, ◌∙◌, ap, subst, arith, slice_index}
 use Rattle.sx_reach.specs.Reach.{Here}
-use Rattle.sx_isa.specs.declared.instruction.Operand.TheVariants.{Reg, Immediate, Const}
-use Rattle.sx_isa.specs.declared.instruction.Op2.TheVariants as op2
+use Rattle.sx_isa.specs.declared.instruction.Operand.TheVariants.{Reg}
 use Rattle.sx_isa.specs.declared.instruction.Op1.TheVariants as op1
-use Rattle.sx_isa.specs.declared.instruction.Instr.TheVariants.{Two, One}
+use Rattle.sx_isa.specs.declared.instruction.Instr.TheVariants.{One}
 use Rattle.sx_rules.specs.declared.access.Violation.{Violation}
 use Rattle.sx_machine.specs.declared.kinds.Event.{Event}
 use Rattle.sx_machine.specs.declared.kinds.Event.TheVariants as event
@@ -34,7 +35,7 @@ use Rattle.sx_tmpl.specs.Running.{Regs, Fixed, Data, running, Safe}
 use Rattle.sx_tmpl.proofs.Running.MidRun.{Stands, Runs, put_cell}
 use Rattle.sx_tmpl.specs.Shows.{base_of, MemoryHolds, Stood}
 use Rattle.sx_tmpl.proofs.Running.Owes.{kept_bytes}
-use Rattle.sx_tmpl.proofs.Running.Steps.{Text, one, two}
+use Rattle.sx_tmpl.proofs.Running.Steps.{Text, one}
 use Rattle.std.specs.Prelude.{slice_get, ◌==◌}
 use Rattle.std.proofs.lemmas.Bool.{ne_eqb}
 use Rattle.sx_tmpl.proofs.Operations.Plain.{inside, Leads}
@@ -69,43 +70,43 @@ module _ (f : Fixed) (st : Stands f) (all : List Mark) (B : Watched → Violatio
       let r4 = record r3 { pc = P + 16; r12 = v12 } in
       let r5 = record r4 { pc = P + 20; r13 = v13 } in
       let r6 = record r5 { pc = P + 24; r14 = v14 } in
-      two f st all B Q t 0 0x4039 v9 (λ x y. Two op2.Mov false (Immediate x) (Reg 9)) refl refl (omega arith) w.load_9 event.Quiet r d _ pc safe
+      step f st all B Q t 0 (mov (## v9) r9) refl (omega arith) refl refl event.Quiet r d _ pc safe
       (λ kept. (
         r1,
         rw (stay, e9) refl,
         inside t 2 (omega arith),
         λ s1.
-            two f st all B Q t 2 0x403a v10 (λ x y. Two op2.Mov false (Immediate x) (Reg 10)) refl refl (omega arith) w.load_10 event.Quiet r1 d _ refl s1
+            step f st all B Q t 2 (mov (## v10) r10) refl (omega arith) refl refl event.Quiet r1 d _ refl s1
             (λ kept. (
               r2,
               rw (stay, e10) refl,
               inside t 4 (omega arith),
               λ s2.
-                  two f st all B Q t 4 0x403b v11 (λ x y. Two op2.Mov false (Immediate x) (Reg 11)) refl refl (omega arith) w.load_11 event.Quiet r2 d _ refl s2
+                  step f st all B Q t 4 (mov (## v11) r11) refl (omega arith) refl refl event.Quiet r2 d _ refl s2
                   (λ kept. (
                     r3,
                     rw (stay, e11) refl,
                     inside t 6 (omega arith),
                     λ s3.
-                        two f st all B Q t 6 0x403c v12 (λ x y. Two op2.Mov false (Immediate x) (Reg 12)) refl refl (omega arith) w.load_12 event.Quiet r3 d _ refl s3
+                        step f st all B Q t 6 (mov (## v12) r12) refl (omega arith) refl refl event.Quiet r3 d _ refl s3
                         (λ kept. (
                           r4,
                           rw (stay, e12) refl,
                           inside t 8 (omega arith),
                           λ s4.
-                              two f st all B Q t 8 0x403d v13 (λ x y. Two op2.Mov false (Immediate x) (Reg 13)) refl refl (omega arith) w.load_13 event.Quiet r4 d _ refl s4
+                              step f st all B Q t 8 (mov (## v13) r13) refl (omega arith) refl refl event.Quiet r4 d _ refl s4
                               (λ kept. (
                                 r5,
                                 rw (stay, e13) refl,
                                 inside t 10 (omega arith),
                                 λ s5.
-                                    two f st all B Q t 10 0x403e v14 (λ x y. Two op2.Mov false (Immediate x) (Reg 14)) refl refl (omega arith) w.load_14 event.Quiet r5 d _ refl s5
+                                    step f st all B Q t 10 (mov (## v14) r14) refl (omega arith) refl refl event.Quiet r5 d _ refl s5
                                     (λ kept. (
                                       r6,
                                       rw (stay, e14) refl,
                                       inside t 12 (omega arith),
                                       λ s6.
-                                          two f st all B Q t 12 0x403f v15 (λ x y. Two op2.Mov false (Immediate x) (Reg 15)) refl refl (omega arith) w.load_15 event.Quiet r6 d _ refl s6
+                                          step f st all B Q t 12 (mov (## v15) r15) refl (omega arith) refl refl event.Quiet r6 d _ refl s6
                                           (λ kept. (loaded r (P + 28) v9 v10 v11 v12 v13 v14 v15, rw (stay, e15) refl, inside t 14 (omega arith), after)),
                                     )),
                               )),
@@ -237,7 +238,7 @@ module _ (f : Fixed) (st : Stands f) (all : List Mark) (B : Watched → Violatio
       let d2 : Data = record d { mem = mt; exchange = x; marks = d.marks ++ mark.Wrapped ad body (k == 0) ∷ [] } in
       let r2 = record rL { pc = at c.place + 30; r15 = 1 } in
       let r3 = record r2 { pc = at c.place + 32; r9 = 0 } in
-      one f st all B Q t 15 0x4309 (λ x y. Two op2.Mov false (Const 0) (Reg 9)) refl (omega arith) w.zero_9 (event.Wrapped f.setup.section.id) r2 d2 0 refl s2
+      step f st all B Q t 15 (clr r9) refl (omega arith) refl refl (event.Wrapped f.setup.section.id) r2 d2 0 refl s2
       (λ kept. (
         r3,
         rw (flags_stay r.sr) refl,

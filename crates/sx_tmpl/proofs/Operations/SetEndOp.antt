@@ -1,11 +1,12 @@
 -- An end is opened with the copied packet's field and the plain key, by a routine that stands once.
+use Rattle.sx_tmpl.specs.Assembly.{##◌, #◌, call, clr, mov, pc, pop, r12, ◌⟨◌⟩}
+use Rattle.sx_tmpl.proofs.Running.Instructions.{step}
 use Rattle.sx_tmpl.specs.Template.{slot_words}
 use Rattle.std.proofs.Common.{◌≡◌, ℕ, zero, suc, ◌+◌, ◌-◌, ◌*◌, ◌/◌, ◌%◌, ◌<◌, ◌≤◌, inl, inr, false, List, [], ◌∷◌, length, Option, Some, refl, sym, ◌∙◌, ap, subst, arith, slice_index}
 use Rattle.sx_reach.specs.Reach.{Here}
-use Rattle.sx_isa.specs.declared.instruction.Operand.TheVariants.{Reg, Indexed, Increment, Absolute, Immediate, Const}
+use Rattle.sx_isa.specs.declared.instruction.Operand.TheVariants.{Indexed, Absolute}
 use Rattle.sx_isa.specs.declared.instruction.Op2.TheVariants as op2
-use Rattle.sx_isa.specs.declared.instruction.Op1.TheVariants as op1
-use Rattle.sx_isa.specs.declared.instruction.Instr.TheVariants.{Two, One}
+use Rattle.sx_isa.specs.declared.instruction.Instr.TheVariants.{Two}
 use Rattle.sx_rules.specs.declared.access.Violation.{Violation}
 use Rattle.sx_machine.specs.declared.kinds.Event.TheVariants as event
 use Rattle.std.specs.Prelude.{slice_set}
@@ -22,7 +23,7 @@ use Rattle.sx_ir.specs.Meaning.{next}
 use Rattle.sx_tmpl.specs.Running.{Regs, Fixed, Data, running, Safe, cell}
 use Rattle.sx_tmpl.proofs.Running.MidRun.{Stands, Runs, put_cell}
 use Rattle.sx_tmpl.specs.Shows.{base_of, MemoryHolds, Stood}
-use Rattle.sx_tmpl.proofs.Running.Steps.{Text, one, two}
+use Rattle.sx_tmpl.proofs.Running.Steps.{Text}
 use Rattle.std.specs.Prelude.{slice_get}
 use Rattle.sx_tmpl.proofs.Operations.Plain.{inside, Leads}
 use Rattle.sx_tmpl.proofs.Running.Words as w
@@ -260,13 +261,13 @@ module _ (f : Fixed) (st : Stands f) (all : List Mark) (B : Watched → Violatio
       let i2 : (b + o0 + 2) % 65536 ≡ b + o1 = omega arith in
       let i4 : (b + o0 + 4) % 65536 ≡ b + o2 = omega arith in
       let done : key_words K0 p o ≡ put_bytes K0 o (bytes_from p 56 16) = key_put K0 p o (omega arith) small in
-      two f st all B Q t 0 0x403c (b + o0) (λ x y. Two op2.Mov false (Immediate x) (Reg 12)) refl refl (omega arith) w.load_12 event.Quiet r d 13 (omega (arith, sh.pc)) safe
+      step f st all B Q t 0 (mov (## (b + o0)) r12) refl (omega arith) refl refl event.Quiet r d 13 (omega (arith, sh.pc)) safe
       (λ ka. (
         r00,
         rw (stay, e12) refl,
         inside t 2 (omega arith),
         λ s_a.
-            two f st all B Q t 2 0x12b0 A (λ x y. One op1.Call false (Immediate x)) refl refl (omega arith) w.call event.Quiet r00 d 12 refl s_a (
+            step f st all B Q t 2 (call (## A)) refl (omega arith) refl refl event.Quiet r00 d 12 refl s_a (
               sp,
               down,
               pr,
@@ -282,7 +283,7 @@ module _ (f : Fixed) (st : Stands f) (all : List Mark) (B : Watched → Violatio
                     (λ s0.
                     move_step f st all B at Q A k rt c.back (ret ∷ c.stack) c.mem 0 18 o0 0 (omega arith) refl refl refl (omega arith) (omega arith) (omega arith) refl (omega arith)
                     (omega arith) r_ d0 p field 11 refl (omega arith) refl h0 s0 (λ ma ha sa.
-                    two f st all B Q rt 3 0x438c 2 (λ x y. Two op2.Mov false (Const 0) (Indexed 12 x)) refl refl (omega arith) w.zero_indexed_12 event.Quiet (record r_ { pc = A + 6 })
+                    step f st all B Q rt 3 (clr (2 ⟨ r12 ⟩)) refl (omega arith) refl refl event.Quiet (record r_ { pc = A + 6 })
                     (record d0 { mem = ma }) 10 refl sa (
                       b + o1,
                       i2,
@@ -297,7 +298,7 @@ module _ (f : Fixed) (st : Stands f) (all : List Mark) (B : Watched → Violatio
                         λ sb.
                             let hb = holds_store f st at c.back (ret ∷ c.stack) q0 c.mem sp ma o1 0 sa.memory ha (omega arith) (record { low = omega arith; beside = inr (omega arith) })
                             (omega arith) in
-                            two f st all B Q rt 5 0x439c 4 (λ x y. Two op2.Mov false (Const 1) (Indexed 12 x)) refl refl (omega arith) w.one_indexed_12 event.Quiet (record r_ { pc = A + 10 })
+                            step f st all B Q rt 5 (mov (# 1) (4 ⟨ r12 ⟩)) refl (omega arith) refl refl event.Quiet (record r_ { pc = A + 10 })
                             (record d0 { mem = put_cell ma (b + o1) 0 }) 9 refl sb (
                               b + o2,
                               i4,
@@ -328,7 +329,7 @@ module _ (f : Fixed) (st : Stands f) (all : List Mark) (B : Watched → Violatio
                                     (omega arith) (omega arith) r_ (record d0 { mem = x5 }) K6 v6 2 refl (omega arith) w6 h5 s5_ (λ x6 h6 s6_.
                                     move_step f st all B at Q A k rt c.back (ret ∷ c.stack) c.mem 28 70 (o + 14) 22 (omega arith) refl refl refl (omega arith) (omega arith) (omega arith) refl
                                     (omega arith) (omega arith) r_ (record d0 { mem = x6 }) K7 v7 1 refl (omega arith) w7 h6 s6_ (λ x7 h7 s7_.
-                                    one f st all B Q rt 31 0x4130 (λ x y. Two op2.Mov false (Increment 1) (Reg 0)) refl (omega arith) w.return_ event.Quiet (record r_ { pc = A + 62 })
+                                    step f st all B Q rt 31 (pop pc) refl (omega arith) refl refl event.Quiet (record r_ { pc = A + 62 })
                                     (record d0 { mem = x7 }) 0 refl s7_ (
                                       sp,
                                       refl,

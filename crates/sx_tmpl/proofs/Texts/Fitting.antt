@@ -5,6 +5,8 @@ use Rattle.std.specs.List.{list_all, list_any}
 use Rattle.std.proofs.lemmas.Bool.{leb-true, ltb-true, and_parts, eqb-true, or_cases, false≢true}
 use Rattle.sx_rules.specs.declared.section.Layout.{Layout}
 use Rattle.sx_mean.specs.Offsets as offsets
+use Rattle.sx_mean.specs.Working.{saved_at}
+use Rattle.sx_tmpl.specs.Scratch as scratch
 use Rattle.sx_ir.specs.declared.ir.Ir.{Ir}
 use Rattle.sx_ir.specs.declared.ir.Ir.TheVariants as ir
 use Rattle.sx_ir.specs.declared.ir.Code.{Code}
@@ -84,26 +86,27 @@ module _ (code : Code) (l : Layout) (room : HasRoom l) (sound : is_sound code.op
   fit (ir.Packet k) h = tt
   fit ir.Drop h = tt
   fit ir.Emit h = tt
-  fit ir.Stop h = low 104 (omega arith)
-  fit (ir.Saved r) h = let b = and_parts (nat_le 12 r) (nat_le r 15) h in (leb-true 12 r b.0, leb-true r 15 b.1, low 12 (omega arith))
-  fit ir.Inside h = low 12 (omega arith)
+  fit ir.Stop h = low scratch.return_at (omega arith)
+  fit (ir.Saved r) h = let b = and_parts (nat_le 12 r) (nat_le r 15) h in let le = leb-true r 15 b.1 in (leb-true 12 r b.0, le, low (saved_at r) (omega (arith, le)))
+  fit ir.Inside h = low scratch.caller_at (omega arith)
   fit (ir.Meets r n) h =
       let a = and_parts (nat_le 12 r && nat_le r 15) (nat_le 2 n) h in
       let b = and_parts (nat_le 12 r) (nat_le r 15) a.0 in
-      (leb-true 12 r b.0, leb-true r 15 b.1, leb-true 2 n a.1, low 12 (omega arith))
-  fit (ir.CopyIn n o) h = let x = below o n (changes size o n (and_parts (nat_le 1 n) (may_change size o n) h).1) in (low 8 (omega arith), omega (arith, x))
-  fit (ir.CopyOut n o) h = let x = below o n (and_parts (nat_le 1 n) (is_free size o n) h).1 in (low 10 (omega arith), omega (arith, x))
+      let le = leb-true r 15 b.1 in
+      (leb-true 12 r b.0, le, leb-true 2 n a.1, low (saved_at r) (omega (arith, le)))
+  fit (ir.CopyIn n o) h = let x = below o n (changes size o n (and_parts (nat_le 1 n) (may_change size o n) h).1) in (low scratch.in_window_at (omega arith), omega (arith, x))
+  fit (ir.CopyOut n o) h = let x = below o n (and_parts (nat_le 1 n) (is_free size o n) h).1 in (low scratch.out_window_at (omega arith), omega (arith, x))
   fit (ir.Seal k x hn b bn) h = sealed k x hn b bn (and_parts (are_sealed size k x hn b bn) (may_change size (x + hn) (bn + 16)) h).0
   fit (ir.Open k x hn b bn) h = sealed k x hn b bn (and_parts (are_sealed size k x hn b bn) (may_change size b bn) h).0
   fit (ir.SetEnd k) h = let x = leb-true (offsets.end_at k + 24) size h in let lim = room.private_below in let rm = room.private_size in omega (arith, x, lim, rm)
   fit ir.Sense h = tt
-  fit (ir.Handler g) h = let lt = ltb-true g (length parts) h in (lt, (are_sound ops parts l sound).begins g lt, low 104 (omega arith))
+  fit (ir.Handler g) h = let lt = ltb-true g (length parts) h in (lt, (are_sound ops parts l sound).begins g lt, low scratch.return_at (omega arith))
   fit ir.Leave h = tt
 
   pub all_fit : (p : ℕ) (i : Ir) → slice_get ops p ≡ Some i → OperationFits l code i
   all_fit p i e = fit i ((are_sound ops parts l sound).each p i e)
 
-  pub slots_fit : (k : ℕ) → has_routine ops k ≡ true → l.priv_from + (offsets.end_at k + 24) < 65536
+  pub slots_fit : (k : ℕ) → has_routine ops k ≡ true → l.priv_from + offsets.end_at (k + 1) < 65536
   slots_fit k h =
       let x = leb-true (offsets.end_at k + 24) size (slot (length ops) (length parts) size k ops (are_sound ops parts l sound).tests h) in
       let lim = room.private_below in

@@ -1,0 +1,33 @@
+-- One turn of the loop that writes instructions.
+use Rattle.std.proofs.Common.{◌≡◌, ℕ, ◌+◌, ◌<◌, true, List, ◌++◌, drop, length, sym, ap, ◌∙◌, get_or}
+use Rattle.std.proofs.lemmas.Bool.{and_parts}
+use Rattle.std.proofs.lemmas.List.{append_assoc, drop_more}
+use Rattle.sx_isa.specs.declared.instruction.Instr.{Instr}
+use Rattle.sx_isa.specs.declared.instruction.Instr.TheVariants.{Reti}
+use Rattle.sx_isa.specs.Spelling.{spelling}
+use Rattle.sx_isa.specs.Standing.{words_of}
+use Rattle.sx_tmpl.specs.Shaped.{are_shaped, is_shaped}
+use Rattle.sx_tmpl.specs.Text.{bytes_of}
+use Rattle.sx_tmpl.proofs.Texts.TextBytes.{bytes_append}
+
+-- the instruction at a place
+pub written : (is : List Instr) (k : ℕ) (d : Instr) (text text2 start : List ℕ) → k < length is → text2 ≡ text ++ bytes_of (spelling (get_or is k d))
+    → text ++ bytes_of (words_of (drop k is)) ≡ start → text2 ++ bytes_of (words_of (drop (k + 1) is)) ≡ start
+written is k d text text2 start lt put before =
+    let rest = words_of (drop (k + 1) is) in
+    ap (λ (t : List ℕ). t ++ bytes_of rest) put
+    ∙ append_assoc text (bytes_of (spelling (get_or is k d))) (bytes_of rest)
+    ∙ ap (λ (l : List ℕ). text ++ l) (sym (bytes_append (spelling (get_or is k d)) rest))
+    ∙ ap (λ (r : List Instr). text ++ bytes_of (words_of r)) (sym (drop_more is k d lt))
+    ∙ before
+
+-- the first of those that are left, and what is left behind it
+shaped_parts : (is : List Instr) (k : ℕ) (d : Instr) → k < length is → are_shaped (drop k is) ≡ true → (is_shaped (get_or is k d) ≡ true) × (are_shaped (drop (k + 1) is) ≡ true)
+shaped_parts is k d lt h =
+    and_parts (is_shaped (get_or is k d)) (are_shaped (drop (k + 1) is)) (ap (λ (r : List Instr). are_shaped r) (sym (drop_more is k d lt)) ∙ h)
+
+pub shaped_here : (is : List Instr) (k : ℕ) (d : Instr) → k < length is → are_shaped (drop k is) ≡ true → is_shaped (get_or is k d) ≡ true
+shaped_here is k d lt h = (shaped_parts is k d lt h).0
+
+pub shaped_behind : (is : List Instr) (k : ℕ) → k < length is → are_shaped (drop k is) ≡ true → are_shaped (drop (k + 1) is) ≡ true
+shaped_behind is k lt h = (shaped_parts is k Reti lt h).1
