@@ -4,8 +4,8 @@ pub mod Owned
 pub mod Mem
 pub mod Owes
 pub mod Steps
-pub mod Words
 pub mod Flags
 pub mod Holding
 pub mod Outcomes
 pub mod Instructions
+pub mod Loading

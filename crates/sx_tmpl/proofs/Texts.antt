@@ -12,4 +12,4 @@ pub mod Fitting
 pub mod Going
 pub mod Performing
 pub mod Resuming
-pub mod Marks
+pub mod Noted

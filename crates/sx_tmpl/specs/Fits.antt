@@ -60,24 +60,24 @@ is_plain (ir.Handler h) = false
 is_plain ir.Leave = false
 is_plain i = true
 
--- the end that an operation makes a packet of is marked
-abbrev pub with_mark : Ir → List Bool → List Bool
-with_mark (ir.Packet k) marks = slice_set marks k true
-with_mark i marks = marks
+-- the end that an operation makes a packet of is noted
+abbrev pub with_note : Ir → List Bool → List Bool
+with_note (ir.Packet k) noted = slice_set noted k true
+with_note i noted = noted
 
 -- so are those of all operations
-abbrev pub with_marks : List Ir → List Bool → List Bool
-with_marks [] marks = marks
-with_marks (i ∷ ops) marks = with_marks ops (with_mark i marks)
+abbrev pub with_notes : List Ir → List Bool → List Bool
+with_notes [] noted = noted
+with_notes (i ∷ ops) noted = with_notes ops (with_note i noted)
 
--- no end is marked
-unfoldable pub no_marks : ℕ → List Bool
-no_marks n = replicate n false
+-- no end is noted
+unfoldable pub none_noted : ℕ → List Bool
+none_noted n = replicate n false
 
 -- for each end that a byte names, whether it has a packet routine
-pub record AreMarks (ops : List Ir) (marks : List Bool) : Type 0 where
-  pub count : length marks ≡ 256
-  pub each : (k : ℕ) → k < 256 → slice_index_or marks k false ≡ has_routine ops k
+pub record AreNoted (ops : List Ir) (noted : List Bool) : Type 0 where
+  pub count : length noted ≡ 256
+  pub each : (k : ℕ) → k < 256 → slice_index_or noted k false ≡ has_routine ops k
 
 -- for each of the first n ends, how many of those before it have a packet routine
 pub record AreCounts (ops : List Ir) (n : ℕ) (counts : List ℕ) : Type 0 where
@@ -88,7 +88,7 @@ pub record AreCounts (ops : List Ir) (n : ℕ) (counts : List ℕ) : Type 0 wher
 pub record IsTable (l : Layout) (code : Code) (t : Table) : Type 0 where
   pub places : t.places.items ≡ places_of l code
   pub count : length t.places.items ≡ length code.ops.items + 1
-  pub marks : AreMarks code.ops.items t.marks.items
+  pub noted : AreNoted code.ops.items t.noted.items
   pub counts : AreCounts code.ops.items 256 t.routines.items
   pub below : slice_index t.places.items (length code.ops.items) + (exit_bytes + slot_bytes)
       + packet_bytes * routines code.ops.items 256 < 65536

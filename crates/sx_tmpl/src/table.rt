@@ -3,8 +3,8 @@
 ghost use Rattle.std.specs.Prelude.{◌≡◌, ◌<◌, ◌+◌, IfOk, length, slice_index, slice_index_or};
 ghost use Rattle.std.specs.Prelude.{false};
 ghost use Rattle.sx_ir.specs.Sizes.{bytes, has_routine, op_bytes, ops_bytes};
-ghost use Rattle.sx_tmpl.specs.Fits.{AreCounts, AreMarks, IsTable, no_marks, with_mark};
-ghost use Rattle.sx_tmpl.specs.Fits.{with_marks};
+ghost use Rattle.sx_tmpl.specs.Fits.{AreCounts, AreNoted, IsTable, none_noted, with_note};
+ghost use Rattle.sx_tmpl.specs.Fits.{with_notes};
 ghost use Rattle.sx_tmpl.specs.Text.{places_from};
 
 use std::alloc::{AllocError as OutOfMemory, Global};
@@ -33,7 +33,7 @@ pub struct Table {
     /// The address of each operation, and last that of the exit.
     pub places: Vec<u16>,
     /// For each end, whether it has a packet routine.
-    pub marks: Vec<bool>,
+    pub noted: Vec<bool>,
     /// For each end, how many packet routines stand before its own.
     pub routines: Vec<u16>,
 }
@@ -47,11 +47,11 @@ impl Table {
         ensures { IfOk result (λ table. IsTable layout.now code.now table) }
     {
         let places = places(alloc, layout.pub_from + ENTRY, &code.ops)?;
-        let marks = marks(alloc, &code.ops)?;
-        let routines = routine_counts(alloc, &code.ops, &marks)?;
+        let noted = noted_ends(alloc, &code.ops)?;
+        let routines = routine_counts(alloc, &code.ops, &noted)?;
         Ok(Table {
             places,
-            marks,
+            noted,
             routines,
         })
     }
@@ -70,7 +70,7 @@ impl Table {
         requires end { end < 256 }
         ensures { result ≡ has_routine code.now.ops.items end }
     {
-        has_routine(&code.ops, &self.marks, end)
+        has_routine(&code.ops, &self.noted, end)
     }
 
     /// How many packet routines stand before that of an end.
@@ -97,68 +97,68 @@ fn places(alloc: Global, from: u16, ops: &[Ir]) -> Result<Vec<u16>, OutOfMemory>
     Ok(places)
 }
 
-/// As many ends without a mark. The count is a variable, since no proof is to compute them.
-#[tactic(auto, unfolding(crate::specs::Fits::no_marks))]
-fn no_marks(alloc: Global, count: usize) -> Result<Vec<bool>, OutOfMemory>
-    ensures marks { IfOk result (λ marks. marks.items ≡ no_marks count) }
-    ensures length { IfOk result (λ marks. length marks.items ≡ count) }
+/// As many ends, none of them noted. The count is a variable, since no proof is to compute them.
+#[tactic(auto, unfolding(crate::specs::Fits::none_noted))]
+fn none_noted(alloc: Global, count: usize) -> Result<Vec<bool>, OutOfMemory>
+    ensures noted { IfOk result (λ noted. noted.items ≡ none_noted count) }
+    ensures length { IfOk result (λ noted. length noted.items ≡ count) }
 {
     vec![in alloc; false; count]
 }
 
-/// Marks the end that an operation makes a packet of.
-fn mark(marks: &mut [bool], op: &Ir)
-    requires { length marks.old ≡ 256 }
-    ensures marks { marks.new ≡ with_mark op.now marks.old }
-    ensures length { length marks.new ≡ 256 }
+/// Notes the end that an operation makes a packet of.
+fn note(noted: &mut [bool], op: &Ir)
+    requires { length noted.old ≡ 256 }
+    ensures noted { noted.new ≡ with_note op.now noted.old }
+    ensures length { length noted.new ≡ 256 }
 {
     match op {
-        Ir::Packet(end) => marks[*end as usize] = true,
+        Ir::Packet(end) => noted[*end as usize] = true,
         _ => {}
     }
 }
 
-/// For each end, whether it has a packet routine: one pass over the operations marks those that
-/// have one, and all else asks the marks.
-fn marks(alloc: Global, ops: &[Ir]) -> Result<Vec<bool>, OutOfMemory>
-    ensures { IfOk result (λ marks. AreMarks ops.now marks.items) }
+/// For each end, whether it has a packet routine: one pass over the operations notes those that
+/// have one.
+fn noted_ends(alloc: Global, ops: &[Ir]) -> Result<Vec<bool>, OutOfMemory>
+    ensures { IfOk result (λ noted. AreNoted ops.now noted.items) }
 {
-    let mut marks = no_marks(alloc, END_COUNT)?;
+    let mut noted = none_noted(alloc, END_COUNT)?;
     for op in ops {
-        mark(&mut marks, op);
+        note(&mut noted, op);
     }
-    Ok(marks)
+    Ok(noted)
 }
 
-fn is_marked(marks: &[bool], end: usize) -> bool
-    ensures { result ≡ slice_index_or marks.now end false }
+fn is_noted(noted: &[bool], end: usize) -> bool
+    ensures { result ≡ slice_index_or noted.now end false }
 {
-    match marks.get(end) {
+    match noted.get(end) {
         Some(true) => true,
         _ => false,
     }
 }
 
-/// Whether an end has a packet routine, by the marks of these operations.
-fn has_routine(ops: &[Ir], marks: &[bool], end: usize) -> bool
-    requires marks { AreMarks ops.now marks.now }
+/// Whether an end has a packet routine, where those of these operations are noted.
+fn has_routine(ops: &[Ir], noted: &[bool], end: usize) -> bool
+    requires noted { AreNoted ops.now noted.now }
     requires end { end < 256 }
     ensures { result ≡ has_routine ops.now end }
 {
-    is_marked(marks, end)
+    is_noted(noted, end)
 }
 
 /// For each end, how many of those before it have a packet routine.
 #[tactic(auto, using(crate::proofs::Texts::TextTurns::counts_none, crate::proofs::Texts::TextTurns::no_routines, crate::proofs::Texts::TextTurns::counts_turn, crate::proofs::Texts::TextTurns::one_more, crate::proofs::Texts::TextTurns::none_more))]
-fn routine_counts(alloc: Global, ops: &[Ir], marks: &[bool]) -> Result<Vec<u16>, OutOfMemory>
-    requires { AreMarks ops.now marks.now }
+fn routine_counts(alloc: Global, ops: &[Ir], noted: &[bool]) -> Result<Vec<u16>, OutOfMemory>
+    requires { AreNoted ops.now noted.now }
     ensures { IfOk result (λ counts. AreCounts ops.now 256 counts.items) }
 {
     let mut counts = Vec::new(alloc);
     let mut count: u16 = 0;
     for end in 0..END_COUNT {
         counts.push(count)?;
-        if has_routine(ops, marks, end) {
+        if has_routine(ops, noted, end) {
             count += 1;
         }
     }

@@ -1,4 +1,5 @@
 -- Elements of arrays, by an index at run time.
+use Rattle.sx_tmpl.specs.Template.{load_at_words, store_at_words}
 use Rattle.sx_tmpl.specs.Assembly.{##◌, #◌, ahead, cmp, jc, jmp, mov, pop, push, r12, r13, rla, sp, ◌⟨◌⟩}
 use Rattle.sx_tmpl.proofs.Running.Instructions.{step}
 use Rattle.std.proofs.Common.{◌≡◌, ℕ, suc, ◌+◌, ◌*◌, ◌%◌, ◌<◌, ◌≤◌, ◌⊎◌, inl, inr, cond, List, [], ◌∷◌, length, refl, sym, ap, subst, arith}
@@ -34,7 +35,7 @@ module _ (f : Fixed) (st : Stands f) (all : List Mark) (B : Watched → Violatio
   L n ws count c c2 = Leads f st all B at n ws count c c2
 
   abbrev load_words : ℕ → ℕ → List ℕ
-  load_words o n = 0x413c ∷ 0x903c ∷ n ∷ 0x2c04 ∷ 0x5c0c ∷ 0x121c ∷ (base_of f + o) ∷ 0x3c01 ∷ 0x1203 ∷ []
+  load_words o n = load_at_words (base_of f + o) n
 
   -- the index is popped and compared
   load_begins : (Q : Watched → Type 0) (c : Conf) (o n i k : ℕ) (rest : List ℕ) (r : Regs) (d : Data) → Text f (at c.place) 9 (load_words o n)
@@ -190,7 +191,7 @@ module _ (f : Fixed) (st : Stands f) (all : List Mark) (B : Watched → Violatio
   ]
 
   abbrev store_words : ℕ → ℕ → List ℕ
-  store_words o n = 0x413d ∷ 0x413c ∷ 0x903c ∷ n ∷ 0x2c03 ∷ 0x5c0c ∷ 0x4d8c ∷ (base_of f + o) ∷ []
+  store_words o n = store_at_words (base_of f + o) n
 
   store_begins : (Q : Watched → Type 0) (c : Conf) (o n i v k : ℕ) (rest : List ℕ) (r : Regs) (d : Data) → Text f (at c.place) 8 (store_words o n)
       → ShowsConfiguration f at (record c { stack = v ∷ i ∷ rest }) r d → Safe f all (running f r d)

@@ -1,14 +1,19 @@
 -- Operations whose template branches.
+use Rattle.sx_tmpl.specs.Template.{comparison}
+use Rattle.sx_tmpl.specs.Shaped.{is_shaped}
+use Rattle.sx_machine.specs.Step.{is_module_word}
+use Rattle.sx_isa.specs.Spelling.{spelling}
+use Rattle.sx_isa.specs.Instructions.{first_word}
+use Rattle.sx_isa.specs.Standing.{words_of}
 use Rattle.sx_tmpl.specs.Assembly as asm
-use Rattle.sx_tmpl.specs.Assembly.{##◌, #◌, ahead, br, clr, cmp, increment, jnz, pc, pop, r12, sp, tst, ◌⟨◌⟩}
+use Rattle.sx_tmpl.specs.Assembly.{##◌, #◌, ◌⟨◌⟩, ahead, br, clr, cmp, jc, jnz, mov, pc, pop, r12, sp, tst}
 use Rattle.sx_tmpl.proofs.Running.Instructions.{step}
-use Rattle.std.proofs.Common.{◌≡◌, ℕ, suc, ◌+◌, ◌-◌, ◌*◌, ◌%◌, ◌<◌, ◌≤◌, inl, inr, Bool, true, false, not, List, [], ◌∷◌, length, Some, refl, sym, ◌∙◌, ap, subst, arith}
-use Rattle.sx_isa.specs.declared.instruction.Operand.TheVariants.{Indexed, Const}
+use Rattle.std.proofs.Common.{◌≡◌, ℕ, suc, ◌+◌, ◌-◌, ◌*◌, ◌%◌, ◌<◌, ◌≤◌, inl, inr, Bool, true, false, not, List, [], ◌∷◌, length, refl, sym, ◌∙◌, ap, subst, arith}
 use Rattle.sx_isa.specs.declared.instruction.Op2.TheVariants as op2
 use Rattle.sx_alu.specs.Status.{flags_of}
 use Rattle.sx_lang.specs.declared.tree.BinOp.TheVariants as binary
 use Rattle.sx_mean.specs.Meaning.{combine}
-use Rattle.sx_isa.specs.declared.instruction.Instr.TheVariants.{Two, Jump}
+use Rattle.sx_isa.specs.declared.instruction.Instr.TheVariants.{Jump}
 use Rattle.sx_rules.specs.declared.access.Violation.{Violation}
 use Rattle.sx_machine.specs.declared.kinds.Event.TheVariants as event
 use Rattle.sx_invoke.specs.Marks.{Mark}
@@ -19,12 +24,11 @@ use Rattle.sx_tmpl.specs.Running.{Regs, Fixed, Data, running, Safe}
 use Rattle.sx_tmpl.proofs.Running.MidRun.{Stands, Runs, put_cell}
 use Rattle.sx_tmpl.specs.Shows.{MemoryHolds, ShowsConfiguration, Stood}
 use Rattle.sx_machine.specs.Rows.{jump_taken}
-use Rattle.sx_tmpl.proofs.Running.Steps.{Text, InText, Reads, one, two}
+use Rattle.sx_tmpl.proofs.Running.Steps.{Text, InText}
 use Rattle.sx_tmpl.proofs.Running.Flags.{flags_after, no_borrow, borrow, equal, unequal, carry_of, zero_of}
-use Rattle.std.specs.Prelude.{pos, slice_get, nat_lt, ◌==◌}
+use Rattle.std.specs.Prelude.{drop, take, nat_lt, ◌==◌}
 use Rattle.std.proofs.lemmas.Bool.{cases_lt, cases_eq, lt-ltb, le-ltb, eq-eqb, ne_eqb}
 use Rattle.sx_tmpl.proofs.Operations.Plain.{inside, Leads, stood}
-use Rattle.sx_tmpl.proofs.Running.Words as w
 use Rattle.sx_tmpl.proofs.Running.Holding.{stack_word, holds_pop, holds_replace, cell_below}
 use Rattle.sx_lists.specs.Truth.{truth}
 
@@ -32,15 +36,18 @@ module _ (f : Fixed) (st : Stands f) (all : List Mark) (B : Watched → Violatio
   abbrev L : ℕ → List ℕ → ℕ → Conf → Conf → Type 0
   L n ws count c c2 = Leads f st all B at n ws count c c2
 
-  pub jump_leads : (c : Conf) (q : ℕ) → InText f (at q) → at q % 2 ≡ 0 → L 2 (0x4030 ∷ at q ∷ []) 1 c (record c { place = q })
+  pub jump_leads : (c : Conf) (q : ℕ) → InText f (at q) → at q % 2 ≡ 0 → L 2 (words_of (br (## (at q)) ∷ [])) 1 c (record c { place = q })
   jump_leads c q to ev r d t on sh safe =
       let e : at q % 65536 - at q % 65536 % 2 ≡ at q = omega (arith, to.to, st.below) in
       let r2 = record r { pc = at q; sr = flags_after op2.Mov 0 0 r.sr } in
       step f st all B _ t 0 (br (## (at q))) refl (omega arith) refl refl event.Quiet r d 0 (omega (arith, sh.pc)) safe
       (λ kept. (r2, rw e refl, to, λ safe2. stood f st all B at (record c { place = q }) r2 d.mem d 0 safe2 refl sh.holds sh.devices sh.marks))
 
+  abbrev branch_words : ℕ → List ℕ
+  branch_words to = words_of (pop r12 ∷ tst r12 ∷ jnz (ahead 2) ∷ br (## to) ∷ [])
+
   -- the first two instructions of a test of the top word
-  tested : (Q : Watched → Type 0) (c : Conf) (x q : ℕ) (rest : List ℕ) (k : ℕ) (r : Regs) (d : Data) → Text f (at c.place) 5 (0x413c ∷ 0x930c ∷ 0x2002 ∷ 0x4030 ∷ at q ∷ [])
+  tested : (Q : Watched → Type 0) (c : Conf) (x q : ℕ) (rest : List ℕ) (k : ℕ) (r : Regs) (d : Data) → Text f (at c.place) 5 (branch_words (at q))
       → ShowsConfiguration f at (record c { stack = x ∷ rest }) r d → Safe f all (running f r d)
       → (let r2 = record r { pc = at c.place + 4; sp = r.sp + 2; r12 = x; sr = flags_after op2.Cmp 0 (x % 65536) (flags_after op2.Mov 0 0 r.sr) } in
       Safe f all (running f r2 d) → Runs f all B Q k (running f r2 d)) → Runs f all B Q (suc (suc k)) (running f r d)
@@ -67,7 +74,7 @@ module _ (f : Fixed) (st : Stands f) (all : List Mark) (B : Watched → Violatio
       )
 
   pub jump_zero_leads : (c : Conf) (q : ℕ) (rest : List ℕ) → InText f (at q) → at q % 2 ≡ 0
-      → L 5 (0x413c ∷ 0x930c ∷ 0x2002 ∷ 0x4030 ∷ at q ∷ []) 4 (record c { stack = 0 ∷ rest }) (record c { place = q; stack = rest })
+      → L 5 (branch_words (at q)) 4 (record c { stack = 0 ∷ rest }) (record c { place = q; stack = rest })
   jump_zero_leads c q rest to ev r d t on sh safe =
       let h = sh.holds in
       let e : at q % 65536 - at q % 65536 % 2 ≡ at q = omega (arith, to.to, st.below) in
@@ -93,7 +100,7 @@ module _ (f : Fixed) (st : Stands f) (all : List Mark) (B : Watched → Violatio
             )),
       )))
 
-  pub jump_not_leads : (c : Conf) (q v : ℕ) (rest : List ℕ) → L 5 (0x413c ∷ 0x930c ∷ 0x2002 ∷ 0x4030 ∷ at q ∷ []) 4 (record c { stack = suc v ∷ rest }) (next c rest)
+  pub jump_not_leads : (c : Conf) (q v : ℕ) (rest : List ℕ) → L 5 (branch_words (at q)) 4 (record c { stack = suc v ∷ rest }) (next c rest)
   jump_not_leads c q v rest r d t on sh safe =
       let h = sh.holds in
       let lt : suc v < 65536 = subst (λ (n : ℕ). n < 65536) h.words.0 (cell_below f st d.mem r.sp safe.memory) in
@@ -113,23 +120,24 @@ module _ (f : Fixed) (st : Stands f) (all : List Mark) (B : Watched → Violatio
       )))
 
   -- the end of a comparison: a jump over the next instruction, which makes the top word 1, is taken where it doesn't hold
-  pub compare_end : {P n : ℕ} {ws : List ℕ} (t : Text f P n ws) (k : ℕ) (c2 : Conf) (rest : List ℕ) (jw cond : ℕ) (b : Bool) (r : Regs) (d : Data) → slice_get ws k ≡ Some jw
-      → slice_get ws (k + 1) ≡ Some 0x4391 → slice_get ws (k + 1 + 1) ≡ Some 0 → k + 1 + 2 ≤ n → Reads jw 1 (λ x y. Jump cond (pos 2)) → jump_taken cond (flags_of r.sr) ≡ not b
+  pub compare_end : {P n : ℕ} {ws : List ℕ} (t : Text f P n ws) (k : ℕ) (c2 : Conf) (rest : List ℕ) (cond : ℕ) (b : Bool) (r : Regs) (d : Data)
+      → take 1 (drop k ws) ≡ spelling (Jump cond (ahead 2)) → take 2 (drop (k + 1) ws) ≡ spelling (mov (# 1) (0 ⟨ asm.sp ⟩)) → k + 1 + 2 ≤ n
+      → is_shaped (Jump cond (ahead 2)) ≡ true → is_module_word (first_word (Jump cond (ahead 2))) ≡ false → jump_taken cond (flags_of r.sr) ≡ not b
       → r.pc ≡ P + 2 * k → at c2.place ≡ P + 2 * (k + 1 + 2) → c2.stack ≡ truth b ∷ rest → MemoryHolds f at c2.back (0 ∷ rest) c2.priv c2.mem r.sp d.mem → d.devices ≡ c2.devices → d.marks ≡ c2.marks
       → Safe f all (running f r d)
       → Runs f all B (Stood f all at c2) 2 (running f r d)
-  compare_end {P = P} t k c2 rest jw cond true r d g0 g1 g2 le reads tk pc on stack h dev marks safe =
+  compare_end {P = P} t k c2 rest cond true r d i0 i1 le shaped plain tk pc on stack h dev marks safe =
       let p2 = stack_word f st r.sp (length (0 ∷ rest)) h.top (omega arith) (omega (arith, h.room)) in
       let up0 : (r.sp + 0) % 65536 ≡ r.sp = omega (arith, p2.high, st.beneath) in
       let r4 = record r { pc = P + 2 * (k + 1) } in
       let r5 = record r4 { pc = P + 2 * (k + 1 + 2); sr = flags_after op2.Mov 0 0 r.sr } in
-      one f st all B _ t k jw (λ x y. Jump cond (pos 2)) g0 (omega arith) reads event.Quiet r d 1 pc safe
+      step f st all B _ t k (Jump cond (ahead 2)) i0 (omega arith) shaped plain event.Quiet r d 1 pc safe
       (λ kept. (
         r4,
         rw tk refl,
         inside t (k + 1) (omega arith),
         λ s4.
-            two f st all B _ t (k + 1) 0x4391 0 (λ x y. Two op2.Mov false (Const 1) (Indexed 1 x)) g1 g2 le w.one_top event.Quiet r4 d 0 refl s4 (
+            step f st all B _ t (k + 1) (mov (# 1) (0 ⟨ asm.sp ⟩)) i1 le refl refl event.Quiet r4 d 0 refl s4 (
               r.sp,
               up0,
               p2,
@@ -146,10 +154,10 @@ module _ (f : Fixed) (st : Stands f) (all : List Mark) (B : Watched → Violatio
               ),
             ),
       ))
-  compare_end {P = P} t k c2 rest jw cond false r d g0 g1 g2 le reads tk pc on stack h dev marks safe =
+  compare_end {P = P} t k c2 rest cond false r d i0 i1 le shaped plain tk pc on stack h dev marks safe =
       let to : (P + 2 * (k + 1) + 4) % 65536 ≡ P + 2 * (k + 1 + 2) = omega (arith, t.to, st.below) in
       let r4 = record r { pc = P + 2 * (k + 1 + 2) } in
-      one f st all B _ t k jw (λ x y. Jump cond (pos 2)) g0 (omega arith) reads event.Quiet r d 1 pc safe
+      step f st all B _ t k (Jump cond (ahead 2)) i0 (omega arith) shaped plain event.Quiet r d 1 pc safe
       (λ kept. (
         r4,
         rw (tk, to) refl,
@@ -159,10 +167,10 @@ module _ (f : Fixed) (st : Stands f) (all : List Mark) (B : Watched → Violatio
       ))
 
   -- A comparison of the two upper words: the first is popped and compared, and 0 takes the place of the other.
-  compare_leads : (c : Conf) (x y : ℕ) (rest : List ℕ) (jw cond : ℕ) (b : Bool) → Reads jw 1 (λ x y. Jump cond (pos 2))
+  compare_leads : (c : Conf) (x y : ℕ) (rest : List ℕ) (cond : ℕ) (b : Bool) → is_shaped (Jump cond (ahead 2)) ≡ true → is_module_word (first_word (Jump cond (ahead 2))) ≡ false
       → ((sr : ℕ) → y < 65536 → x < 65536 → jump_taken cond (flags_of (flags_after op2.Mov 0 0 (flags_after op2.Cmp (y % 65536) x sr))) ≡ not b)
-      → L 8 (0x413c ∷ 0x9c81 ∷ 0 ∷ 0x4381 ∷ 0 ∷ jw ∷ 0x4391 ∷ 0 ∷ []) 5 (record c { stack = y ∷ x ∷ rest }) (next c (truth b ∷ rest))
-  compare_leads c x y rest jw cond b reads jumps r d t on sh safe =
+      → L 8 (words_of (comparison (λ n. Jump cond n))) 5 (record c { stack = y ∷ x ∷ rest }) (next c (truth b ∷ rest))
+  compare_leads c x y rest cond b shaped plain jumps r d t on sh safe =
       let h = sh.holds in
       let top = h.top in
       let sp = r.sp + 2 in
@@ -211,7 +219,7 @@ module _ (f : Fixed) (st : Stands f) (all : List Mark) (B : Watched → Violatio
                           refl,
                           inside t 5 (omega arith),
                           λ s3.
-                              compare_end t 5 (next c (truth b ∷ rest)) rest jw cond b r3 (record d { mem = put_cell d.mem sp 0 }) refl refl refl (omega arith) reads
+                              compare_end t 5 (next c (truth b ∷ rest)) rest cond b r3 (record d { mem = put_cell d.mem sp 0 }) refl refl (omega arith) shaped plain
                               (jumps r1.sr ly lx) refl on refl h3 sh.devices sh.marks s3,
                         ),
                       ),
@@ -220,15 +228,15 @@ module _ (f : Fixed) (st : Stands f) (all : List Mark) (B : Watched → Violatio
         ),
       )
 
-  pub lt_leads : (c : Conf) (x y : ℕ) (rest : List ℕ) → L 8 (0x413c ∷ 0x9c81 ∷ 0 ∷ 0x4381 ∷ 0 ∷ 0x2c02 ∷ 0x4391 ∷ 0 ∷ []) 5 (record c { stack = y ∷ x ∷ rest }) (next c (combine binary.Lt x y ∷ rest))
-  lt_leads c x y rest = compare_leads c x y rest 0x2c02 3 (nat_lt x y) w.jc_2 (λ sr ly lx.
+  pub lt_leads : (c : Conf) (x y : ℕ) (rest : List ℕ) → L 8 (words_of (comparison jc)) 5 (record c { stack = y ∷ x ∷ rest }) (next c (combine binary.Lt x y ∷ rest))
+  lt_leads c x y rest = compare_leads c x y rest 3 (nat_lt x y) refl refl (λ sr ly lx.
       carry_of (flags_after op2.Cmp (y % 65536) x sr) _ ∙ elim (cases_lt x y) [
         | inl h ↦ borrow (y % 65536) x sr (omega arith) (omega arith) ∙ sym (ap not (lt-ltb x y h))
         | inr h ↦ no_borrow (y % 65536) x sr (omega arith) (omega arith) ∙ sym (ap not (le-ltb x y h))
       ])
 
-  pub eq_leads : (c : Conf) (x y : ℕ) (rest : List ℕ) → L 8 (0x413c ∷ 0x9c81 ∷ 0 ∷ 0x4381 ∷ 0 ∷ 0x2002 ∷ 0x4391 ∷ 0 ∷ []) 5 (record c { stack = y ∷ x ∷ rest }) (next c (combine binary.Eq x y ∷ rest))
-  eq_leads c x y rest = compare_leads c x y rest 0x2002 0 (x == y) w.jne_2 (λ sr ly lx.
+  pub eq_leads : (c : Conf) (x y : ℕ) (rest : List ℕ) → L 8 (words_of (comparison jnz)) 5 (record c { stack = y ∷ x ∷ rest }) (next c (combine binary.Eq x y ∷ rest))
+  eq_leads c x y rest = compare_leads c x y rest 0 (x == y) refl refl (λ sr ly lx.
       ap not (zero_of (flags_after op2.Cmp (y % 65536) x sr) _ ∙ elim (cases_eq x y) [
         | inl h ↦ equal (y % 65536) x sr (omega arith) (omega arith) ∙ sym (eq-eqb x y h)
         | inr h ↦ unequal (y % 65536) x sr (omega arith) lx (omega arith) ∙ sym (ne_eqb x y h)

@@ -1,13 +1,11 @@
 -- Bytes that stand in memory, and those of a wrap.
-use Rattle.std.proofs.Common.{◌≡◌, ℕ, zero, suc, ◌+◌, ◌-◌, ◌/◌, ◌%◌, ◌<◌, ◌≤◌, ◌⊎◌, inl, inr, List, [], ◌∷◌, ◌++◌, length, take, min, refl, sym, ◌∙◌}
-use Rattle.std.proofs.Common.{ap, subst, arith, slice_index, slice_set}
+use Rattle.std.proofs.Common.{◌≡◌, ℕ, zero, suc, ◌+◌, ◌-◌, ◌/◌, ◌%◌, ◌<◌, ◌≤◌, ◌⊎◌, inl, inr, List, [], ◌∷◌, ◌++◌, length, take, min, refl, sym, ◌∙◌, ap, subst, arith, slice_index, slice_set}
 use Rattle.std.specs.Prelude.{All}
 use Rattle.std.proofs.lemmas.List.{get_or-set_same, get_or-set_other, length-set, length-take}
 use Rattle.std.proofs.lemmas.Nat.{xor_of_8}
-use Rattle.sx_tag.specs.Mac.{Mac}
+use Rattle.sx_tag.specs.Mac.{Mac, IsTag}
 use Rattle.sx_tag.specs.Wrap.{wrapped, crypt, wrap_tag, xor_bytes, stream}
 use Rattle.sx_machine.specs.Memory.{bytes_from, put_bytes}
-use Rattle.sx_tag.specs.Mac.{IsTag}
 use Rattle.sx_invoke.specs.Windows as outside
 use Rattle.sx_tmpl.specs.Running.{cell}
 

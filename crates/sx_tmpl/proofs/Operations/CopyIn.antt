@@ -2,6 +2,8 @@
 use Rattle.sx_tmpl.specs.Assembly as asm
 use Rattle.sx_tmpl.specs.Assembly.{##◌, #◌, &◌, back, dec, inc, increment, jnz, mov, mov_b, r12, r13, r15, ◌⟨◌⟩}
 use Rattle.sx_tmpl.proofs.Running.Instructions.{step}
+use Rattle.sx_tmpl.proofs.Running.Loading.{loads}
+use Rattle.sx_tmpl.specs.Template as templates
 use Rattle.std.proofs.Common.{◌≡◌, ℕ, zero, suc, ◌+◌, ◌*◌, ◌%◌, ◌<◌, ◌≤◌, inl, inr, false, List, [], ◌∷◌, length, Option, Some, None, refl, sym, ◌∙◌, ap, subst, arith, slice_index}
 use Rattle.sx_isa.specs.declared.instruction.Op2.TheVariants as op2
 use Rattle.sx_rules.specs.declared.access.Violation.{Violation}
@@ -15,27 +17,22 @@ use Rattle.sx_bus.specs.Devices.{device_at}
 use Rattle.sx_rules.specs.declared.access.Access.TheVariants.{Read}
 use Rattle.sx_rules.specs.declared.access.Violation.TheVariants as bad
 use Rattle.sx_rules.specs.Access.{may, in_private}
-use Rattle.sx_invoke.specs.Windows.{unless_device, then_}
-use Rattle.sx_tmpl.proofs.Running.MidRun.{refused, device_refusal, PrivateByte}
+use Rattle.sx_invoke.specs.Windows.{unless_device, then_, read_byte, read_bytes}
+use Rattle.sx_tmpl.proofs.Running.MidRun.{refused, device_refusal, PrivateByte, Stands, Runs}
 use Rattle.sx_tmpl.proofs.Running.Owes.{Inside}
-use Rattle.sx_tmpl.proofs.Running.Holding.{IsRange, holds_byte}
-use Rattle.sx_invoke.specs.Windows.{read_byte, read_bytes}
+use Rattle.sx_tmpl.proofs.Running.Holding.{IsRange, holds_byte, data_word, holds_word}
 use Rattle.sx_tmpl.proofs.Running.Owned.{write_free}
-use Rattle.sx_machine.specs.Memory.{put_bytes}
-use Rattle.sx_tmpl.proofs.Running.Flags.{flags_stay}
-use Rattle.sx_machine.specs.Memory.{word}
+use Rattle.sx_machine.specs.Memory.{put_bytes, word}
+use Rattle.sx_tmpl.proofs.Running.Flags.{flags_stay, flags_after, equal, unequal}
 use Rattle.sx_invoke.specs.Marks.{Mark}
 use Rattle.sx_image.specs.Watched.{Watched}
 use Rattle.sx_tmpl.specs.Running.{Regs, Fixed, Data, running, Safe}
-use Rattle.sx_tmpl.proofs.Running.MidRun.{Stands, Runs}
 use Rattle.sx_tmpl.specs.Shows.{base_of, IsData, MemoryHolds}
 use Rattle.sx_tmpl.proofs.Running.Steps.{Text}
-use Rattle.sx_tmpl.proofs.Running.Flags.{flags_after, equal, unequal}
 use Rattle.sx_tmpl.proofs.Operations.Plain.{inside}
-use Rattle.sx_tmpl.proofs.Running.Holding.{data_word, holds_word}
 
 abbrev pub copy_in_words : ℕ → ℕ → ℕ → List ℕ
-copy_in_words base n o = 0x421c ∷ (base + 8) ∷ 0x403d ∷ (base + o) ∷ 0x403f ∷ n ∷ 0x4cfd ∷ 0 ∷ 0x531d ∷ 0x831f ∷ 0x23fb ∷ []
+copy_in_words base n o = templates.copy_in_words (base + 8) (base + o) n
 
 module _ (f : Fixed) (st : Stands f) (all : List Mark) (B : Watched → Violation → Type 0) (at : ℕ → ℕ) where
   byte_read : (ds : List Window) (m : List ℕ) (a : ℕ) → device_at ds a ≡ device_at f.devices a → refused f Read bad.Read a ≡ None → read_byte f.setup ds m a ≡ Ok (slice_index m a)
@@ -217,11 +214,8 @@ module _ (f : Fixed) (st : Stands f) (all : List Mark) (B : Watched → Violatio
         let stay = flags_stay r.sr in
         let p8 = data_word f st 8 (omega arith) refl (omega (arith, st.room)) in
         let is = holds_word f st at back stack priv outside r.sp d.mem 8 h refl (record { low = omega arith; beside = inl (omega arith) }) (omega (arith, st.room)) ∙ ew in
-        let e13 : (base_of f + from_) % 65536 ≡ base_of f + from_ = omega arith in
-        let e15 : count % 65536 ≡ suc n = omega arith in
         let r1 = record r { pc = P + 4; r12 = src } in
-        let r2 = record r1 { pc = P + 8; r13 = base_of f + from_ } in
-        let r3 = record r2 { pc = P + 12; r15 = suc n } in
+        let r2 = record r1 { pc = P + 12; r13 = base_of f + from_ } in
         step f st all B Q t 0 (mov (& (base_of f + 8)) r12) refl (omega arith) refl refl event.Quiet r d _ pc safe (
           base_of f + 8,
           refl,
@@ -233,21 +227,9 @@ module _ (f : Fixed) (st : Stands f) (all : List Mark) (B : Watched → Violatio
             rw stay refl,
             inside t 2 (omega arith),
             λ s1.
-                step f st all B Q t 2 (mov (## (base_of f + from_)) r13) refl (omega arith) refl refl event.Quiet r1 d _ refl s1
-                (λ kept. (
-                  r2,
-                  rw (stay, e13) refl,
-                  inside t 4 (omega arith),
-                  λ s2.
-                      step f st all B Q t 4 (mov (## count) r15) refl (omega arith) refl refl event.Quiet r2 d _ refl s2
-                      (λ kept. (
-                        r3,
-                        rw (stay, e15) refl,
-                        inside t 6 (omega arith),
-                        λ s3.
-                            copy_in_runs n r d r.sr src from_ j priv lt le free rg h s3 stop
-                            (λ bs e sr a s m2 h2 s4. done bs e (record r { pc = P + 22; sr = sr; r12 = a; r13 = s; r15 = 0 }) m2 refl refl h2 s4),
-                      )),
-                )),
+                loads f st all B Q t 2 ((## (base_of f + from_), 13) ∷ (## count, 15) ∷ []) refl (omega arith) refl (omega arith, (omega arith, tt)) r1 d _ r1.pc refl s1
+                (subst (λ (m : ℕ). Safe f all (running f (record r2 { r15 = m }) d) → Runs f all B Q (4 * suc n + j) (running f (record r2 { r15 = m }) d)) (sym ec)
+                (λ s3. copy_in_runs n r d r.sr src from_ j priv lt le free rg h s3 stop
+                (λ bs e sr a s m2 h2 s4. done bs e (record r { pc = P + 22; sr = sr; r12 = a; r13 = s; r15 = 0 }) m2 refl refl h2 s4))),
           ),
         )

@@ -1,11 +1,12 @@
 -- A copy of private bytes to a window outside, which the first refused byte ends.
-use Rattle.std.proofs.Common.{◌≡◌, ◌≢◌, ℕ, zero, suc, ◌+◌, ◌*◌, ◌%◌, ◌<◌, ◌≤◌, inl, inr, true, false, List, [], ◌∷◌, length, Option, Some, None, refl, sym, ◌∙◌, ap, subst, arith, slice_index}
-use Rattle.sx_isa.specs.declared.instruction.Operand.TheVariants.{Reg, Indexed, Increment, Const}
+use Rattle.std.proofs.Common.{◌≡◌, ◌≢◌, ℕ, zero, suc, ◌+◌, ◌*◌, ◌%◌, ◌<◌, ◌≤◌, inl, inr, List, [], ◌∷◌, length, Option, Some, None, refl, sym, ◌∙◌, ap, subst, arith, slice_index}
+use Rattle.sx_tmpl.specs.Assembly as asm
+use Rattle.sx_tmpl.specs.Assembly.{dec, inc, increment, jnz, mov_b, r12, r13, r15, ◌⟨◌⟩}
+use Rattle.sx_isa.specs.Spelling.{spelling}
 use Rattle.sx_isa.specs.declared.instruction.Op2.TheVariants as op2
-use Rattle.sx_isa.specs.declared.instruction.Instr.TheVariants.{Two, Jump}
 use Rattle.sx_rules.specs.declared.access.Violation.{Violation}
 use Rattle.sx_machine.specs.declared.kinds.Event.TheVariants as event
-use Rattle.std.specs.Prelude.{slice_set, Result, Ok, Err}
+use Rattle.std.specs.Prelude.{slice_set, Result, Ok, Err, drop, take}
 use Rattle.std.proofs.lemmas.Option.{none-some, same_Some}
 use Rattle.std.proofs.lemmas.Bool.{cases_Bool, true≢false}
 use Rattle.std.proofs.lemmas.List.{get_or-set_other}
@@ -15,7 +16,7 @@ use Rattle.sx_rules.specs.declared.access.Access.TheVariants.{Write}
 use Rattle.sx_rules.specs.declared.access.Violation.TheVariants as bad
 use Rattle.sx_rules.specs.Access.{may, in_private}
 use Rattle.sx_invoke.specs.Windows.{write_byte, write_bytes, unless_device, then_}
-use Rattle.sx_tmpl.proofs.Running.MidRun.{refused, device_refusal, PrivateByte, PrivateRange}
+use Rattle.sx_tmpl.proofs.Running.MidRun.{refused, device_refusal, PrivateByte, PrivateRange, Stands, Runs}
 use Rattle.sx_tmpl.proofs.Running.Owes.{Outside, let_through}
 use Rattle.sx_tmpl.proofs.Running.Owned.{read_free, in_private_yes}
 use Rattle.sx_tmpl.proofs.Operations.Bytes.{BytesAt, bytes_same}
@@ -23,13 +24,11 @@ use Rattle.sx_tmpl.proofs.Running.Holding.{holds_outside}
 use Rattle.sx_invoke.specs.Marks.{Mark}
 use Rattle.sx_image.specs.Watched.{Watched}
 use Rattle.sx_tmpl.specs.Running.{Regs, Fixed, Data, running, Safe}
-use Rattle.sx_tmpl.proofs.Running.MidRun.{Stands, Runs}
 use Rattle.sx_tmpl.specs.Shows.{MemoryHolds}
-use Rattle.sx_tmpl.proofs.Running.Steps.{Text, one, two}
+use Rattle.sx_tmpl.proofs.Running.Steps.{Text}
+use Rattle.sx_tmpl.proofs.Running.Instructions.{step}
 use Rattle.sx_tmpl.proofs.Running.Flags.{flags_after, equal, unequal}
-use Rattle.std.specs.Prelude.{negsuc, slice_get}
 use Rattle.sx_tmpl.proofs.Operations.Plain.{inside}
-use Rattle.sx_tmpl.proofs.Running.Words as w
 
 module _ (f : Fixed) (st : Stands f) (all : List Mark) (B : Watched → Violation → Type 0) (at : ℕ → ℕ) where
   -- what refuses a byte is what refuses it by the definitions of the windows
@@ -57,8 +56,8 @@ module _ (f : Fixed) (st : Stands f) (all : List Mark) (B : Watched → Violatio
 
   -- the loop: its four instructions stand from the k-th word on
   module _ (Q : Watched → Type 0) (P n k : ℕ) (ws : List ℕ) (t : Text f P n ws) (le : k + 5 ≤ n)
-      (g0 : slice_get ws k ≡ Some 0x4dfc) (g1 : slice_get ws (k + 1) ≡ Some 0) (g2 : slice_get ws (k + 2) ≡ Some 0x531c) (g3 : slice_get ws (k + 2 + 1) ≡ Some 0x831f)
-      (g4 : slice_get ws (k + 2 + 1 + 1) ≡ Some 0x23fb)
+      (i0 : take 2 (drop k ws) ≡ spelling (mov_b (increment r13) (0 ⟨ r12 ⟩))) (i1 : take 1 (drop (k + 2) ws) ≡ spelling (inc r12)) (i2 : take 1 (drop (k + 2 + 1) ws) ≡ spelling (dec r15))
+      (i3 : take 1 (drop (k + 2 + 1 + 1) ws) ≡ spelling (jnz (asm.back 5)))
       (ds : List Window) (same : (a : ℕ) → device_at ds a ≡ device_at f.devices a) (back : Option ℕ) (stack priv : List ℕ) where
     abbrev turn_at : Regs → ℕ → ℕ → ℕ → ℕ → Regs
     turn_at r sr dst src left = record r { pc = P + 2 * k; sr = sr; r12 = dst; r13 = src; r15 = left }
@@ -78,13 +77,13 @@ module _ (f : Fixed) (st : Stands f) (all : List Mark) (B : Watched → Violatio
         let r0 = record r { pc = P + 2 * (k + 2 + 1); sr = sr; r12 = dst; r13 = src; r15 = 1 } in
         let r1 = record r { pc = P + 2 * (k + 2 + 1 + 1); sr = sr1; r12 = dst; r13 = src; r15 = 0 } in
         let r2 = record r1 { pc = P + 2 * (k + 2 + 1 + 1 + 1) } in
-        one f st all B Q t (k + 2 + 1) 0x831f (λ x y. Two op2.Sub false (Const 1) (Reg 15)) g3 (omega arith) w.count_15 event.Quiet r0 d (suc j) refl safe
+        step f st all B Q t (k + 2 + 1) (dec r15) i2 (omega arith) refl refl event.Quiet r0 d (suc j) refl safe
         (λ kept. (
           r1,
           refl,
           inside t (k + 2 + 1 + 1) (omega arith),
           λ s1.
-              one f st all B Q t (k + 2 + 1 + 1) 0x23fb (λ x y. Jump 0 (negsuc 4)) g4 (omega arith) w.jne_back_5 event.Quiet r1 d j refl s1
+              step f st all B Q t (k + 2 + 1 + 1) (jnz (asm.back 5)) i3 (omega arith) refl refl event.Quiet r1 d j refl s1
               (λ kept. (r2, rw z refl, inside t (k + 2 + 1 + 1 + 1) (omega arith), after sr1)),
         ))
     count_down r d sr dst src (suc left) j lt safe after =
@@ -95,13 +94,13 @@ module _ (f : Fixed) (st : Stands f) (all : List Mark) (B : Watched → Violatio
         let r0 = record r { pc = P + 2 * (k + 2 + 1); sr = sr; r12 = dst; r13 = src; r15 = suc (suc left) } in
         let r1 = record r { pc = P + 2 * (k + 2 + 1 + 1); sr = sr1; r12 = dst; r13 = src; r15 = suc left } in
         let r2 = record r1 { pc = P + 2 * k } in
-        one f st all B Q t (k + 2 + 1) 0x831f (λ x y. Two op2.Sub false (Const 1) (Reg 15)) g3 (omega arith) w.count_15 event.Quiet r0 d (suc j) refl safe
+        step f st all B Q t (k + 2 + 1) (dec r15) i2 (omega arith) refl refl event.Quiet r0 d (suc j) refl safe
         (λ kept. (
           r1,
           rw less refl,
           inside t (k + 2 + 1 + 1) (omega arith),
           λ s1.
-              one f st all B Q t (k + 2 + 1 + 1) 0x23fb (λ x y. Jump 0 (negsuc 4)) g4 (omega arith) w.jne_back_5 event.Quiet r1 d j refl s1
+              step f st all B Q t (k + 2 + 1 + 1) (jnz (asm.back 5)) i3 (omega arith) refl refl event.Quiet r1 d j refl s1
               (λ kept. (r2, rw (z, to) refl, inside t k (omega arith), after sr1)),
         ))
 
@@ -126,7 +125,7 @@ module _ (f : Fixed) (st : Stands f) (all : List Mark) (B : Watched → Violatio
         let r1 = record r { pc = P + 2 * (k + 2); sr = sr1; r12 = dst; r13 = src + 1; r15 = suc left } in
         let r2 = record r1 { pc = P + 2 * (k + 2 + 1); sr = flags_after op2.Add 1 (dst % 65536) sr1; r12 = (dst % 65536 + 1 + 0) % 65536 } in
         let free = read_free f st src p in
-        two f st all B Q t k 0x4dfc 0 (λ x y. Two op2.Mov true (Increment 13) (Indexed 12 x)) g0 g1 (omega arith) w.move_byte_13_12 event.Quiet (turn_at r sr dst src (suc left)) d
+        step f st all B Q t k (mov_b (increment r13) (0 ⟨ r12 ⟩)) i0 (omega arith) refl refl event.Quiet (turn_at r sr dst src (suc left)) d
         (suc (suc (suc j))) refl safe (
           src,
           refl,
@@ -141,7 +140,7 @@ module _ (f : Fixed) (st : Stands f) (all : List Mark) (B : Watched → Violatio
               rw up refl,
               inside t (k + 2) (omega arith),
               λ s1.
-                  one f st all B Q t (k + 2) 0x531c (λ x y. Two op2.Add false (Const 1) (Reg 12)) g2 (omega arith) w.raise_12 event.Quiet r1 (record d { mem = m1 }) (suc (suc j)) refl s1
+                  step f st all B Q t (k + 2) (inc r12) i1 (omega arith) refl refl event.Quiet r1 (record d { mem = m1 }) (suc (suc j)) refl s1
                   (λ kept2. (
                     r2,
                     refl,

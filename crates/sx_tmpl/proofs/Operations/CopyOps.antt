@@ -1,50 +1,38 @@
 -- The copies as operations.
-use Rattle.sx_tmpl.specs.Assembly.{##◌, &◌, add, mov, pop, r12, r13, r15}
+use Rattle.sx_tmpl.specs.Assembly.{##◌, &◌, add, pop, r12, r13, r15}
 use Rattle.sx_tmpl.proofs.Running.Instructions.{step}
+use Rattle.sx_tmpl.proofs.Running.Loading.{loads}
+use Rattle.sx_tmpl.specs.Template as templates
 use Rattle.std.proofs.Common.{◌≡◌, ℕ, suc, ◌+◌, ◌*◌, ◌%◌, ◌<◌, ◌≤◌, inl, inr, Bool, true, false, not, ◌&&◌, cond, nat_le, nat_lt, cond, nat_le, nat_lt, List}
 use Rattle.std.proofs.Common.{[], ◌∷◌, length, refl, sym, ◌∙◌, ap, subst, arith}
-use Rattle.sx_reach.specs.Reach.{Here}
+use Rattle.sx_reach.specs.Reach.{Here, Goes, Stops}
 use Rattle.sx_isa.specs.declared.instruction.Op2.TheVariants as op2
 use Rattle.sx_rules.specs.declared.access.Violation.{Violation}
 use Rattle.sx_machine.specs.declared.kinds.Event.TheVariants as event
-use Rattle.std.specs.Prelude.{Result, Ok, Err}
-use Rattle.std.proofs.lemmas.Bool.{cases_Bool, true≢false}
+use Rattle.std.specs.Prelude.{Result, Ok, Err, nat_lt}
+use Rattle.std.proofs.lemmas.Bool.{cases_Bool, true≢false, or_right, and_from, or_left, leb-true, ltb-true, and_parts, cases_lt, lt-ltb}
 use Rattle.sx_rules.specs.Access.{in_private}
-use Rattle.sx_invoke.specs.Windows.{write_bytes}
+use Rattle.sx_invoke.specs.Windows.{write_bytes, read_bytes, is_bad_window}
 use Rattle.sx_tmpl.proofs.Running.Outcomes.{ok_err, ok_same, err_same}
-use Rattle.sx_tmpl.proofs.Running.Holding.{IsRange}
+use Rattle.sx_tmpl.proofs.Running.Holding.{IsRange, holds_from, stack_word, data_word, holds_pop, holds_word}
 use Rattle.sx_tmpl.proofs.Operations.Bytes.{BytesAt, stand_from}
 use Rattle.sx_tmpl.proofs.Operations.CopyLoop.{copy_runs}
 use Rattle.sx_tmpl.proofs.Operations.CopyIn.{copy_in_words, copy_in_whole}
 use Rattle.sx_tmpl.proofs.Operations.PacketOp.{Breaks}
 use Rattle.sx_tmpl.proofs.Operations.SealOps.{length_from}
-use Rattle.sx_ir.specs.Meaning.{copy_out, has_copy_room}
+use Rattle.sx_ir.specs.Meaning.{copy_out, has_copy_room, copy_in, copied_in, has_in_window, OperationResult, copied_out, saved, has_out_window, next}
 use Rattle.sx_invoke.specs.Pieces.{made_bytes}
-use Rattle.sx_tmpl.proofs.Running.Holding.{holds_from}
-use Rattle.sx_reach.specs.Reach.{Goes, Stops}
-use Rattle.sx_ir.specs.Conf.{Violates, Stuck}
-use Rattle.sx_invoke.specs.Windows.{read_bytes}
-use Rattle.std.proofs.lemmas.Bool.{or_right, and_from}
-use Rattle.sx_ir.specs.Meaning.{copy_in, copied_in, has_in_window, OperationResult, copied_out, saved, has_out_window}
+use Rattle.sx_ir.specs.Conf.{Violates, Stuck, Conf}
 use Rattle.sx_machine.specs.Ranges.{passes_end}
-use Rattle.sx_invoke.specs.Windows.{is_bad_window}
-use Rattle.std.proofs.lemmas.Bool.{or_left, leb-true, ltb-true, and_parts}
-use Rattle.sx_reach.specs.Reach.{Next, Ends}
 use Rattle.sx_machine.specs.Memory.{bytes_from, put_bytes}
-use Rattle.sx_tmpl.proofs.Running.Flags.{flags_stay}
+use Rattle.sx_tmpl.proofs.Running.Flags.{flags_stay, flags_after}
 use Rattle.sx_invoke.specs.Marks.{Mark}
 use Rattle.sx_image.specs.Watched.{Watched}
-use Rattle.sx_ir.specs.Conf.{Conf}
-use Rattle.sx_ir.specs.Meaning.{next}
 use Rattle.sx_tmpl.specs.Running.{Regs, Fixed, Data, running, Safe}
-use Rattle.sx_tmpl.proofs.Running.MidRun.{Stands, Runs}
+use Rattle.sx_tmpl.proofs.Running.MidRun.{Stands, Runs, later}
 use Rattle.sx_tmpl.specs.Shows.{base_of, MemoryHolds, ShowsConfiguration, Stood}
 use Rattle.sx_tmpl.proofs.Running.Steps.{Text}
-use Rattle.sx_tmpl.proofs.Running.Flags.{flags_after}
-use Rattle.std.specs.Prelude.{nat_lt}
-use Rattle.std.proofs.lemmas.Bool.{cases_lt, lt-ltb}
 use Rattle.sx_tmpl.proofs.Operations.Plain.{inside, Leads}
-use Rattle.sx_tmpl.proofs.Running.Holding.{stack_word, data_word, holds_pop, holds_word}
 
 -- an operation that may break: it goes on, breaks in a violation, or has no meaning
 pub data Ending (after : OperationResult) (Goes_on : Conf → Type 0) (Breaks_in : Violation → List Mark → Type 0) : Type 0 where
@@ -90,11 +78,6 @@ module _ (f : Fixed) (st : Stands f) (all : List Mark) (B : Watched → Violatio
       E : Violation → List Mark → Type 0
       E v m = Breaks f st all B at 11 (copy_in_words (base_of f) (suc n) o) (7 + 4 * suc n) c v m
 
-      weaker : (Q : Watched → Type 0) (j k : ℕ) (x : Watched) → j ≤ k → Runs f all B Q j x → Runs f all B Q k x
-      weaker Q j k x le (Here q) = Here q
-      weaker Q j k x le (Next {k = i} p e g r) = Next {k = i} p e (omega arith) r
-      weaker Q j k x le (Ends p e g b) = Ends p e (omega arith) b
-
       core : (Q : Watched → Type 0) → (has_in_window f.setup c && nat_le (suc n) 40) ≡ true → (r : Regs) (d : Data) → Text f (at c.place) 11 (copy_in_words (base_of f) (suc n) o)
           → at (c.place + 1) ≡ at c.place + 2 * 11 → ShowsConfiguration f at c r d → Safe f all (running f r d)
           → ((v : Violation) → W ≡ Err v → (w : Watched) → w.marks ≡ c.marks → B w v)
@@ -104,7 +87,7 @@ module _ (f : Fixed) (st : Stands f) (all : List Mark) (B : Watched → Violatio
           let small : suc n ≤ 40 = leb-true (suc n) 40 p.1 in
           let win = window_free f (saved c 13) 40 (omega arith) p.0 in
           let lim = win.0 in
-          weaker Q (suc (suc (suc (4 * suc n + 0)))) (7 + 4 * suc n) (running f r d) (omega arith)
+          later f all B Q (suc (suc (suc (4 * suc n + 0)))) (7 + 4 * suc n) (running f r d) (omega arith)
           (copy_in_whole f st all B at Q (at c.place) (suc n) o t d.devices safe.devices c.back c.stack c.mem r d (saved c 13) n 0 c.priv refl lt (omega arith)
           (λ a x y. win.1 a x (omega arith)) rg refl (omega (arith, sh.pc)) sh.holds safe
           (λ v e r2 m2. stop v (ap (λ ds. read_bytes f.setup ds c.mem (saved c 13) (suc n)) (sym sh.devices) ∙ e) (running f r2 (record d { mem = m2 })) sh.marks)
@@ -135,7 +118,7 @@ module _ (f : Fixed) (st : Stands f) (all : List Mark) (B : Watched → Violatio
       test false e = No_meaning refl
 
 abbrev pub copy_out_words : ℕ → ℕ → ℕ → List ℕ
-copy_out_words base n o = 0x413c ∷ 0x521c ∷ (base + 10) ∷ 0x403d ∷ (base + o) ∷ 0x403f ∷ n ∷ 0x4dfc ∷ 0 ∷ 0x531c ∷ 0x831f ∷ 0x23fb ∷ []
+copy_out_words base n o = templates.copy_out_words (base + 10) (base + o) n
 
 module _ (f : Fixed) (st : Stands f) (all : List Mark) (B : Watched → Violation → Type 0) (at : ℕ → ℕ) where
   -- CopyOut, where the piece lies where pieces go
@@ -162,11 +145,6 @@ module _ (f : Fixed) (st : Stands f) (all : List Mark) (B : Watched → Violatio
       E : Violation → List Mark → Type 0
       E x m = Breaks f st all B at 12 (copy_out_words (base_of f) (suc n) o) (8 + 4 * suc n) c1 x m
 
-      weaker : (Q : Watched → Type 0) (j k : ℕ) (x : Watched) → j ≤ k → Runs f all B Q j x → Runs f all B Q k x
-      weaker Q j k x le (Here q) = Here q
-      weaker Q j k x le (Next {k = i} p e g r) = Next {k = i} p e (omega arith) r
-      weaker Q j k x le (Ends p e g b) = Ends p e (omega arith) b
-
       -- the loop, by the list of the bytes
       loop : (Q : Watched → Type 0) (xs : List ℕ) → bytes_from c.priv o (suc n) ≡ xs → length xs ≡ suc n → saved c 14 + v < 65536 → (r : Regs) (d : Data) (sr : ℕ)
           → (t : Text f (at c.place) 12 (copy_out_words (base_of f) (suc n) o)) → d.devices ≡ c.devices → d.marks ≡ c.marks → BytesAt d.mem (base_of f + o) xs
@@ -183,8 +161,8 @@ module _ (f : Fixed) (st : Stands f) (all : List Mark) (B : Watched → Violatio
           let fits = rg.fits in
           let lo = rg.low in
           subst (λ k. Runs f all B Q (4 * k) (running f (record r { pc = at c.place + 14; sr = sr; r12 = saved c 14 + v; r13 = base_of f + o; r15 = k }) d)) lb
-          (weaker Q (4 * suc (length bs) + 0) (4 * suc (length bs)) _ (omega arith)
-          (copy_runs f st all B at Q (at c.place) 12 7 (copy_out_words (base_of f) (suc n) o) t (omega arith) refl refl refl refl refl d.devices safe.devices c.back rest c.priv bs b r d sr
+          (later f all B Q (4 * suc (length bs) + 0) (4 * suc (length bs)) _ (omega arith)
+          (copy_runs f st all B at Q (at c.place) 12 7 (copy_out_words (base_of f) (suc n) o) t (omega arith) refl refl refl refl d.devices safe.devices c.back rest c.priv bs b r d sr
           (saved c 14 + v) (base_of f + o) 0 c.mem (omega arith) w1 (omega arith)
           (record { low = omega arith; high = omega arith }) stand h
           (subst (λ k. Safe f all (running f (record r { pc = at c.place + 14; sr = sr; r12 = saved c 14 + v; r13 = base_of f + o; r15 = k }) d)) (sym lb) safe)
@@ -212,15 +190,11 @@ module _ (f : Fixed) (st : Stands f) (all : List Mark) (B : Watched → Violatio
           let p10 = data_word f st 10 (omega arith) refl (omega (arith, st.room)) in
           let is = holds_word f st at c.back (v ∷ rest) c.priv c.mem r.sp d.mem 10 h refl (record { low = omega arith; beside = inl (omega arith) }) (omega (arith, st.room)) in
           let sum : (v % 65536 + saved c 14 + 0) % 65536 ≡ saved c 14 + v = omega arith in
-          let e13 : (base_of f + o) % 65536 ≡ base_of f + o = omega arith in
-          let e15 : suc n % 65536 ≡ suc n = omega arith in
           let same : bytes_from d.mem (base_of f + o) (suc n) ≡ bytes = holds_from f st at c.back (v ∷ rest) c.priv c.mem r.sp d.mem o (suc n) h rg in
           let sr2 = flags_after op2.Add (saved c 14) (v % 65536) r.sr in
           let r1 = record r { pc = at c.place + 2; sp = r.sp + 2; r12 = v } in
           let r2 = record r1 { pc = at c.place + 6; sr = sr2; r12 = saved c 14 + v } in
-          let r3 = record r2 { pc = at c.place + 10; r13 = base_of f + o } in
-          let r4 = record r3 { pc = at c.place + 14; r15 = suc n } in
-          weaker Q (suc (suc (suc (suc (4 * suc n))))) (8 + 4 * suc n) (running f r d) (omega arith)
+          later f all B Q (suc (suc (suc (suc (4 * suc n))))) (8 + 4 * suc n) (running f r d) (omega arith)
           (step f st all B Q t 0 (pop r12) refl (omega arith) refl refl event.Quiet r d _ (omega (arith, sh.pc)) safe (
             r.sp,
             refl,
@@ -243,36 +217,17 @@ module _ (f : Fixed) (st : Stands f) (all : List Mark) (B : Watched → Violatio
                       rw sum refl,
                       inside t 3 (omega arith),
                       λ s2.
-                          step f st all B Q t 3 (mov (## (base_of f + o)) r13) refl (omega arith) refl refl event.Quiet r2 d _ refl s2
-                          (λ kept. (
-                            r3,
-                            rw (flags_stay sr2, e13) refl,
-                            inside t 5 (omega arith),
-                            λ s3.
-                                step f st all B Q t 5 (mov (## (suc n)) r15) refl (omega arith) refl refl event.Quiet r3 d _ refl s3
-                                (λ kept. (
-                                  r4,
-                                  rw (flags_stay sr2, e15) refl,
-                                  inside t 7 (omega arith),
-                                  λ s4.
-                                      loop Q bytes refl (length_from c.priv o (suc n)) (omega arith) r1 d sr2 t sh.devices sh.marks
-                                      (subst (λ l. BytesAt d.mem (base_of f + o) l) same (stand_from d.mem (base_of f + o) (suc n))) h1 s4 stop
-                                      (λ mem e r5 m2 pc5 h5 s5. done mem e (running f r5 (record d { mem = m2 }))
-                                      (record {
-                                        regs = r5;
-                                        rest = record d { mem = m2 };
-                                        state = refl;
-                                        safe = s5;
-                                        shows = record {
-                                          pc = pc5
-                                              ∙ omega (arith, on);
-                                          holds = h5;
-                                          devices = sh.devices;
-                                          marks = sh.marks;
-                                        };
-                                      })),
-                                )),
-                          )),
+                          loads f st all B Q t 3 ((## (base_of f + o), 13) ∷ (## (suc n), 15) ∷ []) refl (omega arith) refl (omega arith, (omega arith, tt)) r2 d _ r2.pc refl s2 (λ s4.
+                          loop Q bytes refl (length_from c.priv o (suc n)) (omega arith) r1 d sr2 t sh.devices sh.marks
+                          (subst (λ l. BytesAt d.mem (base_of f + o) l) same (stand_from d.mem (base_of f + o) (suc n))) h1 s4 stop
+                          (λ mem e r5 m2 pc5 h5 s5. done mem e (running f r5 (record d { mem = m2 }))
+                          (record {
+                            regs = r5;
+                            rest = record d { mem = m2 };
+                            state = refl;
+                            safe = s5;
+                            shows = record { pc = pc5 ∙ omega (arith, on); holds = h5; devices = sh.devices; marks = sh.marks };
+                          }))),
                     ),
                   ),
             ),

@@ -1,53 +1,45 @@
 -- The device's word: a write to an actuator and a read of a sensor, each with its mark.
+use Rattle.sx_isa.specs.Instructions.{first_word}
+use Rattle.sx_isa.specs.Standing.{words_of}
+use Rattle.sx_tmpl.specs.Assembly.{&◌, pop, push}
 use Rattle.std.proofs.Common.{◌≡◌, ℕ, zero, suc, ◌+◌, ◌-◌, ◌*◌, ◌%◌, ◌<◌, ◌≤◌, true, false, cond, List, [], ◌∷◌, ◌++◌, length, Some, refl, sym, ◌∙◌, ap, subst, arith}
-use Rattle.sx_reach.specs.Reach.{Here}
+use Rattle.sx_reach.specs.Reach.{Here, Next, Goes}
 use Rattle.sx_isa.specs.declared.instruction.Operand.TheVariants.{Increment, Absolute}
 use Rattle.sx_isa.specs.declared.instruction.Op2.TheVariants as op2
 use Rattle.sx_isa.specs.declared.instruction.Op1.TheVariants as op1
 use Rattle.sx_isa.specs.declared.instruction.Instr.TheVariants.{Two, One}
 use Rattle.sx_rules.specs.declared.access.Violation.{Violation}
 use Rattle.sx_machine.specs.declared.kinds.Event.TheVariants as event
-use Rattle.std.specs.Prelude.{slice_set, Ok}
+use Rattle.std.specs.Prelude.{slice_set, Ok, slice_get, ◌==◌}
 use Rattle.sx_bus.specs.declared.devices.Window.{Window}
-use Rattle.sx_bus.specs.Devices.{device_at}
-use Rattle.sx_reach.specs.Reach.{Next}
+use Rattle.sx_bus.specs.Devices.{device_at, on_word, with_changed, stale, cleared}
 use Rattle.sx_invoke.specs.Marks as mark
-use Rattle.sx_invoke.specs.Marks.{HasPrefix}
-use Rattle.sx_tmpl.proofs.Running.Steps.{text_word, tests_passed, plain_instruction, fetched, program_two, exec_own, by_outcome}
-use Rattle.sx_reach.specs.Reach.{Goes}
+use Rattle.sx_invoke.specs.Marks.{HasPrefix, Mark}
+use Rattle.sx_tmpl.proofs.Running.Steps.{text_word, tests_passed, plain_instruction, fetched, program_two, exec_own, by_outcome, Text, InText, Reads}
 use Rattle.std.proofs.lemmas.List.{append-nil}
 use Rattle.sx_isa.specs.declared.instruction.Instr.{Instr}
 use Rattle.sx_rules.specs.Access.{holder}
 use Rattle.sx_machine.specs.declared.kinds.Touch.{Touch}
 use Rattle.sx_machine.specs.declared.kinds.Touch.TheVariants.{DeviceRead, DeviceWrite}
 use Rattle.sx_bus.specs.declared.devices.Kind.TheVariants.{Sensor, Actuator}
-use Rattle.sx_bus.specs.Devices.{on_word, with_changed, stale, cleared}
 use Rattle.std.specs.List.{position_from}
 use Rattle.sx_machine.specs.Run.{Moment, Finished, untouched, with_touch, device_of, load, store, after_read, after_write}
-use Rattle.sx_image.specs.Watched.{marks_of_touches}
-use Rattle.sx_tmpl.proofs.Running.Owned.{may_read, may_write}
+use Rattle.sx_image.specs.Watched.{marks_of_touches, watch, Watched}
+use Rattle.sx_tmpl.proofs.Running.Owned.{may_read, may_write, own_above, run_holder}
 use Rattle.sx_tmpl.proofs.Running.Owes.{load_word, store_word, kept_word}
 use Rattle.sx_tmpl.proofs.Running.Mem.{even_is}
 use Rattle.sx_machine.specs.Step.{own_of, start, attempt}
-use Rattle.sx_image.specs.Watched.{watch}
-use Rattle.sx_tmpl.proofs.Running.Owned.{own_above, run_holder}
-use Rattle.sx_tmpl.proofs.Running.Flags.{flags_stay}
-use Rattle.sx_invoke.specs.Marks.{Mark}
-use Rattle.sx_image.specs.Watched.{Watched}
+use Rattle.sx_tmpl.proofs.Running.Flags.{flags_stay, flags_after}
 use Rattle.sx_ir.specs.Conf.{Conf}
 use Rattle.sx_ir.specs.Meaning.{next}
-use Rattle.sx_tmpl.specs.Running.{Regs, regs16, Fixed, Data, running, Safe, cell}
+use Rattle.sx_tmpl.specs.Running.{Regs, regs16, Fixed, Data, running, Safe, cell, OutsideKept}
 use Rattle.sx_tmpl.proofs.Running.MidRun.{Stands, Runs, put_cell}
 use Rattle.sx_tmpl.specs.Shows.{base_of, Stood}
 use Rattle.sx_machine.specs.Rows.{row}
 use Rattle.sx_machine.specs.Registers.{at_pc}
-use Rattle.sx_tmpl.specs.Running.{OutsideKept}
-use Rattle.sx_tmpl.proofs.Running.Steps.{Text, InText, Reads}
-use Rattle.sx_tmpl.proofs.Running.Flags.{flags_after}
-use Rattle.std.specs.Prelude.{slice_get, ◌==◌}
 use Rattle.std.proofs.lemmas.Bool.{eq-eqb, ne_eqb}
 use Rattle.sx_tmpl.proofs.Operations.Plain.{inside, Leads}
-use Rattle.sx_tmpl.proofs.Running.Words as words
+use Rattle.sx_tmpl.proofs.Running.Instructions.{reads_of}
 use Rattle.sx_tmpl.proofs.Running.Holding.{stack_word, holds_push, holds_pop}
 
 -- clearing a sensor's sample leaves where the devices are
@@ -132,7 +124,7 @@ module _ (f : Fixed) (st : Stands f) (all : List Mark) (B : Watched → Violatio
       rw (e0, m1, m2, found, kind, fresh) refl
 
   pub emit_leads : (c : Conf) (v i : ℕ) (w : Window) (rest : List ℕ) → device_of c.devices (base_of f) ≡ Some (i, w) → w.kind ≡ Actuator → HasPrefix all (c.marks ++ mark.Actuated i v ∷ [])
-      → Leads f st all B at 2 (0x41b2 ∷ base_of f ∷ []) 1 (record c { stack = v ∷ rest }) (record (next c rest) { marks = c.marks ++ mark.Actuated i v ∷ [] })
+      → Leads f st all B at 2 (words_of (pop (& (base_of f)) ∷ [])) 1 (record c { stack = v ∷ rest }) (record (next c rest) { marks = c.marks ++ mark.Actuated i v ∷ [] })
   emit_leads c v i w rest found kind begins r d t on sh safe =
       let Q = Stood f all at (record (next c rest) { marks = c.marks ++ mark.Actuated i v ∷ [] }) in
       let h = sh.holds in
@@ -150,7 +142,8 @@ module _ (f : Fixed) (st : Stands f) (all : List Mark) (B : Watched → Violatio
       ap (λ r. after_write r (λ y. Finished g y)) (store_actuator x (cell d.mem r.sp) i w here kind)
       ∙ ap (λ v. Finished g (record x { touches = with_touch untouched (DeviceWrite i v) })) is
       ∙ ap (λ g. Finished g (record x { touches = with_touch untouched (DeviceWrite i v) })) (rw (up, flags_stay r.sr) refl) in
-      let at_ = two_attempt f st all B Q t 0 0x41b2 (base_of f) (λ x y. Two op2.Mov false (Increment 1) (Absolute x)) refl refl (omega arith) words.pop_absolute r d (omega (arith, sh.pc)) safe
+      let at_ = two_attempt f st all B Q t 0 (first_word (pop (& 0))) (base_of f) (λ x y. Two op2.Mov false (Increment 1) (Absolute x)) refl refl (omega arith)
+      (reads_of (pop (& 0)) refl refl) r d (omega (arith, sh.pc)) safe
       ∙ ap (λ r. after_read r (λ v y. after_write (store f.setup.live f.setup.section.id true (base_of f) v y) (λ y. Finished g y))) (load_word f st r.sp r.sp x refl p1 safe.devices) ∙ done in
       let mk : d.marks ++ mark.Actuated i v ∷ [] ≡ c.marks ++ mark.Actuated i v ∷ [] = ap (λ l. l ++ mark.Actuated i v ∷ []) sh.marks in
       from_touched f st all B Q 0 r r2 d d.mem d.devices (with_touch untouched (DeviceWrite i v)) (mark.Actuated i v ∷ []) safe (record { from = omega (arith, sh.pc); to = omega (arith, sh.pc) })
@@ -167,7 +160,8 @@ module _ (f : Fixed) (st : Stands f) (all : List Mark) (B : Watched → Violatio
   -- the sensor's word is pushed: fresh, with its mark, and stale
   pub sense_fresh : (c : Conf) (i : ℕ) (w : Window) → device_of c.devices (base_of f) ≡ Some (i, w) → w.kind ≡ Sensor → w.fresh ≡ true → w.value < 32768 → length c.stack < 160
       → HasPrefix all (c.marks ++ mark.Sampled i w.value ∷ [])
-      → Leads f st all B at 2 (0x1212 ∷ base_of f ∷ []) 1 c (record (next c ((0x8000 + w.value) ∷ c.stack)) { devices = cleared c.devices i; marks = c.marks ++ mark.Sampled i w.value ∷ [] })
+      → Leads f st all B at 2 (words_of (push (& (base_of f)) ∷ [])) 1 c
+      (record (next c ((0x8000 + w.value) ∷ c.stack)) { devices = cleared c.devices i; marks = c.marks ++ mark.Sampled i w.value ∷ [] })
   sense_fresh c i w found kind fresh lv room begins r d t on sh safe =
       let Q = Stood f all at (record (next c ((0x8000 + w.value) ∷ c.stack)) { devices = cleared c.devices i; marks = c.marks ++ mark.Sampled i w.value ∷ [] }) in
       let h = sh.holds in
@@ -185,7 +179,8 @@ module _ (f : Fixed) (st : Stands f) (all : List Mark) (B : Watched → Violatio
       let same : (a : ℕ) → device_at (cleared d.devices i) a ≡ device_at f.devices a = λ a. at_cleared d.devices i 0 a ∙ safe.devices a in
       let g : List ℕ = at_pc (slice_set (at_pc (regs16 f r) (at c.place + 2)) 1 ((r.sp + 65534) % 65536)) (at c.place + 4) in
       let m2 = put_cell d.mem sp v in
-      let at_ = two_attempt f st all B Q t 0 0x1212 (base_of f) (λ x y. One op1.Push false (Absolute x)) refl refl (omega arith) words.push_absolute r d (omega (arith, sh.pc)) safe
+      let at_ = two_attempt f st all B Q t 0 (first_word (push (& 0))) (base_of f) (λ x y. One op1.Push false (Absolute x)) refl refl (omega arith)
+      (reads_of (push (& 0)) refl refl) r d (omega (arith, sh.pc)) safe
       ∙ ap (λ r_. after_read r_ (λ v y. after_write (store f.setup.live f.setup.section.id true ((r.sp + 65534) % 65536) v y) (λ y. Finished g y))) (load_fresh x i w here kind fresh)
       ∙ ap (λ o. after_write o (λ y. Finished g y)) (store_word f st ((r.sp + 65534) % 65536) sp v y down pr same)
       ∙ ap (λ g. Finished g (record y { mem = m2 })) (rw down refl) in
@@ -207,7 +202,7 @@ module _ (f : Fixed) (st : Stands f) (all : List Mark) (B : Watched → Violatio
       }))
 
   pub sense_stale : (c : Conf) (i : ℕ) (w : Window) → device_of c.devices (base_of f) ≡ Some (i, w) → w.kind ≡ Sensor → w.fresh ≡ false → length c.stack < 160
-      → Leads f st all B at 2 (0x1212 ∷ base_of f ∷ []) 1 c (next c (0 ∷ c.stack))
+      → Leads f st all B at 2 (words_of (push (& (base_of f)) ∷ [])) 1 c (next c (0 ∷ c.stack))
   sense_stale c i w found kind fresh room r d t on sh safe =
       let Q = Stood f all at (next c (0 ∷ c.stack)) in
       let h = sh.holds in
@@ -222,7 +217,8 @@ module _ (f : Fixed) (st : Stands f) (all : List Mark) (B : Watched → Violatio
       let here : device_of d.devices (base_of f) ≡ Some (i, w) = ap (λ ds. device_of ds (base_of f)) sh.devices ∙ found in
       let g : List ℕ = at_pc (slice_set (at_pc (regs16 f r) (at c.place + 2)) 1 ((r.sp + 65534) % 65536)) (at c.place + 4) in
       let m2 = put_cell d.mem sp 0 in
-      let at_ = two_attempt f st all B Q t 0 0x1212 (base_of f) (λ x y. One op1.Push false (Absolute x)) refl refl (omega arith) words.push_absolute r d (omega (arith, sh.pc)) safe
+      let at_ = two_attempt f st all B Q t 0 (first_word (push (& 0))) (base_of f) (λ x y. One op1.Push false (Absolute x)) refl refl (omega arith)
+      (reads_of (push (& 0)) refl refl) r d (omega (arith, sh.pc)) safe
       ∙ ap (λ r_. after_read r_ (λ v y. after_write (store f.setup.live f.setup.section.id true ((r.sp + 65534) % 65536) v y) (λ y. Finished g y))) (load_stale x i w here kind fresh)
       ∙ ap (λ o. after_write o (λ y. Finished g y)) (store_word f st ((r.sp + 65534) % 65536) sp 0 x down pr safe.devices)
       ∙ ap (λ g. Finished g (record x { mem = m2 })) (rw down refl) in

@@ -1,9 +1,10 @@
 -- The entry: from any registers to the first configuration.
+use Rattle.sx_isa.specs.Instructions.{first_word}
 use Rattle.sx_tmpl.specs.Assembly.{##◌, &◌, mov, r12, r13, r14, r15, sp}
-use Rattle.sx_tmpl.proofs.Running.Instructions.{step}
+use Rattle.sx_tmpl.proofs.Running.Instructions.{reads_of, step}
 use Rattle.sx_tmpl.specs.Template.{entry_words}
 use Rattle.std.proofs.Common.{◌≡◌, ◌≢◌, ℕ, suc, ◌+◌, ◌-◌, ◌*◌, ◌%◌, ◌<◌, ◌≤◌, inl, inr, true, false, cond, List, [], length, None, refl, sym, ◌∙◌, ap, arith, slice_index}
-use Rattle.sx_reach.specs.Reach.{Here}
+use Rattle.sx_reach.specs.Reach.{Here, Next, Ends, Goes}
 use Rattle.sx_isa.specs.declared.instruction.Operand.TheVariants.{Reg, Absolute}
 use Rattle.sx_isa.specs.declared.instruction.Op2.TheVariants as op2
 use Rattle.sx_isa.specs.declared.instruction.Instr.TheVariants.{Two}
@@ -12,41 +13,27 @@ use Rattle.sx_machine.specs.declared.kinds.Event.{Event}
 use Rattle.sx_machine.specs.declared.kinds.Event.TheVariants as event
 use Rattle.sx_bus.specs.Devices.{device_at}
 use Rattle.sx_rules.specs.declared.access.Violation.TheVariants as bad
-use Rattle.sx_rules.specs.Access.{in_private}
-use Rattle.sx_tmpl.proofs.Running.Mem.{put_word_is, word_is, length-put}
-use Rattle.sx_tmpl.proofs.Running.Holding.{same_word}
-use Rattle.sx_reach.specs.Reach.{Next, Ends}
-use Rattle.sx_tmpl.proofs.Running.Steps.{text_word, fetched, program_two, by_outcome}
-use Rattle.sx_reach.specs.Reach.{Goes}
+use Rattle.sx_rules.specs.Access.{in_private, holder, in_order}
+use Rattle.sx_tmpl.proofs.Running.Mem.{put_word_is, word_is, length-put, even_is, get-put_other}
+use Rattle.sx_tmpl.proofs.Running.Holding.{same_word, outside_stays, data_word, holds_store}
+use Rattle.sx_tmpl.proofs.Running.Steps.{text_word, fetched, program_two, by_outcome, Text, InText, Then, NoTell}
 use Rattle.std.proofs.lemmas.List.{append-nil}
-use Rattle.sx_rules.specs.Access.{holder}
 use Rattle.sx_machine.specs.Run.{Outcome, Finished, Violated, Module}
-use Rattle.sx_rules.specs.Access.{in_order}
 use Rattle.sx_machine.specs.Step.{own_of, start, attempt, instruction, ordered, word_outside, entered_from}
-use Rattle.sx_tmpl.proofs.Running.Mem.{even_is, get-put_other}
-use Rattle.sx_tmpl.proofs.Running.Holding.{outside_stays}
-use Rattle.std.proofs.lemmas.Bool.{and_from}
-use Rattle.sx_image.specs.Watched.{watch}
-use Rattle.sx_tmpl.specs.Running.{sections_of}
+use Rattle.std.proofs.lemmas.Bool.{and_from, eq-eqb, ne_eqb}
+use Rattle.sx_image.specs.Watched.{watch, Watched}
+use Rattle.sx_tmpl.specs.Running.{sections_of, Regs, regs16, Fixed, Data, running, Safe, cell, OutsideKept}
 use Rattle.sx_tmpl.proofs.Running.Owned.{own_above, run_holder, run_outside, entry_in_order, in_public_yes}
-use Rattle.sx_tmpl.proofs.Running.Owes.{Met, owes_met}
+use Rattle.sx_tmpl.proofs.Running.Owes.{Met, owes_met, Owes}
 use Rattle.sx_tmpl.proofs.Running.Flags.{flags_stay}
 use Rattle.sx_machine.specs.Memory.{word, put_word}
 use Rattle.sx_invoke.specs.Marks.{Mark}
-use Rattle.sx_image.specs.Watched.{Watched}
-use Rattle.sx_tmpl.specs.Running.{Regs, regs16, Fixed, Data, running, Safe, cell}
 use Rattle.sx_tmpl.proofs.Running.MidRun.{Stands, Runs, put_cell}
 use Rattle.sx_tmpl.specs.Shows.{base_of, IsData, MemoryHolds, Stood}
 use Rattle.sx_machine.specs.Rows.{row}
 use Rattle.sx_machine.specs.Registers.{at_pc}
-use Rattle.sx_tmpl.specs.Running.{OutsideKept}
-use Rattle.sx_tmpl.proofs.Running.Owes.{Owes}
-use Rattle.sx_tmpl.proofs.Running.Steps.{Text, InText, Then, NoTell}
 use Rattle.std.specs.Prelude.{◌==◌}
-use Rattle.std.proofs.lemmas.Bool.{eq-eqb, ne_eqb}
 use Rattle.sx_tmpl.proofs.Operations.Plain.{inside}
-use Rattle.sx_tmpl.proofs.Running.Words as w
-use Rattle.sx_tmpl.proofs.Running.Holding.{data_word, holds_store}
 
 -- the node as it enters the module: no module runs, PC is the entry, and the last instruction showed whatever it did
 abbrev pub entering : Fixed → Regs → Data → ℕ → ℕ → Event → Watched
@@ -106,7 +93,9 @@ module _ (f : Fixed) (st : Stands f) (all : List Mark) (B : Watched → Violatio
       let s = (entering f r d last caller e).node in
       let x = start s in
       let next : (r.pc + 2) % 65536 ≡ P + 2 * (0 + 1) = omega arith in
-      let i0 : cell d.mem r.pc ≡ 0x4182 = text_word f st all B Q d.mem r.pc 0x4182 safe.memory here ends (ap (cell f.entered) (omega arith) ∙ t.word 0 0x4182 refl) in
+      let w = first_word (mov sp (& 0)) in
+      let reads = reads_of (mov sp (& 0)) refl refl in
+      let i0 : cell d.mem r.pc ≡ w = text_word f st all B Q d.mem r.pc w safe.memory here ends (ap (cell f.entered) (omega arith) ∙ t.word 0 w refl) in
       let i1 : cell d.mem (P + 2 * (0 + 1)) ≡ base_of f + 148 = text_word f st all B Q d.mem (P + 2 * (0 + 1)) (base_of f + 148) safe.memory (omega arith) (omega arith)
       (t.word (0 + 1) (base_of f + 148) refl) in
       let got = fetched f st all B Q ((r.pc + 2) % 65536) (P + 2 * (0 + 1)) (base_of f + 148) x next (omega arith) (omega arith) (omega arith) safe.devices i1 in
@@ -117,13 +106,13 @@ module _ (f : Fixed) (st : Stands f) (all : List Mark) (B : Watched → Violatio
       let ord : in_order f.setup.live 0 r.pc ≡ true = ap (in_order f.setup.live 0) pc ∙ entry_in_order f st 0 (omega arith) in
       let out : word_outside f.setup.live r.pc ≡ true = rw e0 (and_from _ _ o1 o2) in
       let own : own_of s ≡ f.setup.section.id = run_holder f st r.pc here (omega arith) in
-      let w0 : word d.mem r.pc ≡ 0x4182 = word_is d.mem r.pc ev ∙ i0 in
-      let plain = w.put_sp.plain in
+      let w0 : word d.mem r.pc ≡ w = word_is d.mem r.pc ev ∙ i0 in
+      let plain = reads.plain in
       let at_ = ap (λ b. cond b (ordered f.setup.mac s (device_at d.devices r.pc)) (Violated bad.Fetch)) out
       ∙ ap (ordered f.setup.mac s) dev
       ∙ ap (λ b. cond b (instruction f.setup.mac s) (Violated bad.Order)) ord
       ∙ rw (w0, own) refl
-      ∙ program_two f st all B Q 0x4182 (base_of f + 148) (λ x y. Two op2.Mov false (Reg 1) (Absolute x)) (regs16 f r) x w.put_sp got in
+      ∙ program_two f st all B Q w (base_of f + 148) (λ x y. Two op2.Mov false (Reg 1) (Absolute x)) (regs16 f r) x reads got in
       from_entry j r d last caller e _ safe (record { from = here; to = omega arith }) from at_
       (owes_met f st (Then f st all B Q j d) (NoTell f st all B Q) (B (entering f r d last caller e))
       (row (Two op2.Mov false (Reg 1) (Absolute (base_of f + 148))) (at_pc (regs16 f r) ((r.pc + 2) % 65536)) ((r.pc + 4) % 65536)) x safe.devices safe.memory owed)

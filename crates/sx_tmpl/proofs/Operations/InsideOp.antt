@@ -1,12 +1,13 @@
 -- The test of the return address, whose violation is an illegal word.
+use Rattle.sx_tmpl.specs.Template as templates
 use Rattle.sx_tmpl.specs.Assembly.{##◌, &◌, ahead, cmp, jc, jnc, mov, r12}
 use Rattle.sx_tmpl.proofs.Running.Instructions.{step}
 use Rattle.std.proofs.Common.{◌≡◌, ℕ, suc, ◌+◌, ◌*◌, ◌%◌, ◌<◌, ◌≤◌, inl, inr, Bool, true, false, cond, nat_le, cond, nat_le, List, [], ◌∷◌, Some, refl, sym, ◌∙◌, ap, subst, arith}
-use Rattle.sx_reach.specs.Reach.{Here}
+use Rattle.sx_reach.specs.Reach.{Here, Goes, Stops, Ends}
 use Rattle.sx_isa.specs.declared.instruction.Op2.TheVariants as op2
 use Rattle.sx_rules.specs.declared.access.Violation.{Violation}
 use Rattle.sx_machine.specs.declared.kinds.Event.TheVariants as event
-use Rattle.std.proofs.lemmas.Bool.{true≢false}
+use Rattle.std.proofs.lemmas.Bool.{true≢false, and_from, cases_lt, lt-ltb, le-ltb, le-leb, lt-leb, and_left, and_right}
 use Rattle.sx_rules.specs.declared.access.Violation.TheVariants as bad
 use Rattle.sx_tmpl.proofs.Operations.PacketOp.{Breaks}
 use Rattle.sx_tmpl.proofs.Operations.CopyOps.{Ending, Goes_to, Breaks_off}
@@ -16,26 +17,16 @@ use Rattle.sx_machine.specs.Run.{exec, Violated}
 use Rattle.sx_machine.specs.Rows.{program}
 use Rattle.sx_machine.specs.Step.{start, attempt}
 use Rattle.sx_isa.specs.Reading.{length_of, instruction_at}
-use Rattle.sx_image.specs.Watched.{watch}
-use Rattle.sx_tmpl.specs.Running.{sections_of}
-use Rattle.sx_tmpl.proofs.Running.Steps.{text_word, tests_passed, plain_instruction}
-use Rattle.sx_reach.specs.Reach.{Goes, Stops}
-use Rattle.sx_ir.specs.Conf.{Violates}
-use Rattle.std.proofs.lemmas.Bool.{and_from}
-use Rattle.sx_ir.specs.Meaning.{saved}
-use Rattle.sx_reach.specs.Reach.{Ends}
-use Rattle.sx_tmpl.proofs.Running.Flags.{flags_stay}
+use Rattle.sx_image.specs.Watched.{watch, Watched}
+use Rattle.sx_tmpl.specs.Running.{sections_of, Regs, regs16, Fixed, Data, running, Safe, cell}
+use Rattle.sx_tmpl.proofs.Running.Steps.{text_word, tests_passed, plain_instruction, Text}
+use Rattle.sx_ir.specs.Conf.{Violates, Conf}
+use Rattle.sx_ir.specs.Meaning.{saved, next}
+use Rattle.sx_tmpl.proofs.Running.Flags.{flags_stay, flags_after, no_borrow, borrow}
 use Rattle.sx_invoke.specs.Marks.{Mark}
-use Rattle.sx_image.specs.Watched.{Watched}
-use Rattle.sx_ir.specs.Conf.{Conf}
-use Rattle.sx_ir.specs.Meaning.{next}
-use Rattle.sx_tmpl.specs.Running.{Regs, regs16, Fixed, Data, running, Safe, cell}
 use Rattle.sx_tmpl.proofs.Running.MidRun.{Stands, Runs}
 use Rattle.sx_tmpl.specs.Shows.{base_of, MemoryHolds, ShowsConfiguration, Stood}
-use Rattle.sx_tmpl.proofs.Running.Steps.{Text}
-use Rattle.sx_tmpl.proofs.Running.Flags.{flags_after, no_borrow, borrow}
 use Rattle.std.specs.Prelude.{slice_get}
-use Rattle.std.proofs.lemmas.Bool.{cases_lt, lt-ltb, le-ltb, le-leb, lt-leb, and_left, and_right}
 use Rattle.sx_tmpl.proofs.Operations.Plain.{inside, Leads}
 use Rattle.sx_tmpl.proofs.Running.Holding.{data_word, holds_word, cell_below}
 
@@ -61,7 +52,7 @@ module _ (f : Fixed) (st : Stands f) (all : List Mark) (B : Watched → Violatio
       Ends safe (rw at_ refl) (omega arith) b
 
 abbrev pub inside_words : Fixed → List ℕ
-inside_words f = 0x421c ∷ (base_of f + 12) ∷ 0x903c ∷ f.setup.section.layout.pub_from ∷ 0x2804 ∷ 0x903c ∷ f.setup.section.layout.pub_to ∷ 0x2c01 ∷ 0 ∷ []
+inside_words f = templates.inside_words (base_of f + 12) f.setup.section.layout.pub_from f.setup.section.layout.pub_to
 
 module _ (f : Fixed) (st : Stands f) (all : List Mark) (B : Watched → Violation → Type 0) (at : ℕ → ℕ) where
   core : (Q : Watched → Type 0) (c : Conf) (r : Regs) (d : Data) → Text f (at c.place) 9 (inside_words f) → ShowsConfiguration f at c r d → Safe f all (running f r d)

@@ -1,19 +1,19 @@
 -- The return to the caller.
-use Rattle.sx_tmpl.specs.Assembly.{&◌, clr, mov, pop, r10, r11, r12, r13, r14, r15, r4, r5, r6, r7, r8, r9, sp, sr}
-use Rattle.sx_tmpl.proofs.Running.Instructions.{step}
+use Rattle.sx_isa.specs.Instructions.{first_word}
+use Rattle.sx_tmpl.specs.Assembly.{#◌, &◌, br, clr, mov, pop, r12, r13, sp, sr}
+use Rattle.sx_tmpl.proofs.Running.Instructions.{reads_of, step}
+use Rattle.sx_tmpl.proofs.Running.Loading.{loads}
 use Rattle.sx_tmpl.specs.Template.{leave_words}
 use Rattle.std.proofs.Common.{◌≡◌, ℕ, suc, ◌+◌, ◌-◌, ◌*◌, ◌%◌, ◌<◌, ◌≤◌, inl, inr, Bool, true, false, List, [], ◌∷◌, length, Some, refl, sym, ◌∙◌, ap, arith}
-use Rattle.sx_reach.specs.Reach.{Here}
+use Rattle.sx_reach.specs.Reach.{Here, Next, Ends, Goes}
 use Rattle.sx_isa.specs.declared.instruction.Operand.TheVariants.{Reg, Absolute}
 use Rattle.sx_isa.specs.declared.instruction.Op2.TheVariants as op2
 use Rattle.sx_isa.specs.declared.instruction.Instr.TheVariants.{Two}
 use Rattle.sx_rules.specs.declared.access.Violation.{Violation}
 use Rattle.sx_machine.specs.declared.kinds.Event.TheVariants as event
 use Rattle.std.proofs.lemmas.Option.{same_Some}
-use Rattle.std.proofs.lemmas.Bool.{true≢false}
-use Rattle.sx_reach.specs.Reach.{Next, Ends}
-use Rattle.sx_tmpl.proofs.Running.Steps.{text_word, tests_passed, plain_instruction, fetched, program_two, onward_to, by_outcome}
-use Rattle.sx_reach.specs.Reach.{Goes}
+use Rattle.std.proofs.lemmas.Bool.{true≢false, cases_eq, eq-eqb, ne_eqb}
+use Rattle.sx_tmpl.proofs.Running.Steps.{text_word, tests_passed, plain_instruction, fetched, program_two, onward_to, by_outcome, Text, InText, NoTell}
 use Rattle.std.proofs.lemmas.List.{append-nil}
 use Rattle.sx_isa.specs.declared.instruction.Instr.{Instr}
 use Rattle.sx_rules.specs.declared.section.Section.{Section}
@@ -21,27 +21,20 @@ use Rattle.sx_rules.specs.Access.{Lives, holder, in_public}
 use Rattle.sx_rules.proofs.Placing.{placed_found}
 use Rattle.sx_machine.specs.Run.{Outcome, Finished, Violated, Module}
 use Rattle.sx_machine.specs.Step.{own_of, start, attempt}
-use Rattle.sx_image.specs.Watched.{watch}
+use Rattle.sx_image.specs.Watched.{watch, Watched}
 use Rattle.sx_ir.specs.Meaning.{saved}
-use Rattle.sx_tmpl.specs.Running.{sections_of}
+use Rattle.sx_tmpl.specs.Running.{sections_of, Regs, regs16, Fixed, Data, running, Safe, cell, OutsideKept}
 use Rattle.sx_tmpl.proofs.Running.Owned.{own_above, run_holder}
 use Rattle.sx_tmpl.proofs.Running.Owes.{Met, owes_met}
-use Rattle.sx_tmpl.proofs.Running.Flags.{flags_stay}
+use Rattle.sx_tmpl.proofs.Running.Flags.{flags_stay, flags_after}
 use Rattle.sx_invoke.specs.Marks.{Mark}
-use Rattle.sx_image.specs.Watched.{Watched}
 use Rattle.sx_ir.specs.Conf.{Conf}
-use Rattle.sx_tmpl.specs.Running.{Regs, regs16, Fixed, Data, running, Safe, cell}
 use Rattle.sx_tmpl.proofs.Running.MidRun.{Stands, Runs}
 use Rattle.sx_tmpl.specs.Shows.{base_of, IsData, MemoryHolds, ShowsConfiguration}
 use Rattle.sx_machine.specs.Rows.{row}
 use Rattle.sx_machine.specs.Registers.{at_pc}
-use Rattle.sx_tmpl.specs.Running.{OutsideKept}
-use Rattle.sx_tmpl.proofs.Running.Steps.{Text, InText, NoTell}
-use Rattle.sx_tmpl.proofs.Running.Flags.{flags_after}
 use Rattle.std.specs.Prelude.{slice_get, ◌==◌}
-use Rattle.std.proofs.lemmas.Bool.{cases_eq, eq-eqb, ne_eqb}
 use Rattle.sx_tmpl.proofs.Operations.Plain.{inside}
-use Rattle.sx_tmpl.proofs.Running.Words as w
 use Rattle.sx_tmpl.proofs.Running.Holding.{stack_word, data_word, holds_word}
 
 -- what holds a byte is a live section with it in its public part
@@ -123,7 +116,7 @@ pub record Departed (f : Fixed) (at : ℕ → ℕ) (c : Conf) (status count : �
 
 module _ (f : Fixed) (st : Stands f) (all : List Mark) (B : Watched → Violation → Type 0) (at : ℕ → ℕ) where
   -- the last instruction: MOV &return, PC
-  return_out : (Q : Watched → Type 0) {P n : ℕ} {ws : List ℕ} (t : Text f P n ws) (k : ℕ) → slice_get ws k ≡ Some 0x4210 → slice_get ws (k + 1) ≡ Some (base_of f + 12) → k + 2 ≤ n
+  return_out : (Q : Watched → Type 0) {P n : ℕ} {ws : List ℕ} (t : Text f P n ws) (k : ℕ) → slice_get ws k ≡ Some (first_word (br (& 0))) → slice_get ws (k + 1) ≡ Some (base_of f + 12) → k + 2 ≤ n
       → (r : Regs) (d : Data) (back : ℕ) → r.pc ≡ P + 2 * k → Safe f all (running f r d)
       → cell d.mem (base_of f + 12) ≡ back → in_public f.setup.section (back - back % 2) ≡ false → r.sr ≡ 0 → (OutsideKept f d.mem → Q (exited f (record r { pc = back - back % 2; sr = 0 }) d))
       → Runs f all B Q 1 (running f r d)
@@ -138,12 +131,14 @@ module _ (f : Fixed) (st : Stands f) (all : List Mark) (B : Watched → Violatio
       let next : (r.pc + 2) % 65536 ≡ P + 2 * (k + 1) = onward_to f st all B Q r.pc (P + 2 * (k + 1)) 2 (omega arith) (omega arith) in
       let x = start (running f r d).node in
       let ii : ℕ → ℕ → Instr = λ x y. Two op2.Mov false (Absolute x) (Reg 0) in
-      let i0 : cell d.mem r.pc ≡ 0x4210 = text_word f st all B Q d.mem r.pc 0x4210 safe.memory here ends (ap (cell f.entered) pc ∙ t.word k 0x4210 has) in
+      let w = first_word (br (& 0)) in
+      let reads = reads_of (br (& 0)) refl refl in
+      let i0 : cell d.mem r.pc ≡ w = text_word f st all B Q d.mem r.pc w safe.memory here ends (ap (cell f.entered) pc ∙ t.word k w has) in
       let i1 : cell d.mem (P + 2 * (k + 1)) ≡ base_of f + 12 = text_word f st all B Q d.mem (P + 2 * (k + 1)) (base_of f + 12) safe.memory (omega arith) (omega arith)
       (t.word (k + 1) (base_of f + 12) has1) in
       let got = fetched f st all B Q ((r.pc + 2) % 65536) (P + 2 * (k + 1)) (base_of f + 12) x next (omega arith) (omega arith) (omega arith) safe.devices i1 in
-      let at_ = tests_passed f st all B Q event.Quiet r d safe here ends ev ∙ plain_instruction f st all B Q event.Quiet r d 0x4210 here ends ev i0 w.goto_stored.plain
-      ∙ program_two f st all B Q 0x4210 (base_of f + 12) ii (regs16 f r) x w.goto_stored got in
+      let at_ = tests_passed f st all B Q event.Quiet r d safe here ends ev ∙ plain_instruction f st all B Q event.Quiet r d w here ends ev i0 reads.plain
+      ∙ program_two f st all B Q w (base_of f + 12) ii (regs16 f r) x reads got in
       let p12 = data_word f st 12 (omega arith) refl (omega (arith, st.room)) in
       let r2 = record r { pc = back - back % 2; sr = 0 } in
       let stay : flags_after op2.Mov 0 0 r.sr ≡ 0 = flags_stay r.sr ∙ sr0 in
@@ -170,16 +165,8 @@ module _ (f : Fixed) (st : Stands f) (all : List Mark) (B : Watched → Violatio
       let spe : f.sp - f.sp % 2 ≡ f.sp = omega (arith, sp_even) in
       let r1 = record r { pc = at c.place + 2; sp = r.sp + 2; r13 = count } in
       let q0 = record r1 { pc = at c.place + 4; sp = r.sp + 4; r12 = status } in
-      let q1 = record q0 { pc = at c.place + 6; r4 = 0 } in
-      let q2 = record q1 { pc = at c.place + 8; r5 = 0 } in
-      let q3 = record q2 { pc = at c.place + 10; r6 = 0 } in
-      let q4 = record q3 { pc = at c.place + 12; r7 = 0 } in
-      let q5 = record q4 { pc = at c.place + 14; r8 = 0 } in
-      let q6 = record q5 { pc = at c.place + 16; r9 = 0 } in
-      let q7 = record q6 { pc = at c.place + 18; r10 = 0 } in
-      let q8 = record q7 { pc = at c.place + 20; r11 = 0 } in
-      let q9 = record q8 { pc = at c.place + 22; r14 = 0 } in
-      let q10 = record q9 { pc = at c.place + 24; r15 = 0 } in
+      let q10 = record q0 { pc = at c.place + 24; r4 = 0; r5 = 0; r6 = 0; r7 = 0; r8 = 0; r9 = 0; r10 = 0; r11 = 0; r14 = 0; r15 = 0 } in
+      let z : 0 < 65536 = omega arith in
       let q11 = record q10 { pc = at c.place + 26; sr = 0 } in
       let q12 = record q11 { pc = at c.place + 30; sp = f.sp } in
       step f st all B Q t 0 (pop r13) refl (omega arith) refl refl event.Quiet r d 14 (omega (arith, sh.pc)) safe (
@@ -204,107 +191,31 @@ module _ (f : Fixed) (st : Stands f) (all : List Mark) (B : Watched → Violatio
                   rw (up2, stay) refl,
                   inside t 2 (omega arith),
                   λ z0.
-                      step f st all B Q t 2 (clr r4) refl (omega arith) refl refl event.Quiet q0 d 12 refl z0
+                      loads f st all B Q t 2
+                      ((# 0, 4) ∷ (# 0, 5) ∷ (# 0, 6) ∷ (# 0, 7) ∷ (# 0, 8) ∷ (# 0, 9) ∷ (# 0, 10) ∷ (# 0, 11) ∷ (# 0, 14) ∷ (# 0, 15) ∷ []) refl (omega arith) refl
+                      (z, (z, (z, (z, (z, (z, (z, (z, (z, (z, tt)))))))))) q0 d 3 q0.pc refl z0 (λ z10.
+                      step f st all B Q t 12 (clr sr) refl (omega arith) refl refl event.Quiet q10 d 2 refl z10
                       (λ kept. (
-                        q1,
-                        rw stay refl,
-                        inside t 3 (omega arith),
-                        λ z1.
-                            step f st all B Q t 3 (clr r5) refl (omega arith) refl refl event.Quiet q1 d 11 refl z1
-                            (λ kept. (
-                              q2,
-                              rw stay refl,
-                              inside t 4 (omega arith),
-                              λ z2.
-                                  step f st all B Q t 4 (clr r6) refl (omega arith) refl refl event.Quiet q2 d 10 refl z2
-                                  (λ kept. (
-                                    q3,
-                                    rw stay refl,
-                                    inside t 5 (omega arith),
-                                    λ z3.
-                                        step f st all B Q t 5 (clr r7) refl (omega arith) refl refl event.Quiet q3 d 9 refl z3
-                                        (λ kept. (
-                                          q4,
-                                          rw stay refl,
-                                          inside t 6 (omega arith),
-                                          λ z4.
-                                              step f st all B Q t 6 (clr r8) refl (omega arith) refl refl event.Quiet q4 d 8 refl z4
-                                              (λ kept. (
-                                                q5,
-                                                rw stay refl,
-                                                inside t 7 (omega arith),
-                                                λ z5.
-                                                    step f st all B Q t 7 (clr r9) refl (omega arith) refl refl event.Quiet q5 d 7 refl z5
-                                                    (λ kept. (
-                                                      q6,
-                                                      rw stay refl,
-                                                      inside t 8 (omega arith),
-                                                      λ z6.
-                                                          step f st all B Q t 8 (clr r10) refl (omega arith) refl refl event.Quiet q6 d 6 refl z6
-                                                          (λ kept. (
-                                                            q7,
-                                                            rw stay refl,
-                                                            inside t 9 (omega arith),
-                                                            λ z7.
-                                                                step f st all B Q t 9 (clr r11) refl (omega arith) refl refl event.Quiet q7 d 5 refl z7
-                                                                (λ kept. (
-                                                                  q8,
-                                                                  rw stay refl,
-                                                                  inside t 10 (omega arith),
-                                                                  λ z8.
-                                                                      step f st all B Q t 10 (clr r14) refl (omega arith) refl refl event.Quiet q8 d 4 refl z8
-                                                                      (λ kept. (
-                                                                        q9,
-                                                                        rw stay refl,
-                                                                        inside t 11 (omega arith),
-                                                                        λ z9.
-                                                                            step f st all B Q t 11 (clr r15) refl (omega arith) refl refl event.Quiet q9 d 3 refl z9
-                                                                            (λ kept. (
-                                                                              q10,
-                                                                              rw stay refl,
-                                                                              inside t 12 (omega arith),
-                                                                              λ z10.
-                                                                                  step f st all B Q t 12 (clr sr) refl (omega arith) refl refl event.Quiet q10 d 2 refl z10
-                                                                                  (λ kept. (
-                                                                                    q11,
-                                                                                    refl,
-                                                                                    inside t 13 (omega arith),
-                                                                                    λ z11.
-                                                                                        step f st all B Q t 13 (mov (& (base_of f + 148)) sp) refl (omega arith) refl refl event.Quiet q11 d 1 refl z11 (
-                                                                                          base_of f + 148,
-                                                                                          refl,
-                                                                                          p148,
-                                                                                          f.sp,
-                                                                                          h.entry_sp,
-                                                                                          λ kept. (
-                                                                                            q12,
-                                                                                            rw spe refl,
-                                                                                            inside t 15 (omega arith),
-                                                                                            λ z12.
-                                                                                                return_out Q t 15 refl refl (omega arith) q12 d (saved c 15) refl z12 back out refl
-                                                                                                (λ kept. record {
-                                                                                                  rest = d;
-                                                                                                  state = refl;
-                                                                                                  kept = kept;
-                                                                                                  sp = r.sp;
-                                                                                                  holds = h;
-                                                                                                  devices =
-                                                                                                      sh.devices;
-                                                                                                  marks = sh.marks;
-                                                                                                }),
-                                                                                          ),
-                                                                                        ),
-                                                                                  )),
-                                                                            )),
-                                                                      )),
-                                                                )),
-                                                          )),
-                                                    )),
-                                              )),
-                                        )),
-                                  )),
-                            )),
-                      )),
+                        q11,
+                        refl,
+                        inside t 13 (omega arith),
+                        λ z11.
+                            step f st all B Q t 13 (mov (& (base_of f + 148)) sp) refl (omega arith) refl refl event.Quiet q11 d 1 refl z11 (
+                              base_of f + 148,
+                              refl,
+                              p148,
+                              f.sp,
+                              h.entry_sp,
+                              λ kept. (
+                                q12,
+                                rw spe refl,
+                                inside t 15 (omega arith),
+                                λ z12.
+                                    return_out Q t 15 refl refl (omega arith) q12 d (saved c 15) refl z12 back out refl
+                                    (λ kept. record { rest = d; state = refl; kept = kept; sp = r.sp; holds = h; devices = sh.devices; marks = sh.marks }),
+                              ),
+                            ),
+                      ))),
                 ),
               ),
         ),

@@ -1,35 +1,31 @@
 -- The test of a window.
+use Rattle.sx_tmpl.specs.Template as templates
 use Rattle.sx_tmpl.specs.Assembly.{##◌, #◌, &◌, ahead, cmp, jc, jmp, jnc, mov, push, r12}
 use Rattle.sx_tmpl.proofs.Running.Instructions.{step}
 use Rattle.std.proofs.Common.{◌≡◌, ℕ, suc, ◌+◌, ◌-◌, ◌%◌, ◌<◌, ◌≤◌, inl, inr, Bool, true, false, ◌&&◌, nat_lt, nat_lt, List, [], ◌∷◌, length, refl, sym, subst, arith}
 use Rattle.sx_isa.specs.declared.instruction.Op2.TheVariants as op2
 use Rattle.sx_rules.specs.declared.access.Violation.{Violation}
 use Rattle.sx_machine.specs.declared.kinds.Event.TheVariants as event
-use Rattle.std.proofs.lemmas.Bool.{or_right, and_from}
-use Rattle.sx_ir.specs.Meaning.{saved}
+use Rattle.std.proofs.lemmas.Bool.{or_right, and_from, or_left, cases_lt, lt-ltb, le-ltb, and_right}
+use Rattle.sx_ir.specs.Meaning.{saved, next}
 use Rattle.sx_machine.specs.Ranges.{passes_end}
 use Rattle.sx_invoke.specs.Windows.{is_bad_window}
-use Rattle.std.proofs.lemmas.Bool.{or_left}
 use Rattle.sx_mean.specs.Working as working
-use Rattle.sx_tmpl.proofs.Running.Flags.{flags_stay}
+use Rattle.sx_tmpl.proofs.Running.Flags.{flags_stay, flags_after, no_borrow, borrow}
 use Rattle.sx_invoke.specs.Marks.{Mark}
 use Rattle.sx_image.specs.Watched.{Watched}
 use Rattle.sx_ir.specs.Conf.{Conf}
-use Rattle.sx_ir.specs.Meaning.{next}
 use Rattle.sx_tmpl.specs.Running.{Regs, Fixed, running, Safe}
 use Rattle.sx_tmpl.proofs.Running.MidRun.{Stands, Runs, put_cell}
 use Rattle.sx_tmpl.specs.Shows.{base_of, MemoryHolds, Stood}
-use Rattle.sx_tmpl.proofs.Running.Flags.{flags_after, no_borrow, borrow}
 use Rattle.std.specs.Prelude.{nat_lt}
-use Rattle.std.proofs.lemmas.Bool.{cases_lt, lt-ltb, le-ltb, and_right}
 use Rattle.sx_tmpl.proofs.Operations.Plain.{inside, Leads, stood}
 use Rattle.sx_tmpl.proofs.Running.Holding.{stack_word, data_word, holds_push, holds_word, cell_below}
 use Rattle.sx_lists.specs.Truth.{truth}
 
 abbrev pub meets_words : Fixed → ℕ → ℕ → List ℕ
 meets_words f r n =
-    0x421c ∷ (base_of f + working.saved_at r) ∷ 0x903c ∷ (65537 - n) ∷ 0x2c06 ∷ 0x903c ∷ f.setup.section.layout.priv_to ∷ 0x2c05
-    ∷ 0x903c ∷ (f.setup.section.layout.priv_from + 1 - n) ∷ 0x2802 ∷ 0x1213 ∷ 0x3c01 ∷ 0x1203 ∷ []
+    templates.meets_words (base_of f + working.saved_at r) f.setup.section.layout.priv_from f.setup.section.layout.priv_to n
 
 -- how the three comparisons decide
 bad_end : (f : Fixed) (x n : ℕ) → 65537 - n ≤ x → n < 65536 → is_bad_window f.setup x n ≡ true

@@ -1,8 +1,9 @@
 -- The product, by a loop of sixteen turns.
-use Rattle.sx_tmpl.specs.Assembly.{##◌, add, ahead, back, clr, dec, jnc, jnz, mov, pop, push, r12, r13, r14, r15, rla}
+use Rattle.sx_tmpl.specs.Assembly.{##◌, #◌, add, ahead, back, dec, jnc, jnz, pop, push, r12, r13, r14, r15, rla}
+use Rattle.sx_tmpl.specs.Template.{multiply_words}
+use Rattle.sx_tmpl.proofs.Running.Loading.{loads}
 use Rattle.sx_tmpl.proofs.Running.Instructions.{step}
-use Rattle.std.proofs.Common.{◌≡◌, ℕ, zero, suc, ◌+◌, ◌*◌, ◌/◌, ◌%◌, ◌<◌, ◌≤◌, true, false, List, [], ◌∷◌, length, refl, ◌∙◌, ap, subst, arith}
-use Rattle.sx_reach.specs.Reach.{Here}
+use Rattle.std.proofs.Common.{◌≡◌, ℕ, zero, suc, ◌+◌, ◌*◌, ◌/◌, ◌%◌, ◌<◌, true, false, List, [], ◌∷◌, length, refl, ◌∙◌, ap, subst, arith}
 use Rattle.sx_isa.specs.declared.instruction.Op2.TheVariants as op2
 use Rattle.sx_alu.specs.Status.{flags_of}
 use Rattle.sx_lang.specs.declared.tree.BinOp.TheVariants as binary
@@ -14,19 +15,15 @@ use Rattle.sx_image.specs.Watched.{Watched}
 use Rattle.sx_ir.specs.Conf.{Conf}
 use Rattle.sx_ir.specs.Meaning.{next}
 use Rattle.sx_tmpl.specs.Running.{Regs, Fixed, Data, running, Safe}
-use Rattle.sx_tmpl.proofs.Running.MidRun.{Stands, Runs, put_cell}
+use Rattle.sx_tmpl.proofs.Running.MidRun.{Stands, Runs, later, put_cell}
 use Rattle.sx_tmpl.proofs.Running.Steps.{Text}
 use Rattle.sx_tmpl.proofs.Running.Flags.{flags_stay, carried, not_carried, flags_after, equal, unequal}
 use Rattle.sx_tmpl.proofs.Operations.Plain.{inside, Leads, stood}
 use Rattle.sx_tmpl.proofs.Running.Holding.{stack_word, holds_pop, holds_replace, cell_below}
-use Rattle.sx_reach.specs.Reach.{Next, Ends}
 use Rattle.sx_tmpl.proofs.Operations.Product.{turn, turns, product_is}
 
-abbrev pub mul_words : List ℕ
-mul_words = 0x413c ∷ 0x413d ∷ 0x430e ∷ 0x403f ∷ 16 ∷ 0x5e0e ∷ 0x5c0c ∷ 0x2801 ∷ 0x5d0e ∷ 0x831f ∷ 0x23fa ∷ 0x120e ∷ []
-
 module _ (f : Fixed) (st : Stands f) (all : List Mark) (B : Watched → Violation → Type 0) (Q : Watched
-    → Type 0) (P : ℕ) (t : Text f P 12 mul_words) (d : Data) (r0 : Regs) (x : ℕ) (lx : x < 65536) where
+    → Type 0) (P : ℕ) (t : Text f P 12 multiply_words) (d : Data) (r0 : Regs) (x : ℕ) (lx : x < 65536) where
   abbrev pub turn_at : ℕ → ℕ → ℕ → ℕ → ℕ → Watched
   turn_at i sr a acc n = running f (record r0 { pc = P + 2 * i; sr = sr; r12 = a; r13 = x; r14 = acc; r15 = n }) d
 
@@ -36,11 +33,6 @@ module _ (f : Fixed) (st : Stands f) (all : List Mark) (B : Watched → Violatio
   abbrev behind : ℕ → ℕ
   behind zero = 11
   behind (suc n) = 5
-
-  more : (n m : ℕ) (c : Watched) → n ≤ m → R n c → R m c
-  more n m c le (Here q) = Here q
-  more n m c le (Next {k = j} p e h r) = Next {k = j} p e (omega arith) r
-  more n m c le (Ends p e h b) = Ends p e (omega arith) b
 
   -- one turn's end: the count falls, and a jump leads back unless it is 0
   count_down : (sr a acc n j : ℕ) → n < 65535 → Safe f all (turn_at 9 sr a acc (suc n)) → ((sr : ℕ) → Safe f all (turn_at (behind n) sr a acc n) → R j (turn_at (behind n) sr a acc n))
@@ -85,7 +77,7 @@ module _ (f : Fixed) (st : Stands f) (all : List Mark) (B : Watched → Violatio
       let no_ : (flags_of sr).c ≡ false = ap (λ r. (flags_of r).c) isr ∙ not_carried s e sr0 (omega arith) in
       let to : (P + 16 + 2) % 65536 ≡ P + 18 = omega (arith, t.to, st.below) in
       let r = record r0 { pc = P + 14; sr = sr; r12 = a; r13 = x; r14 = dbl; r15 = suc n } in
-      more (suc (suc (suc j))) (suc (suc (suc (suc j)))) _ (omega arith)
+      later f all B Q (suc (suc (suc j))) (suc (suc (suc (suc j)))) _ (omega arith)
       (step f st all B Q t 7 (jnc (ahead 1)) refl (omega arith) refl refl event.Quiet r d (suc (suc j)) refl safe
       (λ kept. (record r { pc = P + 18 }, rw (no_, to) refl, inside t 9 (omega arith), λ s1. count_down sr a dbl n j lt s1 after)))
   add_or_not (suc zero) sr sr0 s e a acc n j is isr ls le la lt safe after =
@@ -148,7 +140,7 @@ module _ (f : Fixed) (st : Stands f) (all : List Mark) (B : Watched → Violatio
       (turn_lt ((a + a) / 65536) acc) s2 after))
 
 module _ (f : Fixed) (st : Stands f) (all : List Mark) (B : Watched → Violation → Type 0) (at : ℕ → ℕ) where
-  pub mul_leads : (c : Conf) (x y : ℕ) (rest : List ℕ) → Leads f st all B at 12 mul_words 101 (record c { stack = y ∷ x ∷ rest }) (next c (combine binary.Mul x y ∷ rest))
+  pub mul_leads : (c : Conf) (x y : ℕ) (rest : List ℕ) → Leads f st all B at 12 multiply_words 101 (record c { stack = y ∷ x ∷ rest }) (next c (combine binary.Mul x y ∷ rest))
   mul_leads c x y rest r d t on sh safe =
       let h = sh.holds in
       let top = h.top in
@@ -163,8 +155,7 @@ module _ (f : Fixed) (st : Stands f) (all : List Mark) (B : Watched → Violatio
       let z = combine binary.Mul x y in
       let r1 = record r { pc = at c.place + 2; sp = r.sp + 2; r12 = y } in
       let r2 = record r1 { pc = at c.place + 4; sp = r.sp + 4; r13 = x } in
-      let r3 = record r2 { pc = at c.place + 6; r14 = 0 } in
-      let r4 = record r3 { pc = at c.place + 10; r15 = 16 } in
+      let r4 = record r2 { pc = at c.place + 10; r14 = 0; r15 = 16 } in
       let h1 = holds_pop f st at c.back y (x ∷ rest) c.priv c.mem r.sp d.mem h in
       step f st all B _ t 0 (pop r12) refl (omega arith) refl refl event.Quiet r d 100 (omega (arith, sh.pc)) safe (
         r.sp,
@@ -188,42 +179,29 @@ module _ (f : Fixed) (st : Stands f) (all : List Mark) (B : Watched → Violatio
                   rw (up2, stay) refl,
                   inside t 2 (omega arith),
                   λ s2.
-                      step f st all B _ t 2 (clr r14) refl (omega arith) refl refl event.Quiet r2 d 98 refl s2
-                      (λ kept. (
-                        r3,
-                        rw stay refl,
-                        inside t 3 (omega arith),
-                        λ s3.
-                            step f st all B _ t 3 (mov (## 16) r15) refl (omega arith) refl refl event.Quiet r3 d 97 refl s3
-                            (λ kept. (
-                              r4,
-                              rw stay refl,
-                              inside t 5 (omega arith),
-                              λ s4.
-                                  all_turns f st all B _ (at c.place) t d r4 x lx 15 r.sr y 0 1 (omega arith) ly (omega arith) s4 (λ sr a2 s5.
-                                  let v = turns 16 y 0 x in
-                                  let is : v ≡ z = product_is y x ly in
-                                  let cut : v % 65536 ≡ z = omega arith in
-                                  let r5 = record r4 { pc = at c.place + 22; sr = sr; r12 = a2; r13 = x; r14 = v; r15 = 0 } in
-                                  let r6 = record r5 { pc = at c.place + 24; sp = r.sp + 2 } in
-                                  step f st all B _ t 11 (push r14) refl (omega arith) refl refl event.Quiet r5 d 0 refl s5 (
-                                    r.sp + 2,
-                                    down,
-                                    p2,
-                                    z,
-                                    cut,
-                                    omega arith,
-                                    λ kept. (
-                                      r6,
-                                      rw down refl,
-                                      inside t 12 (omega arith),
-                                      λ s6.
-                                          stood f st all B at (next c (z ∷ rest)) r6 (put_cell d.mem (r.sp + 2) z) d 0 s6 (omega (arith, on))
-                                          (holds_replace f st at c.back x z rest c.priv c.mem (r.sp + 2) d.mem safe.memory h1) sh.devices sh.marks,
-                                    ),
-                                  )),
-                            )),
-                      )),
+                      loads f st all B _ t 2 ((# 0, 14) ∷ (## 16, 15) ∷ []) refl (omega arith) refl (omega arith, (omega arith, tt)) r2 d 97 r2.pc refl s2 (λ s4.
+                      all_turns f st all B _ (at c.place) t d r4 x lx 15 r.sr y 0 1 (omega arith) ly (omega arith) s4 (λ sr a2 s5.
+                      let v = turns 16 y 0 x in
+                      let is : v ≡ z = product_is y x ly in
+                      let cut : v % 65536 ≡ z = omega arith in
+                      let r5 = record r4 { pc = at c.place + 22; sr = sr; r12 = a2; r13 = x; r14 = v; r15 = 0 } in
+                      let r6 = record r5 { pc = at c.place + 24; sp = r.sp + 2 } in
+                      step f st all B _ t 11 (push r14) refl (omega arith) refl refl event.Quiet r5 d 0 refl s5 (
+                        r.sp + 2,
+                        down,
+                        p2,
+                        z,
+                        cut,
+                        omega arith,
+                        λ kept. (
+                          r6,
+                          rw down refl,
+                          inside t 12 (omega arith),
+                          λ s6.
+                              stood f st all B at (next c (z ∷ rest)) r6 (put_cell d.mem (r.sp + 2) z) d 0 s6 (omega (arith, on))
+                              (holds_replace f st at c.back x z rest c.priv c.mem (r.sp + 2) d.mem safe.memory h1) sh.devices sh.marks,
+                        ),
+                      ))),
                 ),
               ),
         ),

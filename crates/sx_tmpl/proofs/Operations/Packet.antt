@@ -1,29 +1,26 @@
 -- The routine of an end's packet.
 use Rattle.sx_tmpl.specs.Assembly as asm
-use Rattle.sx_tmpl.specs.Assembly.{##◌, #◌, &◌, add, ahead, cmp, inc, increment, jz, mov, pc, pop, r10, r11, r12, r13, r14, r15, r9, sp, tst, ◌⟨◌⟩}
+use Rattle.sx_tmpl.specs.Assembly.{##◌, #◌, &◌, ◌⟨◌⟩, add, ahead, cmp, inc, jz, mov, pc, r10, r11, r12, r13, r14, r15, r9, rla, sp, tst}
 use Rattle.sx_tmpl.proofs.Running.Instructions.{step}
+use Rattle.sx_tmpl.proofs.Running.Loading.{loads}
 use Rattle.sx_tmpl.specs.Template.{routine_words}
-use Rattle.std.proofs.Common.{◌≡◌, ℕ, suc, ◌+◌, ◌-◌, ◌*◌, ◌/◌, ◌%◌, ◌<◌, ◌≤◌, inl, inr, Bool, true, false, not, ◌&&◌, List, [], ◌∷◌, ◌++◌}
-use Rattle.std.proofs.Common.{length, Option, Some, refl, sym, ◌∙◌, ap, subst, arith}
-use Rattle.sx_reach.specs.Reach.{Here}
-use Rattle.sx_isa.specs.declared.instruction.Operand.TheVariants.{Reg}
+use Rattle.std.proofs.Common.{◌≡◌, ℕ, suc, ◌+◌, ◌-◌, ◌*◌, ◌/◌, ◌%◌, ◌<◌, ◌≤◌, inl, inr, Bool, true, false, not, ◌&&◌, List, [], ◌∷◌, ◌++◌, length, Option, refl, sym, ◌∙◌, ap, subst, arith}
+use Rattle.sx_isa.specs.Spelling.{spelling}
 use Rattle.sx_isa.specs.declared.instruction.Op2.TheVariants as op2
-use Rattle.sx_isa.specs.declared.instruction.Instr.TheVariants.{Two}
 use Rattle.sx_rules.specs.declared.access.Violation.{Violation}
 use Rattle.sx_machine.specs.declared.kinds.Event.{Event}
 use Rattle.sx_machine.specs.declared.kinds.Event.TheVariants as event
-use Rattle.std.specs.Prelude.{Ok, Err}
+use Rattle.std.specs.Prelude.{Ok, Err, drop, take, nat_lt, ◌==◌}
 use Rattle.sx_invoke.specs.Windows.{write_bytes}
-use Rattle.sx_tmpl.proofs.Running.MidRun.{PrivateRange, PrivateWord}
+use Rattle.sx_tmpl.proofs.Running.MidRun.{PrivateRange, PrivateWord, Stands, Runs, later, put_cell}
 use Rattle.sx_tmpl.proofs.Running.Mem.{cell-put_other, put_word_is, word_is, length-put}
-use Rattle.sx_tmpl.proofs.Running.Holding.{same_word, holds_under, holds_under_bytes}
+use Rattle.sx_tmpl.proofs.Running.Holding.{same_word, holds_under, holds_under_bytes, stack_word, data_word, holds_pop, holds_store, holds_word, cell_below}
 use Rattle.sx_tag.specs.Mac.{IsTag}
 use Rattle.sx_tmpl.proofs.Operations.Bytes.{BytesAt, bytes_same, bytes_append, bytes_put, put_bytes_other, pair, six, bytes_agree, cipher_bytes, tag_bytes, length_cipher}
 use Rattle.sx_tmpl.proofs.Operations.Bytes.{length_tag, length-put_bytes, stand_from}
 use Rattle.sx_tmpl.proofs.Operations.CopyLoop.{copy_runs}
-use Rattle.sx_reach.specs.Reach.{Next, Ends}
 use Rattle.sx_machine.specs.declared.kinds.Exchange.{Exchange}
-use Rattle.sx_machine.specs.Memory.{bytes_from, put_bytes}
+use Rattle.sx_machine.specs.Memory.{bytes_from, put_bytes, word, put_word}
 use Rattle.sx_tag.specs.Wrap.{wrapped}
 use Rattle.sx_mean.specs.Offsets as offsets
 use Rattle.sx_mean.specs.Working as working
@@ -31,23 +28,15 @@ use Rattle.sx_invoke.specs.ModuleState.{EndState, end_state}
 use Rattle.sx_invoke.specs.Windows as windows
 use Rattle.sx_invoke.specs.Acts.{event_header, event_packet}
 use Rattle.sx_invoke.specs.Marks as mark
-use Rattle.sx_invoke.specs.Marks.{HasPrefix}
-use Rattle.sx_tmpl.specs.Running.{running_after}
-use Rattle.sx_tmpl.proofs.Running.Flags.{flags_stay}
+use Rattle.sx_invoke.specs.Marks.{HasPrefix, Mark}
+use Rattle.sx_tmpl.specs.Running.{running_after, Regs, Fixed, Data, running, Safe, cell}
+use Rattle.sx_tmpl.proofs.Running.Flags.{flags_stay, flags_after, equal, unequal}
 use Rattle.sx_tmpl.proofs.Operations.Sealing.{KeyIn, Buffers, wrap_as}
-use Rattle.sx_machine.specs.Memory.{word, put_word}
-use Rattle.sx_invoke.specs.Marks.{Mark}
 use Rattle.sx_image.specs.Watched.{Watched}
-use Rattle.sx_tmpl.specs.Running.{Regs, Fixed, Data, running, Safe, cell}
-use Rattle.sx_tmpl.proofs.Running.MidRun.{Stands, Runs, put_cell}
 use Rattle.sx_tmpl.specs.Shows.{base_of, IsData, MemoryHolds}
-use Rattle.sx_tmpl.proofs.Running.Steps.{Text, InText, one}
-use Rattle.sx_tmpl.proofs.Running.Flags.{flags_after, equal, unequal}
-use Rattle.std.specs.Prelude.{slice_get, nat_lt, ◌==◌}
+use Rattle.sx_tmpl.proofs.Running.Steps.{Text, InText}
 use Rattle.std.proofs.lemmas.Bool.{cases_eq, lt-ltb, le-ltb, eq-eqb, ne_eqb}
 use Rattle.sx_tmpl.proofs.Operations.Plain.{inside}
-use Rattle.sx_tmpl.proofs.Running.Words as w
-use Rattle.sx_tmpl.proofs.Running.Holding.{stack_word, data_word, holds_pop, holds_store, holds_word, cell_below}
 
 -- an end is ready to send
 abbrev pub is_ready : EndState → Bool
@@ -57,11 +46,6 @@ module _ (f : Fixed) (st : Stands f) (all : List Mark) (B : Watched → Violatio
     → Type 0) (k A : ℕ) (t : Text f A 56 (routine_words (base_of f) k)) (back : Option ℕ) (priv : List ℕ) (slot : offsets.end_at k + 24 ≤ length priv) where
   abbrev R : ℕ → Watched → Type 0
   R n c = Runs f all B Q n c
-
-  more : (n m : ℕ) (c : Watched) → n ≤ m → R n c → R m c
-  more n m c le (Here q) = Here q
-  more n m c le (Next {k = j} p e h r) = Next {k = j} p e (omega arith) r
-  more n m c le (Ends p e h b) = Ends p e (omega arith) b
 
   abbrev H : List ℕ → List ℕ → ℕ → List ℕ → Type 0
   H stack outside sp m = MemoryHolds f at back stack priv outside sp m
@@ -112,7 +96,7 @@ module _ (f : Fixed) (st : Stands f) (all : List Mark) (B : Watched → Violatio
                       record r { pc = A + 110; sr = sr1 },
                       rw (equal 0 open_ r.sr (omega arith) z, to) refl,
                       inside t 55 (omega arith),
-                      λ s2. more j (suc (suc j)) _ (omega arith)
+                      λ s2. later f all B Q j (suc (suc j)) _ (omega arith)
                           (skip no_ sr1 s2),
                     ))
                 | inr nz ↦
@@ -307,19 +291,7 @@ module _ (f : Fixed) (st : Stands f) (all : List Mark) (B : Watched → Violatio
       let sz = h.size in
       let top = h.top in
       let deep = h.room in
-      let stay = flags_stay r.sr in
-      let kx : (b + offsets.end_key_at k) % 65536 ≡ b + offsets.end_key_at k = omega arith in
-      let x106 : (b + 106) % 65536 ≡ b + 106 = omega arith in
-      let x130 : (b + 130) % 65536 ≡ b + 130 = omega arith in
-      let x112 : (b + 112) % 65536 ≡ b + 112 = omega arith in
-      let x114 : (b + 114) % 65536 ≡ b + 114 = omega arith in
-      let r1 = record r { pc = A + 40; r9 = b + offsets.end_key_at k } in
-      let r2 = record r1 { pc = A + 44; r10 = b + 106 } in
-      let r3 = record r2 { pc = A + 48; r11 = 6 } in
-      let r4 = record r3 { pc = A + 52; r12 = b + 130 } in
-      let r5 = record r4 { pc = A + 54; r13 = 2 } in
-      let r6 = record r5 { pc = A + 58; r14 = b + 112 } in
-      let r7 = record r6 { pc = A + 62; r15 = b + 114 } in
+      let r7 = record r { pc = A + 62; r9 = b + offsets.end_key_at k; r10 = b + 106; r11 = 6; r12 = b + 130; r13 = 2; r14 = b + 112; r15 = b + 114 } in
       let bytes = safe.memory.bytes in
       let ad : bytes_from d.mem (b + 106) 6 ≡ event_header e = six d.mem (b + 106) 3 e.field e.number bytes c0 c1 c2 in
       let body : bytes_from d.mem (b + 130) 2 ≡ windows.two v = pair d.mem (b + 130) v bytes cv in
@@ -356,76 +328,25 @@ module _ (f : Fixed) (st : Stands f) (all : List Mark) (B : Watched → Violatio
       let packet : BytesAt mt (b + 106) (event_packet f.setup e v) =
       bytes_append mt (b + 106) (event_header e) (W.cipher ++ W.tag) at_header
       (subst (λ a. BytesAt mt a (W.cipher ++ W.tag)) (omega arith) (bytes_append mt (b + 112) W.cipher W.tag at_cipher (subst (λ a. BytesAt mt a W.tag) (omega arith) at_tag))) in
-      step f st all B Q t 18 (mov (## (b + offsets.end_key_at k)) r9) refl (omega arith) refl refl event.Quiet r d _ pc safe
-      (λ kept. (
-        r1,
-        rw (stay, kx) refl,
-        inside t 20 (omega arith),
-        λ s1.
-            step f st all B Q t 20 (mov (## (b + 106)) r10) refl (omega arith) refl refl event.Quiet r1 d _ refl s1
-            (λ kept. (
-              r2,
-              rw (stay, x106) refl,
-              inside t 22 (omega arith),
-              λ s2.
-                  step f st all B Q t 22 (mov (## 6) r11) refl (omega arith) refl refl event.Quiet r2 d _ refl s2
-                  (λ kept. (
-                    r3,
-                    rw stay refl,
-                    inside t 24 (omega arith),
-                    λ s3.
-                        step f st all B Q t 24 (mov (## (b + 130)) r12) refl (omega arith) refl refl event.Quiet r3 d _ refl s3
-                        (λ kept. (
-                          r4,
-                          rw (stay, x130) refl,
-                          inside t 26 (omega arith),
-                          λ s4.
-                              step f st all B Q t 26 (mov (# 2) r13) refl (omega arith) refl refl event.Quiet r4 d _ refl s4
-                              (λ kept. (
-                                r5,
-                                rw stay refl,
-                                inside t 27 (omega arith),
-                                λ s5.
-                                    step f st all B Q t 27 (mov (## (b + 112)) r14) refl (omega arith) refl refl event.Quiet r5 d _ refl s5
-                                    (λ kept. (
-                                      r6,
-                                      rw (stay, x112) refl,
-                                      inside t 29 (omega arith),
-                                      λ s6.
-                                          step f st all B Q t 29 (mov (## (b + 114)) r15) refl (omega arith) refl refl event.Quiet r6 d _ refl s6
-                                          (λ kept. (
-                                            r7,
-                                            rw (stay, x114) refl,
-                                            inside t 31 (omega arith),
-                                            λ s7.
-                                                subst (λ own. HasPrefix all (d.marks ++ mark.Wrapped (event_header e) (windows.two v) own ∷ [])
-                                                → ((x : Exchange) → let d2 : Data = record d {
-                                                  mem = mt;
-                                                  exchange = x;
-                                                  marks = d.marks ++ mark.Wrapped (event_header e)
-                                                      (windows.two v) own ∷ [];
-                                                } in
-                                                Safe f all (running_after (event.Wrapped f.setup.section.id) f (record r7 { pc = A + 64; r15 = 1 }) d2)
-                                                → R j (running_after (event.Wrapped f.setup.section.id) f (record r7 { pc = A + 64; r15 = 1 }) d2)) → R (suc j) (running f r7 d)) ne
-                                                (wrap_as f st all B Q t 31 refl (omega arith) event.Quiet r7 d e.key (event_header e) (windows.two v) j refl s7 bs (KeyIn pk key) ad body)
-                                                marks (λ x s. after x mt (record r7 { pc = A + 64; r15 = 1 }) refl refl ht packet s),
-                                          )),
-                                    )),
-                              )),
-                        )),
-                  )),
-            )),
-      ))
+      loads f st all B Q t 18
+      ((## (b + offsets.end_key_at k), 9) ∷ (## (b + 106), 10) ∷ (## 6, 11) ∷ (## (b + 130), 12) ∷ (# 2, 13) ∷ (## (b + 112), 14) ∷ (## (b + 114), 15) ∷ []) refl (omega arith) refl
+      (omega arith, (omega arith, (omega arith, (omega arith, (omega arith, (omega arith, (omega arith, tt))))))) r d (suc j) r.pc pc safe (λ s7.
+      subst (λ own. HasPrefix all (d.marks ++ mark.Wrapped (event_header e) (windows.two v) own ∷ [])
+      → ((x : Exchange) → let d2 : Data = record d { mem = mt; exchange = x; marks = d.marks ++ mark.Wrapped (event_header e) (windows.two v) own ∷ [] } in
+      Safe f all (running_after (event.Wrapped f.setup.section.id) f (record r7 { pc = A + 64; r15 = 1 }) d2)
+      → R j (running_after (event.Wrapped f.setup.section.id) f (record r7 { pc = A + 64; r15 = 1 }) d2)) → R (suc j) (running f r7 d)) ne
+      (wrap_as f st all B Q t 31 refl (omega arith) event.Quiet r7 d e.key (event_header e) (windows.two v) j refl s7 bs (KeyIn pk key) ad body)
+      marks (λ x s. after x mt (record r7 { pc = A + 64; r15 = 1 }) refl refl ht packet s))
 
   -- R12 doubled
-  double_run : (i : ℕ) → slice_get (routine_words (base_of f) k) i ≡ Some 0x5c0c → i + 1 ≤ 56 → (r : Regs) (d : Data) (x j : ℕ) → x < 32768
+  double_run : (i : ℕ) → take 1 (drop i (routine_words (base_of f) k)) ≡ spelling (rla r12) → i + 1 ≤ 56 → (r : Regs) (d : Data) (x j : ℕ) → x < 32768
       → Safe f all (running f (record r { pc = A + 2 * i; r12 = x }) d)
       → ((sr : ℕ) → Safe f all (running f (record r { pc = A + 2 * (i + 1); sr = sr; r12 = 2 * x }) d) → R j (running f (record r { pc = A + 2 * (i + 1); sr = sr; r12 = 2 * x }) d))
       → R (suc j) (running f (record r { pc = A + 2 * i; r12 = x }) d)
   double_run i has le r d x j lt safe after =
       let twice : (x % 65536 + x % 65536 + 0) % 65536 ≡ 2 * x = omega arith in
       let sr1 = flags_after op2.Add (x % 65536) (x % 65536) r.sr in
-      one f st all B Q t i 0x5c0c (λ x y. Two op2.Add false (Reg 12) (Reg 12)) has le w.double_12 event.Quiet (record r { pc = A + 2 * i; r12 = x }) d j refl safe
+      step f st all B Q t i (rla r12) has le refl refl event.Quiet (record r { pc = A + 2 * i; r12 = x }) d j refl safe
       (λ kept. (record r { pc = A + 2 * (i + 1); sr = sr1; r12 = 2 * x }, rw twice refl, inside t (i + 1) le, after sr1))
 
   -- a word of the data is read
@@ -445,7 +366,6 @@ module _ (f : Fixed) (st : Stands f) (all : List Mark) (B : Watched → Violatio
       let b = base_of f in
       let room = st.room in
       let beneath = st.beneath in
-      let x106 : (b + 106) % 65536 ≡ b + 106 = omega arith in
       let rp = data_read 4 stack outside r.sp d.mem (omega arith) (omega arith) refl h in
       let ro = data_read 10 stack outside r.sp d.mem (omega arith) (omega arith) refl h in
       let r1 = record r { pc = A + 68; r12 = p } in
@@ -496,12 +416,11 @@ module _ (f : Fixed) (st : Stands f) (all : List Mark) (B : Watched → Violatio
       last sr r14 s7 ro =
           let b = base_of f in
           let sum : (24 * p % 65536 + out + 0) % 65536 ≡ out + 24 * p = omega arith in
-          let x106 : (b + 106) % 65536 ≡ b + 106 = omega (arith, st.room, st.beneath) in
+          let room = st.room in
+          let beneath = st.beneath in
           let sr8 = flags_after op2.Add out (24 * p % 65536) sr in
           let r7 = record r { pc = A + 80; sr = sr; r12 = 24 * p; r14 = r14 } in
           let r8 = record r { pc = A + 84; sr = sr8; r12 = out + 24 * p; r14 = r14 } in
-          let r9 = record r8 { pc = A + 88; r13 = b + 106 } in
-          let r10 = record r9 { pc = A + 92; r15 = 24 } in
           step f st all B Q t 40 (add (& (b + 10)) r12) refl (omega arith) refl refl event.Quiet r7 d _ refl s7 (
             b + 10,
             refl,
@@ -513,15 +432,7 @@ module _ (f : Fixed) (st : Stands f) (all : List Mark) (B : Watched → Violatio
               rw sum refl,
               inside t 42 (omega arith),
               λ s8.
-                  step f st all B Q t 42 (mov (## (b + 106)) r13) refl (omega arith) refl refl event.Quiet r8 d _ refl s8
-                  (λ kept. (
-                    r9,
-                    rw (flags_stay sr8, x106) refl,
-                    inside t 44 (omega arith),
-                    λ s9.
-                        step f st all B Q t 44 (mov (## 24) r15) refl (omega arith) refl refl event.Quiet r9 d _ refl s9
-                        (λ kept. (r10, rw (flags_stay sr8) refl, inside t 46 (omega arith), after sr8 r14)),
-                  )),
+                  loads f st all B Q t 42 ((## (b + 106), 13) ∷ (## 24, 15) ∷ []) refl (omega arith) refl (omega arith, (omega arith, tt)) r8 d j r8.pc refl s8 (after sr8 r14),
             ),
           )
 
@@ -655,7 +566,7 @@ module _ (f : Fixed) (st : Stands f) (all : List Mark) (B : Watched → Violatio
       subst (λ n. Safe f all (running f (record r2 { pc = A + 92; sr = sr3; r12 = out + 24 * p; r13 = base_of f + 106; r14 = r14; r15 = n }) d2)
       → R (96 + suc (suc (suc j))) (running f (record r2 { pc = A + 92; sr = sr3; r12 = out + 24 * p; r13 = base_of f + 106; r14 = r14; r15 = n }) d2)) (sym count)
       (λ s. subst (λ n. R n (running f (record r2 { pc = A + 92; sr = sr3; r12 = out + 24 * p; r13 = base_of f + 106; r14 = r14; r15 = suc (length bs) }) d2)) (omega arith)
-      (copy_runs f st all B at Q A 56 46 (routine_words (base_of f) k) t (omega arith) refl refl refl refl refl d.devices safe.devices back (ret ∷ v ∷ rest) priv bs 3
+      (copy_runs f st all B at Q A 56 46 (routine_words (base_of f) k) t (omega arith) refl refl refl refl d.devices safe.devices back (ret ∷ v ∷ rest) priv bs 3
       (record r2 { r14 = r14 }) d2 sr3 (out + 24 * p) (base_of f + 106) (suc (suc (suc j))) outside (omega arith) w1 (omega arith)
       (record { low = omega arith; high = omega (arith, st.room) }) packet (subst (λ a. H (ret ∷ v ∷ rest) outside a m2) (sym sp2) h2) s
       (λ x2 bad_ r4 m4. stop x2 bad_ (running f r4 (record d2 { mem = m4 })) em)

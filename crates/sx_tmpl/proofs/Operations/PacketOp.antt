@@ -1,44 +1,36 @@
 -- The operation that makes an end's packet: a call of its routine.
+use Rattle.sx_isa.specs.Standing.{words_of}
 use Rattle.sx_tmpl.specs.Assembly.{##◌, call}
 use Rattle.sx_tmpl.proofs.Running.Instructions.{step}
 use Rattle.sx_tmpl.specs.Template.{routine_words}
 use Rattle.std.proofs.Common.{◌≡◌, ℕ, suc, ◌+◌, ◌-◌, ◌*◌, ◌%◌, ◌<◌, ◌≤◌, inl, inr, Bool, true, false, not, cond, nat_le, nat_lt, List, [], ◌∷◌, ◌++◌, length, refl, sym, ◌∙◌, ap, subst, arith}
-use Rattle.sx_reach.specs.Reach.{Here}
+use Rattle.sx_reach.specs.Reach.{Here, Goes, Stops}
 use Rattle.sx_rules.specs.declared.access.Violation.{Violation}
 use Rattle.sx_machine.specs.declared.kinds.Event.TheVariants as event
-use Rattle.std.specs.Prelude.{Result, Ok, Err}
-use Rattle.std.proofs.lemmas.Bool.{true≢false}
+use Rattle.std.specs.Prelude.{Result, Ok, Err, nat_lt}
+use Rattle.std.proofs.lemmas.Bool.{true≢false, or_left, leb-true, ltb-true, and_parts, cases_lt, lt-ltb}
 use Rattle.sx_invoke.specs.Windows.{write_bytes}
 use Rattle.sx_tag.specs.Mac.{IsTag}
 use Rattle.sx_tmpl.proofs.Running.Outcomes.{ok_err, ok_same, err_same, goes_same, goes_stops, stops_same}
 use Rattle.sx_tmpl.proofs.Operations.Packet.{is_ready, tests_run, send_run, return_run}
-use Rattle.sx_reach.specs.Reach.{Goes, Stops}
-use Rattle.sx_ir.specs.Conf.{Violates, Stuck}
-use Rattle.sx_ir.specs.Meaning.{OperationResult, send, send_open, copied_out, packed, sealed_event, saved, pieces, has_out_window}
+use Rattle.sx_ir.specs.Conf.{Violates, Stuck, Conf}
+use Rattle.sx_ir.specs.Meaning.{OperationResult, send, send_open, copied_out, packed, sealed_event, saved, pieces, has_out_window, next, has_packet_room}
 use Rattle.sx_machine.specs.Ranges.{passes_end}
-use Rattle.std.proofs.lemmas.Bool.{or_left, leb-true, ltb-true, and_parts}
-use Rattle.sx_reach.specs.Reach.{Next, Ends}
 use Rattle.sx_mean.specs.Offsets as offsets
 use Rattle.sx_mean.specs.Working as working
 use Rattle.sx_invoke.specs.ModuleState.{EndState, end_state}
 use Rattle.sx_invoke.specs.Windows as windows
 use Rattle.sx_invoke.specs.Acts.{event_header, event_packet}
 use Rattle.sx_invoke.specs.Marks as mark
-use Rattle.sx_invoke.specs.Marks.{HasPrefix}
+use Rattle.sx_invoke.specs.Marks.{HasPrefix, Mark}
 use Rattle.sx_machine.specs.Memory.{put_word}
-use Rattle.sx_invoke.specs.Marks.{Mark}
 use Rattle.sx_image.specs.Watched.{Watched}
-use Rattle.sx_ir.specs.Conf.{Conf}
-use Rattle.sx_ir.specs.Meaning.{next}
 use Rattle.sx_tmpl.specs.Running.{Regs, Fixed, Data, running, Safe}
-use Rattle.sx_tmpl.proofs.Running.MidRun.{Stands, Runs, put_cell}
+use Rattle.sx_tmpl.proofs.Running.MidRun.{Stands, Runs, later, put_cell}
 use Rattle.sx_tmpl.specs.Shows.{base_of, MemoryHolds, ShowsConfiguration, Stood}
 use Rattle.sx_tmpl.proofs.Running.Steps.{Text, InText}
-use Rattle.std.specs.Prelude.{nat_lt}
-use Rattle.std.proofs.lemmas.Bool.{cases_lt, lt-ltb}
 use Rattle.sx_tmpl.proofs.Operations.Plain.{inside, Leads}
 use Rattle.sx_tmpl.proofs.Texts.Made.{made_bytes-append, made_prefix}
-use Rattle.sx_ir.specs.Meaning.{has_packet_room}
 use Rattle.sx_invoke.specs.Pieces.{made_bytes}
 use Rattle.sx_tmpl.proofs.Running.Holding.{stack_word, holds_push}
 
@@ -93,7 +85,7 @@ sending f c k v e = window (has_out_window f.setup c) refl
 module _ (f : Fixed) (st : Stands f) (all : List Mark) (B : Watched → Violation → Type 0) (at : ℕ → ℕ) where
   -- the call and the tests, and then either branch
   packet_core : (Q : Watched → Type 0) → IsTag f.setup.mac → (c : Conf) (k v A : ℕ) (rest : List ℕ) (j : ℕ) → offsets.end_at k + 24 ≤ length c.priv → length (v ∷ rest) ≤ 160
-      → (r : Regs) (d : Data) → Text f (at c.place) 2 (0x12b0 ∷ A ∷ []) → Text f A 56 (routine_words (base_of f) k) → at (c.place + 1) ≡ at c.place + 2 * 2
+      → (r : Regs) (d : Data) → Text f (at c.place) 2 (words_of (call (## A) ∷ [])) → Text f A 56 (routine_words (base_of f) k) → at (c.place + 1) ≡ at c.place + 2 * 2
       → ShowsConfiguration f at (record c { stack = v ∷ rest }) r d → Safe f all (running f r d)
       → (let e = end_state c.priv k in let marks = c.marks ++ mark.Wrapped (event_header e) (windows.two v) false ∷ [] in
       (is_ready e ≡ false → (r2 : Regs) (d2 : Data) → ShowsConfiguration f at (next c (v ∷ rest)) r2 d2 → Safe f all (running f r2 d2) → Runs f all B Q j (running f r2 d2))
@@ -137,7 +129,7 @@ module _ (f : Fixed) (st : Stands f) (all : List Mark) (B : Watched → Violatio
               tests_run f st all B at Q k A rt c.back c.priv slot e refl r1 d1 (ret ∷ stack) c.mem (121 + j) (omega arith) h1 s1
               (λ nr sr s2. subst (λ n. Runs f all B Q n (running f (record r1 { pc = A + 110; sr = sr }) d1)) (omega arith)
               (return_run f st all B at Q k A rt c.back c.priv slot (record r1 { pc = A + 110; sr = sr }) d1 c.priv stack c.mem ret (120 + j) refl h1 to ev s2
-              (λ h3 s3. weaker j (120 + j) _ (omega arith)
+              (λ h3 s3. later f all B Q j (120 + j) _ (omega arith)
               (idle nr (record r1 { pc = ret; sr = sr; sp = sp + 2 }) d1 (record { pc = sym on; holds = h3; devices = sh.devices; marks = sh.marks }) s3))))
               (λ yr sr s2.
               let ok = fine yr in
@@ -154,11 +146,6 @@ module _ (f : Fixed) (st : Stands f) (all : List Mark) (B : Watched → Violatio
               (λ mem good r2 d2 pc2 h2 dv mk s3. done yr mem good r2 d2 (record { pc = pc2 ∙ sym on; holds = h2; devices = dv ∙ sh.devices; marks = mk }) s3)),
         ),
       ))
-    where
-      weaker : (n m : ℕ) (x : Watched) → n ≤ m → Runs f all B Q n x → Runs f all B Q m x
-      weaker n m x le (Here q) = Here q
-      weaker n m x le (Next {k = i} p e g r) = Next {k = i} p e (omega arith) r
-      weaker n m x le (Ends p e g b) = Ends p e (omega arith) b
 
   stuck_violates : (v : Violation) (m : List Mark) → Stuck ≡ Violates v m → ⊥
   stuck_violates v m e = cc
@@ -174,7 +161,7 @@ module _ (f : Fixed) (st : Stands f) (all : List Mark) (B : Watched → Violatio
   pub packet_goes : IsTag f.setup.mac → (c c2 : Conf) (k v A : ℕ) (rest : List ℕ) → offsets.end_at k + 24 ≤ length c.priv → length (v ∷ rest) ≤ 160 → Text f A 56 (routine_words (base_of f) k)
       → send f.setup (record c { stack = v ∷ rest }) k v (end_state c.priv k) ≡ Goes c2 → HasPrefix all c2.marks → saved c 14 ≡ f.from
       → (has_out_window f.setup c ≡ true → (n : ℕ) → n ≤ 384 → n ≤ made_bytes all → f.from + n ≤ f.to)
-      → Leads f st all B at 2 (0x12b0 ∷ A ∷ []) 126 (record c { stack = v ∷ rest }) c2
+      → Leads f st all B at 2 (words_of (call (## A) ∷ [])) 126 (record c { stack = v ∷ rest }) c2
   packet_goes tag c c2 k v A rest slot len rt goes begins w1 w2 r d t on sh safe = by_case (sending f (record c { stack = v ∷ rest }) k v e)
     where
       e : EndState
@@ -206,7 +193,7 @@ module _ (f : Fixed) (st : Stands f) (all : List Mark) (B : Watched → Violatio
       → Text f A 56 (routine_words (base_of f) k)
       → send f.setup (record c { stack = v ∷ rest }) k v (end_state c.priv k) ≡ Stops (Violates x marks) → HasPrefix all marks → saved c 14 ≡ f.from
       → (has_out_window f.setup c ≡ true → (n : ℕ) → n ≤ 384 → n ≤ made_bytes all → f.from + n ≤ f.to)
-      → Breaks 2 (0x12b0 ∷ A ∷ []) 126 (record c { stack = v ∷ rest }) x marks
+      → Breaks 2 (words_of (call (## A) ∷ [])) 126 (record c { stack = v ∷ rest }) x marks
   packet_breaks tag c k v A rest x marks slot len rt stops begins w1 w2 r d t on sh safe ends = by_case (sending f (record c { stack = v ∷ rest }) k v e)
     where
       e : EndState

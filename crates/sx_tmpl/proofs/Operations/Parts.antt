@@ -1,4 +1,6 @@
 -- Handlers' parts: the place to return to lies in a word that only templates use.
+use Rattle.sx_tmpl.specs.Template.{handler_words}
+use Rattle.sx_isa.specs.Standing.{words_of}
 use Rattle.sx_tmpl.specs.Assembly.{##◌, &◌, br, clr, mov}
 use Rattle.sx_tmpl.proofs.Running.Instructions.{step}
 use Rattle.std.proofs.Common.{◌≡◌, ℕ, ◌+◌, ◌-◌, ◌%◌, ◌≤◌, inl, List, [], ◌∷◌, length, Some, None, refl, arith}
@@ -19,7 +21,7 @@ use Rattle.sx_tmpl.proofs.Running.Holding.{holds_return, holds_forget, data_word
 module _ (f : Fixed) (st : Stands f) (all : List Mark) (B : Watched → Violation → Type 0) (at : ℕ → ℕ) where
   -- the count of pieces is set to 0, the next place is kept, and the part begins
   pub handler_leads : (c : Conf) (q : ℕ) → InText f (at q) → at q % 2 ≡ 0 → 6 ≤ length c.priv
-      → Leads f st all B at 7 (0x4382 ∷ (base_of f + 4) ∷ 0x40b2 ∷ (at (c.place + 1)) ∷ (base_of f + 104) ∷ 0x4030 ∷ at q ∷ []) 3 c
+      → Leads f st all B at 7 (handler_words (base_of f) (at (c.place + 1)) (at q)) 3 c
       (record c { place = q; priv = put_word c.priv 4 0; back = Some (c.place + 1) })
   handler_leads c q to ev long r d t on sh safe =
       let h = sh.holds in
@@ -77,7 +79,8 @@ module _ (f : Fixed) (st : Stands f) (all : List Mark) (B : Watched → Violatio
       )
 
   -- back to that place
-  pub stop_leads : (c : Conf) (p : ℕ) → InText f (at p) → at p % 2 ≡ 0 → Leads f st all B at 2 (0x4210 ∷ (base_of f + 104) ∷ []) 1 (record c { back = Some p }) (record c { place = p; back = None })
+  pub stop_leads : (c : Conf) (p : ℕ) → InText f (at p) → at p % 2 ≡ 0 → Leads f st all B at 2 (words_of (br (& (base_of f + 104)) ∷ [])) 1
+      (record c { back = Some p }) (record c { place = p; back = None })
   stop_leads c p to ev r d t on sh safe =
       let h = sh.holds in
       let e : at p - at p % 2 ≡ at p = omega arith in

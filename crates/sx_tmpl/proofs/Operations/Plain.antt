@@ -1,5 +1,8 @@
 -- Operations whose template goes straight on.
-use Rattle.sx_tmpl.specs.Assembly.{##◌, &◌, add, increment, pop, push, sp, ◌⟨◌⟩}
+use Rattle.sx_tmpl.specs.Template.{operator_words}
+use Rattle.sx_ir.specs.declared.ir.IrOp.TheVariants as op
+use Rattle.sx_isa.specs.Standing.{words_of}
+use Rattle.sx_tmpl.specs.Assembly.{##◌, &◌, ◌⟨◌⟩, add, increment, pop, push, sp}
 use Rattle.sx_tmpl.proofs.Running.Instructions.{step}
 use Rattle.std.proofs.Common.{◌≡◌, ℕ, ◌+◌, ◌-◌, ◌*◌, ◌%◌, ◌<◌, ◌≤◌, List, [], ◌∷◌, length, refl, subst, arith}
 use Rattle.sx_reach.specs.Reach.{Here}
@@ -36,7 +39,7 @@ module _ (f : Fixed) (st : Stands f) (all : List Mark) (B : Watched → Violatio
   stood c2 r2 m2 d j safe pc holds devices marks =
       Here (record { regs = r2; rest = record d { mem = m2 }; state = refl; safe = safe; shows = record { pc = pc; holds = holds; devices = devices; marks = marks } })
 
-  pub push_leads : (c : Conf) (x : ℕ) → x < 65536 → length c.stack < 160 → Leads 2 (0x1230 ∷ x ∷ []) 1 c (next c (x ∷ c.stack))
+  pub push_leads : (c : Conf) (x : ℕ) → x < 65536 → length c.stack < 160 → Leads 2 (words_of (push (## x) ∷ [])) 1 c (next c (x ∷ c.stack))
   push_leads c x lt room r d t on sh safe =
       let h = sh.holds in
       let top = h.top in
@@ -61,7 +64,7 @@ module _ (f : Fixed) (st : Stands f) (all : List Mark) (B : Watched → Violatio
         ),
       )
 
-  pub load_leads : (c : Conf) (o : ℕ) → o % 2 ≡ 0 → IsData o → o + 2 ≤ length c.priv → length c.stack < 160 → Leads 2 (0x1212 ∷ (base_of f + o) ∷ []) 1 c (next c (word c.priv o ∷ c.stack))
+  pub load_leads : (c : Conf) (o : ℕ) → o % 2 ≡ 0 → IsData o → o + 2 ≤ length c.priv → length c.stack < 160 → Leads 2 (words_of (push (& (base_of f + o)) ∷ [])) 1 c (next c (word c.priv o ∷ c.stack))
   load_leads c o ev i fits room r d t on sh safe =
       let h = sh.holds in
       let top = h.top in
@@ -97,7 +100,7 @@ module _ (f : Fixed) (st : Stands f) (all : List Mark) (B : Watched → Violatio
       )
 
   pub store_leads : (c : Conf) (x : ℕ) (rest : List ℕ) (o : ℕ) → o % 2 ≡ 0 → IsData o → o + 2 ≤ length c.priv
-      → Leads 2 (0x41b2 ∷ (base_of f + o) ∷ []) 1 (record c { stack = x ∷ rest }) (record c { place = c.place + 1; stack = rest; priv = put_word c.priv o x })
+      → Leads 2 (words_of (pop (& (base_of f + o)) ∷ [])) 1 (record c { stack = x ∷ rest }) (record c { place = c.place + 1; stack = rest; priv = put_word c.priv o x })
   store_leads c x rest o ev i fits r d t on sh safe =
       let h = sh.holds in
       let top = h.top in
@@ -129,7 +132,7 @@ module _ (f : Fixed) (st : Stands f) (all : List Mark) (B : Watched → Violatio
         ),
       )
 
-  pub add_leads : (c : Conf) (x y : ℕ) (rest : List ℕ) → Leads 2 (0x51b1 ∷ 0 ∷ []) 1 (record c { stack = y ∷ x ∷ rest }) (next c (combine binary.Add x y ∷ rest))
+  pub add_leads : (c : Conf) (x y : ℕ) (rest : List ℕ) → Leads 2 (operator_words op.Add) 1 (record c { stack = y ∷ x ∷ rest }) (next c (combine binary.Add x y ∷ rest))
   add_leads c x y rest r d t on sh safe =
       let h = sh.holds in
       let top = h.top in

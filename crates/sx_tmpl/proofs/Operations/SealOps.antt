@@ -1,119 +1,44 @@
 -- Wrap and unwrap as operations.
-use Rattle.sx_tmpl.specs.Assembly.{##◌, clr, mov, r10, r11, r12, r13, r14, r15, r9}
+use Rattle.sx_tmpl.specs.Assembly.{##◌, clr, push, r15, r9}
+use Rattle.sx_tmpl.proofs.Running.Loading.{loads}
 use Rattle.sx_tmpl.proofs.Running.Instructions.{step}
-use Rattle.std.proofs.Common.{◌≡◌, ℕ, zero, suc, ◌+◌, ◌-◌, ◌*◌, ◌%◌, ◌<◌, ◌≤◌, ◌⊎◌, inl, inr, false}
-use Rattle.std.proofs.Common.{List, [], ◌∷◌, ◌++◌, length, Option, Some, None, refl, sym, ◌∙◌, ap, subst, arith, slice_index}
+use Rattle.std.proofs.Common.{◌≡◌, ℕ, zero, suc, ◌+◌, ◌-◌, ◌*◌, ◌%◌, ◌<◌, ◌≤◌, ◌⊎◌, inl, inr, List, [], ◌∷◌, ◌++◌, length, Option, Some, None, refl, sym, ◌∙◌, ap, subst, arith, slice_index, take}
 use Rattle.sx_reach.specs.Reach.{Here}
-use Rattle.sx_isa.specs.declared.instruction.Operand.TheVariants.{Reg}
-use Rattle.sx_isa.specs.declared.instruction.Op1.TheVariants as op1
-use Rattle.sx_isa.specs.declared.instruction.Instr.TheVariants.{One}
+use Rattle.sx_isa.specs.declared.instruction.Operand.{Operand}
+use Rattle.sx_isa.specs.Spelling.{spelling}
 use Rattle.sx_rules.specs.declared.access.Violation.{Violation}
 use Rattle.sx_machine.specs.declared.kinds.Event.{Event}
 use Rattle.sx_machine.specs.declared.kinds.Event.TheVariants as event
-use Rattle.sx_tmpl.proofs.Running.MidRun.{PrivateRange}
-use Rattle.sx_tmpl.proofs.Running.Holding.{IsRange, holds_bytes, holds_from}
+use Rattle.sx_tmpl.proofs.Running.MidRun.{PrivateRange, Stands, Runs, put_cell}
+use Rattle.sx_tmpl.proofs.Running.Holding.{IsRange, holds_bytes, holds_from, stack_word, holds_push}
 use Rattle.sx_tag.specs.Mac.{IsTag}
 use Rattle.sx_tmpl.proofs.Operations.Bytes.{length_cipher, length_tag, length-put_bytes}
-use Rattle.sx_tag.specs.Wrap.{unwrapped}
-use Rattle.sx_tmpl.specs.Template.{key_word}
-use Rattle.std.proofs.Common.{take}
+use Rattle.sx_tag.specs.Wrap.{unwrapped, wrapped}
+use Rattle.sx_tmpl.specs.Template.{key_word, opening_words, sealing_words}
 use Rattle.std.proofs.lemmas.List.{length-take}
-use Rattle.sx_ir.specs.Meaning.{key_at}
+use Rattle.sx_ir.specs.Meaning.{key_at, next}
 use Rattle.sx_machine.specs.declared.kinds.Exchange.{Exchange}
 use Rattle.sx_machine.specs.Memory.{bytes_from, put_bytes}
-use Rattle.sx_tag.specs.Wrap.{wrapped}
 use Rattle.sx_invoke.specs.Marks as mark
-use Rattle.sx_invoke.specs.Marks.{HasPrefix}
-use Rattle.sx_tmpl.specs.Running.{running_after}
+use Rattle.sx_invoke.specs.Marks.{HasPrefix, Mark}
+use Rattle.sx_tmpl.specs.Running.{running_after, Regs, Fixed, Data, running, Safe}
 use Rattle.sx_tmpl.proofs.Running.Flags.{flags_stay}
 use Rattle.sx_tmpl.proofs.Operations.Sealing.{KeyAt, OwnKey, KeyIn, Buffers, wrap_as, unwrap_step}
-use Rattle.sx_invoke.specs.Marks.{Mark}
 use Rattle.sx_image.specs.Watched.{Watched}
 use Rattle.sx_ir.specs.Conf.{Conf}
-use Rattle.sx_ir.specs.Meaning.{next}
-use Rattle.sx_tmpl.specs.Running.{Regs, Fixed, Data, running, Safe}
-use Rattle.sx_tmpl.proofs.Running.MidRun.{Stands, Runs, put_cell}
 use Rattle.sx_tmpl.specs.Shows.{base_of, MemoryHolds, Stood}
 use Rattle.sx_tmpl.proofs.Running.Owes.{kept_bytes}
-use Rattle.sx_tmpl.proofs.Running.Steps.{Text, one}
-use Rattle.std.specs.Prelude.{slice_get, ◌==◌}
+use Rattle.sx_tmpl.proofs.Running.Steps.{Text}
+use Rattle.std.specs.Prelude.{drop, ◌==◌}
 use Rattle.std.proofs.lemmas.Bool.{ne_eqb}
 use Rattle.sx_tmpl.proofs.Operations.Plain.{inside, Leads}
-use Rattle.sx_tmpl.proofs.Running.Words as w
-use Rattle.sx_tmpl.proofs.Running.Holding.{stack_word, holds_push}
 
 -- the registers R9 to R15 are loaded
-abbrev pub load_words : ℕ → ℕ → ℕ → ℕ → ℕ → ℕ → ℕ → List ℕ → List ℕ
-load_words v9 v10 v11 v12 v13 v14 v15 tail = 0x4039 ∷ v9 ∷ 0x403a ∷ v10 ∷ 0x403b ∷ v11 ∷ 0x403c ∷ v12 ∷ 0x403d ∷ v13 ∷ 0x403e ∷ v14 ∷ 0x403f ∷ v15 ∷ tail
+abbrev operands : ℕ → ℕ → ℕ → ℕ → ℕ → ℕ → ℕ → List (Operand × ℕ)
+operands v9 v10 v11 v12 v13 v14 v15 = (## v9, 9) ∷ (## v10, 10) ∷ (## v11, 11) ∷ (## v12, 12) ∷ (## v13, 13) ∷ (## v14, 14) ∷ (## v15, 15) ∷ []
 
-abbrev pub loaded : Regs → ℕ → ℕ → ℕ → ℕ → ℕ → ℕ → ℕ → ℕ → Regs
-loaded r pc v9 v10 v11 v12 v13 v14 v15 = record r { pc = pc; r9 = v9; r10 = v10; r11 = v11; r12 = v12; r13 = v13; r14 = v14; r15 = v15 }
-
-module _ (f : Fixed) (st : Stands f) (all : List Mark) (B : Watched → Violation → Type 0) (Q : Watched → Type 0) where
-  loads_run : (P n v9 v10 v11 v12 v13 v14 v15 : ℕ) (tail : List ℕ) (t : Text f P n (load_words v9 v10 v11 v12 v13 v14 v15 tail)) → 14 ≤ n → v9 < 65536 → v10 < 65536 → v11 < 65536 → v12 < 65536
-      → v13 < 65536 → v14 < 65536 → v15 < 65536
-      → (r : Regs) (d : Data) (j : ℕ) → r.pc ≡ P + 2 * 0 → Safe f all (running f r d)
-      → (Safe f all (running f (loaded r (P + 28) v9 v10 v11 v12 v13 v14 v15) d) → Runs f all B Q j (running f (loaded r (P + 28) v9 v10 v11 v12 v13 v14 v15) d))
-      → Runs f all B Q (suc (suc (suc (suc (suc (suc (suc j))))))) (running f r d)
-  loads_run P n v9 v10 v11 v12 v13 v14 v15 tail t le l9 l10 l11 l12 l13 l14 l15 r d j pc safe after =
-      let stay = flags_stay r.sr in
-      let e9 : v9 % 65536 ≡ v9 = omega arith in
-      let e10 : v10 % 65536 ≡ v10 = omega arith in
-      let e11 : v11 % 65536 ≡ v11 = omega arith in
-      let e12 : v12 % 65536 ≡ v12 = omega arith in
-      let e13 : v13 % 65536 ≡ v13 = omega arith in
-      let e14 : v14 % 65536 ≡ v14 = omega arith in
-      let e15 : v15 % 65536 ≡ v15 = omega arith in
-      let r1 = record r { pc = P + 4; r9 = v9 } in
-      let r2 = record r1 { pc = P + 8; r10 = v10 } in
-      let r3 = record r2 { pc = P + 12; r11 = v11 } in
-      let r4 = record r3 { pc = P + 16; r12 = v12 } in
-      let r5 = record r4 { pc = P + 20; r13 = v13 } in
-      let r6 = record r5 { pc = P + 24; r14 = v14 } in
-      step f st all B Q t 0 (mov (## v9) r9) refl (omega arith) refl refl event.Quiet r d _ pc safe
-      (λ kept. (
-        r1,
-        rw (stay, e9) refl,
-        inside t 2 (omega arith),
-        λ s1.
-            step f st all B Q t 2 (mov (## v10) r10) refl (omega arith) refl refl event.Quiet r1 d _ refl s1
-            (λ kept. (
-              r2,
-              rw (stay, e10) refl,
-              inside t 4 (omega arith),
-              λ s2.
-                  step f st all B Q t 4 (mov (## v11) r11) refl (omega arith) refl refl event.Quiet r2 d _ refl s2
-                  (λ kept. (
-                    r3,
-                    rw (stay, e11) refl,
-                    inside t 6 (omega arith),
-                    λ s3.
-                        step f st all B Q t 6 (mov (## v12) r12) refl (omega arith) refl refl event.Quiet r3 d _ refl s3
-                        (λ kept. (
-                          r4,
-                          rw (stay, e12) refl,
-                          inside t 8 (omega arith),
-                          λ s4.
-                              step f st all B Q t 8 (mov (## v13) r13) refl (omega arith) refl refl event.Quiet r4 d _ refl s4
-                              (λ kept. (
-                                r5,
-                                rw (stay, e13) refl,
-                                inside t 10 (omega arith),
-                                λ s5.
-                                    step f st all B Q t 10 (mov (## v14) r14) refl (omega arith) refl refl event.Quiet r5 d _ refl s5
-                                    (λ kept. (
-                                      r6,
-                                      rw (stay, e14) refl,
-                                      inside t 12 (omega arith),
-                                      λ s6.
-                                          step f st all B Q t 12 (mov (## v15) r15) refl (omega arith) refl refl event.Quiet r6 d _ refl s6
-                                          (λ kept. (loaded r (P + 28) v9 v10 v11 v12 v13 v14 v15, rw (stay, e15) refl, inside t 14 (omega arith), after)),
-                                    )),
-                              )),
-                        )),
-                  )),
-            )),
-      ))
+abbrev with_operands : Regs → ℕ → ℕ → ℕ → ℕ → ℕ → ℕ → ℕ → ℕ → Regs
+with_operands r pc v9 v10 v11 v12 v13 v14 v15 = record r { pc = pc; r9 = v9; r10 = v10; r11 = v11; r12 = v12; r13 = v13; r14 = v14; r15 = v15 }
 
 -- the key's place: 0 for the module's own
 abbrev pub key_place : Fixed → ℕ → ℕ
@@ -161,9 +86,6 @@ module _ (f : Fixed) (st : Stands f) (all : List Mark) (B : Watched → Violatio
   key_small c zero sz h = omega arith
   key_small c (suc k) sz h = elim h [ inl z ↦ absurd (omega arith) | inr g ↦ omega (arith, g.fits, st.beneath) ]
 
-  abbrev seal_words : ℕ → ℕ → ℕ → ℕ → ℕ → List ℕ → List ℕ
-  seal_words k h hn b bn tail = load_words (key_place f k) (base_of f + h) hn (base_of f + b) bn (base_of f + (h + hn)) (base_of f + (h + hn + bn)) tail
-
   buffers_here : (c : Conf) (k h hn b bn : ℕ) (r : Regs) → base_of f + length c.priv ≡ f.setup.section.layout.priv_to → SealsAt k h hn b bn (length c.priv)
       → r.r10 ≡ base_of f + h → r.r11 ≡ hn → PrivateRange f r.r12 r.r13 → PrivateRange f r.r14 r.r13 → r.r13 ≡ bn → r.r15 ≡ base_of f + (h + hn + bn) → Buffers f r
   buffers_here c k h hn b bn r sz ok e10 e11 p12 p14 e13 e15 =
@@ -183,7 +105,7 @@ module _ (f : Fixed) (st : Stands f) (all : List Mark) (B : Watched → Violatio
   pub seal_leads : IsTag f.setup.mac → (c : Conf) (k h hn b bn : ℕ) → SealsAt k h hn b bn (length c.priv)
       → (let w = wrapped f.setup.mac (key_at f.setup c k) (bytes_from c.priv h hn) (bytes_from c.priv b bn) in
       let marks = c.marks ++ mark.Wrapped (bytes_from c.priv h hn) (bytes_from c.priv b bn) (k == 0) ∷ [] in
-      HasPrefix all marks → Leads f st all B at 16 (seal_words k h hn b bn (0x1384 ∷ 0x4309 ∷ [])) 9 c
+      HasPrefix all marks → Leads f st all B at 16 (sealing_words (base_of f) k h hn b bn) 9 c
       (record (next c c.stack) { priv = put_bytes (put_bytes c.priv (h + hn) w.cipher) (h + hn + bn) w.tag; marks = marks }))
   seal_leads tag c k h hn b bn ok begins r d t on sh safe =
       let hold = sh.holds in
@@ -204,7 +126,7 @@ module _ (f : Fixed) (st : Stands f) (all : List Mark) (B : Watched → Violatio
       let c2 = record (next c c.stack) { priv = put_bytes (put_bytes c.priv (h + hn) w_.cipher) (h + hn + bn) w_.tag; marks = c.marks ++ mark.Wrapped ad body (k == 0) ∷ [] } in
       let Q = Stood f all at c2 in
       let v9 = key_place f k in
-      let rL = loaded r (at c.place + 28) v9 (base + h) hn (base + b) bn (base + (h + hn)) (base + (h + hn + bn)) in
+      let rL = with_operands r (at c.place + 28) v9 (base + h) hn (base + b) bn (base + (h + hn)) (base + (h + hn + bn)) in
       let rh = front_range h (hn + bn + 16) hn (length c.priv) hdr (omega arith) in
       let rc = part_range h (hn + bn + 16) hn bn (length c.priv) hdr (omega arith) in
       let rt : IsRange (h + hn + bn) 16 (length c.priv) = subst (λ o. IsRange o 16 (length c.priv)) (omega arith) (part_range h (hn + bn + 16) (hn + bn) 16 (length c.priv) hdr (omega arith)) in
@@ -225,8 +147,8 @@ module _ (f : Fixed) (st : Stands f) (all : List Mark) (B : Watched → Violatio
       let ht = holds_bytes f st at c.back w_.tag c.stack qc c.mem r.sp mc (h + hn + bn) kc hc rt2 in
       let mk : d.marks ++ mark.Wrapped ad body (k == 0) ∷ [] ≡ c.marks ++ mark.Wrapped ad body (k == 0) ∷ [] = ap (λ l. l ++ mark.Wrapped ad body (k == 0) ∷ []) sh.marks in
       let ls = key_small c k sz ok.key in
-      loads_run f st all B Q (at c.place) 16 v9 (base + h) hn (base + b) bn (base + (h + hn)) (base + (h + hn + bn)) (0x1384 ∷ 0x4309 ∷ []) t (omega arith) ls (omega arith) (omega arith)
-      (omega arith) (omega arith) (omega arith) (omega arith) r d 2 (omega (arith, sh.pc)) safe (λ sL.
+      loads f st all B Q t 0 (operands v9 (base + h) hn (base + b) bn (base + (h + hn)) (base + (h + hn + bn))) refl (omega arith) refl
+      (ls, (omega arith, (omega arith, (omega arith, (omega arith, (omega arith, (omega arith, tt))))))) r d 2 r.pc (omega (arith, sh.pc)) safe (λ sL.
       subst (λ own. HasPrefix all (d.marks ++ mark.Wrapped ad body own ∷ [])
       → ((x : Exchange) → let d2 : Data = record d { mem = mt; exchange = x; marks = d.marks ++ mark.Wrapped ad body own ∷ [] } in
       Safe f all (running_after (event.Wrapped f.setup.section.id) f (record rL { pc = at c.place + 30; r15 = 1 }) d2)
@@ -253,7 +175,7 @@ module _ (f : Fixed) (st : Stands f) (all : List Mark) (B : Watched → Violatio
   after_open c k ad b bn (Some body) = record (next c (1 ∷ c.stack)) { priv = put_bytes c.priv b (take bn body); marks = c.marks ++ mark.Unwrapped ad (take bn body) (k == 0) ∷ [] }
 
   -- the answer in R15 is pushed
-  answer_pushed : (c2 : Conf) (t15 : ℕ) {P n : ℕ} {ws : List ℕ} (t : Text f P n ws) → slice_get ws 15 ≡ Some 0x120f → 16 ≤ n
+  answer_pushed : (c2 : Conf) (t15 : ℕ) {P n : ℕ} {ws : List ℕ} (t : Text f P n ws) → take 1 (drop 15 ws) ≡ spelling (push r15) → 16 ≤ n
       → (e : Event) (r : Regs) (d : Data) (stack priv outside : List ℕ) (back : Option ℕ) (v : ℕ) → r.pc ≡ P + 2 * 15 → Safe f all (running_after e f r d)
       → MemoryHolds f at back stack priv outside r.sp d.mem → length stack < 160 → r.r15 ≡ v → v < 65536
       → at c2.place ≡ P + 32 → c2.stack ≡ v ∷ stack → c2.priv ≡ priv → c2.mem ≡ outside → c2.back ≡ back → d.devices ≡ c2.devices → d.marks ≡ c2.marks
@@ -266,7 +188,7 @@ module _ (f : Fixed) (st : Stands f) (all : List Mark) (B : Watched → Violatio
       let cut : r.r15 % 65536 ≡ v = omega arith in
       let r2 = record r { pc = P + 32; sp = sp } in
       let h2 = holds_push f st at back stack priv outside r.sp d.mem sp v safe.memory hold (omega arith) (omega arith) in
-      one f st all B (Stood f all at c2) t 15 0x120f (λ x y. One op1.Push false (Reg 15)) has le w.push_15 e r d 0 pc safe (
+      step f st all B (Stood f all at c2) t 15 (push r15) has le refl refl e r d 0 pc safe (
         sp,
         down,
         pr,
@@ -295,13 +217,10 @@ module _ (f : Fixed) (st : Stands f) (all : List Mark) (B : Watched → Violatio
         ),
       )
 
-  abbrev open_words : ℕ → ℕ → ℕ → ℕ → ℕ → List ℕ → List ℕ
-  open_words k h hn b bn tail = load_words (key_place f k) (base_of f + h) hn (base_of f + (h + hn)) bn (base_of f + b) (base_of f + (h + hn + bn)) tail
-
   pub open_leads : (c : Conf) (k h hn b bn : ℕ) (result : Option (List ℕ)) → SealsAt k h hn b bn (length c.priv) → length c.stack < 160
       → unwrapped f.setup.mac (key_at f.setup c k) (bytes_from c.priv h hn) (bytes_from c.priv (h + hn) bn) (bytes_from c.priv (h + hn + bn) 16) ≡ result
       → HasPrefix all (after_open c k (bytes_from c.priv h hn) b bn result).marks
-      → Leads f st all B at 16 (open_words k h hn b bn (0x1385 ∷ 0x120f ∷ [])) 9 c (after_open c k (bytes_from c.priv h hn) b bn result)
+      → Leads f st all B at 16 (opening_words (base_of f) k h hn b bn) 9 c (after_open c k (bytes_from c.priv h hn) b bn result)
   open_leads c k h hn b bn result ok room is begins r d t on sh safe =
       let hold = sh.holds in
       let sz = hold.size in
@@ -317,7 +236,7 @@ module _ (f : Fixed) (st : Stands f) (all : List Mark) (B : Watched → Violatio
       let ad = bytes_from c.priv h hn in
       let Q = Stood f all at (after_open c k ad b bn result) in
       let v9 = key_place f k in
-      let rL = loaded r (at c.place + 28) v9 (base + h) hn (base + (h + hn)) bn (base + b) (base + (h + hn + bn)) in
+      let rL = with_operands r (at c.place + 28) v9 (base + h) hn (base + (h + hn)) bn (base + b) (base + (h + hn + bn)) in
       let rh = front_range h (hn + bn + 16) hn (length c.priv) hdr (omega arith) in
       let rc = part_range h (hn + bn + 16) hn bn (length c.priv) hdr (omega arith) in
       let rt : IsRange (h + hn + bn) 16 (length c.priv) = subst (λ o. IsRange o 16 (length c.priv)) (omega arith) (part_range h (hn + bn + 16) (hn + bn) 16 (length c.priv) hdr (omega arith)) in
@@ -331,8 +250,8 @@ module _ (f : Fixed) (st : Stands f) (all : List Mark) (B : Watched → Violatio
       let told : (plain : List ℕ) → d.marks ++ mark.Unwrapped (bytes_from d.mem (base + h) hn) (take bn plain) (v9 == 0) ∷ [] ≡ c.marks ++ mark.Unwrapped ad (take bn plain) (k == 0) ∷ [] =
       λ plain. ap (λ l. l ++ mark.Unwrapped (bytes_from d.mem (base + h) hn) (take bn plain) (v9 == 0) ∷ []) sh.marks ∙ ap (λ a. c.marks ++ mark.Unwrapped a (take bn plain) (v9 == 0) ∷ []) ea
       ∙ ap (λ o. c.marks ++ mark.Unwrapped ad (take bn plain) o ∷ []) (key_is_own k) in
-      loads_run f st all B Q (at c.place) 16 v9 (base + h) hn (base + (h + hn)) bn (base + b) (base + (h + hn + bn)) (0x1385 ∷ 0x120f ∷ []) t (omega arith) ls (omega arith) (omega arith)
-      (omega arith) (omega arith) (omega arith) (omega arith) r d 2 (omega (arith, sh.pc)) safe (λ sL.
+      loads f st all B Q t 0 (operands v9 (base + h) hn (base + (h + hn)) bn (base + b) (base + (h + hn + bn))) refl (omega arith) refl
+      (ls, (omega arith, (omega arith, (omega arith, (omega arith, (omega arith, (omega arith, tt))))))) r d 2 r.pc (omega (arith, sh.pc)) safe (λ sL.
       unwrap_step f st all B Q t 14 refl (omega arith) event.Quiet rL d key 1 result refl sL (buffers_here c k h hn b bn rL sz ok refl refl (private_range (h + hn) bn c.priv sz rc)
       (private_range b bn c.priv sz bdy) refl refl) (key_here c k c.stack r.sp rL d.mem ok.key hold refl) same
       (λ er s2. subst (λ o. Runs f all B (Stood f all at (after_open c k ad b bn o)) 1 (running f (record rL { pc = at c.place + 30; r15 = 0 }) d)) (sym er)

@@ -1,36 +1,30 @@
 -- An end is opened with the copied packet's field and the plain key, by a routine that stands once.
-use Rattle.sx_tmpl.specs.Assembly.{##◌, #◌, call, clr, mov, pc, pop, r12, ◌⟨◌⟩}
+use Rattle.sx_tmpl.specs.Assembly.{##◌, #◌, &◌, ◌⟨◌⟩, call, clr, mov, pc, pop, r12}
 use Rattle.sx_tmpl.proofs.Running.Instructions.{step}
 use Rattle.sx_tmpl.specs.Template.{slot_words}
-use Rattle.std.proofs.Common.{◌≡◌, ℕ, zero, suc, ◌+◌, ◌-◌, ◌*◌, ◌/◌, ◌%◌, ◌<◌, ◌≤◌, inl, inr, false, List, [], ◌∷◌, length, Option, Some, refl, sym, ◌∙◌, ap, subst, arith, slice_index}
+use Rattle.std.proofs.Common.{◌≡◌, ℕ, zero, suc, ◌+◌, ◌-◌, ◌*◌, ◌/◌, ◌%◌, ◌<◌, ◌≤◌, inl, inr, List, [], ◌∷◌, ◌++◌, length, Option, refl, sym, ◌∙◌, ap, subst, arith, slice_index}
 use Rattle.sx_reach.specs.Reach.{Here}
-use Rattle.sx_isa.specs.declared.instruction.Operand.TheVariants.{Indexed, Absolute}
-use Rattle.sx_isa.specs.declared.instruction.Op2.TheVariants as op2
-use Rattle.sx_isa.specs.declared.instruction.Instr.TheVariants.{Two}
+use Rattle.sx_isa.specs.Spelling.{spelling}
+use Rattle.sx_isa.specs.Standing.{words_of}
 use Rattle.sx_rules.specs.declared.access.Violation.{Violation}
 use Rattle.sx_machine.specs.declared.kinds.Event.TheVariants as event
-use Rattle.std.specs.Prelude.{slice_set}
+use Rattle.std.specs.Prelude.{slice_set, drop, take}
 use Rattle.sx_tmpl.proofs.Running.Mem.{cell-put_other, put_word_is, word_is, length-put}
-use Rattle.sx_machine.specs.Memory.{bytes_from, put_bytes}
+use Rattle.sx_machine.specs.Memory.{bytes_from, put_bytes, word, put_word}
 use Rattle.sx_mean.specs.Offsets as offsets
-use Rattle.sx_tmpl.proofs.Running.Steps.{three}
 use Rattle.sx_tmpl.proofs.Running.Flags.{flags_stay}
-use Rattle.sx_machine.specs.Memory.{word, put_word}
 use Rattle.sx_invoke.specs.Marks.{Mark}
 use Rattle.sx_image.specs.Watched.{Watched}
 use Rattle.sx_ir.specs.Conf.{Conf}
-use Rattle.sx_ir.specs.Meaning.{next}
+use Rattle.sx_ir.specs.Meaning.{next, slot_keyed}
 use Rattle.sx_tmpl.specs.Running.{Regs, Fixed, Data, running, Safe, cell}
 use Rattle.sx_tmpl.proofs.Running.MidRun.{Stands, Runs, put_cell}
 use Rattle.sx_tmpl.specs.Shows.{base_of, MemoryHolds, Stood}
 use Rattle.sx_tmpl.proofs.Running.Steps.{Text}
-use Rattle.std.specs.Prelude.{slice_get}
 use Rattle.sx_tmpl.proofs.Operations.Plain.{inside, Leads}
-use Rattle.sx_tmpl.proofs.Running.Words as w
+use Rattle.sx_tmpl.proofs.Operations.SealOps.{length_from}
+use Rattle.std.proofs.lemmas.List.{append_assoc}
 use Rattle.sx_tmpl.proofs.Running.Holding.{stack_word, data_word, holds_push, holds_pop, holds_store, holds_word, cell_below}
-use Rattle.sx_ir.specs.Meaning.{slot_keyed}
-use Rattle.sx_tmpl.proofs.Running.Steps.{three}
-use Rattle.sx_tmpl.proofs.Running.MidRun.{put_cell}
 
 -- a word below stays
 word_stays : (p : List ℕ) (o v j : ℕ) → o % 2 ≡ 0 → j % 2 ≡ 0 → j + 2 ≤ o → word (put_word p o v) j ≡ word p j
@@ -77,76 +71,48 @@ key_word k p o ev low h n lt = (key_keeps k p o ev low h n).0 (56 + 2 * n) (omeg
 key_length : (k p : List ℕ) (o : ℕ) → o % 2 ≡ 0 → 512 ≤ o → Keeps k p → (n : ℕ) → length (key_part k p o n) ≡ length p
 key_length k p o ev low h n = (key_keeps k p o ev low h n).1
 
--- the sixteen bytes of a key, word by word
-abbrev key_words : List ℕ → List ℕ → ℕ → List ℕ
-key_words K0 p o = put_word
-    (put_word (put_word (put_word (put_word (put_word (put_word (put_word K0 (o + 0) (word p 56)) (o + 2) (word p 58)) (o + 4) (word p 60)) (o + 6) (word p 62)) (o + 8) (word p 64)) (o + 10)
-    (word p 66)) (o + 12) (word p 68)) (o + 14) (word p 70)
+-- bytes after bytes
+put_append : (m : List ℕ) (a : ℕ) (xs ys : List ℕ) → put_bytes (put_bytes m a xs) (a + length xs) ys ≡ put_bytes m a (xs ++ ys)
+put_append m a [] ys = let e : a + 0 ≡ a = omega arith in ap (λ b. put_bytes m b ys) e
+put_append m a (x ∷ xs) ys =
+    let e : a + suc (length xs) ≡ a + 1 + length xs = omega arith in
+    ap (λ b. put_bytes (put_bytes (slice_set m a (x % 256)) (a + 1) xs) b ys) e ∙ put_append (slice_set m a (x % 256)) (a + 1) xs ys
 
-key_put : (K0 p : List ℕ) (o : ℕ) → o % 2 ≡ 0 → ((j : ℕ) → 56 ≤ j → j < 72 → slice_index p j < 256) → key_words K0 p o ≡ put_bytes K0 o (bytes_from p 56 16)
-unfolding bytes_from
-key_put K0 p o ev small =
-    let K1 = put_word K0 (o + 0) (word p 56) in
-    let K2 = put_word K1 (o + 2) (word p 58) in
-    let K3 = put_word K2 (o + 4) (word p 60) in
-    let K4 = put_word K3 (o + 6) (word p 62) in
-    let K5 = put_word K4 (o + 8) (word p 64) in
-    let K6 = put_word K5 (o + 10) (word p 66) in
-    let K7 = put_word K6 (o + 12) (word p 68) in
-    let K8 = put_word K7 (o + 14) (word p 70) in
-    let a0 : o + 2 ≡ o + 0 + 2 = omega arith in
-    let a1 : o + 4 ≡ o + 2 + 2 = omega arith in
-    let a2 : o + 6 ≡ o + 4 + 2 = omega arith in
-    let a3 : o + 8 ≡ o + 6 + 2 = omega arith in
-    let a4 : o + 10 ≡ o + 8 + 2 = omega arith in
-    let a5 : o + 12 ≡ o + 10 + 2 = omega arith in
-    let a6 : o + 14 ≡ o + 12 + 2 = omega arith in
-    let a7 : o + 16 ≡ o + 14 + 2 = omega arith in
-    let z : o + 0 ≡ o = omega arith in
-    ap (λ n. put_bytes K8 n ([])) a7 ∙ two_put K7 ([]) (o + 14) (slice_index p 70) (slice_index p 71) (omega arith) (small 70 (omega arith) (omega arith)) (small 71 (omega arith) (omega arith))
-    ∙ ap (λ n. put_bytes K7 n (slice_index p 70 ∷ slice_index p 71 ∷ [])) a6
-    ∙ two_put K6 (slice_index p 70 ∷ slice_index p 71 ∷ []) (o + 12) (slice_index p 68) (slice_index p 69) (omega arith) (small 68 (omega arith) (omega arith))
-    (small 69 (omega arith) (omega arith))
-    ∙ ap (λ n. put_bytes K6 n (slice_index p 68 ∷ slice_index p 69 ∷ slice_index p 70 ∷ slice_index p 71 ∷ [])) a5
-    ∙ two_put K5 (slice_index p 68 ∷ slice_index p 69 ∷ slice_index p 70 ∷ slice_index p 71 ∷ []) (o + 10) (slice_index p 66) (slice_index p 67) (omega arith)
-    (small 66 (omega arith) (omega arith)) (small 67 (omega arith) (omega arith))
-    ∙ ap (λ n. put_bytes K5 n (slice_index p 66 ∷ slice_index p 67 ∷ slice_index p 68 ∷ slice_index p 69 ∷ slice_index p 70 ∷ slice_index p 71 ∷ [])) a4
-    ∙ two_put K4 (slice_index p 66 ∷ slice_index p 67 ∷ slice_index p 68 ∷ slice_index p 69 ∷ slice_index p 70 ∷ slice_index p 71 ∷ []) (o + 8) (slice_index p 64) (slice_index p 65)
-    (omega arith) (small 64 (omega arith) (omega arith)) (small 65 (omega arith) (omega arith))
-    ∙ ap (λ n. put_bytes K4 n (slice_index p 64 ∷ slice_index p 65 ∷ slice_index p 66 ∷ slice_index p 67 ∷ slice_index p 68 ∷ slice_index p 69 ∷ slice_index p 70 ∷ slice_index p 71 ∷ [])) a3
-    ∙ two_put K3 (slice_index p 64 ∷ slice_index p 65 ∷ slice_index p 66 ∷ slice_index p 67 ∷ slice_index p 68 ∷ slice_index p 69 ∷ slice_index p 70 ∷ slice_index p 71 ∷ []) (o + 6)
-    (slice_index p 62) (slice_index p 63) (omega arith) (small 62 (omega arith) (omega arith)) (small 63 (omega arith) (omega arith))
-    ∙ ap (λ n. put_bytes K3 n
-    (slice_index p 62 ∷ slice_index p 63 ∷ slice_index p 64 ∷ slice_index p 65 ∷ slice_index p 66 ∷ slice_index p 67 ∷ slice_index p 68 ∷ slice_index p 69 ∷ slice_index p 70 ∷ slice_index p 71 ∷
-    [])) a2 ∙ two_put K2 (slice_index p 62 ∷ slice_index p 63 ∷ slice_index p 64 ∷ slice_index p 65 ∷ slice_index p 66 ∷ slice_index p 67 ∷ slice_index p 68 ∷ slice_index p 69 ∷ slice_index p 70
-    ∷ slice_index p 71 ∷ []) (o + 4) (slice_index p 60) (slice_index p 61) (omega arith) (small 60 (omega arith) (omega arith)) (small 61 (omega arith) (omega arith))
-    ∙ ap (λ n. put_bytes K2 n
-    (slice_index p 60 ∷ slice_index p 61 ∷ slice_index p 62 ∷ slice_index p 63 ∷ slice_index p 64 ∷ slice_index p 65 ∷ slice_index p 66 ∷ slice_index p 67 ∷ slice_index p 68 ∷ slice_index p 69 ∷
-    slice_index p 70 ∷ slice_index p 71 ∷ [])) a1
-    ∙ two_put K1 (slice_index p 60 ∷ slice_index p 61 ∷ slice_index p 62 ∷ slice_index p 63 ∷ slice_index p 64 ∷ slice_index p 65 ∷ slice_index p 66 ∷ slice_index p 67 ∷ slice_index p 68 ∷
-    slice_index p 69 ∷ slice_index p 70 ∷ slice_index p 71 ∷ []) (o + 2) (slice_index p 58) (slice_index p 59) (omega arith) (small 58 (omega arith) (omega arith))
-    (small 59 (omega arith) (omega arith))
-    ∙ ap (λ n. put_bytes K1 n
-    (slice_index p 58 ∷ slice_index p 59 ∷ slice_index p 60 ∷ slice_index p 61 ∷ slice_index p 62 ∷ slice_index p 63 ∷ slice_index p 64 ∷ slice_index p 65 ∷ slice_index p 66 ∷ slice_index p 67 ∷
-    slice_index p 68 ∷ slice_index p 69 ∷ slice_index p 70 ∷ slice_index p 71 ∷ [])) a0
-    ∙ two_put K0 (slice_index p 58 ∷ slice_index p 59 ∷ slice_index p 60 ∷ slice_index p 61 ∷ slice_index p 62 ∷ slice_index p 63 ∷ slice_index p 64 ∷ slice_index p 65 ∷ slice_index p 66 ∷
-    slice_index p 67 ∷ slice_index p 68 ∷ slice_index p 69 ∷ slice_index p 70 ∷ slice_index p 71 ∷ []) (o + 0) (slice_index p 56) (slice_index p 57) (omega arith)
-    (small 56 (omega arith) (omega arith)) (small 57 (omega arith) (omega arith))
-    ∙ ap (λ n. put_bytes K0 n
-    (slice_index p 56 ∷ slice_index p 57 ∷ slice_index p 58 ∷ slice_index p 59 ∷ slice_index p 60 ∷ slice_index p 61 ∷ slice_index p 62 ∷ slice_index p 63 ∷ slice_index p 64 ∷ slice_index p 65 ∷
-    slice_index p 66 ∷ slice_index p 67 ∷ slice_index p 68 ∷ slice_index p 69 ∷ slice_index p 70 ∷ slice_index p 71 ∷ [])) z
+-- the first words of a key are its first bytes
+key_put : (k p : List ℕ) (o : ℕ) → o % 2 ≡ 0 → ((j : ℕ) → 56 ≤ j → j < 72 → slice_index p j < 256) → (n : ℕ) → n ≤ 8 → key_part k p o n ≡ put_bytes k o (bytes_from p 56 (2 * n))
+unfolding bytes_from cell
+key_put k p o ev small zero le = refl
+key_put k p o ev small (suc n) le =
+    let bs = bytes_from p 56 (2 * n) in
+    let x = slice_index p (56 + 2 * n) in
+    let y = slice_index p (56 + 2 * n + 1) in
+    let lx : x < 256 = small (56 + 2 * n) (omega arith) (omega (arith, le)) in
+    let ly : y < 256 = small (56 + 2 * n + 1) (omega arith) (omega (arith, le)) in
+    let even_ : (56 + 2 * n) % 2 ≡ 0 = omega arith in
+    let even_o : (o + 2 * n) % 2 ≡ 0 = omega (arith, ev) in
+    let is : word p (56 + 2 * n) ≡ x + 256 * y = word_is p (56 + 2 * n) even_ in
+    let count : length bs ≡ 2 * n = length_from p 56 (2 * n) in
+    let last : 56 + suc (2 * n) ≡ 56 + 2 * n + 1 = omega arith in
+    let more : 2 * suc n ≡ suc (suc (2 * n)) = omega arith in
+    ap (λ v. put_word (key_part k p o n) (o + 2 * n) v) is
+    ∙ two_put (key_part k p o n) [] (o + 2 * n) x y even_o lx ly
+    ∙ ap (λ l. put_bytes l (o + 2 * n) (x ∷ y ∷ [])) (key_put k p o ev small n (omega (arith, le)))
+    ∙ ap (λ c. put_bytes (put_bytes k o bs) (o + c) (x ∷ y ∷ [])) (sym count)
+    ∙ put_append k o bs (x ∷ y ∷ [])
+    ∙ ap (λ l. put_bytes k o l) (sym (append_assoc bs (x ∷ []) (y ∷ [])))
+    ∙ ap (λ j. put_bytes k o ((bs ++ x ∷ []) ++ slice_index p j ∷ [])) (sym last)
+    ∙ ap (λ c. put_bytes k o (bytes_from p 56 c)) (sym more)
 
 module _ (f : Fixed) (st : Stands f) (all : List Mark) (B : Watched → Violation → Type 0) (at : ℕ → ℕ) (Q : Watched
     → Type 0) (P k : ℕ) (t : Text f P 32 (slot_words (base_of f))) (back : Option ℕ) (stack outside : List ℕ) where
   -- MOV &s, y(R12)
-  move_step : (i s o y : ℕ) → o ≡ offsets.end_at k + y → slice_get (slot_words (base_of f)) i ≡ Some 0x429c → slice_get (slot_words (base_of f)) (i + 1) ≡ Some (base_of f + s)
-      → slice_get (slot_words (base_of f)) (i + 2) ≡ Some y → i + 3 ≤ 32
+  move_step : (i s o y : ℕ) → o ≡ offsets.end_at k + y → take 3 (drop i (slot_words (base_of f))) ≡ spelling (mov (& (base_of f + s)) (y ⟨ r12 ⟩)) → i + 3 ≤ 32
       → 2 ≤ s → s + 2 ≤ 104 → s % 2 ≡ 0 → 512 ≤ o → o % 2 ≡ 0 → (r : Regs) (d : Data) (priv : List ℕ) (v j : ℕ) → r.r12 ≡ base_of f + offsets.end_at k → o + 2 ≤ length priv → word priv s ≡ v
       → MemoryHolds f at back stack priv outside r.sp d.mem → Safe f all (running f (record r { pc = P + 2 * i }) d)
       → ((m : List ℕ) → MemoryHolds f at back stack (put_word priv o v) outside r.sp m → Safe f all (running f (record r { pc = P + 2 * (i + 3) }) (record d { mem = m }))
       → Runs f all B Q j (running f (record r { pc = P + 2 * (i + 3) }) (record d { mem = m })))
       → Runs f all B Q (suc j) (running f (record r { pc = P + 2 * i }) d)
-  move_step i s o y eo g0 g1 g2 le s1 s2 se o1 oe r d priv v j e12 fits ev h safe after =
+  move_step i s o y eo has le s1 s2 se o1 oe r d priv v j e12 fits ev h safe after =
       let beneath = st.beneath in
       let sz2 = h.size in
       let place : (r.r12 + y) % 65536 ≡ base_of f + o = omega arith in
@@ -155,7 +121,7 @@ module _ (f : Fixed) (st : Stands f) (all : List Mark) (B : Watched → Violatio
       let po = data_word f st o (omega arith) oe (omega arith) in
       let is = holds_word f st at back stack priv outside r.sp d.mem s h se (record { low = s1; beside = inl (omega arith) }) (let y = st.room in omega arith) ∙ ev in
       let lv = subst (λ (n : ℕ). n < 65536) is (cell_below f st d.mem (base_of f + s) safe.memory) in
-      three f st all B Q t i 0x429c (base_of f + s) y (λ x y. Two op2.Mov false (Absolute x) (Indexed 12 y)) g0 g1 g2 le w.move_to_indexed_12 event.Quiet (record r { pc = P + 2 * i }) d j refl safe (
+      step f st all B Q t i (mov (& (base_of f + s)) (y ⟨ r12 ⟩)) has le refl refl event.Quiet (record r { pc = P + 2 * i }) d j refl safe (
         base_of f + s,
         refl,
         ps,
@@ -179,7 +145,8 @@ module _ (f : Fixed) (st : Stands f) (all : List Mark) (B : Watched → Violatio
 
 module _ (f : Fixed) (st : Stands f) (all : List Mark) (B : Watched → Violation → Type 0) (at : ℕ → ℕ) where
   pub set_end_leads : (c : Conf) (k A : ℕ) → Text f A 32 (slot_words (base_of f)) → offsets.end_at k + 24 ≤ length c.priv → length c.stack ≤ 160
-      → Leads f st all B at 4 (0x403c ∷ (base_of f + offsets.end_at k) ∷ 0x12b0 ∷ A ∷ []) 14 c (record (next c c.stack) { priv = slot_keyed c.priv k (word c.priv 18) (bytes_from c.priv 56 16) })
+      → Leads f st all B at 4 (words_of (mov (## (base_of f + offsets.end_at k)) r12 ∷ call (## A) ∷ [])) 14 c
+      (record (next c c.stack) { priv = slot_keyed c.priv k (word c.priv 18) (bytes_from c.priv 56 16) })
   set_end_leads c k A rt fits len r d t on sh safe =
       let h = sh.holds in
       let top = h.top in
@@ -223,44 +190,22 @@ module _ (f : Fixed) (st : Stands f) (all : List Mark) (B : Watched → Violatio
       let t2 : Keeps K0 p = keeps_on q1 p o2 1 (omega arith) (omega arith) t1 in
       let n0 : length q0 ≡ length p = t0.1 in
       let n1 : length q1 ≡ length p = t1.1 in
-      let v0 = word p 56 in
-      let v1 = word p 58 in
-      let v2 = word p 60 in
-      let v3 = word p 62 in
-      let v4 = word p 64 in
-      let v5 = word p 66 in
-      let v6 = word p 68 in
-      let v7 = word p 70 in
-      let K1 = put_word K0 (o + 0) v0 in
-      let K2 = put_word K1 (o + 2) v1 in
-      let K3 = put_word K2 (o + 4) v2 in
-      let K4 = put_word K3 (o + 6) v3 in
-      let K5 = put_word K4 (o + 8) v4 in
-      let K6 = put_word K5 (o + 10) v5 in
-      let K7 = put_word K6 (o + 12) v6 in
-      let K8 = put_word K7 (o + 14) v7 in
-      let m0 : length K0 ≡ length p = key_length K0 p o even_ low t2 0 in
-      let m1 : length K1 ≡ length p = key_length K0 p o even_ low t2 1 in
-      let m2 : length K2 ≡ length p = key_length K0 p o even_ low t2 2 in
-      let m3 : length K3 ≡ length p = key_length K0 p o even_ low t2 3 in
-      let m4 : length K4 ≡ length p = key_length K0 p o even_ low t2 4 in
-      let m5 : length K5 ≡ length p = key_length K0 p o even_ low t2 5 in
-      let m6 : length K6 ≡ length p = key_length K0 p o even_ low t2 6 in
-      let m7 : length K7 ≡ length p = key_length K0 p o even_ low t2 7 in
-      let m8 : length K8 ≡ length p = key_length K0 p o even_ low t2 8 in
-      let w0 : word K0 56 ≡ v0 = key_word K0 p o even_ low t2 0 (omega arith) in
-      let w1 : word K1 58 ≡ v1 = key_word K0 p o even_ low t2 1 (omega arith) in
-      let w2 : word K2 60 ≡ v2 = key_word K0 p o even_ low t2 2 (omega arith) in
-      let w3 : word K3 62 ≡ v3 = key_word K0 p o even_ low t2 3 (omega arith) in
-      let w4 : word K4 64 ≡ v4 = key_word K0 p o even_ low t2 4 (omega arith) in
-      let w5 : word K5 66 ≡ v5 = key_word K0 p o even_ low t2 5 (omega arith) in
-      let w6 : word K6 68 ≡ v6 = key_word K0 p o even_ low t2 6 (omega arith) in
-      let w7 : word K7 70 ≡ v7 = key_word K0 p o even_ low t2 7 (omega arith) in
+      let K = key_part K0 p o in
+      let long : (n : ℕ) → length (K n) ≡ length p = key_length K0 p o even_ low t2 in
+      let word_ : (n : ℕ) → n < 8 → word (K n) (56 + 2 * n) ≡ word p (56 + 2 * n) = key_word K0 p o even_ low t2 in
+      let fits_ : (n : ℕ) → n < 8 → o + 2 * n + 2 ≤ length (K n) = λ n lt. let same = long n in omega (arith, fits, same, lt) in
+      let move : (n : ℕ) → n < 8 → take 3 (drop (7 + 3 * n) (slot_words b)) ≡ spelling (mov (& (b + (56 + 2 * n))) ((8 + 2 * n) ⟨ r12 ⟩)) → (m : List ℕ) (j : ℕ)
+      → MemoryHolds f at c.back (ret ∷ c.stack) (K n) c.mem sp m → Safe f all (running f (record r_ { pc = A + 2 * (7 + 3 * n) }) (record d0 { mem = m }))
+      → ((m2 : List ℕ) → MemoryHolds f at c.back (ret ∷ c.stack) (K (suc n)) c.mem sp m2 → Safe f all (running f (record r_ { pc = A + 2 * (7 + 3 * n + 3) }) (record d0 { mem = m2 }))
+      → Runs f all B Q j (running f (record r_ { pc = A + 2 * (7 + 3 * n + 3) }) (record d0 { mem = m2 })))
+      → Runs f all B Q (suc j) (running f (record r_ { pc = A + 2 * (7 + 3 * n) }) (record d0 { mem = m })) =
+      λ n lt has m j h s after. move_step f st all B at Q A k rt c.back (ret ∷ c.stack) c.mem (7 + 3 * n) (56 + 2 * n) (o + 2 * n) (8 + 2 * n) (omega arith) has (omega (arith, lt)) (omega arith)
+      (omega (arith, lt)) (omega arith) (omega arith) (omega (arith, even_)) r_ (record d0 { mem = m }) (K n) (word p (56 + 2 * n)) j refl (fits_ n lt) (word_ n lt) h s after in
       let pn = data_word f st o1 (omega arith) (omega arith) (omega arith) in
       let po = data_word f st o2 (omega arith) (omega arith) (omega arith) in
       let i2 : (b + o0 + 2) % 65536 ≡ b + o1 = omega arith in
       let i4 : (b + o0 + 4) % 65536 ≡ b + o2 = omega arith in
-      let done : key_words K0 p o ≡ put_bytes K0 o (bytes_from p 56 16) = key_put K0 p o (omega arith) small in
+      let done : key_part K0 p o 8 ≡ put_bytes K0 o (bytes_from p 56 16) = key_put K0 p o even_ small 8 (omega arith) in
       step f st all B Q t 0 (mov (## (b + o0)) r12) refl (omega arith) refl refl event.Quiet r d 13 (omega (arith, sh.pc)) safe
       (λ ka. (
         r00,
@@ -281,7 +226,7 @@ module _ (f : Fixed) (st : Stands f) (all : List Mark) (B : Watched → Violatio
                 λ s_b.
                     subst (λ pc. Safe f all (running f (record r_ { pc = pc }) d0) → Runs f all B Q 12 (running f (record r_ { pc = pc }) d0)) (omega arith)
                     (λ s0.
-                    move_step f st all B at Q A k rt c.back (ret ∷ c.stack) c.mem 0 18 o0 0 (omega arith) refl refl refl (omega arith) (omega arith) (omega arith) refl (omega arith)
+                    move_step f st all B at Q A k rt c.back (ret ∷ c.stack) c.mem 0 18 o0 0 (omega arith) refl (omega arith) (omega arith) (omega arith) refl (omega arith)
                     (omega arith) r_ d0 p field 11 refl (omega arith) refl h0 s0 (λ ma ha sa.
                     step f st all B Q rt 3 (clr (2 ⟨ r12 ⟩)) refl (omega arith) refl refl event.Quiet (record r_ { pc = A + 6 })
                     (record d0 { mem = ma }) 10 refl sa (
@@ -313,22 +258,14 @@ module _ (f : Fixed) (st : Stands f) (all : List Mark) (B : Watched → Violatio
                                 λ sc.
                                     let hc = holds_store f st at c.back (ret ∷ c.stack) q1 c.mem sp (put_cell ma (b + o1) 0) o2 1 sb.memory hb (omega arith)
                                     (record { low = omega arith; beside = inr (omega arith) }) (omega arith) in
-                                    move_step f st all B at Q A k rt c.back (ret ∷ c.stack) c.mem 7 56 (o + 0) 8 (omega arith) refl refl refl (omega arith) (omega arith) (omega arith) refl
-                                    (omega arith) (omega arith) r_ (record d0 { mem = (put_cell (put_cell ma (b + o1) 0) (b + o2) 1) }) K0 v0 8 refl (omega arith) w0 hc sc (λ x0 h0 s0_.
-                                    move_step f st all B at Q A k rt c.back (ret ∷ c.stack) c.mem 10 58 (o + 2) 10 (omega arith) refl refl refl (omega arith) (omega arith) (omega arith) refl
-                                    (omega arith) (omega arith) r_ (record d0 { mem = x0 }) K1 v1 7 refl (omega arith) w1 h0 s0_ (λ x1 h1 s1_.
-                                    move_step f st all B at Q A k rt c.back (ret ∷ c.stack) c.mem 13 60 (o + 4) 12 (omega arith) refl refl refl (omega arith) (omega arith) (omega arith) refl
-                                    (omega arith) (omega arith) r_ (record d0 { mem = x1 }) K2 v2 6 refl (omega arith) w2 h1 s1_ (λ x2 h2 s2_.
-                                    move_step f st all B at Q A k rt c.back (ret ∷ c.stack) c.mem 16 62 (o + 6) 14 (omega arith) refl refl refl (omega arith) (omega arith) (omega arith) refl
-                                    (omega arith) (omega arith) r_ (record d0 { mem = x2 }) K3 v3 5 refl (omega arith) w3 h2 s2_ (λ x3 h3 s3_.
-                                    move_step f st all B at Q A k rt c.back (ret ∷ c.stack) c.mem 19 64 (o + 8) 16 (omega arith) refl refl refl (omega arith) (omega arith) (omega arith) refl
-                                    (omega arith) (omega arith) r_ (record d0 { mem = x3 }) K4 v4 4 refl (omega arith) w4 h3 s3_ (λ x4 h4 s4_.
-                                    move_step f st all B at Q A k rt c.back (ret ∷ c.stack) c.mem 22 66 (o + 10) 18 (omega arith) refl refl refl (omega arith) (omega arith) (omega arith) refl
-                                    (omega arith) (omega arith) r_ (record d0 { mem = x4 }) K5 v5 3 refl (omega arith) w5 h4 s4_ (λ x5 h5 s5_.
-                                    move_step f st all B at Q A k rt c.back (ret ∷ c.stack) c.mem 25 68 (o + 12) 20 (omega arith) refl refl refl (omega arith) (omega arith) (omega arith) refl
-                                    (omega arith) (omega arith) r_ (record d0 { mem = x5 }) K6 v6 2 refl (omega arith) w6 h5 s5_ (λ x6 h6 s6_.
-                                    move_step f st all B at Q A k rt c.back (ret ∷ c.stack) c.mem 28 70 (o + 14) 22 (omega arith) refl refl refl (omega arith) (omega arith) (omega arith) refl
-                                    (omega arith) (omega arith) r_ (record d0 { mem = x6 }) K7 v7 1 refl (omega arith) w7 h6 s6_ (λ x7 h7 s7_.
+                                    move 0 (omega arith) refl (put_cell (put_cell ma (b + o1) 0) (b + o2) 1) 8 hc sc (λ x0 h0 s0_.
+                                    move 1 (omega arith) refl x0 7 h0 s0_ (λ x1 h1 s1_.
+                                    move 2 (omega arith) refl x1 6 h1 s1_ (λ x2 h2 s2_.
+                                    move 3 (omega arith) refl x2 5 h2 s2_ (λ x3 h3 s3_.
+                                    move 4 (omega arith) refl x3 4 h3 s3_ (λ x4 h4 s4_.
+                                    move 5 (omega arith) refl x4 3 h4 s4_ (λ x5 h5 s5_.
+                                    move 6 (omega arith) refl x5 2 h5 s5_ (λ x6 h6 s6_.
+                                    move 7 (omega arith) refl x6 1 h6 s6_ (λ x7 h7 s7_.
                                     step f st all B Q rt 31 (pop pc) refl (omega arith) refl refl event.Quiet (record r_ { pc = A + 62 })
                                     (record d0 { mem = x7 }) 0 refl s7_ (
                                       sp,
@@ -350,7 +287,7 @@ module _ (f : Fixed) (st : Stands f) (all : List Mark) (B : Watched → Violatio
                                                   record {
                                                     pc = omega (arith, on);
                                                     holds = subst (λ l. MemoryHolds f at c.back c.stack l c.mem (sp + 2) x7) done
-                                                        (holds_pop f st at c.back ret c.stack K8 c.mem sp x7 h7);
+                                                        (holds_pop f st at c.back ret c.stack (K 8) c.mem sp x7 h7);
                                                     devices = sh.devices;
                                                     marks = sh.marks;
                                                   };

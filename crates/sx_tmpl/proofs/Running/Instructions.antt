@@ -1,5 +1,6 @@
 -- How an instruction is read where its first word stands, whatever its extension words are.
-use Rattle.std.proofs.Common.{◌≡◌, ℕ, zero, suc, ◌+◌, ◌*◌, ◌≤◌, ◌==◌, Bool, true, false, not, List, [], ◌∷◌, length, length-append, Some, refl, sym, ◌∙◌, ap, subst, arith, if◌then◌else◌, take, drop, get_or}
+use Rattle.std.proofs.Common.{◌≡◌, ℕ, zero, suc, ◌+◌, ◌*◌, ◌≤◌, ◌==◌, Bool, true, false, not, List, [], ◌∷◌, length, length-append, Some}
+use Rattle.std.proofs.Common.{refl, sym, ◌∙◌, ap, subst, arith, if◌then◌else◌, take, drop, get_or}
 use Rattle.std.specs.Prelude.{slice_get, nat_lt, ℤ, pos, negsuc}
 use Rattle.std.proofs.lemmas.Bool.{and_parts, ltb-true, true≢false, eq-eqb}
 use Rattle.sx_isa.specs.declared.instruction.Operand.{Operand}

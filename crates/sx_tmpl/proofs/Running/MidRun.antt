@@ -1,6 +1,7 @@
 -- What templates rely on of a module in mid-run, and the bytes of its private section.
 use Rattle.std.specs.Prelude.{◌≡◌, ℕ, ◌+◌, ◌/◌, ◌%◌, ◌<◌, ◌≤◌, true, false, List, Option, Some, None, slice_set, if◌then◌else◌}
-use Rattle.sx_reach.specs.Reach.{Comes}
+use Rattle.std.proofs.Common.{arith}
+use Rattle.sx_reach.specs.Reach.{Comes, Here, Next, Ends}
 use Rattle.sx_bus.specs.Devices.{device_at}
 use Rattle.sx_rules.specs.declared.access.Access.{Access}
 use Rattle.sx_rules.specs.declared.access.Violation.{Violation}
@@ -29,6 +30,12 @@ pub record Stands (f : Fixed) : Type 0 where
 -- the run of a module comes to Q, or ends in a violation with B
 abbrev pub Runs : Fixed → List Mark → (Watched → Violation → Type 0) → (Watched → Type 0) → ℕ → Watched → Type 0
 Runs f all B Q n c = Comes Watched Violation (watch f.setup.mac) (λ _. 1) (Safe f all) B Q n c
+
+-- so it does within a greater count
+pub later : (f : Fixed) (all : List Mark) (B : Watched → Violation → Type 0) (Q : Watched → Type 0) (n m : ℕ) (c : Watched) → n ≤ m → Runs f all B Q n c → Runs f all B Q m c
+later f all B Q n m c le (Here q) = Here q
+later f all B Q n m c le (Next {k = k} p e h r) = Next {k = k} p e (omega arith) r
+later f all B Q n m c le (Ends p e h b) = Ends p e (omega arith) b
 
 abbrev pub device_refusal : Option ℕ → Option Violation
 device_refusal None = None

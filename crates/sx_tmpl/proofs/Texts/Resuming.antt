@@ -20,16 +20,14 @@ use Rattle.sx_invoke.specs.Progress.{bytes_in}
 use Rattle.sx_invoke.specs.Windows.{is_bad_window}
 use Rattle.sx_image.specs.Watched.{Watched}
 use Rattle.sx_image.specs.Image.{private_bytes}
-use Rattle.sx_image.specs.Realizes.{begins}
+use Rattle.sx_image.specs.Realizes.{begins, KeepsOutside}
 use Rattle.sx_tmpl.specs.Performs.{HasRoom}
-use Rattle.sx_tmpl.specs.Running.{Fixed, pieces_end, sections_of, regs16, Safe}
+use Rattle.sx_tmpl.specs.Running.{Fixed, pieces_end, sections_of, regs16, Safe, cell, running}
 use Rattle.sx_tmpl.proofs.Running.MidRun.{Stands}
 use Rattle.sx_tmpl.specs.Shows.{Stood}
 use Rattle.sx_tmpl.proofs.Running.Owned.{run_holder, public_bounds}
 use Rattle.sx_mean.specs.Working.{stack_to}
 use Rattle.sx_ir.specs.Conf.{Conf}
-use Rattle.sx_image.specs.Realizes.{KeepsOutside}
-use Rattle.sx_tmpl.specs.Running.{cell, running}
 use Rattle.sx_tmpl.proofs.Texts.Entering.{bytes_from_get, free_of_devices, from_gets, gets, outside_window, private_free, regs_at, data_at, window_short}
 use Rattle.sx_machine.proofs.Lengths.{length-bytes_from}
 

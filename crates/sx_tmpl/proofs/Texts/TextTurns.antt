@@ -10,7 +10,7 @@ use Rattle.sx_ir.specs.declared.ir.Ir.{Ir}
 use Rattle.sx_ir.specs.Sizes.{bytes, exit_bytes, has_routine, packet_bytes, routines, slot_bytes}
 use Rattle.sx_tmpl.specs.Template.{Addresses, template, entry_words, leave_words, slot_words}
 use Rattle.sx_tmpl.specs.Text.{addresses, bytes_of, packet_words, packet_words_of, part_place, places_from, text_words, words_of}
-use Rattle.sx_tmpl.specs.Fits.{AreCounts, AreMarks, IsTable}
+use Rattle.sx_tmpl.specs.Fits.{AreCounts, AreNoted, IsTable}
 use Rattle.sx_tmpl.specs.declared.table.Table.{Table}
 use Rattle.sx_tmpl.proofs.Texts.TextBytes.{bytes_append}
 use Rattle.sx_tmpl.proofs.Texts.TextPlaces.{exit_is, length-places, routines_more}
@@ -81,15 +81,15 @@ part_is (p ∷ parts) zero = refl
 part_is (p ∷ parts) (suc h) = part_is parts h
 
 -- a table that is filled so
-pub table_is : (l : Layout) (code : Code) (t : Table) → t.places.items ≡ places_from (l.pub_from + 24) code.ops.items → AreMarks code.ops.items t.marks.items
+pub table_is : (l : Layout) (code : Code) (t : Table) → t.places.items ≡ places_from (l.pub_from + 24) code.ops.items → AreNoted code.ops.items t.noted.items
     → AreCounts code.ops.items 256 t.routines.items → l.pub_from + bytes code.ops.items < 65536 → IsTable l code t
-table_is l code t places marks counts room =
+table_is l code t places noted counts room =
     let exit = exit_is (l.pub_from + 24) code.ops.items in
     let at = ap (λ (p : List ℕ). slice_index p (length code.ops.items)) places in
     record {
       places = places;
       count = ap (λ (p : List ℕ). length p) places ∙ length-places (l.pub_from + 24) code.ops.items;
-      marks = marks;
+      noted = noted;
       counts = counts;
       below = omega (arith, exit, at, room);
     }
@@ -110,7 +110,8 @@ whole l code t0 t1 t2 t3 t4 t5 t6 e1 e2 e3 e4 e5 e6 =
     ∙ ap (λ (t : List ℕ). t ++ bytes_of (ws ++ (leave_words b ++ (slot_words b ++ (ps ++ 0 ∷ []))))) e1 ∙ joined t0 (entry_words b) (ws ++ (leave_words b ++ (slot_words b ++ (ps ++ 0 ∷ []))))
 
 -- with the routines before an end's the text is within memory
-pub before_below : (l : Layout) (code : Code) (t : Table) (k n : ℕ) → IsTable l code t → k < 256 → n ≡ routines code.ops.items k → (addresses l code).at (length code.ops.items) + (exit_bytes + slot_bytes) + packet_bytes * n < 65536
+pub before_below : (l : Layout) (code : Code) (t : Table) (k n : ℕ) → IsTable l code t → k < 256 → n ≡ routines code.ops.items k
+    → (addresses l code).at (length code.ops.items) + (exit_bytes + slot_bytes) + packet_bytes * n < 65536
 before_below l code t k n h lt e =
     let more = routines_more code.ops.items k (256 - k) in
     let all : k + (256 - k) ≡ 256 = omega (arith, lt) in

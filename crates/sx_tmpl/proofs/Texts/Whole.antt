@@ -1,28 +1,25 @@
 -- From the operations' templates to the whole code.
 use Rattle.std.proofs.Common.{◌≡◌, ℕ, zero, suc, ◌+◌, ◌-◌, ◌*◌, ◌%◌, ◌<◌, ◌≤◌, inl, Bool, true, false, ◌&&◌, nat_le, ◌++◌, List, [], ◌∷◌, length, Option, Some, None, refl, sym, ◌∙◌, ap, subst, arith}
-use Rattle.sx_reach.specs.Reach.{Here}
 use Rattle.sx_rules.specs.declared.access.Violation.{Violation}
-use Rattle.sx_machine.specs.Memory.{word, put_word}
-use Rattle.sx_invoke.specs.Marks.{Mark}
+use Rattle.sx_machine.specs.Memory.{word, put_word, bytes_from, put_bytes}
+use Rattle.sx_invoke.specs.Marks.{Mark, HasPrefix}
 use Rattle.sx_image.specs.Watched.{Watched}
-use Rattle.sx_ir.specs.Conf.{Conf}
-use Rattle.sx_ir.specs.Meaning.{next}
+use Rattle.sx_ir.specs.Conf.{Conf, Halt, Violates, Stuck}
+use Rattle.sx_ir.specs.Meaning.{next, OperationResult, when, pushed, operated, emit, emitted, saved, stop, is_saved, has_out_window, has_copy_room, do_op, do_at}
 use Rattle.sx_tmpl.specs.Running.{Regs, Fixed, Data, running, Safe}
 use Rattle.sx_tmpl.proofs.Running.Outcomes.{goes_same}
-use Rattle.sx_tmpl.proofs.Running.MidRun.{Stands, Runs}
+use Rattle.sx_tmpl.proofs.Running.MidRun.{Stands, Runs, later}
 use Rattle.sx_tmpl.specs.Shows.{base_of, IsData, ShowsConfiguration, Stood}
 use Rattle.sx_tmpl.proofs.Running.Steps.{Text, InText}
 use Rattle.std.specs.Prelude.{slice_get, nat_lt, ◌==◌}
 use Rattle.std.proofs.lemmas.Bool.{ltb-true, leb-true, and_parts}
-use Rattle.sx_tmpl.proofs.Operations.Plain.{Leads}
-use Rattle.sx_reach.specs.Reach.{Next, Ends}
+use Rattle.sx_tmpl.proofs.Operations.Plain.{Leads, push_leads, load_leads, store_leads, add_leads}
 use Rattle.sx_reach.specs.Reach.{Goes, Stops}
 use Rattle.sx_tmpl.proofs.Texts.Made.{made_prefix}
 use Rattle.sx_invoke.specs.Pieces.{made_bytes}
 use Rattle.sx_mean.specs.Offsets as offsets
 use Rattle.sx_mean.specs.Working as working
 use Rattle.sx_invoke.specs.Marks as mark
-use Rattle.sx_invoke.specs.Marks.{HasPrefix}
 use Rattle.sx_tag.specs.Mac.{IsTag}
 use Rattle.sx_invoke.specs.ModuleState.{end_state}
 use Rattle.sx_invoke.specs.Acts.{own_window}
@@ -33,12 +30,9 @@ use Rattle.sx_ir.specs.declared.ir.IrOp.{IrOp}
 use Rattle.sx_ir.specs.declared.ir.IrOp.TheVariants as op
 use Rattle.sx_ir.specs.declared.ir.Ir.{Ir}
 use Rattle.sx_ir.specs.declared.ir.Ir.TheVariants as ir
-use Rattle.sx_ir.specs.Conf.{Halt, Violates, Stuck}
 use Rattle.sx_ir.specs.Counts.{count_of}
-use Rattle.sx_ir.specs.Meaning.{OperationResult, when, pushed, operated, emit, emitted, saved, stop, is_saved, has_out_window, has_copy_room, do_op, do_at}
 use Rattle.sx_ir.specs.Meaning.{op_step, op_count, count_at, handler_count, OnViolation, send}
 use Rattle.sx_tmpl.specs.Template.{Addresses, operator_words, template, slot_words, routine_words}
-use Rattle.sx_tmpl.proofs.Operations.Plain.{push_leads, load_leads, store_leads, add_leads}
 use Rattle.sx_tmpl.proofs.Operations.Branch.{jump_leads, jump_zero_leads, jump_not_leads, lt_leads, eq_leads}
 use Rattle.sx_tmpl.proofs.Operations.Arrays.{IsArray, load_at_leads, store_at_leads}
 use Rattle.sx_tmpl.proofs.Operations.Arith.{sub_leads, and_leads, or_leads, xor_leads, neg_leads, inv_leads, not_leads, drop_leads}
@@ -55,7 +49,6 @@ use Rattle.sx_tmpl.proofs.Running.Holding.{IsRange}
 use Rattle.sx_bus.specs.Devices.{cleared}
 use Rattle.std.proofs.Common.{take, cond}
 use Rattle.sx_tag.specs.Wrap.{unwrapped}
-use Rattle.sx_machine.specs.Memory.{bytes_from, put_bytes}
 use Rattle.sx_ir.specs.Meaning.{key_at, opened, sense, sensor_read, copy_in, copy_out}
 use Rattle.sx_tmpl.proofs.Operations.Parts.{handler_leads, stop_leads}
 use Rattle.sx_lists.specs.Truth.{truth}
@@ -144,13 +137,8 @@ module _ (f : Fixed) (st : Stands f) (all : List Mark) (BV : Violation → List 
   abbrev pub Runs_on : List ℕ → ℕ → Conf → Conf → Type 0
   Runs_on ws count c t = Leads f st all B a.at (length ws) ws count c t
 
-  more : (Q : Watched → Type 0) (n m : ℕ) (c : Watched) → n ≤ m → Runs f all B Q n c → Runs f all B Q m c
-  more Q n m c le (Here q) = Here q
-  more Q n m c le (Next {k = j} p e h r) = Next {k = j} p e (omega arith) r
-  more Q n m c le (Ends p e h b) = Ends p e (omega arith) b
-
   lift : (ws : List ℕ) (k m : ℕ) (c c2 t : Conf) → k ≤ m → c2 ≡ t → Runs_on ws k c c2 → Runs_on ws m c t
-  lift ws k m c c2 t le e h = subst (λ t. Runs_on ws m c t) e (λ r d tx on sh safe. more (Stood f all a.at c2) k m (running f r d) le (h r d tx on sh safe))
+  lift ws k m c c2 t le e h = subst (λ t. Runs_on ws m c t) e (λ r d tx on sh safe. later f all B (Stood f all a.at c2) k m (running f r d) le (h r d tx on sh safe))
 
   operator_goes : (g : IrOp) (stack : List ℕ) (c t : Conf) → operated g (record c { stack = stack }) ≡ Goes t → Runs_on (operator_words g) (count_of (ir.Op g)) (record c { stack = stack }) t
   operator_goes g [] c t e = absurd (none g e)
@@ -437,17 +425,12 @@ module _ (f : Fixed) (st : Stands f) (all : List Mark) (BV : Violation → List 
   no_meaning : (stack : List ℕ) (c : Conf) (w : Halt) → Stuck ≡ w → OnViolation BV (record c { stack = stack }) w → ⊥
   no_meaning stack c w e b = subst (λ w. OnViolation BV (record c { stack = stack }) w) (sym e) b
 
-  later : (n m : ℕ) (c : Watched) → n ≤ m → Runs f all Bw (λ _. ⊥) n c → Runs f all Bw (λ _. ⊥) m c
-  later n m c le (Here q) = Here q
-  later n m c le (Next {k = j} p e h r) = Next {k = j} p e (omega arith) r
-  later n m c le (Ends p e h b) = Ends p e (omega arith) b
-
   packet_stops : (k v : ℕ) (rest : List ℕ) (c : Conf) (w : Halt) → slice_get code c.place ≡ Some (ir.Packet k) → IsSoundOp f a (ir.Packet k) → Good f all a code (record c { stack = v ∷ rest })
       → send f.setup (record c { stack = v ∷ rest }) k v (end_state c.priv k) ≡ Stops w → OnViolation BV (record c { stack = v ∷ rest }) w → Op_stops (ir.Packet k) (v ∷ rest) c
   packet_stops k v rest c Stuck here ok g e b r d tx on sh safe = absurd b
   packet_stops k v rest c (Violates x marks) here ok g e b r d tx on sh safe =
       let sz = sh.holds.size in
-      later 126 200 (running f r d) (omega arith) (packet_breaks f st all Bw a.at tag c k v (a.packet k) rest x marks (omega (arith, ok.1)) g.stack ok.0 e
+      later f all Bw (λ _. ⊥) 126 200 (running f r d) (omega arith) (packet_breaks f st all Bw a.at tag c k v (a.packet k) rest x marks (omega (arith, ok.1)) g.stack ok.0 e
       (begins x marks b) g.from g.to r d tx on sh safe (λ u m. subst (λ l. BV x l) (sym m) b))
 
   pub op_stops : (i : Ir) (stack : List ℕ) (c : Conf) (w : Halt) → slice_get code c.place ≡ Some i → IsSoundOp f a i → Good f all a code (record c { stack = stack })
@@ -475,14 +458,14 @@ module _ (f : Fixed) (st : Stands f) (all : List Mark) (BV : Violation → List 
   op_stops ir.Stop stack c w here ok g e b = absurd (no_meaning stack c w (stop_stops (record c { stack = stack }) c.back w e) b)
   op_stops (ir.Saved r) stack c w here ok g e b = absurd (no_meaning stack c w (when_stops (is_saved r) _ w e (λ x. pushed_stops (record c { stack = stack }) _ w x)) b)
   op_stops ir.Inside stack c Stuck here ok g e b = absurd b
-  op_stops ir.Inside stack c (Violates v m) here ok g e b = λ r d tx on sh safe. later 6 16 (running f r d) (omega arith)
+  op_stops ir.Inside stack c (Violates v m) here ok g e b = λ r d tx on sh safe. later f all Bw (λ _. ⊥) 6 16 (running f r d) (omega arith)
       (ending_stops _ _ _ v m (inside_ends f st all Bw a.at (record c { stack = stack })) e r d tx on sh safe (λ u k. subst (λ l. BV v l) (sym k) b))
   op_stops (ir.Meets r n) stack c w here ok g e b = absurd (no_meaning stack c w (when_stops (is_saved r) _ w e (λ x. pushed_stops (record c { stack = stack }) _ w x)) b)
   op_stops (ir.CopyIn zero o) stack c w here ok g e b = absurd (omega (arith, ok.0))
   op_stops (ir.CopyIn (suc n) o) stack c Stuck here ok g e b = absurd b
   op_stops (ir.CopyIn (suc n) o) stack c (Violates v m) here ok g e b = λ r d tx on sh safe.
       let c1 = record c { stack = stack } in
-      later (7 + 4 * suc n) (16 + 8 * suc n + 0) (running f r d) (omega arith)
+      later f all Bw (λ _. ⊥) (7 + 4 * suc n) (16 + 8 * suc n + 0) (running f r d) (omega arith)
       (ending_stops (copy_in f.setup c1 (suc n) o) _ _ v m (copy_in_ends f st all Bw a.at c1 n o (subst (λ s. IsRange o (suc n) s) (size_is f c.priv sh.holds.size) ok.2)
       (omega (arith, ok.1))) e r d tx on sh safe (λ u k. subst (λ l. BV v l) (sym k) b))
   op_stops (ir.CopyOut zero o) stack c w here ok g e b = absurd (omega (arith, ok.0))
@@ -493,7 +476,7 @@ module _ (f : Fixed) (st : Stands f) (all : List Mark) (BV : Violation → List 
       let to = copy_ends f all a code (record c { stack = v ∷ rest }) v (suc n) t.0 t.1 g in
       let from = g.from in
       let w : (f.from ≤ saved c 14 + v) × (saved c 14 + v + suc n ≤ f.to) = (omega (arith, from), omega (arith, from, to)) in
-      later (8 + 4 * suc n) (16 + 8 * suc n + 0) (running f r d) (omega arith) (ending_stops (copy_out f.setup (record c { stack = v ∷ rest }) (suc n) o v rest) _ _ x m
+      later f all Bw (λ _. ⊥) (8 + 4 * suc n) (16 + 8 * suc n + 0) (running f r d) (omega arith) (ending_stops (copy_out f.setup (record c { stack = v ∷ rest }) (suc n) o v rest) _ _ x m
       (copy_out_ends f st all Bw a.at c v rest n o (subst (λ s. IsRange o (suc n) s) (size_is f c.priv sh.holds.size) ok.2) (omega (arith, ok.1)) w.0 w.1) e r d tx on sh safe
       (λ u k. subst (λ l. BV x l) (sym k) b))
   op_stops (ir.Seal k h hn x xn) stack c w here ok g e b = absurd (goes_never _ w e)

@@ -7,4 +7,5 @@ put_packet-requires-clause-slot c = c.requires.slots c.loop-end.end (omega (arit
 
 pub loop-end-preserved : goal.loop-end-preserved
 loop-end-preserved c =
-    packets_turn c.args.layout.now.priv_from c.args.code.now.ops.items c.loop-end.end c.loop-end.text.items c.put_packet.new.text.items c.args.text.now.items c.in_ok-put_packet.ensures c.loop-end.invariant
+    packets_turn c.args.layout.now.priv_from c.args.code.now.ops.items c.loop-end.end c.loop-end.text.items c.put_packet.new.text.items c.args.text.now.items
+    c.in_ok-put_packet.ensures c.loop-end.invariant
