@@ -6,7 +6,8 @@
 What else stands in the files of specs/ that are reached is shown too, by name: no file should hold any.
 
 A definition is reached where its name stands in one that is reached. Its lines count without comments and imports;
-the kit's own definitions don't count. Two tiers: the core is about runs, for every sound setting and every list of
+the kit's own definitions don't count. Of some definitions a reader believes only that they are functions (FUNCTIONS);
+what stands behind these isn't reached. Two tiers: the core is about runs, for every sound setting and every list of
 lines in form; the rest is what leads there from the text that is read, and to the text that is written.
 """
 
@@ -27,6 +28,8 @@ CORE = SOURCE + [
 # The record of the command `run` with the moments that it is about, and what the whole program promises.
 HEADLINE = ["*.Runs.RunSays", "sx_told.Told.command_at"]
 PROGRAM = ["*.Promises.ProgramTold"]
+# The images are a function of the deployment; which one, the compiler says, and nobody has to believe that.
+FUNCTIONS = {("sx_command_world.Compiled", "compiled_texts")}
 
 WORD = re.compile(r"[^\s(){}\[\],;:.=→λ∷×⊎≡≤<+*/%&|?!«»]+")
 # The operator `>>=`, which a `do` block stands for, as WORD finds it.
@@ -165,6 +168,8 @@ class Repository:
         return key
 
     def named(self, key):
+        if key in FUNCTIONS:
+            return
         module = key[0]
         for row in self.definitions[key].text:
             code = row.split(" -- ")[0]

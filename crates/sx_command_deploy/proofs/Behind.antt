@@ -25,7 +25,7 @@ use Rattle.sx_deploy.specs.Deployment.{Deployed, IsRead}
 use Rattle.sx_deploy.specs.SeenDeployment.{deployed_as}
 use Rattle.sx_deploy.specs.declared.deployment.Deployment.{Deployment}
 use Rattle.sx_deploy.proofs.Meanings.{one_meaning}
-use Rattle.sx_setup.specs.Laws.{AreByteTexts}
+use Rattle.sx_run.specs.Accepted.{AreByteTexts}
 use Rattle.sx_command_head.specs.Begun.{HasHead}
 use Rattle.sx_command_head.specs.Headless.{EndsHeadless}
 use Rattle.sx_command_head.specs.Meanings.{Meaning}
@@ -47,6 +47,7 @@ does_read {tells} {to_tell} {now} {s0} {s1} {k0} {k1} {status} mac own text (Err
     rw same (inr (record {
       texts = [];
       realize = λ d other. absurd (cc (one_meaning text (Ok d) (Err f) other read));
+      made = λ d other. absurd (cc (one_meaning text (Ok d) (Err f) other read));
       bytes = no_bytes;
       rest = λ meaning is limit m0 defined aside noted b.
           told-stop b
@@ -102,6 +103,7 @@ told_found {tells} {to_tell} {s0} {s1} {k0} {now} {m2} {status} mac own text got
       bytes = does.bytes;
       headed = λ e six. is_some text e;
       realize = does.realize;
+      made = does.made;
       told = λ meaning is.
           told_also (λ answers. HasHead (Some text) (head answers)) (λ answers e. has_head (head answers) text e)
           (does.rest meaning is head_lines (command_at s0 k0) (deploy_output own meaning does.texts) marked_in (1 ∷ text)
@@ -119,6 +121,7 @@ told_none {tells} {to_tell} {s0} {s1} {k0} {k1} {status} mac own h o none e r w 
       bytes = no_bytes;
       headed = λ n. never;
       realize = λ d deploys. absurd deploys;
+      made = λ d deploys. absurd deploys;
       told = λ meaning is.
           told-reads (head_output own meaning []) o refl r (λ answers q. (ap (head_output own meaning []) q ∙ e meaning, let P : Head → Type 0 = HasHead None in subst P (sym q) none)) w;
     })

@@ -10,8 +10,7 @@ use Rattle.sx_told.proofs.Due.{streams-by}
 use Rattle.sx_tag.specs.Mac.{Mac}
 use Rattle.sx_head.specs.Head.{head, head_lines}
 use Rattle.sx_deploy.specs.Deployment.{Deployed}
-use Rattle.sx_run.specs.Accepted.{AreImages}
-use Rattle.sx_setup.specs.Laws.{AreByteTexts}
+use Rattle.sx_run.specs.Accepted.{AreByteTexts, AreImages}
 use Rattle.sx_command.specs.Faults.{TellsFaults}
 use Rattle.sx_command.proofs.Ends.{faults_of}
 use Rattle.sx_command_head.specs.Begun.{Deploys, Starved}
@@ -63,6 +62,7 @@ says_with {tells} {to_tell} {m0} {m1} {status} mac part owes w own = record {
     texts = w.texts;
     headed = w.headed;
     realize = w.realize;
+    made = w.made;
     told = w.told;
     streams = λ meaning is. streams-by longest (deploy_output part.output meaning w.texts) (due_all part owes meaning is w.texts) (w.told meaning is);
     own = own;

@@ -10,12 +10,12 @@ use Rattle.sx_stage.specs.declared.fault.DeployFault.{DeployFault}
 use Rattle.sx_tag.specs.Mac.{Mac}
 use Rattle.sx_head.specs.Head.{Head, head, head_lines}
 use Rattle.sx_deploy.specs.Deployment.{Deployed, IsRead}
-use Rattle.sx_run.specs.Accepted.{AreImages}
-use Rattle.sx_setup.specs.Laws.{AreByteTexts}
+use Rattle.sx_run.specs.Accepted.{AreByteTexts, AreImages}
 use Rattle.sx_command_head.specs.Begun.{Deploys, HasHead, Starved}
 use Rattle.sx_command_head.specs.Ends.{RanOut}
 use Rattle.sx_command_head.specs.Meanings.{Meaning, IsMeaning}
 use Rattle.sx_command_head.specs.Refused.{fault_output}
+use Rattle.sx_command_world.specs.Compiled.{compiled_texts}
 use Rattle.sx_command_deploy.specs.Deploy.{Behind, by_deployment, by_head, deploy_output}
 
 -- what is written of a deployment that was read, or the rule that it breaks
@@ -39,6 +39,7 @@ pub record DeploysBehind (mac : Mac) (own : Behind) (tells to_tell : Bool) (now 
     (text : List ℕ) : Type 0 where
   pub texts : List (List ℕ)
   pub realize : (d : Deployed) → IsRead text (Ok d) → AreImages mac d texts
+  pub made : (d : Deployed) → IsRead text (Ok d) → texts ≡ compiled_texts d
   pub bytes : AreByteTexts texts
   pub rest : (meaning : Meaning) → IsMeaning meaning
       → Rest tells to_tell head_lines now m1 m2 status (found_output own texts (meaning text))
@@ -58,6 +59,7 @@ pub record ToldWith (mac : Mac) (own : Behind) (tells to_tell : Bool) (m0 m1 : C
   pub bytes : AreByteTexts texts
   pub headed : deployment ≡ None → status ≡ out_of_memory → ⊥
   pub realize : (d : Deployed) → Deploys deployment d → AreImages mac d texts
+  pub made : (d : Deployed) → Deploys deployment d → texts ≡ compiled_texts d
   pub told : (meaning : Meaning) → IsMeaning meaning
       → Told tells to_tell head_lines m0 m1 status (deploy_output own meaning texts)
       (λ answers. HasHead deployment (head answers))

@@ -10,6 +10,7 @@ use Rattle.sx_run.specs.Accepted.{AreImages}
 use Rattle.sx_command.specs.Faults.{IsFaultless, TellsFaults}
 use Rattle.sx_command_head.specs.Begun.{Deploys, HasHead, Starved}
 use Rattle.sx_command_head.specs.Meanings.{Meaning, IsMeaning, input_of}
+use Rattle.sx_command_world.specs.Compiled.{compiled_texts}
 use Rattle.sx_command_deploy.specs.Deploy.{Behind, deploy_output, deploy_status}
 
 -- What a command that deploys has of its own: what it writes behind the head, and its status there,
@@ -21,17 +22,18 @@ pub record OwnPart : Type 1 where
   pub Cut : ℕ → Type 0
   pub With : Option (List ℕ) → List (List ℕ) → Type 0
 
--- There are images, each of which realizes its module of the deployment that was read, and what was
--- written is what is defined with these images (`told`); no more was taken than must be
--- (`streams`); and the command's own promises hold of them (`own`). An input of status 0 is taken
--- to its end, unless the command was cut short (`complete`). That there is no head is reported
--- without memory (`headed`).
+-- There are images, each of which realizes its module of the deployment that was read, and they
+-- follow from the deployment alone (`made`); what was written is what is defined with them
+-- (`told`); no more was taken than must be (`streams`); and the command's own promises hold of them
+-- (`own`). An input of status 0 is taken to its end, unless the command was cut short (`complete`).
+-- That there is no head is reported without memory (`headed`).
 pub record DeploysWith (mac : Mac) (part : OwnPart) (tells to_tell : Bool) (m0 m1 : CommandAt)
     (status : ℕ) : Type 0 where
   pub deployment : Option (List ℕ)
   pub texts : List (List ℕ)
   pub headed : deployment ≡ None → status ≡ out_of_memory → ⊥
   pub realize : (d : Deployed) → Deploys deployment d → AreImages mac d texts
+  pub made : (d : Deployed) → Deploys deployment d → texts ≡ compiled_texts d
   pub told : (meaning : Meaning) → IsMeaning meaning
       → Told tells to_tell head_lines m0 m1 status (deploy_output part.output meaning texts)
       (λ answers. HasHead deployment (head answers))

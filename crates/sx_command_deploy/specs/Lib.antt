@@ -1,5 +1,6 @@
 -- Begin with Deploys: what a command that deploys promises. Deploy has what it writes, and its
--- status.
+-- status. Same is for laws on two calls.
 pub mod Afterwards
 pub mod Deploy
 pub mod Deploys
+pub mod Same

@@ -1,14 +1,12 @@
 //! What a command that deploys does before its own part: it reads the head, judges the deployment,
 //! and makes the images.
 
-ghost use Rattle.std.specs.Prelude.{◌≡◌, ◌<◌, ℕ, All, List, IfErr, IfOk, IsTrue, OnErr, Ok};
+ghost use Rattle.std.specs.Prelude.{◌≡◌, ℕ, List, IfErr, IfOk, IsTrue, OnErr, Ok};
 ghost use Rattle.sx_told.specs.Told.{command_at};
 ghost use Rattle.sx_trace.specs.ValidNames.{are_valid};
 ghost use Rattle.sx_deploy.specs.Deployment.{IsRead};
 ghost use Rattle.sx_deploy.specs.Law.{IsSoundDeployment};
 ghost use Rattle.sx_deploy.specs.SeenDeployment.{deployed_as};
-ghost use Rattle.sx_world.specs.InMemory.{texts_of};
-ghost use Rattle.sx_setup.specs.Laws.{AreByteTexts};
 ghost use Rattle.sx_command_head.specs.Ends.{EndsRefused};
 ghost use Rattle.sx_command_deploy.specs.Afterwards.{DeployTold, DeploysOrRanOut};
 
@@ -19,24 +17,9 @@ use sx_command_world::compiling::compile_all;
 use sx_deploy::DeployError;
 use sx_deploy::deployment::{Deployment, read_deployment};
 use sx_head::read_head;
-use sx_image::Image;
 use sx_io::{Lines, Sink, Source};
 use sx_tag::Tag;
 use sx_told::OUT_OF_MEMORY;
-
-/// A text is a list of bytes, by its type.
-fn are_bytes(text: &[u8])
-    ensures { All (λ b. b < 256) text.now }
-{}
-
-/// So are the texts of images.
-fn have_bytes(images: &[Image])
-    ensures { AreByteTexts (texts_of images.now) }
-{
-    for image in images {
-        are_bytes(&image.text);
-    }
-}
 
 /// Makes the images of a deployment's modules, and does the command's own part with them.
 fn deploy_modules<C: Deploys, S: Source, K: Sink, T: Tag + Copy>(
@@ -55,10 +38,7 @@ fn deploy_modules<C: Deploys, S: Source, K: Sink, T: Tag + Copy>(
         (command_at (S.at input.new) (K.at output.new)) result text }
 {
     match compile_all(alloc, &tag, plan) {
-        Ok(images) => {
-            have_bytes(&images);
-            C::perform(alloc, tag, lines, input, output, plan, &images)
-        }
+        Ok(images) => C::perform(alloc, tag, lines, input, output, plan, &images),
         Err(_) => OUT_OF_MEMORY,
     }
 }

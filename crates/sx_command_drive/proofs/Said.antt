@@ -7,8 +7,7 @@ use Rattle.sx_tag.specs.Mac.{Mac, IsTag}
 use Rattle.sx_deploy.specs.Deployment.{Deployed}
 use Rattle.sx_deploy.specs.Law.{IsSoundDeployment}
 use Rattle.sx_deploy.proofs.Sound.{sound}
-use Rattle.sx_run.specs.Accepted.{AreImages, setting_of}
-use Rattle.sx_setup.specs.Laws.{AreByteTexts}
+use Rattle.sx_run.specs.Accepted.{AreByteTexts, AreImages, setting_of}
 use Rattle.sx_drive.specs.Honest.{Reading}
 use Rattle.sx_drive_laws.specs.Laws.{IsReading as IsReadingOf}
 use Rattle.sx_drive_laws.proofs.Accepted.{accepted_is_driven, driven_is_reading}

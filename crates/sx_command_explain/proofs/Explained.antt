@@ -14,7 +14,8 @@ use Rattle.sx_model.specs.Legal.{Legal, after, before, is_forged}
 use Rattle.sx_explain.specs.Causes.{cause}
 use Rattle.sx_explain.specs.Judging.{said}
 use Rattle.sx_explain.specs.declared.judge.Judged.TheVariants as verdict
-use Rattle.sx_explain.proofs.Following.{after_more, any_more, any_still}
+use Rattle.sx_explain.proofs.After.{after_more}
+use Rattle.sx_explain.proofs.Following.{any_more, any_still}
 use Rattle.sx_explain.proofs.JudgesLegal.{allowed_next, is_not_none, judged_is, legal_front}
 use Rattle.sx_command_explain.specs.Explain.{explain_from, illegal_output, stop_output, told_item, told_items}
 use Rattle.sx_command_explain.specs.Laws.{Refused, TracesExplained, cause_line, causes_text}

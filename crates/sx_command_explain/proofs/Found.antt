@@ -13,14 +13,10 @@ use Rattle.sx_trace.specs.KnownItems.{IsIndexOrNone, IsItem, IsNamedItem, IsNoIt
 use Rattle.sx_trace.specs.Finding.{item_in}
 use Rattle.sx_trace.proofs.ItemsDiffer.{found_only, items_differ}
 use Rattle.sx_command_head.proofs.Known.{known, is_known}
-use Rattle.sx_command_explain.specs.Meant.{AreMeanings, Meanings}
-
--- what an answer is to a line
-abbrev pub Answers : NameLists → List ℕ → Option Item → Type 0
-Answers names line o = MatchOption o (IsNoItem names line) (λ item. IsItem names item × (item_text names item ≡ line))
+use Rattle.sx_command_explain.specs.Meant.{AreMeanings, Meanings, SaysItem}
 
 -- two answers are equal
-pub one_item : (names : NameLists) (line : List ℕ) (a b : Option Item) → IsTrue (are_valid names) → Answers names line a → Answers names line b → a ≡ b
+pub one_item : (names : NameLists) (line : List ℕ) (a b : Option Item) → IsTrue (are_valid names) → SaysItem names line a → SaysItem names line b → a ≡ b
 one_item names line None None v x y = refl
 one_item names line None (Some j) v x y = absurd (x j y.0 y.1)
 one_item names line (Some i) None v x y = absurd (y i x.0 x.1)
@@ -108,14 +104,14 @@ abbrev item_of : NameLists → List ℕ → Option Item
 item_of names line = looked_up names line (item_in names line)
 
 tried_answers : (names : NameLists) (line : List ℕ) (i : Item) (d : Decided (IsItem names i × (item_text names i ≡ line))) → IsTrue (are_valid names) → item_in names line ≡ Some i
-    → Answers names line (tried i d)
+    → SaysItem names line (tried i d)
 tried_answers names line i (inl p) v e = p
 tried_answers names line i (inr n) v e = λ j is t.
     let f = found_only names line j v is t in
     let same : j ≡ i = cc (e, f) in
     n (subst (λ (k : Item). IsItem names k × (item_text names k ≡ line)) same (is, t))
 
-answered : (names : NameLists) (line : List ℕ) (o : Option Item) → IsTrue (are_valid names) → item_in names line ≡ o → Answers names line (looked_up names line o)
+answered : (names : NameLists) (line : List ℕ) (o : Option Item) → IsTrue (are_valid names) → item_in names line ≡ o → SaysItem names line (looked_up names line o)
 answered names line None v e = λ j is t. (let f = found_only names line j v is t in cc (e, f))
 answered names line (Some i) v e = tried_answers names line i (is_items names line i) v e
 

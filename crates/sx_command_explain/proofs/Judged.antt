@@ -1,5 +1,5 @@
 -- One item that is judged, and what is written of it.
-use Rattle.std.proofs.Common.{◌≡◌, ℕ, ◌+◌, Bool, List, [], ◌∷◌, ◌++◌, length, refl, subst}
+use Rattle.std.proofs.Common.{◌≡◌, ℕ, ◌+◌, Bool, true, false, List, [], ◌∷◌, ◌++◌, length, refl, subst, Result, Ok, Err}
 use Rattle.std.specs.Prelude.{◌≢◌}
 use Rattle.sx_io.specs.Streams.{SinkAt}
 use Rattle.sx_told.specs.Told.{out_of_memory}
@@ -38,3 +38,8 @@ judges_none {to_tell} {k} app items item = record {
   does = λ left more. ends-out-of-memory to_tell k k (told_item (length items + 1) (judged app items item) (left more)) (λ t. prefix-none k.written k.written _ refl) refl;
   follows = λ on. absurd (cc on);
 }
+
+-- memory runs out of no call that would answer without it
+pub wanted_unforged : {E : Type 0} {e : E} (b : Bool) → (b ≡ true → ◌≡◌ {A = Result Judged E} (Err e) (Ok verdict.Unjudged)) → b ≡ false
+wanted_unforged true h = absurd (let z = h refl in cc)
+wanted_unforged false h = refl

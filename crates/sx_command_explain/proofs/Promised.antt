@@ -11,6 +11,8 @@ use Rattle.sx_told.proofs.Endings.{faultless, unfinished}
 use Rattle.sx_head.specs.Head.{head}
 use Rattle.sx_command.specs.Faults.{TellsFaults}
 use Rattle.sx_command.proofs.Ends.{came}
+use Rattle.sx_deploy.proofs.ValidApp.{app_valid}
+use Rattle.sx_explain.proofs.Caused.{legal_has_causes}
 use Rattle.sx_command_explain.specs.Meant.{AreMeanings, Meanings}
 use Rattle.sx_command_explain.specs.Explain.{explain_all}
 use Rattle.sx_command_head.specs.Found.{RunsOutBehindHead}
@@ -64,6 +66,7 @@ explain_promise {tells} {to_tell} {m0} {m1} {status} told = record {
   legal = λ means is t zero. head_zero means (head (input_of m0)) (zero_is means (told means is) t zero);
   complete = λ means is t good quiet.
       came to_tell m0 m1 status (explain_all means (input_of m0)) (told-quiet (told means is) t quiet.0 quiet.1) (head_legal means (head (input_of m0)) good);
+  causes = λ text d read items legal. legal_has_causes d.app items (app_valid text d read) legal;
 }
 
 -- what was told doesn't end with the status for other words

@@ -8,7 +8,8 @@ use Rattle.sx_head.specs.Head.{Head, Found, TooLong, NoMark, Unread, head}
 use Rattle.sx_trace.specs.declared.items.Item.{Item}
 use Rattle.sx_mean.specs.Application.{AppTree}
 use Rattle.sx_model.specs.Legal.{Legal, before}
-use Rattle.sx_deploy.specs.Deployment.{Deployed}
+use Rattle.sx_deploy.specs.Deployment.{Deployed, IsRead}
+use Rattle.sx_explain.specs.Causes.{HasCauses}
 use Rattle.sx_command.specs.Faults.{IsFaultless, TellsFaults}
 use Rattle.sx_command.specs.Ended.{CameToItsEnd}
 use Rattle.sx_command_head.specs.Found.{RunsOutBehindHead}
@@ -48,7 +49,8 @@ EndsAs to_tell m0 m1 status o = (status ≡ out_of_memory)
 -- was whole at which it ended (`told`); no more was taken than must be (`streams`). Where no read
 -- and no write failed, all is as it is defined for the whole input (`exact`). Status 0 says that
 -- the input was read to its end (`read_all`), and that its trace is whole, and legal up to the
--- first item that is forged (`legal`); and it comes for each such input (`complete`).
+-- first item that is forged (`legal`); and it comes for each such input (`complete`). What a legal
+-- trace of a deployment rests on follows (`causes`).
 pub record ExplainSays (tells to_tell : Bool) (m0 m1 : CommandAt) (status : ℕ) : Type 0 where
   pub told : (means : Meanings) → AreMeanings means
       → Told tells to_tell explain_lines m0 m1 status (explain_all means) (RunsOutBehindHead status)
@@ -63,3 +65,5 @@ pub record ExplainSays (tells to_tell : Bool) (m0 m1 : CommandAt) (status : ℕ)
   pub complete : (means : Meanings) → AreMeanings means → IsTrue tells
       → IsLegalInput means (head (input_of m0)) → IsFaultless m0 m1
       → CameToItsEnd to_tell m0 m1 status (explain_all means (input_of m0))
+  pub causes : (text : List ℕ) (d : Deployed) → IsRead text (Ok d) → (items : List Item)
+      → Legal d.app items → HasCauses d.app items

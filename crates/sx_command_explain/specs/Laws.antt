@@ -1,5 +1,6 @@
--- What is said of a trace, by the items before its first forged one: of legal ones what caused each
--- and how the trace ended, else what caused each before the first that the source refuses.
+-- What texts and lines mean, and what is said of a trace, by the items before its first forged one:
+-- of legal ones what caused each and how the trace ended, else what caused each before the first
+-- that the source refuses.
 use Rattle.std.specs.Prelude.{◌≡◌, ℕ, ◌+◌, false, List, [], ◌∷◌, ◌++◌, length, Option, Some, None}
 use Rattle.std.specs.List.{list_any}
 use Rattle.sx_io.specs.Reading.{Answer}
@@ -12,7 +13,12 @@ use Rattle.sx_model.specs.Legal.{Legal, after, before, is_forged}
 use Rattle.sx_explain.specs.Causes.{cause}
 use Rattle.sx_command_explain.specs.Explain.{because_line, explain_from, illegal_output}
 use Rattle.sx_command_explain.specs.Explain.{stop_output}
+use Rattle.sx_command_explain.specs.Meant.{AreMeanings, Meanings}
 use Rattle.sx_command_explain.specs.Trace.{Trace, trace}
+
+-- each text of a deployment has a meaning, and each line of a trace an item or none
+abbrev pub SomeMeanings : Type 0
+SomeMeanings = (means : Meanings) × AreMeanings means
 
 -- the line of an item's cause, if it has one
 abbrev pub cause_line : ℕ → Option ℕ → List ℕ

@@ -12,9 +12,13 @@ pub record Meanings : Type 0 where
   pub deployment : Meaning
   pub item : NameLists → List ℕ → Option Item
 
+-- the line has this item, or none
+abbrev pub SaysItem : NameLists → List ℕ → Option Item → Type 0
+SaysItem names line said = MatchOption said (IsNoItem names line)
+    (λ item. IsItem names item × (item_text names item ≡ line))
+
 -- They are those: no text has two meanings, and no line has two items.
 pub record AreMeanings (means : Meanings) : Type 0 where
   pub deployment : IsMeaning means.deployment
   pub item : (names : NameLists) (line : List ℕ) → IsTrue (are_valid names)
-      → MatchOption (means.item names line) (IsNoItem names line)
-      (λ item. IsItem names item × (item_text names item ≡ line))
+      → SaysItem names line (means.item names line)

@@ -1,8 +1,8 @@
 //! The lines of a trace. Each is judged, and what is said of it is written, before the next is
 //! read.
 
-ghost use Rattle.std.specs.Prelude.{◌≡◌, ◌+◌, ◌<◌, [], IsTrue, List, true};
-ghost use Rattle.sx_told.specs.Told.{command_at};
+ghost use Rattle.std.specs.Prelude.{◌≡◌, ◌+◌, ◌<◌, [], IsTrue, List, true, false};
+ghost use Rattle.sx_told.specs.Told.{command_at, out_of_memory};
 ghost use Rattle.sx_told.specs.Parts.{Rest};
 ghost use Rattle.sx_trace.specs.declared.items.Item.{Item as Listed};
 ghost use Rattle.sx_trace.specs.ValidNames.{are_valid};
@@ -27,12 +27,14 @@ use sx_trace::items::Item;
 /// The rule that a trace ends with its last line.
 const NO_END: u8 = 3;
 
-/// Judges an item with this number, and writes what is said of it.
+/// Judges an item with this number, and writes what is said of it. Behind an item that is forged
+/// memory doesn't run out.
 fn turn<K: Sink>(output: &mut K, judge: &mut Judge, app: &App, item: &Item, number: u32) -> Turned
     requires valid { is_valid (app_as app.now) ≡ true }
     requires few { judge.old.taken < 4000000 }
-    ensures { JudgesFrom K.tells (K.at output.old) (K.at output.new) (app_as app.now) judge.old
-        judge.new number item.now result }
+    ensures judges { JudgesFrom K.tells (K.at output.old) (K.at output.new) (app_as app.now)
+        judge.old judge.new number item.now result }
+    ensures memory { result ≡ Turned.Stop out_of_memory → judge.old.has_forged ≡ false }
 {
     match judge.item(app, item) {
         Ok(said) => put_said(output, number, said),

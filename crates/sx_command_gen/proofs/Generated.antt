@@ -39,6 +39,7 @@ gen_refused {to_tell} {k0} {k1} {status} mac n (Fault f) read bad =
     inr (record {
       texts = [];
       realize = λ d other. absurd (cc (one_meaning bulk.head (Ok d) (Err f) other read));
+      made = λ d other. absurd (cc (one_meaning bulk.head (Ok d) (Err f) other read));
       ends = λ meaning is. ends-same _ _ _ _ _ _ (ap (gen_found mac [] n) (one_meaning bulk.head (meaning bulk.head) (Err f) (is bulk.head) read)) bad.0;
     })
 gen_refused {to_tell} {k0} {k1} {status} mac n OutOfMemory read bad = inl (record { six = bad.0; same = bad.1 })

@@ -19,6 +19,7 @@ use Rattle.sx_command_head.specs.Meanings.{Meaning, IsMeaning}
 use Rattle.sx_command_head.specs.Refused.{fault_output}
 use Rattle.sx_command_gen.specs.Counts.{counts, summary}
 use Rattle.sx_command_world.specs.Broken.{broken_output}
+use Rattle.sx_command_world.specs.Compiled.{compiled_texts}
 use Rattle.sx_command_world.specs.Images.{images_text}
 use Rattle.sx_command_world.specs.Schedule.{Stop, AtEnd, Breaks, schedule}
 use Rattle.sx_command_world.specs.Schedule as sched
@@ -66,10 +67,12 @@ pub record GenStarved (k0 k1 : SinkAt) (status : ℕ) : Type 0 where
   pub six : status ≡ out_of_memory
   pub same : k1 ≡ k0
 
--- there are images that realize the modules, and with them what is defined was written
+-- there are images that realize the modules and follow from the deployment alone, and with them
+-- what is defined was written
 pub record GenWith (mac : Mac) (n : ℕ) (to_tell : Bool) (k0 k1 : SinkAt) (status : ℕ) : Type 0 where
   pub texts : List (List ℕ)
   pub realize : (d : Deployed) → IsRead bulk.head (Ok d) → AreImages mac d texts
+  pub made : (d : Deployed) → IsRead bulk.head (Ok d) → texts ≡ compiled_texts d
   pub ends : (meaning : Meaning) → IsMeaning meaning
       → CommandEnds to_tell k0 k1 status (gen_all mac meaning texts n)
 

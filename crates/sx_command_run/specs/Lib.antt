@@ -1,4 +1,5 @@
 pub mod Batch
+pub mod Laws
 pub mod Run
 pub mod Runs
 pub mod Turns

@@ -24,11 +24,13 @@ use Rattle.sx_image.specs.Image.{Image}
 use Rattle.sx_image.specs.InMemory.{plain}
 use Rattle.sx_image.specs.Realizes.{Realizes}
 use Rattle.sx_lower.specs.Lowering.{SendFew}
-use Rattle.sx_compile.specs.Compiled.{HasSections}
+use Rattle.sx_compile.specs.Compiled.{HasSections, compiled_text}
 use Rattle.sx_run.proofs.accepted.LaidSites.{laid_long, laid_at}
 use Rattle.sx_run.proofs.tie.Lists.{get_some, get_within, some_inj}
-use Rattle.sx_run.specs.Accepted.{AreImages}
-use Rattle.sx_command_world.specs.Built.{BuiltAt, AreBuilt}
+use Rattle.sx_run.specs.Accepted.{AreByteTexts, AreImages}
+use Rattle.sx_world.specs.InMemory.{texts_of}
+use Rattle.sx_command_world.specs.Built.{AreBuilt, BuiltAt, IsBuilt, texts_from}
+use Rattle.sx_command_world.specs.Compiled.{compiled_texts}
 
 -- ---- packets
 
@@ -98,9 +100,11 @@ count_texts [] = refl
 count_texts (x ∷ xs) = ap suc (count_texts xs)
 
 -- the texts of images that are built are those of images that realize their modules
-are_images : (mac : Mac) (d : Deployed) (images : List Image) → length images ≡ length d.app.parts → AreBuilt mac d images → AreImages mac d (map (λ i. i.text) images)
-are_images mac d images all built = record {
+are_images : (mac : Mac) (d : Deployed) (images : List Image) → length images ≡ length d.app.parts → AreBuilt mac d images → AreByteTexts (map (λ i. i.text) images)
+    → AreImages mac d (map (λ i. i.text) images)
+are_images mac d images all built bytes = record {
   as_many = count_texts images ∙ all;
+  bytes = bytes;
   realize = λ p q layout provider text e f g h.
       let i = get_some images p (subst (λ (n : ℕ). p < n) (count_texts images) (get_within (map (λ (i : Image). i.text) images) p text h)) in
       let b = built p i.0 i.1 q layout provider e f g in
@@ -148,12 +152,15 @@ provider_within d parts p e sound lt =
 
 -- a compiled image of the module at its place
 pub built_at : (mac : Mac) (d : Deployed) (q : PartTree) (l : Layout) (v p : ℕ) (image : Image) → slice_get d.app.parts p ≡ Some q → slice_get d.layouts p ≡ Some l
-    → slice_get d.providers p ≡ Some v → image.layout ≡ l → image.provider ≡ v → Realizes mac q.tree (ends_of d.app p) image → BuiltAt mac d p image
-built_at mac d q l v p image e f g layout provider realizes q' l' v' e' f' g' =
-    let same_q : q ≡ q' = some_inj q q' (sym e ∙ e') in record {
-      layout_is = layout ∙ some_inj l l' (sym f ∙ f');
+    → slice_get d.providers p ≡ Some v → image.layout ≡ l → image.provider ≡ v → Realizes mac q.tree (ends_of d.app p) image
+    → image.text ≡ compiled_text l q.tree (ends_of d.app p) → BuiltAt mac d p image
+built_at mac d q l v p image e f g layout provider realizes text q' l' v' e' f' g' =
+    let same_q : q ≡ q' = some_inj q q' (sym e ∙ e') in
+    let same_l : l ≡ l' = some_inj l l' (sym f ∙ f') in record {
+      layout_is = layout ∙ same_l;
       provider_is = provider ∙ some_inj v v' (sym g ∙ g');
       realizes = subst (λ (q : PartTree). Realizes mac q.tree (ends_of d.app p) image) same_q realizes;
+      text_is = text ∙ ap (λ (l : Layout). compiled_text l q.tree (ends_of d.app p)) same_l ∙ ap (λ (q : PartTree). compiled_text l' q.tree (ends_of d.app p)) same_q;
     }
 
 -- what two facts of an answer give
@@ -201,9 +208,45 @@ texts_plain : (images : List Made) → map (λ (i : Image). i.text) (map plain i
 texts_plain [] = refl
 texts_plain (x ∷ images) = ap (λ (ts : List (List ℕ)). x.text.items ∷ ts) (texts_plain images)
 
+as_many : (plan : Deployment) (images : List Made) → length images ≡ length plan.app.parts.items → length (map plain images) ≡ length (map part_as plan.app.parts.items)
+as_many plan images all = count_plain images ∙ all ∙ sym (count_parts plan.app.parts.items)
+
 -- the images that were compiled realize the modules of the deployment
 pub are_deployed_images : (mac : Mac) (plan : Deployment) (images : List Made) → length images ≡ length plan.app.parts.items → AreBuilt mac (deployed_as plan) (map plain images)
-    → AreImages mac (deployed_as plan) (map (λ (i : Made). i.text.items) images)
-are_deployed_images mac plan images all built =
-    let many : length (map plain images) ≡ length (map part_as plan.app.parts.items) = count_plain images ∙ all ∙ sym (count_parts plan.app.parts.items) in
-    subst (AreImages mac (deployed_as plan)) (texts_plain images) (are_images mac (deployed_as plan) (map plain images) many built)
+    → AreByteTexts (texts_of images) → AreImages mac (deployed_as plan) (texts_of images)
+are_deployed_images mac plan images all built bytes =
+    subst (AreImages mac (deployed_as plan)) (texts_plain images)
+    (are_images mac (deployed_as plan) (map plain images) (as_many plan images all) built (subst AreByteTexts (sym (texts_plain images)) bytes))
+
+-- ---- which they are
+
+texts_built : (mac : Mac) (d : Deployed) (p : ℕ) (qs : List PartTree) (ls : List Layout) (vs : List ℕ) (images : List Image) → length images ≡ length qs → length qs ≤ length ls
+    → length qs ≤ length vs
+    → ((k : ℕ) (image : Image) (q : PartTree) (l : Layout) (v : ℕ) → slice_get images k ≡ Some image → slice_get qs k ≡ Some q → slice_get ls k ≡ Some l → slice_get vs k ≡ Some v
+    → IsBuilt mac d q l v (p + k) image)
+    → map (λ (i : Image). i.text) images ≡ texts_from d p qs ls
+texts_built mac d p [] ls vs [] all fewer given built = refl
+texts_built mac d p [] ls vs (i ∷ is) all fewer given built = absurd (omega (arith, all))
+texts_built mac d p (q ∷ qs) ls vs [] all fewer given built = absurd (omega (arith, all))
+texts_built mac d p (q ∷ qs) [] vs (i ∷ is) all fewer given built = absurd (omega (arith, fewer))
+texts_built mac d p (q ∷ qs) (l ∷ ls) [] (i ∷ is) all fewer given built = absurd (omega (arith, given))
+texts_built mac d p (q ∷ qs) (l ∷ ls) (v ∷ vs) (i ∷ is) all fewer given built =
+    let at : p + 0 ≡ p = omega arith in
+    let here : i.text ≡ compiled_text l q.tree (ends_of d.app p) =
+    subst (λ (n : ℕ). i.text ≡ compiled_text l q.tree (ends_of d.app n)) at (built 0 i q l v refl refl refl refl).text_is in
+    let more : map (λ (i : Image). i.text) is ≡ texts_from d (p + 1) qs ls =
+    texts_built mac d (p + 1) qs ls vs is (omega (arith, all)) (omega (arith, fewer)) (omega (arith, given)) (λ k image q' l' v' a b c e.
+    let next : p + suc k ≡ p + 1 + k = omega arith in
+    subst (λ (n : ℕ). IsBuilt mac d q' l' v' n image) next (built (suc k) image q' l' v' a b c e)) in
+    ap (λ (t : List ℕ). t ∷ map (λ (i : Image). i.text) is) here ∙ ap (λ (ts : List (List ℕ)). compiled_text l q.tree (ends_of d.app p) ∷ ts) more
+
+-- the texts of the images that were compiled are those that the compiler makes
+pub are_compiled : (mac : Mac) (plan : Deployment) (images : List Made) → IsSoundDeployment (deployed_as plan) → length images ≡ length plan.app.parts.items
+    → AreBuilt mac (deployed_as plan) (map plain images) → texts_of images ≡ compiled_texts (deployed_as plan)
+unfolding compiled_texts
+are_compiled mac plan images sound all built =
+    let d = deployed_as plan in
+    let laid = laid_long d 0 d.app.parts d.layouts sound.laid in
+    sym (texts_plain images)
+    ∙ texts_built mac d 0 d.app.parts d.layouts d.providers (map plain images) (as_many plan images all) (omega (arith, laid)) (omega (arith, sound.parts, sound.providers))
+    (λ k image q l v a b c e. let at : k ≡ 0 + k = omega arith in subst (λ (n : ℕ). IsBuilt mac d q l v n image) at (built k image a q l v b c e))

@@ -1,4 +1,5 @@
 pub mod Building
+pub mod Bytes
 pub mod ImageLines
 pub mod Powering
 pub mod Stops

@@ -1,4 +1,5 @@
 pub mod Built
+pub mod Compiled
 pub mod Images
 pub mod Schedule
 pub mod Broken

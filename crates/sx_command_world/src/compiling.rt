@@ -1,6 +1,6 @@
 //! The images of a deployment's modules.
 
-ghost use Rattle.std.specs.Prelude.{◌≡◌, ◌<◌, ◌≤◌, IfOk, length, map, slice_get, Some};
+ghost use Rattle.std.specs.Prelude.{◌≡◌, ◌<◌, ◌≤◌, All, IfOk, length, map, slice_get, Some};
 ghost use Rattle.sx_lower.specs.Lowering.{SendFew};
 ghost use Rattle.sx_check.specs.Source.{source_tree};
 ghost use Rattle.sx_mean.specs.Ends.{ends_of};
@@ -9,6 +9,8 @@ ghost use Rattle.sx_deploy.specs.Law.{IsSoundDeployment};
 ghost use Rattle.sx_deploy.specs.SeenDeployment.{deployed_as};
 ghost use Rattle.sx_image.specs.InMemory.{plain};
 ghost use Rattle.sx_compile.specs.Compiled.{HasSections};
+ghost use Rattle.sx_run.specs.Accepted.{AreByteTexts};
+ghost use Rattle.sx_world.specs.InMemory.{texts_of};
 ghost use Rattle.sx_command_world.specs.Built.{BuiltAt, AreBuilt};
 
 use std::alloc::{AllocError, Global};
@@ -51,6 +53,20 @@ fn compile_part<T: Tag>(
     compile(alloc, tag, &part.code, &ends, layout, plan.providers[place])
 }
 
+/// A text is a list of bytes, by its type.
+fn are_bytes(text: &[u8])
+    ensures { All (λ b. b < 256) text.now }
+{}
+
+/// So are the texts of images.
+fn have_bytes(images: &[Image])
+    ensures { AreByteTexts (texts_of images.now) }
+{
+    for image in images {
+        are_bytes(&image.text);
+    }
+}
+
 /// The images of all modules, in order.
 pub fn compile_all<T: Tag>(
     alloc: Global,
@@ -61,6 +77,7 @@ pub fn compile_all<T: Tag>(
     ensures all { IfOk result (λ images. length images.items ≡ length plan.now.app.parts.items) }
     ensures built { IfOk result (λ images.
         AreBuilt T.mac (deployed_as plan.now) (map plain images.items)) }
+    ensures bytes { IfOk result (λ images. AreByteTexts (texts_of images.items)) }
 {
     let mut images = Vec::new(alloc);
     let mut number: u8 = 0;
@@ -68,5 +85,6 @@ pub fn compile_all<T: Tag>(
         images.push(compile_part(alloc, tag, plan, number)?)?;
         number += 1;
     }
+    have_bytes(&images);
     Ok(images)
 }

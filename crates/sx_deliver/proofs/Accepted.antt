@@ -7,6 +7,6 @@ use Rattle.sx_deliver.specs.Laws.{AcceptedRunDelivers}
 use Rattle.sx_deliver.proofs.Joined.{honest_run_delivers}
 
 pub accepted_run_delivers : AcceptedRunDelivers
-accepted_run_delivers text d h mac texts tag images bytes rs c honest low =
-    honest_run_delivers (setting_of mac d texts) rs c (settled mac d texts (sound text d h) images tag) (has_room text d h mac texts bytes)
+accepted_run_delivers text d h mac texts tag images rs c honest low =
+    honest_run_delivers (setting_of mac d texts) rs c (settled mac d texts (sound text d h) images tag) (has_room text d h mac texts images.bytes)
     (λ m q there. ((sound text d h).modules m q there).words) honest low

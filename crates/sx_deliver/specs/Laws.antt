@@ -12,7 +12,7 @@ use Rattle.sx_run.specs.Law.{IsSoundSetting, LinesInForm}
 use Rattle.sx_honest.specs.Plain.{Sampling}
 use Rattle.sx_honest.specs.Course.{Course, IsHonest, lines_so_far}
 use Rattle.sx_honest.specs.Delivers.{Delivers}
-use Rattle.sx_setup.specs.Laws.{AreByteTexts, HasRoom}
+use Rattle.sx_setup.specs.Laws.{HasRoom}
 use Rattle.sx_deliver.specs.Schedule.{honest_schedule}
 
 -- each number in a module's source is a word
@@ -37,7 +37,7 @@ HonestRunDelivers = (set : Setting) (rs : List Sampling) (c : Course) → IsSoun
 -- From text on: so it is for each accepted deployment, with images that realize its modules.
 abbrev pub AcceptedRunDelivers : Type 0
 AcceptedRunDelivers = (text : List ℕ) (d : Deployed) → IsRead text (Ok d)
-    → (mac : Mac) (texts : List (List ℕ)) → IsTag mac → AreImages mac d texts → AreByteTexts texts
+    → (mac : Mac) (texts : List (List ℕ)) → IsTag mac → AreImages mac d texts
     → (rs : List Sampling) (c : Course) → IsHonest d.app rs c
     → All (λ (r : Sampling). r.value < 32768) rs
     → let set = setting_of mac d texts in

@@ -9,10 +9,9 @@ use Rattle.sx_model.specs.Step.{kind_is}
 use Rattle.sx_deploy.specs.Deployment.{Deployed, IsRead}
 use Rattle.sx_deploy.specs.Law.{IsSoundDeployment}
 use Rattle.sx_deploy.proofs.Sound.{sound}
-use Rattle.sx_run.specs.Accepted.{AreImages, setting_of}
+use Rattle.sx_run.specs.Accepted.{AreByteTexts, AreImages, setting_of}
 use Rattle.sx_run.proofs.accepted.Settled.{settled}
 use Rattle.sx_honest.specs.Plain.{driver_of as driver_in}
-use Rattle.sx_setup.specs.Laws.{AreByteTexts}
 use Rattle.sx_setup.proofs.Accepting.{has_room}
 use Rattle.sx_drive.specs.Honest.{Reading, callee_at}
 use Rattle.sx_drive.specs.Driving.{IsDrivenSensor}

@@ -9,11 +9,11 @@ use Rattle.sx_deploy.specs.Deployment.{Deployed, IsRead}
 use Rattle.sx_run.specs.Setting.{Setting}
 use Rattle.sx_run.specs.State.{World, switched_on}
 use Rattle.sx_run.specs.Law.{IsSoundSetting}
-use Rattle.sx_run.specs.Accepted.{AreImages, setting_of}
+use Rattle.sx_run.specs.Accepted.{AreByteTexts, AreImages, setting_of}
 use Rattle.sx_world.specs.Whole.{next}
 use Rattle.sx_honest.specs.Course.{Course, IsHonest, IsSampling}
 use Rattle.sx_honest.specs.Delivers.{Delivers}
-use Rattle.sx_setup.specs.Laws.{AreByteTexts, HasRoom}
+use Rattle.sx_setup.specs.Laws.{HasRoom}
 use Rattle.sx_deliver.specs.Laws.{HaveWords}
 use Rattle.sx_deliver.specs.Schedule.{honest_schedule}
 use Rattle.sx_drive.specs.Honest.{MOST_LINES, Reading, Said, SaidItem, SaidLine, honest_run}

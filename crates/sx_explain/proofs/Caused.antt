@@ -1,7 +1,7 @@
 -- Each item of a legal trace that has a cause has it before, and causes lead to a sensor's value.
 use Rattle.std.proofs.Common.{◌≡◌, ℕ, zero, suc, ◌+◌, ◌*◌, ◌/◌, ◌%◌, ◌<◌, ◌==◌, ◌&&◌, Bool, true, false, if◌then◌else◌, List, [], ◌∷◌, ◌++◌, length, replicate}
 use Rattle.std.proofs.Common.{Option, Some, None, slice_get, append_assoc, add-zero, refl, sym, ap, ◌∙◌, subst, arith}
-use Rattle.std.specs.Prelude.{is_none, is_some, slice_set, IsSome}
+use Rattle.std.specs.Prelude.{is_some, slice_set, IsSome}
 use Rattle.std.specs.List.{cons_option, list_any}
 use Rattle.std.proofs.lemmas.Bool.{and_parts, eq-eqb, eqb-true}
 use Rattle.std.proofs.lemmas.List.{length-append}
@@ -32,8 +32,9 @@ use Rattle.sx_model.proofs.Along.{some_of}
 use Rattle.sx_model.proofs.Steps.{Cases, by_step}
 use Rattle.sx_lists.proofs.Lists.{get_same}
 use Rattle.sx_model.proofs.ReadsAreSensed.{reads_are_sensed}
-use Rattle.sx_model.proofs.OutsAreCaused.{outs_are_caused}
-use Rattle.sx_explain.specs.Causes.{Among, CausedBy, HasCauses, IsCause, LeadsToSense, TakeCaused, appended, event_of, gives, latest, word_of}
+use Rattle.sx_explain.specs.Causes.{Among, CausedBy, HasCauses, IsCause, LeadsToSense, OutCaused, TakeCaused, appended, event_of, gives, latest, word_of}
+use Rattle.sx_explain.proofs.After.{idle_is, some_next}
+use Rattle.sx_explain.proofs.Emitted.{outs_owed}
 use Rattle.sx_explain.proofs.Words.{Grows, SentBy, grows_acts, grows_none, grows_weaker}
 
 -- What a step sends, and with which epochs the ends of the sending module are open then.
@@ -52,17 +53,6 @@ pub record StepSends (app : AppTree) (s t : Model) (item : Item) (field v : ℕ)
   pub views : List EndView
   pub epochs : (k : ℕ) → open_epoch t part k ≡ (slice_get views k >>? (λ (e : EndView). e.epoch))
   pub sent : SentBy (ends_of app part) views (react tree.tree event present.cells).acts field v
-
-pub idle_is : (x : Standing) (p : Present) → idle x ≡ Some p → x.present ≡ Some p
-idle_is x p e = at x.present e
-  where
-    tests : (q : Present) (b : Bool) → (if b then Some q else None) ≡ Some p → Some q ≡ Some p
-    tests q true e = e
-    tests q false e = absurd cc
-
-    at : (o : Option Present) → (o >>? (λ q. if is_none q.pending then Some q else None)) ≡ Some p → o ≡ Some p
-    at None e = absurd cc
-    at (Some q) e = tests q (is_none q.pending) e
 
 -- the epochs of a module that is present so
 epochs_of : (xs : List Standing) (m : ℕ) (x y : Standing) (p : Present) → slice_get xs m ≡ Some x → y.present ≡ Some p → (k : ℕ)
@@ -132,10 +122,6 @@ step_grows app s item t e =
     (by_step app s (λ item t. Grows s.sent t.sent (λ k v. StepSends app s t item k v)) (step_cases app s) item) e
 
 -- Along a run.
-
-pub some_next : {A B : Type 0} → (o : Option A) (f : A → Option B) (y : B) → (o >>? f) ≡ Some y → (x : A) × (o ≡ Some x) × (f x ≡ Some y)
-some_next None f y h = absurd cc
-some_next (Some x) f y h = (x, refl, h)
 
 words_stay : (app : AppTree) (k j v : ℕ) (items : List Item) (s t : Model) → after app s items ≡ Some t → word_of s.sent k j ≡ Some v → word_of t.sent k j ≡ Some v
 words_stay app k j v [] s t e h = subst (λ (t : Model). word_of t.sent k j ≡ Some v) (same_Some s t e) h
@@ -352,19 +338,21 @@ module _ (app : AppTree) (items : List Item) (valid : is_valid app ≡ true) (le
         },
       )
 
-  outs_caused : (before behind : List Item) (m v : ℕ) → items ≡ before ++ Out m v ∷ behind → CausedBy app before (Out m v) (begins_event m)
+  outs_caused : (before behind : List Item) (m v : ℕ) → items ≡ before ++ Out m v ∷ behind → OutCaused app before m v
   outs_caused before behind m v place =
-      let w = outs_are_caused app items legal before behind m v place in
+      let owed = outs_owed app items legal before behind m v place in
+      let w = owed.1 in
       record {
-        front = w.before;
-        by = w.item;
+        front = w.front;
+        by = w.by;
         is = record {
-          rest = w.behind;
+          rest = w.rest;
           place = w.place;
-          number = ap (λ is. latest (begins_event m) 1 is) w.place ∙ latest_at (begins_event m) (ends_event app m) (quiet_event app m) 1 w.before w.item w.behind w.begun w.unended
-              ∙ ap (λ (n : ℕ). Some n) (one_more (length w.before));
+          number = ap (λ is. latest (begins_event m) 1 is) w.place ∙ latest_at (begins_event m) (ends_event app m) (quiet_event app m) 1 w.front w.by w.rest w.emits.begins w.unended
+              ∙ ap (λ (n : ℕ). Some n) (one_more (length w.front));
         };
-        kind = w.begun;
+        later = owed.0;
+        emits = w.emits;
       }
 
   takes_caused : (before behind : List Item) (m c i v : ℕ) → items ≡ before ++ Take m c i v ∷ behind → TakeCaused app before m c i v
@@ -393,7 +381,7 @@ module _ (app : AppTree) (items : List Item) (valid : is_valid app ≡ true) (le
           present_is = x.present_is;
           event = x.event;
           event_is = x.event_is;
-          sends = s.1;
+          acts = s.1;
         };
       }
 
@@ -437,7 +425,7 @@ module _ (app : AppTree) (items : List Item) (valid : is_valid app ≡ true) (le
       through_cause n (leads_all n) before behind (Take m c i v) place lt t.front t.by t.is (event_part t.link.from t.by t.sent.begins)
   leads_all (suc n) before behind (Out m v) place lt part =
       let c = outs_caused before behind m v place in
-      through_cause n (leads_all n) before behind (Out m v) place lt c.front c.by c.is (event_part m c.by c.kind)
+      through_cause n (leads_all n) before behind (Out m v) place lt c.front c.by c.is (event_part m c.by c.emits.begins)
   leads_all (suc n) before behind _ place lt part = absurd cc
 
   leads_out : (before behind : List Item) (m v : ℕ) → items ≡ before ++ Out m v ∷ behind → LeadsToSense app before (Out m v)

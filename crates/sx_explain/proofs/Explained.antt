@@ -11,8 +11,8 @@ use Rattle.sx_model.specs.State.{power_on}
 use Rattle.sx_model.specs.Legal.{Legal, after, before, is_forged}
 use Rattle.sx_explain.specs.Causes.{cause}
 use Rattle.sx_explain.specs.Laws.{LegalIsExplained, has_cause}
+use Rattle.sx_explain.proofs.After.{after_more}
 use Rattle.sx_explain.proofs.Caused.{at_item, legal_has_causes}
-use Rattle.sx_explain.proofs.Following.{after_more}
 
 none_before : (items : List Item) → list_any is_forged (before items) ≡ false
 none_before [] = refl

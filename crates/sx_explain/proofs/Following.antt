@@ -32,19 +32,10 @@ use Rattle.sx_explain.specs.Judging.{judged, said, first_forged}
 use Rattle.sx_explain.specs.Followed.{items_after}
 use Rattle.sx_explain.specs.Followed.{FillsFor, Follows, HasAll, IsFullFor, IsOf, Seen, Stands, answered, found, noted, numbers_of, taken_in, taken_of}
 use Rattle.sx_explain.proofs.Filled.{field_word, full_all, get_full, get_within, length_full, length_under, none_at}
-use Rattle.sx_explain.proofs.Caused.{field_low, some_next, step_grows}
+use Rattle.sx_explain.proofs.After.{after_more, some_next}
+use Rattle.sx_explain.proofs.Caused.{field_low, step_grows}
 
 -- One item more.
-
-pub after_more : (app : AppTree) (items : List Item) (s t : Model) (item : Item) → after app s items ≡ Some t → after app s (items ++ item ∷ []) ≡ step app t item
-after_more app [] s t item ran = at (step app s item) ∙ ap (λ s. step app s item) (same_Some s t ran)
-  where
-    at : (o : Option Model) → (o >>? (λ t. Some t)) ≡ o
-    at None = refl
-    at (Some t) = refl
-after_more app (i ∷ is) s t item ran =
-    let x = some_next (step app s i) (λ t. after app t is) t ran in
-    ap (λ o. o >>? (λ t. after app t (is ++ item ∷ []))) x.1 ∙ after_more app is x.0 t item x.2
 
 pub latest_more : (test : Item → Bool) (n : ℕ) (items : List Item) (item : Item) → latest test n (items ++ item ∷ []) ≡ (if test item then Some (n + length items) else latest test n items)
 latest_more test n [] item = ap (λ (k : ℕ). if test item then Some k else None) (sym (add-zero n))

@@ -13,7 +13,8 @@ use Rattle.sx_explain.specs.Causes.{cause}
 use Rattle.sx_explain.specs.declared.judge.Judged.TheVariants as verdict
 use Rattle.sx_explain.specs.Judging.{judged, said}
 use Rattle.sx_explain.specs.Laws.{IllegalIsRefused, JudgesLegal, NoneIllegal}
-use Rattle.sx_explain.proofs.Following.{after_more, any_more, before_front}
+use Rattle.sx_explain.proofs.After.{after_more}
+use Rattle.sx_explain.proofs.Following.{any_more, before_front}
 
 -- what is allowed, and what comes before it
 

@@ -3,7 +3,7 @@ use Rattle.std.specs.Prelude.{◌≡◌, ℕ, ◌+◌, ◌*◌, ◌/◌, ◌%◌
 use Rattle.std.specs.Prelude.{◌++◌, length, slice_get, if◌then◌else◌, Option, Some, None, is_some}
 use Rattle.sx_mean.specs.declared.apps.Link.{Link}
 use Rattle.sx_mean.specs.declared.events.Act.{Act}
-use Rattle.sx_mean.specs.declared.events.Act.TheVariants.{Send}
+use Rattle.sx_mean.specs.declared.events.Act.TheVariants.{Send, Emit}
 use Rattle.sx_mean.specs.declared.events.SourceEvent.{SourceEvent}
 use Rattle.sx_mean.specs.declared.events.SourceEvent.TheVariants as event
 use Rattle.sx_mean.specs.Application.{AppTree, PartTree}
@@ -78,8 +78,9 @@ pub record Among (a : Act) (acts : List Act) : Type 0 where
   pub there : slice_get acts place ≡ Some a
 
 -- Before the item this module was present, and the item is an event of it, to which its handler
--- reacts by sending the value to the output.
-pub record Sends (app : AppTree) (front : List Item) (by : Item) (m output v : ℕ) : Type 0 where
+-- reacts by acts of which this holds.
+pub record Reacts (app : AppTree) (front : List Item) (by : Item) (m : ℕ) (Holds : List Act
+    → Type 0) : Type 0 where
   pub begins : begins_event m by ≡ true
   pub before : Model
   pub ran : after app (power_on app) front ≡ Some before
@@ -91,7 +92,7 @@ pub record Sends (app : AppTree) (front : List Item) (by : Item) (m output v : �
   pub present_is : standing.present ≡ Some present
   pub event : SourceEvent
   pub event_is : event_of app by ≡ Some event
-  pub sends : Among (Send output v) (react part.tree event present.cells).acts
+  pub acts : Holds (react part.tree event present.cells).acts
 
 -- a word that is taken was sent by an event of the connection's sender
 pub record TakeCaused (app : AppTree) (earlier : List Item) (m c i v : ℕ) : Type 0 where
@@ -100,7 +101,32 @@ pub record TakeCaused (app : AppTree) (earlier : List Item) (m c i v : ℕ) : Ty
   pub front : List Item
   pub by : Item
   pub is : IsCause app earlier (Take m c i v) front by
-  pub sent : Sends app front by link.from link.output v
+  pub sent : Reacts app front by link.from (Among (Send link.output v))
+
+-- the values that acts emit, in order
+abbrev pub emits_of : List Act → List ℕ
+emits_of [] = []
+emits_of (Emit v ∷ acts) = v ∷ emits_of acts
+emits_of (Send output v ∷ acts) = emits_of acts
+
+-- the value that a module puts out by an item
+abbrev pub out_of : ℕ → Item → List ℕ
+out_of m (Out k v) = if k == m then v ∷ [] else []
+out_of m _ = []
+
+-- and by items, in order
+abbrev pub outs_of : ℕ → List Item → List ℕ
+outs_of m [] = []
+outs_of m (i ∷ is) = out_of m i ++ outs_of m is
+
+-- A value that is put out is the one that the module's latest event emits next, after those that
+-- were put out since that event.
+pub record OutCaused (app : AppTree) (earlier : List Item) (m v : ℕ) : Type 0 where
+  pub front : List Item
+  pub by : Item
+  pub is : IsCause app earlier (Out m v) front by
+  pub later : List ℕ
+  pub emits : Reacts app front by m (λ acts. emits_of acts ≡ outs_of m is.rest ++ v ∷ later)
 
 -- From the item, causes lead to a value that a sensor got.
 pub data LeadsToSense (app : AppTree) : List Item → Item → Type 0 where
@@ -109,14 +135,15 @@ pub data LeadsToSense (app : AppTree) : List Item → Item → Type 0 where
       → IsCause app earlier item front by → LeadsToSense app front by
       → LeadsToSense app earlier item
 
--- In a legal trace each reading, each taking and each output has its cause before it, a reading's
--- being that its sensor got this value; and from each output causes lead to a sensor's value.
+-- In a legal trace each reading, each taking and each output has its cause before it: of a reading
+-- that its sensor got this value, and of the others the event whose handler sends or emits it. And
+-- from each output causes lead to a sensor's value.
 pub record HasCauses (app : AppTree) (items : List Item) : Type 0 where
   pub reads : (before behind : List Item) (m v : ℕ) → items ≡ before ++ Read m v ∷ behind
       → (d : ℕ) × (device_of app m ≡ Some d) × CausedBy app before (Read m v) (senses d v)
   pub takes : (before behind : List Item) (m c i v : ℕ) → items ≡ before ++ Take m c i v ∷ behind
       → TakeCaused app before m c i v
   pub outs : (before behind : List Item) (m v : ℕ) → items ≡ before ++ Out m v ∷ behind
-      → CausedBy app before (Out m v) (begins_event m)
+      → OutCaused app before m v
   pub leads : (before behind : List Item) (m v : ℕ) → items ≡ before ++ Out m v ∷ behind
       → LeadsToSense app before (Out m v)

@@ -1,7 +1,7 @@
 //! The judge of a trace.
 
 ghost use Rattle.std.specs.Prelude.{◌≡◌, ◌+◌, ◌*◌, ◌/◌, ◌%◌, ◌<◌, ◌≤◌, [], IfOk, List, None, OnErr};
-ghost use Rattle.std.specs.Prelude.{OnOk, length, replicate, slice_get, slice_set, true};
+ghost use Rattle.std.specs.Prelude.{Ok, OnOk, length, replicate, slice_get, slice_set, true};
 ghost use Rattle.sx_mean.specs.Application.{AppTree};
 ghost use Rattle.sx_mean.specs.Validity.{is_valid};
 ghost use Rattle.sx_mean.specs.View.{app_as};
@@ -247,7 +247,8 @@ impl Judge {
     }
 
     /// Judges the next item. After one that is illegal, or where memory runs out, the judge follows
-    /// the items that it followed before. The error says that memory ran out.
+    /// the items that it followed before. The error says that memory ran out, which it doesn't
+    /// behind an item that is forged.
     pub fn item(&mut self, app: &App, item: &Item) -> Result<Judged, AllocError>
         requires valid { is_valid (app_as app.now) ≡ true }
         requires few { self.old.taken < 4000000 }
@@ -258,6 +259,7 @@ impl Judge {
             self.new) }
         ensures err { (items : List Listed) → Follows (app_as app.now) items self.old
             → OnErr result (Follows (app_as app.now) items self.new) }
+        ensures unjudged { self.old.has_forged ≡ true → result ≡ Ok Judged.Unjudged }
     {
         if self.has_forged {
             return Ok(Judged::Unjudged);

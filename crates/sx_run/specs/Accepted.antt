@@ -1,5 +1,5 @@
 -- The setting of an accepted deployment's run, and which texts are images of its modules.
-use Rattle.std.specs.Prelude.{◌≡◌, ℕ, List, [], ◌∷◌, length, slice_get, Some}
+use Rattle.std.specs.Prelude.{◌≡◌, ℕ, ◌<◌, List, [], ◌∷◌, length, slice_get, Some, All}
 use Rattle.sx_rules.specs.declared.section.Layout.{Layout}
 use Rattle.sx_tag.specs.Mac.{Mac}
 use Rattle.sx_mean.specs.Application.{PartTree}
@@ -29,9 +29,15 @@ setting mac d sites = record {
 abbrev pub setting_of : Mac → Deployed → List (List ℕ) → Setting
 setting_of mac d texts = setting mac d (sites_of d.app.parts d.layouts d.providers texts)
 
--- each text, where its module stands, realizes the module with its ends
+-- each text is a list of bytes
+abbrev pub AreByteTexts : List (List ℕ) → Type 0
+AreByteTexts texts = (p : ℕ) (text : List ℕ) → slice_get texts p ≡ Some text
+    → All (λ b. b < 256) text
+
+-- each text is of bytes, and, where its module stands, realizes the module with its ends
 pub record AreImages (mac : Mac) (d : Deployed) (texts : List (List ℕ)) : Type 0 where
   pub as_many : length texts ≡ length d.app.parts
+  pub bytes : AreByteTexts texts
   pub realize : (p : ℕ) (q : PartTree) (layout : Layout) (provider : ℕ) (text : List ℕ)
       → slice_get d.app.parts p ≡ Some q
       → slice_get d.layouts p ≡ Some layout → slice_get d.providers p ≡ Some provider

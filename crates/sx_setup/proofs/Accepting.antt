@@ -8,10 +8,10 @@ use Rattle.sx_deploy.specs.Law.{IsWordPlace, words_of}
 use Rattle.sx_deploy.proofs.Sound.{sound}
 use Rattle.sx_deploy.proofs.ValidApp.{app_valid}
 use Rattle.sx_tag.specs.Mac.{Mac}
-use Rattle.sx_run.specs.Accepted.{setting_of}
+use Rattle.sx_run.specs.Accepted.{AreByteTexts, setting_of}
 use Rattle.sx_run.proofs.accepted.LaidSites.{laid_at, site_at}
 use Rattle.sx_run.proofs.accepted.Settled.{settled}
-use Rattle.sx_setup.specs.Laws.{AcceptedSetUp, AreByteTexts, HasRoom}
+use Rattle.sx_setup.specs.Laws.{AcceptedSetUp, HasRoom}
 use Rattle.sx_setup.proofs.SetUp.{set_up}
 
 pub all_low : (ds : List AppDevice) (ats : List ℕ) → length ats ≡ length ds → All IsWordPlace (words_of ds ats) → All (λ at. 512 ≤ at) ats
@@ -36,4 +36,4 @@ has_room text d h mac texts bytes =
     }
 
 pub accepted_set_up : AcceptedSetUp
-accepted_set_up text d h mac texts tag images bytes = set_up (setting_of mac d texts) (settled mac d texts (sound text d h) images tag) (has_room text d h mac texts bytes)
+accepted_set_up text d h mac texts tag images = set_up (setting_of mac d texts) (settled mac d texts (sound text d h) images tag) (has_room text d h mac texts images.bytes)

@@ -27,14 +27,10 @@ ShowsSetUp set = (run set (switched_on set) (setup_schedule set.app)).items ≡ 
 abbrev pub SetUp : Type 0
 SetUp = (set : Setting) → IsSoundSetting set → HasRoom set → ShowsSetUp set
 
--- each text is a list of bytes
-abbrev pub AreByteTexts : List (List ℕ) → Type 0
-AreByteTexts texts = (m : ℕ) (t : List ℕ) → slice_get texts m ≡ Some t → All (λ b. b < 256) t
-
 -- from text on: so it is for each deployment that is accepted, with images that realize its modules
 abbrev pub AcceptedSetUp : Type 0
 AcceptedSetUp = (text : List ℕ) (d : Deployed) → IsRead text (Ok d)
-    → (mac : Mac) (texts : List (List ℕ)) → IsTag mac → AreImages mac d texts → AreByteTexts texts
+    → (mac : Mac) (texts : List (List ℕ)) → IsTag mac → AreImages mac d texts
     → ShowsSetUp (setting_of mac d texts)
 
 -- the set-up has as many lines as the source says, few of them and few packets, and they are in

@@ -9,6 +9,7 @@
 #![tactic(auto)]
 
 mod command;
+pub mod laws;
 mod words;
 
 pub use command::top;

@@ -85,7 +85,7 @@ returns-in-Stop g c = λ means is limit m0 defined aside noted b.
     let text = take c.in-Text.n c.next.new.into in
     let line = c.judge_line.ensures.line means is in
     let i = c.in-Ok-Item.item in
-    let j = c.in-Stop.ensures st.items st.follows st.counted in
+    let j = c.in-Stop.ensures.judges st.items st.follows st.counted in
     told-stop (begun-line f (said_unread _ _ st.items []) (st.begun means is limit m0 defined aside noted b) c.in-Text.ensures.next)
     (does-same g.K.Sink.tells (g.K.Sink.at c.lines.output) (g.K.Sink.at c.turn.new.output) (λ more. explain_from app item st.items (Line text ∷ more))
     (λ more. told_item (length st.items + 1) (judged app st.items i) (explain_from app item (st.items ++ i ∷ []) more)) (explain_from app item (st.items ++ i ∷ [])) (Stop c.in-Stop.status)
@@ -97,7 +97,7 @@ lines-preserved g c =
     let st = c.lines.invariant.between in
     let app = app_as c.args.plan.now.app in
     let i = c.in-Ok-Item.item in
-    let j = c.in-On.ensures st.items st.follows st.counted in
+    let j = c.in-On.ensures.judges st.items st.follows st.counted in
     let few = few_of c.judge_line.result _ c.lines.number (c.in-Ok-Item.is ∙ ap Ok c.in-Ok-Item.field-0-is) c.judge_line.ensures.few in record {
       between = record {
         few = omega (arith, few);

@@ -7,7 +7,8 @@ use Rattle.sx_image.specs.declared.image.Image.{Image}
 use Rattle.sx_run.specs.Accepted.{AreImages}
 use Rattle.sx_bulk.specs.Bulk as bulk
 use Rattle.sx_command_gen.specs.Workload.{gen_found}
-use Rattle.sx_command_world.proofs.Building.{are_deployed_images}
+use Rattle.sx_command_world.specs.Compiled.{compiled_texts}
+use Rattle.sx_command_world.proofs.Building.{are_compiled, are_deployed_images}
 use Rattle.sx_command_gen.proofs.workload.gen_deployment.Goals as goal
 
 -- a text is of one deployment
@@ -17,7 +18,7 @@ deployed_same d other read again = cc (one_meaning bulk.head (Ok d) (Ok other) r
 pub gen_images-requires-clause-images : goal.gen_images-requires-clause-images
 gen_images-requires-clause-images g c =
     let Q : List Image → Type 0 = λ images. AreImages g.T.Tag.mac (deployed_as c.args.plan.now) (map (λ (i : Image). i.text.items) images) in
-    subst Q (sym c.deref.ensures.value) (are_deployed_images g.T.Tag.mac c.args.plan.now c.in-Ok.images.items c.in-Ok.ensures.all c.in-Ok.ensures.built)
+    subst Q (sym c.deref.ensures.value) (are_deployed_images g.T.Tag.mac c.args.plan.now c.in-Ok.images.items c.in-Ok.ensures.all c.in-Ok.ensures.built c.in-Ok.ensures.bytes)
 
 pub returns-in-Ok : goal.returns-in-Ok
 returns-in-Ok g c =
@@ -25,11 +26,17 @@ returns-in-Ok g c =
     let d = deployed_as c.args.plan.now in
     let texts = map (λ (i : Image). i.text.items) c.deref.result.now in
     let Q : List Image → Type 0 = λ images. AreImages mac d (map (λ (i : Image). i.text.items) images) in
-    let are : AreImages mac d texts = subst Q (sym c.deref.ensures.value) (are_deployed_images mac c.args.plan.now c.in-Ok.images.items c.in-Ok.ensures.all c.in-Ok.ensures.built) in
+    let are : AreImages mac d texts =
+    subst Q (sym c.deref.ensures.value) (are_deployed_images mac c.args.plan.now c.in-Ok.images.items c.in-Ok.ensures.all c.in-Ok.ensures.built c.in-Ok.ensures.bytes) in
+    let C : List Image → Type 0 = λ images. map (λ (i : Image). i.text.items) images ≡ compiled_texts d in
+    let compiled : texts ≡ compiled_texts d =
+    subst C (sym c.deref.ensures.value) (are_compiled mac c.args.plan.now c.in-Ok.images.items c.requires.sound c.in-Ok.ensures.all c.in-Ok.ensures.built) in
     let P : Deployed → Type 0 = λ d. AreImages mac d texts in
+    let E : Deployed → Type 0 = λ d. texts ≡ compiled_texts d in
     inr (record {
       texts = texts;
       realize = λ other again. subst P (deployed_same d other c.requires.read again) are;
+      made = λ other again. subst E (deployed_same d other c.requires.read again) compiled;
       ends = λ meaning is.
           ends-same _ _ _ _ _ _ (ap (gen_found mac texts c.args.samples) (one_meaning bulk.head (meaning bulk.head) (Ok d) (is bulk.head) c.requires.read)) c.gen_images.ensures;
     })

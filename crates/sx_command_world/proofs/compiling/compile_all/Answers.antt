@@ -1,5 +1,8 @@
-use Rattle.std.proofs.Common.{◌∙◌, length, arith, ap}
+use Rattle.std.proofs.Common.{◌∙◌, List, length, arith, ap, subst}
 use Rattle.sx_deploy.specs.SeenDeployment.{deployed_as}
+use Rattle.sx_image.specs.declared.image.Image.{Image}
+use Rattle.sx_run.specs.Accepted.{AreByteTexts}
+use Rattle.sx_world.specs.InMemory.{texts_of}
 use Rattle.sx_command_world.proofs.Building.{more_built, one_longer}
 use Rattle.sx_command_world.proofs.compiling.compile_all.Goals as goal
 
@@ -10,3 +13,8 @@ modules-preserved g c = record {
   built = more_built g.T.Tag.mac (deployed_as c.args.plan.now) c.modules.images.items c.push.new.self.items c.in_ok-compile_part.field-0 c.modules.number c.in_ok-push.ensures.items
       c.modules.invariant.all c.modules.invariant.built c.in_ok-compile_part.ensures;
 }
+
+pub returns-clause-bytes : goal.returns-clause-bytes
+returns-clause-bytes g c =
+    let B : List Image → Type 0 = λ images. AreByteTexts (texts_of images) in
+    subst B c.deref.ensures.value c.have_bytes.ensures

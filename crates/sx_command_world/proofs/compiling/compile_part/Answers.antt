@@ -8,7 +8,7 @@ use Rattle.sx_mean.specs.View.{part_as}
 use Rattle.sx_image.specs.Image.{Image}
 use Rattle.sx_image.specs.InMemory.{plain}
 use Rattle.sx_image.specs.Realizes.{Realizes}
-use Rattle.sx_compile.specs.Compiled.{CompilesTo}
+use Rattle.sx_compile.specs.Compiled.{CompilesTo, compiled_text}
 use Rattle.sx_command_world.proofs.Building.{held_at, layout_within, provider_within, built_at, get_part, both}
 use Rattle.sx_command_world.proofs.compiling.compile_part.Goals as goal
 
@@ -45,5 +45,6 @@ returns g c =
     both c.compile.result Made Made _
     (λ image made again.
     built_at g.T.Tag.mac d (part_as part) c.index-layout.result.now c.index.result.now p (plain image) (get_part parts p part here) there given (ap (λ (i : Image). i.layout) made.is)
-    (ap (λ (i : Image). i.provider) made.is) (subst (λ (es : List End). Realizes g.T.Tag.mac (source_tree part.code) es (plain image)) ends made.realizes))
+    (ap (λ (i : Image). i.provider) made.is) (subst (λ (es : List End). Realizes g.T.Tag.mac (source_tree part.code) es (plain image)) ends made.realizes)
+    (ap (λ (i : Image). i.text) made.is ∙ ap (λ (es : List End). compiled_text c.index-layout.result.now (source_tree part.code) es) ends))
     c.compile.ensures c.compile.ensures

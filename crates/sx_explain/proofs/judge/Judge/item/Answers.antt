@@ -37,3 +37,13 @@ pub returns-then-self-clause-follows : goal.returns-then-self-clause-follows
 returns-then-self-clause-follows c items h =
     let e : c.args.self.now.has_forged ≡ true = (ap (λ (j : Seen). j.has_forged) (sym c.self.view_is) ∙ c.if-self.true) in
     unjudged_follows (app_as c.args.app.now) items c.args.item.now c.args.self.now h e
+
+pub returns-clause-unjudged : goal.returns-clause-unjudged
+returns-clause-unjudged c forged =
+    let e : c.args.self.now.has_forged ≡ false = (ap (λ (j : Seen). j.has_forged) (sym c.self.view_is) ∙ c.if-self.false) in
+    absurd (let z : true ≡ false = sym forged ∙ e in cc)
+
+pub returns-in_err-catch_up-clause-unjudged : goal.returns-in_err-catch_up-clause-unjudged
+returns-in_err-catch_up-clause-unjudged c forged =
+    let e : c.args.self.now.has_forged ≡ false = (ap (λ (j : Seen). j.has_forged) (sym c.self.view_is) ∙ c.if-self.false) in
+    absurd (let z : true ≡ false = sym forged ∙ e in cc)

@@ -1,5 +1,5 @@
-use Rattle.sx_command_deploy.proofs.Bytes.{HaveBytes}
-use Rattle.sx_command_deploy.proofs.deploying.have_bytes.Given as goal
+use Rattle.sx_command_world.proofs.Bytes.{HaveBytes}
+use Rattle.sx_command_world.proofs.compiling.have_bytes.Given as goal
 
 -- the texts so far are lists of bytes
 abbrev pub invariant-loop-image : goal.invariant-loop-image

@@ -1,7 +1,7 @@
 use Rattle.std.proofs.Common.{ℕ, List, ◌<◌, arith, subst}
 use Rattle.std.specs.Prelude.{All}
-use Rattle.sx_command_deploy.proofs.Bytes.{all_bytes, one_more}
-use Rattle.sx_command_deploy.proofs.deploying.have_bytes.Goals as goal
+use Rattle.sx_command_world.proofs.Bytes.{all_bytes, one_more}
+use Rattle.sx_command_world.proofs.compiling.have_bytes.Goals as goal
 
 pub loop-image-init : goal.loop-image-init
 loop-image-init c = λ m t lt e. absurd (omega (arith, lt))

@@ -1,0 +1,11 @@
+use Rattle.sx_asm.specs.Assembled.{assembled}
+use Rattle.sx_run.specs.Accepted.{setting_of}
+use Rattle.sx_command_world.specs.Compiled.{compiled_texts}
+use Rattle.sx_command_deploy.proofs.Same.{runs_in}
+use Rattle.sx_command_run.specs.Runs.{run_part}
+use Rattle.sx_command_drive.specs.Drives.{drive_part}
+use Rattle.sx_command_snap.specs.Snaps.{snap_part}
+use Rattle.sx_top.proofs.laws.one_setting.Goals as goal
+
+pub returns : goal.returns
+returns c = λ mac d. (setting_of mac d (compiled_texts d), runs_in mac (run_part assembled mac) d, runs_in mac (drive_part mac) d, runs_in mac (snap_part mac) d)
