@@ -14,9 +14,10 @@ use Rattle.sx_run.specs.Setting.{Setting}
 use Rattle.sx_run.proofs.tie.Lists.{get_within}
 use Rattle.sx_world.specs.Whole.{next}
 use Rattle.sx_drive.specs.declared.said.Said.{Said as Told}
-use Rattle.sx_drive.specs.Honest.{Driven, Honest, MOST_LINES, Said, SaidItem, callee_at, left_out, performed, setup}
+use Rattle.sx_drive.specs.Honest.{Driven, Honest, MOST_LINES, Reading, Said, SaidItem, callee_at, each, honest_run, left_out, performed, reads, setup, start}
 use Rattle.sx_drive.specs.Driving.{Does, Follows, GoesOn, IsDrivenSensor, Kept, SaysFront, reading, said_of}
 use Rattle.sx_command_drive.specs.Parts.{AreNamed, IsNamed, IsNamedSaid}
+use Rattle.sx_command_drive.proofs.Quiet.{AreReadings, readings_by}
 use Rattle.sx_command_drive.proofs.Ways.{AreThere, IsThere, Ways, reads_by, setup_by}
 
 pub named_append : (names : NameLists) (xs ys : List Said) → AreNamed names xs → AreNamed names ys → AreNamed names (xs ++ ys)
@@ -95,3 +96,11 @@ does_named mac d (Err e) old new before after act does g none named =
     let front : SaysFront (map said_of before) (map said_of after) (act g.set g.honest).said = does g.set g.honest g.follows in
     let P : List Said → Type 0 = λ said. AreNamed d.names said in
     subst P (sym (front.added ∙ ap (λ (xs : List Told). map said_of xs ++ front.front) none)) (named_front d.names front.front front.rest (subst P (sym front.prefix) named))
+
+-- so can the lines of a whole run
+pub named_run : (d : Deployed) (set : Setting) (rs : List Reading) → AreThere d.names set → AreReadings d rs → AreNamed d.names (honest_run set rs).said
+named_run d set rs there are =
+    let names = d.names in
+    let first = setup set (start set) in
+    named_append names first.said (each (reads set) rs first.honest).said (setup_by names set (NamedSaid names) (ways names set) there (start set))
+    (readings_by d set (NamedSaid names) (ways names set) there rs first.honest are)

@@ -1,6 +1,6 @@
 -- From what a part of the run says to what is written of it.
 use Rattle.std.proofs.Common.{◌≡◌, ◌∙◌, ℕ, Bool, true, false, List, [], ◌++◌, map, Result, Ok, Err, refl, sym, ap}
-use Rattle.std.specs.Prelude.{IfOk, IsTrue, OnOk, if◌then◌else◌}
+use Rattle.std.specs.Prelude.{IfOk, IsErr, IsTrue, OnOk, if◌then◌else◌}
 use Rattle.sx_io.specs.Streams.{SinkAt}
 use Rattle.sx_io.specs.Reading.{Answer}
 use Rattle.sx_told.specs.Told.{CommandEnds, Output, behind, out_of_memory}
@@ -128,3 +128,9 @@ ends_on to_tell k0 k1 (Ok Done) turned ends on = refl
 ends_on to_tell k0 k1 (Ok Long) On ends on = absurd ends
 ends_on to_tell k0 k1 (Ok Long) (Stop status) ends on = absurd (cc on)
 ends_on to_tell k0 k1 (Err e) turned ends on = absurd (cc (ends.0, on))
+
+-- where memory ran out, all that was said was written
+pub said_written : {E : Type 0} (to_tell : Bool) (names : NameLists) (k0 k1 k2 : SinkAt) (said : List Said) (r : Result Drove E) (turned : Turned) → IsErr r
+    → (IsTrue to_tell → k1.written ≡ k0.written ++ said_text names said) → EndsPart to_tell k1 k2 r turned → IsTrue to_tell → k2.written ≡ k0.written ++ said_text names said
+said_written to_tell names k0 k1 k2 said (Ok drove) turned is wrote ends t = absurd (cc is)
+said_written to_tell names k0 k1 k2 said (Err e) turned is wrote ends t = ap (λ (k : SinkAt). k.written) ends.1 ∙ wrote t

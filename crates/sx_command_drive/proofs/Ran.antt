@@ -9,11 +9,11 @@ use Rattle.sx_deploy.specs.Deployment.{Deployed}
 use Rattle.sx_run.specs.Acts.{then_}
 use Rattle.sx_run.specs.Run.{after_line, line_counted, run}
 use Rattle.sx_run.specs.Setting.{Setting}
-use Rattle.sx_run.specs.State.{Acted, World}
+use Rattle.sx_run.specs.State.{Acted, World, switched_on}
 use Rattle.sx_guard.proofs.Performing.{runs_guarded}
 use Rattle.sx_world.specs.Whole.{next}
 use Rattle.sx_drive.specs.Honest.{Driven, Honest, MOST_LINES, Reading, Said, SaidItem, SaidLine, each, honest_run, left_out, performed, reads, setup, start}
-use Rattle.sx_drive_laws.specs.Samplings.{items_of}
+use Rattle.sx_drive_laws.specs.Samplings.{items_of, told}
 use Rattle.sx_command_drive.specs.Drives.{IsTheRun, lines_in}
 use Rattle.sx_command_drive.proofs.Quiet.{AreReadings, readings_by}
 use Rattle.sx_command_drive.proofs.Ways.{AreThere, Ways, setup_by}
@@ -91,8 +91,9 @@ ways names set = record {
 }
 
 -- an honest run is the run of the lines that it says
-pub is_the_run : (d : Deployed) (set : Setting) (rs : List Reading) → AreThere d.names set → AreReadings d rs → IsTheRun set (honest_run set rs)
-is_the_run d set rs there are =
+pub is_the_run : (d : Deployed) (set : Setting) (rs : List Reading) → AreThere d.names set → AreReadings d rs
+    → (honest_run set rs).said ≡ told set (switched_on set) (lines_in (honest_run set rs).said) → IsTheRun set (honest_run set rs)
+is_the_run d set rs there are said =
     let first = setup set (start set) in
     let w = ways d.names set in
     let ran = ran_then set (start set) first (each (reads set) rs first.honest) (setup_by d.names set (Ran set) w there (start set))
@@ -101,4 +102,5 @@ is_the_run d set rs there are =
       items = ran.items;
       steps = ap (λ (v : World). v.steps) ran.world;
       guarded = runs_guarded set (lines_in (honest_run set rs).said);
+      told = said;
     }

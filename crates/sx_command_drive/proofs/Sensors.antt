@@ -1,5 +1,5 @@
 -- What a line of readings says is a reading of the deployment: a sensor that a module drives, with a value that it can have.
-use Rattle.std.proofs.Common.{◌≡◌, ◌∙◌, ◌||◌, ◌+◌, ◌<◌, ◌≤◌, ℕ, Bool, true, false, List, [], ◌∷◌, length, map, Option, Some, None, Result, Ok, Err, refl, sym, ap, subst, arith}
+use Rattle.std.proofs.Common.{◌≡◌, ◌∙◌, ◌||◌, ◌+◌, ◌<◌, ◌≤◌, ℕ, suc, Bool, true, false, List, [], ◌∷◌, length, map, Option, Some, None, Result, Ok, Err, refl, sym, ap, subst, arith}
 use Rattle.std.proofs.lemmas.Bool.Decides.{nat_tests}
 use Rattle.std.proofs.lemmas.List.{length-map}
 use Rattle.std.proofs.lemmas.List.Quantifiers.{position-Some}
@@ -20,7 +20,8 @@ use Rattle.sx_deploy.specs.Deployment.{Deployed}
 use Rattle.sx_deploy.specs.SeenDeployment.{deployed_as}
 use Rattle.sx_deploy.specs.declared.deployment.Deployment.{Deployment}
 use Rattle.sx_run.proofs.tie.Lists.{get_some}
-use Rattle.sx_drive.specs.Honest.{Callee, callee_at, driver_of}
+use Rattle.sx_drive.specs.Honest.{Callee, callee_at, driver_of as driver_in}
+use Rattle.sx_drive_laws.proofs.Tracking.{drivers_same}
 use Rattle.sx_drive.specs.Driving.{IsDrivenSensor}
 use Rattle.sx_command_drive.specs.declared.readings.ReadingLine.{ReadingLine}
 use Rattle.sx_command_drive.specs.declared.readings.ReadingLine.TheVariants as says
@@ -56,7 +57,34 @@ sensor_there names word i h = by_place (place_of names.devices word) refl h
         let got = sensor_get names.sensors d i f in
         subst (λ (k : ℕ). IsSensor names k) got.0 (record { there = (position-Some (λ x. bytes_eq x word) names.devices d [] e).0; sensor = got.1 })
 
-driven_by : (app : AppTree) (e i : ℕ) (o : Option Callee) → driver_of app e ≡ o → option_map (λ (driver : Callee). e) o ≡ Some i → (e ≡ i) × IsSome (driver_of app e)
+-- the run of the code finds a driver just where the application has one
+
+callee_there : (app : AppTree) (m device : ℕ) → m < length app.parts → option_map (λ (driver : Callee). device) (callee_at app m) ≡ Some device
+callee_there app m device h =
+    let got = get_some app.parts m h in
+    ap (λ (o : Option PartTree). option_map (λ (driver : Callee). device) (option_map (λ (q : PartTree). record { part = m; node = q.node }) o)) got.1
+
+place_inside : (device k p : ℕ) (qs : List PartTree) → position_from (λ (q : PartTree). same_device (Some device) q.device) k qs ≡ Some p → p < k + length qs
+place_inside device k p [] e = absurd (cc e)
+place_inside device k p (q ∷ qs) e = by_first (same_device (Some device) q.device) e (λ f. let rest = place_inside device (k + 1) p qs f in omega (arith, rest))
+  where
+    by_first : (b : Bool) → cond b (Some k) (position_from (λ (q : PartTree). same_device (Some device) q.device) (k + 1) qs) ≡ Some p
+        → (position_from (λ (q : PartTree). same_device (Some device) q.device) (k + 1) qs ≡ Some p → p < k + suc (length qs)) → p < k + suc (length qs)
+    by_first true f more = let same : k ≡ p = cc in omega (arith, same)
+    by_first false f more = more f
+
+found_alike : (app : AppTree) (device : ℕ) (o : Option ℕ) → position_from (λ (q : PartTree). same_device (Some device) q.device) 0 app.parts ≡ o
+    → option_map (λ (driver : ℕ). device) o ≡ option_map (λ (driver : Callee). device) (option_and_then (callee_at app) o)
+found_alike app device None e = refl
+found_alike app device (Some p) e =
+    let inside : p < 0 + length app.parts = place_inside device 0 p app.parts e in sym (callee_there app p device (omega (arith, inside)))
+
+pub drivers_alike : (app : AppTree) (device : ℕ) → if_driven app device ≡ option_map (λ (driver : Callee). device) (driver_in app device)
+drivers_alike app device =
+    let o = position_from (λ (q : PartTree). same_device (Some device) q.device) 0 app.parts in
+    ap (λ (x : Option ℕ). option_map (λ (driver : ℕ). device) x) (sym (drivers_same device 0 app.parts)) ∙ found_alike app device o refl
+
+driven_by : (app : AppTree) (e i : ℕ) (o : Option Callee) → driver_in app e ≡ o → option_map (λ (driver : Callee). e) o ≡ Some i → (e ≡ i) × IsSome (driver_in app e)
 driven_by app e i None h f = absurd (cc f)
 driven_by app e i (Some x) h f = (cc, ap (λ (o : Option Callee). is_some o) h)
 
@@ -67,7 +95,7 @@ sensor_given d word i h = by_place (sensor_place d.names word) refl (ok_some (op
     by_place : (o : Option ℕ) → sensor_place d.names word ≡ o → option_and_then (if_driven d.app) o ≡ Some i → IsDrivenSensor d i
     by_place None e f = absurd (cc f)
     by_place (Some k) e f =
-        let driven = driven_by d.app k i (driver_of d.app k) refl f in
+        let driven = driven_by d.app k i (driver_in d.app k) refl (sym (drivers_alike d.app k) ∙ f) in
         let is = sensor_there d.names word k e in
         subst (λ (n : ℕ). IsDrivenSensor d n) driven.0 (record { there = is.there; sensor = is.sensor; driven = driven.1 })
 
@@ -178,22 +206,17 @@ none_found device k (p ∷ ps) h = by_first (drives device p) refl h (none_found
     by_first true e g f = absurd (cc g)
     by_first false e g f = ap (λ (b : Bool). cond b (Some k) (position_from (test device) (k + 1) (map part_as ps))) e ∙ f g
 
-callee_there : (app : AppTree) (m device : ℕ) → m < length app.parts → option_map (λ (driver : Callee). device) (callee_at app m) ≡ Some device
-callee_there app m device h =
-    let got = get_some app.parts m h in
-    ap (λ (o : Option PartTree). option_map (λ (driver : Callee). device) (option_map (λ (q : PartTree). record { part = m; node = q.node }) o)) got.1
-
 pub is_driven_there : (d : Deployment) (device : ℕ) → is_driven d.app.parts.items device ≡ true → if_driven (deployed_as d).app device ≡ Some device
 is_driven_there d device h =
     let app = (deployed_as d).app in
     let f = found device 0 d.app.parts.items h in
     let inside : f.place < length app.parts = omega (arith, f.inside, length-map d.app.parts.items part_as) in
-    ap (λ (o : Option ℕ). option_map (λ (driver : Callee). device) (option_and_then (callee_at app) o)) f.is ∙ callee_there app f.place device inside
+    drivers_alike app device ∙ ap (λ (o : Option ℕ). option_map (λ (driver : Callee). device) (option_and_then (callee_at app) o)) f.is ∙ callee_there app f.place device inside
 
 pub not_driven_there : (d : Deployment) (device : ℕ) → is_driven d.app.parts.items device ≡ false → if_driven (deployed_as d).app device ≡ None
 not_driven_there d device h =
     let app = (deployed_as d).app in
-    ap (λ (o : Option ℕ). option_map (λ (driver : Callee). device) (option_and_then (callee_at app) o)) (none_found device 0 d.app.parts.items h)
+    drivers_alike app device ∙ ap (λ (o : Option ℕ). option_map (λ (driver : Callee). device) (option_and_then (callee_at app) o)) (none_found device 0 d.app.parts.items h)
 
 -- a sensor of this name, which a module drives, or doesn't
 pub given_there : (d : Deployed) (word : List ℕ) (device : ℕ) → sensor_place d.names word ≡ Some device → if_driven d.app device ≡ Some device

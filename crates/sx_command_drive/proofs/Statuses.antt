@@ -19,7 +19,7 @@ use Rattle.sx_command_drive.specs.Drives.{drive_part}
 use Rattle.sx_command_drive.specs.Readings.{Readings, judged_reading, on_line, readings_from}
 use Rattle.sx_command_drive.specs.Statuses.{drive_status}
 
-stop_same : (steps : ℕ) (x : Stop) → (stop_output steps x).status ≡ stop_status x
+pub stop_same : (steps : ℕ) (x : Stop) → (stop_output steps x).status ≡ stop_status x
 stop_same steps AtEnd = refl
 stop_same steps Unread = refl
 stop_same steps (Breaks rule number) = refl

@@ -1,7 +1,7 @@
 -- What a part of an honest run does to the program's run, and to its output. Nobody has to believe
 -- this file: the promise doesn't cite it.
 use Rattle.std.specs.Prelude.{ℕ, ◌+◌, ◌≡◌, ◌<◌, ◌≤◌, ◌^◌, Bool, true, false, if◌then◌else◌, List}
-use Rattle.std.specs.Prelude.{[], ◌∷◌, ◌++◌, length, slice_get, Some, Result, Ok, Err}
+use Rattle.std.specs.Prelude.{[], ◌∷◌, ◌++◌, length, slice_get, Some, Result, Ok, Err, IsTrue}
 use Rattle.std.specs.List.{list_any}
 use Rattle.sx_io.specs.Streams.{SinkAt}
 use Rattle.sx_io.specs.Reading.{Answer, Line}
@@ -88,6 +88,16 @@ TellsPart to_tell k0 k1 names a turned =
 abbrev pub SaysAll : {E : Type 0} → List Said → Result Drove E → Driven → Type 0
 SaysAll said (Ok drove) a = (said ≡ a.said) × (drove ≡ drove_of a.honest.long)
 SaysAll said (Err e) a = (rest : List Said) × (said ++ rest ≡ a.said)
+
+-- where memory ran out, all that was said stands written
+abbrev pub TellsSaid : Bool → SinkAt → SinkAt → NameLists → List Said → Turned → Type 0
+TellsSaid to_tell k0 k1 names said turned = turned ≡ Stop out_of_memory → IsTrue to_tell
+    → k1.written ≡ k0.written ++ said_text names said
+
+-- memory may run out at a reading, and at no line that says none or breaks a rule
+abbrev pub MayRunOut : Result ReadingLine ℕ → Type 0
+MayRunOut (Ok (says.Reading device value)) = Unit {0}
+MayRunOut _ = ⊥
 
 -- the command stopped, since a line had no room
 abbrev pub StopsLong : Bool → SinkAt → SinkAt → Turned → Type 0

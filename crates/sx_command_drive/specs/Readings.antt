@@ -10,7 +10,8 @@ use Rattle.sx_trace.specs.Names.{sensor_place}
 use Rattle.sx_sched.specs.Words.{words_of, one_word}
 use Rattle.sx_sched.specs.Reading.{is_comment}
 use Rattle.sx_deploy.specs.Deployment.{Deployed}
-use Rattle.sx_drive.specs.Honest.{Callee, Reading, driver_of}
+use Rattle.sx_drive.specs.Honest.{Reading}
+use Rattle.sx_honest.specs.Plain.{driver_of}
 use Rattle.sx_command_world.specs.Schedule.{Stop, AtEnd, Unread, Breaks}
 use Rattle.sx_command_drive.specs.declared.readings.ReadingLine.{ReadingLine}
 use Rattle.sx_command_drive.specs.declared.readings.ReadingLine.TheVariants as says
@@ -39,7 +40,7 @@ Err rule >>= f = Err rule
 
 -- the device, where a module drives it
 abbrev pub if_driven : AppTree → ℕ → Option ℕ
-if_driven app device = option_map (λ (driver : Callee). device) (driver_of app device)
+if_driven app device = option_map (λ (driver : ℕ). device) (driver_of app device)
 
 -- the sensor of this name, which a module drives
 abbrev pub sensor_in : Deployed → List ℕ → Result ℕ ℕ

@@ -10,6 +10,7 @@
 #![tactic(auto)]
 
 mod drive;
+pub mod laws;
 mod lines;
 mod parts;
 mod readings;

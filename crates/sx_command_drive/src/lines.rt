@@ -1,18 +1,19 @@
 //! The lines of readings. Each is judged, and what its reading shows is written, before the next is
 //! read.
 
-ghost use Rattle.std.specs.Prelude.{◌≡◌, ◌+◌, ◌≤◌, false, IsTrue};
-ghost use Rattle.sx_told.specs.Told.{CommandEnds, command_at};
+ghost use Rattle.std.specs.Prelude.{◌≡◌, ◌≢◌, ◌+◌, ◌≤◌, false, IsTrue, map};
+ghost use Rattle.sx_told.specs.Told.{CommandEnds, command_at, out_of_memory};
 ghost use Rattle.sx_told.specs.Parts.{Rest};
 ghost use Rattle.sx_head.specs.Head.{head_lines};
 ghost use Rattle.sx_trace.specs.ValidNames.{are_valid};
 ghost use Rattle.sx_deploy.specs.Law.{IsSoundDeployment};
 ghost use Rattle.sx_deploy.specs.SeenDeployment.{deployed_as};
 ghost use Rattle.sx_run.specs.Setting.{Setting};
-ghost use Rattle.sx_drive.specs.Driving.{Follows, GoesOn};
+ghost use Rattle.sx_drive.specs.Driving.{Follows, GoesOn, said_of};
 ghost use Rattle.sx_drive.specs.Honest.{Honest as Driving, start};
 ghost use Rattle.sx_command_drive.specs.Drive.{drive_readings, reading_fault, steps_text};
-ghost use Rattle.sx_command_drive.specs.Parts.{drive_from, TurnsFrom};
+ghost use Rattle.sx_command_drive.specs.Parts.{drive_from, MayRunOut, TellsSaid, TurnsFrom};
+ghost use Rattle.sx_command_drive.specs.Readings.{judged_reading};
 
 use crate::parts::{read, set_up};
 use crate::readings::{ReadingLine, TOO_LONG, judge_reading};
@@ -31,10 +32,11 @@ use sx_told::{READ_FAILED, Turned, finish};
 /// The exit status for a line of readings that breaks a rule.
 const BROKEN: u8 = 3;
 
-/// Writes which rule the line of this number breaks.
+/// Writes which rule the line of this number breaks. It takes no memory.
 fn break_reading<K: Sink>(output: &mut K, rule: u8, number: u32) -> u8
-    ensures { CommandEnds K.tells (K.at output.old) (K.at output.new) result
+    ensures ends { CommandEnds K.tells (K.at output.old) (K.at output.new) result
         (reading_fault rule number) }
+    ensures memory { result ≢ out_of_memory }
 {
     finish_fault(output, b"fault reading Q", rule, number, BROKEN)
 }
@@ -77,6 +79,10 @@ fn turn<K: Sink, B: Copied, T: Tag>(
         honest.old honest.new number text.now result }
     ensures goes_on { result ≡ Turned.On → GoesOn T.mac deployment.now honest.new }
     ensures memory { result ≡ Turned.On → honest.new.wanted ≡ false }
+    ensures certain { result ≡ Turned.Stop out_of_memory
+        → MayRunOut (judged_reading (deployed_as deployment.now) number text.now) }
+    ensures made { TellsSaid K.tells (K.at output.old) (K.at output.new) deployment.now.names
+        (map said_of said.new.items) result }
     ensures few { result ≡ Turned.On → number ≤ 65536 }
 {
     said.clear();

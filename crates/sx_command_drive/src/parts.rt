@@ -1,12 +1,14 @@
 //! Parts of an honest run: each is done, and then all that it says is written.
 
-ghost use Rattle.std.specs.Prelude.{◌≡◌, ◌<◌, [], false, IsTrue, Ok, map};
+ghost use Rattle.std.specs.Prelude.{◌≡◌, ◌<◌, [], false, IsErr, IsTrue, Ok, map};
+ghost use Rattle.sx_told.specs.Told.{out_of_memory};
 ghost use Rattle.sx_trace.specs.ValidNames.{are_valid};
 ghost use Rattle.sx_deploy.specs.Law.{IsSoundDeployment};
 ghost use Rattle.sx_deploy.specs.SeenDeployment.{deployed_as};
 ghost use Rattle.sx_drive.specs.Driving.{GoesOn, IsDrivenSensor, reading, said_of};
 ghost use Rattle.sx_drive.specs.Honest.{Driven, setup};
 ghost use Rattle.sx_command_drive.specs.Parts.{AreNamed, EndsPart, PlaysPart, SaysAll, TellsPart};
+ghost use Rattle.sx_command_drive.specs.Parts.{TellsSaid};
 
 use crate::saying::put_said;
 use std::alloc::AllocError;
@@ -26,7 +28,8 @@ const LEFT_OUT: u8 = 9;
 /// memory ran out.
 #[tactic(auto, unfolding(crate::specs::Drive::long_line))]
 fn end_part<K: Sink>(output: &mut K, drove: Result<Drove, AllocError>) -> Turned
-    ensures { EndsPart K.tells (K.at output.old) (K.at output.new) drove result }
+    ensures ends { EndsPart K.tells (K.at output.old) (K.at output.new) drove result }
+    ensures memory { result ≡ Turned.Stop out_of_memory → IsErr drove }
 {
     match drove {
         Ok(Drove::Done) => Turned::On,
@@ -47,6 +50,8 @@ fn tell<K: Sink>(
     ensures tells { (a : Driven) → SaysAll (map said_of said.now) drove a
         → TellsPart K.tells (K.at output.old) (K.at output.new) names.now a result }
     ensures on { result ≡ Turned.On → drove ≡ Ok Drove.Done }
+    ensures made { TellsSaid K.tells (K.at output.old) (K.at output.new) names.now
+        (map said_of said.now) result }
 {
     match put_said(output, names, said) {
         Turned::On => end_part(output, drove),
@@ -70,6 +75,8 @@ pub(crate) fn set_up<K: Sink, B: Copied, T: Tag>(
         honest.old honest.new result setup }
     ensures goes_on { result ≡ Turned.On → GoesOn T.mac deployment.now honest.new }
     ensures memory { result ≡ Turned.On → honest.new.wanted ≡ false }
+    ensures made { TellsSaid K.tells (K.at output.old) (K.at output.new) deployment.now.names
+        (map said_of said.new.items) result }
 {
     let drove = honest.setup(deployment, said);
     tell(output, &deployment.names, said, drove)
@@ -95,6 +102,8 @@ pub(crate) fn read<K: Sink, B: Copied, T: Tag>(
         honest.old honest.new result (reading device value) }
     ensures goes_on { result ≡ Turned.On → GoesOn T.mac deployment.now honest.new }
     ensures memory { result ≡ Turned.On → honest.new.wanted ≡ false }
+    ensures made { TellsSaid K.tells (K.at output.old) (K.at output.new) deployment.now.names
+        (map said_of said.new.items) result }
 {
     let drove = honest.reading(deployment, device, value, said);
     tell(output, &deployment.names, said, drove)

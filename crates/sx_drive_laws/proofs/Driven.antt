@@ -22,8 +22,8 @@ use Rattle.sx_deliver.proofs.Fitting.{honest_fits}
 use Rattle.sx_deliver.proofs.Going.{Stands}
 use Rattle.sx_deliver.proofs.Joined.{honest_run_delivers, honest_shows, starts}
 use Rattle.sx_drive.specs.Honest.{Honest, MOST_LINES, Reading, Said, SaidItem, each, honest_run, reads, setup, start}
-use Rattle.sx_drive_laws.specs.Laws.{DrivenIsHonest, HonestIsDriven, IsDriveable, IsReading, ScheduleIsSaid, told}
-use Rattle.sx_drive_laws.specs.Samplings.{items_of, sampling_of, samplings_of}
+use Rattle.sx_drive_laws.specs.Laws.{DrivenIsHonest, HonestIsDriven, IsDriveable, IsReading, ScheduleIsSaid}
+use Rattle.sx_drive_laws.specs.Samplings.{items_of, sampling_of, samplings_of, told}
 use Rattle.sx_drive_laws.proofs.Playing.{Fares, Waits, cut_many, run_counts, then_fares}
 use Rattle.sx_drive_laws.proofs.Staying.{each_stay, reads_stay}
 use Rattle.sx_drive_laws.proofs.SettingUp.{setup_fares}

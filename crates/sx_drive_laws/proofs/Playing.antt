@@ -12,7 +12,7 @@ use Rattle.sx_run.proofs.acts.Counting.{counts_lines}
 use Rattle.sx_world.specs.Whole.{next}
 use Rattle.sx_setup.proofs.Runs.{run_append}
 use Rattle.sx_drive.specs.Honest.{Driven, Honest, MOST_LINES, Said, SaidItem, SaidLine, each, left_out, performed, says, still, then_}
-use Rattle.sx_drive_laws.specs.Laws.{told}
+use Rattle.sx_drive_laws.specs.Samplings.{told}
 
 -- no line was left out, and a schedule has room for as many as there were
 pub record IsWhole (h : Honest) : Type 0 where

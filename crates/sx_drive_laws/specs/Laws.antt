@@ -1,30 +1,21 @@
 -- What holds of the honest run that the program makes: it says the lines of the honest schedule,
 -- and where no line is left out they show what the source alone predicts.
-use Rattle.std.specs.Prelude.{ℕ, ◌≡◌, ◌<◌, false, List, [], ◌∷◌, ◌++◌, length, map, take, nat_lt}
+use Rattle.std.specs.Prelude.{ℕ, ◌≡◌, ◌<◌, false, List, length, take, nat_lt}
 use Rattle.std.specs.Prelude.{All, Ok}
-use Rattle.sx_sched.specs.Lines.{Line}
 use Rattle.sx_tag.specs.Mac.{Mac, IsTag}
 use Rattle.sx_mean.specs.Application.{AppTree}
 use Rattle.sx_deploy.specs.Deployment.{Deployed, IsRead}
 use Rattle.sx_run.specs.Setting.{Setting}
-use Rattle.sx_run.specs.State.{World, switched_on}
+use Rattle.sx_run.specs.State.{switched_on}
 use Rattle.sx_run.specs.Law.{IsSoundSetting}
 use Rattle.sx_run.specs.Accepted.{AreByteTexts, AreImages, setting_of}
-use Rattle.sx_world.specs.Whole.{next}
 use Rattle.sx_honest.specs.Course.{Course, IsHonest, IsSampling}
 use Rattle.sx_honest.specs.Delivers.{Delivers}
 use Rattle.sx_setup.specs.Laws.{HasRoom}
 use Rattle.sx_deliver.specs.Laws.{HaveWords}
 use Rattle.sx_deliver.specs.Schedule.{honest_schedule}
-use Rattle.sx_drive.specs.Honest.{MOST_LINES, Reading, Said, SaidItem, SaidLine, honest_run}
-use Rattle.sx_drive_laws.specs.Samplings.{items_of, sampling_of, samplings_of}
-
--- each line of a run, and after it the items that it shows
-abbrev pub told : Setting → World → List Line → List Said
-told set w [] = []
-told set w (line ∷ lines) =
-    let a = next set w line in
-    SaidLine line ∷ map SaidItem a.items ++ told set a.world lines
+use Rattle.sx_drive.specs.Honest.{MOST_LINES, Reading, honest_run}
+use Rattle.sx_drive_laws.specs.Samplings.{items_of, sampling_of, samplings_of, told}
 
 -- a reading is of a sensor that a module drives, and its value is below 32,768
 pub record IsReading (app : AppTree) (r : Reading) : Type 0 where

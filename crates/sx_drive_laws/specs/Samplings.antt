@@ -1,6 +1,10 @@
--- The samplings of readings, and the items of what a run said.
-use Rattle.std.specs.Prelude.{List, [], ◌∷◌, map}
+-- The samplings of readings, and the lines and items of what a run said.
+use Rattle.std.specs.Prelude.{List, [], ◌∷◌, ◌++◌, map}
 use Rattle.sx_trace.specs.declared.items.Item.{Item}
+use Rattle.sx_sched.specs.Lines.{Line}
+use Rattle.sx_run.specs.Setting.{Setting}
+use Rattle.sx_run.specs.State.{World}
+use Rattle.sx_world.specs.Whole.{next}
 use Rattle.sx_honest.specs.Plain.{Sampling}
 use Rattle.sx_drive.specs.Honest.{Reading, Said, SaidItem, SaidLine}
 
@@ -16,3 +20,10 @@ abbrev pub items_of : List Said → List Item
 items_of [] = []
 items_of (SaidLine line ∷ said) = items_of said
 items_of (SaidItem i ∷ said) = i ∷ items_of said
+
+-- each line of a run, and after it the items that it shows
+abbrev pub told : Setting → World → List Line → List Said
+told set w [] = []
+told set w (line ∷ lines) =
+    let a = next set w line in
+    SaidLine line ∷ map SaidItem a.items ++ told set a.world lines

@@ -30,7 +30,7 @@ returns-in-TooLong g c = λ set h f s limit m0 defined aside noted b.
     let d = deployed_as c.args.deployment.now in
     let st = c.lines.invariant.between set h f s in
     told-too-long {f = drive_from d set st.honest c.lines.number} (drive_unread d set st.honest c.lines.number st.short) (st.begun limit m0 defined aside noted b)
-    c.in-TooLong.ensures.next (ends-same _ _ _ _ _ _ (drive_too_long d set st.honest c.lines.number st.short) c.break_reading.ensures)
+    c.in-TooLong.ensures.next (ends-same _ _ _ _ _ _ (drive_too_long d set st.honest c.lines.number st.short) c.break_reading.ensures.ends)
 
 pub returns-in-Failed : goal.returns-in-Failed
 unfolding read_line

@@ -1,10 +1,11 @@
-use Rattle.std.proofs.Common.{◌≡◌, ◌∙◌, ◌+◌, [], ap, refl, sym, Ok, Err}
+use Rattle.std.proofs.Common.{◌≡◌, ◌∙◌, ◌+◌, ℕ, [], ap, refl, subst, sym, Result, Ok, Err}
 use Rattle.std.proofs.lemmas.List.{append-nil}
 use Rattle.sx_told.proofs.Laws.{does-same, ends-same}
 use Rattle.sx_deploy.specs.SeenDeployment.{deployed_as}
 use Rattle.sx_drive.specs.Driving.{reading}
+use Rattle.sx_command_drive.specs.declared.readings.ReadingLine.{ReadingLine}
 use Rattle.sx_command_drive.specs.declared.readings.ReadingLine.TheVariants as says
-use Rattle.sx_command_drive.specs.Parts.{drive_from}
+use Rattle.sx_command_drive.specs.Parts.{MayRunOut, drive_from}
 use Rattle.sx_command_drive.specs.Readings.{judged_reading}
 use Rattle.sx_command_drive.proofs.Named.{are_there, same_app}
 use Rattle.sx_command_drive.proofs.Written.{drive_blank, drive_breaks, drive_reading}
@@ -53,5 +54,13 @@ returns-in-Err-clause-turns g c = λ set h f s.
       next = h;
       follows = λ on. absurd (cc on);
       short = λ on. absurd (cc on);
-      does = λ more. ends-same _ _ _ _ _ _ (drive_breaks d set h n text rule more s judged) c.break_reading.ensures;
+      does = λ more. ends-same _ _ _ _ _ _ (drive_breaks d set h n text rule more s judged) c.break_reading.ensures.ends;
     }
+
+pub returns-in-Ok-Reading-clause-certain : goal.returns-in-Ok-Reading-clause-certain
+returns-in-Ok-Reading-clause-certain g c = λ six.
+    let d = deployed_as c.args.deployment.now in
+    let P : Result ReadingLine ℕ → Type 0 = MayRunOut in
+    let judged : judged_reading d c.args.number c.args.text.now ≡ Ok (says.Reading c.in-Ok-Reading.device c.in-Ok-Reading.value) =
+    sym c.judge_reading.ensures.reading ∙ c.in-Ok-Reading.is ∙ ap Ok c.in-Ok-Reading.field-0-is in
+    subst P (sym judged) tt

@@ -2,7 +2,7 @@ use Rattle.std.proofs.Common.{map, subst, sym, List}
 use Rattle.sx_drive.specs.declared.said.Said.{Said as Told}
 use Rattle.sx_drive.specs.Driving.{GoesOn, said_of}
 use Rattle.sx_drive.specs.Honest.{setup}
-use Rattle.sx_command_drive.specs.Parts.{AreNamed, SaysAll}
+use Rattle.sx_command_drive.specs.Parts.{AreNamed, SaysAll, TellsSaid}
 use Rattle.sx_command_drive.proofs.Named.{does_named, setup_named}
 use Rattle.sx_command_drive.proofs.Playing.{does_say, done_follows, on_done}
 use Rattle.sx_command_drive.proofs.parts.set_up.Goals as goal
@@ -36,3 +36,9 @@ returns-clause-goes_on g c = λ on. on_done (GoesOn g.T.Tag.mac c.args.deploymen
 
 pub returns-clause-memory : goal.returns-clause-memory
 returns-clause-memory g c = λ on. on_done _ c.setup-drove.result c.setup-drove.ensures.memory (c.tell.ensures.on on)
+
+pub returns-clause-made : goal.returns-clause-made
+returns-clause-made g c =
+    let d = c.args.deployment.now in
+    let P : List Told → Type 0 = λ xs. TellsSaid g.K.Sink.tells (g.K.Sink.at c.args.output.now) (g.K.Sink.at c.tell.new.output) d.names (map said_of xs) c.tell.result in
+    subst P c.deref.ensures.value c.tell.ensures.made
