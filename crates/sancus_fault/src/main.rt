@@ -5,7 +5,7 @@
 #![tactic(auto)]
 
 use std::process::ExitCode;
-use sx_process::run_process;
+use sx_top::process::run_process;
 
 fn main(rt: HostRuntime) -> ExitCode {
     run_process(rt)

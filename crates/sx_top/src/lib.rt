@@ -10,6 +10,7 @@
 
 mod command;
 pub mod laws;
+pub mod process;
 mod words;
 
 pub use command::top;

@@ -1,9 +1,8 @@
 //! The program, in the process that runs it: it hands the command line's words, standard input and
-//! standard output to `sx_top::top`, and ends with its status.
+//! standard output to `top`, and ends with its status.
 //!
-//! A library, so that the program itself has nothing left to say. No clause says that the words are
-//! those of the command line, nor that the two streams are those of the process.
-#![tactic(auto)]
+//! No clause says that the words are those of the command line, nor that the two streams are those
+//! of the process.
 
 ghost use Rattle.std.specs.Prelude.{map, string_bytes};
 ghost use Rattle.std.specs.Process.{exit_status};
@@ -11,12 +10,12 @@ ghost use Rattle.sx_told.specs.Told.{command_at};
 ghost use Rattle.sx_tag.specs.Mac.{hmac_sha256};
 ghost use Rattle.sx_top.specs.Promises.{ProgramTold};
 
+use crate::command::top;
 use std::alloc::Global;
 use std::io::{Read, Write};
 use std::process::ExitCode;
 use std::{env, io};
 use sx_io::{Sink, Source, StdSink, StdSource};
-use sx_top::top;
 
 /// The exit status where there is no memory for the words.
 const OUT_OF_MEMORY: u8 = 6;
