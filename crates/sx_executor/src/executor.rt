@@ -4,18 +4,18 @@
 //! rest of the crate reaches them by these calls. An access reads by `read` and `public_byte` and
 //! writes by `write`, and these require its right, which is that of the module whose turn `begin`
 //! began. `new` and `reset` are about a whole node; `admit` and `remove` say why they ask for no
-//! right. `byte` and `copy` ask for none either, but stand only where the memory can be copied,
-//! which code of an instruction doesn't know.
+//! right. `byte`, `holds` and `copy` ask for none either, but stand only where the memory can be
+//! copied, which code of an instruction doesn't know.
 
 ghost use Rattle.std.specs.Prelude.{◌≡◌, ◌⊎◌, ◌+◌, ◌-◌, ◌<◌, ◌≤◌, true, None, Some, length};
-ghost use Rattle.std.specs.Prelude.{slice_index, slice_get, IfOk, IfSome};
+ghost use Rattle.std.specs.Prelude.{slice_index, slice_get, bytes_eq, IfOk, IfSome};
 ghost use Rattle.sx_alu.specs.Table.{limit};
 ghost use Rattle.sx_bus.specs.declared.devices.Kind.TheVariants.{Sensor};
 ghost use Rattle.sx_bus.specs.Devices.{cleared, with_sample};
 ghost use Rattle.sx_rules.specs.declared.access.Access.TheVariants.{Read, Write};
 ghost use Rattle.sx_rules.specs.Access.{holder, section_of};
 ghost use Rattle.sx_rules.specs.Admission.{admitted, removed};
-ghost use Rattle.sx_machine.specs.Memory.{read_at, write_at, zeroed};
+ghost use Rattle.sx_machine.specs.Memory.{bytes_from, read_at, write_at, zeroed};
 ghost use Rattle.sx_machine.specs.Protect.{wiped};
 ghost use Rattle.sx_machine.specs.Registers.{reg};
 ghost use Rattle.sx_machine.specs.Run.{may_at, device_of, untouched};
@@ -248,6 +248,16 @@ impl<B: Copied> Executor<B> {
         ensures { result ≡ slice_index self.now.mem at }
     {
         self.bus.get(at)
+    }
+
+    /// Whether these bytes stand from an address on. It asks for no right.
+    pub fn holds(&self, at: u16, expected: &[u8]) -> bool
+        requires { at + length expected.now ≤ 65536 }
+        ensures { result
+            ≡ bytes_eq (bytes_from self.now.mem at (length expected.now)) expected.now }
+    {
+        self.bus.stays_in_range();
+        self.bus.holds(at, expected)
     }
 
     /// An executor of its own in an equal state. `OutOfMemory` where there is none for it.

@@ -1,7 +1,8 @@
-//! Calls of a node whose memory can be copied: a copy, and any byte. A step and an act are written
-//! for every `Bus`, so they can't call these.
+//! Calls of a node whose memory can be copied: a copy, and a look at any bytes. A step and an act
+//! are written for every `Bus`, so they can't call these.
 
-ghost use Rattle.std.specs.Prelude.{◌≡◌, IfOk, slice_index};
+ghost use Rattle.std.specs.Prelude.{◌≡◌, ◌+◌, ◌≤◌, length, IfOk, slice_index, bytes_eq};
+ghost use Rattle.sx_machine.specs.Memory.{bytes_from};
 
 use crate::node::Node;
 use std::alloc::{AllocError as OutOfMemory, Global};
@@ -14,6 +15,15 @@ impl<B: Copied, T: Tag> Node<B, T> {
         ensures { result ≡ slice_index self.now.mem at }
     {
         self.executor.byte(at)
+    }
+
+    /// Whether these bytes stand from an address on. It asks for no right.
+    pub fn holds(&self, at: u16, expected: &[u8]) -> bool
+        requires { at + length expected.now ≤ 65536 }
+        ensures { result
+            ≡ bytes_eq (bytes_from self.now.mem at (length expected.now)) expected.now }
+    {
+        self.executor.holds(at, expected)
     }
 }
 

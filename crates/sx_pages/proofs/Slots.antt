@@ -1,5 +1,5 @@
 -- The pages of a block are 256 of 256 slots, at the start and after a write.
-use Rattle.std.proofs.Common.{◌≡◌, ℕ, ◌<◌, List, [], ◌∷◌, length, get_or, set, map, ◌∙◌, refl, ap, arith, length-set, Some, None, ◌⊎◌, inl, inr}
+use Rattle.std.proofs.Common.{◌≡◌, ℕ, ◌<◌, List, [], ◌∷◌, length, get_or, set, map, ◌∙◌, refl, arith, length-set, Some, None, ◌⊎◌, inl, inr}
 use Rattle.std.proofs.lemmas.List.{length-replicate}
 use Rattle.std.proofs.lemmas.List.Elements.{All-get_or, All-set, All-replicate, All-head, All-tail}
 use Rattle.std.specs.Prelude.{All}

@@ -1,6 +1,6 @@
 //! Where the deployed modules stand, and which of them a section of a node is.
 
-ghost use Rattle.std.specs.Prelude.{◌≡◌, ◌+◌, ◌-◌, ◌<◌, ◌≤◌, length, map, slice_get, bytes_eq};
+ghost use Rattle.std.specs.Prelude.{◌≡◌, ◌-◌, ◌<◌, ◌≤◌, length, map, slice_get, bytes_eq};
 ghost use Rattle.std.specs.Prelude.{Some, IfOk};
 ghost use Rattle.sx_deploy.specs.Law.{IsSoundDeployment};
 ghost use Rattle.sx_deploy.specs.SeenDeployment.{deployed_as};
@@ -53,27 +53,13 @@ fn same_layout(a: &Layout, b: &Layout) -> bool
         && a.priv_to == b.priv_to
 }
 
-/// Whether these bytes stand in a node's memory from an address on.
-#[tactic(auto, unfolding(sx_machine::specs::Memory::bytes_from))]
-fn has_bytes<B: Copied, T: Tag>(node: &Node<B, T>, at: u16, bytes: &[u8]) -> bool
-    requires { at + length bytes.now ≤ 65536 }
-    ensures { result ≡ bytes_eq (bytes_from node.now.mem at (length bytes.now)) bytes.now }
-{
-    for i in 0..bytes.len() {
-        if node.byte((usize::from(at) + i) as u16) != bytes[i] {
-            return false;
-        }
-    }
-    true
-}
-
 /// Whether the public section of this layout holds the text.
 fn has_text<B: Copied, T: Tag>(node: &Node<B, T>, layout: &Layout, text: &[u8]) -> bool
     ensures { result ≡ bytes_eq (bytes_from node.now.mem layout.now.pub_from
         (layout.now.pub_to - layout.now.pub_from)) text.now }
 {
     let count = layout.pub_to.saturating_sub(layout.pub_from);
-    usize::from(count) == text.len() && has_bytes(node, layout.pub_from, text)
+    usize::from(count) == text.len() && node.holds(layout.pub_from, text)
 }
 
 /// Whether a section of a node is of the site's identity.
