@@ -245,7 +245,7 @@ def make_room(room, program):
     script.write_text(
         "#!/bin/bash\n"
         'if [[ "$1 $#" == "explain 3" ]]; then\n'
-        f'  {{ sed "/^%%$/q" "$2"; cat "$3"; }} | {program} explain\n'
+        f'  {{ sed "/^%%$/Q" "$2"; echo %%; cat "$3"; }} | {program} explain\n'
         "  exit\n"
         "fi\n"
         'case "$1 $2" in "asm "*|"dis "*) file="$3"; set -- "$1" "$2" ;; *) file="$2"; [[ "$1" == gen ]] || set -- "$1" ;; esac\n'
@@ -281,7 +281,12 @@ def main():
     given = words.parse_args()
     program = given.program and Path(given.program).resolve()
     examples = [*sorted((TOP / "examples").glob("*.txt")), *sorted((TOP / "examples/attacks").glob("*.txt"))]
-    documents = given.documents or [TOP / "README.md", *sorted((TOP / "docs").glob("*.md")), *examples]
+    documents = given.documents or [
+        TOP / "README.md",
+        TOP / "examples/parking/README.md",
+        *sorted((TOP / "docs").glob("*.md")),
+        *examples,
+    ]
     failed = 0
     with ThreadPoolExecutor(given.jobs) as pool:
         for said, wrong in pool.map(lambda it: try_document(it, program), documents):
