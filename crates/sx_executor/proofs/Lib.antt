@@ -2,3 +2,4 @@ pub mod Reach
 pub mod Rights
 pub mod Clear
 pub mod Open
+pub mod Homes
