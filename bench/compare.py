@@ -10,6 +10,9 @@ of their ratios, with the least and the greatest ratio. The last column has the 
 a dash stands where it isn't installed. Below the table stands the median time of 20,000 resets, before each of which a
 page of memory was written. The program must be built (`./sancus build`). Not a part of the gate.
 
+With --instructions the processor's instructions a step are printed alone, and also those of other code: of what a compiler writes, outside every module and
+as the code of one, and of the loop on memory where one, two and eight sections meet the page of its word.
+
     bench/compare.py                   the table
     bench/compare.py --instructions    the instructions a step alone
 """
@@ -26,13 +29,27 @@ LOOPS = {
     "memory": (["8392", "0300", "23fd", "8316", "23fb", "3fff"], 2),
 }
 
+# What compilers write, at 0x4000 over data at 0x2000, with SP above it: stack code for `a = a - 1`, a copy of 24 bytes, a call, loads and shifts. Each begins again.
+CODE = {
+    "stack": ["1212", "2000", "1213", "81b1", "0000", "413c", "4c82", "2000", "930c", "2002", "4030", "4000", "4030", "4000"],
+    "bytes": ["4035", "2000", "4036", "2040", "4037", "0018", "45f6", "0000", "5316", "8317", "23fb", "4030", "4000"],
+    "call": ["1205", "12b0", "400a", "4135", "3ffb", "4130"],
+    "loads": ["4035", "2000", "4537", "e708", "1008", "1088", "4519", "0002", "421a", "2002", "4a82", "2004", "3ff3"],
+    "register": LOOPS["register"][0],
+    "memory": ["8392", "2000", "23fd", "8316", "23fb", "3fff"],
+}
+
 
 def protect(number):
     """The lines that protect a section of this number: 8 bytes of code on page 6, 16 bytes of data on page 7."""
     text, data = 0x600 + 16 * number, 0x700 + 16 * number
-    bounds = zip(("r9", "r10", "r11", "r12", "r13"), (1, text, text + 8, data, data + 16))
-    lines = [f"put n {text:#x} 2645ff3f", "put n 0x400 8113"]
-    return lines + [f"set n {register} {value:#x}" for register, value in bounds] + ["set n pc 0x400", "run n 1"]
+    return [f"put n {text:#x} 2645ff3f"] + protected(text, text + 8, data, data + 16)
+
+
+def protected(*bounds):
+    """The lines that protect a section with these bounds."""
+    registers = zip(("r9", "r10", "r11", "r12", "r13"), (1, *bounds))
+    return ["put n 0x400 8113"] + [f"set n {register} {value:#x}" for register, value in registers] + ["set n pc 0x400", "run n 1"]
 
 
 def little(words):
@@ -52,8 +69,13 @@ def seconds(command, text):
 
 def schedule(words, steps, sections):
     """A node that takes so many steps of a loop, beside so many sections."""
-    lines = ["%%"] + [line for number in range(sections) for line in protect(number)]
-    lines += [f"put n 0x4000 {little(words)}", f"set n r6 {TURNS}", "set n pc 0x4000"]
+    return stepped(words, steps, [line for number in range(sections) for line in protect(number)])
+
+
+def stepped(words, steps, sections):
+    """A node that takes so many steps of code, once these lines protected sections."""
+    lines = ["%%", f"put n 0x4000 {little(words)}"] + sections
+    lines += [f"set n r6 {TURNS}", "set n sp 0x20f0", "set n pc 0x4000"]
     lines += [f"run n {RUN}"] * (steps // RUN) + [f"run n {steps % RUN}"] * (steps % RUN > 0)
     return ("\n".join(lines) + "\n").encode()
 
@@ -71,9 +93,13 @@ def counted(text):
 
 def instructions(words, sections):
     """The processor's instructions of a step: sixteen more lines of steps take so many more. A dash where valgrind is missing."""
+    return instructions_after(words, [line for number in range(sections) for line in protect(number)])
+
+
+def instructions_after(words, sections):
     if shutil.which("valgrind") is None:
         return "-"
-    few, many = (counted(schedule(words, lines * RUN, sections)) for lines in (1, 17))
+    few, many = (counted(stepped(words, lines * RUN, sections)) for lines in (1, 17))
     return f"{(many - few) / (16 * RUN):.1f}"
 
 
@@ -94,6 +120,12 @@ def main():
         for name, (words, _each) in LOOPS.items():
             for sections in (0, 1, 8):
                 print(f"{name:<10}{sections:<10}{instructions(words, sections):>8}")
+        for name, words in CODE.items():
+            print(f"{name:<10}{'outside':<10}{instructions_after(words, []):>8}")
+            print(f"{name:<10}{'inside':<10}{instructions_after(words, protected(0x4000, 0x4040, 0x2000, 0x2100)):>8}")
+        for sections in (1, 2, 8):
+            beside = [line for k in range(sections) for line in protected(0x600 + 16 * k, 0x608 + 16 * k, 0x2080 + 8 * k, 0x2088 + 8 * k)]
+            print(f"{'memory':<10}{f'page of {sections}':<10}{instructions_after(CODE['memory'], beside):>8}")
         return 0
     print(f"{'loop':<10}{'sections':<10}{'sancus':>8}{'mspdebug':>10}{'ratio':>7}{'least':>7}{'most':>7}{'instructions':>14}")
     for name, (words, each) in LOOPS.items():

@@ -1,8 +1,8 @@
 //! The short way of a step. It is taken where a shortcut of the first word is kept for PC.
 //!
 //! A shortcut's form leads to code of its own, which is short: it reads and writes registers, or a
-//! word of memory on a page that no section meets, where one test is all that is asked. The clauses
-//! name the same rows as those of the long way.
+//! word of memory that is at hand, where one test is all that is asked. The clauses name the same
+//! rows as those of the long way.
 
 ghost use Rattle.std.specs.Prelude.{◌≡◌, ◌<◌, ◌+◌, ℕ, true, None, List};
 ghost use Rattle.sx_isa.specs.Reading.{length_of};
@@ -10,23 +10,24 @@ ghost use Rattle.sx_isa.specs.Extending.{extended};
 ghost use Rattle.sx_isa.specs.declared.instruction.Operand.TheVariants.{Reg, Const, Indexed};
 ghost use Rattle.sx_isa.specs.declared.instruction.Operand.TheVariants.{Symbolic, Absolute};
 ghost use Rattle.sx_alu.specs.Table.{limit};
-ghost use Rattle.sx_rules.specs.declared.access.Access.{Access};
+ghost use Rattle.sx_rules.specs.declared.access.Access.TheVariants.{Read, Write};
 ghost use Rattle.sx_machine.specs.Registers.{onward, at_pc, reg};
 ghost use Rattle.sx_machine.specs.Rows.{row, with_words, program, jump, two, onto, on_memory};
 ghost use Rattle.sx_machine.specs.Rows.{into_register};
 ghost use Rattle.sx_machine.specs.Run.{may_at, device_of};
 ghost use Rattle.sx_machine.specs.Answers.{followed};
 ghost use Rattle.sx_executor.specs.Machine.{ran, RunsPlan};
-ghost use Rattle.sx_executor.specs.Shortcuts.{instruction_of, words_of, is_general};
+ghost use Rattle.sx_executor.specs.Shortcuts.{instruction_of, words_of, is_general, double_of};
 ghost use Rattle.sx_core.specs.Quickly.{RunsQuietly, EndsStep};
 
+use crate::forms::{step_double, step_single};
 use crate::jump::jump_quietly;
 use crate::step::step_long;
 use crate::two_operands::{computed_as, on_memory, reads, writes};
 use sx_alu::StatusBits;
 use sx_bus::Bus;
 use sx_executor::registers::{PC, cut};
-use sx_executor::{Executor, Form, Shortcut};
+use sx_executor::{Double, Executor, Form, Shortcut};
 use sx_isa::Op2;
 use sx_rules::Violation;
 
@@ -119,12 +120,12 @@ fn from_constant<B: Bus>(
     Stepped::Quiet
 }
 
-/// An operation on a word of memory that any code may reach and that is no device's: nothing is
-/// asked of the place again.
+/// An operation on a word of memory that the running code may read and write and that is no
+/// device's: nothing is asked of the place again.
 #[inline(always)]
-fn on_clear<B: Bus>(executor: &mut Executor<B>, op: Op2, at: u16, src: u16)
-    requires right { (access : Access)
-        → may_at true executor.old.sections.live executor.old.own access at ≡ true }
+fn on_word_at_hand<B: Bus>(executor: &mut Executor<B>, op: Op2, at: u16, src: u16)
+    requires read { may_at true executor.old.sections.live executor.old.own Read at ≡ true }
+    requires write { may_at true executor.old.sections.live executor.old.own Write at ≡ true }
     requires memory { device_of executor.old.devices at ≡ None }
     requires src { src < limit true }
     ensures { RunsQuietly (on_memory op true at src executor.old.regs) executor.old executor.new }
@@ -153,15 +154,15 @@ fn on_word<B: Bus>(executor: &mut Executor<B>, op: Op2, at: u16, src: u16) -> St
     ensures { EndsStep (on_memory op true at src executor.old.regs) executor.old result
         executor.new }
 {
-    if executor.is_clear(at) {
-        on_clear(executor, op, at, src);
+    if executor.is_at_hand(at) {
+        on_word_at_hand(executor, op, at, src);
         return Stepped::Quiet;
     }
     Stepped::Answered(on_word_near(executor, op, at, src))
 }
 
-/// The same where a section may meet the page, or a device be there. Its code stays out of the way
-/// of what most steps do.
+/// The same where a section may refuse it, or a device be there. Its code stays out of the way of
+/// what most steps do.
 #[inline(never)]
 fn on_word_near<B: Bus>(
     executor: &mut Executor<B>,
@@ -259,6 +260,17 @@ fn onto_indexed<B: Bus>(
     on_word(executor, op, at, value)
 }
 
+/// An instruction of another form with the extension word `x`, at `pc`.
+#[inline(always)]
+fn with_extension<B: Bus>(executor: &mut Executor<B>, form: Double, x: u16, pc: u16) -> Stepped
+    ensures { EndsStep (row (extended (double_of form) x 0)
+        (at_pc executor.old.regs (onward pc 2)) (onward pc 4)) executor.old result executor.new }
+{
+    let after = pc.wrapping_add(2);
+    let next = pc.wrapping_add(4);
+    Stepped::Answered(step_double(executor, form, x, after, next))
+}
+
 /// Executes the instruction at PC with this first word as `step_plain` does, and says where it
 /// knows that no device was touched.
 #[inline(always)]
@@ -293,6 +305,11 @@ pub fn step_quick<B: Bus>(executor: &mut Executor<B>, first: u16) -> Stepped
         },
         Form::OntoAbsolute { op, value } => match fetch_second(executor, shortcut, pc) {
             Ok(at) => onto_absolute(executor, op, value, at, pc),
+            Err(violation) => Stepped::Answered(Err(violation)),
+        },
+        Form::Single(form) => Stepped::Answered(step_single(executor, form, next)),
+        Form::Double(form) => match fetch_second(executor, shortcut, pc) {
+            Ok(x) => with_extension(executor, form, x, pc),
             Err(violation) => Stepped::Answered(Err(violation)),
         },
     }

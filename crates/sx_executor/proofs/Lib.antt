@@ -3,3 +3,4 @@ pub mod Rights
 pub mod Clear
 pub mod Open
 pub mod Stretch
+pub mod Homes

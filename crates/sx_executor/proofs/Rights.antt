@@ -31,7 +31,7 @@ false_not true h = absurd (true≢false h)
 false_not false h = refl
 
 -- what all pass that implies another test
-all_weaker : (t u : Section → Bool) → ((s : Section) → t s ≡ true → u s ≡ true) → (xs : List Section) → list_all t xs ≡ true → list_all u xs ≡ true
+pub all_weaker : (t u : Section → Bool) → ((s : Section) → t s ≡ true → u s ≡ true) → (xs : List Section) → list_all t xs ≡ true → list_all u xs ≡ true
 all_weaker t u f [] h = refl
 all_weaker t u f (x ∷ xs) h =
     let parts = and_parts (t x) (list_all t xs) h in

@@ -1,3 +1,4 @@
+pub mod Homes
 pub mod Machine
 pub mod Reads
 pub mod Shortcuts

@@ -1,6 +1,7 @@
 -- Instructions that have a shortcut, by their form.
 --     instruction_of, words_of      the instruction of a form with extension words of 0, and how many
 --         words it has
+--     single_of, double_of      the instructions of the forms with no extension word and with one
 --     is_general      its register is no one of PC, SP, SR and R3
 --     is_fit      the register that a form writes is general
 --     IsForm      a form is that of an instruction of so many words
@@ -16,6 +17,41 @@ use Rattle.sx_executor.specs.declared.shortcut.Form.TheVariants.{JumpLess, JumpA
 use Rattle.sx_executor.specs.declared.shortcut.Form.TheVariants.{Registers, Constant}
 use Rattle.sx_executor.specs.declared.shortcut.Form.TheVariants.{OntoIndexed, OntoSymbolic}
 use Rattle.sx_executor.specs.declared.shortcut.Form.TheVariants.{OntoAbsolute}
+use Rattle.sx_executor.specs.declared.shortcut.Form.TheVariants as form
+use Rattle.sx_executor.specs.declared.shortcut.Single.{Single}
+use Rattle.sx_executor.specs.declared.shortcut.Single.TheVariants as single
+use Rattle.sx_executor.specs.declared.shortcut.Double.{Double}
+use Rattle.sx_executor.specs.declared.shortcut.Double.TheVariants as double
+
+-- the instruction of a form with no extension word
+abbrev pub single_of : Single → Instr
+single_of (single.FromIncrement op src dst) =
+    instr.Two op false (operand.Increment src) (operand.Reg dst)
+single_of (single.FromIndirect op src dst) =
+    instr.Two op false (operand.Indirect src) (operand.Reg dst)
+single_of (single.OnRegister op arg) = instr.One op false (operand.Reg arg)
+single_of (single.OnConstant op value) = instr.One op false (operand.Const value)
+
+-- the instruction of a form with one extension word, which is 0
+abbrev pub double_of : Double → Instr
+double_of (double.FromImmediate op dst) =
+    instr.Two op false (operand.Immediate 0) (operand.Reg dst)
+double_of (double.FromAbsolute op dst) = instr.Two op false (operand.Absolute 0) (operand.Reg dst)
+double_of (double.FromIndexed op base dst) =
+    instr.Two op false (operand.Indexed base 0) (operand.Reg dst)
+double_of (double.RegisterOntoAbsolute op src) =
+    instr.Two op false (operand.Reg src) (operand.Absolute 0)
+double_of (double.RegisterOntoIndexed op src base) =
+    instr.Two op false (operand.Reg src) (operand.Indexed base 0)
+double_of (double.IncrementOntoAbsolute op src) =
+    instr.Two op false (operand.Increment src) (operand.Absolute 0)
+double_of (double.IncrementOntoIndexed op src base) =
+    instr.Two op false (operand.Increment src) (operand.Indexed base 0)
+double_of (double.BytesOntoIndexed op src base) =
+    instr.Two op true (operand.Increment src) (operand.Indexed base 0)
+double_of (double.OnImmediate op) = instr.One op false (operand.Immediate 0)
+double_of (double.OnAbsolute op) = instr.One op false (operand.Absolute 0)
+double_of (double.OnIndexed op base) = instr.One op false (operand.Indexed base 0)
 
 -- the instruction of a form, with extension words of 0
 abbrev pub instruction_of : Form → Instr
@@ -35,6 +71,8 @@ instruction_of (OntoSymbolic op value) =
     instr.Two op false (operand.Const value) (operand.Symbolic 0)
 instruction_of (OntoAbsolute op value) =
     instr.Two op false (operand.Const value) (operand.Absolute 0)
+instruction_of (form.Single f) = single_of f
+instruction_of (form.Double f) = double_of f
 
 -- how many words it has
 abbrev pub words_of : Form → ℕ
@@ -51,6 +89,8 @@ words_of (Constant op value dst) = 1
 words_of (OntoIndexed op value base) = 2
 words_of (OntoSymbolic op value) = 2
 words_of (OntoAbsolute op value) = 2
+words_of (form.Single f) = 1
+words_of (form.Double f) = 2
 
 -- a register that keeps all of what is written to it
 abbrev pub is_general : ℕ → Bool
@@ -71,6 +111,8 @@ is_fit (Constant op value dst) = is_general dst
 is_fit (OntoIndexed op value base) = true
 is_fit (OntoSymbolic op value) = true
 is_fit (OntoAbsolute op value) = true
+is_fit (form.Single f) = true
+is_fit (form.Double f) = true
 
 -- a form is that of an instruction with extension words of 0, which has so many words
 abbrev pub IsForm : Form → Instr → ℕ → Type 0

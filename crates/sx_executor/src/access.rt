@@ -2,8 +2,9 @@
 
 ghost use Rattle.std.specs.Prelude.{◌≡◌, ◌<◌, Bool, true, None, length, IsTrue, IfOk, IfSome};
 ghost use Rattle.sx_alu.specs.Table.{limit};
-ghost use Rattle.sx_rules.specs.declared.access.Access.{Access};
-ghost use Rattle.sx_rules.specs.declared.access.Access.TheVariants.{Read};
+ghost use Rattle.sx_rules.specs.declared.access.Access.TheVariants.{Read, Write};
+ghost use Rattle.sx_rules.specs.Access.{holder, in_order};
+ghost use Rattle.sx_machine.specs.Step.{word_outside};
 ghost use Rattle.sx_machine.specs.Run.{may_at, with_touch, device_of, fetch, sampled};
 ghost use Rattle.sx_executor.specs.Machine.{moment_of, extends_word, KeepsSections, Loads, Stores};
 
@@ -39,16 +40,43 @@ impl<B: Bus> Executor<B> {
         self.table().may_word(self.own(), access, at)
     }
 
-    /// Whether no section meets the page of an address and no device is there. Then an access asks
-    /// no more.
+    /// Whether one look says that the running code may read and write a place: no section meets its
+    /// page, or it lies in the private part of the home.
     #[inline(always)]
     #[tactic(auto, using(crate::proofs::Open::open_any))]
-    pub fn is_clear(&self, at: u16) -> bool
-        ensures right { IsTrue result → (wide : Bool) (access : Access)
-            → may_at wide self.now.sections.live self.now.own access at ≡ true }
+    fn is_free(&self, at: u16) -> bool
+        ensures read { IsTrue result
+            → (wide : Bool) → may_at wide self.now.sections.live self.now.own Read at ≡ true }
+        ensures write { IsTrue result
+            → (wide : Bool) → may_at wide self.now.sections.live self.now.own Write at ≡ true }
+    {
+        if self.table().is_open(at) {
+            return true;
+        }
+        self.protection().has_data(self.own(), at)
+    }
+
+    /// The same where no device is either. Then a read and a write ask no more.
+    #[inline(always)]
+    pub fn is_at_hand(&self, at: u16) -> bool
+        ensures read { IsTrue result
+            → (wide : Bool) → may_at wide self.now.sections.live self.now.own Read at ≡ true }
+        ensures write { IsTrue result
+            → (wide : Bool) → may_at wide self.now.sections.live self.now.own Write at ≡ true }
         ensures memory { IsTrue result → device_of self.now.devices at ≡ None }
     {
-        self.table().is_open(at) && self.windows().at(at).is_none()
+        self.is_free(at) && self.windows().at(at).is_none()
+    }
+
+    /// Whether the word at an address is known to be code of the module `id`: it is in the public
+    /// part of the home, which that module may go on to.
+    #[inline(always)]
+    pub fn is_at_home(&self, id: u16, at: u16) -> bool
+        ensures held { IsTrue result → holder self.now.sections.live at ≡ id }
+        ensures outside { IsTrue result → word_outside self.now.sections.live at ≡ true }
+        ensures order { IsTrue result → in_order self.now.sections.live id at ≡ true }
+    {
+        self.protection().has_code(id, at)
     }
 
     /// The device whose word holds the byte, with its index.
@@ -94,7 +122,7 @@ impl<B: Bus> Executor<B> {
         ensures run { Loads wide at self.old result self.new }
         ensures below { IfOk result (λ v. v < limit wide) }
     {
-        if self.is_clear(at) {
+        if self.is_at_hand(at) {
             return Ok(self.read(wide, at));
         }
         self.load_near(wide, at)
@@ -124,7 +152,7 @@ impl<B: Bus> Executor<B> {
     pub fn store(&mut self, wide: bool, at: u16, value: u16) -> Result<(), Violation>
         ensures { Stores wide at value self.old result self.new }
     {
-        if self.is_clear(at) {
+        if self.is_at_hand(at) {
             self.write(wide, at, value);
             return Ok(());
         }
@@ -162,7 +190,7 @@ impl<B: Bus> Executor<B> {
         ensures readable { IsTrue result
             → may_at true self.now.sections.live self.now.own Read at ≡ true }
     {
-        if self.table().is_open(at) {
+        if self.table().is_open(at) || self.protection().has_code(self.own(), at) {
             return true;
         }
         self.table().extends_word(self.own(), at)

@@ -12,14 +12,26 @@ use crate::executor::Executor;
 use crate::shortcut::Shortcut;
 use sx_bus::Bus;
 
-/// How many decoded words are kept, and how many shortcuts.
+/// How many decoded words are kept.
 pub(crate) const PLACES: usize = 256;
+
+/// How many shortcuts are kept.
+pub(crate) const SHORTCUT_PLACES: usize = 2048;
 
 /// Where the first word at an address is kept.
 fn place_of(at: u16) -> usize
     ensures { result < 256 }
 {
     usize::from(at / 2 % 256)
+}
+
+/// Where the shortcut of the word at an address is kept. Modules begin at round addresses, so these
+/// are spread.
+#[inline(always)]
+fn shortcut_place_of(at: u16) -> usize
+    ensures { result < 2048 }
+{
+    usize::from(at) * 5 / 8 % 2048
 }
 
 /// Keeps a decoded word, in the place of another one.
@@ -32,15 +44,15 @@ fn keep(kept: &mut [Decoded], at: u16, decoded: Decoded)
 
 /// Keeps a shortcut, in the place of another one.
 fn keep_shortcut(kept: &mut [Shortcut], at: u16, shortcut: Shortcut)
-    requires { length kept.old ≡ 256 }
+    requires { length kept.old ≡ 2048 }
 {
-    let place = place_of(at);
+    let place = shortcut_place_of(at);
     kept[place] = shortcut;
 }
 
 #[inline(always)]
-fn shortcut_at(kept: &[Shortcut; PLACES], at: u16) -> &Shortcut {
-    &kept[place_of(at)]
+fn shortcut_at(kept: &[Shortcut; SHORTCUT_PLACES], at: u16) -> &Shortcut {
+    &kept[shortcut_place_of(at)]
 }
 
 /// What is kept for an address, if it is this word.

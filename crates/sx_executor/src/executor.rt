@@ -23,7 +23,8 @@ ghost use Rattle.sx_executor.specs.Machine.{switched_on, cleared_by_reset, reach
 
 use crate::buffer::Buffer;
 use crate::decoded::Decoded;
-use crate::decoding::PLACES;
+use crate::decoding::{PLACES, SHORTCUT_PLACES};
+use crate::protection::Protection;
 use crate::shortcut::Shortcut;
 use std::alloc::{AllocError as OutOfMemory, Global};
 use std::marker::Model;
@@ -38,12 +39,12 @@ pub struct Executor<B: Bus> {
     pub(crate) regs: [u16; 16],
     bus: B,
     windows: Windows,
-    table: Table,
+    protection: Protection,
     own: u16,
     pub(crate) touches: [Touch; 2],
     /// Decoded first words and shortcuts, each in the place of an address that it was decoded at.
     pub(crate) decoded: [Decoded; PLACES],
-    pub(crate) shortcuts: [Shortcut; PLACES],
+    pub(crate) shortcuts: [Shortcut; SHORTCUT_PLACES],
 }
 
 impl<B: Bus> Model for Executor<B> {
@@ -55,7 +56,7 @@ impl<B: Bus> Model for Executor<B> {
       regs = e.regs;
       mem = B.bytes e.bus;
       devices = e.windows;
-      sections = e.table;
+      sections = e.protection;
       own = e.own;
       touches = e.touches;
     } };
@@ -87,11 +88,11 @@ impl<B: Bus> Executor<B> {
             regs: [0; 16],
             bus,
             windows,
-            table: Table::new(),
+            protection: Protection::new(),
             own: 0,
             touches: [Touch::Quiet; 2],
             decoded: [Decoded::idle(); PLACES],
-            shortcuts: [Shortcut::idle(); PLACES],
+            shortcuts: [Shortcut::idle(); SHORTCUT_PLACES],
         }
     }
 
@@ -102,7 +103,7 @@ impl<B: Bus> Executor<B> {
         self.bus.wipe();
         self.regs = [0; 16];
         self.windows.reset();
-        self.table = Table::new();
+        self.protection = Protection::new();
         self.own = 0;
         self.touches = [Touch::Quiet; 2];
     }
@@ -115,6 +116,16 @@ impl<B: Bus> Executor<B> {
     {
         self.own = own;
         self.touches = [Touch::Quiet; 2];
+    }
+
+    /// Gives the turn to the module whose code PC is at, or with 0 to code outside every module,
+    /// and keeps what was touched.
+    #[inline(always)]
+    pub fn turn(&mut self, own: u16)
+        requires { (own ≡ 0) ⊎ (own ≡ holder self.old.sections.live (reg self.old.regs 0)) }
+        ensures { self.new ≡ record self.old { own = own } }
+    {
+        self.own = own;
     }
 
     /// The module whose code runs, else 0.
@@ -130,7 +141,23 @@ impl<B: Bus> Executor<B> {
     pub fn table(&self) -> &Table
         ensures { result.now ≡ self.now.sections }
     {
-        &self.table
+        self.protection.table()
+    }
+
+    /// The sections, with the home that is known.
+    #[inline(always)]
+    pub(crate) fn protection(&self) -> &Protection
+        ensures { result.now ≡ self.now.sections }
+    {
+        &self.protection
+    }
+
+    /// Learns the home of a module: from then on its own code needs no look at the sections there,
+    /// until they change or another home is learnt.
+    pub fn learn_home(&mut self, id: u16)
+        ensures { self.new ≡ self.old }
+    {
+        self.protection.learn_home(id);
     }
 
     /// The devices.
@@ -221,7 +248,7 @@ impl<B: Bus> Executor<B> {
           sections = admitted self.old.sections layout provider key;
         } }
     {
-        let id = self.table.add(layout, provider, key);
+        let id = self.protection.add(layout, provider, key);
         wipe(&mut self.bus, &layout);
         id
     }
@@ -236,7 +263,7 @@ impl<B: Bus> Executor<B> {
         } }
     {
         wipe(&mut self.bus, &section.layout);
-        self.table.remove(self.own);
+        self.protection.remove(self.own);
     }
 }
 
@@ -270,7 +297,7 @@ impl<B: Copied> Executor<B> {
             regs: self.regs,
             bus,
             windows,
-            table: self.table.copy(),
+            protection: self.protection.copy(),
             own: self.own,
             touches: self.touches,
             decoded: self.decoded,

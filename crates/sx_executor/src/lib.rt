@@ -15,7 +15,7 @@ pub use buffer::Buffer;
 pub use decoded::Decoded;
 pub use executor::Executor;
 pub use range::Range;
-pub use shortcut::{Form, Shortcut};
+pub use shortcut::{Double, Form, Shortcut, Single};
 
 mod access;
 mod buffer;
@@ -24,6 +24,8 @@ mod decoded;
 mod decoding;
 mod devices;
 mod executor;
+mod home;
+mod protection;
 mod range;
 pub mod registers;
 mod sections;

@@ -1,22 +1,23 @@
 //! Shortcuts: what is kept of an instruction that code runs often, in eight bytes.
 //!
-//! A jump, an operation on words from a register or a constant onto a general register, and one
-//! from a constant onto a word of memory have one. An instruction is of its form, and is no module
-//! instruction, by facts that the shortcut carries, so nothing else has to be believed of what is
-//! kept.
+//! Jumps have one, and so have the operations that compiled code is made of: from registers,
+//! constants and places in memory onto registers and such places, pushes, calls and returns. An
+//! instruction is of its form, and is no module instruction, by facts that the shortcut carries, so
+//! nothing else has to be believed of what is kept.
 
 ghost use Rattle.std.specs.Prelude.{◌≡◌, ℕ, true, false, Some, IfSome};
 ghost use Rattle.std.proofs.Props.{props};
-ghost use Rattle.sx_isa.specs.declared.instruction.Instr.TheVariants.{Jump, Two};
-ghost use Rattle.sx_isa.specs.declared.instruction.Operand.TheVariants.{Reg, Const};
+ghost use Rattle.sx_isa.specs.declared.instruction.Instr.TheVariants.{Jump, One, Two};
+ghost use Rattle.sx_isa.specs.declared.instruction.Operand.TheVariants.{Reg, Const, Increment};
 ghost use Rattle.sx_isa.specs.Reading.{instruction_at};
 ghost use Rattle.sx_isa.specs.Extending.{extended};
 ghost use Rattle.sx_machine.specs.Step.{is_module_word};
 ghost use Rattle.sx_executor.specs.Reads.{IsDecoded};
 ghost use Rattle.sx_executor.specs.Shortcuts.{instruction_of, words_of, is_fit, IsForm};
+ghost use Rattle.sx_executor.specs.Shortcuts.{double_of};
 
 use crate::decoded::Decoded;
-use sx_isa::{Instr, Op2, Operand};
+use sx_isa::{Instr, Op1, Op2, Operand};
 
 /// A form of instruction: what it does, without its extension words. The jumps are told apart here,
 /// so that none asks for its condition.
@@ -40,9 +41,56 @@ pub enum Form {
     OntoSymbolic { op: Op2, value: u16 },
     /// From a constant onto memory at the extension word.
     OntoAbsolute { op: Op2, value: u16 },
+    /// Another one without an extension word.
+    Single(Single),
+    /// Another one with one extension word.
+    Double(Double),
 }
 
-/// The least first word that has a form. Below it are those of one operand and of modules.
+/// A form of instruction without an extension word, on words.
+#[derive(Clone, Copy)]
+pub enum Single {
+    /// From memory at a register, which goes on, onto a register.
+    FromIncrement { op: Op2, src: u8, dst: u8 },
+    /// From memory at a register onto a register.
+    FromIndirect { op: Op2, src: u8, dst: u8 },
+    /// One operand, which is a register.
+    OnRegister { op: Op1, arg: u8 },
+    /// One operand, which is a constant.
+    OnConstant { op: Op1, value: u16 },
+}
+
+/// A form of instruction with one extension word, `x`, on words if it doesn't say bytes.
+#[derive(Clone, Copy)]
+pub enum Double {
+    /// From the value `x` onto a register.
+    FromImmediate { op: Op2, dst: u8 },
+    /// From memory at `x` onto a register.
+    FromAbsolute { op: Op2, dst: u8 },
+    /// From memory at a register plus `x` onto a register.
+    FromIndexed { op: Op2, base: u8, dst: u8 },
+    /// From a register onto memory at `x`.
+    RegisterOntoAbsolute { op: Op2, src: u8 },
+    /// From a register onto memory at a register plus `x`.
+    RegisterOntoIndexed { op: Op2, src: u8, base: u8 },
+    /// From memory at a register, which goes on, onto memory at `x`.
+    IncrementOntoAbsolute { op: Op2, src: u8 },
+    /// From memory at a register, which goes on, onto memory at a register plus `x`.
+    IncrementOntoIndexed { op: Op2, src: u8, base: u8 },
+    /// The same on bytes.
+    BytesOntoIndexed { op: Op2, src: u8, base: u8 },
+    /// One operand, which is the value `x`.
+    OnImmediate { op: Op1 },
+    /// One operand, in memory at `x`.
+    OnAbsolute { op: Op1 },
+    /// One operand, in memory at a register plus `x`.
+    OnIndexed { op: Op1, base: u8 },
+}
+
+/// From here up to the first jump are the words of the module instructions and those that no
+/// instruction has.
+const FIRST_MODULE_WORD: u16 = 0x1380;
+
 const FIRST_JUMP: u16 = 0x2000;
 
 /// A first word with its form.
@@ -72,8 +120,8 @@ fn jump_form(cond: u8, offset: i16) -> Option<Form>
     }
 }
 
-/// The form of an operation on words of one word: onto a general register.
-fn register_form(op: Op2, src: Operand, dst: u8) -> Option<Form>
+/// The form of an operation from a register or a constant onto a general register.
+fn general_form(op: Op2, src: Operand, dst: u8) -> Option<Form>
     ensures { IfSome result (λ form. IsForm form (Two op false src (Reg dst)) 1) }
 {
     if dst < 4 || dst >= 16 {
@@ -86,7 +134,29 @@ fn register_form(op: Op2, src: Operand, dst: u8) -> Option<Form>
     }
 }
 
-/// The form of an operation on words of two words: from a constant onto memory.
+/// The form of an operation on words of one word: onto a register.
+fn register_form(op: Op2, src: Operand, dst: u8) -> Option<Form>
+    ensures { IfSome result (λ form. IsForm form (Two op false src (Reg dst)) 1) }
+{
+    match src {
+        Operand::Increment(src) => Some(Form::Single(Single::FromIncrement { op, src, dst })),
+        Operand::Indirect(src) => Some(Form::Single(Single::FromIndirect { op, src, dst })),
+        _ => general_form(op, src, dst),
+    }
+}
+
+/// The form of an operation with one operand of one word.
+fn operand_form(op: Op1, arg: Operand) -> Option<Form>
+    ensures { IfSome result (λ form. IsForm form (One op false arg) 1) }
+{
+    match arg {
+        Operand::Reg(arg) => Some(Form::Single(Single::OnRegister { op, arg })),
+        Operand::Const(value) => Some(Form::Single(Single::OnConstant { op, value })),
+        _ => None,
+    }
+}
+
+/// The form of an operation on words from a constant onto memory.
 fn memory_form(op: Op2, value: u16, dst: Operand) -> Option<Form>
     ensures { IfSome result (λ form. IsForm form (Two op false (Const value) dst) 2) }
 {
@@ -98,24 +168,135 @@ fn memory_form(op: Op2, value: u16, dst: Operand) -> Option<Form>
     }
 }
 
-/// The form of an instruction of so many words, if it has one.
-fn form_of(instruction: Instr, words: u8) -> Option<Form>
-    ensures { IfSome result (λ form. IsForm form instruction words) }
+/// The form of an operation on words of two words whose source has the extension word.
+fn source_form(op: Op2, src: Operand, dst: u8) -> Option<Double>
+    ensures { IfSome result (λ form. double_of form ≡ Two op false src (Reg dst)) }
+{
+    match src {
+        Operand::Immediate(0) => Some(Double::FromImmediate { op, dst }),
+        Operand::Absolute(0) => Some(Double::FromAbsolute { op, dst }),
+        Operand::Indexed(base, 0) => Some(Double::FromIndexed { op, base, dst }),
+        _ => None,
+    }
+}
+
+/// The form of an operation on words from a register onto memory.
+fn stored_form(op: Op2, src: u8, dst: Operand) -> Option<Double>
+    ensures { IfSome result (λ form. double_of form ≡ Two op false (Reg src) dst) }
+{
+    match dst {
+        Operand::Absolute(0) => Some(Double::RegisterOntoAbsolute { op, src }),
+        Operand::Indexed(base, 0) => Some(Double::RegisterOntoIndexed { op, src, base }),
+        _ => None,
+    }
+}
+
+/// The form of an operation on words from memory at a register, which goes on, onto memory.
+fn moved_form(op: Op2, src: u8, dst: Operand) -> Option<Double>
+    ensures { IfSome result (λ form. double_of form ≡ Two op false (Increment src) dst) }
+{
+    match dst {
+        Operand::Absolute(0) => Some(Double::IncrementOntoAbsolute { op, src }),
+        Operand::Indexed(base, 0) => Some(Double::IncrementOntoIndexed { op, src, base }),
+        _ => None,
+    }
+}
+
+/// The form of an operation on words of two words, not from a constant.
+fn double_form(op: Op2, src: Operand, dst: Operand) -> Option<Double>
+    ensures { IfSome result (λ form. double_of form ≡ Two op false src dst) }
+{
+    match (src, dst) {
+        (Operand::Reg(src), dst) => stored_form(op, src, dst),
+        (Operand::Increment(src), dst) => moved_form(op, src, dst),
+        (src, Operand::Reg(dst)) => source_form(op, src, dst),
+        _ => None,
+    }
+}
+
+/// The form of an operation with one operand of two words.
+fn extended_form(op: Op1, arg: Operand) -> Option<Double>
+    ensures { IfSome result (λ form. double_of form ≡ One op false arg) }
+{
+    match arg {
+        Operand::Immediate(0) => Some(Double::OnImmediate { op }),
+        Operand::Absolute(0) => Some(Double::OnAbsolute { op }),
+        Operand::Indexed(base, 0) => Some(Double::OnIndexed { op, base }),
+        _ => None,
+    }
+}
+
+/// The form of an instruction of one word, if it has one.
+fn form_of_one(instruction: Instr) -> Option<Form>
+    ensures { IfSome result (λ form. IsForm form instruction 1) }
 {
     match instruction {
-        Instr::Jump { cond, offset } if words == 1 => jump_form(cond, offset),
+        Instr::Jump { cond, offset } => jump_form(cond, offset),
         Instr::Two {
             op,
             byte: false,
             src,
             dst: Operand::Reg(dst),
-        } if words == 1 => register_form(op, src, dst),
+        } => register_form(op, src, dst),
+        Instr::One {
+            op,
+            byte: false,
+            arg,
+        } => operand_form(op, arg),
+        _ => None,
+    }
+}
+
+/// The form of an instruction of two words that isn't from a constant, if it has one.
+fn double_of(instruction: Instr) -> Option<Double>
+    ensures { IfSome result (λ form. double_of form ≡ instruction) }
+{
+    match instruction {
         Instr::Two {
             op,
             byte: false,
-            src: Operand::Const(value),
+            src,
             dst,
-        } if words == 2 => memory_form(op, value, dst),
+        } => double_form(op, src, dst),
+        Instr::Two {
+            op,
+            byte: true,
+            src: Operand::Increment(src),
+            dst: Operand::Indexed(base, 0),
+        } => Some(Double::BytesOntoIndexed { op, src, base }),
+        Instr::One {
+            op,
+            byte: false,
+            arg,
+        } => extended_form(op, arg),
+        _ => None,
+    }
+}
+
+/// The form of an instruction of two words, if it has one.
+fn form_of_two(instruction: Instr) -> Option<Form>
+    ensures { IfSome result (λ form. IsForm form instruction 2) }
+{
+    if let Instr::Two {
+        op,
+        byte: false,
+        src: Operand::Const(value),
+        dst,
+    } = instruction
+    {
+        return memory_form(op, value, dst);
+    }
+    let double = double_of(instruction)?;
+    Some(Form::Double(double))
+}
+
+/// The form of an instruction of so many words, if it has one.
+fn form_of(instruction: Instr, words: u8) -> Option<Form>
+    ensures { IfSome result (λ form. IsForm form instruction words) }
+{
+    match words {
+        1 => form_of_one(instruction),
+        2 => form_of_two(instruction),
         _ => None,
     }
 }
@@ -126,7 +307,7 @@ impl Shortcut {
         ensures { IfSome result (λ shortcut. shortcut.first ≡ decoded.now.first) }
     {
         let first = decoded.first;
-        if first < FIRST_JUMP {
+        if first >= FIRST_MODULE_WORD && first < FIRST_JUMP {
             return None;
         }
         let form = form_of(decoded.instruction, decoded.words)?;

@@ -7,6 +7,7 @@
 #![tactic(auto)]
 
 mod acts;
+mod at_home;
 mod copied;
 mod node;
 mod quick;

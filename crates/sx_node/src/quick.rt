@@ -13,7 +13,7 @@ ghost use Rattle.sx_machine.specs.Memory.{word};
 ghost use Rattle.sx_machine.specs.Run.{exec, untouched, Violated};
 ghost use Rattle.sx_machine.specs.Rows.{program};
 ghost use Rattle.sx_machine.specs.Step.{step, attempt, instruction, word_outside, pc_of, own_of};
-ghost use Rattle.sx_machine.specs.Step.{start, entered_from};
+ghost use Rattle.sx_machine.specs.Step.{start, entered_from, left};
 ghost use Rattle.sx_node.specs.Telling.{told, Tells};
 
 use crate::node::Node;
@@ -26,7 +26,7 @@ use sx_rules::Violation;
 use sx_tag::Tag;
 
 /// Whether an instruction did nothing at devices.
-fn is_untouched(touch: &[Touch; 2]) -> bool
+pub(crate) fn is_untouched(touch: &[Touch; 2]) -> bool
     ensures { IsTrue result → touch.now ≡ untouched }
 {
     matches!(*touch, [Touch::Quiet, Touch::Quiet])
@@ -61,7 +61,10 @@ impl<B: Bus, T: Tag> Node<B, T> {
         ensures shown { told result seen.new ≡ (step T.mac self.old).shown }
     {
         let pc = self.executor.register(PC);
-        if self.cur != 0 || self.last != 0 || !self.is_open(pc) {
+        if self.cur != 0 {
+            return self.step_inside(seen);
+        }
+        if self.last != 0 || !self.is_open(pc) {
             return self.step_near(seen);
         }
         match self.executor.windows().at(pc) {
@@ -72,7 +75,7 @@ impl<B: Bus, T: Tag> Node<B, T> {
 
     /// The same in each case. Its code stays out of the way of what most steps do.
     #[inline(never)]
-    fn step_near(&mut self, seen: &mut Seen) -> bool
+    pub(crate) fn step_near(&mut self, seen: &mut Seen) -> bool
         requires { self.old.boot < 4294967295 }
         ensures { Tells self.old (attempt T.mac self.old) result seen.new self.new }
     {
@@ -82,7 +85,7 @@ impl<B: Bus, T: Tag> Node<B, T> {
 
     /// The end of a step by a violation, which is always told.
     #[inline(never)]
-    fn end_reset(&mut self, violation: Violation, seen: &mut Seen) -> bool
+    pub(crate) fn end_reset(&mut self, violation: Violation, seen: &mut Seen) -> bool
         requires { self.old.boot < 4294967295 }
         ensures { Tells self.old (Violated violation) result seen.new self.new }
     {
@@ -108,7 +111,7 @@ impl<B: Bus, T: Tag> Node<B, T> {
         if self.executor.has_shortcut(pc, first) {
             self.plain_idle(first, seen)
         } else {
-            self.instruction_near(first, seen)
+            self.instruction_near(0, first, seen)
         }
     }
 
@@ -134,6 +137,10 @@ impl<B: Bus, T: Tag> Node<B, T> {
             }
             Stepped::Answered(Ok(())) => {
                 let touch = self.executor.touches();
+                if is_untouched(&touch) {
+                    self.stays_idle();
+                    return false;
+                }
                 self.executor.begin(0);
                 self.stays_idle();
                 tell_touches(touch, seen)
@@ -141,39 +148,38 @@ impl<B: Bus, T: Tag> Node<B, T> {
         }
     }
 
-    /// An instruction without a shortcut. Its code stays out of the way of what most steps do.
+    /// An instruction without a shortcut, of the module `own` or with 0 of code outside. Its code
+    /// stays out of the way of what most steps do.
     #[inline(never)]
-    fn instruction_near(&mut self, first: u16, seen: &mut Seen) -> bool
+    pub(crate) fn instruction_near(&mut self, own: u16, first: u16, seen: &mut Seen) -> bool
         requires boot { self.old.boot < 4294967295 }
-        requires own { own_of self.old ≡ 0 }
-        requires cur { self.old.cur ≡ 0 }
-        requires last { self.old.last ≡ 0 }
+        requires own { own ≡ own_of self.old }
         requires word { first ≡ word self.old.mem (pc_of self.old) }
         ensures { Tells self.old (instruction T.mac self.old) result seen.new self.new }
     {
         match code_of(first) {
-            Some(code) => match self.module_instruction(0, code) {
+            Some(code) => match self.module_instruction(own, code) {
                 Ok(shown) => {
                     *seen = shown;
                     is_anything(seen)
                 }
                 Err(violation) => self.end_reset(violation, seen),
             },
-            None => self.plain_long(first, seen),
+            None => self.plain_long(own, first, seen),
         }
     }
 
     /// A plain instruction without a shortcut.
     #[inline(always)]
-    fn plain_long(&mut self, first: u16, seen: &mut Seen) -> bool
+    fn plain_long(&mut self, own: u16, first: u16, seen: &mut Seen) -> bool
         requires boot { self.old.boot < 4294967295 }
-        requires own { own_of self.old ≡ 0 }
-        requires cur { self.old.cur ≡ 0 }
-        requires last { self.old.last ≡ 0 }
+        requires own { own ≡ own_of self.old }
         ensures { Tells self.old
-            (exec self.old.sections 0 (program first self.old.regs) (start self.old))
+            (exec self.old.sections own (program first self.old.regs) (start self.old))
             result seen.new self.new }
     {
+        let caller = self.entered_from(own);
+        self.executor.turn(own);
         match step_long(&mut self.executor, first) {
             Err(violation) => {
                 self.executor.begin(0);
@@ -182,10 +188,37 @@ impl<B: Bus, T: Tag> Node<B, T> {
             Ok(()) => {
                 let touch = self.executor.touches();
                 self.executor.begin(0);
-                self.stays_idle();
-                tell_touches(touch, seen)
+                self.ends_plain(own, caller, touch, seen)
             }
         }
+    }
+
+    /// The end of a plain instruction of `own`, which did this at devices.
+    #[inline(never)]
+    pub(crate) fn ends_plain(
+        &mut self,
+        own: u16,
+        caller: u16,
+        touch: [Touch; 2],
+        seen: &mut Seen,
+    ) -> bool
+        ensures state { self.new ≡ record self.old {
+          cur = if holder self.old.sections.live (pc_of self.old) == own then own else 0;
+          last = own;
+          caller = caller;
+        } }
+        ensures shown { told result seen.new
+            ≡ record { touch = touch; event = left self.old own self.old.regs } }
+    {
+        self.settle(own, caller);
+        let stays = own == 0 || self.cur == own;
+        let event = if stays {
+            Event::Quiet
+        } else {
+            Event::Left(own)
+        };
+        *seen = Seen { touch, event };
+        is_anything(seen)
     }
 
     /// Whether no section meets the page of the word at an address. Then what a step asks of the

@@ -1,8 +1,7 @@
 //! Steps of a node that show nothing, taken one after the other.
 
-ghost use Rattle.std.specs.Prelude.{◌≡◌, ◌<◌, true, false, IsTrue};
-ghost use Rattle.sx_machine.specs.Run.{untouched};
-ghost use Rattle.sx_machine.specs.declared.kinds.Event.TheVariants.{Quiet};
+ghost use Rattle.std.specs.Prelude.{◌≡◌, ◌<◌, true, false};
+ghost use Rattle.sx_node.specs.Telling.{silent};
 ghost use Rattle.sx_world.specs.Passing.{after_steps, AreQuiet, EndsWith, taken};
 
 use sx_bus::Bus;
@@ -30,11 +29,14 @@ impl QuietSteps {
     }
 }
 
-/// Whether an instruction showed nothing, as most do.
-fn is_quiet(seen: &Seen) -> bool
-    ensures { IsTrue result → seen.now ≡ record { touch = untouched; event = Quiet } }
+/// What a step shows that shows nothing, as most do.
+fn silent() -> Seen
+    ensures { result ≡ silent }
 {
-    matches!(seen.touch, [Touch::Quiet, Touch::Quiet]) && matches!(seen.event, Event::Quiet)
+    Seen {
+        touch: [Touch::Quiet; 2],
+        event: Event::Quiet,
+    }
 }
 
 /// Steps of a node, at most `count`, up to the first that shows something. The loop is code of its
@@ -46,10 +48,7 @@ fn quiet_stretch<B: Bus, T: Tag>(node: &mut Node<B, T>, count: u32) -> QuietStep
     ensures last { EndsWith T.mac count result.count result.last node.old }
     ensures left { node.new ≡ after_steps T.mac (taken result.count result.last) node.old }
 {
-    let mut seen = Seen {
-        touch: [Touch::Quiet; 2],
-        event: Event::Quiet,
-    };
+    let mut seen = silent();
     for done in 0..count {
         if node.step_told(&mut seen) {
             return QuietSteps {
@@ -62,19 +61,26 @@ fn quiet_stretch<B: Bus, T: Tag>(node: &mut Node<B, T>, count: u32) -> QuietStep
 }
 
 /// Steps of a node, at most `count`, up to the first that shows something or leaves no module
-/// running.
+/// running. Its loop is code of its own, too.
+#[inline(never)]
 fn module_stretch<B: Bus, T: Tag>(node: &mut Node<B, T>, count: u32) -> QuietSteps
     requires { node.old.boot < 4294967295 }
     ensures quiet { AreQuiet T.mac true result.count node.old }
     ensures last { EndsWith T.mac count result.count result.last node.old }
     ensures left { node.new ≡ after_steps T.mac (taken result.count result.last) node.old }
 {
+    let mut seen = silent();
     for done in 0..count {
-        let seen = node.step();
-        if !is_quiet(&seen) || node.running() == 0 {
+        if node.step_told(&mut seen) {
             return QuietSteps {
                 count: done,
                 last: Some(seen),
+            };
+        }
+        if node.running() == 0 {
+            return QuietSteps {
+                count: done,
+                last: Some(silent()),
             };
         }
     }

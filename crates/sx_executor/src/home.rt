@@ -1,0 +1,107 @@
+//! The home of a module: its two parts, where its own code needs no look at the sections.
+
+ghost use Rattle.std.specs.Prelude.{◌≡◌, List};
+ghost use Rattle.std.specs.List.{list_all};
+ghost use Rattle.sx_rules.specs.declared.section.Section.{Section};
+ghost use Rattle.sx_rules.specs.Admission.{apart, is_even};
+ghost use Rattle.sx_executor.specs.Homes.{has_code, has_data, leaves, is_even_home, KeepsHome};
+
+use sx_rules::{Layout, Section, Table};
+
+/// A module's id and the bounds of its two parts. Where the parts are empty, it is no one's home.
+#[derive(Clone, Copy)]
+pub(crate) struct Home {
+    id: u16,
+    layout: Layout,
+}
+
+fn apart(from: u16, to: u16, start: u16, end: u16) -> bool
+    ensures { result ≡ apart from to start end }
+{
+    to <= start || end <= from
+}
+
+fn is_even(bound: u16) -> bool
+    ensures { result ≡ is_even bound }
+{
+    bound % 2 == 0
+}
+
+impl Home {
+    /// No one's.
+    pub(crate) fn empty() -> Home
+        ensures { (live : List Section) → KeepsHome result live }
+    {
+        Home {
+            id: 0,
+            layout: Layout {
+                pub_from: 0,
+                pub_to: 0,
+                priv_from: 0,
+                priv_to: 0,
+            },
+        }
+    }
+
+    /// That of a live module; no one's where there is no such module, or where another section
+    /// meets it.
+    pub(crate) fn of(table: &Table, id: u16) -> Home
+        ensures { KeepsHome result table.now.live }
+    {
+        let Some(section) = table.section(id) else {
+            return Home::empty();
+        };
+        let home = Home {
+            id,
+            layout: section.layout,
+        };
+        if home.is_even() && home.is_left_by_all(table.live()) {
+            return home;
+        }
+        Home::empty()
+    }
+
+    /// Whether the byte lies in the public part of the home of the module `id`.
+    #[inline(always)]
+    pub(crate) fn has_code(&self, id: u16, at: u16) -> bool
+        ensures { result ≡ has_code self.now id at }
+    {
+        id == self.id && self.layout.pub_from <= at && at < self.layout.pub_to
+    }
+
+    /// The same of the private part.
+    #[inline(always)]
+    pub(crate) fn has_data(&self, id: u16, at: u16) -> bool
+        ensures { result ≡ has_data self.now id at }
+    {
+        id == self.id && self.layout.priv_from <= at && at < self.layout.priv_to
+    }
+
+    fn is_even(&self) -> bool
+        ensures { result ≡ is_even_home self.now }
+    {
+        is_even(self.layout.pub_from)
+            && is_even(self.layout.pub_to)
+            && is_even(self.layout.priv_from)
+            && is_even(self.layout.priv_to)
+    }
+
+    /// Whether no part of a section meets it but its module's own.
+    fn is_left_by(&self, section: &Section) -> bool
+        ensures { result ≡ leaves self.now section.now }
+    {
+        let home = &self.layout;
+        let other = &section.layout;
+        apart(home.pub_from, home.pub_to, other.priv_from, other.priv_to)
+            && apart(home.priv_from, home.priv_to, other.pub_from, other.pub_to)
+            && (section.id == self.id
+                || apart(home.pub_from, home.pub_to, other.pub_from, other.pub_to)
+                    && apart(home.priv_from, home.priv_to, other.priv_from, other.priv_to))
+    }
+
+    fn is_left_by_all(&self, live: &[Section]) -> bool
+        ensures { result ≡ list_all (leaves self.now) live.now }
+    {
+        live.iter().all(|section| self.is_left_by(section))
+    }
+}
