@@ -3,7 +3,7 @@
 //! Each arm names its operands, so that the compiler makes code for them alone. The clauses name
 //! the rows of the instructions, as those of the long way do.
 
-ghost use Rattle.std.specs.Prelude.{true};
+ghost use Rattle.std.specs.Prelude.{true, false};
 ghost use Rattle.sx_isa.specs.declared.instruction.Operand.TheVariants.{Reg, Increment};
 ghost use Rattle.sx_isa.specs.Extending.{extended};
 ghost use Rattle.sx_machine.specs.Registers.{at_pc};
