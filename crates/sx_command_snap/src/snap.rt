@@ -36,6 +36,7 @@ fn new_timeline<T: Tag + Copy>(
     ensures timeline { IfOk result (λ t. IsTimeline T.mac (deployed_as plan.now) t) }
     ensures sites { IfOk result (λ t. t.sites ≡ (image_setting T.mac plan.now images.now).sites) }
     ensures lines { IfOk result (λ t. t.lines ≡ []) }
+    ensures every { IfOk result (λ t. t.every ≡ 8192) }
 {
     let nodes = nodes_of(alloc, tag, plan)?;
     Timeline::new(alloc, tag, plan, images, nodes, EVERY)

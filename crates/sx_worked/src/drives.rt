@@ -387,13 +387,23 @@ done eye 1 0
             b"end\n",
         ),
     ),
-    // a reading of the second sensor alone
+    // readings of the second sensor alone; one of them is 0
     (
         CHAIN,
         (
-            b"heat 3\n",
+            b"heat 3\nheat 0\n",
             0,
-            b"> sense heat 3\nsense heat 3\n> call warm 3 0x40 0x80\nread warm 3\ndone warm 1 0\n",
+            b"> sense heat 3
+sense heat 3
+> call warm 3 0x40 0x80
+read warm 3
+done warm 1 0
+> sense heat 0
+sense heat 0
+> call warm 3 0x40 0x80
+read warm 0
+done warm 1 0
+",
             b"end\n",
         ),
     ),
