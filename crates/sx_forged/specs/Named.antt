@@ -1,5 +1,5 @@
 -- A setting whose nodes hold names in place of keys.
-use Rattle.std.specs.Prelude.{◌≡◌, ℕ, zero, suc, ◌+◌, ◌*◌, ◌==◌, if◌then◌else◌, List, []}
+use Rattle.std.specs.Prelude.{◌≡◌, ℕ, zero, suc, ◌+◌, ◌*◌, ◌^◌, ◌==◌, if◌then◌else◌, List, []}
 use Rattle.std.specs.Prelude.{◌∷◌, ◌++◌, length}
 use Rattle.std.specs.Int.{w16, w32, to_le_bytes}
 use Rattle.sx_tag.specs.Mac.{Mac}
@@ -8,10 +8,10 @@ use Rattle.sx_run.specs.Setting.{Setting}
 use Rattle.sx_run.specs.Deployer.{list_at}
 use Rattle.sx_forged.specs.Tags.{rekeyed, AgreeOnTags}
 
--- bytes as one number
+-- a list of numbers as one number, which no other list has
 abbrev pub code : List ℕ → ℕ
-code [] = 1
-code (b ∷ bs) = b + 256 * code bs
+code [] = 0
+code (b ∷ bs) = 2 ^ b * (2 * code bs + 1)
 
 -- under a name: a key that is derived is a longer name, and each other tag is looked up in a table
 abbrev pub looked : Mac → List ℕ → List ℕ → List ℕ

@@ -22,7 +22,8 @@ pub fn players_see_the_same()
 {}
 
 /// No tag tells a setting from the one whose nodes hold names in place of keys, and whose tags
-/// under modules' names stand in a table. So the law before isn't empty.
+/// under modules' names stand in a table that has the tags of the first. Names tell modules apart,
+/// so there is such a table.
 pub fn names_agree()
     ensures { NamesAgree }
 {}
@@ -43,7 +44,8 @@ pub fn accepted_forged()
     ensures { AcceptedForged }
 {}
 
-/// Until then the ledger has whatever deployed modules and the deployer wrapped, and nothing else.
+/// Until then each entry of the ledger is of the form that its maker makes, and whatever the code
+/// of a deployed module wraps is entered.
 pub fn ledger_tells()
     ensures { LedgerTells }
 {}
