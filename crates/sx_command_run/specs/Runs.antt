@@ -49,7 +49,9 @@ RunSays assemble mac = DeploySays mac (run_part assemble mac)
 -- What `run` promises, and beside it what a reader may take from each legal trace: that follows
 -- from what is legal. So does what each reading, taking and output in it rests on (`causes`): the
 -- word that is taken was sent by a handler of the module that the connection comes from, and the
--- value that is put out is the next that the handler of the module's latest event emits.
+-- value that is put out is the next that the handler of the module's latest event emits. Of the
+-- keys of nodes and modules a run shows nothing but tags (`keys`), so names in place of them do as
+-- well (`named`).
 pub record RunTold (assemble : Assembler) (mac : Mac) (tells to_tell : Bool) (m0 m1 : CommandAt)
     (status : ℕ) : Type 0 where
   pub says : RunSays assemble mac tells to_tell m0 m1 status
