@@ -8,7 +8,8 @@ What else stands in the files of specs/ that are reached is shown too, by name: 
 A definition is reached where its name stands in one that is reached. Its lines count without comments and imports;
 the kit's own definitions don't count. Of some definitions a reader believes only that they are functions (FUNCTIONS);
 what stands behind these isn't reached. Two tiers: the core is about runs, for every sound setting and every list of
-lines in form; the rest is what leads there from the text that is read, and to the text that is written.
+lines in form; the rest is what leads there from the text that is read, and to the text that is written. What `forged`
+says (the crate sx_forged, and what is reached through it alone) is counted by itself, and in no other number.
 """
 
 import re
@@ -28,6 +29,12 @@ CORE = SOURCE + [
 # The record of the command `run` with the moments that it is about, and what the whole program promises.
 HEADLINE = ["*.Runs.RunSays", "sx_told.Told.command_at"]
 PROGRAM = ["*.Promises.ProgramTold"]
+# What the first `forged` of a run says, and what keys show.
+FORGED_CRATE = "sx_forged"
+FORGED = [f"{FORGED_CRATE}.{law}" for law in (
+    "Forgery.ForgedUnmade", "Forgery.ForgedShown", "Logged.LedgerTells",
+    "Unseen.KeysUnseen", "Unseen.RunsKeysUnseen", "Unseen.PlayersSeeTheSame", "Named.NamesAgree",
+)]
 # The images are a function of the deployment; which one, the compiler says, and nobody has to believe that.
 FUNCTIONS = {("sx_command_world.Compiled", "compiled_texts")}
 
@@ -197,11 +204,12 @@ class Repository:
                 sys.exit(f"no definition {name}")
             yield from found
 
-    def reached(self, names):
+    def reached(self, names, without=None):
+        """What these lead to, `without` the definitions of a crate and what only they lead to, if one is given."""
         seen, left = set(), list(self.roots(names))
         while left:
             key = left.pop()
-            if key is not None and key not in seen:
+            if key is not None and key not in seen and key[0].split(".")[0] != without:
                 seen.add(key)
                 left += self.named(key)
         return seen
@@ -230,15 +238,18 @@ def main():
         return repository.show("reached", repository.reached(sys.argv[1:]))
     source = repository.reached(SOURCE)
     core = repository.reached(CORE)
-    headline = repository.reached(CORE + HEADLINE)
-    program = repository.reached(CORE + HEADLINE + PROGRAM)
+    headline = repository.reached(CORE + HEADLINE, FORGED_CRATE)
+    program = repository.reached(CORE + HEADLINE + PROGRAM, FORGED_CRATE)
+    forged = repository.reached(CORE + HEADLINE + PROGRAM + FORGED) - program
     repository.show("The source: application, model, legal run and items", source)
     repository.show("The core, beside it", core - source)
     repository.show("From the text on", headline - core)
     repository.show("What a reader may take from a trace, and the other commands", program - headline)
-    for key in repository.beside(program):
+    repository.show("What `forged` says, beside all of these", forged)
+    for key in repository.beside(program | forged):
         print(f"not reached: {key[1]} in {repository.definitions[key].place}")
-    print(f"core {repository.lines(core)}, headline {repository.lines(headline)}, program {repository.lines(program)} lines")
+    tiers = {"core": core, "headline": headline, "program": program, "forged": forged}
+    print(", ".join(f"{name} {repository.lines(keys)}" for name, keys in tiers.items()), "lines")
 
 
 main()

@@ -23,12 +23,12 @@ def of_table(text):
     """The crates of the first cells of a document's tables."""
     text = re.sub(r"^```.*?^```", "", text, flags=re.MULTILINE | re.DOTALL)
     cells = re.findall(r"^\|([^|]*)\|", text, re.MULTILINE)
-    return [name for cell in cells for name in re.findall(r"\b(?:sx_\w+|sancus_run)\b", cell)]
+    return [name for cell in cells for name in re.findall(r"\b(?:sx|sancus)_\w+\b", cell)]
 
 
 def of_picture(text):
     """The crates of a document's first fenced block."""
-    return re.findall(r"\b(?:sx_\w+|sancus_run)\b", text.split("```")[1])
+    return re.findall(r"\b(?:sx|sancus)_\w+\b", text.split("```")[1])
 
 
 def differences(where, names, crates):
