@@ -32,7 +32,8 @@ class TryWrongBodies(unittest.TestCase):
             (self.top / file).parent.mkdir(parents=True, exist_ok=True)
             (self.top / file).write_text("")
         (self.top / "tools").mkdir()
-        shutil.copy(TOOL, self.top / "tools")
+        for tool in (TOOL, TOOL.with_name("edits.py")):
+            shutil.copy(tool, self.top / "tools")
         (self.room / "rt").write_text(RT)
         (self.room / "rt").chmod(0o755)
 
@@ -52,6 +53,25 @@ class TryWrongBodies(unittest.TestCase):
         self.assertRegex(ran.stdout, r"sx_a: 2 wrong bodies in \d+ s: 2 refused\n")
         self.assertRegex(ran.stdout, r"3 wrong bodies in \d+ s: 2 refused\nsx_b/kept: NOT REFUSED\n$")
         self.assertNotIn("gate.edit", ran.stdout)
+
+    def test_an_edit_that_lost_its_place(self):
+        (self.top / "crates/sx_a/src/lib.rt").write_text("fn one() {}\n")
+        edit = self.top / "wrong-bodies/sx_a/one.edit"
+        edit.write_text("file: src/lib.rt\nold: one()\nnew: two()\n")
+        self.assertEqual(self.tried("--applies").stdout, "")
+        edit.write_text("file: src/lib.rt\nold: three()\nnew: two()\n")
+        ran = self.tried("--applies")
+        self.assertEqual(ran.returncode, 1)
+        self.assertIn("wrong-bodies/sx_a/one.edit: in src/lib.rt this stands 0 times: three()", ran.stdout)
+
+    def test_an_edit_of_a_crate_below(self):
+        (self.top / "wrong-bodies/sx_b/kept.edit").unlink()
+        (self.top / "wrong-bodies/sx_b/low.edit").write_text("crate: sx_a\nfile: src/lib.rt\nold: x\nnew: y\\nz\n")
+        (self.top / "crates/sx_a/src/lib.rt").write_text("x\n")
+        (self.room / "rt").write_text("#!/bin/bash\ngrep -q z ../sx_a/src/lib.rt && exit 1\nexit 0\n")
+        ran = self.tried("sx_b")
+        self.assertIn("1 refused", ran.stdout)
+        self.assertEqual((self.top / "crates/sx_a/src/lib.rt").read_text(), "x\n")
 
     def test_names_and_processors(self):
         ran = self.tried("--jobs", "3", "sx_a/two.edit")

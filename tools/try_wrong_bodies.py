@@ -6,9 +6,12 @@
     tools/try_wrong_bodies.py sx_core/reti_takes_pc_first
     tools/try_wrong_bodies.py --changed-since REV    those of crates with a change since this revision, and changed ones
     tools/try_wrong_bodies.py --list ..              says which these are, and tries none
+    tools/try_wrong_bodies.py --applies              says which edits, of the gate too, have lost their place in the code
 
 They are tried as the gate tries those of crates/CRATE/must-fail, in a copy of the repository and in place of these, one
-crate after the other. From nothing, every crate below is built first. Not a part of the gate.
+crate after the other. From nothing, every crate below is built first. An edit with a line `crate: BELOW` changes
+a definition of a crate below; rt has no such edits, so the crate is checked over the changed one. Not a part of the gate,
+but for --applies, which takes a second and proves nothing.
 """
 
 import argparse
@@ -21,6 +24,8 @@ import tempfile
 import time
 from collections import Counter
 from pathlib import Path
+
+from edits import apply, read_edit, stale
 
 TOP = Path(__file__).resolve().parent.parent
 KEPT = TOP / "wrong-bodies"
@@ -60,12 +65,25 @@ def touched(edits, files):
     return [it for it in edits if it in own or it.split("/")[0] in crates]
 
 
+def try_below(copy, crate, edit, where):
+    """Checks the crate over one below it that the edit has changed, and returns how that ended."""
+    texts = apply(read_edit(KEPT / f"{edit}.edit"), copy)
+    kept = {path: path.read_text() for path in texts}
+    for path, text in texts.items():
+        path.write_text(text)
+    ran = subprocess.run(["rt", "check"], cwd=copy / "crates" / crate, env=where, capture_output=True, text=True)
+    for path, text in kept.items():
+        path.write_text(text)
+    return "refused" if ran.returncode else "NOT REFUSED"
+
+
 def try_crate(copy, crate, edits, processors):
     """Tries these edits of a crate, hands on what rt says, and returns how each ended."""
+    below = [edit for edit in edits if read_edit(KEPT / f"{edit}.edit").is_below]
     folder = copy / "crates" / crate / "must-fail"
     shutil.rmtree(folder, ignore_errors=True)
     folder.mkdir(parents=True)
-    for edit in edits:
+    for edit in set(edits) - set(below):
         shutil.copy(KEPT / f"{edit}.edit", folder)
     where = {**os.environ, "RT_JOBS": str(processors)} if processors else None
     words = ["rt", "must-fail", crate]
@@ -78,6 +96,7 @@ def try_crate(copy, crate, edits, processors):
         if told:
             ended[told[1]] = told[2]
     child.wait()
+    ended |= {edit: try_below(copy, crate, edit, where) for edit in below}
     ended = {edit: ended.get(edit, "NOT TRIED") for edit in edits}
     counts = ", ".join(f"{number} {how}" for how, number in Counter(ended.values()).items())
     print(f"{crate}: {len(edits)} wrong bodies in {time.monotonic() - begun:.0f} s: {counts}", flush=True)
@@ -112,11 +131,16 @@ def words():
     )
     parser.add_argument("--jobs", type=int, metavar="N", help="how many processors rt may use")
     parser.add_argument("--list", action="store_true", help="say what would be tried")
+    parser.add_argument("--applies", action="store_true", help="say which edits have lost their place")
     return parser.parse_args()
 
 
 def main():
     given = words()
+    if given.applies:
+        lost = list(stale())
+        print("\n".join(lost), end="\n" if lost else "")
+        return 1 if lost else 0
     edits = all_edits()
     if given.names:
         edits = named(given.names, edits)

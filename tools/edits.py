@@ -1,0 +1,76 @@
+"""Wrong bodies as text: what an edit changes, and whether its lines are still there."""
+
+from dataclasses import dataclass
+from pathlib import Path
+
+TOP = Path(__file__).resolve().parent.parent
+
+
+@dataclass(frozen=True)
+class Change:
+    """One line or more of a file of a crate, and what stands in its place."""
+
+    file: str
+    old: str
+    new: str
+
+
+@dataclass(frozen=True)
+class Edit:
+    """The changes of one wrong body. They are of `crate`, which is another than `judge` only where the wrong definition
+    lies below the crate whose laws refuse it."""
+
+    path: Path
+    judge: str
+    crate: str
+    changes: tuple[Change, ...]
+
+    @property
+    def is_below(self):
+        return self.crate != self.judge
+
+
+def read_edit(path):
+    """The edit in a file. In one of a crate below, `\\n` in a text stands for the end of a line."""
+    judge = path.parent.name if path.parent.name != "must-fail" else path.parent.parent.name
+    crate, file, old, changes = judge, None, None, []
+    for line in path.read_text().splitlines():
+        word, _, text = line.partition(": ")
+        if crate != judge:
+            text = text.replace("\\n", "\n")
+        if word == "crate":
+            crate = text
+        elif word == "file":
+            file = text
+        elif word == "old":
+            old = text
+        elif word == "new":
+            changes.append(Change(file, old, text))
+    return Edit(path, judge, crate, tuple(changes))
+
+
+def edits_of(top=TOP):
+    """All edits: those of the gate, and those outside it."""
+    paths = [*top.glob("crates/*/must-fail/*.edit"), *top.glob("wrong-bodies/*/*.edit")]
+    return [read_edit(path) for path in sorted(paths)]
+
+
+def apply(edit, top=TOP):
+    """The files that the edit changes, by their new texts; the first old text that doesn't stand there once is an error."""
+    texts = {}
+    for change in edit.changes:
+        path = top / "crates" / edit.crate / change.file
+        text = texts.get(path) or path.read_text()
+        if text.count(change.old) != 1:
+            raise ValueError(f"{edit.path.relative_to(top)}: in {change.file} this stands {text.count(change.old)} times: {change.old}")
+        texts[path] = text.replace(change.old, change.new)
+    return texts
+
+
+def stale(top=TOP):
+    """What keeps edits from applying, a line each."""
+    for edit in edits_of(top):
+        try:
+            apply(edit, top)
+        except (OSError, ValueError) as why:
+            yield str(why)
