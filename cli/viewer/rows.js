@@ -43,7 +43,7 @@ class Run {
       this.note(
           `The output doesn't say which line an item belongs to: ${
               unsure} of the lines fit in more than one ` +
-              "way, and the likeliest is shown (≈). A marked run, as tools/view.py makes it, is exact.",
+              "way, and the likeliest is shown (≈). A marked run, as `sancus view` makes it, is exact.",
           false);
     return input.lines;
   }

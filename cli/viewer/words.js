@@ -1,27 +1,9 @@
 // What statuses, causes of resets and items say, in the words of docs/FORMATS.md and docs/PROTOCOL.md.
 
 const ENTRIES = ["set key", "attest", "input", "sample"];
-const STATUSES = {
-  1: ["done", "done"],
-  2: ["no such entry", "no such entry"],
-  3: ["window refused", "a window passes the end of memory or meets the private section"],
-  4: ["other packet", "the packet is of another kind than the entry's"],
-  5: ["end not open", "there is no such end, or it isn't open with this epoch, or it is open already"],
-  6: ["old number", "the event was taken before, or a later one was"],
-  7: ["tag differs", "the tag differs: damaged, for another boot, or made by nobody who holds the key"],
-  8: ["no new sample", "the sensor has no new sample"],
-};
-const CAUSES = {
-  order: "a module was entered elsewhere than at its first word",
-  fetch:
-      "a word of a private section was run, or further words of an instruction lie in a section that isn't its own",
-  read: "another module's private section was read",
-  write: "another module's private section, or a public section, was written",
-  device: "a device's word was accessed in a way that it doesn't allow",
-  illegal: "a word that is no instruction was run, or a module called with a return address inside it",
-  range: "a buffer of a module instruction is out of range",
-  asked: "the schedule asked for it",
-};
+// The table of cli/faults.json, which the page holds.
+const STATUSES = WORDS.statuses;
+const CAUSES = WORDS.causes;
 
 function sayItem({kind, words}, plan) {
   const connection = name => plan.connections.get(name)?.text ?? name;

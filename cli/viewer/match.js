@@ -179,7 +179,7 @@ class Matcher {
   }
 
   static TOO_MANY =
-      "The items fit these lines in more ways than are tried; a marked run (tools/view.py) tells.";
+      "The items fit these lines in more ways than are tried; a marked run, which `sancus view` makes, tells.";
 
   misfit(line, at) {
     if (this.isCut) return Matcher.TOO_MANY;
