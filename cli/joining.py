@@ -100,7 +100,7 @@ def with_mark(name: str) -> Optional[List[Part]]:
     whole = begun.rest(0, 0)
     if find_mark(data) or not begun.is_at_end:
         return [whole]
-    return [whole, text_part((b"" if not data or data.endswith(b"\n") else b"\n") + MARK + b"\n")]
+    return [whole, text_part(MARK + b"\n")]
 
 
 # --- Traces -----------------------------------------------------------------------------------------------------------
