@@ -1,8 +1,6 @@
-#!/usr/bin/env python3
-"""Tests tools/viewer.html by what it shows in a headless Chromium, and tools/view.py. Not a part of the gate.
+"""The page of `sancus view`, by what it shows in a headless Chromium; it is passed over where there is none.
 
-It is left out where there is no Chromium; what needs the program (./sancus after a build, or PROGRAM in the environment) is
-left out where there is none. With SHOTS=FOLDER it also writes pictures to look at, and says how long a large run takes.
+With SHOTS=FOLDER it also writes pictures to look at, and says how long a large run takes.
 """
 
 import base64
@@ -17,18 +15,21 @@ import unittest
 from pathlib import Path
 from xml.etree import ElementTree
 
-TOP = Path(__file__).resolve().parent.parent
-sys.path.insert(0, str(TOP / "tools"))
-from marked import marked  # noqa: E402
-from deployment import Input  # noqa: E402
-from view import page_of, texts_of_drive, texts_of_run, without_lines  # noqa: E402
+from support import EXAMPLES, LIGHTING as LIGHTING_BYTES, PROGRAM, TOP, Room, needs_program, program, sancus
 
-BUILT = TOP / "crates" / "sancus_run" / "out" / "sancus_run"
-PROGRAM = os.environ.get("PROGRAM") or (str(BUILT) if BUILT.is_file() else "")
+from cli.builds import Builds
+from cli.context import Context
+from cli.marks import marked_lines, marked_run
+from cli.program import Program
+from cli.say import Voice
+from cli.texts import Input
+from cli.view import of_readings, of_run, page_of, without_lines
+from cli.viewer.join import joined
+
 BROWSER = next(
     (found for name in ("chromium", "chromium-browser", "google-chrome") if (found := shutil.which(name))), ""
 )
-LIGHTING = (TOP / "examples" / "lighting.txt").read_text()
+LIGHTING = LIGHTING_BYTES.decode()
 DEPLOYMENT = LIGHTING.partition("%%\n")[0] + "%%\n"
 # The lines of the example that come before its reading, which make ten packets.
 SET_UP = LIGHTING.partition("sense light")[0]
@@ -42,6 +43,11 @@ ACTS = {"open": "page.show()", "end": "page.select(page.run.shown.length - 1)", 
     "find": 'page.find("packet 3")',
     "scroll": 'byId("scroll").scrollTop = 100000; page.paint()',
 }
+
+
+def context():
+    builds = Builds(TOP, PROGRAM)
+    return Context(TOP, Voice(True), builds, Program(builds, Voice(True)))
 
 
 class Browser:
@@ -282,10 +288,10 @@ class Viewer(unittest.TestCase):
             print(f"{what}: milliseconds {took}", file=sys.stderr)
         self.assertEqual({name: it for name, it in took.items() if it > PATIENT}, {})
 
-    @unittest.skipUnless(PROGRAM, "there is no program to run")
+    @needs_program
     def test_two_thousand_readings_of_the_program(self):
         lines, items = readings(2000, PACKETS)
-        texts = texts_of_run((SET_UP + "\n".join(lines) + "\n").encode(), PROGRAM)
+        texts = of_run(context(), (SET_UP + "\n".join(lines) + "\n").encode()).texts
         self.assertIn(b"> sense light 37\nsense light 37\n", texts["output"])
         self.assertIn("\n".join(items[-10:]), without_lines(b"%%\n" + texts["output"]).decode())
         self.show(texts)
@@ -328,21 +334,21 @@ class Viewer(unittest.TestCase):
         self.assertEqual(self.browser.value("document.images.length + (window.bad ?? 0)"), 0)
 
     def test_no_outside_resources(self):
-        page = (TOP / "tools" / "viewer.html").read_text()
+        page = joined()
         self.assertIn("default-src 'none'", page)
         for word in ("src=", "@import", "fetch(", "XMLHttpRequest", "url(http"):
             self.assertNotIn(word, page)
 
-    @unittest.skipUnless(PROGRAM, "there is no program to run")
+    @needs_program
     def test_examples(self):
         """The items of each line that the page finds are those of a marked run, or it says that it isn't sure."""
-        for file in sorted((TOP / "examples").glob("*.txt")):
+        for file in sorted(EXAMPLES.glob("*.txt")):
             text = file.read_bytes()
             if b"`./sancus drive`" in text.partition(b"\n")[0]:
                 continue
             with self.subTest(file.name):
-                plain = subprocess.run([PROGRAM, "run"], input=text, capture_output=True).stdout
-                lines = b"".join(it + b"\n" for it in marked(Input(text), PROGRAM))
+                plain = program("run", text=text).out
+                lines = b"".join(it + b"\n" for it in marked_lines(Input(text), marked_run(Input(text), context().program)))
                 self.assertEqual(without_lines(lines), plain)
                 split = "page.run.rows.filter(row => row.kind === 'act').map(row => [row.line.text.trim(), row.line.isUnsure ? null : row.line.items.map(item => item.text)])"
                 self.show({"input": text, "output": plain})
@@ -353,21 +359,17 @@ class Viewer(unittest.TestCase):
                     self.assertEqual(one[0], other[0])
                     self.assertIn(one[1], (None, other[1]))
 
-    @unittest.skipUnless(PROGRAM, "there is no program to run")
+    @needs_program
     def test_readings(self):
-        texts = texts_of_drive((TOP / "examples" / "readings.txt").read_bytes(), PROGRAM)
-        if texts["output"] == b"fault usage\n":
-            self.skipTest("the program has no `drive`")
+        texts = of_readings(context(), (EXAMPLES / "readings.txt").read_bytes()).texts
         self.show(texts)
         self.assertEqual(self.texts("#notes div"), [])
         rows = self.browser.value("page.run.rows.filter(row => row.kind === 'act').map(row => row.line.text)")
         self.assertEqual((len(rows), rows[0], rows[-1]), (58, "load eye", "call lamp 2 0x40 0x80"))
 
-    @unittest.skipUnless(PROGRAM, "there is no program to run")
+    @needs_program
     def test_causes_of_the_program(self):
-        texts = texts_of_run(LIGHTING.encode(), PROGRAM)
-        if not texts["causes"]:
-            self.skipTest("the program has no `explain`")
+        texts = of_run(context(), LIGHTING_BYTES).texts
         self.show(texts, "#item=42")
         self.browser.shoot("explained")
         chain = "42 out lamp 1 ← 41 take lamp down 0 1 ← 38 take logic up 0 120 ← 35 read eye 120 ← 34 sense light 120"
@@ -396,12 +398,60 @@ class Viewer(unittest.TestCase):
         self.assertEqual(len(self.texts(".row.group")), 3)
 
 
-class Page(unittest.TestCase):
-    def test_the_page_is_what_its_parts_give(self):
-        ran = subprocess.run(
-            [sys.executable, TOP / "tools" / "viewer" / "join.py", "--check"], capture_output=True, text=True
-        )
+class Page(Room):
+    """What `sancus view` writes, without a browser."""
+
+    def test_the_page_holds_its_words(self):
+        self.assertIn('"D1": "the deployment has more than', joined())
+        self.assertNotIn("</script", joined().partition("const WORDS")[2].partition(";\n")[0])
+
+    def test_scripts_are_whole(self):
+        node = shutil.which("node")
+        if not node:
+            self.skipTest("there is no node")
+        script = self.file("page.js", joined().rpartition("<script>\n")[2].partition("</script>")[0])
+        ran = subprocess.run([node, "--check", script], capture_output=True, text=True)
         self.assertEqual((ran.returncode, ran.stderr), (0, ""))
+
+    def test_empty(self):
+        ran = sancus("view", "--empty", "--page", self.room / "v.html", program="/bin/false")
+        self.assertEqual((ran.status, (self.room / "v.html").read_text()), (0, joined()))
+
+    @needs_program
+    def test_a_run(self):
+        page = self.room / "p.html"
+        ran = sancus("view", EXAMPLES / "lighting.txt", "--page", page)
+        self.assertEqual((ran.status, ran.out, ran.said), (0, f"{page}\n".encode(), ""))
+        self.assertIn("because 42 41", self.held(page, "causes"))
+        self.assertIn("> load eye\nprotect a eye\n", self.held(page, "output"))
+
+    def held(self, page, name):
+        row = next(it for it in page.read_text().splitlines() if it.rpartition(">")[2].startswith(f"{name} "))
+        return base64.b64decode(row.split(" ")[-1].partition("<")[0]).decode()
+
+    @needs_program
+    def test_readings_are_seen(self):
+        page = self.room / "p.html"
+        ran = sancus("view", EXAMPLES / "readings.txt", "--page", page)
+        self.assertEqual(ran.status, 0)
+        self.says(ran, "has readings")
+        self.assertIn("> sense light 120\n", self.held(page, "output"))
+
+    @needs_program
+    def test_misuse(self):
+        page = self.room / "p.html"
+        for text, words in ((b"garbage\n", "D2"), (b"garbage\n%%\n", "isn't TOML"), (b"\0" * 1000, "there is nothing to draw")):
+            ran = sancus("view", self.file("x", text), "--page", page)
+            self.assertEqual((ran.status, ran.out), (122, b""))
+            self.says(ran, words)
+            self.assertFalse(page.exists())
+        ran = sancus("view", self.file("x", LIGHTING_BYTES + b"load ear\n"), "--page", page)
+        self.assertEqual(ran.status, 0)
+        self.says(ran, "S4", "what came before is drawn")
+        ran = sancus("view", EXAMPLES / "lighting.txt", EXAMPLES / "lighting.txt", "--page", page)
+        self.assertEqual(ran.status, 122)
+        ran = sancus("view", EXAMPLES / "lighting.txt", "--page", self.room / "no" / "p.html")
+        self.assertEqual(ran.status, 121)
 
 
 if __name__ == "__main__":
