@@ -79,6 +79,11 @@ def program(*words: str, text: Text = b"") -> Result:
     return Result(ran.returncode, ran.stdout, ran.stderr.decode(errors="replace"))
 
 
+def whole_examples() -> List[Path]:
+    """The examples that are inputs by themselves."""
+    return [it for it in sorted(EXAMPLES.rglob("*.txt")) if Input(it.read_bytes()).has_mark]
+
+
 def side_by_side(work: Callable[[object], object], over: Iterable[object]) -> List[object]:
     with ThreadPoolExecutor(os.cpu_count()) as pool:
         return list(pool.map(work, over))

@@ -3,7 +3,7 @@
 import re
 import unittest
 
-from support import EXAMPLES, HEAD, LIGHTING, PROGRAM, Room, needs_program, program, sancus, side_by_side
+from support import EXAMPLES, HEAD, LIGHTING, PROGRAM, Room, needs_program, program, sancus, side_by_side, whole_examples
 
 from cli import language, toml, warnings
 from cli.deployment import plan_of
@@ -209,7 +209,7 @@ class Reading(unittest.TestCase):
     """What the front end reads by itself: TOML where Python has no reader, and the language."""
 
     def test_toml(self):
-        for file in sorted(EXAMPLES.rglob("*.txt")):
+        for file in whole_examples():
             head = Input(file.read_bytes()).head
             self.assertEqual(toml.Reader(head.decode()).document(), plan_of(head).toml, file.name)
 
@@ -235,7 +235,7 @@ class Reading(unittest.TestCase):
 
     @needs_program
     def test_bounds_are_those_of_check(self):
-        for file in sorted(EXAMPLES.rglob("*.txt")):
+        for file in whole_examples():
             text = file.read_bytes()
             plan = plan_of(Input(text).head)
             shown = []

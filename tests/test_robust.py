@@ -6,7 +6,7 @@ import subprocess
 import time
 import unittest
 
-from support import EXAMPLES, HEAD, LIGHTING, PROGRAM, SANCUS, Room, needs_program, program, sancus, side_by_side
+from support import EXAMPLES, HEAD, LIGHTING, PROGRAM, SANCUS, Room, needs_program, program, sancus, side_by_side, whole_examples
 
 TAKES_FILES = ("run", "drive", "check", "explain", "snap", "asm 0", "dis 0", "schedule", "marks", "view", "vars {} eye 1", "steps {} 1", "why {} {} 1", "hex put a", "hex image", "hex convert")
 
@@ -140,7 +140,7 @@ class BothWays(unittest.TestCase):
     """Each example prints the same bytes through the front end as from the program, with the same status."""
 
     def test_examples(self):
-        files = [*sorted(EXAMPLES.rglob("*.txt"))]
+        files = whole_examples()
         calls = [(word, file, kind) for word in ("run", "drive", "check", "snap", "explain") for file in files for kind in ("file", "pipe")]
         calls = [it for it in calls if it[2] == "file" or it[1].parent == EXAMPLES]
 
