@@ -90,6 +90,8 @@ class Kept:
     lines_before: int = 0
     bytes_before: int = 0
     origins: List[Origin] = field(default_factory=list)
+    # the lines of both, as they were split last, and of how much that was
+    split: Tuple[int, List[bytes], List[bytes]] = (-1, [], [])
 
     def add(self, piece: bytes) -> None:
         room = MOST_HEAD + WINDOW - len(self.first)
@@ -109,16 +111,21 @@ class Kept:
     def lines_so_far(self) -> int:
         return self.lines_before + self.last.count(b"\n")
 
+    def both(self) -> Tuple[List[bytes], List[bytes]]:
+        size = self.bytes_before + len(self.last)
+        if self.split[0] != size:
+            self.split = (size, bytes(self.first).split(b"\n"), bytes(self.last).split(b"\n"))
+        return self.split[1], self.split[2]
+
     def line(self, number: int) -> Optional[bytes]:
         """A line of the input by its number from 1, or None where it isn't kept."""
-        lines = bytes(self.first).split(b"\n")
-        # (the last of them may be cut, or nothing)
-        if 1 <= number < len(lines) or (number == len(lines) and self.is_whole()):
-            return without_return(lines[number - 1])
-        lines = bytes(self.last).split(b"\n")
+        first, last = self.both()
+        # (the last of the first ones may be cut, or nothing)
+        if 1 <= number < len(first) or (number == len(first) and self.is_whole()):
+            return without_return(first[number - 1])
         at = number - self.lines_before - 1
-        # (the first of them may be cut)
-        return without_return(lines[at]) if (1 if self.bytes_before else 0) <= at < len(lines) else None
+        # (the first of the last ones may be cut)
+        return without_return(last[at]) if (1 if self.bytes_before else 0) <= at < len(last) else None
 
     def place(self, number: int) -> Tuple[str, Optional[int]]:
         """The file of a line, and its number there."""

@@ -18,48 +18,69 @@ function html(name, className, text) {
   return made;
 }
 
+// How wide a hidden column is, and how narrow the others may get.
+const HIDDEN = 13, LEAST_SCALE = 0.4;
+
+// The columns from left to right. A look says how wide they are (scale), which are hidden, and their order in each node.
 class Columns {
-  constructor(plan) {
+  constructor(plan, look) {
     this.list = [];
     this.by = new Map();
     this.boxes = [];
     this.width = 14;
-    this.add("deployer", "deployer", 100);
-    this.add("network", "network", 116);
-    for (const node of plan.nodes) this.addNode(node, plan);
+    this.look = look;
+    this.addAll([["deployer", "deployer", 100, ""], ["network", "network", 116, ""]]);
+    for (const node of this.sorted(plan.nodes, it => it)) this.addNode(node, plan);
     // (what stands beside the last column may need more: it isn't cut off)
     this.width += 70;
   }
 
-  add(id, name, width, kind = "") {
-    const column = {id, name, kind, x: this.width + width / 2, width};
+  // These in the order of the look; what it doesn't name stays where it is.
+  sorted(list, id) {
+    const rank = it => this.look.order.indexOf(id(it));
+    return [...list].sort((one, other) => rank(one) < 0 || rank(other) < 0 ? 0 : rank(one) - rank(other));
+  }
+
+  addAll(columns) {
+    for (const column of this.sorted(columns, it => it[0])) this.add(...column);
+  }
+
+  add(id, name, wide, kind) {
+    const isHidden = this.look.hidden.has(id), width = isHidden ? HIDDEN : wide * this.look.scale;
+    const column = {id, name, kind, x: this.width + width / 2, width, isHidden};
     this.list.push(column);
     this.by.set(id, column);
     this.width += width;
   }
 
   addNode(node, plan) {
-    this.width += 16;
-    const from = this.width, wide = (name, least) => Math.max(least, 7.2 * name.length + 22);
-    this.add(`memory ${node}`, "memory", 108);
+    this.width += 16 * this.look.scale;
+    const from = this.width, first = this.list.length, wide = (name, least) => Math.max(least, 7.2 * name.length + 22);
+    const columns = [[`memory ${node}`, "memory", 108, ""]];
     const devices = [...plan.devices.values()].filter(device => device.node === node);
     const addDevice = device =>
-        this.add(`device ${device.name}`, device.name, wide(device.name, 62), device.kind);
+        columns.push([`device ${device.name}`, device.name, wide(device.name, 62), device.kind]);
     for (const module of plan.modules.values()) {
       if (module.node !== node) continue;
-      this.add(`module ${module.name}`, module.name, wide(module.name, 108), "module");
+      columns.push([`module ${module.name}`, module.name, wide(module.name, 108), "module"]);
       devices.filter(device => device.driver === module.name).forEach(addDevice);
     }
     devices.filter(device => !device.driver).forEach(addDevice);
-    this.boxes.push({node, from, to: this.width});
+    this.addAll(columns);
+    const box = {node, from, to: this.width};
+    this.boxes.push(box);
+    for (const column of this.list.slice(first)) column.box = box;
   }
+
+  // The column at a place, or the one beside it.
+  at(x) { return this.list.find(it => x < it.x + it.width / 2) ?? this.list.at(-1); }
 }
 
 class Picture {
-  constructor(run) {
+  constructor(run, look = {scale: 1, hidden: new Set(), order: []}) {
     this.run = run;
     this.plan = run.plan;
-    this.columns = new Columns(run.plan);
+    this.columns = new Columns(run.plan, look);
   }
 
   get deployer() { return this.columns.by.get("deployer"); }
@@ -72,6 +93,8 @@ class Picture {
   // --- parts ---
 
   text(x, y, text, className = "middle") {
+    // (nothing is written into a hidden column)
+    if (className.startsWith("middle") && this.columns.list.some(it => it.isHidden && it.x === x)) return;
     this.into.append(svg("text", {x, y: y + 4, class: className}, text));
   }
 
@@ -98,7 +121,7 @@ class Picture {
   circle(column, y) { this.into.append(svg("circle", {cx: column.x, cy: y, r: 4.5, class: "fill-event"})); }
 
   beside(column, y, text, className = "") {
-    if (column) this.text(column.x + 9, y, text, className);
+    if (column && !column.isHidden) this.text(column.x + 9, y, text, className);
   }
 
   // --- items ---
@@ -337,6 +360,19 @@ class Picture {
     }
   }
 
+  // A column's head, to be dragged, and hidden by a double click.
+  head(column) {
+    const made = svg("g", {class: "head", "data-id": column.id}), {x, width, kind, name, isHidden} = column;
+    const sign = {sensor: "◉ ", actuator: "■ ", module: "▣ "}[kind] ?? "";
+    made.append(
+        svg("title", {}, `${name}: double-click to ${isHidden ? "show" : "hide"}, drag to move`),
+        svg("rect", {x: x - width / 2, y: 20, width, height: 24, class: "grip"}));
+    const room = Math.max(3, Math.floor(width / 6.6)), text = sign + name;
+    const shown = isHidden ? "⋮" : text.length > room ? `${text.slice(0, room - 1)}…` : text;
+    made.append(svg("text", {x, y: 36, class: "middle bold"}, shown));
+    return made;
+  }
+
   heads() {
     const made = svg("svg", {width: this.columns.width, height: 44});
     this.into = made;
@@ -344,10 +380,7 @@ class Picture {
       made.append(svg("rect", {x: box.from, y: 2, width: box.to - box.from, height: 42, class: "node"}));
       this.text((box.from + box.to) / 2, 12, `node ${box.node}`, "middle dim");
     }
-    for (const column of this.columns.list) {
-      const sign = {sensor: "◉ ", actuator: "■ ", module: "▣ "}[column.kind] ?? "";
-      this.text(column.x, 32, sign + column.name, "middle bold");
-    }
+    for (const column of this.columns.list) made.append(this.head(column));
     return made;
   }
 }

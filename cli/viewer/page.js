@@ -11,6 +11,7 @@ class Page {
     this.run = null;
     this.at = 0;
     this.hits = new Set();
+    this.look = {scale: 1, hidden: new Set(), order: []};
     this.listen();
   }
 
@@ -27,17 +28,75 @@ class Page {
 
   show() {
     this.run = new Run(this.texts);
-    this.picture = new Picture(this.run);
+    this.picture = new Picture(this.run, this.look);
     this.at = 0;
     byId("drop").hidden = true;
     byId("main").hidden = byId("more").hidden = false;
     byId("notes").replaceChildren(
         ...this.run.notes.map(({text, isBad}) => html("div", isBad ? "bad" : "", text)));
-    byId("heads").replaceChildren(html("div", "corner", "schedule and items"), this.picture.heads());
+    this.drawHeads();
     if (this.texts.name) byId("title").textContent = document.title = this.texts.name;
     this.tellCounts();
     this.layOut();
+    this.begin();
     byId("scroll").focus();
+  }
+
+  // Opens behind the set-up, which is folded.
+  begin() {
+    const first = this.run.afterSetUp();
+    if (!first?.place) return;
+    byId("scroll").scrollTop = Math.max(0, first.place - 2) * HEIGHT;
+    this.select(first.place);
+  }
+
+  // --- columns ---
+
+  drawHeads() {
+    byId("heads").replaceChildren(html("div", "corner", "schedule and items"), this.picture.heads());
+    byId("columns").textContent = this.look.hidden.size ? `Show ${this.look.hidden.size} hidden` : "";
+    byId("columns").hidden = !this.look.hidden.size;
+    byId("fit").textContent = this.look.scale < 1 ? "Full width" : "Fit";
+  }
+
+  redraw() {
+    this.picture = new Picture(this.run, this.look);
+    this.drawHeads();
+    this.layOut();
+  }
+
+  // All columns in sight, or as wide as they are.
+  fit() {
+    const room = byId("scroll").clientWidth - document.querySelector(".corner").offsetWidth;
+    const wide = new Picture(this.run, {...this.look, scale: 1}).columns.width - 84;
+    this.look.scale = this.look.scale < 1 ? 1 : Math.max(LEAST_SCALE, Math.min(1, (room - 90) / wide));
+    this.redraw();
+    byId("scroll").scrollLeft = 0;
+  }
+
+  hide(id) {
+    if (!this.look.hidden.delete(id)) this.look.hidden.add(id);
+    this.redraw();
+  }
+
+  showAll() {
+    this.look.hidden.clear();
+    this.redraw();
+  }
+
+  // Moves a column to the place of another: within its node, or its whole node to that of the other.
+  move(id, x) {
+    const {columns} = this.picture, own = columns.by.get(id), other = columns.at(x);
+    if (!own || own === other) return;
+    const isNode = own.box !== other.box;
+    if (isNode && !(own.box && other.box)) return;
+    const list = isNode ? columns.boxes.map(it => it.node) : columns.list.filter(it => it.box === own.box).map(it => it.id);
+    const [from, to] = isNode ? [own.box.node, other.box.node] : [id, other.id];
+    const place = list.indexOf(to);
+    list.splice(list.indexOf(from), 1);
+    list.splice(place, 0, from);
+    this.look.order = [...this.look.order.filter(it => !list.includes(it)), ...list];
+    this.redraw();
   }
 
   tellCounts() {
@@ -309,6 +368,8 @@ class Page {
       c: () => this.chainHere()[1] && this.go(this.chainHere()[1].row),
       n: () => this.hunt(1, row => this.hits.has(row)),
       N: () => this.hunt(-1, row => this.hits.has(row)),
+      f: () => this.fit(),
+      h: () => this.showAll(),
       "/": () => byId("find").focus(),
       "?": () => byId("keys").showModal(),
     };
@@ -321,7 +382,7 @@ class Page {
       event.preventDefault();
       keys[event.key]();
     });
-    for (const [id, key] of [["next-out", "o"], ["next-trouble", "x"], ["fold", "z"], ["help", "?"]]) {
+    for (const [id, key] of [["next-out", "o"], ["next-trouble", "x"], ["fold", "z"], ["fit", "f"], ["columns", "h"], ["help", "?"]]) {
       byId(id).onclick = () => {
         if (this.run || key === "?") keys[key]();
         if (key !== "?") byId("scroll").focus();
@@ -340,8 +401,21 @@ class Page {
       const place = event.offsetY / byId("strip").clientHeight * this.run.shown.length;
       byId("scroll").scrollTop = place * HEIGHT - byId("scroll").clientHeight / 2;
     });
+    this.listenToHeads();
     this.listenToFind();
     this.listenToFiles();
+  }
+
+  listenToHeads() {
+    const heads = byId("heads"), id = event => event.target.closest("[data-id]")?.dataset.id;
+    const place = event => event.clientX - heads.querySelector("svg").getBoundingClientRect().left;
+    let dragged = null, begun = 0;
+    heads.addEventListener("pointerdown", event => [dragged, begun] = [id(event) ?? null, event.clientX]);
+    heads.addEventListener("dblclick", event => id(event) && this.hide(id(event)));
+    addEventListener("pointerup", event => {
+      if (dragged && Math.abs(event.clientX - begun) > 12) this.move(dragged, place(event));
+      dragged = null;
+    });
   }
 
   listenToFind() {

@@ -2,6 +2,8 @@
 
 // Runs with more rows than this open folded.
 const FOLDED_FROM = 1500;
+// A set-up of more rows than this is folded, and the page opens behind it.
+const SET_UP_FROM = 12;
 
 class Run {
   constructor(texts) {
@@ -11,6 +13,7 @@ class Run {
     this.causes = texts.causes ? readCauses(texts.causes) : null;
     this.plan = new Plan(this.input?.head ?? texts.head ?? null, this.output);
     this.rows = [];
+    this.isMade = false;
     this.groups = [];
     this.packets = new Map();
     this.firstForged = null;
@@ -20,6 +23,7 @@ class Run {
     this.findSpans();
     this.say();
     for (const group of this.groups) group.isFolded = this.rows.length > FOLDED_FROM && group.rows.length > 1;
+    this.foldSetUp();
     this.place();
   }
 
@@ -96,18 +100,22 @@ class Run {
     }
   }
 
+  // A comment begins a group, but those of `sancus schedule` don't split what a person's comment began: `#= PLACE LINE` stands before
+  // what was made of a line for people, and `# NAME is packet N` after a packet.
   addNote(line, before) {
     const text = line.text.replace(/^\s*#\s?/, "");
-    if (before !== "#") this.begin(text, "#");
-    this.add({kind: "note", text, line});
+    const made = /^= *(\S+:[0-9]+|line [0-9]+) (.*)$/.exec(text);
+    const isOwn = !made && !/^\S+ is packet [0-9]+$/.test(text);
+    if (isOwn && before !== "#") this.begin(text, "#");
+    if (made && this.group?.kind !== "#") this.begin(made[2], "made");
+    this.isMade = made !== null || this.isMade && !isOwn;
+    this.add({kind: "note", text: made ? `${made[2]}  (${made[1]})` : text, line});
   }
 
   addLine(line, before) {
     const {kind, words, items} = line;
-    if (kind === "sense") this.begin(`sense ${words[1]} ${words[2]}`, kind);
-    if (kind === "ask") this.begin(`attest ${words[1]}`, kind);
-    if (kind === "load" && before !== "load") this.begin("load", kind);
-    if (kind === "load") this.group.title += ` ${words[1]}`;
+    if (!this.isMade) this.beginGroup(kind, words, before);
+    if (kind === "load" && this.group.kind === "load") this.group.title += ` ${words[1]}`;
     // an item that is all that the line does stands in the line's own row
     const isOne = ["take", "forge", "sense", "reset", "ask", "load"].includes(kind) && items.length > 0 &&
         !["forged", "busy"].includes(items[0].kind);
@@ -117,6 +125,26 @@ class Run {
     if (kind === "answer") this.keepPacket(numberOf(words[3]), act, "taken by the deployer");
     items.forEach(
         (item, k) => this.addItem(line, item, isOne && k === 0 ? act : this.add({kind: "item", line, item})));
+  }
+
+  beginGroup(kind, words, before) {
+    if (kind === "sense") this.begin(`sense ${words[1]} ${words[2]}`, kind);
+    if (kind === "ask") this.begin(`attest ${words[1]}`, kind);
+    if (kind === "load" && before !== "load") this.begin("load", kind);
+  }
+
+  // The first row after the set-up: after the loading, asking and opening that a schedule begins with. The first row where there is none.
+  afterSetUp() {
+    const isSetUp = ({kind, words}) => ["", "#", "load", "ask", "answer", "give", "take"].includes(kind) ||
+        kind === "call" && numberOf(words[2]) < 2;
+    const first = this.rows.find(row => !isSetUp(row.line));
+    const begun = first?.group.rows[0];
+    return begun && begun.index >= SET_UP_FROM ? begun : this.rows[0];
+  }
+
+  foldSetUp() {
+    const first = this.afterSetUp();
+    if (first) for (const group of this.groups.slice(0, this.groups.indexOf(first.group))) group.isFolded = group.rows.length > 1;
   }
 
   addItem(line, item, row) {
