@@ -4,6 +4,7 @@ from __future__ import annotations
 
 import errno
 import os
+import select
 
 from cli.status import WRITE_FAILED, Ended
 
@@ -14,6 +15,9 @@ def write(data: bytes, fd: int = 1) -> None:
     while left:
         try:
             left = left[os.write(fd, left) :]
+        except BlockingIOError:
+            # (whoever shares the stream made it so)
+            select.select([], [fd], [])
         except BrokenPipeError:
             raise Ended(WRITE_FAILED) from None
         except OSError as error:

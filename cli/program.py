@@ -13,8 +13,8 @@ from typing import IO, Any, List, Optional
 from cli import output
 from cli.builds import Build, Builds
 from cli.say import Voice
-from cli.status import INTERRUPTED, NO_ANSWER, WRITE_FAILED, Ended
-from cli.texts import Kept, Origin, Part, is_regular, read_piece
+from cli.status import INTERRUPTED, NO_ANSWER, Ended
+from cli.texts import Kept, Origin, Part, is_regular
 
 # How long a build that isn't proved may run, in seconds.
 SECONDS_AT_MOST = "86400"
@@ -287,10 +287,3 @@ def read_again(fd: int, start: int, kept: Kept) -> None:
 def last_line(data: bytes) -> str:
     lines = data.rstrip(b"\n").rsplit(b"\n", 1)
     return lines[-1].decode(errors="surrogateescape")
-
-
-def read_terminal(name: str, fd: int) -> bytes:
-    return read_piece(fd, name)
-
-
-__all__ = ["Collected", "Program", "Ran", "Sink", "WRITE_FAILED"]

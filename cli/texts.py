@@ -7,6 +7,7 @@ last, where the line of a fault stands.
 from __future__ import annotations
 
 import os
+import select
 import stat
 from dataclasses import dataclass, field
 from typing import Callable, List, Optional, Tuple
@@ -164,6 +165,9 @@ def open_file(name: str) -> int:
 def read_piece(fd: int, name: str, size: int = PIECE) -> bytes:
     try:
         return os.read(fd, size)
+    except BlockingIOError:
+        select.select([fd], [], [])
+        return read_piece(fd, name, size)
     except OSError as error:
         raise why_not("standard input" if name == "-" else name, error) from None
 
