@@ -13,7 +13,7 @@ from cli.program import Sink
 from cli.running import gathered, parts_of, run_program, tell
 from cli.say import text_of
 from cli.texts import file_part, find_mark, is_regular, read_all
-from cli.words import Given
+from cli.commands import Given
 
 
 def head_of(files: List[str]) -> Optional[bytes]:
@@ -26,11 +26,11 @@ def head_of(files: List[str]) -> Optional[bytes]:
 
 
 def as_json(context: Context, given: Given, files: List[str]) -> int:
-    if given.word.name == "run":
+    if given.command.name == "run":
         return run_as_json(context, given, files)
     head = head_of(files)
     kinds = {"check": jsonlines.CheckSink, "explain": jsonlines.ExplainSink}
-    sink = kinds.get(given.word.name, jsonlines.JsonSink)(Sink())
+    sink = kinds.get(given.command.name, jsonlines.JsonSink)(Sink())
     sink.has_images = not given.has("no_images")
     sink.plan = plan_of(head) if head is not None else None
     ran = run_program(context, given, files, sink)

@@ -28,10 +28,10 @@ def no_answer(_words: List[str], _text: bytes) -> bytes:
 
 @dataclass
 class Teller:
-    """Finds words for the faults of one input. `word` is the command, and `ask` the program, for what it alone knows."""
+    """Finds words for the faults of one input. `command` is what was called, and `ask` the program, for what it alone knows."""
 
     kept: Kept
-    word: str = ""
+    command: str = ""
     ask: Ask = no_answer
 
     def __post_init__(self) -> None:
@@ -44,7 +44,7 @@ class Teller:
 
     @property
     def plan(self) -> Optional[Plan]:
-        if self._plan is None and self.word not in ("asm", "dis"):
+        if self._plan is None and self.command not in ("asm", "dis"):
             self._plan = plan_of(self.head)
         return self._plan
 
@@ -179,11 +179,11 @@ class Teller:
         lines = [f"{rule}: {table_words()['deployment'][rule]}"]
         if rule == "D1":
             long = [at for at, it in enumerate(split_lines(self.head), 1) if len(it) > 4096]
-            return lines + (self.shown(long[0]) if long else []) + guesses.of_head(self.word, bytes(self.kept.first[:4096]))
+            return lines + (self.shown(long[0]) if long else []) + guesses.of_head(self.command, bytes(self.kept.first[:4096]))
         if rule == "D2":
-            return lines + (self.near_mark() or guesses.without_mark(self.word, self.kept.place(1)[0]))
+            return lines + (self.near_mark() or guesses.without_mark(self.command, self.kept.place(1)[0]))
         if rule == "D3":
-            return lines + self.not_toml() + guesses.of_head(self.word, bytes(self.kept.first[:4096]))
+            return lines + self.not_toml() + guesses.of_head(self.command, bytes(self.kept.first[:4096]))
         if not self.plan:
             return lines
         if rule == "D6":
@@ -237,7 +237,7 @@ class Teller:
         words = words_at(text)
         act = words[0].text if words else ""
         if rule == "S3" and words:
-            lines += self.shown(line, words[0].column, len(act)) + guesses.of_act(act, text, self.word, self.plan)
+            lines += self.shown(line, words[0].column, len(act)) + guesses.of_act(act, text, self.command, self.plan)
         elif rule in ("S4", "S5", "S6") and act in ACTS:
             lines += self.bad_field(line, words, ACTS[act], rule)
         elif rule == "S7":

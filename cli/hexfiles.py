@@ -14,7 +14,7 @@ from cli.deployment import Plan, plan_of
 from cli.output import print_lines, write
 from cli.status import BAD_TEXT, NO_FILE, Ended
 from cli.texts import Input, read_all
-from cli.words import Given, Usage
+from cli.commands import Given, Usage
 
 # How many bytes one `put` takes.
 PIECE = 1024
@@ -258,7 +258,7 @@ def answer(context: Context, given: Given) -> int:
     what, arguments = given.text("WHAT"), given.texts("ARGUMENT")
     wanted = {"put": 2, "image": 1, "convert": 1}.get(what)
     if wanted is None or len(arguments) != wanted:
-        raise Usage("`hex` takes `put NODE FILE`, `image INPUT` or `convert FILE`", given.word)
+        raise Usage("`hex` takes `put NODE FILE`, `image INPUT` or `convert FILE`", given.command)
     try:
         if what == "put":
             put(context, given, arguments[0], arguments[1])

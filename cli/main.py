@@ -1,4 +1,4 @@
-"""What each word of the command line does."""
+"""What each command does."""
 
 from __future__ import annotations
 
@@ -7,14 +7,14 @@ import subprocess
 from pathlib import Path
 from typing import Callable, Dict, List, Optional, Sequence, Tuple
 
-from cli import words
+from cli import commands
 from cli.builds import Build, Builds
 from cli.context import Context
 from cli.output import print_lines, write
 from cli.program import Program
 from cli.say import Voice
 from cli.status import INTERRUPTED, NO_ANSWER, USAGE, Ended
-from cli.words import BY_NAME, EVERYWHERE, WORDS, Given, Usage, Word
+from cli.commands import BY_NAME, EVERYWHERE, COMMANDS, Given, Usage, Command
 
 OUT_OF_MEMORY = 6
 
@@ -74,7 +74,7 @@ def build(context: Context, given: Given) -> int:
     return build(context.builds, context.voice, given.text("jobs"))
 
 
-def program_word(context: Context, given: Given) -> int:
+def program_command(context: Context, given: Given) -> int:
     from cli.running import answer
 
     return answer(context, given)
@@ -87,10 +87,10 @@ def help_(_context: Context, given: Given) -> int:
         write(manual.man_page().encode())
     elif given.has("completion"):
         write(manual.completion().encode())
-    elif given.text("WORD"):
-        print_lines(*words.help_of(known_word(given.text("WORD"))))
+    elif given.text("COMMAND"):
+        print_lines(*commands.help_of(known_command(given.text("COMMAND"))))
     else:
-        print_lines(*words.help_all())
+        print_lines(*commands.help_all())
     return 0
 
 
@@ -147,14 +147,14 @@ ANSWERS: Dict[str, Callable[[Context, Given], int]] = {
 }
 
 
-def known_word(name: str) -> Word:
+def known_command(name: str) -> Command:
     if name not in BY_NAME:
-        raise Usage(f"there is no word `{name}`{words.did_you_mean(name, list(BY_NAME))}")
+        raise Usage(f"there is no command `{name}`{commands.did_you_mean(name, list(BY_NAME))}")
     return BY_NAME[name]
 
 
-def before_the_word(call: Sequence[str]) -> Tuple[List[str], List[str]]:
-    """The options before the word, and the rest."""
+def before_the_command(call: Sequence[str]) -> Tuple[List[str], List[str]]:
+    """The options before the command, and the rest."""
     options, left = [], list(call)
     while left and left[0].startswith("-") and left[0] != "-":
         it = left.pop(0)
@@ -165,28 +165,28 @@ def before_the_word(call: Sequence[str]) -> Tuple[List[str], List[str]]:
 
 
 def taken_apart(call: Sequence[str]) -> Given:
-    """The word of a call, with its arguments and options."""
-    options, left = before_the_word(call)
+    """The command of a call, with its arguments and options."""
+    options, left = before_the_command(call)
     if "--version" in options or "-V" in options:
         return Given(BY_NAME["version"])
     if "--help" in options or "-h" in options:
         return Given(BY_NAME["help"])
     if not left:
-        raise Usage("a word is missing" if not options else f"there is no option {options[0]}{words.did_you_mean(options[0], [it.name for it in EVERYWHERE] + ['--version'])}")
-    return words.parse(known_word(left[0]), [*options, *left[1:]])
+        raise Usage("a command is missing" if not options else f"there is no option {options[0]}{commands.did_you_mean(options[0], [it.name for it in EVERYWHERE] + ['--version'])}")
+    return commands.parse(known_command(left[0]), [*options, *left[1:]])
 
 
 def tell_usage(error: Usage, voice: Voice) -> int:
     """Says what is wrong with the words. Where they might be the program's, its own answer to them stands on standard output."""
     lines = [error.what]
-    if error.word:
-        lines.append(f"usage: {error.word.usage()}")
-        lines.append(f"`sancus {error.word.name} --help` says more")
+    if error.command:
+        lines.append(f"usage: {error.command.usage()}")
+        lines.append(f"`sancus {error.command.name} --help` says more")
     else:
-        lines.append(f"the words are: {' '.join(it.name for it in WORDS)}")
+        lines.append(f"the commands are: {' '.join(it.name for it in COMMANDS)}")
         lines.append("`sancus help` says what each does")
     voice.must_say(*lines)
-    if not error.word or error.word.is_programs:
+    if not error.command or error.command.is_programs:
         print_lines("fault usage")
     return USAGE
 
@@ -204,11 +204,11 @@ def answer(call: Sequence[str], top: Path, voice: Voice) -> int:
     given = taken_apart(call)
     voice.is_quiet = given.has("quiet")
     if given.has("help"):
-        print_lines(*words.help_of(given.word))
+        print_lines(*commands.help_of(given.command))
         return 0
     builds = Builds(top, given.text("program") or os.environ.get("SANCUS_PROGRAM"))
     context = Context(top, voice, builds, Program(builds, voice))
-    return ANSWERS.get(given.word.name, program_word)(context, given)
+    return ANSWERS.get(given.command.name, program_command)(context, given)
 
 
 def run(call: Sequence[str], top: Path) -> int:

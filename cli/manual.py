@@ -1,10 +1,10 @@
-"""The man page and the completion for bash, made of the table of words."""
+"""The man page and the completion for bash, made of the table of commands."""
 
 from __future__ import annotations
 
 from typing import List, Tuple
 
-from cli.words import EVERYWHERE, HEAD, WORDS, Word
+from cli.commands import EVERYWHERE, HEAD, COMMANDS, Command
 
 
 def escaped(text: str) -> str:
@@ -13,15 +13,15 @@ def escaped(text: str) -> str:
     return "\\&" + text if text.startswith((".", "'")) else text
 
 
-def word_section(word: Word) -> List[str]:
-    lines = [".TP", f".B {escaped(word.usage())}", escaped(f"It {word.does}.")]
-    if word.more:
-        lines += [".br", *(row for line in word.more.split("\n") for row in (escaped(line.strip()), ".br"))]
-    for argument in word.arguments:
+def section(command: Command) -> List[str]:
+    lines = [".TP", f".B {escaped(command.usage())}", escaped(f"It {command.does}.")]
+    if command.more:
+        lines += [".br", *(row for line in command.more.split("\n") for row in (escaped(line.strip()), ".br"))]
+    for argument in command.arguments:
         lines += [".br", escaped(f"{argument.name}: {argument.says}.")]
-    for option in word.options:
+    for option in command.options:
         lines += [".br", f"\\fB{escaped(option.shown())}\\fR: {escaped(option.says)}."]
-    return [*lines, ".br", f"Example: \\fI{escaped(word.example)}\\fR"]
+    return [*lines, ".br", f"Example: \\fI{escaped(command.example)}\\fR"]
 
 
 STATUSES = [
@@ -37,7 +37,7 @@ STATUSES = [
     ("10", "a text or bytes of asm or dis break a rule"),
     ("11", "a query breaks a rule"),
     ("121", "a file can't be read or written"),
-    ("122", "a text isn't what a word of the front end takes"),
+    ("122", "a text isn't what a command of the front end takes"),
     ("125", "there is no answer of the program: no build, or one that was ended"),
 ]
 VARIABLES = [
@@ -58,14 +58,14 @@ def man_page() -> str:
         "sancus \\- Sancus applications, verified",
         ".SH SYNOPSIS",
         ".B sancus",
-        ".I WORD",
+        ".I COMMAND",
         "[ARGUMENT ..]",
         ".SH DESCRIPTION",
         escaped(HEAD),
-        "The words that the program itself answers write on standard output just what it writes, and end with its status. What is said on standard "
+        "The commands that the program itself answers print on standard output just what it prints, and end with its status. What is said on standard "
         "error is for people.",
-        ".SH WORDS",
-        *(line for word in WORDS for line in word_section(word)),
+        ".SH COMMANDS",
+        *(line for command in COMMANDS for line in section(command)),
         ".SH OPTIONS",
         *(line for it in EVERYWHERE for line in (".TP", f".B {escaped(it.shown())}", escaped(it.says))),
         ".SH EXIT STATUS",
@@ -78,14 +78,14 @@ def man_page() -> str:
     return "\n".join(lines) + "\n"
 
 
-def options_of(word: Word) -> str:
-    return " ".join(it.name for it in (*word.options, *EVERYWHERE))
+def options_of(command: Command) -> str:
+    return " ".join(it.name for it in (*command.options, *EVERYWHERE))
 
 
 def completion() -> str:
-    """Words first, then options after a dash, names of words for `help`, and else files."""
-    cases = "\n".join(f"    {word.name}) options='{options_of(word)}' ;;" for word in WORDS)
-    names = " ".join(it.name for it in WORDS)
+    """Commands first, then options after a dash, names of commands for `help`, and else files."""
+    cases = "\n".join(f"    {command.name}) options='{options_of(command)}' ;;" for command in COMMANDS)
+    names = " ".join(it.name for it in COMMANDS)
     return f"""# Completion for bash: source this file. Made by `sancus help --completion`.
 _sancus() {{
   local word options current=${{COMP_WORDS[COMP_CWORD]}}

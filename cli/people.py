@@ -18,7 +18,7 @@ from cli.schedule import Mistake, Writer
 from cli.session import Stopped, start
 from cli.status import BAD_TEXT, Ended
 from cli.texts import Kept, file_part, kept_of
-from cli.words import Given
+from cli.commands import Given
 
 
 @dataclass

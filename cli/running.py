@@ -18,7 +18,7 @@ from cli.session import Stopped, snapped
 from cli.sinks import NoImages, ScheduleOnly, TraceOnly
 from cli.status import WITH_A_FAULT
 from cli.texts import Input, Kept, Origin, Part, file_part, find_mark, is_regular, open_file, read_all
-from cli.words import Given, Usage
+from cli.commands import Given, Usage
 
 
 def files_of(given: Given) -> List[str]:
@@ -30,14 +30,14 @@ def files_of(given: Given) -> List[str]:
 
 def words_for_program(given: Given) -> List[str]:
     """What the program itself is given as words."""
-    made = [given.word.name]
-    if given.word.name == "gen":
+    made = [given.command.name]
+    if given.command.name == "gen":
         if not within(given.text("SAMPLES"), 1, 8000):
-            raise Usage(f"{given.text('SAMPLES')} is no number of samples: 1 to 8,000", given.word)
+            raise Usage(f"{given.text('SAMPLES')} is no number of samples: 1 to 8,000", given.command)
         made.append(given.text("SAMPLES"))
-    if given.word.name in ("asm", "dis"):
+    if given.command.name in ("asm", "dis"):
         if not within(given.text("ADDRESS"), 0, 65535):
-            raise Usage(f"{given.text('ADDRESS')} is no address: 0 to 65,535, or 0x0 to 0xffff", given.word)
+            raise Usage(f"{given.text('ADDRESS')} is no address: 0 to 65,535, or 0x0 to 0xffff", given.command)
         made.append(given.text("ADDRESS"))
     return made
 
@@ -64,7 +64,7 @@ def has_no_mark(fd: int) -> bool:
 
 def parts_of(given: Given, files: List[str], context: Context) -> Optional[List[Part]]:
     """The parts of an input that is put together; None where one file is the input as it stands."""
-    word = given.word.name
+    word = given.command.name
     if word == "explain" and len(files) == 2:
         return explained(files[0], files[1], context.voice)
     if word == "snap" and len(files) > 1:
@@ -90,7 +90,7 @@ def is_direct(fd: int) -> bool:
 def run_program(context: Context, given: Given, files: List[str], sink: Sink) -> Ran:
     """Runs the program on the files of a call."""
     words = words_for_program(given)
-    if given.word.name == "gen":
+    if given.command.name == "gen":
         with open(os.devnull, "rb") as nothing:
             return context.program.run_file(words, nothing.fileno(), "-", sink)
     parts = parts_of(given, files, context)
@@ -104,7 +104,7 @@ def run_program(context: Context, given: Given, files: List[str], sink: Sink) ->
 
 def warn_before(context: Context, given: Given, files: List[str]) -> None:
     """Says what the rules allow and hardly anybody wants, where the deployment is a file."""
-    if context.voice.is_quiet or given.word.name not in ("run", "check", "drive") or files[0] == "-":
+    if context.voice.is_quiet or given.command.name not in ("run", "check", "drive") or files[0] == "-":
         return
     fd = open_file(files[0])
     if is_regular(fd):
@@ -126,7 +126,7 @@ def warn_of(context: Context, head: bytes) -> None:
 
 def warn_after(context: Context, given: Given, ran: Ran) -> None:
     """Says what only a run shows: a `finish` behind which the next instruction breaks a rule."""
-    if given.word.name != "run" or ran.status != 0 or not ran.kept.is_whole() or context.voice.is_quiet:
+    if given.command.name != "run" or ran.status != 0 or not ran.kept.is_whole() or context.voice.is_quiet:
         return
     data = Input(bytes(ran.kept.first))
     if not any(it.split()[:1] == [b"finish"] for it in data.schedule):
@@ -172,7 +172,7 @@ def tell(context: Context, given: Given, ran: Ran) -> List[str]:
     if ran.status not in WITH_A_FAULT and not ran.last.startswith("fault read"):
         return []
     ask = context.program.ask if context.program.build().is_fast else (lambda _words, _text: b"")
-    return Teller(ran.kept, given.word.name, ask).told(ran.last)
+    return Teller(ran.kept, given.command.name, ask).told(ran.last)
 
 
 def answer(context: Context, given: Given) -> int:
@@ -185,11 +185,11 @@ def answer(context: Context, given: Given) -> int:
         return as_json(context, given, files)
     if given.has("words"):
         return explain_in_words(context, given, files)
-    if given.word.name == "dis":
+    if given.command.name == "dis":
         return list_code(context, given, files)
     warn_before(context, given, files)
     ran = run_program(context, given, files, sink_of(given))
-    if files[0] == "-" and given.word.name in ("run", "check", "drive") and not os.isatty(0):
+    if files[0] == "-" and given.command.name in ("run", "check", "drive") and not os.isatty(0):
         warn_kept(context, ran.kept)
     context.voice.say(*tell(context, given, ran))
     warn_after(context, given, ran)
@@ -223,7 +223,7 @@ def warn_kept(context: Context, kept: Kept) -> None:
 
 def explain_in_words(context: Context, given: Given, files: List[str]) -> int:
     if len(files) < 2:
-        raise Usage("`explain --words` takes DEPLOYMENT and TRACE", given.word)
+        raise Usage("`explain --words` takes DEPLOYMENT and TRACE", given.command)
     from cli.causes import explain, in_words
 
     made = explain(files[0], files[1], context.program, context.voice)

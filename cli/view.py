@@ -17,7 +17,7 @@ from cli.sinks import TraceOnly
 from cli.status import BAD_TEXT, NO_FILE, Ended
 from cli.texts import Input, find_mark, kept_of, read_all
 from cli.viewer.join import joined
-from cli.words import Given, Usage
+from cli.commands import Given, Usage
 
 SLOT = '<script type="text/plain" id="data">'
 Texts = Dict[str, bytes]
@@ -129,7 +129,7 @@ def answer(context: Context, given: Given) -> int:
         print_lines(str(page))
         return 0
     if not files:
-        raise Usage("`view` takes INPUT, or --empty", given.word)
+        raise Usage("`view` takes INPUT, or --empty", given.command)
     texts = given_texts(files) if len(files) > 1 else run_texts(context, given, files[0])
     name = Path(files[0] if files[0] != "-" else "run.txt")
     page = Path(given.text("page") or name.with_suffix(".html"))

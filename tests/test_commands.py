@@ -6,12 +6,12 @@ import unittest
 from support import LIGHTING, SANCUS, TOP, Room, sancus, side_by_side
 
 from cli import manual
-from cli.words import BY_NAME, WORDS
+from cli.commands import BY_NAME, COMMANDS
 
 
 class Help(unittest.TestCase):
     def test_each_word_has_help_with_an_example(self):
-        for word, ran in zip(WORDS, side_by_side(lambda it: sancus(it.name, "--help"), WORDS)):
+        for word, ran in zip(COMMANDS, side_by_side(lambda it: sancus(it.name, "--help"), COMMANDS)):
             with self.subTest(word.name):
                 self.assertEqual((ran.status, ran.said), (0, ""))
                 self.assertTrue(ran.lines[0].startswith(f"usage: sancus {word.name}"))
@@ -22,7 +22,7 @@ class Help(unittest.TestCase):
         for words in (["--help"], ["-h"], ["help"]):
             ran = sancus(*words)
             self.assertEqual((ran.status, ran.said), (0, ""))
-            for word in WORDS:
+            for word in COMMANDS:
                 self.assertIn(f"  {word.name} ", ran.out.decode())
 
     def test_help_of_a_word(self):

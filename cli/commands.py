@@ -1,4 +1,4 @@
-"""The words of the command line: what each takes, does and is good for. Parser, help, man page and completion are made of this table."""
+"""The commands: what each takes, does and is good for. Parser, help, man page and completion are made of this table."""
 
 from __future__ import annotations
 
@@ -40,8 +40,8 @@ class Option:
 
 
 @dataclass(frozen=True)
-class Word:
-    """A word of the command line. Those of the program itself are the ones that it answers, byte for byte."""
+class Command:
+    """A command. Those of the program are the ones that it answers itself, byte for byte."""
 
     name: str
     does: str
@@ -70,8 +70,8 @@ ADDRESS = Argument("ADDRESS", ONE, "a number from 0 to 65,535", False)
 INPUT = Argument("INPUT", ONE, "a deployment, a line %% and a schedule")
 LINE = Argument("LINE", ONE, "a line of the schedule, counted from 1 after %%; 0 is power-on", False)
 
-WORDS: Tuple[Word, ...] = (
-    Word(
+COMMANDS: Tuple[Command, ...] = (
+    Command(
         "run",
         "compiles and runs a deployment under a schedule",
         (DEPLOYMENT, SCHEDULES),
@@ -80,7 +80,7 @@ WORDS: Tuple[Word, ...] = (
         "It prints the modules' images and the trace, an item a line. At a terminal each line is answered at once.",
         True,
     ),
-    Word(
+    Command(
         "drive",
         "makes the schedule of an honest run of readings, and runs it",
         (DEPLOYMENT, Argument("READINGS", MANY, "readings, a line `DEVICE VALUE` each")),
@@ -94,7 +94,7 @@ WORDS: Tuple[Word, ...] = (
         "It prints each line of the schedule after `> `, and the items that the line gave.",
         True,
     ),
-    Word(
+    Command(
         "check",
         "prints where the modules will stand, or which rule the deployment breaks",
         (Argument("DEPLOYMENT", MAYBE, "the deployment; a line %% may be absent"),),
@@ -103,7 +103,7 @@ WORDS: Tuple[Word, ...] = (
         "",
         True,
     ),
-    Word(
+    Command(
         "explain",
         "judges a trace by the sources alone: which item caused which",
         (DEPLOYMENT, Argument("TRACE", MAYBE, "what `run` or `drive` wrote")),
@@ -112,7 +112,7 @@ WORDS: Tuple[Word, ...] = (
         "",
         True,
     ),
-    Word(
+    Command(
         "snap",
         "answers where a run stands after any line of its schedule",
         (DEPLOYMENT, Argument("SCHEDULE", MAYBE, "a schedule"), Argument("QUERIES", MAYBE, "queries, a line each")),
@@ -121,7 +121,7 @@ WORDS: Tuple[Word, ...] = (
         "The queries stand after a second line %%: `regs NODE L`, `bytes NODE AT LEN L` and `items L`.",
         True,
     ),
-    Word(
+    Command(
         "gen",
         "runs a stated application for some samples, and counts",
         (Argument("SAMPLES", ONE, "a number from 1 to 8,000", False),),
@@ -130,7 +130,7 @@ WORDS: Tuple[Word, ...] = (
         "",
         True,
     ),
-    Word(
+    Command(
         "asm",
         "lists a text as code from an address on",
         (ADDRESS, FILE),
@@ -139,7 +139,7 @@ WORDS: Tuple[Word, ...] = (
         "",
         True,
     ),
-    Word(
+    Command(
         "dis",
         "lists bytes in hexadecimal as code from an address on",
         (ADDRESS, FILE),
@@ -148,7 +148,7 @@ WORDS: Tuple[Word, ...] = (
         "A line `image MODULE BYTES`, as `run` prints it, is taken as it stands.",
         True,
     ),
-    Word(
+    Command(
         "schedule",
         "writes a schedule of one for people: `deploy`, `sample`, `carry`",
         (DEPLOYMENT, Argument("LINES", MANY, "lines for people")),
@@ -167,14 +167,14 @@ deploy and carry name their packets too: ask.M, answer.M, key.M.CONNECTION.from 
 lines are written, so packets, boots and pieces are those that it showed. A line `#= FILE:LINE TEXT` stands before what was
 made of a line for people, and a fault of it is led back there.""",
     ),
-    Word(
+    Command(
         "marks",
         "runs a schedule and prints which items each of its lines gave",
         (DEPLOYMENT, SCHEDULES),
         (NO_IMAGES,),
         "sancus marks examples/forged.txt",
     ),
-    Word(
+    Command(
         "view",
         "writes one HTML page that holds a run and draws it",
         (
@@ -190,21 +190,21 @@ made of a line for people, and a fault of it is led back there.""",
         "sancus view examples/lighting.txt --page lighting.html",
         "The page opens in any browser, without a connection.",
     ),
-    Word(
+    Command(
         "vars",
         "prints a module's variables, arrays and ends after a line",
         (INPUT, Argument("MODULE", ONE, "a module", False), LINE),
         (Option("--drive", "INPUT has readings, and LINE is one of the schedule that `drive` makes of them"),),
         "sancus vars examples/lighting.txt logic 44",
     ),
-    Word(
+    Command(
         "steps",
         "prints the instructions that a line executed",
         (INPUT, LINE),
         (Option("--drive", "INPUT has readings, and LINE is one of the schedule that `drive` makes of them"),),
         "sancus steps examples/busy.txt 44",
     ),
-    Word(
+    Command(
         "why",
         "prints the chain of causes of an item, or why it is illegal",
         (
@@ -216,7 +216,7 @@ made of a line for people, and a fault of it is led back there.""",
         "sancus run examples/lighting.txt | sancus why examples/lighting.txt - 42",
         "A cause is the last event that triggered an item, and not all that its value depends on.",
     ),
-    Word(
+    Command(
         "hex",
         "turns programs of usual tools into schedule lines, and images into files of usual tools",
         (
@@ -232,7 +232,7 @@ made of a line for people, and a fault of it is led back there.""",
         "sancus hex image examples/lighting.txt --to images",
         "Files are ELF, Intel HEX or TI-TXT. Encodings and keys are this project's own: images are for looking, and not to be flashed.",
     ),
-    Word(
+    Command(
         "build",
         "proves and builds the program",
         (),
@@ -240,24 +240,24 @@ made of a line for people, and a fault of it is led back there.""",
         "sancus build --jobs 2",
         "It needs the command rt of the Rattle kit, and takes up to an hour from nothing.",
     ),
-    Word("version", "prints which program is started, of which sources, by which kit", (), (), "sancus version"),
-    Word(
+    Command("version", "prints which program is started, of which sources, by which kit", (), (), "sancus version"),
+    Command(
         "help",
-        "prints what a word does",
-        (Argument("WORD", MAYBE, "a word of the command line", False),),
+        "prints what a command does",
+        (Argument("COMMAND", MAYBE, "a command", False),),
         (Option("--man", "prints the man page"), Option("--completion", "prints completion for bash")),
         "sancus help run",
     ),
 )
-BY_NAME: Dict[str, Word] = {it.name: it for it in WORDS}
+BY_NAME: Dict[str, Command] = {it.name: it for it in COMMANDS}
 
 
 class Usage(Exception):
-    """The words are no command: what is wrong with them, and the word that they begin with, where it is one."""
+    """The words are no call: what is wrong with them, and the command that they begin with, if it is one."""
 
-    def __init__(self, what: str, word: Optional[Word] = None) -> None:
+    def __init__(self, what: str, command: Optional[Command] = None) -> None:
         super().__init__(what)
-        self.what, self.word = what, word
+        self.what, self.command = what, command
         self.status = USAGE
 
 
@@ -286,7 +286,7 @@ def did_you_mean(word: str, known: Sequence[str]) -> str:
 class Given:
     """The words of a call, taken apart: values of arguments and options by their names."""
 
-    word: Word
+    command: Command
     values: Dict[str, object] = field(default_factory=dict)
 
     def text(self, name: str) -> str:
@@ -304,15 +304,15 @@ def key_of(option: Option) -> str:
     return option.name[2:].replace("-", "_")
 
 
-def parser_of(word: Word) -> Parser:
-    made = Parser(prog=f"sancus {word.name}", add_help=False, allow_abbrev=False)
-    for option in (*word.options, *EVERYWHERE):
+def parser_of(command: Command) -> Parser:
+    made = Parser(prog=f"sancus {command.name}", add_help=False, allow_abbrev=False)
+    for option in (*command.options, *EVERYWHERE):
         flags = [option.name, *([option.short] if option.short else [])]
         if option.value:
             made.add_argument(*flags, dest=key_of(option), metavar=option.value, choices=option.choices or None)
         else:
             made.add_argument(*flags, dest=key_of(option), action="store_true")
-    for argument in word.arguments:
+    for argument in command.arguments:
         made.add_argument(argument.name, nargs=argument.count)  # type: ignore[arg-type]
     return made
 
@@ -342,17 +342,17 @@ def options_first(words: Sequence[str], options: Sequence[Option]) -> List[str]:
     return [*found, "--", *rest] if rest else found
 
 
-def parse(word: Word, words: Sequence[str]) -> Given:
-    """The words after a word of the command line, taken apart."""
+def parse(command: Command, words: Sequence[str]) -> Given:
+    """The words of a call after its command, taken apart."""
     try:
-        made = parser_of(word)
-        ordered = options_first(words, (*word.options, *EVERYWHERE))
+        made = parser_of(command)
+        ordered = options_first(words, (*command.options, *EVERYWHERE))
         if "--help" in ordered or "-h" in ordered:
-            return Given(word, {"help": True})
-        return Given(word, vars(made.parse_args(ordered)))
+            return Given(command, {"help": True})
+        return Given(command, vars(made.parse_args(ordered)))
     except Usage as error:
         what = error.what.replace("the following arguments are required", "missing")
-        raise Usage(what.replace("unrecognized arguments", "too many arguments"), word) from None
+        raise Usage(what.replace("unrecognized arguments", "too many arguments"), command) from None
 
 
 # --- Help -------------------------------------------------------------------------------------------------------------
@@ -366,12 +366,12 @@ def rows(pairs: Sequence[Tuple[str, str]]) -> List[str]:
 
 
 def help_all() -> List[str]:
-    programs = [(it.name, it.does) for it in WORDS if it.is_programs]
-    others = [(it.name, it.does) for it in WORDS if not it.is_programs]
+    programs = [(it.name, it.does) for it in COMMANDS if it.is_programs]
+    others = [(it.name, it.does) for it in COMMANDS if not it.is_programs]
     return [
         HEAD,
         "",
-        "usage: sancus WORD [ARGUMENT ..]",
+        "usage: sancus COMMAND [ARGUMENT ..]",
         "",
         "The program answers:",
         *rows(programs),
@@ -379,7 +379,7 @@ def help_all() -> List[str]:
         "Around it:",
         *rows(others),
         "",
-        "With each word:",
+        "With each command:",
         *rows([(it.shown(), it.says) for it in EVERYWHERE]),
         "",
         "example: sancus drive examples/readings.txt",
@@ -387,11 +387,11 @@ def help_all() -> List[str]:
     ]
 
 
-def help_of(word: Word) -> List[str]:
-    lines = [f"usage: {word.usage()}", "", f"It {word.does}."]
-    if word.more:
-        lines += word.more.split("\n")
-    if word.arguments:
-        lines += ["", *rows([(it.name, it.says) for it in word.arguments])]
-    lines += ["", *rows([(it.shown(), it.says) for it in (*word.options, *EVERYWHERE)])]
-    return [*lines, "", f"example: {word.example}"]
+def help_of(command: Command) -> List[str]:
+    lines = [f"usage: {command.usage()}", "", f"It {command.does}."]
+    if command.more:
+        lines += command.more.split("\n")
+    if command.arguments:
+        lines += ["", *rows([(it.name, it.says) for it in command.arguments])]
+    lines += ["", *rows([(it.shown(), it.says) for it in (*command.options, *EVERYWHERE)])]
+    return [*lines, "", f"example: {command.example}"]
