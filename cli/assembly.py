@@ -26,7 +26,7 @@ def statements(text: str) -> List[str]:
 
 
 def hint(text: str) -> Optional[str]:
-    """What is wrong with the first statement in which something is seen; None where nothing is."""
+    """What is wrong with the first statement in which something is seen; None if nothing is."""
     for it in statements(text):
         found = hint_of(it)
         if found:

@@ -111,7 +111,7 @@ class Sources:
 
 
 def keep(path: Path, text: str) -> None:
-    """Keeps an answer for later calls, where that is possible."""
+    """Keeps an answer for later calls, if that is possible."""
     try:
         path.parent.mkdir(parents=True, exist_ok=True)
         new = path.with_name(f"{path.name}.{os.getpid()}")
@@ -173,7 +173,7 @@ class Builds:
         return next((it for it in sorted({*then, *now}) if then.get(it) != now.get(it)), "their order")
 
     def notes_of_release(self) -> Dict[str, str]:
-        """The words of the release's note; none where it isn't as it was written, which its last line tells."""
+        """The words of the release's note; none if it isn't as it was written, which its last line tells."""
         text = text_of_file(self.note)
         body, _, last = text.rstrip("\n").rpartition("\n")
         if not body or last != f"note {sum_of((body + chr(10)).encode())}":

@@ -26,7 +26,7 @@ class Argument:
 
 @dataclass(frozen=True)
 class Option:
-    """An option, with the name of its value where it takes one."""
+    """An option, with the name of its value if it takes one."""
 
     name: str
     says: str

@@ -96,7 +96,7 @@ class Plan:
         return next((it for it in self.modules if it.get("device") == device), None)
 
     def tree(self, module: str) -> Optional[language.Module]:
-        """The tree of a module's source, or None where it is no module."""
+        """The tree of a module's source, or None if it is no module."""
         if module not in self.trees:
             source = (self.named("module", module) or {}).get("source")
             try:
@@ -106,7 +106,7 @@ class Plan:
         return self.trees[module]
 
     def bounds(self, module: Entry) -> Optional[Bounds]:
-        """Where a module's sections stand; None where its tables or source don't tell."""
+        """Where a module's sections stand; None if its tables or source don't tell."""
         tree = self.tree(str(module.get("name")))
         device = self.named("device", module.get("device")) or {}
         text, data = module.get("text"), module.get("data", device.get("at"))
@@ -118,7 +118,7 @@ class Plan:
 
 
 def plan_of(head: bytes) -> Optional[Plan]:
-    """The deployment of a text, or None where it can't be read here (as TOML 1.0)."""
+    """The deployment of a text, or None if it can't be read here (as TOML 1.0)."""
     try:
         return Plan(toml.read(head.decode()))
     except (ValueError, RecursionError):

@@ -58,7 +58,7 @@ class Teller:
         return f"line {number} of the input" if name in ("-", "") else f"{name}:{number}"
 
     def shown(self, line: int, column: Optional[int] = None, length: int = 1) -> Lines:
-        """A line of the input, and below it a caret at the byte column, where there is one."""
+        """A line of the input, and below it a caret at the byte column, if there is one."""
         whole = self.kept.line(line)
         if whole is None:
             return [f"{self.place(line)}"] if line <= self.kept.lines_so_far() else []
@@ -99,7 +99,7 @@ class Teller:
         return what + (f", {self.place(line)}" if line else "")
 
     def source_place(self, index: int, line: int, column: int) -> Optional[Tuple[int, int]]:
-        """The line of the input, and the byte column in it, of a place in a module's source; None where that isn't found."""
+        """The line of the input, and the byte column in it, of a place in a module's source; None if that isn't found."""
         modules = self.plan.modules if self.plan else []
         source = modules[index].get("source") if index < len(modules) else None
         if not isinstance(source, str) or not source:
@@ -121,7 +121,7 @@ class Teller:
         return self.shown(*found, length) if found else [f"line {line}, column {column} of its source"]
 
     def grammar(self, index: int, line: int, column: int) -> Lines:
-        """Where a source isn't in the grammar, what could stand there, and what there is in place of what was tried."""
+        """If a source isn't in the grammar: what could stand there, and what there is in place of what was tried."""
         lines = self.in_source(index, line, column)
         modules = self.plan.modules if self.plan else []
         source = modules[index].get("source") if index < len(modules) else None

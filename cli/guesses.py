@@ -66,7 +66,7 @@ def of_toml(line: Optional[bytes]) -> List[str]:
 
 
 def of_head(command: str, first: bytes) -> List[str]:
-    """What an input is, where it isn't a deployment."""
+    """What an input is, if it isn't a deployment."""
     begun = first.lstrip()
     if b"\0" in first:
         return ["this is no text"]

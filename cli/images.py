@@ -28,7 +28,7 @@ class Looked:
 
 
 def bytes_of(text: bytes) -> Optional[bytes]:
-    """The bytes of an image's line, or of a long line of digits; None where the text is neither."""
+    """The bytes of an image's line, or of a long line of digits; None if the text is neither."""
     found = IMAGE.fullmatch(text)
     line = found[1] if found else text.rstrip(b"\r\n")
     if not found and (len(line) <= MOST_LINE or not HEX.fullmatch(text)):
@@ -54,7 +54,7 @@ def may_be(text: bytes) -> bool:
 
 
 def listing(program: Program, at: int, code: bytes) -> Optional[List[bytes]]:
-    """The listing of code, piece by piece, each from the instruction where the one before ended; None where the program refuses it."""
+    """The listing of code, piece by piece, each from the instruction where the one before ended; None if the program refuses it."""
     if at % 2 or at + len(code) > 0x10000:
         return None
     lines: List[bytes] = []

@@ -1,4 +1,4 @@
-"""Puts an input together from files: a deployment, the line %% where it is missing, and what comes after it."""
+"""Puts an input together from files: a deployment, the line %% if it is missing, and what comes after it."""
 
 from __future__ import annotations
 
@@ -94,7 +94,7 @@ def snap_parts(files: List[str], voice: Voice) -> List[Part]:
 
 
 def with_mark(name: str) -> Optional[List[Part]]:
-    """A deployment for `check`, with a mark at its end where it has none; None where the file has one."""
+    """A deployment for `check`, with a mark at its end if it has none; None if the file has one."""
     begun = Begun(file_part(name))
     data = begun.look(lambda it: find_mark(it) is not None)
     whole = begun.rest(0, 0)

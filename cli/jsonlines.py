@@ -100,7 +100,7 @@ class CheckSink(JsonSink):
 
 @dataclass
 class ExplainSink(JsonSink):
-    """The same for what `explain` writes. The items' texts are those of the trace, where it is known."""
+    """The same for what `explain` writes."""
 
     def object(self, text: str) -> Optional[Dict[str, Any]]:
         words = text.split(" ")

@@ -165,7 +165,7 @@ class Declared:
 
 @dataclass(frozen=True)
 class Handler:
-    """A handler of an input, or of the samples where that is None."""
+    """A handler of an input, or of the samples if that is None."""
 
     input: Optional[str]
     parameter: str
@@ -204,7 +204,7 @@ class NotInGrammar(Exception):
 
 
 class Parser:
-    """Reads one module. What was looked for at the next token is kept, to be told where nothing of it stands."""
+    """Reads one module. What was looked for at the next token is kept, to be told if nothing of it stands."""
 
     def __init__(self, data: bytes) -> None:
         self.data = data
@@ -377,7 +377,7 @@ def number_of(token: Token) -> int:
 
 
 def parse(source: str) -> Module:
-    """The module of a source; NotInGrammar tells where it is none."""
+    """The module of a source; NotInGrammar tells why it is none."""
     return Parser(source.encode(errors="surrogateescape")).module()
 
 

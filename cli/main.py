@@ -177,7 +177,7 @@ def taken_apart(call: Sequence[str]) -> Given:
 
 
 def tell_usage(error: Usage, voice: Voice) -> int:
-    """Says what is wrong with the words. Where they might be the program's, its own answer to them stands on standard output."""
+    """Says what is wrong with the words. If they might be the program's, its own answer to them stands on standard output."""
     lines = [error.what]
     if error.command:
         lines.append(f"usage: {error.command.usage()}")

@@ -1,7 +1,7 @@
 """Runs a schedule and tells which items each of its lines gave, exactly.
 
 The output of `run` doesn't say which line an item belongs to. A mark does: behind each line stands `answer M 0 4294967295`, an answer in a
-packet that can't be there. It changes nothing and gives exactly `denied M`, and no line but `answer` gives that item. Where a deployment has
+packet that can't be there. It changes nothing and gives exactly `denied M`, and no line but `answer` gives that item. If a deployment has
 no modules, one is added for the marks, on a node of its own where nothing is loaded. A schedule may have half as many lines as for `run`.
 """
 
@@ -71,7 +71,7 @@ def marker_of(head: bytes, plan: Plan) -> Marker:
 
 @dataclass
 class Marked:
-    """A run, line by line. `last` is its last line, with a fault's line as the schedule has it; none where the output broke off."""
+    """A run, line by line. `last` is its last line, with a fault's line as the schedule has it; none if the output broke off."""
 
     images: List[bytes] = field(default_factory=list)
     # the number of each act's line in the schedule, with its items
@@ -139,7 +139,7 @@ def is_last(line: bytes) -> bool:
 
 
 def in_schedule(last: bytes, acts: List[Tuple[int, bytes]]) -> bytes:
-    """The last line, where a fault has the line's number in the schedule itself."""
+    """The last line, in which a fault has the line's number in the schedule itself."""
     words = last.split()
     if not last.startswith(b"fault schedule ") or len(words) != 4:
         return last

@@ -313,7 +313,7 @@ STEPS: Dict[str, Callable[[Model, Item, Dict[str, Any]], None]] = {
 
 
 def reason(plan: Plan, items: List[Item], number: int) -> Optional[str]:
-    """Which condition the item of this number breaks after those before it; None where none is found here."""
+    """Which condition the item of this number breaks after those before it; None if none is found here."""
     model = Model(plan)
     for item in items[:number]:
         try:

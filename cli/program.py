@@ -192,7 +192,7 @@ class Program:
             process.wait()
             raise Ended(INTERRUPTED) from None
         except Ended:
-            # (nobody takes what it writes, so it ends by itself; where its input can't be read, it is ended)
+            # (nobody takes what it writes, so it ends by itself; if its input can't be read, it is ended)
             process.kill()
             process.wait()
             raise

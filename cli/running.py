@@ -22,7 +22,7 @@ from cli.commands import Given, Usage
 
 
 def files_of(given: Given) -> List[str]:
-    """The files of a call; standard input where there is none."""
+    """The files of a call; standard input if there is none."""
     names = ("DEPLOYMENT", "SCHEDULE", "READINGS", "TRACE", "QUERIES", "FILE")
     found = [it for name in names for it in given.texts(name)]
     return found or ["-"]
@@ -63,7 +63,7 @@ def has_no_mark(fd: int) -> bool:
 
 
 def parts_of(given: Given, files: List[str], context: Context) -> Optional[List[Part]]:
-    """The parts of an input that is put together; None where one file is the input as it stands."""
+    """The parts of an input that is put together; None if one file is the input as it stands."""
     word = given.command.name
     if word == "explain" and len(files) == 2:
         return explained(files[0], files[1], context.voice)
@@ -103,7 +103,7 @@ def run_program(context: Context, given: Given, files: List[str], sink: Sink) ->
 
 
 def warn_before(context: Context, given: Given, files: List[str]) -> None:
-    """Says what the rules allow and hardly anybody wants, where the deployment is a file."""
+    """Says what the rules allow and hardly anybody wants, if the deployment is a file."""
     if context.voice.is_quiet or given.command.name not in ("run", "check", "drive") or files[0] == "-":
         return
     fd = open_file(files[0])

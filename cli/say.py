@@ -29,7 +29,7 @@ def text_of(line: bytes) -> str:
 
 @dataclass
 class Voice:
-    """Speaks on standard error, and holds its tongue where it was asked to."""
+    """Speaks on standard error, and holds its tongue if it was asked to."""
 
     is_quiet: bool = False
     name: str = "sancus"

@@ -1,4 +1,4 @@
-"""What of the program's output is passed on, where not all of it is asked for."""
+"""What of the program's output is passed on, if not all of it is asked for."""
 
 from __future__ import annotations
 
@@ -43,7 +43,7 @@ class NoImages(Sink):
 
     to: Sink
     start: bytes = b""
-    # whether the line that goes on is an image's, None where that isn't known yet
+    # whether the line that goes on is an image's, None if that isn't known yet
     is_image: bool = False
     is_known: bool = False
 

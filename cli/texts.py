@@ -58,9 +58,9 @@ class Part:
     read: Callable[[], bytes]
     # where a read may have to wait
     fd: Optional[int] = None
-    # the line of its file with which it begins; None where it is of no file
+    # the line of its file with which it begins; None if it is of no file
     line: Optional[int] = 1
-    # tells the file's line of a line of the part, where lines are left out between
+    # tells the file's line of a line of the part, if lines are left out between
     line_of: Optional[Callable[[int], int]] = None
 
 
@@ -119,7 +119,7 @@ class Kept:
         return self.split[1], self.split[2]
 
     def line(self, number: int) -> Optional[bytes]:
-        """A line of the input by its number from 1, or None where it isn't kept."""
+        """A line of the input by its number from 1, or None if it isn't kept."""
         first, last = self.both()
         # (the last of the first ones may be cut, or nothing)
         if 1 <= number < len(first) or (number == len(first) and self.is_whole()):

@@ -40,14 +40,14 @@ def without_lines(text: bytes) -> bytes:
 
 
 def causes_of(context: Context, head: bytes, trace: bytes) -> bytes:
-    """What `explain` says of a trace, where it says anything."""
+    """What `explain` says of a trace, if it says anything."""
     sink = Collected()
     ran = context.program.ran_of(["explain"], head + b"%%\n" + trace, sink)
     return sink.data() if ran.status in (0, 8) else b""
 
 
 def of_run(context: Context, text: bytes) -> Drawn:
-    """A run, with the lines of its schedule where these are certain, and its causes."""
+    """A run, with the lines of its schedule if these are certain, and its causes."""
     data, sink = Input(text), Collected()
     ran = context.program.ran_of(["run"], text, sink)
     output = sink.data()
@@ -106,7 +106,7 @@ def given_texts(files: List[str]) -> Texts:
 
 
 def run_texts(context: Context, given: Given, name: str) -> Texts:
-    """The texts of a run that is made now; none where the input isn't taken."""
+    """The texts of a run that is made now; none if the input isn't taken."""
     text = read_all(name)
     data = Input(text)
     is_driven = given.has("drive") or are_readings(data)
