@@ -382,6 +382,64 @@ class Viewer(unittest.TestCase):
         cells = self.texts(".row .cell")
         self.assertEqual([it.replace("▾", "") for it in cells][-4:], ["3put a 0x800 00", "1busy a", "4sense light 3", "2busy a"])
 
+    @needs_program
+    def test_the_set_up_is_folded(self):
+        self.show(of_run(context(), LIGHTING_BYTES).texts)
+        self.browser.shoot("opened")
+        here = "(() => { const row = page.run.shown[page.at]; return row.kind + ' ' + (row.text ?? row.line.text); })()"
+        self.assertTrue(self.browser.value(here).startswith("note 3. It gets bright"), self.browser.value(here))
+        self.assertEqual(self.browser.value("page.run.groups.map(it => it.isFolded)"), [True] * 4 + [False] * 2)
+        self.assertLess(self.browser.value("page.run.shown.length"), 25)
+        # (a short set-up isn't)
+        self.show(run_of(*readings(1)))
+        self.assertEqual(self.browser.value("page.at"), 0)
+
+    @needs_program
+    def test_the_parking_application(self):
+        folder = EXAMPLES / "parking"
+        if not folder.is_dir():
+            self.skipTest("there is no such example")
+        text = (folder / "parking.toml").read_bytes() + b"%%\n" + (folder / "day.txt").read_bytes().partition(b"%%\n")[2]
+        self.show(of_readings(context(), text).texts)
+        self.browser.shoot("parking")
+        self.assertEqual(self.texts("#notes div"), [])
+        shown = self.browser.value("page.run.shown[page.at].line.text")
+        self.assertTrue(shown.startswith("sense "), shown)
+        self.browser.press("f")
+        self.browser.shoot("parking-fitted")
+        room = "byId('scroll').clientWidth - document.querySelector('.corner').offsetWidth"
+        self.assertLessEqual(self.browser.value("page.picture.columns.list.at(-1).x"), self.browser.value(room))
+        self.browser.press("f")
+        self.assertEqual(self.browser.value("page.look.scale"), 1)
+
+    def test_columns_are_hidden_and_moved(self):
+        self.show(run_of(*readings(2)))
+        wide, rows = (self.browser.value(it) for it in ("page.picture.columns.width", "page.run.shown.length"))
+        self.browser.value("document.querySelector('[data-id=\"module eye\"]').dispatchEvent(new MouseEvent('dblclick', {bubbles: true}))")
+        self.assertLess(self.browser.value("page.picture.columns.width"), wide - 80)
+        self.assertEqual(self.texts("#columns"), ["Show 1 hidden"])
+        self.browser.shoot("hidden")
+        self.browser.press("h")
+        self.assertEqual(self.browser.value("page.picture.columns.width"), wide)
+        order = "page.picture.columns.list.map(it => it.name)"
+        before = self.browser.value(order)
+        self.browser.value("page.move('module logic', page.picture.columns.by.get('memory a').x)")
+        after = self.browser.value(order)
+        self.assertEqual(sorted(before), sorted(after))
+        self.assertEqual(after.index("logic"), before.index("memory"))
+        self.browser.value("page.move('module lamp', page.picture.columns.by.get('module eye').x)")
+        self.assertEqual(self.browser.value("page.picture.columns.boxes.map(it => it.node)"), ["b", "a"])
+        self.assertEqual(self.browser.value("page.run.shown.length"), rows)
+
+    def test_comments_of_a_schedule_for_people(self):
+        first, items = readings(2)
+        lines = ["# --- 1. a reading", "#= x:4 sample eye 0", *first[:2], "#= x:5 carry eye logic", *first[2:5], "# p is packet 0", *first[5:8], "#= x:6 sample eye 37", *first[8:10], *first[10:]]
+        self.show(run_of(lines, items))
+        self.assertEqual(self.browser.value("page.run.groups.map(it => it.title)"), ["--- 1. a reading"])
+        self.show(run_of(lines[1:], items))
+        titles = self.browser.value("page.run.groups.map(it => it.title)")
+        self.assertEqual(titles, ["sample eye 0", "carry eye logic", "sample eye 37"])
+
     def test_picture_as_a_file(self):
         self.show(run_of(*readings(2)) | {"causes": b"because 9 8\nlegal\n"}, "#item=9")
         text = self.browser.value("wholePicture(page)")
