@@ -10,7 +10,7 @@ from cli.context import Context
 from cli.deployment import plan_of
 from cli.faults import Teller
 from cli.program import Sink
-from cli.running import gathered, parts_of, run_program, tell
+from cli.running import gathered, parts_of, run_program, tell, words_for_program
 from cli.say import text_of
 from cli.texts import file_part, find_mark, is_regular, read_all
 from cli.commands import Given
@@ -28,12 +28,19 @@ def head_of(files: List[str]) -> Optional[bytes]:
 def as_json(context: Context, given: Given, files: List[str]) -> int:
     if given.command.name == "run":
         return run_as_json(context, given, files)
-    head = head_of(files)
     kinds = {"check": jsonlines.CheckSink, "explain": jsonlines.ExplainSink}
     sink = kinds.get(given.command.name, jsonlines.JsonSink)(Sink())
     sink.has_images = not given.has("no_images")
-    sink.plan = plan_of(head) if head is not None else None
-    ran = run_program(context, given, files, sink)
+    head = head_of(files)
+    if head is None:
+        # (a pipe is read whole first, since its deployment tells the nodes of items)
+        kept, data = gathered(parts_of(given, files, context) or [file_part(files[0])])
+        sink.plan = plan_of(data.head)
+        ran = context.program.ran_of(words_for_program(given), data.data, sink)
+        ran.kept = kept
+    else:
+        sink.plan = plan_of(head)
+        ran = run_program(context, given, files, sink)
     told = tell(context, given, ran)
     sink.finish(told)
     context.voice.say(*told)

@@ -3,12 +3,11 @@
 from __future__ import annotations
 
 import json
-from dataclasses import dataclass, field
-from typing import Any, Callable, Dict, List, Optional
+from dataclasses import dataclass
+from typing import Any, Dict, List, Optional
 
 from cli.deployment import Plan
 from cli.items import ITEMS, Item, node_of
-from cli.program import Sink
 from cli.sinks import Lines
 
 
@@ -45,9 +44,7 @@ class JsonSink(Lines):
     # the schedule's line of the item that comes
     line_now: Optional[int] = None
     items: int = 0
-    texts: List[str] = field(default_factory=list)
     fault: str = ""
-    tell: Callable[[str], List[str]] = lambda _: []
 
     def line(self, line: bytes) -> bytes:
         text = line.decode(errors="surrogateescape")
@@ -113,5 +110,3 @@ class ExplainSink(JsonSink):
             return {"kind": words[0], "item": int(words[1])}
         return self.last(text, words)
 
-
-__all__ = ["CheckSink", "ExplainSink", "JsonSink", "Sink"]

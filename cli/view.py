@@ -115,7 +115,7 @@ def run_texts(context: Context, given: Given, name: str) -> Texts:
     drawn = (of_readings if is_driven else of_run)(context, text)
     if drawn.last.startswith("fault "):
         lines = Teller(kept_of(text, name), "drive" if is_driven else "run", context.program.ask).told(drawn.last)
-        if drawn.last.startswith(("fault deployment", "fault read")) and not drawn.last.startswith("fault reading"):
+        if drawn.last.startswith("fault deployment") or drawn.last == "fault read":
             raise Ended(BAD_TEXT, drawn.last, *lines, "there is nothing to draw")
         context.voice.say(drawn.last, *lines, "what came before is drawn")
     return drawn.texts

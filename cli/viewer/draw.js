@@ -106,7 +106,7 @@ class Picture {
     else
       this.into.append(
           svg("line", {x1: from.x + 5 * way, x2: to.x - 6 * way, y1: y, y2: y, class: `arrow ${className}`}));
-    if (!text) return;
+    if (!text || from.isHidden || to.isHidden) return;
     const fits = text.length * 6.4 + 26 < Math.abs(from.x - to.x);
     if (fits)
       this.text((from.x + to.x) / 2, y, text, `middle over ${textClass}`);
