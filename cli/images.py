@@ -10,10 +10,10 @@ from typing import List, Optional
 from cli.joining import Begun
 from cli.output import write
 from cli.program import Program
-from cli.texts import Part, file_part, is_regular, open_file
+from cli.texts import Part, can_be_read, file_part, is_regular, open_file
 
 IMAGE = re.compile(rb"image [a-z][a-z0-9_]* ([0-9a-f]+)\r?\n?")
-HEX = re.compile(rb"[0-9A-Fa-f]+\r?\n?")
+HEX = re.compile(rb"[0-9A-Fa-f]*\r?\n?")
 # No image has more digits, its name and word counted.
 MOST = 131_136
 MOST_LINE, MOST_CODE = 4096, 8192
@@ -39,8 +39,9 @@ def bytes_of(text: bytes) -> Optional[bytes]:
 def look(name: str) -> Looked:
     fd = open_file(name)
     if is_regular(fd):
-        return Looked(bytes_of(os.pread(fd, MOST, os.lseek(fd, 0, os.SEEK_CUR))))
-    if os.isatty(fd):
+        text = os.pread(fd, MOST + 1, os.lseek(fd, 0, os.SEEK_CUR))
+        return Looked(bytes_of(text) if len(text) <= MOST else None)
+    if os.isatty(fd) or not can_be_read(fd):
         return Looked()
     begun = Begun(file_part(name))
     # (one line that is an image, or anything else)
@@ -50,7 +51,8 @@ def look(name: str) -> Looked:
 
 
 def may_be(text: bytes) -> bool:
-    return text.startswith((b"image ", b"image"[: len(text)])) or len(text) > MOST_LINE and not text.startswith(b"0x")
+    """Whether this begins an image's line, or one of digits alone."""
+    return text.startswith((b"image ", b"image "[: len(text)])) or bool(HEX.fullmatch(text))
 
 
 def listing(program: Program, at: int, code: bytes) -> Optional[List[bytes]]:

@@ -12,9 +12,8 @@ from typing import Dict, Iterator, List, Optional, Tuple
 
 from cli.acts import first_word, is_act
 from cli.deployment import Plan, plan_of
-from cli.program import Program
+from cli.program import Collected, Program
 from cli.sinks import Kept as KeptLines
-from cli.program import Collected
 from cli.texts import Input
 
 MOST_LINES = 65536
@@ -103,6 +102,12 @@ def marked_run(data: Input, program: Program) -> Marked:
     if 2 * len(acts) > MOST_LINES or len(data.schedule) > MOST_LINES:
         raise CannotMark("the schedule has too many lines to mark")
     marker = marker_of(data.head, plan)
+    if marker.is_added:
+        # (what is refused must be the deployment itself, and not the one with the module for the marks)
+        sink = KeptLines(Collected())
+        checked = program.ran_of(["check"], data.head + b"%%\n", sink)
+        if checked.status:
+            return Marked(last=sink.lines[-1] if sink.lines else None, status=checked.status)
     text = marker.head + b"%%\n" + b"".join(it + b"\n" + marker.line + b"\n" for _, it in acts)
     lines = KeptLines(Collected())
     ran = program.ran_of(["run"], text, lines)

@@ -17,7 +17,7 @@ from cli.say import text_of
 from cli.session import Stopped, snapped
 from cli.sinks import NoImages, ScheduleOnly, TraceOnly
 from cli.status import WITH_A_FAULT
-from cli.texts import Input, Kept, Origin, Part, file_part, find_mark, is_regular, open_file, read_all
+from cli.texts import Input, Kept, Origin, Part, can_be_read, file_part, find_mark, is_regular, open_file, read_all
 from cli.commands import Given, Usage
 
 
@@ -72,19 +72,14 @@ def parts_of(given: Given, files: List[str], context: Context) -> Optional[List[
     if len(files) > 1:
         return joined(files, context.voice)
     fd = open_file(files[0])
-    if word == "check" and not os.isatty(fd):
-        if not is_regular(fd) or has_no_mark(fd):
-            return with_mark(files[0])
+    if word == "check" and (has_no_mark(fd) if is_regular(fd) else not is_direct(fd)):
+        return with_mark(files[0])
     return None
 
 
 def is_direct(fd: int) -> bool:
     """Whether the program reads by itself: a file, a terminal, which is answered line by line, or what can't be read at all."""
-    try:
-        os.read(fd, 0)
-    except OSError:
-        return True
-    return is_regular(fd) or os.isatty(fd)
+    return is_regular(fd) or os.isatty(fd) or not can_be_read(fd)
 
 
 def run_program(context: Context, given: Given, files: List[str], sink: Sink) -> Ran:

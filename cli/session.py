@@ -98,6 +98,9 @@ def start(program: Program, head: bytes, plan: Plan) -> Session:
     if not program.build().is_fast:
         raise Ended(NO_ANSWER, "this runs the program line by line, and needs a build that stands: `./sancus build` makes one")
     marker = marker_of(head, plan)
+    answer = program.ask(["check"], head + b"%%\n").decode(errors="replace").strip() if marker.is_added else "end"
+    if answer != "end":
+        raise Stopped(answer)
     command = program.command(["run"])
     try:
         process = subprocess.Popen(command, stdin=subprocess.PIPE, stdout=subprocess.PIPE)

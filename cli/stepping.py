@@ -50,7 +50,7 @@ def parts_of(seen: Inspected, line: str) -> Parts:
         return Parts(words[1], is_whole=True)
     if act == "call":
         node, entry = seen.plan.node_of(words[1]), seen.plan.named("module", words[1]) or {}
-        sets = [("r12", words[2]), ("r13", words[3]), ("r14", words[4]), ("r15", "0"), ("pc", str(entry.get("text")))]
+        sets = [("r12", words[2]), ("r13", words[3]), ("r14", words[4]), ("r15", "0"), ("pc", f"0x{entry.get('text'):x}")]
         return Parts(node, [f"set {node} {name} {value}" for name, value in sets], is_whole=True)
     if act == "load":
         return Parts(seen.plan.node_of(words[1]), most=1)

@@ -179,6 +179,15 @@ def is_regular(fd: int) -> bool:
         return False
 
 
+def can_be_read(fd: int) -> bool:
+    """Whether a read of a descriptor is possible at all."""
+    try:
+        os.read(fd, 0)
+    except OSError:
+        return False
+    return True
+
+
 def read_all(name: str, most: int = 512 * 1024 * 1024) -> bytes:
     """All of a file, for the commands that need it whole; no more than the largest input that the program takes."""
     fd, pieces, size = open_file(name), [], 0

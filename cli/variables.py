@@ -34,6 +34,8 @@ def standing(seen: Inspected, module: str, line: int) -> Seen:
     try:
         run = marked_run(Input(text), seen.program)
         items: List[Tuple[Optional[int], bytes]] = list(run.items())
+        if run.last is not None and run.last.startswith(b"fault "):
+            raise broken(seen, run.last.decode(errors="replace"))
     except CannotMark:
         answer = seen.program.ask(["run"], text).split(b"\n")
         items = [(None, it) for it in answer]

@@ -3,6 +3,7 @@
 from __future__ import annotations
 
 import base64
+import re
 from dataclasses import dataclass
 from pathlib import Path
 from typing import Dict, List
@@ -100,7 +101,7 @@ def given_texts(files: List[str]) -> Texts:
     texts = {"input": read_all(files[0]), "output": read_all(files[1])}
     if len(files) > 2:
         texts["causes"] = read_all(files[2])
-    if b"trace" not in texts["output"] and b"> " not in texts["output"]:
+    if not re.search(rb"(?m)^(trace\r?$|> )", texts["output"]):
         raise Ended(BAD_TEXT, f"{files[1]} isn't what `run` or `drive` wrote: it has no line `trace`")
     return texts
 

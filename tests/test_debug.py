@@ -13,11 +13,11 @@ ARRAYS = LIGHTING.replace(
 @needs_program
 class Variables(Room):
     def test_after_the_last_line(self):
-        ran = sancus("vars", LIGHTING_FILE, "logic", "44")
+        ran = sancus("vars", LIGHTING_FILE, "logic", "45")
         self.assertEqual(
             ran.lines,
             [
-                "line 44: call lamp 2 0x300 0x400",
+                "line 45: call lamp 2 0x300 0x400",
                 "module logic on node a, boot 0: it stands, since line 3; text 0x6000 to 0x6c00, data 0x2000 to 0x2232",
                 "var limit = 100",
                 "end up to: open in epoch 0, next event 1 (takes from eye)",
@@ -31,10 +31,10 @@ class Variables(Room):
         self.assertIn("end up to: not open (takes from eye)", sancus("vars", LIGHTING_FILE, "logic", "4").lines)
         self.assertIn("it doesn't stand after this line", sancus("vars", LIGHTING_FILE, "logic", "0").out.decode())
         reset = self.file("x", LIGHTING + b"reset a\n")
-        self.assertIn("boot 1: it doesn't stand", sancus("vars", reset, "logic", "45").out.decode())
+        self.assertIn("boot 1: it doesn't stand", sancus("vars", reset, "logic", "46").out.decode())
 
     def test_arrays_and_first_values(self):
-        lines = sancus("vars", self.file("x", ARRAYS), "logic", "44").lines
+        lines = sancus("vars", self.file("x", ARRAYS), "logic", "45").lines
         self.assertEqual(lines[2:5], ["var limit = 99", "array last = 0 120 0", "var n = 1"])
 
     def test_readings(self):
@@ -43,13 +43,13 @@ class Variables(Room):
 
     def test_misuse(self):
         for words, said in (
-            (("vars", LIGHTING_FILE, "ear", "1"), "there is no module ear; did you mean `eye`?"),
-            (("vars", LIGHTING_FILE, "eye", "45"), "45 is no line of the schedule: it has 44"),
+            (("vars", LIGHTING_FILE, "ear", "1"), "there is no module ear: eye logic lamp"),
+            (("vars", LIGHTING_FILE, "eye", "46"), "46 is no line of the schedule: it has 45"),
             (("vars", LIGHTING_FILE, "eye", "x"), "x is no line of the schedule"),
             (("vars", self.file("a", HEAD), "eye", "1"), "has no line %%"),
             (("vars", self.file("b", b"node = 3\n%%\n"), "eye", "1"), "`node` must be an array of tables"),
-            (("vars", self.file("c", LIGHTING + b"fly\n"), "eye", "1"), "S3: its first word is no act"),
-            (("vars", EXAMPLES / "readings.txt", "eye", "1"), "S3"),
+            (("vars", self.file("c", LIGHTING + b"fly\n"), "eye", "46"), "S3: its first word is no act"),
+            (("vars", EXAMPLES / "readings.txt", "eye", "2"), "S3"),
         ):
             ran = sancus(*words)
             self.assertEqual((ran.status, ran.out), (122, b""), ran.said)
@@ -59,17 +59,18 @@ class Variables(Room):
 @needs_program
 class Steps(Room):
     def test_a_call(self):
-        ran = sancus("steps", LIGHTING_FILE, "38")
+        ran = sancus("steps", LIGHTING_FILE, "39")
         lines = ran.lines
-        self.assertEqual(lines[:6], ["line 38: call eye 3 0x300 0x400", "set a r12 3", "set a r13 0x300", "set a r14 0x400", "set a r15 0", "set a pc 16384"], ran.said)
+        self.assertEqual(lines[:6], ["line 39: call eye 3 0x300 0x400", "set a r12 3", "set a r13 0x300", "set a r14 0x400", "set a r15 0", "set a pc 0x4000"], ran.said)
         self.assertEqual(lines[6].split()[:3], ["1", "0x4000", "eye"])
         self.assertEqual([it.strip() for it in lines if it.startswith("      ")], ["read eye 120", "done eye 1 1"])
         self.assertFalse([it for it in lines if "?" in it])
         # as many steps as `run` takes
         steps = len([it for it in lines if it[:5].strip().isdigit()])
-        text = LIGHTING.decode().replace("call eye 3 0x300 0x400", "set a r12 3\nset a r13 0x300\nset a r14 0x400\nset a r15 0\nset a pc 0x4000\nrun a %d")
-        self.assertIn("done eye 1 1", program("run", text=text % steps).lines)
-        self.assertNotIn("done eye 1 1", program("run", text=text % (steps - 1)).lines)
+        sets = "set a r12 3\nset a r13 0x300\nset a r14 0x400\nset a r15 0\nset a pc 0x4000\n"
+        for more, is_done in ((0, True), (-1, False)):
+            text = LIGHTING.decode().replace("call eye 3 0x300 0x400", f"{sets}run a {steps + more}")
+            self.assertEqual("done eye 1 1" in program("run", text=text).lines, is_done)
 
     def test_plain_code(self):
         text = b"%%\nset n sp 0x600\nasm n 0x800 mov #5, r5; add #0xffff, r5; mov r5, &0x900\nset n pc 0x800\nrun n 3\n"
@@ -91,12 +92,12 @@ class Steps(Room):
         lines = sancus("steps", LIGHTING_FILE, "2").lines
         self.assertIn("protect", lines[-2])
         self.assertEqual(lines[-1].strip(), "protect a eye")
-        self.assertIn("executes no instruction", sancus("steps", LIGHTING_FILE, "37").out.decode())
+        self.assertIn("executes no instruction", sancus("steps", LIGHTING_FILE, "38").out.decode())
         self.assertIn("executes no instruction", sancus("steps", LIGHTING_FILE, "1").out.decode())
 
     def test_busy(self):
         text = LIGHTING + b"give 10 a 0x300\nset a r12 2\nset a r13 0x300\nset a r14 0x400\nset a r15 0\nset a pc 0x6000\nrun a 5\ncall eye 3 0x300 0x400\n"
-        self.assertIn("refused, since a module runs on a", sancus("steps", self.file("x", text), "52").out.decode())
+        self.assertIn("refused, since a module runs on a", sancus("steps", self.file("x", text), "53").out.decode())
 
 
 @needs_program

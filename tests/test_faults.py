@@ -201,7 +201,7 @@ class Warnings(Room):
         path = self.file("x", text)
         ran = sancus("run", path)
         self.assertEqual(ran.out, program("run", text=text).out)
-        self.says(ran, "ends before code outside runs an instruction of lamp, at 0x4010", f"{path}:88: finish b")
+        self.says(ran, "ends before code outside runs an instruction of lamp, at 0x4010", f"{path}:92: finish b")
         self.assertEqual(sancus("run", self.file("y", text.replace(b"finish b", b"run b 2"))).said, "")
 
 

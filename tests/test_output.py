@@ -71,7 +71,7 @@ class Output(Room):
 
     def test_marks_of_faults(self):
         ran = sancus("marks", text=LIGHTING + b"\n# x\nload ear\n")
-        self.assertEqual((ran.status, ran.lines[-1]), (3, "fault schedule S4 47"))
+        self.assertEqual((ran.status, ran.lines[-1]), (3, "fault schedule S4 48"))
         self.says(ran, "a module: eye logic lamp")
         self.assertEqual(sancus("marks", text=b"load eye\n").status, 122)
         self.assertEqual(sancus("marks", text=b"node = 3\n%%\n").lines, ["fault deployment D4 top"])
@@ -90,11 +90,11 @@ class Json(Room):
         self.assertEqual([(it["kind"], it["module"]) for it in made[:3]], [("image", "eye"), ("image", "logic"), ("image", "lamp")])
         self.assertEqual(
             made[-3],
-            {"item": 42, "line": 44, "kind": "out", "node": "b", "module": "lamp", "value": 1, "text": "out lamp 1"},
+            {"item": 42, "line": 45, "kind": "out", "node": "b", "module": "lamp", "value": 1, "text": "out lamp 1"},
         )
         self.assertEqual(made[-1], {"kind": "end"})
         take = next(it for it in made if it["kind"] == "take")
-        self.assertEqual((take["connection"], take["number"], take["epoch"], take["event"], take["value"], take["line"]), ("up", 0, 0, 0, 120, 41))
+        self.assertEqual((take["connection"], take["number"], take["epoch"], take["event"], take["value"], take["line"]), ("up", 0, 0, 0, 120, 42))
         self.assertEqual(len(self.objects("run", "--no-images", EXAMPLES / "lighting.txt")), 44)
 
     def test_items_are_those_of_run(self):
@@ -104,7 +104,7 @@ class Json(Room):
 
     def test_a_fault(self):
         made = self.objects("run", text=LIGHTING + b"load ear\n", status=3)[-1]
-        self.assertEqual((made["kind"], made["of"], made["rule"], made["place"], made["text"]), ("fault", "schedule", "S4", [45], "fault schedule S4 45"))
+        self.assertEqual((made["kind"], made["of"], made["rule"], made["place"], made["text"]), ("fault", "schedule", "S4", [46], "fault schedule S4 46"))
         self.assertTrue(any("a module: eye logic lamp" in it for it in made["words"]))
         made = self.objects("check", text=b"node = 3\n", status=1)[-1]
         self.assertEqual((made["of"], made["rule"], made["place"]), ("deployment", "D4", ["top"]))

@@ -90,7 +90,8 @@ class Bounded(Room):
 
     def bounded(self, words, text, seconds=15.0, room=160 * 1024):
         path = self.file("large", text)
-        wanted = subprocess.run([PROGRAM, *words], stdin=open(path, "rb"), capture_output=True)
+        with open(path, "rb") as file:
+            wanted = subprocess.run([PROGRAM, *words], stdin=file, capture_output=True)
         for direct in (True, False):
             before = time.monotonic()
             command = [SANCUS, *words, *([path] if direct else [])]

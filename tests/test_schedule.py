@@ -114,7 +114,7 @@ class Schedule(Room):
         ("reset a as x", "makes no packet to name"),
         ("carry agg eye", "no connection leads from agg to eye; agg sends to: nobody"),
         ("carry vio agg", "no connection leads from vio to agg"),
-        ("carry eye agg", "eye wasn't called"),
+        ("carry eye agg", "eye sent nothing at its last call"),
         ("sample eye 1\nsample eye 1\ncarry eye agg", "eye sent nothing at its last call"),
         ("sample eye 1\ncarry eye vio\ncarry eye vio", "was carried; `give event.eye.vio NODE` gives it again"),
         ("sample eye 1\ncarry eye agg 0", "piece 0 is for vio, by to_vio, and not for agg"),

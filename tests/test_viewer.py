@@ -388,7 +388,8 @@ class Viewer(unittest.TestCase):
         self.browser.shoot("opened")
         here = "(() => { const row = page.run.shown[page.at]; return row.kind + ' ' + (row.text ?? row.line.text); })()"
         self.assertTrue(self.browser.value(here).startswith("note 3. It gets bright"), self.browser.value(here))
-        self.assertEqual(self.browser.value("page.run.groups.map(it => it.isFolded)"), [True] * 4 + [False] * 2)
+        folded = "page.run.groups.filter(it => it.rows.length > 1).map(it => it.isFolded)"
+        self.assertEqual(self.browser.value(folded), [True] * 5 + [False] * 2)
         self.assertLess(self.browser.value("page.run.shown.length"), 25)
         # (a short set-up isn't)
         self.show(run_of(*readings(1)))

@@ -138,7 +138,11 @@ class Run {
     const isSetUp = ({kind, words}) => ["", "#", "load", "ask", "answer", "give", "take"].includes(kind) ||
         kind === "call" && numberOf(words[2]) < 2;
     const first = this.rows.find(row => !isSetUp(row.line));
-    const begun = first?.group.rows[0];
+    let group = first?.group;
+    // (with the comment that stands over it)
+    const before = this.groups[this.groups.indexOf(group) - 1];
+    if (before?.rows.every(row => row.kind === "note")) group = before;
+    const begun = group?.rows[0];
     return begun && begun.index >= SET_UP_FROM ? begun : this.rows[0];
   }
 
