@@ -70,7 +70,7 @@ class Steps(Room):
         sets = "set a r12 3\nset a r13 0x300\nset a r14 0x400\nset a r15 0\nset a pc 0x4000\n"
         for more, is_done in ((0, True), (-1, False)):
             text = LIGHTING.decode().replace("call eye 3 0x300 0x400", f"{sets}run a {steps + more}")
-            self.assertEqual("done eye 1 1" in program("run", text=text).lines, is_done)
+            self.assertEqual(program("run", text=text).lines.count("done eye 1 1"), 1 + is_done)
 
     def test_plain_code(self):
         text = b"%%\nset n sp 0x600\nasm n 0x800 mov #5, r5; add #0xffff, r5; mov r5, &0x900\nset n pc 0x800\nrun n 3\n"
