@@ -94,7 +94,7 @@ class Builds(Room):
         (self.crate / "src" / "main.rt").write_text("fn main() { }\n")
         self.assertIn("crates/sancus_run/src/main.rt differs", self.call("run")[2])
 
-    def test_build_side_by_side(self):
+    def test_build_one_by_one(self):
         self.rt('if [[ "$1" == all ]]; then echo "$PWD: $*"; exit; fi\nmkdir -p out; printf "#!/bin/bash\\n" >out/sancus_run; chmod +x out/sancus_run')
         self.assertIn(f"{self.top}/crates: all check --jobs 4", self.call("build", "--jobs", "4")[2])
 

@@ -3,7 +3,7 @@
 import subprocess
 import unittest
 
-from support import LIGHTING, SANCUS, TOP, Room, sancus, side_by_side
+from support import LIGHTING, SANCUS, TOP, Room, sancus, one_by_one
 
 from cli import manual
 from cli.commands import BY_NAME, COMMANDS
@@ -11,7 +11,7 @@ from cli.commands import BY_NAME, COMMANDS
 
 class Help(unittest.TestCase):
     def test_each_word_has_help_with_an_example(self):
-        for word, ran in zip(COMMANDS, side_by_side(lambda it: sancus(it.name, "--help"), COMMANDS)):
+        for word, ran in zip(COMMANDS, one_by_one(lambda it: sancus(it.name, "--help"), COMMANDS)):
             with self.subTest(word.name):
                 self.assertEqual((ran.status, ran.said), (0, ""))
                 self.assertTrue(ran.lines[0].startswith(f"usage: sancus {word.name}"))

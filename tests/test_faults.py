@@ -3,7 +3,7 @@
 import re
 import unittest
 
-from support import EXAMPLES, HEAD, LIGHTING, PROGRAM, Room, needs_program, program, sancus, side_by_side, whole_examples
+from support import EXAMPLES, HEAD, LIGHTING, PROGRAM, Room, needs_program, program, sancus, one_by_one, whole_examples
 
 from cli import language, toml, warnings
 from cli.deployment import plan_of
@@ -95,7 +95,7 @@ class Cases(unittest.TestCase):
             old, new, word, _, _ = case
             return program(word, text=LIGHTING.replace(old, new, 1)).lines[-1]
 
-        for case, line in zip(CASES, side_by_side(last, CASES)):
+        for case, line in zip(CASES, one_by_one(last, CASES)):
             with self.subTest(new=case[1]):
                 self.assertEqual(line, f"fault {case[3]}")
 

@@ -3,7 +3,7 @@
 import json
 import unittest
 
-from support import EXAMPLES, LIGHTING, Room, needs_program, program, sancus, side_by_side, whole_examples
+from support import EXAMPLES, LIGHTING, Room, needs_program, program, sancus, one_by_one, whole_examples
 
 from cli.program import Collected
 from cli.sinks import NoImages, ScheduleOnly, TraceOnly
@@ -63,7 +63,7 @@ class Output(Room):
 
     def test_marks_of_examples(self):
         files = [it for it in whole_examples() if b"`./sancus drive`" not in it.read_bytes()[:400]]
-        for file, ran in zip(files, side_by_side(lambda it: sancus("marks", it), files)):
+        for file, ran in zip(files, one_by_one(lambda it: sancus("marks", it), files)):
             with self.subTest(file.name):
                 wanted = program("run", text=file.read_bytes())
                 after = b"\n".join(it for it in (b"\n" + ran.out).partition(b"\n%%\n")[2].split(b"\n") if not it.startswith(b"> "))

@@ -6,7 +6,7 @@ import subprocess
 import time
 import unittest
 
-from support import EXAMPLES, HEAD, LIGHTING, PROGRAM, SANCUS, Room, needs_program, program, sancus, side_by_side, whole_examples
+from support import EXAMPLES, HEAD, LIGHTING, PROGRAM, SANCUS, Room, needs_program, program, sancus, one_by_one, whole_examples
 
 TAKES_FILES = ("run", "drive", "check", "explain", "snap", "asm 0", "dis 0", "schedule", "marks", "view", "vars {} eye 1", "steps {} 1", "why {} {} 1", "hex put a", "hex image", "hex convert")
 
@@ -25,7 +25,7 @@ class Files(Room):
     def test_no_traceback(self):
         fake = self.fake("fault deployment D3 -", 1)
         calls = [(words, kind, file) for words in TAKES_FILES for kind, file in self.kinds().items()]
-        for (words, kind, _), ran in zip(calls, side_by_side(lambda it: sancus(*call(it[0], it[2]), program=fake, cwd=self.room), calls)):
+        for (words, kind, _), ran in zip(calls, one_by_one(lambda it: sancus(*call(it[0], it[2]), program=fake, cwd=self.room), calls)):
             with self.subTest(words=words, kind=kind):
                 self.assertNotIn("Traceback", ran.said)
                 self.assertNotIn("mistake of the front end", ran.said)
@@ -151,7 +151,7 @@ class BothWays(unittest.TestCase):
             own = sancus(word, file) if kind == "file" else sancus(word, text=text)
             return own, program(word, text=text)
 
-        for it, (own, wanted) in zip(calls, side_by_side(both, calls)):
+        for it, (own, wanted) in zip(calls, one_by_one(both, calls)):
             with self.subTest(call=it):
                 self.assertEqual((own.status, own.out), (wanted.status, wanted.out))
 

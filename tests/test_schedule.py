@@ -2,7 +2,7 @@
 
 import unittest
 
-from support import HEAD, LIGHTING, Room, needs_program, program, sancus, side_by_side
+from support import HEAD, LIGHTING, Room, needs_program, program, sancus, one_by_one
 
 DEPLOYMENT = HEAD.decode() + "%%\n"
 READING = "deploy all\nsample eye 120\ncarry eye logic\ncarry logic lamp\n"
@@ -131,7 +131,7 @@ class Schedule(Room):
         def tried(case):
             return written("deploy all\n" + case[0] + "\n" if case[0] != "deploy all" else "deploy all\ndeploy all\n", deployment=FAN_OUT)
 
-        for (lines, words), ran in zip(self.MISTAKES, side_by_side(tried, self.MISTAKES)):
+        for (lines, words), ran in zip(self.MISTAKES, one_by_one(tried, self.MISTAKES)):
             with self.subTest(lines):
                 self.assertEqual((ran.status, ran.out), (122, b""), ran.said)
                 self.assertIn(f"line {FAN_OUT.count(chr(10)) + 2 + lines.count(chr(10))}: ", ran.said)
