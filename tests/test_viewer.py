@@ -355,7 +355,9 @@ class Viewer(unittest.TestCase):
                 found = self.browser.value(split)
                 self.show({"input": text, "output": (b"\n" + lines).partition(b"\n%%\n")[2]})
                 self.browser.shoot(file.stem)
-                for one, other in zip(found, self.browser.value(split), strict=True):
+                exact = self.browser.value(split)
+                self.assertEqual(len(found), len(exact))
+                for one, other in zip(found, exact):
                     self.assertEqual(one[0], other[0])
                     self.assertIn(one[1], (None, other[1]))
 
