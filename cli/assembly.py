@@ -75,8 +75,8 @@ def near(word: str) -> str:
 def of_numbers(statement: str) -> Optional[str]:
     negative = re.search(r"#?-\s*([0-9]+)", statement)
     if negative:
-        value = -int(negative[1]) & MOST_WORD
-        return f"`{negative[0]}` is no number: they are 0 to 65,535, so write `{value}` (0x{value:04x})"
+        wrapped = -int(negative[1]) & MOST_WORD
+        return f"`{negative[0]}` is no number: they are 0 to 65,535, so write `{wrapped}` (0x{wrapped:04x})"
     for found in re.finditer(r"(?<![\w.])(0x[0-9A-Fa-f]+|[0-9][0-9A-Za-z]*)", statement):
         value = number(found[1])
         if value is None:

@@ -51,7 +51,7 @@ def items_of(lines: List[bytes]) -> List[Item]:
 
 def explain(deployment: str, trace: str, program: Program, voice: Voice) -> Explained:
     """Has the program judge a trace, and takes apart what it says."""
-    pieces = []
+    pieces: List[bytes] = []
     for part in explained(deployment, trace, voice):
         if pieces and not pieces[-1].endswith(b"\n"):
             pieces.append(b"\n")

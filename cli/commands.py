@@ -63,8 +63,12 @@ EVERYWHERE = (QUIET, PROGRAM, HELP)
 JSON = Option("--json", "prints a JSON object a line (docs/FORMATS.md)")
 NO_IMAGES = Option("--no-images", "leaves out the lines of images, nine tenths of the output")
 
-DEPLOYMENT = Argument("DEPLOYMENT", MAYBE, "the deployment, or a whole input with its line %%; absent or -, standard input")
-SCHEDULES = Argument("SCHEDULE", MANY, "schedules, one after the other; then of DEPLOYMENT the lines before %% are taken alone")
+DEPLOYMENT = Argument(
+    "DEPLOYMENT", MAYBE, "the deployment, or a whole input with its line %%; absent or -, standard input"
+)
+SCHEDULES = Argument(
+    "SCHEDULE", MANY, "schedules, one after the other; then of DEPLOYMENT the lines before %% are taken alone"
+)
 FILE = Argument("FILE", MAYBE, "absent or -, standard input")
 ADDRESS = Argument("ADDRESS", ONE, "a number from 0 to 65,535", False)
 INPUT = Argument("INPUT", ONE, "a deployment, a line %% and a schedule")
@@ -210,7 +214,12 @@ made of a line for people, and a fault of it is led back there.""",
         (
             Argument("DEPLOYMENT", ONE, "the deployment"),
             Argument("TRACE", ONE, "what `run` or `drive` wrote; -, standard input"),
-            Argument("ITEM", MAYBE, "an item's number from 1 after `trace`; absent, the last `out` or the illegal item", False),
+            Argument(
+                "ITEM",
+                MAYBE,
+                "an item's number from 1 after `trace`; absent, the last `out` or the illegal item",
+                False,
+            ),
         ),
         (),
         "sancus run examples/lighting.txt | sancus why examples/lighting.txt - 42",

@@ -163,7 +163,12 @@ class Teller:
             if error.line and error.column:
                 # (columns there are characters)
                 before = text.split("\n")[error.line - 1][: error.column - 1]
-                return [*lines, error.what, *self.shown(error.line, len(before.encode()) + 1), *guesses.of_toml(self.kept.line(error.line))]
+                return [
+                    *lines,
+                    error.what,
+                    *self.shown(error.line, len(before.encode()) + 1),
+                    *guesses.of_toml(self.kept.line(error.line)),
+                ]
             return [*lines, error.what]
         return lines
 
@@ -172,14 +177,21 @@ class Teller:
         lines: Lines = []
         for at, it in enumerate(split_lines(self.head), 1):
             if it.strip() in (b"%%", b"%", b"%%%") and it != b"%%":
-                lines += [*self.shown(at), "the mark is a line `%%` alone: no blank before or after it, and nothing else"]
+                lines += [
+                    *self.shown(at),
+                    "the mark is a line `%%` alone: no blank before or after it, and nothing else",
+                ]
         return lines[:4]
 
     def deployment(self, rule: str, place: List[str]) -> Lines:
         lines = [f"{rule}: {table_words()['deployment'][rule]}"]
         if rule == "D1":
             long = [at for at, it in enumerate(split_lines(self.head), 1) if len(it) > 4096]
-            return lines + (self.shown(long[0]) if long else []) + guesses.of_head(self.command, bytes(self.kept.first[:4096]))
+            return (
+                lines
+                + (self.shown(long[0]) if long else [])
+                + guesses.of_head(self.command, bytes(self.kept.first[:4096]))
+            )
         if rule == "D2":
             return lines + (self.near_mark() or guesses.without_mark(self.command, self.kept.place(1)[0]))
         if rule == "D3":
@@ -225,7 +237,11 @@ class Teller:
         for field, word in zip(fields, words[1:]):
             if not acts.suits(field, word.text, self.plan):
                 lines = self.shown(line, word.column, len(word.text.encode(errors="surrogateescape")))
-                known = self.plan.names(field.name.lower()) if self.plan and field.name in ("NODE", "MODULE", "DEVICE") else []
+                known = (
+                    self.plan.names(field.name.lower())
+                    if self.plan and field.name in ("NODE", "MODULE", "DEVICE")
+                    else []
+                )
                 return [*lines, f"here must stand {acts.told(field, self.plan)}{rules.near(word.text, known)}"]
         return self.shown(line)
 
@@ -252,7 +268,11 @@ class Teller:
         """Why the text of an `asm` line isn't assembled: what the program's `asm` says of its statements."""
         body = text_of(text[words[3].column - 1 :])
         statements = body.replace(";", "\n")
-        answer = self.ask(["asm", words[2].text], statements.encode(errors="surrogateescape")).decode(errors="replace").strip()
+        answer = (
+            self.ask(["asm", words[2].text], statements.encode(errors="surrogateescape"))
+            .decode(errors="replace")
+            .strip()
+        )
         rule, statement = assembly.broken_statement(statements, answer.split("\n")[-1])
         column = words[3].column
         at = text_of(text).find(statement, column - 1) if statement else -1
@@ -277,7 +297,15 @@ class Teller:
     def reading(self, rule: str, number: int) -> Lines:
         lines, line = [f"{rule}: {table_words()['reading'][rule]}"], self.mark + number
         words = words_at(self.kept.line(line) or b"")
-        sensors = [str(it.get("name")) for it in self.plan.devices if self.plan.driver_of(str(it.get("name"))) and it.get("kind") == "sensor"] if self.plan else []
+        sensors = (
+            [
+                str(it.get("name"))
+                for it in self.plan.devices
+                if self.plan.driver_of(str(it.get("name"))) and it.get("kind") == "sensor"
+            ]
+            if self.plan
+            else []
+        )
         if rule == "Q4" and words:
             more = f"sensors that a module drives: {' '.join(sensors) or 'none'}{rules.near(words[0].text, sensors)}"
             if words[0].text in ACTS:
@@ -318,7 +346,9 @@ class Teller:
         lines = self.bad_field(line, words, QUERIES[words[0].text], "")
         if len(lines) > 1 or words[0].text != "bytes":
             return lines
-        return self.shown(line, words[2].column, words[3].column + len(words[3].text) - words[2].column) + ["the bytes pass 0xffff"]
+        return self.shown(line, words[2].column, words[3].column + len(words[3].text) - words[2].column) + [
+            "the bytes pass 0xffff"
+        ]
 
     def second_mark(self) -> Optional[int]:
         """The second line `%%`; looked for from the end, since a long schedule isn't kept whole."""
@@ -341,7 +371,11 @@ class Teller:
 
     def illegal(self, number: int) -> Lines:
         """An item that the deployment's sources don't allow."""
-        return [table_words()["illegal"], *self.shown(self.trace_start() + number), "`sancus why FILE TRACE` says which condition fails"]
+        return [
+            table_words()["illegal"],
+            *self.shown(self.trace_start() + number),
+            "`sancus why FILE TRACE` says which condition fails",
+        ]
 
     def told(self, fault: str) -> Lines:
         """What a fault line means, in lines; none where it is no fault that is known here."""

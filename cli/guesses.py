@@ -92,7 +92,9 @@ def without_mark(command: str, name: str) -> List[str]:
     }.get(command)
     if not more:
         return []
-    return [f"`sancus {command} {file} {more[0]}` takes {more[1]} from a file of its own; `sancus check {file}` needs no mark"]
+    return [
+        f"`sancus {command} {file} {more[0]}` takes {more[1]} from a file of its own; `sancus check {file}` needs no mark"
+    ]
 
 
 def of_act(act: str, line: bytes, command: str, plan: Optional[Plan]) -> List[str]:
@@ -111,7 +113,9 @@ def of_act(act: str, line: bytes, command: str, plan: Optional[Plan]) -> List[st
     if act in ITEMS:
         return [f"`{act}` is an item of a trace, and no line of a schedule: the acts are {' '.join(ACTS)}"]
     if plan and plan.named("device", act):
-        return ["this looks like a reading: `sancus drive` takes those, and `sense DEVICE VALUE` is the line of a schedule"]
+        return [
+            "this looks like a reading: `sancus drive` takes those, and `sense DEVICE VALUE` is the line of a schedule"
+        ]
     return [f"the acts: {' '.join(ACTS)}{near(act, list(ACTS))}"]
 
 

@@ -213,7 +213,9 @@ def put(context: Context, given: Given, node: str, file: str) -> None:
         raise Bad("the file says no entry: write `set NODE pc ADDRESS` yourself")
     lines = [f"# {os.path.basename(file)}: {sum(len(it.body) for it in code.pieces)} bytes"]
     for it in code.pieces:
-        lines += [f"put {node} 0x{it.at + at:04x} {it.body[at : at + PIECE].hex()}" for at in range(0, len(it.body), PIECE)]
+        lines += [
+            f"put {node} 0x{it.at + at:04x} {it.body[at : at + PIECE].hex()}" for at in range(0, len(it.body), PIECE)
+        ]
     print_lines(*lines, *([f"set {node} pc 0x{code.entry:04x}"] if given.has("pc") else []))
 
 

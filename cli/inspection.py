@@ -29,12 +29,17 @@ class Inspected:
     def line_number(self, word: str) -> int:
         value = number(word)
         if value is None or value > len(self.lines):
-            raise Ended(BAD_TEXT, f"{word} is no line of the schedule: it has {len(self.lines)}, counted from 1 after %%")
+            raise Ended(
+                BAD_TEXT, f"{word} is no line of the schedule: it has {len(self.lines)}, counted from 1 after %%"
+            )
         return value
 
     def module(self, name: str) -> str:
         if not self.plan.named("module", name):
-            raise Ended(BAD_TEXT, f"there is no module {name}{near(name, self.plan.names('module'))}: {' '.join(self.plan.names('module'))}")
+            raise Ended(
+                BAD_TEXT,
+                f"there is no module {name}{near(name, self.plan.names('module'))}: {' '.join(self.plan.names('module'))}",
+            )
         return name
 
 
@@ -62,4 +67,8 @@ def inspected(name: str, is_driven: bool, program: Program) -> Inspected:
 def broken(seen: Inspected, fault: str) -> Ended:
     """The schedule broke a rule on the way."""
     text = seen.head + b"%%\n" + "".join(f"{it}\n" for it in seen.lines).encode(errors="surrogateescape")
-    return Ended(BAD_TEXT, f"the schedule breaks off: {fault}", *Teller(kept_of(text, seen.name), "run", seen.program.ask).told(fault))
+    return Ended(
+        BAD_TEXT,
+        f"the schedule breaks off: {fault}",
+        *Teller(kept_of(text, seen.name), "run", seen.program.ask).told(fault),
+    )

@@ -135,7 +135,7 @@ class TraceReader:
                 return made
 
     def lines_of(self, text: bytes) -> bytes:
-        made = []
+        made: List[bytes] = []
         at = 0
         while at < len(text):
             if self.is_driven is False:

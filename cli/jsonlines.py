@@ -109,4 +109,3 @@ class ExplainSink(JsonSink):
         if words[0] in ("illegal", "forged"):
             return {"kind": words[0], "item": int(words[1])}
         return self.last(text, words)
-

@@ -421,9 +421,7 @@ def height(it: Expression) -> int:
 
 
 def block_size(block: List[Statement]) -> int:
-    return sum(
-        1 + sum(size(e) for e in expressions_of(it)) + sum(block_size(b) for b in blocks_of(it)) for it in block
-    )
+    return sum(1 + sum(size(e) for e in expressions_of(it)) + sum(block_size(b) for b in blocks_of(it)) for it in block)
 
 
 def nodes(module: Module) -> int:
@@ -435,7 +433,7 @@ def cells(module: Module) -> int:
 
 
 def cost(it: Expression) -> int:
-    own = {Element: 64}.get(type(it), 32)
+    own = 64 if isinstance(it, Element) else 32
     if isinstance(it, Combined) and it.sign == "*":
         own = 512
     return own + sum(cost(part) for part in parts_of(it))

@@ -104,7 +104,9 @@ KINDS = {
 
 def commit_of(top: Path) -> str:
     try:
-        ran = subprocess.run(["git", "-C", str(top), "describe", "--always", "--dirty", "--abbrev=12"], capture_output=True, text=True)
+        ran = subprocess.run(
+            ["git", "-C", str(top), "describe", "--always", "--dirty", "--abbrev=12"], capture_output=True, text=True
+        )
         return ran.stdout.strip() or "unknown"
     except OSError:
         return "unknown"
@@ -172,7 +174,11 @@ def taken_apart(call: Sequence[str]) -> Given:
     if "--help" in options or "-h" in options:
         return Given(BY_NAME["help"])
     if not left:
-        raise Usage("a command is missing" if not options else f"there is no option {options[0]}{commands.did_you_mean(options[0], [it.name for it in EVERYWHERE] + ['--version'])}")
+        raise Usage(
+            "a command is missing"
+            if not options
+            else f"there is no option {options[0]}{commands.did_you_mean(options[0], [it.name for it in EVERYWHERE] + ['--version'])}"
+        )
     return commands.parse(known_command(left[0]), [*options, *left[1:]])
 
 
@@ -231,6 +237,7 @@ def run(call: Sequence[str], top: Path) -> int:
     except Exception as error:  # noqa: BLE001 (a person is told in a line, and may ask for more)
         if os.environ.get("SANCUS_TRACEBACK"):
             raise
-        voice.must_say(f"a mistake of the front end itself: {type(error).__name__}: {error}; SANCUS_TRACEBACK=1 shows where")
+        voice.must_say(
+            f"a mistake of the front end itself: {type(error).__name__}: {error}; SANCUS_TRACEBACK=1 shows where"
+        )
         return NO_ANSWER
-

@@ -54,7 +54,9 @@ class Marker:
 
 
 def quoted(entry: Dict[str, object]) -> str:
-    pairs = ", ".join(f'{key} = "{value}"' if isinstance(value, str) else f"{key} = {value}" for key, value in entry.items())
+    pairs = ", ".join(
+        f'{key} = "{value}"' if isinstance(value, str) else f"{key} = {value}" for key, value in entry.items()
+    )
     return f"{{ {pairs} }}"
 
 

@@ -94,7 +94,9 @@ class Model:
     def idle(self, module: str) -> Present:
         found = self.standing(module)
         if found.owed:
-            raise Fails(f"{module} is still at {found.owed.what} (item {found.owed.item}): a `done` of it must come before")
+            raise Fails(
+                f"{module} is still at {found.owed.what} (item {found.owed.item}): a `done` of it must come before"
+            )
         return found
 
     def reacts(self, module: str, event: Optional[str], value: int, item: Item) -> None:
@@ -110,7 +112,9 @@ class Model:
                 pieces += self.send(module, output, it)
                 said.append(f"sends {output}({it})")
         handler = f"`on {event}({value})`" if event is not None else f"`sample({value})`"
-        present.owed = Owed(emits, pieces, item.number, f"{handler}, which {' and '.join(said) or 'sends and emits nothing'}")
+        present.owed = Owed(
+            emits, pieces, item.number, f"{handler}, which {' and '.join(said) or 'sends and emits nothing'}"
+        )
 
     def send(self, module: str, output: str, value: int) -> int:
         pieces = 0
@@ -236,7 +240,9 @@ def open_(model: Model, item: Item, made: Dict[str, Any]) -> None:
     if not found or found.boot != boot:
         raise Fails(f"the deployer made no key for {module} at boot {boot}: it wasn't attested at it")
     if not found.floors.get(connection, 0) <= epoch <= model.epochs.get(connection, 0):
-        raise Fails(f"the deployer made no key of epoch {epoch} for this end: {found.floors.get(connection, 0)} to {model.epochs.get(connection, 0)}")
+        raise Fails(
+            f"the deployer made no key of epoch {epoch} for this end: {found.floors.get(connection, 0)} to {model.epochs.get(connection, 0)}"
+        )
     view.epoch, view.next = epoch, 0
     present.owed = Owed([], 0, item.number, "opening its end")
 
@@ -252,7 +258,9 @@ def take(model: Model, item: Item, made: Dict[str, Any]) -> None:
         raise Fails(f"event {event} of {connection} was taken before, or a later one was: the next is {view.next}")
     words, sender = model.sent.get((connection, epoch), []), model.plan.sender(connection)
     if event >= len(words):
-        raise Fails(f"{sender} sent {len(words)} events over {connection} in epoch {epoch}, so there is no event {event}")
+        raise Fails(
+            f"{sender} sent {len(words)} events over {connection} in epoch {epoch}, so there is no event {event}"
+        )
     if words[event] != made["value"]:
         raise Fails(f"{sender} sent the value {words[event]} as event {event} of {connection}, and not {made['value']}")
     view.next = event + 1
@@ -267,7 +275,9 @@ def out(model: Model, _item: Item, made: Dict[str, Any]) -> None:
     if not owed.emits:
         raise Fails(f"{module} is at {owed.what} (item {owed.item}), and has nothing more to emit")
     if owed.emits[0] != made["value"]:
-        raise Fails(f"{module} is at {owed.what} (item {owed.item}): it emits {owed.emits[0]} now, and not {made['value']}")
+        raise Fails(
+            f"{module} is at {owed.what} (item {owed.item}): it emits {owed.emits[0]} now, and not {made['value']}"
+        )
     owed.emits.pop(0)
 
 
@@ -277,11 +287,15 @@ def done(model: Model, _item: Item, made: Dict[str, Any]) -> None:
     if status == 1:
         owed = present.owed
         if not owed:
-            raise Fails(f"status 1 says that {module} did what was asked, and no item shows what: an `open`, `vouch`, `take` or `read` of it is missing")
+            raise Fails(
+                f"status 1 says that {module} did what was asked, and no item shows what: an `open`, `vouch`, `take` or `read` of it is missing"
+            )
         if owed.emits:
             raise Fails(f"{module} is at {owed.what} (item {owed.item}), and emits {owed.emits[0]} before it is done")
         if owed.pieces != pieces:
-            raise Fails(f"{module} is at {owed.what} (item {owed.item}), which makes {owed.pieces} pieces over its open ends, and not {pieces}")
+            raise Fails(
+                f"{module} is at {owed.what} (item {owed.item}), which makes {owed.pieces} pieces over its open ends, and not {pieces}"
+            )
         present.owed = None
         return
     if not 2 <= status <= 8:
@@ -289,10 +303,17 @@ def done(model: Model, _item: Item, made: Dict[str, Any]) -> None:
     if pieces:
         raise Fails(f"with status {status} nothing is written, and here are {pieces} pieces")
     if present.owed:
-        raise Fails(f"{module} is at {present.owed.what} (item {present.owed.item}), so it can't be refused with status {status}")
+        raise Fails(
+            f"{module} is at {present.owed.what} (item {present.owed.item}), so it can't be refused with status {status}"
+        )
     device = str((model.plan.named("module", module) or {}).get("device"))
-    if status == 8 and ((model.plan.named("device", device) or {}).get("kind") != "sensor" or model.readings.get(device, Reading()).is_fresh):
-        raise Fails(f"status 8 says that the sensor has no new sample, and {device} has one, or {module} drives no sensor")
+    if status == 8 and (
+        (model.plan.named("device", device) or {}).get("kind") != "sensor"
+        or model.readings.get(device, Reading()).is_fresh
+    ):
+        raise Fails(
+            f"status 8 says that the sensor has no new sample, and {device} has one, or {module} drives no sensor"
+        )
 
 
 STEPS: Dict[str, Callable[[Model, Item, Dict[str, Any]], None]] = {
@@ -323,5 +344,3 @@ def reason(plan: Plan, items: List[Item], number: int) -> Optional[str]:
         except (KeyError, IndexError, ValueError, TypeError):
             return None
     return None
-
-

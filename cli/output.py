@@ -21,7 +21,9 @@ def write(data: bytes, fd: int = 1) -> None:
         except BrokenPipeError:
             raise Ended(WRITE_FAILED) from None
         except OSError as error:
-            raise Ended(WRITE_FAILED, f"standard output can't be written: {os.strerror(error.errno or errno.EIO)}") from None
+            raise Ended(
+                WRITE_FAILED, f"standard output can't be written: {os.strerror(error.errno or errno.EIO)}"
+            ) from None
 
 
 def print_lines(*lines: str) -> None:

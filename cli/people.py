@@ -39,7 +39,10 @@ def read_lines(files: List[str], context: Context) -> Lines:
     parts = joined(files, context.voice) if len(files) > 1 else [file_part(files[0])]
     kept, data = gathered(parts)
     if not data.has_mark:
-        raise Ended(BAD_TEXT, f"{files[0]} has no line %%, so there are no lines: `sancus schedule {files[0]} LINES` takes them from a file of their own")
+        raise Ended(
+            BAD_TEXT,
+            f"{files[0]} has no line %%, so there are no lines: `sancus schedule {files[0]} LINES` takes them from a file of their own",
+        )
     first = data.head.count(b"\n") + 1
     lines = [(place(kept, first + at), text_of(it)) for at, it in enumerate(data.schedule, 1)]
     return Lines(data.head, lines, kept)
@@ -112,5 +115,3 @@ def print_marked(context: Context, given: Given) -> int:
     write(b"".join(it + b"\n" for it in lines))
     context.voice.say(*Teller(kept, "run", context.program.ask).told(text_of(made.last or b"")))
     return made.status
-
-

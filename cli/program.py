@@ -170,7 +170,13 @@ class Program:
         return self.tried(ran, text)
 
     def pumped(
-        self, command: List[str], fd: Optional[int], parts: List[Part], kept: Kept, sink: Sink, messages: Optional[IO[Any]]
+        self,
+        command: List[str],
+        fd: Optional[int],
+        parts: List[Part],
+        kept: Kept,
+        sink: Sink,
+        messages: Optional[IO[Any]],
     ) -> Ran:
         folder = None if self.build().is_fast else str(self.builds.crate)
         try:

@@ -60,13 +60,19 @@ def duplicate(module: Module) -> Iterator[Broken]:
 def local_twice(module: Module, handler: Handler) -> Iterator[Broken]:
     taken = {handler.parameter}
     if module.named(handler.parameter):
-        yield Broken(handler.parameter_at, f"the parameter `{handler.parameter}` has a declared name", len(handler.parameter))
+        yield Broken(
+            handler.parameter_at, f"the parameter `{handler.parameter}` has a declared name", len(handler.parameter)
+        )
     for it in walk(handler.body):
         if isinstance(it, Let):
             if module.named(it.name):
                 yield Broken(it.at, f"the local `{it.name}` has a declared name", len(it.name))
             elif it.name in taken:
-                yield Broken(it.at, f"the handler has a local `{it.name}` already; write `{it.name} = ..` for a new value", len(it.name))
+                yield Broken(
+                    it.at,
+                    f"the handler has a local `{it.name}` already; write `{it.name} = ..` for a new value",
+                    len(it.name),
+                )
             taken.add(it.name)
 
 
@@ -144,7 +150,9 @@ def wrong_kind(module: Module) -> Iterator[Broken]:
             kind = "local" if use.is_local else found.kind if found else use.wanted
             if kind != use.wanted and not (use.is_local and use.wanted == "var"):
                 kind = {"var": "variable"}.get(kind, kind)
-                yield Broken(use.at, f"`{use.name}` is {a(kind)}, and is used as {SAID[use.wanted]} here", len(use.name))
+                yield Broken(
+                    use.at, f"`{use.name}` is {a(kind)}, and is used as {SAID[use.wanted]} here", len(use.name)
+                )
         if handler.input is None and not any(it.kind == "sensor" for it in module.declared):
             yield Broken(handler.at, "there is a `sample` handler, and no line `sensor;`", 6)
         for it in walk(handler.body):
@@ -157,7 +165,9 @@ def depth(module: Module) -> Iterator[Broken]:
         for it in block:
             for expression in language.expressions_of(it):
                 if language.height(expression) > 32:
-                    yield Broken(it.at, f"the expression here has height {language.height(expression)}, and at most 32 may be")
+                    yield Broken(
+                        it.at, f"the expression here has height {language.height(expression)}, and at most 32 may be"
+                    )
             if language.blocks_of(it) and level == 15:
                 yield Broken(it.at, "the block here stands in more than 15 others")
             for inner in language.blocks_of(it):
@@ -171,7 +181,11 @@ def locals_(module: Module) -> Iterator[Broken]:
     for handler in module.handlers:
         lets = [it for it in walk(handler.body) if isinstance(it, Let)]
         if len(lets) > 15:
-            yield Broken(lets[15].at, f"the handler {handler_name(handler)} has {len(lets) + 1} locals with its parameter; this is the 17th", len(lets[15].name))
+            yield Broken(
+                lets[15].at,
+                f"the handler {handler_name(handler)} has {len(lets) + 1} locals with its parameter; this is the 17th",
+                len(lets[15].name),
+            )
 
 
 def repeat(module: Module) -> Iterator[Broken]:
@@ -184,14 +198,19 @@ def repeat(module: Module) -> Iterator[Broken]:
 def packets(module: Module) -> Iterator[Broken]:
     for it in module.handlers:
         if language.sends(it.body) > 16:
-            yield Broken(it.at, f"the handler {handler_name(it)} can send {language.sends(it.body)} times, and at most 16 may be")
+            yield Broken(
+                it.at, f"the handler {handler_name(it)} can send {language.sends(it.body)} times, and at most 16 may be"
+            )
 
 
 def too_costly(module: Module) -> Iterator[Broken]:
     for it in module.handlers:
         total = 64 + language.block_cost(it.body)
         if total > 262_144:
-            yield Broken(it.at, f"the handler {handler_name(it)} costs {total:,}, and at most 262,144 may be; a `repeat` counts its block as often as it runs")
+            yield Broken(
+                it.at,
+                f"the handler {handler_name(it)} costs {total:,}, and at most 262,144 may be; a `repeat` counts its block as often as it runs",
+            )
 
 
 def too_many(module: Module) -> Iterator[Broken]:

@@ -17,7 +17,7 @@ from cli.say import text_of
 from cli.session import Stopped, snapped
 from cli.sinks import NoImages, ScheduleOnly, TraceOnly
 from cli.status import WITH_A_FAULT
-from cli.texts import Input, Kept, Origin, Part, can_be_read, file_part, find_mark, is_regular, open_file, read_all
+from cli.texts import Input, Kept, Origin, Part, can_be_read, file_part, find_mark, is_regular, open_file
 from cli.commands import Given, Usage
 
 
@@ -244,4 +244,3 @@ def gathered(parts: List[Part]) -> Tuple[Kept, Input]:
             kept.add(piece)
             pieces.append(piece)
     return kept, Input(b"".join(pieces))
-

@@ -133,7 +133,9 @@ class Writer:
             return word
         if word not in self.state.named:
             known = sorted(self.state.named)
-            raise Mistake(f"no packet is named {word}{near(word, known)}; the names so far: {' '.join(known) or 'none'}")
+            raise Mistake(
+                f"no packet is named {word}{near(word, known)}; the names so far: {' '.join(known) or 'none'}"
+            )
         return str(self.state.named[word])
 
     def new_packet(self, items: List[Item], what: str, *names: str) -> str:
@@ -168,7 +170,9 @@ class Writer:
         for name in modules:
             node = self.module(name)
             if self.state.standing.get(name):
-                raise Mistake(f"{name} stands already, since boot {self.state.boot(node)} of {node}: `reset {node}` first, or call it as it is")
+                raise Mistake(
+                    f"{name} stands already, since boot {self.state.boot(node)} of {node}: `reset {node}` first, or call it as it is"
+                )
         for name in modules:
             items = self.put("load", name)
             if not self.state.standing.get(name):
@@ -181,11 +185,15 @@ class Writer:
         node = self.module(name)
         ask = self.new_packet(self.put("ask", name), f"asking {name}", f"ask.{name}")
         self.must_be_done(self.hand(ask, name, ATTEST), name, f"the attestation of {name}")
-        answer = self.new_packet(self.put("take", node, self.windows.outside, str(ANSWER)), "taking the answer", f"answer.{name}")
+        answer = self.new_packet(
+            self.put("take", node, self.windows.outside, str(ANSWER)), "taking the answer", f"answer.{name}"
+        )
         was_attested = name in self.state.attested
         items = self.put("answer", name, str(self.state.boot(node)), answer)
         if not any(it.kind == "attested" for it in items):
-            raise Mistake(f"the deployer refuses {name}'s answer, perhaps since it was attested at this boot: {self.told(items)}")
+            raise Mistake(
+                f"the deployer refuses {name}'s answer, perhaps since it was attested at this boot: {self.told(items)}"
+            )
         self.hand_keys(self.keys(name, was_attested, items))
 
     def keys(self, name: str, was_attested: bool, items: List[Item]) -> List[Tuple[End, int]]:
@@ -194,7 +202,11 @@ class Writer:
         if was_attested:
             # Renewed connections get new keys at their other ends too, in modules that were attested.
             own = {it.connection for it in ends}
-            ends = ends + [it for it in self.plan.all_ends() if it.module != name and it.connection in own and it.module in self.state.attested]
+            ends = ends + [
+                it
+                for it in self.plan.all_ends()
+                if it.module != name and it.connection in own and it.module in self.state.attested
+            ]
         packets = [it.fields()["packet"] for it in items if it.kind == "packet"]
         if len(packets) != len(ends):
             raise Mistake(f"{len(ends)} set-key packets are due, and the deployer made {len(packets)}")
@@ -207,7 +219,9 @@ class Writer:
             # (a module that was attested at an earlier boot of its node is gone, and so is its end)
             is_here = self.state.standing.get(end.module)
             if is_here and self.state.attested.get(end.module) == self.state.boot(self.plan.node_of(end.module)):
-                self.must_be_done(self.hand(str(packet), end.module, SET_KEY), end.module, f"opening {end.connection} in {end.module}")
+                self.must_be_done(
+                    self.hand(str(packet), end.module, SET_KEY), end.module, f"opening {end.connection} in {end.module}"
+                )
 
     def sample(self, name: str, value: str) -> None:
         self.module(name)
@@ -225,7 +239,11 @@ class Writer:
     def must_stand(self, name: str) -> None:
         if not self.state.standing.get(name):
             node = self.plan.node_of(name)
-            again = f" any more: {node} was reset {self.state.boot(node)} times, and `deploy {name}` renews it" if self.state.boot(node) else f" yet: `deploy {name}` first"
+            again = (
+                f" any more: {node} was reset {self.state.boot(node)} times, and `deploy {name}` renews it"
+                if self.state.boot(node)
+                else f" yet: `deploy {name}` first"
+            )
             raise Mistake(f"{name} doesn't stand on {node}{again}")
 
     def tell_status(self, items: List[Item], name: str) -> None:
@@ -233,7 +251,9 @@ class Writer:
         for it in items:
             made = it.fields()
             if it.kind == "done" and made["status"] != 1:
-                self.note(f"{name} answers with status {made['status']}: {table_words()['statuses'][str(made['status'])][1]}")
+                self.note(
+                    f"{name} answers with status {made['status']}: {table_words()['statuses'][str(made['status'])][1]}"
+                )
             elif it.kind in ("reset", "busy", "budget"):
                 self.note(f"`{it.text}`: {say(it, self.plan)}")
 
@@ -245,7 +265,9 @@ class Writer:
         between = self.plan.between(sender, receiver)
         if not between:
             to = sorted({self.plan.receiver(it.connection) for it in self.plan.ends(sender) if it.side == "from"})
-            raise Mistake(f"no connection leads from {sender} to {receiver}; {sender} sends to: {' '.join(to) or 'nobody'}")
+            raise Mistake(
+                f"no connection leads from {sender} to {receiver}; {sender} sends to: {' '.join(to) or 'nobody'}"
+            )
         piece = self.find(sender, receiver, between, which)
         self.state.calls[sender].carried.append((piece.connection, piece.epoch, piece.number))
         taken = self.put("take", node, f"0x{piece.at:x}", str(EVENT))
@@ -259,7 +281,9 @@ class Writer:
         if not call:
             raise Mistake(f"{sender} wasn't called since it was loaded, so it sent nothing")
         if call.window is None:
-            raise Mistake(f"{sender} was called by other code, and not by a line `call`: `take` its piece where that put it")
+            raise Mistake(
+                f"{sender} was called by other code, and not by a line `call`: `take` its piece where that put it"
+            )
         if not call.pieces:
             raise Mistake(f"{sender} sent nothing at its last call")
         pieces = self.pieces(sender, call)
@@ -273,7 +297,9 @@ class Writer:
         if left:
             return left[0]
         if found:
-            raise Mistake(f"what {sender} sent to {receiver} at its last call was carried; `give event.{sender}.{receiver} NODE` gives it again")
+            raise Mistake(
+                f"what {sender} sent to {receiver} at its last call was carried; `give event.{sender}.{receiver} NODE` gives it again"
+            )
         raise Mistake(self.nothing_for(sender, receiver, wanted, pieces))
 
     def nothing_for(self, sender: str, receiver: str, wanted: List[str], pieces: List[Piece]) -> str:
@@ -281,7 +307,10 @@ class Writer:
         closed = [it for it in wanted if it not in opened]
         if closed:
             return f"{sender} has no key for {' '.join(closed)} yet, so it sent nothing to {receiver}: `deploy` both"
-        there = ", ".join(f"{it.connection} to {self.plan.receiver(it.connection)}" for it in pieces) or "nothing of its own, since other pieces were written there"
+        there = (
+            ", ".join(f"{it.connection} to {self.plan.receiver(it.connection)}" for it in pieces)
+            or "nothing of its own, since other pieces were written there"
+        )
         return f"no event for {receiver} is in the window: there is {there}"
 
     def by_place(self, pieces: List[Piece], place: int, call: Call, receiver: str) -> Piece:
@@ -292,7 +321,9 @@ class Writer:
         if not found:
             raise Mistake(f"piece {place} isn't there any more: other pieces were written over it")
         if self.plan.receiver(found.connection) != receiver:
-            raise Mistake(f"piece {place} is for {self.plan.receiver(found.connection)}, by {found.connection}, and not for {receiver}")
+            raise Mistake(
+                f"piece {place} is for {self.plan.receiver(found.connection)}, by {found.connection}, and not for {receiver}"
+            )
         return found
 
     def pieces(self, sender: str, call: Call) -> List[Piece]:
@@ -305,7 +336,9 @@ class Writer:
             connection, epoch = next(iter(opened.items()))
             return [Piece(call.window, connection, epoch, 0)]
         places = [call.window + EVENT * it for it in range(call.pieces)]
-        answers = snapped(self.program, self.head, self.session.lines, [f"bytes {node} 0x{at:x} 6 {now}" for at in places])
+        answers = snapped(
+            self.program, self.head, self.session.lines, [f"bytes {node} 0x{at:x} 6 {now}" for at in places]
+        )
         found = []
         for at, answer in zip(places, answers):
             data = bytes.fromhex(answer.split(" ")[-1])

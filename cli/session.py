@@ -96,7 +96,9 @@ class Session:
 def start(program: Program, head: bytes, plan: Plan) -> Session:
     """A run of a deployment whose schedule is still to come."""
     if not program.build().is_fast:
-        raise Ended(NO_ANSWER, "this runs the program line by line, and needs a build that stands: `./sancus build` makes one")
+        raise Ended(
+            NO_ANSWER, "this runs the program line by line, and needs a build that stands: `./sancus build` makes one"
+        )
     marker = marker_of(head, plan)
     answer = program.ask(["check"], head + b"%%\n").decode(errors="replace").strip() if marker.is_added else "end"
     if answer != "end":
@@ -118,7 +120,11 @@ def snapped(program: Program, head: bytes, lines: List[str], queries: List[str])
     schedule = "".join(f"{it}\n" for it in lines).encode(errors="surrogateescape")
     for at in range(0, len(queries), 64):
         some = "".join(f"{it}\n" for it in queries[at : at + 64]).encode()
-        answer = program.ask(["snap"], head + b"%%\n" + schedule + b"%%\n" + some).decode(errors="surrogateescape").split("\n")
+        answer = (
+            program.ask(["snap"], head + b"%%\n" + schedule + b"%%\n" + some)
+            .decode(errors="surrogateescape")
+            .split("\n")
+        )
         last: Optional[str] = answer[-2] if len(answer) > 1 else None
         if last != "end":
             raise Stopped(last or "")

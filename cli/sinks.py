@@ -97,7 +97,12 @@ class TraceOnly(Lines):
     has_begun: bool = False
 
     def line(self, line: bytes) -> bytes:
-        if line.startswith(b"image ") or line.startswith(b"fault deployment") or line == b"fault read" and not self.has_begun:
+        if (
+            line.startswith(b"image ")
+            or line.startswith(b"fault deployment")
+            or line == b"fault read"
+            and not self.has_begun
+        ):
             return line + b"\n"
         begin = b"" if self.has_begun else b"trace\n"
         self.has_begun = True

@@ -50,11 +50,19 @@ def parts_of(seen: Inspected, line: str) -> Parts:
         return Parts(words[1], is_whole=True)
     if act == "call":
         node, entry = seen.plan.node_of(words[1]), seen.plan.named("module", words[1]) or {}
-        sets = [("r12", words[2]), ("r13", words[3]), ("r14", words[4]), ("r15", "0"), ("pc", f"0x{entry.get('text'):x}")]
+        sets = [
+            ("r12", words[2]),
+            ("r13", words[3]),
+            ("r14", words[4]),
+            ("r15", "0"),
+            ("pc", f"0x{entry.get('text'):x}"),
+        ]
         return Parts(node, [f"set {node} {name} {value}" for name, value in sets], is_whole=True)
     if act == "load":
         return Parts(seen.plan.node_of(words[1]), most=1)
-    return Parts("", note="the line executes no instruction" + (": an interrupt is no instruction" if act == "irq" else ""))
+    return Parts(
+        "", note="the line executes no instruction" + (": an interrupt is no instruction" if act == "irq" else "")
+    )
 
 
 def load_parts(seen: Inspected, module: str, image: str) -> List[str]:
@@ -207,5 +215,3 @@ def told(seen: Inspected, at: int) -> List[str]:
 
 def shortened(line: str) -> str:
     return line if len(line) < 80 else f"{line[:60]}.. ({len(line.split()[-1]) // 2} bytes)"
-
-

@@ -93,7 +93,9 @@ def ties_of_connection(entry: Entry, plan: Plan) -> List[str]:
         tree = plan.tree(module)
         found = tree.names(word) if tree else []
         if port not in found:
-            lines.append(f"`{key}`: the module {module} has no {word} `{port}`; its {word}s: {' '.join(found) or 'none'}{near(port, found)}")
+            lines.append(
+                f"`{key}`: the module {module} has no {word} `{port}`; its {word}s: {' '.join(found) or 'none'}{near(port, found)}"
+            )
     return lines
 
 
@@ -109,7 +111,9 @@ def ties(kind: str, index: int, plan: Plan) -> List[str]:
     if device and device["node"] != entry["node"]:
         lines.append(f"the device {device['name']} is on node {device['node']}, and the module on {entry['node']}")
     if device and not declared:
-        lines.append(f"its source declares no {device['kind']}, which its device {device['name']} is: a line `{device['kind']};`")
+        lines.append(
+            f"its source declares no {device['kind']}, which its device {device['name']} is: a line `{device['kind']};`"
+        )
     elif device and declared != device["kind"]:
         lines.append(f"its source declares {a(str(declared))}, and its device {device['name']} is {a(device['kind'])}")
     elif declared and not device:
@@ -190,7 +194,9 @@ def places(kind: str, index: int, plan: Plan) -> List[str]:
 
 def counts(plan: Plan) -> List[str]:
     """Which of the entries are too many."""
-    lines = [f"{len(plan.entries(it))} {it}s, and at most {MOST[it]}" for it in KINDS if len(plan.entries(it)) > MOST[it]]
+    lines = [
+        f"{len(plan.entries(it))} {it}s, and at most {MOST[it]}" for it in KINDS if len(plan.entries(it)) > MOST[it]
+    ]
     for node in plan.names("node"):
         there = sum(it.get("node") == node for it in plan.modules)
         lines += [f"{there} modules on node {node}, and at most 8"] if there > 8 else []

@@ -138,7 +138,10 @@ class Reader:
         if not found:
             raise self.fail("a value must stand here")
         self.at = found.end()
-        return int(found.group().replace("_", ""), 0 if found.group()[:1] == "0" and found.group()[1:2] in "xob" and found.group()[1:2] else 10)
+        return int(
+            found.group().replace("_", ""),
+            0 if found.group()[:1] == "0" and found.group()[1:2] in "xob" and found.group()[1:2] else 10,
+        )
 
     def rows(self) -> List[Any]:
         rows: List[Any] = []

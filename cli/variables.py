@@ -68,7 +68,9 @@ def end_lines(seen: Inspected, module: str, data: bytes) -> List[str]:
         way = "sends" if end.side == "from" else "takes"
         other = seen.plan.receiver(end.connection) if end.side == "from" else seen.plan.sender(end.connection)
         said = f"open in epoch {field >> 8}, next event {event}" if is_open else "not open"
-        lines.append(f"end {end.connection} {end.side}: {said} ({way} {'to' if end.side == 'from' else 'from'} {other})")
+        lines.append(
+            f"end {end.connection} {end.side}: {said} ({way} {'to' if end.side == 'from' else 'from'} {other})"
+        )
     return lines
 
 
@@ -111,4 +113,9 @@ def told(seen: Inspected, module: str, line: int) -> List[str]:
         raise broken(seen, str(error)) from None
     lines.append(f"module {module} on node {node}, boot {found.boot}: it stands{since}; {where}")
     slots = SLOT * len(seen.plan.ends(module))
-    return [*lines, *cell_lines(seen, module, data[slots:]), *end_lines(seen, module, data), pc_line(seen, node, registers)]
+    return [
+        *lines,
+        *cell_lines(seen, module, data[slots:]),
+        *end_lines(seen, module, data),
+        pc_line(seen, node, registers),
+    ]

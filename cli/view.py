@@ -8,6 +8,7 @@ from dataclasses import dataclass
 from pathlib import Path
 from typing import Dict, List
 
+from cli.acts import is_act
 from cli.context import Context
 from cli.deployment import plan_of
 from cli.faults import Teller
@@ -80,8 +81,8 @@ def of_readings(context: Context, text: bytes) -> Drawn:
 def are_readings(data: Input) -> bool:
     """Whether what stands after the mark are readings, and not lines of a schedule."""
     plan = plan_of(data.head)
-    words = next((it.split() for it in data.schedule if it.split() and not it.strip().startswith(b"#")), [])
-    return bool(plan and len(words) == 2 and plan.named("device", words[0].decode(errors="replace")))
+    first = next((it for it in data.schedule if is_act(it)), b"").split()
+    return bool(plan and len(first) == 2 and plan.named("device", first[0].decode(errors="replace")))
 
 
 def page_of(texts: Texts) -> str:

@@ -51,7 +51,10 @@ def found_program() -> str:
 
 PROGRAM = found_program()
 if not PROGRAM:
-    print("tests: there is no fast program (SANCUS_PROGRAM, or a build), so what needs one is passed over", file=sys.stderr)
+    print(
+        "tests: there is no fast program (SANCUS_PROGRAM, or a build), so what needs one is passed over",
+        file=sys.stderr,
+    )
 needs_program = unittest.skipUnless(PROGRAM, "there is no fast program")
 
 
@@ -75,7 +78,9 @@ def as_bytes(text: Text) -> bytes:
     return text.encode() if isinstance(text, str) else text
 
 
-def sancus(*words: Union[str, Path], text: Text = b"", program: Optional[str] = None, cwd: Optional[Path] = None) -> Result:
+def sancus(
+    *words: Union[str, Path], text: Text = b"", program: Optional[str] = None, cwd: Optional[Path] = None
+) -> Result:
     """A call of ./sancus, with a text on a pipe as its standard input. It is a fork of this process, which spares Python's start."""
     data = as_bytes(text)
     read, write = os.pipe()
@@ -91,7 +96,9 @@ def sancus(*words: Union[str, Path], text: Text = b"", program: Optional[str] = 
         return Result(os.waitstatus_to_exitcode(status), out.read(), said.read().decode(errors="replace"))
 
 
-def answer_as_child(words: List[str], streams: Tuple[int, int, int], write: int, program: str, cwd: Optional[Path]) -> NoReturn:
+def answer_as_child(
+    words: List[str], streams: Tuple[int, int, int], write: int, program: str, cwd: Optional[Path]
+) -> NoReturn:
     try:
         for to, fd in enumerate(streams):
             os.dup2(fd, to)

@@ -50,15 +50,23 @@ class Builds(Room):
         self.assertEqual(self.call("run", str(file))[1], "of a file\n")
 
     def test_a_fault_in_words(self):
-        self.rt('cat >/dev/null; echo "fault deployment D4 top"; echo "run=ended status=1 runners=1 proved=no" >&2; exit 1')
+        self.rt(
+            'cat >/dev/null; echo "fault deployment D4 top"; echo "run=ended status=1 runners=1 proved=no" >&2; exit 1'
+        )
         status, out, said = self.call("check", str(self.file("x", "secret = 3\n%%\n")))
         self.assertEqual((status, out), (1, "fault deployment D4 top\n"))
         self.assertIn("must be 32 hexadecimal digits", said)
 
     def test_no_answer(self):
         for script, words in (
-            ('echo "src/main.rt:31:21: error: no such type" >&2; echo "run=none proved=no" >&2; exit 1', "src/main.rt:31:21: error"),
-            ('echo "checked: fault: an index out of bounds" >&2; echo "run=fault proved=no" >&2; exit 1', "an index out of bounds"),
+            (
+                'echo "src/main.rt:31:21: error: no such type" >&2; echo "run=none proved=no" >&2; exit 1',
+                "src/main.rt:31:21: error",
+            ),
+            (
+                'echo "checked: fault: an index out of bounds" >&2; echo "run=fault proved=no" >&2; exit 1',
+                "an index out of bounds",
+            ),
             ('echo trace; echo "run=no-answer proved=no" >&2; exit 6', "was ended early, after 5 seconds"),
         ):
             self.rt(script)
@@ -73,7 +81,12 @@ class Builds(Room):
 
     def test_no_rt(self):
         (self.room / "bin" / "python3").symlink_to(shutil.which("python3"))
-        ran = subprocess.run([self.top / "sancus", "run"], capture_output=True, text=True, env={"PATH": str(self.room / "bin") + ":/usr/bin:/bin"})
+        ran = subprocess.run(
+            [self.top / "sancus", "run"],
+            capture_output=True,
+            text=True,
+            env={"PATH": str(self.room / "bin") + ":/usr/bin:/bin"},
+        )
         self.assertEqual(ran.returncode, 125)
         self.assertIn("isn't on the path", ran.stderr)
 
@@ -84,7 +97,9 @@ class Builds(Room):
         self.assertIn("needs a build that stands", said)
 
     def test_build(self):
-        self.rt('echo "fn sancus_run::main: proved"; mkdir -p out; printf "#!/bin/bash\\necho built\\n" >out/sancus_run; chmod +x out/sancus_run')
+        self.rt(
+            'echo "fn sancus_run::main: proved"; mkdir -p out; printf "#!/bin/bash\\necho built\\n" >out/sancus_run; chmod +x out/sancus_run'
+        )
         status, out, said = self.call("build", "--jobs", "1")
         self.assertEqual((status, out), (0, ""))
         for words in ("proved and built in ", "fn sancus_run::main: proved", "; 1 at a time"):
@@ -95,12 +110,16 @@ class Builds(Room):
         self.assertIn("crates/sancus_run/src/main.rt differs", self.call("run")[2])
 
     def test_build_one_by_one(self):
-        self.rt('if [[ "$1" == all ]]; then echo "$PWD: $*"; exit; fi\nmkdir -p out; printf "#!/bin/bash\\n" >out/sancus_run; chmod +x out/sancus_run')
+        self.rt(
+            'if [[ "$1" == all ]]; then echo "$PWD: $*"; exit; fi\nmkdir -p out; printf "#!/bin/bash\\n" >out/sancus_run; chmod +x out/sancus_run'
+        )
         self.assertIn(f"{self.top}/crates: all check --jobs 4", self.call("build", "--jobs", "4")[2])
 
     def test_build_says_how_far_it_is(self):
         work = "../../crates/sx_top/out/rlib"
-        self.rt(f'mkdir -p {work}; sleep 0.5; touch {work}/stamp; sleep 0.5; mkdir -p out; printf "#!/bin/bash\\n" >out/sancus_run; chmod +x out/sancus_run')
+        self.rt(
+            f'mkdir -p {work}; sleep 0.5; touch {work}/stamp; sleep 0.5; mkdir -p out; printf "#!/bin/bash\\n" >out/sancus_run; chmod +x out/sancus_run'
+        )
         said = self.call("build", "--jobs", "1", SANCUS_LOOK="0.1")[2]
         self.assertIn("0 of 1 crates below the program are proved, after 0 seconds; at work: sx_top", said)
         self.assertIn("1 of 1 crates below the program are proved", said)
@@ -117,7 +136,15 @@ class Sums(Room):
     def test_the_sum_is_that_of_release_sh(self):
         """By the definition of tools/release.sh: sums and names, in the order of the names' bytes."""
         (self.room / "crates" / "b" / "out").mkdir(parents=True)
-        for name in ("crates.txt", "HANDLES", "crates/b/x.rt", "crates/b/B.antt", "crates/b/out/x.rt", "crates/a.rt", "crates/b/x.txt"):
+        for name in (
+            "crates.txt",
+            "HANDLES",
+            "crates/b/x.rt",
+            "crates/b/B.antt",
+            "crates/b/out/x.rt",
+            "crates/a.rt",
+            "crates/b/x.txt",
+        ):
             (self.room / name).write_text(name)
         sources = Sources(self.room)
         names = ["crates.txt", "HANDLES", "crates/a.rt", "crates/b/B.antt", "crates/b/x.rt"]

@@ -36,8 +36,16 @@ class Help(unittest.TestCase):
             self.assertEqual([it.split(":")[0] for it in ran.lines], ["sancus", "build", "program", "kit", "commit"])
 
     def test_man_page_and_completion_are_current(self):
-        self.assertEqual((TOP / "share" / "man" / "man1" / "sancus.1").read_text(), manual.man_page(), "sancus help --man > share/man/man1/sancus.1")
-        self.assertEqual((TOP / "share" / "bash-completion" / "sancus").read_text(), manual.completion(), "sancus help --completion > share/bash-completion/sancus")
+        self.assertEqual(
+            (TOP / "share" / "man" / "man1" / "sancus.1").read_text(),
+            manual.man_page(),
+            "sancus help --man > share/man/man1/sancus.1",
+        )
+        self.assertEqual(
+            (TOP / "share" / "bash-completion" / "sancus").read_text(),
+            manual.completion(),
+            "sancus help --completion > share/bash-completion/sancus",
+        )
         self.assertEqual(sancus("help", "--man").out.decode(), manual.man_page())
         self.assertEqual(sancus("help", "--completion").out.decode(), manual.completion())
 
@@ -59,7 +67,19 @@ class NoCommand(Room):
         self.says(sancus("drive", "--scedule"), "there is no option --scedule: did you mean `--schedule`?")
 
     def test_words_that_are_no_command(self):
-        for words in ("", "gen 0", "gen 8001", "gen", "asm 0x10000", "asm 1x", "dis", "check a b", "gen 1 2", "nothing", "run --nothing"):
+        for words in (
+            "",
+            "gen 0",
+            "gen 8001",
+            "gen",
+            "asm 0x10000",
+            "asm 1x",
+            "dis",
+            "check a b",
+            "gen 1 2",
+            "nothing",
+            "run --nothing",
+        ):
             with self.subTest(words):
                 ran = sancus(*words.split(), program="/bin/cat")
                 self.assertEqual((ran.status, ran.out), (2, b"fault usage\n"))

@@ -6,7 +6,8 @@ from support import EXAMPLES, HEAD, LIGHTING, Room, needs_program, program, sanc
 
 LIGHTING_FILE = EXAMPLES / "lighting.txt"
 ARRAYS = LIGHTING.replace(
-    b"var limit = 100;\non level(v) { if v > limit {", b"var limit = 100; array last[3]; var n = 7;\non level(v) { last[1] = v; n = n + 65530; limit = limit - 1; if v > limit {"
+    b"var limit = 100;\non level(v) { if v > limit {",
+    b"var limit = 100; array last[3]; var n = 7;\non level(v) { last[1] = v; n = n + 65530; limit = limit - 1; if v > limit {",
 )
 
 
@@ -61,7 +62,18 @@ class Steps(Room):
     def test_a_call(self):
         ran = sancus("steps", LIGHTING_FILE, "39")
         lines = ran.lines
-        self.assertEqual(lines[:6], ["line 39: call eye 3 0x300 0x400", "set a r12 3", "set a r13 0x300", "set a r14 0x400", "set a r15 0", "set a pc 0x4000"], ran.said)
+        self.assertEqual(
+            lines[:6],
+            [
+                "line 39: call eye 3 0x300 0x400",
+                "set a r12 3",
+                "set a r13 0x300",
+                "set a r14 0x400",
+                "set a r15 0",
+                "set a pc 0x4000",
+            ],
+            ran.said,
+        )
         self.assertEqual(lines[6].split()[:3], ["1", "0x4000", "eye"])
         self.assertEqual([it.strip() for it in lines if it.startswith("      ")], ["read eye 120", "done eye 1 1"])
         self.assertFalse([it for it in lines if "?" in it])
@@ -96,7 +108,10 @@ class Steps(Room):
         self.assertIn("executes no instruction", sancus("steps", LIGHTING_FILE, "1").out.decode())
 
     def test_busy(self):
-        text = LIGHTING + b"give 10 a 0x300\nset a r12 2\nset a r13 0x300\nset a r14 0x400\nset a r15 0\nset a pc 0x6000\nrun a 5\ncall eye 3 0x300 0x400\n"
+        text = (
+            LIGHTING
+            + b"give 10 a 0x300\nset a r12 2\nset a r13 0x300\nset a r14 0x400\nset a r15 0\nset a pc 0x6000\nrun a 5\ncall eye 3 0x300 0x400\n"
+        )
         self.assertIn("refused, since a module runs on a", sancus("steps", self.file("x", text), "53").out.decode())
 
 
@@ -131,7 +146,11 @@ class Why(Room):
         for old, new, words in (
             (b"out lamp 1", b"out lamp 2", "it emits 1 now, and not 2"),
             (b"take lamp down 0 1", b"take lamp down 0 2", "logic sent the value 1 as event 0 of down, and not 2"),
-            (b"take lamp down 0 1", b"take lamp down 1 1", "logic sent 1 events over down in epoch 0, so there is no event 1"),
+            (
+                b"take lamp down 0 1",
+                b"take lamp down 1 1",
+                "logic sent 1 events over down in epoch 0, so there is no event 1",
+            ),
             (b"read eye 120", b"read eye 121", "the sensor light has the value 120, and not 121"),
             (b"sense light 120\n", b"", "has no new sample"),
             (b"open lamp down to\ndone lamp 1 0\n", b"", "lamp's end of down isn't open"),

@@ -71,21 +71,28 @@ class Joined(Room):
     def test_explain(self):
         trace = self.file("t", b"trace\nend\n")
         self.assertEqual(self.given("explain", self.deployment, trace), HEAD + b"%%\ntrace\nend\n")
-        self.assertEqual(self.given("explain", EXAMPLES / "lighting.txt", "-", text=b"trace\nend\n"), HEAD + b"%%\ntrace\nend\n")
+        self.assertEqual(
+            self.given("explain", EXAMPLES / "lighting.txt", "-", text=b"trace\nend\n"), HEAD + b"%%\ntrace\nend\n"
+        )
 
     def test_explain_takes_what_drive_wrote(self):
         driven = b"image eye 00\n> load eye\nprotect a eye\n> ask eye\nask eye 0\nsteps 1\nend\n"
         wanted = HEAD + b"%%\nimage eye 00\ntrace\nprotect a eye\nask eye 0\nend\n"
         self.assertEqual(self.given("explain", self.deployment, self.file("d", driven)), wanted)
         self.assertEqual(self.given("explain", self.deployment, "-", text=driven), wanted)
-        self.assertEqual(self.given("explain", self.deployment, "-", text=b"steps 0\nend\n"), HEAD + b"%%\ntrace\nend\n")
+        self.assertEqual(
+            self.given("explain", self.deployment, "-", text=b"steps 0\nend\n"), HEAD + b"%%\ntrace\nend\n"
+        )
         long = b"x" * 300_000
         self.assertEqual(self.given("explain", self.deployment, "-", text=long), HEAD + b"%%\n" + long)
 
     def test_snap(self):
         queries = self.file("q", b"items 1\n")
         self.assertEqual(self.given("snap", self.deployment, self.schedule, queries), LIGHTING + b"%%\nitems 1\n")
-        self.assertEqual(self.given("snap", self.deployment, self.file("sq", b"%%\nreset a\n%%\nitems 1\n")), HEAD + b"%%\nreset a\n%%\nitems 1\n")
+        self.assertEqual(
+            self.given("snap", self.deployment, self.file("sq", b"%%\nreset a\n%%\nitems 1\n")),
+            HEAD + b"%%\nreset a\n%%\nitems 1\n",
+        )
 
     def test_names_with_spaces_and_other_folders(self):
         odd = self.file("a name.txt", LIGHTING)
@@ -99,7 +106,12 @@ class Joined(Room):
 class Streams(Room):
     def test_line_by_line_on_a_pipe(self):
         """The items of a line come before the next line is there."""
-        process = subprocess.Popen([SANCUS, "run"], stdin=subprocess.PIPE, stdout=subprocess.PIPE, env={**os.environ, "SANCUS_PROGRAM": PROGRAM})
+        process = subprocess.Popen(
+            [SANCUS, "run"],
+            stdin=subprocess.PIPE,
+            stdout=subprocess.PIPE,
+            env={**os.environ, "SANCUS_PROGRAM": PROGRAM},
+        )
         process.stdin.write(b"%%\nreset n\n")
         process.stdin.flush()
         self.assertEqual(process.stdout.readline(), b"trace\n")
@@ -111,7 +123,9 @@ class Streams(Room):
 
     def test_line_by_line_at_a_terminal(self):
         leader, follower = pty.openpty()
-        process = subprocess.Popen([SANCUS, "run"], stdin=follower, stdout=subprocess.PIPE, env={**os.environ, "SANCUS_PROGRAM": PROGRAM})
+        process = subprocess.Popen(
+            [SANCUS, "run"], stdin=follower, stdout=subprocess.PIPE, env={**os.environ, "SANCUS_PROGRAM": PROGRAM}
+        )
         os.write(leader, b"%%\nreset n\n")
         self.assertEqual(process.stdout.readline(), b"trace\n")
         self.assertEqual(process.stdout.readline(), b"reset n asked\n")
@@ -126,7 +140,9 @@ class Streams(Room):
         read, write = os.pipe()
         os.write(write, b"%%\nnothing\n" + b"# more\n" * 5000)
         os.close(write)
-        ran = subprocess.run([SANCUS, "run"], stdin=read, capture_output=True, env={**os.environ, "SANCUS_PROGRAM": PROGRAM})
+        ran = subprocess.run(
+            [SANCUS, "run"], stdin=read, capture_output=True, env={**os.environ, "SANCUS_PROGRAM": PROGRAM}
+        )
         self.assertEqual(ran.stdout, b"trace\nfault schedule S3 1\n")
         left = b""
         while select.select([read], [], [], 0)[0]:
@@ -147,14 +163,24 @@ class Streams(Room):
         self.assertEqual(places[0], places[1])
 
     def test_a_reader_that_ends(self):
-        ran = subprocess.run(["bash", "-c", f"set -o pipefail; '{SANCUS}' gen 2000 | head -n 1"], capture_output=True, env={**os.environ, "SANCUS_PROGRAM": PROGRAM})
+        ran = subprocess.run(
+            ["bash", "-c", f"set -o pipefail; '{SANCUS}' gen 2000 | head -n 1"],
+            capture_output=True,
+            env={**os.environ, "SANCUS_PROGRAM": PROGRAM},
+        )
         self.assertIn(ran.returncode, (0, 5))
         self.assertEqual(ran.stderr, b"")
 
     def test_interrupt(self):
         import signal
 
-        process = subprocess.Popen([SANCUS, "run"], stdin=subprocess.PIPE, stdout=subprocess.PIPE, stderr=subprocess.PIPE, env={**os.environ, "SANCUS_PROGRAM": PROGRAM})
+        process = subprocess.Popen(
+            [SANCUS, "run"],
+            stdin=subprocess.PIPE,
+            stdout=subprocess.PIPE,
+            stderr=subprocess.PIPE,
+            env={**os.environ, "SANCUS_PROGRAM": PROGRAM},
+        )
         process.stdin.write(b"%%\nreset n\n")
         process.stdin.flush()
         process.stdout.readline()

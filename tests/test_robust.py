@@ -6,9 +6,38 @@ import subprocess
 import time
 import unittest
 
-from support import EXAMPLES, HEAD, LIGHTING, PROGRAM, SANCUS, Room, needs_program, program, sancus, one_by_one, whole_examples
+from support import (
+    EXAMPLES,
+    HEAD,
+    LIGHTING,
+    PROGRAM,
+    SANCUS,
+    Room,
+    needs_program,
+    program,
+    sancus,
+    one_by_one,
+    whole_examples,
+)
 
-TAKES_FILES = ("run", "drive", "check", "explain", "snap", "asm 0", "dis 0", "schedule", "marks", "view", "vars {} eye 1", "steps {} 1", "why {} {} 1", "hex put a", "hex image", "hex convert")
+TAKES_FILES = (
+    "run",
+    "drive",
+    "check",
+    "explain",
+    "snap",
+    "asm 0",
+    "dis 0",
+    "schedule",
+    "marks",
+    "view",
+    "vars {} eye 1",
+    "steps {} 1",
+    "why {} {} 1",
+    "hex put a",
+    "hex image",
+    "hex convert",
+)
 
 
 def call(words, file):
@@ -20,12 +49,20 @@ class Files(Room):
     def kinds(self):
         closed = self.file("closed", b"x")
         closed.chmod(0)
-        return {"missing": self.room / "none", "folder": self.room, "empty name": "", "nul": self.file("nul", b"\0" * 5000), "binary": self.file("binary", bytes(range(256)) * 40)}
+        return {
+            "missing": self.room / "none",
+            "folder": self.room,
+            "empty name": "",
+            "nul": self.file("nul", b"\0" * 5000),
+            "binary": self.file("binary", bytes(range(256)) * 40),
+        }
 
     def test_no_traceback(self):
         fake = self.fake("fault deployment D3 -", 1)
         calls = [(words, kind, file) for words in TAKES_FILES for kind, file in self.kinds().items()]
-        for (words, kind, _), ran in zip(calls, one_by_one(lambda it: sancus(*call(it[0], it[2]), program=fake, cwd=self.room), calls)):
+        for (words, kind, _), ran in zip(
+            calls, one_by_one(lambda it: sancus(*call(it[0], it[2]), program=fake, cwd=self.room), calls)
+        ):
             with self.subTest(words=words, kind=kind):
                 self.assertNotIn("Traceback", ran.said)
                 self.assertNotIn("mistake of the front end", ran.said)
@@ -38,7 +75,13 @@ class Files(Room):
     def test_full_disk(self):
         for words in (["run", "examples/lighting.txt"], ["help"], ["version"], ["help", "--man"]):
             with open("/dev/full", "wb") as full:
-                ran = subprocess.run([SANCUS, *words], stdout=full, stderr=subprocess.PIPE, cwd=SANCUS.parent, env={**os.environ, "SANCUS_PROGRAM": self.fake()})
+                ran = subprocess.run(
+                    [SANCUS, *words],
+                    stdout=full,
+                    stderr=subprocess.PIPE,
+                    cwd=SANCUS.parent,
+                    env={**os.environ, "SANCUS_PROGRAM": self.fake()},
+                )
             self.assertEqual(ran.returncode, 5)
             self.assertIn(b"standard output can't be written: No space left", ran.stderr)
         ran = sancus("view", EXAMPLES / "lighting.txt", "--page", "/dev/full", program=self.fake())
@@ -47,9 +90,13 @@ class Files(Room):
     def test_closed_streams(self):
         env = {**os.environ, "SANCUS_PROGRAM": PROGRAM or self.fake()}
         for words in ("help", "run examples/lighting.txt"):
-            ran = subprocess.run(["bash", "-c", f"'{SANCUS}' {words} >&-"], cwd=SANCUS.parent, capture_output=True, env=env)
+            ran = subprocess.run(
+                ["bash", "-c", f"'{SANCUS}' {words} >&-"], cwd=SANCUS.parent, capture_output=True, env=env
+            )
             self.assertEqual((ran.returncode, ran.stdout), (5, b""))
-            ran = subprocess.run(["bash", "-c", f"'{SANCUS}' {words} 2>&-"], cwd=SANCUS.parent, capture_output=True, env=env)
+            ran = subprocess.run(
+                ["bash", "-c", f"'{SANCUS}' {words} 2>&-"], cwd=SANCUS.parent, capture_output=True, env=env
+            )
             self.assertEqual(ran.returncode, 0)
 
     def test_a_missing_program(self):
@@ -80,7 +127,12 @@ class Unreadable(Room):
     def test_standard_input_that_can_not_be_read(self):
         for how in ("< .", "<&-"):
             for word in ("run", "check", "snap", "asm 0", "dis 0"):
-                ran = subprocess.run(["bash", "-c", f"'{SANCUS}' {word} {how}"], cwd=self.room, capture_output=True, env={**os.environ, "SANCUS_PROGRAM": PROGRAM})
+                ran = subprocess.run(
+                    ["bash", "-c", f"'{SANCUS}' {word} {how}"],
+                    cwd=self.room,
+                    capture_output=True,
+                    env={**os.environ, "SANCUS_PROGRAM": PROGRAM},
+                )
                 self.assertEqual((ran.returncode, ran.stdout), (4, b"fault read\n"), (how, word, ran.stderr))
 
 
@@ -97,7 +149,12 @@ class Bounded(Room):
             command = [SANCUS, *words, *([path] if direct else [])]
             cat = None if direct else subprocess.Popen(["cat", path], stdout=subprocess.PIPE, stderr=subprocess.DEVNULL)
             measured = ["python3", "-c", MEASURE, *map(str, command)]
-            ran = subprocess.run(measured, stdin=cat.stdout if cat else subprocess.DEVNULL, capture_output=True, env={**os.environ, "SANCUS_PROGRAM": PROGRAM})
+            ran = subprocess.run(
+                measured,
+                stdin=cat.stdout if cat else subprocess.DEVNULL,
+                capture_output=True,
+                env={**os.environ, "SANCUS_PROGRAM": PROGRAM},
+            )
             took = time.monotonic() - before
             if cat:
                 cat.stdout.close()
@@ -142,7 +199,12 @@ class BothWays(unittest.TestCase):
 
     def test_examples(self):
         files = whole_examples()
-        calls = [(word, file, kind) for word in ("run", "drive", "check", "snap", "explain") for file in files for kind in ("file", "pipe")]
+        calls = [
+            (word, file, kind)
+            for word in ("run", "drive", "check", "snap", "explain")
+            for file in files
+            for kind in ("file", "pipe")
+        ]
         calls = [it for it in calls if it[2] == "file" or it[1].parent == EXAMPLES]
 
         def both(it):
@@ -156,7 +218,13 @@ class BothWays(unittest.TestCase):
                 self.assertEqual((own.status, own.out), (wanted.status, wanted.out))
 
     def test_texts(self):
-        for words, text in ((["asm", "0x4000"], b"mov #9, &0x1000\n"), (["dis", "0"], b"0343\n"), (["dis", "0"], b"034\n"), (["gen", "4"], b""), (["asm", "1"], b"nop\n")):
+        for words, text in (
+            (["asm", "0x4000"], b"mov #9, &0x1000\n"),
+            (["dis", "0"], b"0343\n"),
+            (["dis", "0"], b"034\n"),
+            (["gen", "4"], b""),
+            (["asm", "1"], b"nop\n"),
+        ):
             own, wanted = sancus(*words, text=text), program(*words, text=text)
             self.assertEqual((own.status, own.out), (wanted.status, wanted.out))
 

@@ -65,7 +65,9 @@ class Schedule(Room):
         out = sancus("schedule", head, lines).out.decode()
         self.assertEqual(acts(out), acts(LIGHTING.decode()))
         self.assertIn(f"#= {lines}:3 carry eye logic\n", out)
-        self.assertEqual(sancus("schedule", head, "-", text=READING).out.decode().replace("#= line ", f"#= {lines}:"), out)
+        self.assertEqual(
+            sancus("schedule", head, "-", text=READING).out.decode().replace("#= line ", f"#= {lines}:"), out
+        )
         self.says(sancus("schedule", head), "has no line %%")
 
     def test_windows_and_names(self):
@@ -73,17 +75,32 @@ class Schedule(Room):
         out = written(lines, "--lines").out.decode()
         self.assertIn("forge 0011\n# bad is packet 4\ngive 4 b 0x300\n", out)
         self.assertIn("call logic 2 0x500 0x600\ntake a 0x600 4\n", out)
-        out = written("deploy eye\ngive key.eye.up.from b 0x500\nask eye as who\ngive who a\nanswer eye answer.eye\n", "--lines").out.decode()
+        out = written(
+            "deploy eye\ngive key.eye.up.from b 0x500\nask eye as who\ngive who a\nanswer eye answer.eye\n", "--lines"
+        ).out.decode()
         self.assertIn("give 2 b 0x500\nask eye\n# who is packet 3\ngive 3 a 0x300\nanswer eye 0 1\n", out)
 
     def test_a_renewed_run(self):
         items = trace(written(RENEWED).out)
-        self.assertEqual([it for it in items if it.startswith(("attested", "out"))], ["attested eye 0", "attested logic 0", "attested lamp 0", "attested eye 1", "attested logic 1", "out lamp 1"])
+        self.assertEqual(
+            [it for it in items if it.startswith(("attested", "out"))],
+            [
+                "attested eye 0",
+                "attested logic 0",
+                "attested lamp 0",
+                "attested eye 1",
+                "attested logic 1",
+                "out lamp 1",
+            ],
+        )
         self.assertFalse([it for it in items if it.startswith(("skip", "busy", "denied"))])
 
     def test_resets_that_nobody_asked_for(self):
         """A jump into a section resets the node; then `deploy` renews at the boot that was shown."""
-        lines = READING + "asm a 0x800 mov #0x6010, pc\nset a pc 0x800\nrun a 2\ndeploy eye logic\nsample eye 130\ncarry eye logic\ncarry logic lamp\n"
+        lines = (
+            READING
+            + "asm a 0x800 mov #0x6010, pc\nset a pc 0x800\nrun a 2\ndeploy eye logic\nsample eye 130\ncarry eye logic\ncarry logic lamp\n"
+        )
         items = trace(written(lines).out)
         self.assertIn("reset a order", items)
         self.assertIn("attested logic 1", items)
@@ -93,8 +110,14 @@ class Schedule(Room):
     def test_fan_out(self):
         """A piece is found by its connection, in any order, and also where an end isn't open."""
         for lines, taken in (
-            ("deploy all\nsample eye 1\ncarry eye agg\ncarry eye vio\n", ["take agg to_agg 0 1", "take vio to_vio 0 1"]),
-            ("deploy all\nsample eye 1\ncarry eye agg again\ncarry eye agg\n", ["take agg again 0 1", "take agg to_agg 0 1"]),
+            (
+                "deploy all\nsample eye 1\ncarry eye agg\ncarry eye vio\n",
+                ["take agg to_agg 0 1", "take vio to_vio 0 1"],
+            ),
+            (
+                "deploy all\nsample eye 1\ncarry eye agg again\ncarry eye agg\n",
+                ["take agg again 0 1", "take agg to_agg 0 1"],
+            ),
             ("deploy all\nsample eye 1\ncarry eye agg\ncarry eye agg\n", ["take agg to_agg 0 1", "take agg again 0 1"]),
             ("deploy all\nsample eye 1\ncarry eye agg 2\n", ["take agg again 0 1"]),
             ("deploy eye agg\nsample eye 1\ncarry eye agg\n", ["take agg to_agg 0 1"]),
@@ -129,7 +152,10 @@ class Schedule(Room):
 
     def test_mistakes(self):
         def tried(case):
-            return written("deploy all\n" + case[0] + "\n" if case[0] != "deploy all" else "deploy all\ndeploy all\n", deployment=FAN_OUT)
+            return written(
+                "deploy all\n" + case[0] + "\n" if case[0] != "deploy all" else "deploy all\ndeploy all\n",
+                deployment=FAN_OUT,
+            )
 
         for (lines, words), ran in zip(self.MISTAKES, one_by_one(tried, self.MISTAKES)):
             with self.subTest(lines):
@@ -138,7 +164,10 @@ class Schedule(Room):
                 self.assertIn(words, ran.said)
 
     def test_what_did_nothing_is_noted(self):
-        ran = written("deploy all\nsample eye 1\ncarry eye vio\ngive event.eye.vio a\ncall vio 2\nsample eye 0\ntake a 0x400 24\npackets 3\nboots a 4\n", deployment=FAN_OUT)
+        ran = written(
+            "deploy all\nsample eye 1\ncarry eye vio\ngive event.eye.vio a\ncall vio 2\nsample eye 0\ntake a 0x400 24\npackets 3\nboots a 4\n",
+            deployment=FAN_OUT,
+        )
         self.assertEqual(ran.status, 0, ran.said)
         self.says(ran, "`packets` is no longer needed", "a is at boot 0")
 

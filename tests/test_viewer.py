@@ -99,7 +99,9 @@ class Browser:
     def milliseconds(self, code):
         """What this takes, with the layout after it."""
         timed = f"{code}; document.body.offsetHeight"
-        return self.value(f"(() => {{ const begun = performance.now(); {timed}; return performance.now() - begun; }})()")
+        return self.value(
+            f"(() => {{ const begun = performance.now(); {timed}; return performance.now() - begun; }})()"
+        )
 
     def open(self, file, part=""):
         self.call("Page.navigate", url="about:blank")
@@ -348,7 +350,9 @@ class Viewer(unittest.TestCase):
                 continue
             with self.subTest(file.name):
                 plain = program("run", text=text).out
-                lines = b"".join(it + b"\n" for it in marked_lines(Input(text), marked_run(Input(text), context().program)))
+                lines = b"".join(
+                    it + b"\n" for it in marked_lines(Input(text), marked_run(Input(text), context().program))
+                )
                 self.assertEqual(without_lines(lines), plain)
                 split = "page.run.rows.filter(row => row.kind === 'act').map(row => [row.line.text.trim(), row.line.isUnsure ? null : row.line.items.map(item => item.text)])"
                 self.show({"input": text, "output": plain})
@@ -382,7 +386,9 @@ class Viewer(unittest.TestCase):
         self.show(run_of(["put a 0x800 00", "run a 5", "put a 0x800 00", "sense light 3"], ["busy a", "busy a"]))
         self.assertEqual(self.texts("#notes div"), [])
         cells = self.texts(".row .cell")
-        self.assertEqual([it.replace("▾", "") for it in cells][-4:], ["3put a 0x800 00", "1busy a", "4sense light 3", "2busy a"])
+        self.assertEqual(
+            [it.replace("▾", "") for it in cells][-4:], ["3put a 0x800 00", "1busy a", "4sense light 3", "2busy a"]
+        )
 
     @needs_program
     def test_the_set_up_is_folded(self):
@@ -402,7 +408,9 @@ class Viewer(unittest.TestCase):
         folder = EXAMPLES / "parking"
         if not folder.is_dir():
             self.skipTest("there is no such example")
-        text = (folder / "parking.toml").read_bytes() + b"%%\n" + (folder / "day.txt").read_bytes().partition(b"%%\n")[2]
+        text = (
+            (folder / "parking.toml").read_bytes() + b"%%\n" + (folder / "day.txt").read_bytes().partition(b"%%\n")[2]
+        )
         self.show(of_readings(context(), text).texts)
         self.browser.shoot("parking")
         self.assertEqual(self.texts("#notes div"), [])
@@ -418,7 +426,9 @@ class Viewer(unittest.TestCase):
     def test_columns_are_hidden_and_moved(self):
         self.show(run_of(*readings(2)))
         wide, rows = (self.browser.value(it) for it in ("page.picture.columns.width", "page.run.shown.length"))
-        self.browser.value("document.querySelector('[data-id=\"module eye\"]').dispatchEvent(new MouseEvent('dblclick', {bubbles: true}))")
+        self.browser.value(
+            "document.querySelector('[data-id=\"module eye\"]').dispatchEvent(new MouseEvent('dblclick', {bubbles: true}))"
+        )
         self.assertLess(self.browser.value("page.picture.columns.width"), wide - 80)
         self.assertEqual(self.texts("#columns"), ["Show 1 hidden"])
         self.browser.shoot("hidden")
@@ -436,7 +446,18 @@ class Viewer(unittest.TestCase):
 
     def test_comments_of_a_schedule_for_people(self):
         first, items = readings(2)
-        lines = ["# --- 1. a reading", "#= x:4 sample eye 0", *first[:2], "#= x:5 carry eye logic", *first[2:5], "# p is packet 0", *first[5:8], "#= x:6 sample eye 37", *first[8:10], *first[10:]]
+        lines = [
+            "# --- 1. a reading",
+            "#= x:4 sample eye 0",
+            *first[:2],
+            "#= x:5 carry eye logic",
+            *first[2:5],
+            "# p is packet 0",
+            *first[5:8],
+            "#= x:6 sample eye 37",
+            *first[8:10],
+            *first[10:],
+        ]
         self.show(run_of(lines, items))
         self.assertEqual(self.browser.value("page.run.groups.map(it => it.title)"), ["--- 1. a reading"])
         self.show(run_of(lines[1:], items))
@@ -501,7 +522,11 @@ class Page(Room):
     @needs_program
     def test_misuse(self):
         page = self.room / "p.html"
-        for text, words in ((b"garbage\n", "D2"), (b"garbage\n%%\n", "isn't TOML"), (b"\0" * 1000, "there is nothing to draw")):
+        for text, words in (
+            (b"garbage\n", "D2"),
+            (b"garbage\n%%\n", "isn't TOML"),
+            (b"\0" * 1000, "there is nothing to draw"),
+        ):
             ran = sancus("view", self.file("x", text), "--page", page)
             self.assertEqual((ran.status, ran.out), (122, b""))
             self.says(ran, words)
