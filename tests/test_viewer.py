@@ -409,7 +409,7 @@ class Viewer(unittest.TestCase):
         if not folder.is_dir():
             self.skipTest("there is no such example")
         text = (
-            (folder / "parking.toml").read_bytes() + b"%%\n" + (folder / "day.txt").read_bytes().partition(b"%%\n")[2]
+            (folder / "parking.toml").read_bytes() + b"%%\n" + (folder / "day.readings").read_bytes().partition(b"%%\n")[2]
         )
         self.show(of_readings(context(), text).texts)
         self.browser.shoot("parking")
