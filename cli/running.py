@@ -3,7 +3,7 @@
 from __future__ import annotations
 
 import os
-from typing import List, Optional, Tuple
+from typing import Callable, List, Optional, Tuple
 
 from cli import images, warnings
 from cli.context import Context
@@ -16,8 +16,8 @@ from cli.program import Ran, Sink
 from cli.say import text_of
 from cli.session import Stopped, snapped
 from cli.sinks import NoImages, ScheduleOnly, TraceOnly
-from cli.status import WITH_A_FAULT
-from cli.texts import Input, Kept, Origin, Part, can_be_read, file_part, find_mark, is_regular, open_file
+from cli.status import NO_FILE, WITH_A_FAULT, Ended
+from cli.texts import MOST_HEAD, MOST_INPUT, Input, Kept, Origin, Part, can_be_read, file_part, find_mark, is_regular, open_file
 from cli.commands import Given, Usage
 
 
@@ -109,14 +109,23 @@ def warn_before(context: Context, given: Given, files: List[str]) -> None:
     os.close(fd)
 
 
+def words_of(words: Callable[[], List[str]]) -> List[str]:
+    """Words about an input, or none where finding them fails: an input may be as odd as it likes, and the program's answer stands."""
+    try:
+        return words()
+    except Ended:
+        raise
+    except Exception:  # noqa: BLE001
+        if os.environ.get("SANCUS_TRACEBACK"):
+            raise
+        return []
+
+
 def warn_of(context: Context, head: bytes) -> None:
-    plan = plan_of(head)
+    plan = plan_of(head) if len(head) < MOST_HEAD else None
     if plan:
-        try:
-            context.voice.say(*warnings.of_deployment(plan))
-        except (KeyError, AttributeError, TypeError):
-            # (the deployment breaks a rule, which the program says)
-            pass
+        known = plan
+        context.voice.say(*words_of(lambda: warnings.of_deployment(known)))
 
 
 def warn_after(context: Context, given: Given, ran: Ran) -> None:
@@ -167,7 +176,7 @@ def tell(context: Context, given: Given, ran: Ran) -> List[str]:
     if ran.status not in WITH_A_FAULT and not ran.last.startswith("fault read"):
         return []
     ask = context.program.ask if context.program.build().is_fast else (lambda _words, _text: b"")
-    return Teller(ran.kept, given.command.name, ask).told(ran.last)
+    return words_of(lambda: Teller(ran.kept, given.command.name, ask).told(ran.last))
 
 
 def answer(context: Context, given: Given) -> int:
@@ -228,7 +237,7 @@ def explain_in_words(context: Context, given: Given, files: List[str]) -> int:
 
 def gathered(parts: List[Part]) -> Tuple[Kept, Input]:
     """An input put together, as it is kept and whole."""
-    kept, pieces = Kept(), []
+    kept, pieces, size = Kept(), [], 0
     is_whole = True
     for part in parts:
         if not is_whole:
@@ -243,4 +252,7 @@ def gathered(parts: List[Part]) -> Tuple[Kept, Input]:
             is_whole = piece.endswith(b"\n")
             kept.add(piece)
             pieces.append(piece)
+            size += len(piece)
+            if size > MOST_INPUT:
+                raise Ended(NO_FILE, f"{part.name} is larger than any input that the program takes")
     return kept, Input(b"".join(pieces))

@@ -19,6 +19,8 @@ MOST_HEAD = 262_145
 # What is kept of the last that came. The program reads 4,096 bytes ahead, and a pipe holds as many.
 WINDOW = 256 * 1024
 PIECE = 4096
+# More bytes than any input has of which the program reads all.
+MOST_INPUT = 512 * 1024 * 1024
 MARK = b"%%"
 
 
@@ -188,7 +190,7 @@ def can_be_read(fd: int) -> bool:
     return True
 
 
-def read_all(name: str, most: int = 512 * 1024 * 1024) -> bytes:
+def read_all(name: str, most: int = MOST_INPUT) -> bytes:
     """All of a file, for the commands that need it whole; no more than the largest input that the program takes."""
     fd, pieces, size = open_file(name), [], 0
     while True:
