@@ -102,22 +102,27 @@ KINDS = {
 }
 
 
-def commit_of(top: Path) -> str:
+def said_by(*command: str) -> str:
+    """The first line that a command prints, or nothing."""
     try:
-        ran = subprocess.run(
-            ["git", "-C", str(top), "describe", "--always", "--dirty", "--abbrev=12"], capture_output=True, text=True
-        )
-        return ran.stdout.strip() or "unknown"
+        ran = subprocess.run(command, capture_output=True, text=True, errors="replace")
     except OSError:
-        return "unknown"
+        return ""
+    return ran.stdout.strip().partition("\n")[0] if ran.returncode == 0 else ""
+
+
+def commit_of(top: Path) -> str:
+    return said_by("git", "-C", str(top), "describe", "--always", "--dirty", "--abbrev=12") or "unknown"
 
 
 def kit_of(context: Context, chosen: Optional[Build]) -> str:
-    """The kit of a build, as the release's note names it."""
+    """The kit of a build: of the released one as its note names it, else the one that is here."""
     noted = context.builds.notes_of_release().get("kit", "")
-    if chosen and chosen.kind == "released" and noted:
+    if chosen and chosen.kind == "released":
         return noted
-    return f"{noted} (of the released build)" if noted else "unknown"
+    if chosen and chosen.kind in ("proved", "tried"):
+        return said_by("rt", "version") or "unknown"
+    return "unknown"
 
 
 def version(context: Context, _given: Given) -> int:
