@@ -155,6 +155,8 @@ ANSWERS: Dict[str, Callable[[Context, Given], int]] = {
 
 
 def known_command(name: str) -> Command:
+    if name not in BY_NAME and os.path.exists(name):
+        raise Usage(f"{name} is a file, and a command comes first: `sancus run {name}`")
     if name not in BY_NAME:
         raise Usage(f"there is no command `{name}`{commands.did_you_mean(name, list(BY_NAME))}")
     return BY_NAME[name]

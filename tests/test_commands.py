@@ -64,6 +64,7 @@ class NoCommand(Room):
             ran = sancus(word)
             self.assertEqual((ran.status, ran.out), (2, b"fault usage\n"))
             self.says(ran, f"did you mean `{meant}`?")
+        self.says(sancus(str(TOP / "README.md")), "a command comes first: `sancus run ")
         self.says(sancus("drive", "--scedule"), "there is no option --scedule: did you mean `--schedule`?")
 
     def test_words_that_are_no_command(self):
