@@ -1,4 +1,6 @@
-"""Finds words for an assembly text that isn't assembled: an unknown mnemonic, a number out of range, a form that isn't there."""
+"""Finds words for an assembly text that isn't assembled: an unknown mnemonic, a number out of range, a form that
+isn't there.
+"""
 
 from __future__ import annotations
 

@@ -51,7 +51,8 @@ def jobs_that_fit() -> int:
 
 @dataclass
 class Progress:
-    """How far a build is. rt removes the library of a crate before it proves the crate anew, and writes its stamp once it is proved."""
+    """How far a build is. rt removes the library of a crate before it proves the crate anew, and writes its stamp
+    once it is proved."""
 
     top: Path
     names: List[str]

@@ -1,7 +1,8 @@
-"""Which build of the program is started: by sums, never by the times of files, which change with each copy and can be set back.
+"""Which build of the program is started: by sums, never by the times of files, which change with each copy and can be
+set back.
 
-1. The proved build of this checkout, crates/sancus_run/out/sancus_run, where the stamp beside it names the sources that stand here and the
-   build itself.
+1. The proved build of this checkout, crates/sancus_run/out/sancus_run, where the stamp beside it names the sources
+   that stand here and the build itself.
 2. The released one, release/sancus_run, where its note, release/RELEASE, does, and it starts here.
 3. `rt try`: a build without its proof, made anew at each call.
 
@@ -59,7 +60,8 @@ class Build:
 
 @dataclass
 class Sources:
-    """The sources below a folder, and their sum. A sum that was worked out before is kept, by places, sizes and times of change."""
+    """The sources below a folder, and their sum. A sum that was worked out before is kept, by places, sizes and times
+    of change."""
 
     top: Path
 

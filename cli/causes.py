@@ -93,7 +93,8 @@ def chain(made: Explained, at: int) -> Iterator[str]:
 
 
 def of_module(made: Explained, at: int) -> List[int]:
-    """The last items of the module, or device, of an item, before it; and the event that it is about if it is a `take`."""
+    """The last items of the module, or device, of an item, before it; and the event that it is about if it is a
+    `take`."""
     fields = made.item(at).fields()
     key = next((it for it in ("module", "device", "node") if fields.get(it)), None)
     if not key:

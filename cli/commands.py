@@ -167,9 +167,9 @@ COMMANDS: Tuple[Command, ...] = (
   answer M P                 at the boot of M's node
   .. as NAME                 after `take`, `forge` and `ask`: a name for the packet, for `give` and `answer`
   windows IN OUT             other windows from here on (0x300 and 0x400 before)
-deploy and carry name their packets too: ask.M, answer.M, key.M.CONNECTION.from or .to, and event.M.N. The program runs as the
-lines are written, so packets, boots and pieces are those that it showed. A line `#= FILE:LINE TEXT` stands before what was
-made of a line for people, and a fault of it is led back there.""",
+deploy and carry name their packets too: ask.M, answer.M, key.M.CONNECTION.from or .to, and event.M.N. The program runs
+as the lines are written, so packets, boots and pieces are those that it showed. A line `#= FILE:LINE TEXT` comes before
+what was made of a line for people, and a fault of it is led back there.""",
     ),
     Command(
         "marks",

@@ -1,4 +1,6 @@
-"""A deployment as tables: what words about an input need of it. The program alone judges it; docs/FORMATS.md has the rules."""
+"""A deployment as tables: what words about an input need of it. The program alone judges it; docs/FORMATS.md has the
+rules.
+"""
 
 from __future__ import annotations
 

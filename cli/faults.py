@@ -28,7 +28,8 @@ def no_answer(_words: List[str], _text: bytes) -> bytes:
 
 @dataclass
 class Teller:
-    """Finds words for the faults of one input. `command` is what was called, and `ask` the program, for what it alone knows."""
+    """Finds words for the faults of one input. `command` is what was called, and `ask` the program, for what it alone
+    knows."""
 
     kept: Kept
     command: str = ""
@@ -99,7 +100,8 @@ class Teller:
         return what + (f", {self.place(line)}" if line else "")
 
     def source_place(self, index: int, line: int, column: int) -> Optional[Tuple[int, int]]:
-        """The line of the input, and the byte column in it, of a place in a module's source; None if that isn't found."""
+        """The line of the input, and the byte column in it, of a place in a module's source; None if that isn't
+        found."""
         modules = self.plan.modules if self.plan else []
         source = modules[index].get("source") if index < len(modules) else None
         if not isinstance(source, str) or not source:

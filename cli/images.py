@@ -1,4 +1,6 @@
-"""Lists images as code: a line `image MODULE BYTES` is taken as it stands, though it is longer than the lines and the code that `dis` takes."""
+"""Lists images as code: a line `image MODULE BYTES` is taken as it stands, though it is longer than the lines and the
+code that `dis` takes.
+"""
 
 from __future__ import annotations
 
@@ -56,7 +58,8 @@ def may_be(text: bytes) -> bool:
 
 
 def listing(program: Program, at: int, code: bytes) -> Optional[List[bytes]]:
-    """The listing of code, piece by piece, each from the instruction where the one before ended; None if the program refuses it."""
+    """The listing of code, piece by piece, each from the instruction where the one before ended; None if the program
+    refuses it."""
     if at % 2 or at + len(code) > 0x10000:
         return None
     lines: List[bytes] = []

@@ -108,7 +108,8 @@ def with_mark(name: str) -> Optional[List[Part]]:
 
 @dataclass
 class TraceReader:
-    """A trace as it is read: that of `run` as it is, and what `drive` wrote without its lines of the schedule and its count of steps."""
+    """A trace as it is read: that of `run` as it is, and what `drive` wrote without its lines of the schedule and its
+    count of steps."""
 
     part: Part
     voice: Voice

@@ -1,4 +1,5 @@
-"""Reads a module's source as docs/LANGUAGE.md has it: tokens, tree and sizes, and at a fault what could have stood there.
+"""Reads a module's source as docs/LANGUAGE.md has it: tokens, tree and sizes, and at a fault what could have stood
+there.
 
 The program alone judges a source. What stands here finds words for its answer.
 """

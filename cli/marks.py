@@ -1,8 +1,9 @@
 """Runs a schedule and tells which items each of its lines gave, exactly.
 
-The output of `run` doesn't say which line an item belongs to. A mark does: behind each line stands `answer M 0 4294967295`, an answer in a
-packet that can't be there. It changes nothing and gives exactly `denied M`, and no line but `answer` gives that item. If a deployment has
-no modules, one is added for the marks, on a node of its own where nothing is loaded. A schedule may have half as many lines as for `run`.
+The output of `run` doesn't say which line an item belongs to. A mark does: behind each line stands `answer M 0
+4294967295`, an answer in a packet that can't be there. It changes nothing and gives exactly `denied M`, and no line
+but `answer` gives that item. If a deployment has no modules, one is added for the marks, on a node of its own where
+nothing is loaded. A schedule may have half as many lines as for `run`.
 """
 
 from __future__ import annotations
@@ -72,7 +73,8 @@ def marker_of(head: bytes, plan: Plan) -> Marker:
 
 @dataclass
 class Marked:
-    """A run, line by line. `last` is its last line, with a fault's line as the schedule has it; none if the output broke off."""
+    """A run, line by line. `last` is its last line, with a fault's line as the schedule has it; none if the output
+    broke off."""
 
     images: List[bytes] = field(default_factory=list)
     # the number of each act's line in the schedule, with its items

@@ -1,4 +1,6 @@
-"""What a handler does at an event, by docs/LANGUAGE.md: for words about a trace, never in place of the program's own judgement."""
+"""What a handler does at an event, by docs/LANGUAGE.md: for words about a trace, never in place of the program's own
+judgement.
+"""
 
 from __future__ import annotations
 

@@ -1,4 +1,5 @@
-"""Why the sources don't allow an item: the conditions of docs/LANGUAGE.md and docs/PROTOCOL.md, item by item, in words.
+"""Why the sources don't allow an item: the conditions of docs/LANGUAGE.md and docs/PROTOCOL.md, item by item, in
+words.
 
 The program judges; this only finds the condition that fails at the item that the program calls illegal.
 """

@@ -1,4 +1,6 @@
-"""Starts the program: hands it its input as that comes, passes on what it writes as that comes, and keeps what words about the run need."""
+"""Starts the program: hands it its input as that comes, passes on what it writes as that comes, and keeps what words
+about the run need.
+"""
 
 from __future__ import annotations
 
@@ -58,7 +60,8 @@ class Collected(Sink):
 
 
 class Feeder:
-    """Hands parts to the program, a piece at a time, each when the one before was taken: so little more is read than the program reads."""
+    """Hands parts to the program, a piece at a time, each when the one before was taken: so little more is read than
+    the program reads."""
 
     def __init__(self, parts: List[Part], to: int, kept: Kept) -> None:
         self.parts, self.to, self.kept = list(parts), to, kept

@@ -1,4 +1,6 @@
-"""Where in a source a rule of docs/LANGUAGE.md is broken: the program names the rule, and this the name and its place."""
+"""Where in a source a rule of docs/LANGUAGE.md is broken: the program names the rule, and this the name and its
+place.
+"""
 
 from __future__ import annotations
 

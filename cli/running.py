@@ -17,7 +17,19 @@ from cli.say import text_of
 from cli.session import Stopped, snapped
 from cli.sinks import NoImages, ScheduleOnly, TraceOnly
 from cli.status import NO_FILE, WITH_A_FAULT, Ended
-from cli.texts import MOST_HEAD, MOST_INPUT, Input, Kept, Origin, Part, can_be_read, file_part, find_mark, is_regular, open_file
+from cli.texts import (
+    MOST_HEAD,
+    MOST_INPUT,
+    Input,
+    Kept,
+    Origin,
+    Part,
+    can_be_read,
+    file_part,
+    find_mark,
+    is_regular,
+    open_file,
+)
 from cli.commands import Given, Usage
 
 

@@ -1,4 +1,6 @@
-"""Writes a schedule of one that is written for people, and runs it as it goes: packets, boots and pieces are those that the program showed."""
+"""Writes a schedule of one that is written for people, and runs it as it goes: packets, boots and pieces are those
+that the program showed.
+"""
 
 from __future__ import annotations
 
@@ -53,7 +55,8 @@ class Call:
 
 @dataclass
 class State:
-    """What the items showed: the next packet, boots, which modules stand, are attested and have open ends, and their last calls."""
+    """What the items showed: the next packet, boots, which modules stand, are attested and have open ends, and their
+    last calls."""
 
     packets: int = 0
     boots: Dict[str, int] = field(default_factory=dict)
@@ -181,7 +184,8 @@ class Writer:
             self.attest(name)
 
     def attest(self, name: str) -> None:
-        """Asks a module, hands its answer to the deployer, and the set-key packets that it makes then to their holders."""
+        """Asks a module, hands its answer to the deployer, and the set-key packets that it makes then to their
+        holders."""
         node = self.module(name)
         ask = self.new_packet(self.put("ask", name), f"asking {name}", f"ask.{name}")
         self.must_be_done(self.hand(ask, name, ATTEST), name, f"the attestation of {name}")
@@ -327,7 +331,8 @@ class Writer:
         return found
 
     def pieces(self, sender: str, call: Call) -> List[Piece]:
-        """The events of the sender in the window, as they stand there now; by what the packets say, and not by their places."""
+        """The events of the sender in the window, as they stand there now; by what the packets say, and not by their
+        places."""
         assert call.window is not None
         node, now = self.plan.node_of(sender), len(self.session.lines)
         opened = self.state.open_ends.get(sender, {})

@@ -72,7 +72,8 @@ class Session:
             items.append(item.decode(errors="surrogateescape"))
 
     def step(self, node: str, steps: int = 1) -> Tuple[List[str], bool]:
-        """The items of a step of a node, and whether a module runs there then: a `put` past the end of memory changes nothing and tells."""
+        """The items of a step of a node, and whether a module runs there then: a `put` past the end of memory changes
+        nothing and tells."""
         line = f"run {node} {steps}"
         self.lines.append(line)
         self.give(f"{line}\nput {node} 0xffff 0000\n".encode())

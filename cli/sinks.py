@@ -82,7 +82,8 @@ def is_end(line: bytes) -> bool:
 
 @dataclass
 class ScheduleOnly(Lines):
-    """Of what `drive` writes the lines of the schedule, as `run` takes them. A fault isn't one: it stands as a comment."""
+    """Of what `drive` writes the lines of the schedule, as `run` takes them. A fault isn't one: it stands as a
+    comment."""
 
     def line(self, line: bytes) -> bytes:
         if line.startswith(b"> "):

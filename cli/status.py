@@ -1,4 +1,6 @@
-"""The statuses that the front end itself ends with, and how it ends early. Those of the program stand in docs/FORMATS.md."""
+"""The statuses that the front end itself ends with, and how it ends early. Those of the program stand in
+docs/FORMATS.md.
+"""
 
 from __future__ import annotations
 

@@ -1,4 +1,5 @@
-"""The instructions that a line of a schedule executed: each with its address, text, module, and the registers that it changed.
+"""The instructions that a line of a schedule executed: each with its address, text, module, and the registers that it
+changed.
 
 The line is taken apart into steps (`run NODE 1`), which the program runs and `snap` is asked about.
 """

@@ -1,4 +1,6 @@
-"""What is wrong with the tables of a deployment, a line each: keys, names, ties, places and counts (rules D4, D5, D6, D9, D10)."""
+"""What is wrong with the tables of a deployment, a line each: keys, names, ties, places and counts (rules D4, D5, D6,
+D9, D10).
+"""
 
 from __future__ import annotations
 

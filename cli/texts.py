@@ -1,7 +1,7 @@
 """What the program reads: one input, put together from files, and kept as far as words about it need.
 
-An input has no bound, so neither a file nor a pipe is held whole: what is kept is the first part, where the deployment stands, and what came
-last, where the line of a fault stands.
+An input has no bound, so neither a file nor a pipe is held whole: what is kept is the first part, where the
+deployment stands, and what came last, where the line of a fault stands.
 """
 
 from __future__ import annotations

@@ -1,4 +1,6 @@
-"""Reads the TOML of a deployment: by the standard library if it has that, else by a small reader of what deployments use."""
+"""Reads the TOML of a deployment: by the standard library if it has that, else by a small reader of what deployments
+use.
+"""
 
 from __future__ import annotations
 

@@ -1,4 +1,5 @@
-"""Where a module stands after a line: its variables, arrays and ends by name, read by `snap` from its private section.
+"""Where a module stands after a line: its variables, arrays and ends by name, read by `snap` from its private
+section.
 
 docs/PROTOCOL.md has the section's form: from 512 on a slot for each end, then the cells, each less its first value.
 """

@@ -1,6 +1,7 @@
 """What the tests of the front end share: the program, calls of ./sancus, and the lighting application.
 
-The program is SANCUS_PROGRAM, else the build that ./sancus would start. Where that is one without proof, which takes minutes a call, what
+The program is SANCUS_PROGRAM, else the build that ./sancus would start. Where that is one without proof, which takes
+minutes a call, what
 needs a program is passed over, with a word on standard error.
 """
 
@@ -81,7 +82,8 @@ def as_bytes(text: Text) -> bytes:
 def sancus(
     *words: Union[str, Path], text: Text = b"", program: Optional[str] = None, cwd: Optional[Path] = None
 ) -> Result:
-    """A call of ./sancus, with a text on a pipe as its standard input. It is a fork of this process, which spares Python's start."""
+    """A call of ./sancus, with a text on a pipe as its standard input. It is a fork of this process, which spares
+    Python's start."""
     data = as_bytes(text)
     read, write = os.pipe()
     with tempfile.TemporaryFile() as out, tempfile.TemporaryFile() as said:

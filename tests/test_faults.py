@@ -1,4 +1,5 @@
-"""Faults in words: what is said of fault lines, where it points, and what is guessed. With a program, the fault lines are its own too."""
+"""Faults in words: what is said of fault lines, where it points, and what is guessed. With a program, the fault lines
+are its own too."""
 
 import re
 import unittest

@@ -1,4 +1,5 @@
-"""Output on request: without images, the schedule or the trace of an honest run, JSON, marks, and listings of images."""
+"""Output on request: without images, the schedule or the trace of an honest run, JSON, marks, and listings of
+images."""
 
 import json
 import unittest

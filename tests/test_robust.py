@@ -1,4 +1,5 @@
-"""Misuse: whatever is given, the answer is a line, a status of its own kind, and no traceback; and everything is bounded."""
+"""Misuse: whatever is given, the answer is a line, a status of its own kind, and no traceback; and everything is
+bounded."""
 
 import os
 import resource

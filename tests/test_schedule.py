@@ -7,7 +7,8 @@ from support import HEAD, LIGHTING, Room, needs_program, program, sancus, one_by
 DEPLOYMENT = HEAD.decode() + "%%\n"
 READING = "deploy all\nsample eye 120\ncarry eye logic\ncarry logic lamp\n"
 RENEWED = "deploy all\nreset a\ndeploy eye logic\nsample eye 120\ncarry eye logic\ncarry logic lamp\n"
-# One output that leads to two modules, as a spot's to violations and free spots; another input; and an output with two connections to one module.
+# One output that leads to two modules, as a spot's to violations and free spots; another input; and an output with
+# two connections to one module.
 FAN_OUT = """secret = "000102030405060708090a0b0c0d0e0f"
 node = [ { name = "a", key = "101112131415161718191a1b1c1d1e1f" }, { name = "b", key = "202122232425262728292a2b2c2d2e2f" } ]
 device = [ { name = "spot", node = "a", kind = "sensor", at = 0x1000 } ]

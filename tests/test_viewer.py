@@ -154,7 +154,8 @@ call lamp 2 0x300 0x400
 
 
 def readings(count, packets=0):
-    """The lines and the items of this many readings, on modules that have their keys, where so many packets were made."""
+    """The lines and the items of this many readings, on modules that have their keys, where so many packets were
+    made."""
     lines, items = [], []
     for number in range(count):
         value = 37 * number % 200
@@ -409,7 +410,9 @@ class Viewer(unittest.TestCase):
         if not folder.is_dir():
             self.skipTest("there is no such example")
         text = (
-            (folder / "parking.toml").read_bytes() + b"%%\n" + (folder / "day.readings").read_bytes().partition(b"%%\n")[2]
+            (folder / "parking.toml").read_bytes()
+            + b"%%\n"
+            + (folder / "day.readings").read_bytes().partition(b"%%\n")[2]
         )
         self.show(of_readings(context(), text).texts)
         self.browser.shoot("parking")
