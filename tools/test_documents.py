@@ -3,9 +3,8 @@
 
     tools/test_documents.py [--program FILE] [--jobs N] [FILE..]     the documents and the examples, where none is named
 
-Each document is tried in a folder of its own, where the script, the examples and the tools stand as in the repository.
-The proved build is taken where it stands; without one each run of ./sancus takes a minute, and --program FILE takes this
-build of the program in place of the script. The words after the three backquotes say what a fenced block is:
+Each document is tried in a folder of its own, where ./sancus, the examples and the tools stand as in the repository.
+The build that ./sancus finds is taken, and with --program FILE this one; without either each run takes a minute or two. The words after the three backquotes say what a fenced block is:
 
     console              a line `$ COMMAND` is run by bash; what it writes on standard output is the lines up to the
                          next one. A line `...` stands for any number of lines, and a line that ends in `..` for any
@@ -38,8 +37,8 @@ from concurrent.futures import ThreadPoolExecutor
 from pathlib import Path
 
 TOP = Path(__file__).resolve().parent.parent
-# The script's own status where it gets no answer from the program, and bash's where there is no such command.
-NO_ANSWER = (125, 126, 127)
+# The front end's own statuses where it gets no answer from the program, and bash's where there is no such command.
+NO_ANSWER = (121, 122, 125, 126, 127)
 # The first words of items.
 ITEMS = set(
     "protect reset ask vouch attested denied open take sense read drain out raw done packet forged busy skip budget".split()
@@ -233,29 +232,14 @@ def try_example(file, room):
     return f"no item {missing} is written" if missing else None
 
 
-def make_room(room, program):
+def make_room(room):
     """A folder in which the document's commands find what they name."""
     for name in ("examples", "tools", "docs", "bench", "crates", "crates.txt", "wrong-bodies"):
         (room / name).symlink_to(TOP / name)
-    script = room / "sancus"
-    if not program:
-        script.symlink_to(TOP / "sancus")
-        return
-    # The second of the words after `run` or `check` is the input's file; `explain` may have a trace behind it.
-    script.write_text(
-        "#!/bin/bash\n"
-        'if [[ "$1 $#" == "explain 3" ]]; then\n'
-        f'  {{ sed "/^%%$/Q" "$2"; echo %%; cat "$3"; }} | {program} explain\n'
-        "  exit\n"
-        "fi\n"
-        'case "$1 $2" in "asm "*|"dis "*) file="$3"; set -- "$1" "$2" ;; *) file="$2"; [[ "$1" == gen ]] || set -- "$1" ;; esac\n'
-        f'[[ -z "$file" || "$file" == - || "$1" == gen ]] && exec {program} "$@"\n'
-        f'exec {program} "$@" <"$file"\n'
-    )
-    script.chmod(0o755)
+    (room / "sancus").symlink_to(TOP / "sancus")
 
 
-def try_document(document, program):
+def try_document(document):
     """What trying a document says, and how many of its commands failed."""
     said = []
     if document.suffix == ".md":
@@ -264,7 +248,7 @@ def try_document(document, program):
     failed = len(said)
     with tempfile.TemporaryDirectory() as folder:
         room = Path(folder)
-        make_room(room, program)
+        make_room(room)
         if document.suffix == ".txt":
             wrong = try_example(document.resolve(), room)
             return [f"{document.name}: " + (f"FAILED: {wrong}" if wrong else "ok")], bool(wrong)
@@ -279,7 +263,8 @@ def main():
     words.add_argument("--jobs", type=int, default=os.cpu_count())
     words.add_argument("documents", nargs="*", type=Path)
     given = words.parse_args()
-    program = given.program and Path(given.program).resolve()
+    if given.program:
+        os.environ["SANCUS_PROGRAM"] = str(Path(given.program).resolve())
     examples = [*sorted((TOP / "examples").glob("*.txt")), *sorted((TOP / "examples/attacks").glob("*.txt"))]
     documents = given.documents or [
         TOP / "README.md",
@@ -289,7 +274,7 @@ def main():
     ]
     failed = 0
     with ThreadPoolExecutor(given.jobs) as pool:
-        for said, wrong in pool.map(lambda it: try_document(it, program), documents):
+        for said, wrong in pool.map(try_document, documents):
             print("\n".join(said), flush=True) if said else None
             failed += wrong
     print(f"{failed} failed")

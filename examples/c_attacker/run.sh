@@ -31,7 +31,7 @@ sent="$(llvm-nm "$to/attacker.elf" | awk '$3 == "sent" { print "0x" substr($1, 5
   echo '%%'
   sed '1,/^%%$/d; /^# 3/,$d' "$lighting"
 } >"$to/input.txt"
-put="$(python3 "$top/tools/hex.py" put a "$to/attacker.elf" --pc --input "$to/input.txt")"
+put="$("$top/sancus" hex put a "$to/attacker.elf" --pc --input "$to/input.txt")"
 cat >>"$to/input.txt" <<END
 # 3. The untrusted code of node a, compiled from C. It has eye sample its sensor, and carries the event to logic by itself.
 $put

@@ -1,0 +1,168 @@
+"""The causes of a trace as chains of items, in words: from what the program's `explain` says."""
+
+from __future__ import annotations
+
+from dataclasses import dataclass, field
+from typing import Dict, Iterator, List, Optional
+
+from cli.deployment import Plan, plan_of
+from cli.items import ITEMS, Item, say
+from cli.joining import explained
+from cli.model import reason
+from cli.numbers import number
+from cli.program import Collected, Program
+from cli.say import Voice, text_of
+from cli.sinks import Kept as KeptLines
+from cli.status import BAD_TEXT, Ended
+from cli.texts import find_mark, split_lines
+
+# How many items of a module are shown before an illegal one.
+BEFORE = 6
+SAID_CAUSE = {
+    "read": "the sensor's last sample",
+    "take": "where this event was sent",
+    "out": "the last event that triggered it",
+}
+
+
+@dataclass
+class Explained:
+    """A trace, and what the program says of it."""
+
+    items: List[Item]
+    causes: Dict[int, int] = field(default_factory=dict)
+    legal: Optional[int] = None
+    illegal: Optional[int] = None
+    forged: Optional[int] = None
+    last: str = ""
+    status: int = 0
+    plan: Optional[Plan] = None
+
+    def item(self, at: int) -> Item:
+        return self.items[at - 1]
+
+
+def items_of(lines: List[bytes]) -> List[Item]:
+    """The items after `trace`."""
+    start = lines.index(b"trace") + 1 if b"trace" in lines else len(lines)
+    texts = [text_of(it) for it in lines[start:]]
+    return [Item(at, it) for at, it in enumerate((it for it in texts if it.split(" ")[0] in ITEMS), 1)]
+
+
+def explain(deployment: str, trace: str, program: Program, voice: Voice) -> Explained:
+    """Has the program judge a trace, and takes apart what it says."""
+    pieces: List[bytes] = []
+    for part in explained(deployment, trace, voice):
+        if pieces and not pieces[-1].endswith(b"\n"):
+            pieces.append(b"\n")
+        while True:
+            piece = part.read()
+            if not piece:
+                break
+            pieces.append(piece)
+    return explained_text(b"".join(pieces), program)
+
+
+def explained_text(text: bytes, program: Program) -> Explained:
+    found = find_mark(text)
+    head, rest = (text[: found[0]], text[found[1] :]) if found else (text, b"")
+    sink = KeptLines(Collected())
+    ran = program.ran_of(["explain"], text, sink)
+    made = Explained(items_of(split_lines(rest)) if rest else [], status=ran.status, plan=plan_of(head))
+    for line in (text_of(it) for it in sink.lines):
+        words = line.split(" ")
+        if words[0] == "because":
+            made.causes[int(words[1])] = int(words[2])
+        elif words[0] in ("legal", "illegal", "forged") and len(words) == 2:
+            setattr(made, words[0], int(words[1]))
+        made.last = line
+    return made
+
+
+def told(made: Explained, at: int) -> str:
+    item = made.item(at)
+    return f"{at} {item.text}: {say(item, made.plan)}"
+
+
+def chain(made: Explained, at: int) -> Iterator[str]:
+    """An item, and its causes back to the first."""
+    yield told(made, at)
+    while at in made.causes:
+        kind, at = made.item(at).kind, made.causes[at]
+        yield f"  because of {told(made, at)}" + (f" ({SAID_CAUSE[kind]})" if kind in SAID_CAUSE else "")
+
+
+def of_module(made: Explained, at: int) -> List[int]:
+    """The last items of the module, or device, of an item, before it; and the event that it is about if it is a
+    `take`."""
+    fields = made.item(at).fields()
+    key = next((it for it in ("module", "device", "node") if fields.get(it)), None)
+    if not key:
+        return []
+    same = [it.number for it in made.items[: at - 1] if it.fields().get(key) == fields[key]]
+    return same[-BEFORE:]
+
+
+def why_illegal(made: Explained, at: int) -> Iterator[str]:
+    """The items that lead to an illegal one, and the condition that fails."""
+    for it in of_module(made, at):
+        yield told(made, it)
+    yield f"illegal: {told(made, at)}"
+    found = reason(made.plan, made.items, at) if made.plan else None
+    yield f"  {found}" if found else "  the sources don't allow it after the items before it"
+
+
+def chosen(made: Explained, word: str) -> int:
+    """The item that is asked about: the one of this number, the illegal one, or the last `out`."""
+    if not word:
+        outs = [it.number for it in made.items if it.kind == "out" and it.number in made.causes]
+        if made.illegal or outs:
+            return made.illegal or outs[-1]
+        raise Ended(BAD_TEXT, "the trace has no `out`, and nothing illegal: say which item is meant")
+    at = number(word)
+    if not at or at > len(made.items):
+        raise Ended(BAD_TEXT, f"{word} is no item: the trace has {len(made.items)}, counted from 1 after `trace`")
+    return at
+
+
+def must_be_judged(made: Explained) -> None:
+    if made.last.startswith("fault "):
+        raise Ended(BAD_TEXT, f"the trace isn't judged: {made.last}")
+
+
+def why(made: Explained, word: str) -> Iterator[str]:
+    """Why an item came: its chain of causes, or the condition that it breaks."""
+    at = chosen(made, word)
+    if at == made.illegal:
+        yield from why_illegal(made, at)
+        return
+    yield from chain(made, at)
+    if at not in made.causes:
+        yield "  " + no_cause(made, at)
+
+
+def no_cause(made: Explained, at: int) -> str:
+    if made.illegal and at > made.illegal:
+        return f"item {made.illegal} is illegal, and nothing after it is judged"
+    if made.forged and at >= made.forged:
+        return f"item {made.forged} says `forged`, and nothing after it is judged"
+    kind = made.item(at).kind
+    if kind == "sense":
+        return "a sample comes from outside: here the chain ends"
+    return "the causes of a `read`, a `take` and an `out` are told, and no others"
+
+
+def in_words(made: Explained) -> Iterator[str]:
+    """All that `explain` says of a trace, in words."""
+    for item in made.items:
+        if item.number in made.causes:
+            cause = made.item(made.causes[item.number])
+            yield f"{told(made, item.number)}; because of {cause.number} {cause.text}"
+    if made.illegal:
+        yield from why_illegal(made, made.illegal)
+    if made.legal is not None:
+        yield f"legal: the first {made.legal} items are a legal run of the sources"
+    if made.forged:
+        yield f"forged: {told(made, made.forged)}; what comes after it isn't judged"
+    if made.last.startswith("fault "):
+        yield made.last

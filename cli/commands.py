@@ -1,0 +1,406 @@
+"""The commands: what each takes, does and is good for. Parser, help, man page and completion are made of this table."""
+
+from __future__ import annotations
+
+import argparse
+from dataclasses import dataclass, field
+from typing import Dict, List, NoReturn, Optional, Sequence, Tuple
+
+from cli.status import USAGE
+
+ONE, MAYBE, MANY = None, "?", "*"
+
+
+@dataclass(frozen=True)
+class Argument:
+    """An argument: how many may stand there, and what it is."""
+
+    name: str
+    count: Optional[str]
+    says: str
+    is_file: bool = True
+
+    def shown(self) -> str:
+        return {ONE: self.name, MAYBE: f"[{self.name}]", MANY: f"[{self.name} ..]"}[self.count]
+
+
+@dataclass(frozen=True)
+class Option:
+    """An option, with the name of its value if it takes one."""
+
+    name: str
+    says: str
+    value: str = ""
+    short: str = ""
+    choices: Tuple[str, ...] = ()
+
+    def shown(self) -> str:
+        both = f"{self.short}, {self.name}" if self.short else self.name
+        return f"{both} {self.value}" if self.value else both
+
+
+@dataclass(frozen=True)
+class Command:
+    """A command. Those of the program are the ones that it answers itself, byte for byte."""
+
+    name: str
+    does: str
+    arguments: Tuple[Argument, ...] = ()
+    options: Tuple[Option, ...] = ()
+    example: str = ""
+    more: str = ""
+    is_programs: bool = False
+
+    def usage(self) -> str:
+        options = " [OPTION ..]" if self.options else ""
+        return f"sancus {self.name}{options}{''.join(' ' + it.shown() for it in self.arguments)}"
+
+
+QUIET = Option("--quiet", "says nothing on standard error but why there is no answer", short="-q")
+PROGRAM = Option("--program", "starts this program, in place of the build that is found", "FILE")
+HELP = Option("--help", "prints this", short="-h")
+EVERYWHERE = (QUIET, PROGRAM, HELP)
+JSON = Option("--json", "prints a JSON object a line (docs/FORMATS.md)")
+NO_IMAGES = Option("--no-images", "leaves out the lines of images, nine tenths of the output")
+
+DEPLOYMENT = Argument(
+    "DEPLOYMENT", MAYBE, "the deployment, or a whole input with its line %%; absent or -, standard input"
+)
+SCHEDULES = Argument(
+    "SCHEDULE", MANY, "schedules, one after the other; then of DEPLOYMENT the lines before %% are taken alone"
+)
+FILE = Argument("FILE", MAYBE, "absent or -, standard input")
+ADDRESS = Argument("ADDRESS", ONE, "a number from 0 to 65,535", False)
+INPUT = Argument("INPUT", ONE, "a deployment, a line %% and a schedule")
+LINE = Argument("LINE", ONE, "a line of the schedule, counted from 1 after %%; 0 is power-on", False)
+
+COMMANDS: Tuple[Command, ...] = (
+    Command(
+        "run",
+        "compiles and runs a deployment under a schedule",
+        (DEPLOYMENT, SCHEDULES),
+        (NO_IMAGES, JSON),
+        "sancus run examples/lighting.txt",
+        "It prints the modules' images and the trace, an item a line. At a terminal each line is answered at once.",
+        True,
+    ),
+    Command(
+        "drive",
+        "makes the schedule of an honest run of readings, and runs it",
+        (DEPLOYMENT, Argument("READINGS", MANY, "readings, a line `DEVICE VALUE` each")),
+        (
+            NO_IMAGES,
+            Option("--schedule", "prints the lines of the schedule alone, as `run` takes them"),
+            Option("--trace", "prints what `run` would print of that schedule"),
+            JSON,
+        ),
+        "sancus drive examples/readings.txt",
+        "It prints each line of the schedule after `> `, and the items that the line gave.",
+        True,
+    ),
+    Command(
+        "check",
+        "prints where the modules will stand, or which rule the deployment breaks",
+        (Argument("DEPLOYMENT", MAYBE, "the deployment; a line %% may be absent"),),
+        (JSON,),
+        "sancus check examples/lighting.txt",
+        "",
+        True,
+    ),
+    Command(
+        "explain",
+        "judges a trace by the sources alone: which item caused which",
+        (DEPLOYMENT, Argument("TRACE", MAYBE, "what `run` or `drive` wrote")),
+        (Option("--words", "prints the items with their causes, in words"), JSON),
+        "sancus run examples/lighting.txt | sancus explain examples/lighting.txt -",
+        "",
+        True,
+    ),
+    Command(
+        "snap",
+        "answers where a run stands after any line of its schedule",
+        (DEPLOYMENT, Argument("SCHEDULE", MAYBE, "a schedule"), Argument("QUERIES", MAYBE, "queries, a line each")),
+        (NO_IMAGES,),
+        "sancus snap --no-images examples/snap/dark_bulb.txt",
+        "The queries stand after a second line %%: `regs NODE L`, `bytes NODE AT LEN L` and `items L`.",
+        True,
+    ),
+    Command(
+        "gen",
+        "runs a stated application for some samples, and counts",
+        (Argument("SAMPLES", ONE, "a number from 1 to 8,000", False),),
+        (NO_IMAGES,),
+        "sancus gen --no-images 4",
+        "",
+        True,
+    ),
+    Command(
+        "asm",
+        "lists a text as code from an address on",
+        (ADDRESS, FILE),
+        (),
+        "echo 'mov #9, &0x1000' | sancus asm 0x4000",
+        "",
+        True,
+    ),
+    Command(
+        "dis",
+        "lists bytes in hexadecimal as code from an address on",
+        (ADDRESS, FILE),
+        (),
+        "sancus run examples/lighting.txt | grep '^image logic' | sancus dis 0x6000",
+        "A line `image MODULE BYTES`, as `run` prints it, is taken as it stands.",
+        True,
+    ),
+    Command(
+        "schedule",
+        "writes a schedule of one for people: `deploy`, `sample`, `carry`",
+        (DEPLOYMENT, Argument("LINES", MANY, "lines for people")),
+        (Option("--lines", "prints the schedule alone, without the deployment"),),
+        "printf 'deploy all\\nsample eye 120\\ncarry eye logic\\n' | sancus schedule examples/lighting.txt - | sancus run",
+        """Lines for people, between plain lines of a schedule:
+  deploy all, deploy M ..    load, ask, answer and keys of every module, or of these in this order
+  sample M VALUE             the sensor of M has this sample, and M reads it
+  carry M N [WHICH]          the next event for N that M wrote at its last call is taken, and N is called with it;
+                             WHICH is a connection, or the number of a piece
+  call M ENTRY               with the windows by default; so do `give P NODE` and `take NODE LENGTH`
+  answer M P                 at the boot of M's node
+  .. as NAME                 after `take`, `forge` and `ask`: a name for the packet, for `give` and `answer`
+  windows IN OUT             other windows from here on (0x300 and 0x400 before)
+deploy and carry name their packets too: ask.M, answer.M, key.M.CONNECTION.from or .to, and event.M.N. The program runs
+as the lines are written, so packets, boots and pieces are those that it showed. A line `#= FILE:LINE TEXT` comes before
+what was made of a line for people, and a fault of it is led back there.""",
+    ),
+    Command(
+        "marks",
+        "runs a schedule and prints which items each of its lines gave",
+        (DEPLOYMENT, SCHEDULES),
+        (NO_IMAGES,),
+        "sancus marks examples/forged.txt",
+    ),
+    Command(
+        "view",
+        "writes one HTML page that holds a run and draws it",
+        (
+            Argument("INPUT", MAYBE, "a deployment, a line %% and a schedule, or readings"),
+            Argument("OUTPUT", MAYBE, "what `run` wrote, in place of a run"),
+            Argument("CAUSES", MAYBE, "what `explain` wrote of it"),
+        ),
+        (
+            Option("--drive", "draws the honest run of readings"),
+            Option("--page", "writes the page there, by default beside INPUT with the ending .html", "PAGE"),
+            Option("--empty", "writes the page without a run, which opens files by itself"),
+        ),
+        "sancus view examples/lighting.txt --page lighting.html",
+        "The page opens in any browser, without a connection.",
+    ),
+    Command(
+        "vars",
+        "prints a module's variables, arrays and ends after a line",
+        (INPUT, Argument("MODULE", ONE, "a module", False), LINE),
+        (Option("--drive", "INPUT has readings, and LINE is one of the schedule that `drive` makes of them"),),
+        "sancus vars examples/lighting.txt logic 45",
+    ),
+    Command(
+        "steps",
+        "prints the instructions that a line executed",
+        (INPUT, LINE),
+        (Option("--drive", "INPUT has readings, and LINE is one of the schedule that `drive` makes of them"),),
+        "sancus steps examples/lighting.txt 39",
+    ),
+    Command(
+        "why",
+        "prints the chain of causes of an item, or why it is illegal",
+        (
+            Argument("DEPLOYMENT", ONE, "the deployment"),
+            Argument("TRACE", ONE, "what `run` or `drive` wrote; -, standard input"),
+            Argument(
+                "ITEM",
+                MAYBE,
+                "an item's number from 1 after `trace`; absent, the last `out` or the illegal item",
+                False,
+            ),
+        ),
+        (),
+        "sancus run examples/lighting.txt | sancus why examples/lighting.txt - 42",
+        "A cause is the last event that triggered an item, and not all that its value depends on.",
+    ),
+    Command(
+        "hex",
+        "turns programs of usual tools into schedule lines, and images into files of usual tools",
+        (
+            Argument("WHAT", ONE, "`put NODE FILE`, `image INPUT` or `convert FILE`", False),
+            Argument("ARGUMENT", MANY, "what that takes"),
+        ),
+        (
+            Option("--pc", "put: adds `set NODE pc ENTRY`"),
+            Option("--input", "put: warns where bytes meet what stands on the node in this input", "INPUT"),
+            Option("--format", "image, convert: TI-TXT or Intel HEX", "FORMAT", choices=("ti", "hex")),
+            Option("--to", "image: writes the files there", "FOLDER"),
+        ),
+        "sancus hex image examples/lighting.txt --to images",
+        "Files are ELF, Intel HEX or TI-TXT. Encodings and keys are this project's own: images are for looking, and not to be flashed.",
+    ),
+    Command(
+        "build",
+        "proves and builds the program",
+        (),
+        (Option("--jobs", "proves so many libraries at a time", "N"),),
+        "sancus build --jobs 2",
+        "It needs the command rt of the Rattle kit, and takes up to an hour from nothing.",
+    ),
+    Command("version", "prints which program is started, of which sources, by which kit", (), (), "sancus version"),
+    Command(
+        "help",
+        "prints what a command does",
+        (Argument("COMMAND", MAYBE, "a command", False),),
+        (Option("--man", "prints the man page"), Option("--completion", "prints completion for bash")),
+        "sancus help run",
+    ),
+)
+BY_NAME: Dict[str, Command] = {it.name: it for it in COMMANDS}
+
+
+class Usage(Exception):
+    """The words are no call: what is wrong with them, and the command that they begin with, if it is one."""
+
+    def __init__(self, what: str, command: Optional[Command] = None) -> None:
+        super().__init__(what)
+        self.what, self.command = what, command
+        self.status = USAGE
+
+
+class Parser(argparse.ArgumentParser):
+    """argparse without its own messages and ends."""
+
+    def error(self, message: str) -> NoReturn:
+        raise Usage(message)
+
+
+def near(word: str, known: Sequence[str]) -> str:
+    from difflib import get_close_matches
+
+    found = get_close_matches(word, known, 1, 0.5)
+    # (a transposed letter, as in `rnu`)
+    found = found or [it for it in known if sorted(it) == sorted(word)]
+    return found[0] if found else ""
+
+
+def did_you_mean(word: str, known: Sequence[str]) -> str:
+    found = near(word, known)
+    return f": did you mean `{found}`?" if found else ""
+
+
+@dataclass
+class Given:
+    """The words of a call, taken apart: values of arguments and options by their names."""
+
+    command: Command
+    values: Dict[str, object] = field(default_factory=dict)
+
+    def text(self, name: str) -> str:
+        return str(self.values.get(name) or "")
+
+    def texts(self, name: str) -> List[str]:
+        found = self.values.get(name)
+        return [str(it) for it in found] if isinstance(found, list) else [str(found)] if found else []
+
+    def has(self, name: str) -> bool:
+        return bool(self.values.get(name))
+
+
+def key_of(option: Option) -> str:
+    return option.name[2:].replace("-", "_")
+
+
+def parser_of(command: Command) -> Parser:
+    made = Parser(prog=f"sancus {command.name}", add_help=False, allow_abbrev=False)
+    for option in (*command.options, *EVERYWHERE):
+        flags = [option.name, *([option.short] if option.short else [])]
+        if option.value:
+            made.add_argument(*flags, dest=key_of(option), metavar=option.value, choices=option.choices or None)
+        else:
+            made.add_argument(*flags, dest=key_of(option), action="store_true")
+    for argument in command.arguments:
+        made.add_argument(argument.name, nargs=argument.count)  # type: ignore[arg-type]
+    return made
+
+
+def options_first(words: Sequence[str], options: Sequence[Option]) -> List[str]:
+    """The words with options before arguments, so that they may stand anywhere; what stands after -- is no option."""
+    by_name = {name: it for it in options for name in (it.name, it.short) if name}
+    found: List[str] = []
+    rest: List[str] = []
+    left = list(words)
+    while left:
+        it = left.pop(0)
+        if it == "--":
+            rest += left
+            break
+        if it == "-" or not it.startswith("-"):
+            rest.append(it)
+            continue
+        name = it.partition("=")[0]
+        if name not in by_name:
+            raise Usage(f"there is no option {name}{did_you_mean(name, list(by_name))}")
+        found.append(it)
+        if by_name[name].value and "=" not in it:
+            if not left:
+                raise Usage(f"{name} takes {by_name[name].value}")
+            found.append(left.pop(0))
+    return [*found, "--", *rest] if rest else found
+
+
+def parse(command: Command, words: Sequence[str]) -> Given:
+    """The words of a call after its command, taken apart."""
+    try:
+        made = parser_of(command)
+        ordered = options_first(words, (*command.options, *EVERYWHERE))
+        if "--help" in ordered or "-h" in ordered:
+            return Given(command, {"help": True})
+        return Given(command, vars(made.parse_args(ordered)))
+    except Usage as error:
+        what = error.what.replace("the following arguments are required", "missing")
+        raise Usage(what.replace("unrecognized arguments", "too many arguments"), command) from None
+
+
+# --- Help -------------------------------------------------------------------------------------------------------------
+
+HEAD = "Sancus applications, verified: a compiler, deployer and simulator of Sancus nodes in one proved program."
+
+
+def rows(pairs: Sequence[Tuple[str, str]]) -> List[str]:
+    width = max((len(name) for name, _ in pairs), default=0)
+    return [f"  {name:<{width}}  {says}" for name, says in pairs]
+
+
+def help_all() -> List[str]:
+    programs = [(it.name, it.does) for it in COMMANDS if it.is_programs]
+    others = [(it.name, it.does) for it in COMMANDS if not it.is_programs]
+    return [
+        HEAD,
+        "",
+        "usage: sancus COMMAND [ARGUMENT ..]",
+        "",
+        "The program answers:",
+        *rows(programs),
+        "",
+        "Around it:",
+        *rows(others),
+        "",
+        "With each command:",
+        *rows([(it.shown(), it.says) for it in EVERYWHERE]),
+        "",
+        "example: sancus drive examples/readings.txt",
+        "docs/FORMATS.md says what is read and printed, and docs/TUTORIAL.md is where to begin.",
+    ]
+
+
+def help_of(command: Command) -> List[str]:
+    lines = [f"usage: {command.usage()}", "", f"It {command.does}."]
+    if command.more:
+        lines += command.more.split("\n")
+    if command.arguments:
+        lines += ["", *rows([(it.name, it.says) for it in command.arguments])]
+    lines += ["", *rows([(it.shown(), it.says) for it in (*command.options, *EVERYWHERE)])]
+    return [*lines, "", f"example: {command.example}"]

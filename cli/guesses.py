@@ -1,0 +1,133 @@
+"""Guesses what was meant: what could stand at a fault, and what there is in place of what was tried."""
+
+from __future__ import annotations
+
+import re
+from typing import List, Optional
+
+from cli.acts import ACTS, QUERIES
+from cli.deployment import Plan
+from cli.language import COMPARED, END, MULTIPLIED, NAMED, NUMBER, SUMMED, UNARY, NotInGrammar
+from cli.table import words
+
+OPERATORS = {*COMPARED, *SUMMED, *MULTIPLIED}
+STATEMENT = {"let", "send", "emit", "if", "repeat", NAMED}
+PEOPLE = ("deploy", "sample", "carry", "windows", "packets", "boots")
+ITEMS = frozenset(
+    "protect reset ask vouch attested denied open take sense read drain out raw done packet forged busy skip budget".split()
+)
+
+
+def expected(error: NotInGrammar) -> List[str]:
+    """What could stand where a token can't."""
+    if error.bound:
+        return [error.bound]
+    left = set(error.expected)
+    said = []
+    if STATEMENT <= left:
+        left -= STATEMENT
+        said.append("a statement (`let x = ..;`, `x = ..;`, `if`, `repeat`, `send`, `emit`)")
+    if {NUMBER, NAMED, "("} <= left:
+        left -= {NUMBER, NAMED, "(", *UNARY}
+        said.append("a value (a number, a name, brackets)")
+    if len(left & OPERATORS) > 3:
+        left -= OPERATORS
+        said.append("an operator")
+    said += sorted(f"`{it}`" if it not in (NAMED, NUMBER, END) else it for it in left)
+    found = error.token
+    stands = "the text ends" if found.kind == END else f"`{found.text}` stands"
+    return [f"{stands} here, and what could is: {', '.join(said)}"] if said else []
+
+
+def hints(source: bytes, at: int) -> List[str]:
+    """What the language has in place of what stands at a fault."""
+    before, here = source[max(0, at - 200) : at].decode(errors="replace"), source[at : at + 40].decode(errors="replace")
+    for it in words()["hints"]:
+        if re.search(it["before"], before) and re.search(it["here"], here):
+            return [str(it["say"])]
+    if re.search(r"[\w)\]]\s*\n\s*$", before):
+        return ["perhaps a `;` is missing at the end of the line before"]
+    return []
+
+
+def of_name(what: str) -> List[str]:
+    if re.match(r"`(true|false)` isn't declared", what):
+        return ["there are no truth values: 1 and 0"]
+    return []
+
+
+def of_toml(line: Optional[bytes]) -> List[str]:
+    first = (line or b"").split()[:1]
+    if first and first[0].decode(errors="replace") in ACTS:
+        return ["this looks like a line of a schedule: they stand after a line `%%`"]
+    if line and re.match(rb"\s*(source|secret|key|name|node|from|to|kind|device)\s*=\s*[^\"'\s]", line):
+        return ["a text stands between quotes"]
+    return []
+
+
+def of_head(command: str, first: bytes) -> List[str]:
+    """What an input is, if it isn't a deployment."""
+    begun = first.lstrip()
+    if b"\0" in first:
+        return ["this is no text"]
+    if begun.startswith((b"image ", b"trace\n", b"trace\r")):
+        if command == "explain":
+            return ["this is the output of a run: `sancus explain` takes the deployment first, and then the trace"]
+        return ["this is the output of a run, and no deployment"]
+    if begun.startswith(b"<"):
+        return ["this looks like a page of HTML or XML, and a deployment is TOML"]
+    if begun.startswith(b"{") or begun.startswith(b"["):
+        return ["this looks like JSON, and a deployment is TOML"] if begun[1:2] in b'"{\n ' else []
+    return []
+
+
+def without_mark(command: str, name: str) -> List[str]:
+    """What to do about an input without `%%`."""
+    file = "FILE" if name == "-" else name
+    more = {
+        "run": ("SCHEDULE", "a schedule"),
+        "drive": ("READINGS", "readings"),
+        "explain": ("TRACE", "the output of a run"),
+        "snap": ("SCHEDULE", "a schedule"),
+    }.get(command)
+    if not more:
+        return []
+    return [
+        f"`sancus {command} {file} {more[0]}` takes {more[1]} from a file of its own; `sancus check {file}` needs no mark"
+    ]
+
+
+def of_act(act: str, line: bytes, command: str, plan: Optional[Plan]) -> List[str]:
+    """What a line is that is no line of a schedule."""
+    from cli.rules import near
+
+    text = line.strip()
+    if text == b"%%" and command == "run":
+        return ["a second `%%` is for `sancus snap`, whose queries stand after it"]
+    if text in (b"%%", b"%"):
+        return ["the mark is a line `%%` alone: no blank before or after it"]
+    if act in PEOPLE:
+        return [f"`{act}` is a line for people: `sancus schedule FILE | sancus run` takes those"]
+    if act in QUERIES:
+        return [f"`{act}` is a query of `sancus snap`: it stands after a second `%%`"]
+    if act in ITEMS:
+        return [f"`{act}` is an item of a trace, and no line of a schedule: the acts are {' '.join(ACTS)}"]
+    if plan and plan.named("device", act):
+        return [
+            "this looks like a reading: `sancus drive` takes those, and `sense DEVICE VALUE` is the line of a schedule"
+        ]
+    return [f"the acts: {' '.join(ACTS)}{near(act, list(ACTS))}"]
+
+
+def of_trace(line: bytes, first: bytes) -> List[str]:
+    """What was given in place of a trace."""
+    act = (line.split() or [b""])[0].decode(errors="replace")
+    if act in ACTS or act in PEOPLE or act.startswith("#"):
+        return ["this is a schedule, and no trace: `sancus run FILE > TRACE` writes one"]
+    if line.startswith((b"because ", b"legal ", b"illegal ")):
+        return ["this is what `explain` wrote: it takes what `run` or `drive` wrote"]
+    if b"=" in line or line.startswith(b"["):
+        return ["this is a deployment: `sancus explain` takes the deployment first, and then the trace"]
+    if act in ITEMS:
+        return ["the items stand after a line `trace`"]
+    return ["a trace is the output of `run` or `drive`"]

@@ -1,0 +1,252 @@
+"""What each command does."""
+
+from __future__ import annotations
+
+import os
+import subprocess
+from pathlib import Path
+from typing import Callable, Dict, List, Optional, Sequence, Tuple
+
+from cli import commands
+from cli.builds import Build, Builds
+from cli.context import Context
+from cli.output import print_lines, write
+from cli.program import Program
+from cli.say import Voice
+from cli.status import INTERRUPTED, NO_ANSWER, USAGE, Ended
+from cli.commands import BY_NAME, EVERYWHERE, COMMANDS, Given, Usage, Command
+
+OUT_OF_MEMORY = 6
+
+
+def schedule(context: Context, given: Given) -> int:
+    from cli.people import answer
+
+    return answer(context, given)
+
+
+def marks(context: Context, given: Given) -> int:
+    from cli.people import print_marked
+
+    return print_marked(context, given)
+
+
+def view(context: Context, given: Given) -> int:
+    from cli.view import answer
+
+    return answer(context, given)
+
+
+def variables(context: Context, given: Given) -> int:
+    from cli import inspection, variables
+
+    seen = inspection.inspected(given.text("INPUT"), given.has("drive"), context.program)
+    print_lines(*variables.told(seen, seen.module(given.text("MODULE")), seen.line_number(given.text("LINE"))))
+    return 0
+
+
+def steps(context: Context, given: Given) -> int:
+    from cli import inspection, stepping
+
+    seen = inspection.inspected(given.text("INPUT"), given.has("drive"), context.program)
+    print_lines(*stepping.told(seen, seen.line_number(given.text("LINE"))))
+    return 0
+
+
+def why(context: Context, given: Given) -> int:
+    from cli import causes
+
+    made = causes.explain(given.text("DEPLOYMENT"), given.text("TRACE"), context.program, context.voice)
+    causes.must_be_judged(made)
+    print_lines(*causes.why(made, given.text("ITEM")))
+    return 0
+
+
+def hex_files(context: Context, given: Given) -> int:
+    from cli.hexfiles import answer
+
+    return answer(context, given)
+
+
+def build(context: Context, given: Given) -> int:
+    from cli.building import build
+
+    return build(context.builds, context.voice, given.text("jobs"))
+
+
+def program_command(context: Context, given: Given) -> int:
+    from cli.running import answer
+
+    return answer(context, given)
+
+
+def help_(_context: Context, given: Given) -> int:
+    from cli import manual
+
+    if given.has("man"):
+        write(manual.man_page().encode())
+    elif given.has("completion"):
+        write(manual.completion().encode())
+    elif given.text("COMMAND"):
+        print_lines(*commands.help_of(known_command(given.text("COMMAND"))))
+    else:
+        print_lines(*commands.help_all())
+    return 0
+
+
+KINDS = {
+    "proved": "the proved build, crates/sancus_run/out/sancus_run",
+    "released": "the released build, release/sancus_run",
+    "named": "the program that is named",
+    "tried": "none: each call makes one without its proof",
+}
+
+
+def said_by(*command: str) -> str:
+    """The first line that a command prints, or nothing."""
+    try:
+        ran = subprocess.run(command, capture_output=True, text=True, errors="replace")
+    except OSError:
+        return ""
+    return ran.stdout.strip().partition("\n")[0] if ran.returncode == 0 else ""
+
+
+def commit_of(top: Path) -> str:
+    return said_by("git", "-C", str(top), "describe", "--always", "--dirty", "--abbrev=12") or "unknown"
+
+
+def kit_of(context: Context, chosen: Optional[Build]) -> str:
+    """The kit of a build: of the released one as its note names it, else the one that is here."""
+    noted = context.builds.notes_of_release().get("kit", "")
+    if chosen and chosen.kind == "released":
+        return noted
+    if chosen and chosen.kind in ("proved", "tried"):
+        return said_by("rt", "version") or "unknown"
+    return "unknown"
+
+
+def version(context: Context, _given: Given) -> int:
+    try:
+        chosen: Optional[Build] = context.builds.choose()
+    except Ended:
+        chosen = None
+    print_lines(
+        "sancus: Sancus applications, verified",
+        f"build: {KINDS[chosen.kind] if chosen else 'there is none here'}",
+        *([f"program: {' '.join(chosen.command)}"] if chosen else []),
+        f"kit: {kit_of(context, chosen)}",
+        f"commit: {commit_of(context.top)}",
+    )
+    return 0
+
+
+ANSWERS: Dict[str, Callable[[Context, Given], int]] = {
+    "schedule": schedule,
+    "marks": marks,
+    "view": view,
+    "vars": variables,
+    "steps": steps,
+    "why": why,
+    "hex": hex_files,
+    "build": build,
+    "version": version,
+    "help": help_,
+}
+
+
+def known_command(name: str) -> Command:
+    if name not in BY_NAME and os.path.exists(name):
+        raise Usage(f"{name} is a file, and a command comes first: `sancus run {name}`")
+    if name not in BY_NAME:
+        raise Usage(f"there is no command `{name}`{commands.did_you_mean(name, list(BY_NAME))}")
+    return BY_NAME[name]
+
+
+def before_the_command(call: Sequence[str]) -> Tuple[List[str], List[str]]:
+    """The options before the command, and the rest."""
+    options, left = [], list(call)
+    while left and left[0].startswith("-") and left[0] != "-":
+        it = left.pop(0)
+        options.append(it)
+        if it == "--program" and left:
+            options.append(left.pop(0))
+    return options, left
+
+
+def taken_apart(call: Sequence[str]) -> Given:
+    """The command of a call, with its arguments and options."""
+    options, left = before_the_command(call)
+    if "--version" in options or "-V" in options:
+        return Given(BY_NAME["version"])
+    if "--help" in options or "-h" in options:
+        return Given(BY_NAME["help"])
+    if not left:
+        raise Usage(
+            "a command is missing"
+            if not options
+            else f"there is no option {options[0]}{commands.did_you_mean(options[0], [it.name for it in EVERYWHERE] + ['--version'])}"
+        )
+    return commands.parse(known_command(left[0]), [*options, *left[1:]])
+
+
+def tell_usage(error: Usage, voice: Voice) -> int:
+    """Says what is wrong with the words. If they might be the program's, its own answer to them stands on standard
+    output."""
+    lines = [error.what]
+    if error.command:
+        lines.append(f"usage: {error.command.usage()}")
+        lines.append(f"`sancus {error.command.name} --help` says more")
+    else:
+        lines.append(f"the commands are: {' '.join(it.name for it in COMMANDS)}")
+        lines.append("`sancus help` says what each does")
+    voice.must_say(*lines)
+    if not error.command or error.command.is_programs:
+        print_lines("fault usage")
+    return USAGE
+
+
+def keep_streams_open() -> None:
+    """Puts something in place of a standard stream that is closed, where reads and writes fail as before: no file
+    that is opened becomes it."""
+    for fd, mode in ((0, os.O_WRONLY), (1, os.O_RDONLY), (2, os.O_RDONLY)):
+        try:
+            os.fstat(fd)
+        except OSError:
+            os.open(os.devnull, mode)
+
+
+def answer(call: Sequence[str], top: Path, voice: Voice) -> int:
+    given = taken_apart(call)
+    voice.is_quiet = given.has("quiet")
+    if given.has("help"):
+        print_lines(*commands.help_of(given.command))
+        return 0
+    builds = Builds(top, given.text("program") or os.environ.get("SANCUS_PROGRAM"))
+    context = Context(top, voice, builds, Program(builds, voice))
+    return ANSWERS.get(given.command.name, program_command)(context, given)
+
+
+def run(call: Sequence[str], top: Path) -> int:
+    """Answers a call, and returns the status to end with. Whatever happens, it is said in a line."""
+    keep_streams_open()
+    voice = Voice()
+    try:
+        try:
+            return answer(call, top, voice)
+        except Usage as error:
+            return tell_usage(error, voice)
+    except Ended as error:
+        voice.must_say(*error.lines)
+        return error.status
+    except KeyboardInterrupt:
+        return INTERRUPTED
+    except MemoryError:
+        voice.must_say("memory ran out in the front end")
+        return OUT_OF_MEMORY
+    except Exception as error:  # noqa: BLE001 (a person is told in a line, and may ask for more)
+        if os.environ.get("SANCUS_TRACEBACK"):
+            raise
+        voice.must_say(
+            f"a mistake of the front end itself: {type(error).__name__}: {error}; SANCUS_TRACEBACK=1 shows where"
+        )
+        return NO_ANSWER

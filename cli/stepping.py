@@ -1,0 +1,218 @@
+"""The instructions that a line of a schedule executed: each with its address, text, module, and the registers that it
+changed.
+
+The line is taken apart into steps (`run NODE 1`), which the program runs and `snap` is asked about.
+"""
+
+from __future__ import annotations
+
+from dataclasses import dataclass, field
+from typing import Dict, Iterator, List
+
+from cli.inspection import Inspected, broken
+from cli.numbers import number
+from cli.session import Stopped, snapped, start
+from cli.status import BAD_TEXT, Ended
+
+# More steps than this aren't shown: a schedule has room for 65,536 lines.
+MOST_STEPS = 20_000
+MOST_LISTED = 8192
+LONGEST = 6
+NAMES = ["pc", "sp", "sr", *(f"r{it}" for it in range(3, 16))]
+FLAGS = [(1, "C"), (2, "Z"), (4, "N"), (8, "GIE"), (16, "CPUOFF"), (256, "V")]
+
+
+@dataclass
+class Parts:
+    """A line taken apart: what is set first, and then steps of a node, so many or until no module runs."""
+
+    node: str
+    before: List[str] = field(default_factory=list)
+    most: int = MOST_STEPS
+    is_whole: bool = False
+    note: str = ""
+
+
+@dataclass
+class Step:
+    """A step: the registers before and after it, and its items."""
+
+    before: List[int]
+    after: List[int]
+    items: List[str]
+
+
+def parts_of(seen: Inspected, line: str) -> Parts:
+    words = line.split()
+    act = words[0] if words else ""
+    if act == "run":
+        return Parts(words[1], most=number(words[2]) or 0)
+    if act == "finish":
+        return Parts(words[1], is_whole=True)
+    if act == "call":
+        node, entry = seen.plan.node_of(words[1]), seen.plan.named("module", words[1]) or {}
+        sets = [
+            ("r12", words[2]),
+            ("r13", words[3]),
+            ("r14", words[4]),
+            ("r15", "0"),
+            ("pc", f"0x{entry.get('text'):x}"),
+        ]
+        return Parts(node, [f"set {node} {name} {value}" for name, value in sets], is_whole=True)
+    if act == "load":
+        return Parts(seen.plan.node_of(words[1]), most=1)
+    return Parts(
+        "", note="the line executes no instruction" + (": an interrupt is no instruction" if act == "irq" else "")
+    )
+
+
+def load_parts(seen: Inspected, module: str, image: str) -> List[str]:
+    """What a `load` does before its step: the image in pieces, the instruction that protects, and the registers."""
+    entry = seen.plan.named("module", module) or {}
+    node, bounds = seen.plan.node_of(module), seen.plan.bounds(entry)
+    assert bounds
+    pieces = [image[at : at + 2048] for at in range(0, len(image), 2048)]
+    lines = [f"put {node} 0x{bounds.text + 1024 * at:x} {piece}" for at, piece in enumerate(pieces)]
+    values = [entry.get("provider"), bounds.text, bounds.text_end, bounds.data, bounds.data_end]
+    return [
+        *lines,
+        f"asm {node} 0 protect",
+        *(f"set {node} r{9 + at} {value}" for at, value in enumerate(values)),
+        f"set {node} pc 0",
+    ]
+
+
+def image_of(seen: Inspected, module: str) -> str:
+    answer = seen.program.ask(["run"], seen.head + b"%%\n").decode(errors="replace")
+    return answer.partition(f"image {module} ")[2].partition("\n")[0]
+
+
+@dataclass
+class Walk:
+    """The steps of a line, as the program takes them one by one."""
+
+    items: List[List[str]] = field(default_factory=list)
+    lines: List[str] = field(default_factory=list)
+    is_busy: bool = False
+    is_cut: bool = False
+
+
+def walked(seen: Inspected, at: int, parts: Parts) -> Walk:
+    """Takes the steps, and finds how many they are."""
+    session = start(seen.program, seen.head, seen.plan)
+    walk = Walk()
+    try:
+        for it in seen.lines[: at - 1]:
+            session.do(it)
+        for it in parts.before:
+            items = session.do(it)
+            walk.is_busy = walk.is_busy or f"busy {parts.node}" in items
+        while not walk.is_busy and len(walk.items) < parts.most:
+            items, runs = session.step(parts.node)
+            walk.items.append(items)
+            if any(it.startswith(f"reset {parts.node} ") for it in items) or (parts.is_whole and not runs):
+                break
+        walk.is_cut = len(walk.items) == MOST_STEPS
+        walk.lines = session.lines
+    except Stopped as error:
+        raise broken(seen, str(error)) from None
+    finally:
+        session.close()
+    return walk
+
+
+def registers(seen: Inspected, node: str, lines: List[str], first: int, count: int) -> List[List[int]]:
+    """The registers of a node after each of some lines."""
+    answers = snapped(seen.program, seen.head, lines, [f"regs {node} {at}" for at in range(first, first + count)])
+    return [[int(it, 16) for it in answer.split(" ")[3:]] for answer in answers]
+
+
+def code_at(seen: Inspected, node: str, lines: List[str], places: Dict[int, int]) -> Dict[int, int]:
+    """The bytes at some addresses, each as it is after a line."""
+    queries = [f"bytes {node} 0x{pc:x} {min(LONGEST, 0x10000 - pc)} {line}" for pc, line in places.items()]
+    memory: Dict[int, int] = {}
+    for pc, answer in zip(places, snapped(seen.program, seen.head, lines, queries)):
+        for offset, byte in enumerate(bytes.fromhex(answer.split(" ")[-1])):
+            memory.setdefault(pc + offset, byte)
+    return memory
+
+
+def run_of_bytes(memory: Dict[int, int], begin: int) -> bytes:
+    end = begin
+    while end in memory and end - begin < MOST_LISTED:
+        end += 1
+    return bytes(memory[at] for at in range(begin, end))
+
+
+def disassembled(seen: Inspected, memory: Dict[int, int], addresses: List[int]) -> Dict[int, str]:
+    """The text of the instruction at each address, by the program's `dis`; neighbours are listed together."""
+    found: Dict[int, str] = {}
+    for pc in sorted(addresses):
+        if pc in found:
+            continue
+        code = run_of_bytes(memory, pc)
+        answer = seen.program.ask(["dis", str(pc)], code[: len(code) & ~1].hex("\n", 1024).encode() + b"\n")
+        for line in answer.decode(errors="replace").split("\n"):
+            words = line.split(" ", 2)
+            if len(words) == 3 and words[0].startswith("0x"):
+                found.setdefault(int(words[0], 16), words[2])
+        found.setdefault(pc, "?")
+    return found
+
+
+def changes(step: Step) -> str:
+    """The registers that a step changed, but PC."""
+    made = []
+    for name, old, new in list(zip(NAMES, step.before, step.after))[1:]:
+        if old != new:
+            flags = " ".join(flag for bit, flag in FLAGS if new & bit)
+            made.append(f"{name}=0x{new:04x}" + (f" ({flags})" if name == "sr" and flags else ""))
+    return " ".join(made)
+
+
+def module_at(seen: Inspected, node: str, pc: int) -> str:
+    for it in seen.plan.modules:
+        bounds = seen.plan.bounds(it)
+        if bounds and it.get("node") == node and bounds.text <= pc < bounds.text_end:
+            return str(it.get("name"))
+    return "-"
+
+
+def rows(seen: Inspected, node: str, steps: List[Step], texts: Dict[int, str]) -> Iterator[str]:
+    for at, step in enumerate(steps, 1):
+        pc = step.before[0]
+        row = f"{at:5} 0x{pc:04x} {module_at(seen, node, pc):<10} {texts.get(pc, '?'):<28} {changes(step)}"
+        yield row.rstrip()
+        for it in step.items:
+            yield f"      {it}"
+
+
+def told(seen: Inspected, at: int) -> List[str]:
+    """The steps of a line, as lines."""
+    line = seen.lines[at - 1] if at else ""
+    if not at:
+        raise Ended(BAD_TEXT, "line 0 is power-on: no instruction is executed there")
+    parts = parts_of(seen, line)
+    lines = [f"line {at}: {line}"]
+    if parts.note:
+        return [*lines, parts.note]
+    act, module = line.split()[0], line.split()[1]
+    if act == "load":
+        parts.before = load_parts(seen, module, image_of(seen, module))
+    lines += [shortened(it) for it in parts.before]
+    walk = walked(seen, at, parts)
+    if walk.is_busy:
+        return [lines[0], f"refused, since a module runs on {parts.node}: no instruction is executed"]
+    first = at - 1 + len(parts.before)
+    values = registers(seen, parts.node, walk.lines, first, len(walk.items) + 1)
+    steps = [Step(values[it], values[it + 1], items) for it, items in enumerate(walk.items)]
+    places: Dict[int, int] = {}
+    for number_, step in enumerate(steps):
+        places.setdefault(step.before[0], first + number_)
+    texts = disassembled(seen, code_at(seen, parts.node, walk.lines, places), list(places))
+    lines += rows(seen, parts.node, steps, texts)
+    return lines + ([f"and more: {MOST_STEPS:,} steps are shown at most"] if walk.is_cut else [])
+
+
+def shortened(line: str) -> str:
+    return line if len(line) < 80 else f"{line[:60]}.. ({len(line.split()[-1]) // 2} bytes)"

@@ -1,0 +1,140 @@
+"""Writes one HTML page that holds a run and draws it."""
+
+from __future__ import annotations
+
+import base64
+import re
+from dataclasses import dataclass
+from pathlib import Path
+from typing import Dict, List
+
+from cli.acts import is_act
+from cli.context import Context
+from cli.deployment import plan_of
+from cli.faults import Teller
+from cli.marks import CannotMark, marked_lines, marked_run
+from cli.output import print_lines
+from cli.program import Collected
+from cli.sinks import TraceOnly
+from cli.status import BAD_TEXT, NO_FILE, Ended
+from cli.texts import Input, find_mark, kept_of, read_all
+from cli.viewer.join import joined
+from cli.commands import Given, Usage
+
+SLOT = '<script type="text/plain" id="data">'
+Texts = Dict[str, bytes]
+
+
+@dataclass
+class Drawn:
+    """A run to draw: the program's output, and how it ended."""
+
+    texts: Texts
+    last: str
+    status: int
+
+
+def without_lines(text: bytes) -> bytes:
+    """The items of a marked run alone, with images and the last line."""
+    found = find_mark(text)
+    after = text[found[1] :] if found else text
+    return b"".join(it + b"\n" for it in after.split(b"\n")[:-1] if not it.startswith(b"> "))
+
+
+def causes_of(context: Context, head: bytes, trace: bytes) -> bytes:
+    """What `explain` says of a trace, if it says anything."""
+    sink = Collected()
+    ran = context.program.ran_of(["explain"], head + b"%%\n" + trace, sink)
+    return sink.data() if ran.status in (0, 8) else b""
+
+
+def of_run(context: Context, text: bytes) -> Drawn:
+    """A run, with the lines of its schedule if these are certain, and its causes."""
+    data, sink = Input(text), Collected()
+    ran = context.program.ran_of(["run"], text, sink)
+    output = sink.data()
+    plain = output
+    try:
+        lines = b"".join(it + b"\n" for it in marked_lines(data, marked_run(data, context.program)))
+        found = find_mark(lines)
+        if found and without_lines(lines) == plain:
+            output = lines[found[1] :]
+    except CannotMark as error:
+        context.voice.say(f"no marked run, so the page matches items and lines: {error}")
+    # (a run that ended in a fault of its schedule has a trace too)
+    has_trace = b"\ntrace\n" in b"\n" + plain
+    causes = causes_of(context, data.head, plain) if has_trace else b""
+    return Drawn({"input": text, "output": output, "causes": causes}, ran.last, ran.status)
+
+
+def of_readings(context: Context, text: bytes) -> Drawn:
+    """An honest run of readings: the lines of its schedule stand in the output."""
+    sink = Collected()
+    ran = context.program.ran_of(["drive"], text, sink)
+    trace = Collected()
+    only = TraceOnly(trace)
+    only.write(sink.data())
+    causes = causes_of(context, Input(text).head, trace.data())
+    return Drawn({"input": text, "output": sink.data(), "causes": causes}, ran.last, ran.status)
+
+
+def are_readings(data: Input) -> bool:
+    """Whether what stands after the mark are readings, and not lines of a schedule."""
+    plan = plan_of(data.head)
+    first = next((it for it in data.schedule if is_act(it)), b"").split()
+    return bool(plan and len(first) == 2 and plan.named("device", first[0].decode(errors="replace")))
+
+
+def page_of(texts: Texts) -> str:
+    """The page, with texts that it holds in base64, so that none can end the script element."""
+    held = "\n".join(f"{name} {base64.b64encode(text).decode()}" for name, text in texts.items() if text)
+    return joined().replace(SLOT, SLOT + held, 1)
+
+
+def write_page(path: Path, text: str) -> None:
+    try:
+        path.write_text(text)
+    except OSError as error:
+        raise Ended(NO_FILE, f"{path} can't be written: {error.strerror}") from None
+
+
+def given_texts(files: List[str]) -> Texts:
+    texts = {"input": read_all(files[0]), "output": read_all(files[1])}
+    if len(files) > 2:
+        texts["causes"] = read_all(files[2])
+    if not re.search(rb"(?m)^(trace\r?$|> )", texts["output"]):
+        raise Ended(BAD_TEXT, f"{files[1]} isn't what `run` or `drive` wrote: it has no line `trace`")
+    return texts
+
+
+def run_texts(context: Context, given: Given, name: str) -> Texts:
+    """The texts of a run that is made now; none if the input isn't taken."""
+    text = read_all(name)
+    data = Input(text)
+    is_driven = given.has("drive") or are_readings(data)
+    if is_driven and not given.has("drive"):
+        context.voice.say(f"{name} has readings: the honest run of them is drawn")
+    drawn = (of_readings if is_driven else of_run)(context, text)
+    if drawn.last.startswith("fault "):
+        lines = Teller(kept_of(text, name), "drive" if is_driven else "run", context.program.ask).told(drawn.last)
+        if drawn.last.startswith("fault deployment") or drawn.last == "fault read":
+            raise Ended(BAD_TEXT, drawn.last, *lines, "there is nothing to draw")
+        context.voice.say(drawn.last, *lines, "what came before is drawn")
+    return drawn.texts
+
+
+def answer(context: Context, given: Given) -> int:
+    files = [it for name in ("INPUT", "OUTPUT", "CAUSES") for it in given.texts(name)]
+    if given.has("empty"):
+        page = Path(given.text("page") or "viewer.html")
+        write_page(page, joined())
+        print_lines(str(page))
+        return 0
+    if not files:
+        raise Usage("`view` takes INPUT, or --empty", given.command)
+    texts = given_texts(files) if len(files) > 1 else run_texts(context, given, files[0])
+    name = Path(files[0] if files[0] != "-" else "run.txt")
+    page = Path(given.text("page") or name.with_suffix(".html"))
+    write_page(page, page_of({**texts, "name": name.name.encode()}))
+    print_lines(str(page))
+    return 0

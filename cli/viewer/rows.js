@@ -1,0 +1,232 @@
+// The rows of the picture, a line of the schedule or an item each, in groups that fold.
+
+// Runs with more rows than this open folded.
+const FOLDED_FROM = 1500;
+// A set-up of more rows than this is folded, and the page opens behind it.
+const SET_UP_FROM = 12;
+
+class Run {
+  constructor(texts) {
+    this.notes = [];
+    this.output = texts.output ? readOutput(texts.output) : null;
+    this.input = texts.input ? readInput(texts.input) : null;
+    this.causes = texts.causes ? readCauses(texts.causes) : null;
+    this.plan = new Plan(this.input?.head ?? texts.head ?? null, this.output);
+    this.rows = [];
+    this.isMade = false;
+    this.groups = [];
+    this.packets = new Map();
+    this.firstForged = null;
+    this.boots = new Map();
+    this.fault = /^fault schedule \S+ ([0-9]+)$/.exec(this.output?.last ?? "");
+    this.addRows(this.lines());
+    this.findSpans();
+    this.say();
+    for (const group of this.groups) group.isFolded = this.rows.length > FOLDED_FROM && group.rows.length > 1;
+    this.foldSetUp();
+    this.place();
+  }
+
+  note(text, isBad) { this.notes.push({text, isBad}); }
+
+  // The lines of the schedule, each with its items, or one line of all items where they can't be told apart.
+  lines() {
+    const {input, output} = this;
+    if (output?.lines) return this.numbered(output.lines);
+    if (!input) return [this.wholeRun()];
+    if (!output) {
+      this.note("Only the schedule is here: open the output too.", false);
+      return input.lines;
+    }
+    const {error, unsure} = new Matcher(input.lines, output, this.plan).match();
+    if (error) {
+      this.note(`${error} The items are shown by themselves.`, true);
+      return [this.wholeRun()];
+    }
+    if (unsure)
+      this.note(
+          `The output doesn't say which line an item belongs to: ${
+              unsure} of the lines fit in more than one ` +
+              "way, and the likeliest is shown (≈). A marked run, as `sancus view` makes it, is exact.",
+          false);
+    return input.lines;
+  }
+
+  wholeRun() { return {number: null, text: "", words: [], kind: "all", items: this.output?.items ?? []}; }
+
+  // Gives lines of a marked run the numbers that they have in the input.
+  numbered(lines) {
+    const own = (this.input?.lines ?? []).filter(line => line.kind);
+    if (lines.every((line, k) => line.text.trim() === own[k]?.text.trim()))
+      lines.forEach((line, k) => line.number = own[k].number);
+    return lines;
+  }
+
+  say() {
+    const {plan, output, causes} = this;
+    if (plan.error)
+      this.note(`The deployment isn't read (${plan.error}): names are taken from the trace.`, true);
+    if (output && !output.last) this.note("The output has no last line: it is cut.", true);
+    if (output?.last?.startsWith("fault")) this.note(output.last, true);
+    if (output?.odd.length) this.note(`${output.odd.length} lines are no items: ${output.odd[0]}`, true);
+    if (causes?.illegal) this.note(`explain: item ${causes.illegal} is illegal.`, true);
+    const others = [...causes?.because ?? []].some(
+        ([item, cause]) => item > (output?.items.length ?? 0) || cause >= item);
+    if (others) this.note("The causes aren't those of this output.", true);
+  }
+
+  begin(title, kind) {
+    this.group = {title, kind, rows: [], items: 0, outs: [], troubles: [], isFolded: false};
+    this.groups.push(this.group);
+  }
+
+  add(row) {
+    if (!this.group) this.begin("the run", "");
+    Object.assign(row, {group: this.group, index: this.rows.length, isAfter: this.firstForged !== null});
+    this.group.rows.push(row);
+    this.rows.push(row);
+    return row;
+  }
+
+  addRows(lines) {
+    let before = "";
+    for (const line of lines) {
+      if (this.fault && line.number > Number(this.fault[1])) break;
+      if (line.kind === "#")
+        this.addNote(line, before);
+      else if (line.kind)
+        this.addLine(line, before);
+      before = line.kind;
+    }
+  }
+
+  // A comment begins a group, but those of `sancus schedule` don't split what a person's comment began: `#= PLACE LINE` stands before
+  // what was made of a line for people, and `# NAME is packet N` after a packet.
+  addNote(line, before) {
+    const text = line.text.replace(/^\s*#\s?/, "");
+    const made = /^= *(\S+:[0-9]+|line [0-9]+) (.*)$/.exec(text);
+    const isOwn = !made && !/^\S+ is packet [0-9]+$/.test(text);
+    if (isOwn && before !== "#") this.begin(text, "#");
+    if (made && this.group?.kind !== "#") this.begin(made[2], "made");
+    this.isMade = made !== null || this.isMade && !isOwn;
+    this.add({kind: "note", text: made ? `${made[2]}  (${made[1]})` : text, line});
+  }
+
+  addLine(line, before) {
+    const {kind, words, items} = line;
+    if (!this.isMade) this.beginGroup(kind, words, before);
+    if (kind === "load" && this.group.kind === "load") this.group.title += ` ${words[1]}`;
+    // an item that is all that the line does stands in the line's own row
+    const isOne = ["take", "forge", "sense", "reset", "ask", "load"].includes(kind) && items.length > 0 &&
+        !["forged", "busy"].includes(items[0].kind);
+    const act = kind === "all" ? null : this.add({kind: "act", line, item: isOne ? items[0] : null});
+    if (act && this.fault && line.number === Number(this.fault[1])) act.fault = this.output.last;
+    if (kind === "give") this.keepPacket(numberOf(words[1]), act, "given");
+    if (kind === "answer") this.keepPacket(numberOf(words[3]), act, "taken by the deployer");
+    items.forEach(
+        (item, k) => this.addItem(line, item, isOne && k === 0 ? act : this.add({kind: "item", line, item})));
+  }
+
+  beginGroup(kind, words, before) {
+    if (kind === "sense") this.begin(`sense ${words[1]} ${words[2]}`, kind);
+    if (kind === "ask") this.begin(`attest ${words[1]}`, kind);
+    if (kind === "load" && before !== "load") this.begin("load", kind);
+  }
+
+  // The first row after the set-up: after the loading, asking and opening that a schedule begins with. The first row where there is none.
+  afterSetUp() {
+    const isSetUp = ({kind, words}) => ["", "#", "load", "ask", "answer", "give", "take"].includes(kind) ||
+        kind === "call" && numberOf(words[2]) < 2;
+    const first = this.rows.find(row => !isSetUp(row.line));
+    let group = first?.group;
+    // (with the comment that stands over it)
+    const before = this.groups[this.groups.indexOf(group) - 1];
+    if (before?.rows.every(row => row.kind === "note")) group = before;
+    const begun = group?.rows[0];
+    return begun && begun.index >= SET_UP_FROM ? begun : this.rows[0];
+  }
+
+  foldSetUp() {
+    const first = this.afterSetUp();
+    if (first) for (const group of this.groups.slice(0, this.groups.indexOf(first.group))) group.isFolded = group.rows.length > 1;
+  }
+
+  addItem(line, item, row) {
+    item.row = row;
+    const group = row.group;
+    group.items++;
+    if (item.kind === "out") group.outs.push(item);
+    if (this.plan.isTrouble(item)) group.troubles.push(item);
+    if (item.kind === "forged") this.firstForged ??= item;
+    if (item.kind === "reset") {
+      row.boot = (this.boots.get(item.words[1]) ?? 0) + 1;
+      this.boots.set(item.words[1], row.boot);
+    }
+    if (item.kind === "packet") {
+      const made = {take: "taken from memory", forge: "made up"}[line.kind] ?? "made by the deployer";
+      this.keepPacket(Number(item.words[1]), row, made);
+    }
+  }
+
+  keepPacket(number, row, what) {
+    if (!this.packets.has(number)) this.packets.set(number, []);
+    this.packets.get(number).push({row, what});
+  }
+
+  packetOf(row) {
+    if (row.item?.kind === "packet") return Number(row.item.words[1]);
+    if (row.line?.kind === "give") return numberOf(row.line.words[1]);
+    return row.line?.kind === "answer" && row.kind === "act" ? numberOf(row.line.words[3]) : null;
+  }
+
+  // From where to where a module's section stands, and each call of it runs, by the rows' indices.
+  findSpans() {
+    this.sections = new Map();
+    this.turns = new Map();
+    const open = (map, module, index) => {
+      if (!map.has(module)) map.set(module, []);
+      map.get(module).push({from: index, to: null});
+    };
+    const close = (map, module, index) => {
+      const span = map.get(module)?.at(-1);
+      if (span && span.to === null) span.to = index;
+    };
+    for (const {kind, line, item, index} of this.rows) {
+      const called = this.rows[index + 1];
+      if (kind === "act" && line.kind === "call" && called?.line === line && called.item?.kind !== "busy")
+        open(this.turns, line.words[1], index);
+      if (item?.kind === "protect" && item.words[2] !== "-") open(this.sections, item.words[2], index);
+      if (item?.kind === "done") close(this.turns, item.words[1], index);
+      if (item?.kind !== "reset") continue;
+      for (const module of this.plan.modules.values()) {
+        if (module.node !== item.words[1]) continue;
+        close(this.sections, module.name, index);
+        close(this.turns, module.name, index);
+      }
+    }
+  }
+
+  // Which rows are shown, and at which place each stands: a folded group is one row.
+  place() {
+    this.shown = [];
+    for (const group of this.groups) {
+      const first = this.shown.length;
+      if (group.isFolded)
+        this.shown.push(
+            {kind: "group", group, index: group.rows[0].index, line: null, isAfter: group.rows[0].isAfter});
+      else
+        this.shown.push(...group.rows);
+      group.rows.forEach((row, k) => row.place = group.isFolded ? first : first + k);
+      if (group.isFolded) this.shown.at(-1).place = first;
+    }
+  }
+
+  // The row's item and its causes back to a `sense`, as `explain` has them.
+  chain(row) {
+    const items = [];
+    for (let item = row.item; item;
+         item = this.output.items[(this.causes?.because.get(item.number) ?? 0) - 1])
+      items.push(item);
+    return items;
+  }
+}

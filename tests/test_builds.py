@@ -1,0 +1,169 @@
+"""Builds without proof, and `sancus build`, by a command rt that only prints; its lines are those of the real one.
+
+Which build is started, by sums, is tried by tools/test_release.sh.
+"""
+
+import os
+import shutil
+import subprocess
+import unittest
+from pathlib import Path
+
+from support import TOP, Room
+
+from cli.builds import Sources, sum_of
+
+
+class Builds(Room):
+    """A repository with sources alone, and an rt that is a shell program."""
+
+    def setUp(self):
+        super().setUp()
+        self.top = self.room / "repository"
+        self.crate = self.top / "crates" / "sancus_run"
+        for folder in (self.crate / "src", self.top / "crates" / "sx_top" / "specs", self.room / "bin"):
+            folder.mkdir(parents=True)
+        for name, text in (("crates.txt", "sancus_run: sx_top\nsx_top:\n"), ("HANDLES", "none\n")):
+            (self.top / name).write_text(text)
+        (self.crate / "src" / "main.rt").write_text("fn main() {}\n")
+        shutil.copy(TOP / "sancus", self.top)
+        shutil.copytree(TOP / "cli", self.top / "cli", ignore=shutil.ignore_patterns("__pycache__"))
+
+    def rt(self, script):
+        path = self.room / "bin" / "rt"
+        path.write_text(f"#!/bin/bash\n{script}\n")
+        path.chmod(0o755)
+
+    def call(self, *words, text="in\n", **env):
+        path = f"{self.room / 'bin'}:{os.environ['PATH']}"
+        whole = {**os.environ, "PATH": path, **env}
+        whole.pop("SANCUS_PROGRAM", None)
+        ran = subprocess.run([self.top / "sancus", *words], input=text, capture_output=True, text=True, env=whole)
+        return ran.returncode, ran.stdout, ran.stderr
+
+    def test_a_build_without_proof(self):
+        self.rt('cat; echo "run=ended status=3 runners=1 proved=no" >&2; exit 3')
+        status, out, said = self.call("run")
+        self.assertEqual((status, out), (3, "in\n"))
+        self.assertIn("this build isn't proved", said)
+        file = self.file("x", "of a file\n")
+        self.assertEqual(self.call("run", str(file))[1], "of a file\n")
+
+    def test_a_fault_in_words(self):
+        self.rt(
+            'cat >/dev/null; echo "fault deployment D4 top"; echo "run=ended status=1 runners=1 proved=no" >&2; exit 1'
+        )
+        status, out, said = self.call("check", str(self.file("x", "secret = 3\n%%\n")))
+        self.assertEqual((status, out), (1, "fault deployment D4 top\n"))
+        self.assertIn("must be 32 hexadecimal digits", said)
+
+    def test_no_answer(self):
+        for script, words in (
+            (
+                'echo "src/main.rt:31:21: error: no such type" >&2; echo "run=none proved=no" >&2; exit 1',
+                "src/main.rt:31:21: error",
+            ),
+            (
+                'echo "checked: fault: an index out of bounds" >&2; echo "run=fault proved=no" >&2; exit 1',
+                "an index out of bounds",
+            ),
+            ('echo trace; echo "run=no-answer proved=no" >&2; exit 6', "was ended early, after 5 seconds"),
+        ):
+            self.rt(script)
+            status, _, said = self.call("run", SANCUS_SECONDS="5")
+            self.assertEqual(status, 125)
+            self.assertIn(words, said)
+
+    def test_words_are_judged_before_anything_is_built(self):
+        self.rt('echo "rt was called" >&2')
+        for words in ("", "--help", "help", "run --help", "gen 0", "dis", "nothing", "build 3", "build --jobs x"):
+            self.assertNotIn("rt was called", self.call(*words.split())[2])
+
+    def test_no_rt(self):
+        (self.room / "bin" / "python3").symlink_to(shutil.which("python3"))
+        ran = subprocess.run(
+            [self.top / "sancus", "run"],
+            capture_output=True,
+            text=True,
+            env={"PATH": str(self.room / "bin") + ":/usr/bin:/bin"},
+        )
+        self.assertEqual(ran.returncode, 125)
+        self.assertIn("isn't on the path", ran.stderr)
+
+    def test_line_by_line_needs_a_build(self):
+        self.rt('echo "run=none proved=no" >&2; exit 1')
+        status, out, said = self.call("schedule", text="%%\nreset n\n")
+        self.assertEqual((status, out), (125, ""))
+        self.assertIn("needs a build that stands", said)
+
+    def test_build(self):
+        self.rt(
+            'echo "fn sancus_run::main: proved"; mkdir -p out; printf "#!/bin/bash\\necho built\\n" >out/sancus_run; chmod +x out/sancus_run'
+        )
+        status, out, said = self.call("build", "--jobs", "1")
+        self.assertEqual((status, out), (0, ""))
+        for words in ("proved and built in ", "fn sancus_run::main: proved", "; 1 at a time"):
+            self.assertIn(words, said)
+        self.assertEqual(self.call("run")[:2], (0, "built\n"))
+        self.assertIn("proved build", self.call("version")[1])
+        (self.crate / "src" / "main.rt").write_text("fn main() { }\n")
+        self.assertIn("crates/sancus_run/src/main.rt differs", self.call("run")[2])
+
+    def test_build_one_by_one(self):
+        self.rt(
+            'if [[ "$1" == all ]]; then echo "$PWD: $*"; exit; fi\nmkdir -p out; printf "#!/bin/bash\\n" >out/sancus_run; chmod +x out/sancus_run'
+        )
+        self.assertIn(f"{self.top}/crates: all check --jobs 4", self.call("build", "--jobs", "4")[2])
+
+    def test_build_says_how_far_it_is(self):
+        work = "../../crates/sx_top/out/rlib"
+        self.rt(
+            f'mkdir -p {work}; sleep 0.5; touch {work}/stamp; sleep 0.5; mkdir -p out; printf "#!/bin/bash\\n" >out/sancus_run; chmod +x out/sancus_run'
+        )
+        said = self.call("build", "--jobs", "1", SANCUS_LOOK="0.1")[2]
+        self.assertIn("0 of 1 crates below the program are proved, after 0 seconds; at work: sx_top", said)
+        self.assertIn("1 of 1 crates below the program are proved", said)
+
+    def test_a_build_that_fails(self):
+        self.rt('echo "fn sancus_run::main: not proved"; exit 1')
+        status, _, said = self.call("build", "--jobs", "1")
+        self.assertEqual(status, 125)
+        self.assertIn("fn sancus_run::main: not proved", said)
+        self.assertIn("not built", said)
+
+
+class Sums(Room):
+    def test_the_sum_is_that_of_release_sh(self):
+        """By the definition of tools/release.sh: sums and names, in the order of the names' bytes."""
+        (self.room / "crates" / "b" / "out").mkdir(parents=True)
+        for name in (
+            "crates.txt",
+            "HANDLES",
+            "crates/b/x.rt",
+            "crates/b/B.antt",
+            "crates/b/out/x.rt",
+            "crates/a.rt",
+            "crates/b/x.txt",
+        ):
+            (self.room / name).write_text(name)
+        sources = Sources(self.room)
+        names = ["crates.txt", "HANDLES", "crates/a.rt", "crates/b/B.antt", "crates/b/x.rt"]
+        self.assertEqual(sources.names(), names)
+        lines = "".join(f"{sum_of(name.encode())}  {name}\n" for name in names)
+        self.assertEqual(sources.sum(), sum_of(lines.encode()))
+        kept = Path(self.room, "out", "sources.kept").read_text()
+        self.assertEqual(sources.sum(), sum_of(lines.encode()))
+        self.assertEqual(Path(self.room, "out", "sources.kept").read_text(), kept)
+        (self.room / "crates" / "a.rt").write_text("other")
+        self.assertNotEqual(sources.sum(), sum_of(lines.encode()))
+
+    def test_of_this_repository(self):
+        script = TOP / "tools" / "release.sh"
+        if not script.is_file():
+            self.skipTest("there is no tools/release.sh")
+        ran = subprocess.run([script, "sources"], capture_output=True, text=True)
+        self.assertEqual(ran.stdout.strip(), Sources(TOP).sum())
+
+
+if __name__ == "__main__":
+    unittest.main()

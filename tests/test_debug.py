@@ -1,0 +1,198 @@
+"""`vars`, `steps`, `why` and `explain --words`: where a run stands, and why, by the program's own answers."""
+
+import unittest
+
+from support import EXAMPLES, HEAD, LIGHTING, Room, needs_program, program, sancus
+
+LIGHTING_FILE = EXAMPLES / "lighting.txt"
+ARRAYS = LIGHTING.replace(
+    b"var limit = 100;\non level(v) { if v > limit {",
+    b"var limit = 100; array last[3]; var n = 7;\non level(v) { last[1] = v; n = n + 65530; limit = limit - 1; if v > limit {",
+)
+
+
+@needs_program
+class Variables(Room):
+    def test_after_the_last_line(self):
+        ran = sancus("vars", LIGHTING_FILE, "logic", "45")
+        self.assertEqual(
+            ran.lines,
+            [
+                "line 45: call lamp 2 0x300 0x400",
+                "module logic on node a, boot 0: it stands, since line 3; text 0x6000 to 0x6c00, data 0x2000 to 0x2232",
+                "var limit = 100",
+                "end up to: open in epoch 0, next event 1 (takes from eye)",
+                "end down from: open in epoch 0, next event 1 (sends to lamp)",
+                "pc of a 0x0000, outside the deployed modules",
+            ],
+            ran.said,
+        )
+
+    def test_before_keys_and_before_it_stands(self):
+        self.assertIn("end up to: not open (takes from eye)", sancus("vars", LIGHTING_FILE, "logic", "4").lines)
+        self.assertIn("it doesn't stand after this line", sancus("vars", LIGHTING_FILE, "logic", "0").out.decode())
+        reset = self.file("x", LIGHTING + b"reset a\n")
+        self.assertIn("boot 1: it doesn't stand", sancus("vars", reset, "logic", "46").out.decode())
+
+    def test_arrays_and_first_values(self):
+        lines = sancus("vars", self.file("x", ARRAYS), "logic", "45").lines
+        self.assertEqual(lines[2:5], ["var limit = 99", "array last = 0 120 0", "var n = 1"])
+
+    def test_readings(self):
+        lines = sancus("vars", EXAMPLES / "readings.txt", "logic", "58", "--drive").lines
+        self.assertIn("end up to: open in epoch 0, next event 4 (takes from eye)", lines)
+
+    def test_misuse(self):
+        for words, said in (
+            (("vars", LIGHTING_FILE, "ear", "1"), "there is no module ear: eye logic lamp"),
+            (("vars", LIGHTING_FILE, "eye", "46"), "46 is no line of the schedule: it has 45"),
+            (("vars", LIGHTING_FILE, "eye", "x"), "x is no line of the schedule"),
+            (("vars", self.file("a", HEAD), "eye", "1"), "has no line %%"),
+            (("vars", self.file("b", b"node = 3\n%%\n"), "eye", "1"), "`node` must be an array of tables"),
+            (("vars", self.file("c", LIGHTING + b"fly\n"), "eye", "46"), "S3: its first word is no act"),
+            (("vars", EXAMPLES / "readings.txt", "eye", "2"), "S3"),
+        ):
+            ran = sancus(*words)
+            self.assertEqual((ran.status, ran.out), (122, b""), ran.said)
+            self.says(ran, said)
+
+
+@needs_program
+class Steps(Room):
+    def test_a_call(self):
+        ran = sancus("steps", LIGHTING_FILE, "39")
+        lines = ran.lines
+        self.assertEqual(
+            lines[:6],
+            [
+                "line 39: call eye 3 0x300 0x400",
+                "set a r12 3",
+                "set a r13 0x300",
+                "set a r14 0x400",
+                "set a r15 0",
+                "set a pc 0x4000",
+            ],
+            ran.said,
+        )
+        self.assertEqual(lines[6].split()[:3], ["1", "0x4000", "eye"])
+        self.assertEqual([it.strip() for it in lines if it.startswith("      ")], ["read eye 120", "done eye 1 1"])
+        self.assertFalse([it for it in lines if "?" in it])
+        # as many steps as `run` takes
+        steps = len([it for it in lines if it[:5].strip().isdigit()])
+        sets = "set a r12 3\nset a r13 0x300\nset a r14 0x400\nset a r15 0\nset a pc 0x4000\n"
+        for more, is_done in ((0, True), (-1, False)):
+            text = LIGHTING.decode().replace("call eye 3 0x300 0x400", f"{sets}run a {steps + more}")
+            self.assertEqual(program("run", text=text).lines.count("done eye 1 1"), 1 + is_done)
+
+    def test_plain_code(self):
+        text = b"%%\nset n sp 0x600\nasm n 0x800 mov #5, r5; add #0xffff, r5; mov r5, &0x900\nset n pc 0x800\nrun n 3\n"
+        self.assertEqual(
+            sancus("steps", self.file("x", text), "4").lines,
+            [
+                "line 4: run n 3",
+                "    1 0x0800 -          mov #0x5, r5                 r5=0x0005",
+                "    2 0x0804 -          add #0xffff, r5              sr=0x0001 (C) r5=0x0004",
+                "    3 0x0806 -          mov r5, &0x900",
+            ],
+        )
+
+    def test_a_reset(self):
+        lines = sancus("steps", self.file("x", b"%%\nasm n 0x800 .word 0\nset n pc 0x800\nrun n 9\n"), "3").lines
+        self.assertEqual([it.split()[0] for it in lines[1:]], ["1", "reset"])
+
+    def test_load_and_lines_without_instructions(self):
+        lines = sancus("steps", LIGHTING_FILE, "2").lines
+        self.assertIn("protect", lines[-2])
+        self.assertEqual(lines[-1].strip(), "protect a eye")
+        self.assertIn("executes no instruction", sancus("steps", LIGHTING_FILE, "38").out.decode())
+        self.assertIn("executes no instruction", sancus("steps", LIGHTING_FILE, "1").out.decode())
+
+    def test_busy(self):
+        text = (
+            LIGHTING
+            + b"give 10 a 0x300\nset a r12 2\nset a r13 0x300\nset a r14 0x400\nset a r15 0\nset a pc 0x6000\nrun a 5\ncall eye 3 0x300 0x400\n"
+        )
+        self.assertIn("refused, since a module runs on a", sancus("steps", self.file("x", text), "53").out.decode())
+
+
+@needs_program
+class Why(Room):
+    def setUp(self):
+        super().setUp()
+        self.trace = self.file("t", program("run", text=LIGHTING).out)
+
+    def changed(self, old, new):
+        text = self.trace.read_bytes()
+        self.assertIn(old, text)
+        return self.file("c", text.replace(old, new, 1))
+
+    def test_a_chain(self):
+        wanted = [
+            "42 out lamp 1: lamp wrote 1 to its actuator",
+            "  because of 41 take lamp down 0 1: lamp took event 0 of down (logic.bright to lamp.show), with the value 1 (the last event that triggered it)",
+            "  because of 38 take logic up 0 120: logic took event 0 of up (eye.level to logic.level), with the value 120 (where this event was sent)",
+            "  because of 35 read eye 120: eye read 120 from its sensor (where this event was sent)",
+            "  because of 34 sense light 120: the sensor light got the value 120 (the sensor's last sample)",
+        ]
+        for words in (("42",), ()):
+            self.assertEqual(sancus("why", LIGHTING_FILE, self.trace, *words).lines, wanted)
+
+    def test_items_without_a_cause(self):
+        self.assertIn("here the chain ends", sancus("why", LIGHTING_FILE, self.trace, "34").out.decode())
+        self.assertIn("and no others", sancus("why", LIGHTING_FILE, self.trace, "1").out.decode())
+        self.says(sancus("why", LIGHTING_FILE, self.trace, "99"), "99 is no item: the trace has 43")
+
+    def test_illegal_items(self):
+        for old, new, words in (
+            (b"out lamp 1", b"out lamp 2", "it emits 1 now, and not 2"),
+            (b"take lamp down 0 1", b"take lamp down 0 2", "logic sent the value 1 as event 0 of down, and not 2"),
+            (
+                b"take lamp down 0 1",
+                b"take lamp down 1 1",
+                "logic sent 1 events over down in epoch 0, so there is no event 1",
+            ),
+            (b"read eye 120", b"read eye 121", "the sensor light has the value 120, and not 121"),
+            (b"sense light 120\n", b"", "has no new sample"),
+            (b"open lamp down to\ndone lamp 1 0\n", b"", "lamp's end of down isn't open"),
+            (b"attested eye 0", b"attested eye 1", "didn't vouch for challenge 0 at boot 1"),
+            (b"vouch eye 0\n", b"", "no item shows what"),
+            (b"protect b lamp\n", b"", "lamp doesn't stand"),
+            (b"done eye 1 1\npacket 10", b"packet 10", None),
+            (b"done lamp 1 0\nend", b"done lamp 1 1\nend", "makes 0 pieces over its open ends, and not 1"),
+        ):
+            with self.subTest(new=new, old=old):
+                trace = self.changed(old, new)
+                ran = sancus("why", LIGHTING_FILE, trace)
+                last = program("explain", text=HEAD + b"%%\n" + trace.read_bytes()).lines[-1]
+                if words is None:
+                    continue
+                self.assertTrue(last.startswith("illegal "), last)
+                self.assertIn(f"illegal: {last.split()[1]} ", ran.out.decode())
+                self.assertIn(words, ran.lines[-1])
+
+    def test_the_tampered_example(self):
+        lines = sancus("why", LIGHTING_FILE, EXAMPLES / "tampered.trace").lines
+        self.assertTrue(lines[-2].startswith("illegal: 38 done logic 1 1"))
+        self.assertIn("no item shows what: an `open`, `vouch`, `take` or `read` of it is missing", lines[-1])
+
+    def test_a_driven_trace(self):
+        driven = self.file("d", program("drive", text=(EXAMPLES / "readings.txt").read_bytes()).out)
+        self.assertIn("  because of", sancus("why", EXAMPLES / "readings.txt", driven).lines[1])
+
+    def test_explain_words(self):
+        ran = sancus("explain", "--words", LIGHTING_FILE, self.trace)
+        self.assertEqual(ran.status, 0)
+        self.assertEqual(ran.lines[-1], "legal: the first 43 items are a legal run of the sources")
+        self.assertIn("because of 41 take lamp down 0 1", ran.lines[-2])
+        ran = sancus("explain", "--words", LIGHTING_FILE, EXAMPLES / "tampered.trace")
+        self.assertEqual(ran.status, 8)
+        self.assertIn("illegal: 38", ran.out.decode())
+        self.says(sancus("why", LIGHTING_FILE, LIGHTING_FILE), "the trace isn't judged: fault trace E1 1")
+
+    def test_forged(self):
+        trace = self.file("f", program("run", text=(EXAMPLES / "forged.txt").read_bytes()).out)
+        self.assertIn("forged: ", sancus("explain", "--words", EXAMPLES / "forged.txt", trace).out.decode())
+
+
+if __name__ == "__main__":
+    unittest.main()

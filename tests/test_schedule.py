@@ -1,0 +1,182 @@
+"""`sancus schedule`: lines for people, done by the program as they are written."""
+
+import unittest
+
+from support import HEAD, LIGHTING, Room, needs_program, program, sancus, one_by_one
+
+DEPLOYMENT = HEAD.decode() + "%%\n"
+READING = "deploy all\nsample eye 120\ncarry eye logic\ncarry logic lamp\n"
+RENEWED = "deploy all\nreset a\ndeploy eye logic\nsample eye 120\ncarry eye logic\ncarry logic lamp\n"
+# One output that leads to two modules, as a spot's to violations and free spots; another input; and an output with
+# two connections to one module.
+FAN_OUT = """secret = "000102030405060708090a0b0c0d0e0f"
+node = [ { name = "a", key = "101112131415161718191a1b1c1d1e1f" }, { name = "b", key = "202122232425262728292a2b2c2d2e2f" } ]
+device = [ { name = "spot", node = "a", kind = "sensor", at = 0x1000 } ]
+connection = [ { name = "to_vio", from = "eye.o", to = "vio.i" }, { name = "to_agg", from = "eye.o", to = "agg.i" },
+               { name = "again", from = "eye.o", to = "agg.j" } ]
+[[module]]
+name = "eye"
+node = "a"
+provider = 7
+text = 0x4000
+device = "spot"
+source = "sensor; output o; var last = 2; sample(v) { let n = v != 0; if n != last { last = n; send o(n); } }"
+[[module]]
+name = "vio"
+node = "a"
+provider = 8
+text = 0x6000
+data = 0x2000
+source = "input i; output o; on i(v) { send o(v); }"
+[[module]]
+name = "agg"
+node = "b"
+provider = 9
+text = 0x6000
+data = 0x2000
+source = "input i; input j; var x; on i(v) { x = v; } on j(v) { x = v; }"
+%%
+"""
+
+
+def written(lines, *words, deployment=DEPLOYMENT):
+    return sancus("schedule", *words, text=deployment + lines)
+
+
+def acts(text):
+    """The lines of a schedule without comments."""
+    return [it for it in text.partition("%%\n")[2].splitlines() if it and not it.startswith("#")]
+
+
+def trace(text):
+    return program("run", text=text).out.decode().partition("trace\n")[2].splitlines()
+
+
+@needs_program
+class Schedule(Room):
+    def test_the_lighting_example(self):
+        self.assertEqual(acts(written(READING).out.decode()), acts(LIGHTING.decode()))
+
+    def test_lines_as_they_are(self):
+        lines = acts(LIGHTING.decode())
+        self.assertEqual(acts("%%\n" + written("\n".join(lines) + "\n", "--lines").out.decode()), lines)
+
+    def test_files(self):
+        head, lines = self.file("a.toml", HEAD), self.file("easy.txt", READING)
+        out = sancus("schedule", head, lines).out.decode()
+        self.assertEqual(acts(out), acts(LIGHTING.decode()))
+        self.assertIn(f"#= {lines}:3 carry eye logic\n", out)
+        self.assertEqual(
+            sancus("schedule", head, "-", text=READING).out.decode().replace("#= line ", f"#= {lines}:"), out
+        )
+        self.says(sancus("schedule", head), "has no line %%")
+
+    def test_windows_and_names(self):
+        lines = "deploy logic\nforge 0011 as bad\ngive bad b\nwindows 0x500 0x600\ncall logic 2\ntake a 4\n"
+        out = written(lines, "--lines").out.decode()
+        self.assertIn("forge 0011\n# bad is packet 4\ngive 4 b 0x300\n", out)
+        self.assertIn("call logic 2 0x500 0x600\ntake a 0x600 4\n", out)
+        out = written(
+            "deploy eye\ngive key.eye.up.from b 0x500\nask eye as who\ngive who a\nanswer eye answer.eye\n", "--lines"
+        ).out.decode()
+        self.assertIn("give 2 b 0x500\nask eye\n# who is packet 3\ngive 3 a 0x300\nanswer eye 0 1\n", out)
+
+    def test_a_renewed_run(self):
+        items = trace(written(RENEWED).out)
+        self.assertEqual(
+            [it for it in items if it.startswith(("attested", "out"))],
+            [
+                "attested eye 0",
+                "attested logic 0",
+                "attested lamp 0",
+                "attested eye 1",
+                "attested logic 1",
+                "out lamp 1",
+            ],
+        )
+        self.assertFalse([it for it in items if it.startswith(("skip", "busy", "denied"))])
+
+    def test_resets_that_nobody_asked_for(self):
+        """A jump into a section resets the node; then `deploy` renews at the boot that was shown."""
+        lines = (
+            READING
+            + "asm a 0x800 mov #0x6010, pc\nset a pc 0x800\nrun a 2\ndeploy eye logic\nsample eye 130\ncarry eye logic\ncarry logic lamp\n"
+        )
+        items = trace(written(lines).out)
+        self.assertIn("reset a order", items)
+        self.assertIn("attested logic 1", items)
+        self.assertEqual([it for it in items if it.startswith("out")], ["out lamp 1", "out lamp 1"])
+        self.assertEqual([it for it in items if it.startswith("done") and it.split()[2] != "1"], [])
+
+    def test_fan_out(self):
+        """A piece is found by its connection, in any order, and also where an end isn't open."""
+        for lines, taken in (
+            (
+                "deploy all\nsample eye 1\ncarry eye agg\ncarry eye vio\n",
+                ["take agg to_agg 0 1", "take vio to_vio 0 1"],
+            ),
+            (
+                "deploy all\nsample eye 1\ncarry eye agg again\ncarry eye agg\n",
+                ["take agg again 0 1", "take agg to_agg 0 1"],
+            ),
+            ("deploy all\nsample eye 1\ncarry eye agg\ncarry eye agg\n", ["take agg to_agg 0 1", "take agg again 0 1"]),
+            ("deploy all\nsample eye 1\ncarry eye agg 2\n", ["take agg again 0 1"]),
+            ("deploy eye agg\nsample eye 1\ncarry eye agg\n", ["take agg to_agg 0 1"]),
+        ):
+            with self.subTest(lines):
+                ran = written(lines, deployment=FAN_OUT)
+                self.assertEqual(ran.status, 0, ran.said)
+                self.assertEqual([it for it in trace(ran.out) if it.startswith("take")], taken)
+
+    MISTAKES = (
+        ("carry eye", "too many words or too few: carry MODULE MODULE"),
+        ("deploy ear", "there is no module ear"),
+        ("deploy all", "stands already, since boot 0 of a: `reset a` first"),
+        ("give lost a", "no packet is named lost"),
+        ("sample vio 3", "vio drives no sensor"),
+        ("sample eye 32768", "32768 is no value of a sensor"),
+        ("reset a as x", "makes no packet to name"),
+        ("carry agg eye", "no connection leads from agg to eye; agg sends to: nobody"),
+        ("carry vio agg", "no connection leads from vio to agg"),
+        ("carry eye agg", "eye sent nothing at its last call"),
+        ("sample eye 1\nsample eye 1\ncarry eye agg", "eye sent nothing at its last call"),
+        ("sample eye 1\ncarry eye vio\ncarry eye vio", "was carried; `give event.eye.vio NODE` gives it again"),
+        ("sample eye 1\ncarry eye agg 0", "piece 0 is for vio, by to_vio, and not for agg"),
+        ("sample eye 1\ncarry eye agg 3", "there is no piece 3: the last call wrote 3"),
+        ("sample eye 1\ncarry eye agg other", "no connection other leads from eye to agg: to_agg again"),
+        ("reset a\nsample eye 1", "eye doesn't stand on a any more: a was reset 1 times, and `deploy eye` renews it"),
+        ("sample eye 1\nreset a\ncarry eye agg", "eye wasn't called since it was loaded"),
+        ("load ear", "S4: a field is no name"),
+        ("fly", "S3: its first word is no act"),
+        ("windows 1", "windows IN OUT"),
+    )
+
+    def test_mistakes(self):
+        def tried(case):
+            return written(
+                "deploy all\n" + case[0] + "\n" if case[0] != "deploy all" else "deploy all\ndeploy all\n",
+                deployment=FAN_OUT,
+            )
+
+        for (lines, words), ran in zip(self.MISTAKES, one_by_one(tried, self.MISTAKES)):
+            with self.subTest(lines):
+                self.assertEqual((ran.status, ran.out), (122, b""), ran.said)
+                self.assertIn(f"line {FAN_OUT.count(chr(10)) + 2 + lines.count(chr(10))}: ", ran.said)
+                self.assertIn(words, ran.said)
+
+    def test_what_did_nothing_is_noted(self):
+        ran = written(
+            "deploy all\nsample eye 1\ncarry eye vio\ngive event.eye.vio a\ncall vio 2\nsample eye 0\ntake a 0x400 24\npackets 3\nboots a 4\n",
+            deployment=FAN_OUT,
+        )
+        self.assertEqual(ran.status, 0, ran.said)
+        self.says(ran, "`packets` is no longer needed", "a is at boot 0")
+
+    def test_a_deployment_that_is_refused(self):
+        ran = sancus("schedule", text="node = 3\n%%\ndeploy all\n")
+        self.assertEqual((ran.status, ran.out), (122, b""))
+        self.says(ran, "fault deployment D4 top", "`node` must be an array of tables")
+
+
+if __name__ == "__main__":
+    unittest.main()

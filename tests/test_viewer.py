@@ -1,0 +1,547 @@
+"""The page of `sancus view`, by what it shows in a headless Chromium; it is passed over where there is none.
+
+With SHOTS=FOLDER it also writes pictures to look at, and says how long a large run takes.
+"""
+
+import base64
+import json
+import os
+import shutil
+import subprocess
+import sys
+import tempfile
+import time
+import unittest
+from pathlib import Path
+from xml.etree import ElementTree
+
+from support import EXAMPLES, LIGHTING as LIGHTING_BYTES, PROGRAM, TOP, Room, needs_program, program, sancus
+
+from cli.builds import Builds
+from cli.context import Context
+from cli.marks import marked_lines, marked_run
+from cli.program import Program
+from cli.say import Voice
+from cli.texts import Input
+from cli.view import of_readings, of_run, page_of, without_lines
+from cli.viewer.join import joined
+
+BROWSER = next(
+    (found for name in ("chromium", "chromium-browser", "google-chrome") if (found := shutil.which(name))), ""
+)
+LIGHTING = LIGHTING_BYTES.decode()
+DEPLOYMENT = LIGHTING.partition("%%\n")[0] + "%%\n"
+# The lines of the example that come before its reading, which make ten packets.
+SET_UP = LIGHTING.partition("sense light")[0]
+PACKETS = 10
+PATIENCE = 60
+# What each of these may take in a run of 2,000 readings, in milliseconds, also on a machine with other work.
+PATIENT = 8000
+ACTS = {"open": "page.show()", "end": "page.select(page.run.shown.length - 1)", "unfold": "page.foldAll()"} | {
+    "last": "page.select(page.run.shown.length - 1)",
+    "out": "page.at = 0; page.keys().o()",
+    "find": 'page.find("packet 3")',
+    "scroll": 'byId("scroll").scrollTop = 100000; page.paint()',
+}
+
+
+def context():
+    builds = Builds(TOP, PROGRAM)
+    return Context(TOP, Voice(True), builds, Program(builds, Voice(True)))
+
+
+class Browser:
+    """A headless Chromium, driven by a pair of pipes."""
+
+    def __init__(self):
+        to_read, self.write = os.pipe()
+        self.read, to_write = os.pipe()
+        self.room = tempfile.mkdtemp()
+        flags = "--headless --no-sandbox --disable-gpu --remote-debugging-pipe --window-size=1400,900 --force-color-profile=srgb"
+        command = f'exec "$0" {flags} --user-data-dir="$1" 3<&{to_read} 4>&{to_write}'
+        self.process = subprocess.Popen(
+            ["bash", "-c", command, BROWSER, self.room],
+            pass_fds=(to_read, to_write),
+            stdout=subprocess.DEVNULL,
+            stderr=subprocess.DEVNULL,
+        )
+        os.close(to_read)
+        os.close(to_write)
+        self.number, self.kept, self.session = 0, b"", None
+        target = self.call("Target.createTarget", url="about:blank")["targetId"]
+        self.session = self.call("Target.attachToTarget", targetId=target, flatten=True)["sessionId"]
+
+    def message(self):
+        while b"\0" not in self.kept:
+            self.kept += os.read(self.read, 1 << 20)
+        first, _, self.kept = self.kept.partition(b"\0")
+        return json.loads(first)
+
+    def call(self, method, **given):
+        self.number += 1
+        words = {"id": self.number, "method": method, "params": given} | (
+            {"sessionId": self.session} if self.session else {}
+        )
+        os.write(self.write, json.dumps(words).encode() + b"\0")
+        while True:
+            answer = self.message()
+            if answer.get("id") == self.number:
+                if "error" in answer:
+                    raise RuntimeError(answer["error"])
+                return answer["result"]
+
+    def value(self, code):
+        answer = self.call("Runtime.evaluate", expression=code, returnByValue=True, awaitPromise=True)
+        if "exceptionDetails" in answer:
+            raise RuntimeError(answer["exceptionDetails"]["exception"].get("description"))
+        return answer["result"].get("value")
+
+    def milliseconds(self, code):
+        """What this takes, with the layout after it."""
+        timed = f"{code}; document.body.offsetHeight"
+        return self.value(
+            f"(() => {{ const begun = performance.now(); {timed}; return performance.now() - begun; }})()"
+        )
+
+    def open(self, file, part=""):
+        self.call("Page.navigate", url="about:blank")
+        self.call("Page.navigate", url=f"file://{file}{part}")
+        end = time.monotonic() + PATIENCE
+        while self.value("document.readyState + typeof page") != "completeobject":
+            if time.monotonic() > end:
+                raise RuntimeError("the page doesn't open")
+            time.sleep(0.05)
+
+    def press(self, key):
+        self.value(
+            f'byId("scroll").dispatchEvent(new KeyboardEvent("keydown", {{key: {json.dumps(key)}, bubbles: true}}))'
+        )
+
+    def shoot(self, name):
+        if not os.environ.get("SHOTS"):
+            return
+        picture = self.call("Page.captureScreenshot", format="png")["data"]
+        Path(os.environ["SHOTS"], f"{name}.png").write_bytes(base64.b64decode(picture))
+
+    def close(self):
+        self.process.kill()
+        self.process.wait()
+        os.close(self.read)
+        os.close(self.write)
+        shutil.rmtree(self.room, ignore_errors=True)
+
+
+# What the lines behind the keys give, for one reading: lines and their items.
+READING = """sense light {value}
+ sense light {value}
+call eye 3 0x300 0x400
+ read eye {value}
+ done eye 1 1
+take a 0x400 24
+ packet {first} 24
+give {first} a 0x300
+call logic 2 0x300 0x400
+ take logic up {number} {value}
+ done logic 1 1
+take a 0x400 24
+ packet {second} 24
+give {second} b 0x300
+call lamp 2 0x300 0x400
+ take lamp down {number} {lit}
+ out lamp {lit}
+ done lamp 1 0
+"""
+
+
+def readings(count, packets=0):
+    """The lines and the items of this many readings, on modules that have their keys, where so many packets were
+    made."""
+    lines, items = [], []
+    for number in range(count):
+        value = 37 * number % 200
+        text = READING.format(
+            value=value,
+            first=packets + 2 * number,
+            second=packets + 2 * number + 1,
+            number=number,
+            lit=int(value > 100),
+        )
+        for line in text.splitlines():
+            (items if line.startswith(" ") else lines).append(line.strip())
+    return lines, items
+
+
+def run_of(lines, items, last="end"):
+    return {
+        "input": (DEPLOYMENT + "\n".join(lines) + "\n").encode(),
+        "output": ("trace\n" + "".join(f"{it}\n" for it in items) + f"{last}\n").encode(),
+    }
+
+
+@unittest.skipUnless(BROWSER, "there is no Chromium here")
+class Viewer(unittest.TestCase):
+    @classmethod
+    def setUpClass(cls):
+        cls.browser = Browser()
+        cls.room = Path(tempfile.mkdtemp())
+
+    @classmethod
+    def tearDownClass(cls):
+        cls.browser.close()
+        shutil.rmtree(cls.room)
+
+    def show(self, texts, part=""):
+        (self.room / "run.html").write_text(page_of(texts))
+        self.browser.open(self.room / "run.html", part)
+
+    def texts(self, selector):
+        return self.browser.value(f"[...document.querySelectorAll({json.dumps(selector)})].map(it => it.textContent)")
+
+    def test_one_reading(self):
+        self.show(run_of(*readings(1)) | {"name": b"reading.txt"})
+        self.assertEqual(self.texts("#title"), ["reading.txt"])
+        self.assertEqual(self.texts("#notes div"), [])
+        rows = self.texts(".row .cell")
+        self.assertEqual(rows[0].replace("▾", ""), "1sense light 0" + "1sense light 0")
+        self.assertEqual(rows[1], "2call eye 3 0x300 0x400")
+        self.assertEqual(rows[-2:], ["9out lamp 0", "10done lamp 1 0"])
+        heads = self.texts("#heads text")
+        for name in ("deployer", "network", "node a", "node b", "▣ eye", "◉ light", "▣ logic", "▣ lamp", "■ bulb"):
+            self.assertIn(name, heads)
+        drawn = self.texts("svg.drawing text")
+        for text in ("sample", "#0 · 24 B", "#0", "up 0 = 0", "down 0 = 0", "1 piece"):
+            self.assertIn(text, drawn)
+
+    def test_trouble_and_forged_stand_out(self):
+        lines = [
+            "call eye 3 0x300 0x400",
+            "reset a",
+            "put a 0x4000 00",
+            "give 7 b 0x300",
+            "call lamp 2 0x300 0x400",
+            "run a 9",
+        ]
+        items = [
+            "done eye 8 0",
+            "reset a asked",
+            "skip b",
+            "forged lamp",
+            "take lamp down 0 1",
+            "out lamp 1",
+            "done lamp 1 0",
+            "reset a read",
+        ]
+        self.show(run_of(lines, items))
+        self.browser.shoot("forged")
+        drawn = self.texts("svg.drawing text")
+        for text in (
+            "✗ 8: no new sample",
+            "RESET: asked · now boot 1",
+            "✗ refused: skip",
+            "FORGED for lamp",
+            "RESET: read · now boot 2",
+        ):
+            self.assertIn(text, drawn)
+        self.assertEqual(self.texts(".row.forged .text"), ["forged lamp"])
+        self.assertEqual(len(self.texts(".row.after")), 5)
+        self.assertEqual(len(self.texts("rect.beyond")), 1)
+        self.assertEqual(self.texts("#about"), ["8 items · 1 out · 2 reset · 1 FORGED"])
+        self.browser.press("x")
+        self.assertIn("the sensor has no new sample", self.texts("#more")[0])
+        for _ in range(3):
+            self.browser.press("x")
+        self.assertIn("Item 8: reset a read", self.texts("#more")[0])
+        self.assertIn("nothing is promised", self.texts("#more")[0])
+
+    def test_causes(self):
+        causes = b"because 2 1\nbecause 5 2\nbecause 8 5\nbecause 9 8\nlegal\n"
+        self.show(run_of(*readings(1)) | {"causes": causes}, "#item=9")
+        self.browser.shoot("causes")
+        self.assertIn(
+            "Because: 9 out lamp 0 ← 8 take lamp down 0 0 ← 5 take logic up 0 0 ← 2 read eye 0 ← 1 sense light 0",
+            self.texts("#more")[0],
+        )
+        self.assertEqual(len(self.texts("path.cause")), 4)
+        self.browser.press("c")
+        self.assertIn("Item 8: take lamp", self.texts("#more")[0])
+
+    def test_two_thousand_readings(self):
+        lines, items = readings(2000)
+        self.show(run_of(lines, items))
+        self.browser.shoot("many-folded")
+        self.assertEqual(self.texts("#about"), ["20000 items · 2000 out · 0 reset"])
+        self.assertEqual(self.texts("#notes div.bad"), [])
+        first = self.texts(".row.group .cell")[1]
+        self.assertIn("sense light 37", first)
+        self.assertIn("⇒ lamp 0", first)
+        for _ in range(3):
+            self.browser.press("o")
+        self.assertIn("Item 29: out lamp 0", self.texts("#more")[0])
+        self.browser.press("z")
+        self.browser.value("page.select(20000)")
+        self.browser.shoot("many-open")
+        self.assertLess(self.browser.value("document.getElementsByTagName('*').length"), 3000)
+        self.assertIn("out lamp", self.texts("#more")[0] + "".join(self.texts(".row")))
+        self.is_quick("20,000 items that are matched")
+
+    def is_quick(self, what):
+        """Opens the run once more, and moves about in it."""
+        took = {name: round(self.browser.milliseconds(code)) for name, code in ACTS.items()}
+        if os.environ.get("SHOTS"):
+            print(f"{what}: milliseconds {took}", file=sys.stderr)
+        self.assertEqual({name: it for name, it in took.items() if it > PATIENT}, {})
+
+    @needs_program
+    def test_two_thousand_readings_of_the_program(self):
+        lines, items = readings(2000, PACKETS)
+        texts = of_run(context(), (SET_UP + "\n".join(lines) + "\n").encode()).texts
+        self.assertIn(b"> sense light 37\nsense light 37\n", texts["output"])
+        self.assertIn("\n".join(items[-10:]), without_lines(b"%%\n" + texts["output"]).decode())
+        self.show(texts)
+        self.assertEqual(self.texts("#about"), ["20033 items · 2000 out · 0 reset"])
+        self.assertEqual(self.texts("#notes div"), [])
+        self.browser.shoot("program-folded")
+        self.is_quick("20,033 items of a marked run")
+        self.browser.shoot("program-open")
+        self.browser.value("page.go(page.run.output.items.findLast(it => it.kind === 'out').row)")
+        self.browser.shoot("program-out")
+        self.assertIn("out lamp 1", self.texts("#more")[0])
+
+    def test_find_and_fold(self):
+        self.show(run_of(*readings(3)))
+        self.browser.value('page.find("packet 3")')
+        self.assertEqual(self.texts("#count"), ["1 found"])
+        self.browser.press("n")
+        self.assertIn("Packet #3: taken from memory at line 14", self.texts("#more")[0])
+        self.browser.press("ArrowLeft")
+        self.assertEqual(len(self.texts(".row.group")), 1)
+        self.browser.press("ArrowRight")
+        self.assertEqual(len(self.texts(".row.group")), 0)
+
+    def test_texts_that_do_not_fit(self):
+        lines, items = readings(1)
+        self.show(run_of(lines, items[:3] + ["out lamp 1"] + items[3:]))
+        self.assertIn("The output isn't this schedule's", self.texts("#notes div.bad")[0])
+        self.show(run_of(lines[:3] + ["load ear"], items[:4], "fault schedule S4 4"))
+        self.assertEqual(self.texts("#notes div.bad"), ["fault schedule S4 4"])
+        self.assertEqual(self.texts(".row.fault .text"), ["load ear", "  fault schedule S4 4"])
+        self.show({"output": b"trace\nsense light 3\nread eye 3\n"})
+        self.assertEqual(self.texts("#notes div"), ["The output has no last line: it is cut."])
+        self.show({"input": b"node = [\n%%\nload eye\n", "output": b"trace\nprotect a eye\nend\n"})
+        self.assertIn("The deployment isn't read", self.texts("#notes div.bad")[0])
+
+    def test_hostile_texts_stay_texts(self):
+        text = '# </script><img src=x onerror="window.bad=1">'
+        self.show(run_of([text, *readings(1)[0]], readings(1)[1]))
+        self.assertIn(text[2:], self.texts(".row.note .text"))
+        self.assertEqual(self.browser.value("document.images.length + (window.bad ?? 0)"), 0)
+
+    def test_no_outside_resources(self):
+        page = joined()
+        self.assertIn("default-src 'none'", page)
+        for word in ("src=", "@import", "fetch(", "XMLHttpRequest", "url(http"):
+            self.assertNotIn(word, page)
+
+    @needs_program
+    def test_examples(self):
+        """The items of each line that the page finds are those of a marked run, or it says that it isn't sure."""
+        for file in sorted(EXAMPLES.glob("*.txt")):
+            text = file.read_bytes()
+            if b"`./sancus drive`" in text.partition(b"\n")[0]:
+                continue
+            with self.subTest(file.name):
+                plain = program("run", text=text).out
+                lines = b"".join(
+                    it + b"\n" for it in marked_lines(Input(text), marked_run(Input(text), context().program))
+                )
+                self.assertEqual(without_lines(lines), plain)
+                split = "page.run.rows.filter(row => row.kind === 'act').map(row => [row.line.text.trim(), row.line.isUnsure ? null : row.line.items.map(item => item.text)])"
+                self.show({"input": text, "output": plain})
+                found = self.browser.value(split)
+                self.show({"input": text, "output": (b"\n" + lines).partition(b"\n%%\n")[2]})
+                self.browser.shoot(file.stem)
+                exact = self.browser.value(split)
+                self.assertEqual(len(found), len(exact))
+                for one, other in zip(found, exact):
+                    self.assertEqual(one[0], other[0])
+                    self.assertIn(one[1], (None, other[1]))
+
+    @needs_program
+    def test_readings(self):
+        texts = of_readings(context(), (EXAMPLES / "readings.txt").read_bytes()).texts
+        self.show(texts)
+        self.assertEqual(self.texts("#notes div"), [])
+        rows = self.browser.value("page.run.rows.filter(row => row.kind === 'act').map(row => row.line.text)")
+        self.assertEqual((len(rows), rows[0], rows[-1]), (58, "load eye", "call lamp 2 0x40 0x80"))
+
+    @needs_program
+    def test_causes_of_the_program(self):
+        texts = of_run(context(), LIGHTING_BYTES).texts
+        self.show(texts, "#item=42")
+        self.browser.shoot("explained")
+        chain = "42 out lamp 1 ← 41 take lamp down 0 1 ← 38 take logic up 0 120 ← 35 read eye 120 ← 34 sense light 120"
+        self.assertIn(f"Because: {chain}", self.texts("#more")[0])
+
+    def test_busy_comes_after_a_run(self):
+        """A line that comes before any `run` of its node can't have given a `busy`."""
+        self.show(run_of(["put a 0x800 00", "run a 5", "put a 0x800 00", "sense light 3"], ["busy a", "busy a"]))
+        self.assertEqual(self.texts("#notes div"), [])
+        cells = self.texts(".row .cell")
+        self.assertEqual(
+            [it.replace("▾", "") for it in cells][-4:], ["3put a 0x800 00", "1busy a", "4sense light 3", "2busy a"]
+        )
+
+    @needs_program
+    def test_the_set_up_is_folded(self):
+        self.show(of_run(context(), LIGHTING_BYTES).texts)
+        self.browser.shoot("opened")
+        here = "(() => { const row = page.run.shown[page.at]; return row.kind + ' ' + (row.text ?? row.line.text); })()"
+        self.assertTrue(self.browser.value(here).startswith("note 3. It gets bright"), self.browser.value(here))
+        folded = "page.run.groups.filter(it => it.rows.length > 1).map(it => it.isFolded)"
+        self.assertEqual(self.browser.value(folded), [True] * 5 + [False] * 2)
+        self.assertLess(self.browser.value("page.run.shown.length"), 25)
+        # (a short set-up isn't)
+        self.show(run_of(*readings(1)))
+        self.assertEqual(self.browser.value("page.at"), 0)
+
+    @needs_program
+    def test_the_parking_application(self):
+        folder = EXAMPLES / "parking"
+        if not folder.is_dir():
+            self.skipTest("there is no such example")
+        text = (
+            (folder / "parking.toml").read_bytes()
+            + b"%%\n"
+            + (folder / "day.readings").read_bytes().partition(b"%%\n")[2]
+        )
+        self.show(of_readings(context(), text).texts)
+        self.browser.shoot("parking")
+        self.assertEqual(self.texts("#notes div"), [])
+        shown = self.browser.value("page.run.shown[page.at].line.text")
+        self.assertTrue(shown.startswith("sense "), shown)
+        self.browser.press("f")
+        self.browser.shoot("parking-fitted")
+        room = "byId('scroll').clientWidth - document.querySelector('.corner').offsetWidth"
+        self.assertLessEqual(self.browser.value("page.picture.columns.list.at(-1).x"), self.browser.value(room))
+        self.browser.press("f")
+        self.assertEqual(self.browser.value("page.look.scale"), 1)
+
+    def test_columns_are_hidden_and_moved(self):
+        self.show(run_of(*readings(2)))
+        wide, rows = (self.browser.value(it) for it in ("page.picture.columns.width", "page.run.shown.length"))
+        self.browser.value(
+            "document.querySelector('[data-id=\"module eye\"]').dispatchEvent(new MouseEvent('dblclick', {bubbles: true}))"
+        )
+        self.assertLess(self.browser.value("page.picture.columns.width"), wide - 80)
+        self.assertEqual(self.texts("#columns"), ["Show 1 hidden"])
+        self.browser.shoot("hidden")
+        self.browser.press("h")
+        self.assertEqual(self.browser.value("page.picture.columns.width"), wide)
+        order = "page.picture.columns.list.map(it => it.name)"
+        before = self.browser.value(order)
+        self.browser.value("page.move('module logic', page.picture.columns.by.get('memory a').x)")
+        after = self.browser.value(order)
+        self.assertEqual(sorted(before), sorted(after))
+        self.assertEqual(after.index("logic"), before.index("memory"))
+        self.browser.value("page.move('module lamp', page.picture.columns.by.get('module eye').x)")
+        self.assertEqual(self.browser.value("page.picture.columns.boxes.map(it => it.node)"), ["b", "a"])
+        self.assertEqual(self.browser.value("page.run.shown.length"), rows)
+
+    def test_comments_of_a_schedule_for_people(self):
+        first, items = readings(2)
+        lines = [
+            "# --- 1. a reading",
+            "#= x:4 sample eye 0",
+            *first[:2],
+            "#= x:5 carry eye logic",
+            *first[2:5],
+            "# p is packet 0",
+            *first[5:8],
+            "#= x:6 sample eye 37",
+            *first[8:10],
+            *first[10:],
+        ]
+        self.show(run_of(lines, items))
+        self.assertEqual(self.browser.value("page.run.groups.map(it => it.title)"), ["--- 1. a reading"])
+        self.show(run_of(lines[1:], items))
+        titles = self.browser.value("page.run.groups.map(it => it.title)")
+        self.assertEqual(titles, ["sample eye 0", "carry eye logic", "sample eye 37"])
+
+    def test_picture_as_a_file(self):
+        self.show(run_of(*readings(2)) | {"causes": b"because 9 8\nlegal\n"}, "#item=9")
+        text = self.browser.value("wholePicture(page)")
+        names = {it.tag.rpartition("}")[2] for it in ElementTree.fromstring(text).iter()}
+        self.assertEqual(names & {"script", "image", "foreignObject", "a"}, set())
+        self.assertNotIn("var(", text)
+        for part in ("out lamp 0", "call eye 3 0x300 0x400", "up 0 = 0", 'class="cause"', "node b"):
+            self.assertIn(part, text)
+
+    def test_dark_and_folded(self):
+        self.show(run_of(*readings(3)), "#dark&fold")
+        self.browser.shoot("dark-folded")
+        self.assertEqual(self.browser.value("document.documentElement.dataset.theme"), "dark")
+        self.assertEqual(len(self.texts(".row.group")), 3)
+
+
+class Page(Room):
+    """What `sancus view` writes, without a browser."""
+
+    def test_the_page_holds_its_words(self):
+        self.assertIn('"D1": "the deployment has more than', joined())
+        self.assertNotIn("</script", joined().partition("const WORDS")[2].partition(";\n")[0])
+
+    def test_scripts_are_whole(self):
+        node = shutil.which("node")
+        if not node:
+            self.skipTest("there is no node")
+        script = self.file("page.js", joined().rpartition("<script>\n")[2].partition("</script>")[0])
+        ran = subprocess.run([node, "--check", script], capture_output=True, text=True)
+        self.assertEqual((ran.returncode, ran.stderr), (0, ""))
+
+    def test_empty(self):
+        ran = sancus("view", "--empty", "--page", self.room / "v.html", program="/bin/false")
+        self.assertEqual((ran.status, (self.room / "v.html").read_text()), (0, joined()))
+
+    @needs_program
+    def test_a_run(self):
+        page = self.room / "p.html"
+        ran = sancus("view", EXAMPLES / "lighting.txt", "--page", page)
+        self.assertEqual((ran.status, ran.out, ran.said), (0, f"{page}\n".encode(), ""))
+        self.assertIn("because 42 41", self.held(page, "causes"))
+        self.assertIn("> load eye\nprotect a eye\n", self.held(page, "output"))
+
+    def held(self, page, name):
+        row = next(it for it in page.read_text().splitlines() if it.rpartition(">")[2].startswith(f"{name} "))
+        return base64.b64decode(row.split(" ")[-1].partition("<")[0]).decode()
+
+    @needs_program
+    def test_readings_are_seen(self):
+        page = self.room / "p.html"
+        ran = sancus("view", EXAMPLES / "readings.txt", "--page", page)
+        self.assertEqual(ran.status, 0)
+        self.says(ran, "has readings")
+        self.assertIn("> sense light 120\n", self.held(page, "output"))
+
+    @needs_program
+    def test_misuse(self):
+        page = self.room / "p.html"
+        for text, words in (
+            (b"garbage\n", "D2"),
+            (b"garbage\n%%\n", "isn't TOML"),
+            (b"\0" * 1000, "there is nothing to draw"),
+        ):
+            ran = sancus("view", self.file("x", text), "--page", page)
+            self.assertEqual((ran.status, ran.out), (122, b""))
+            self.says(ran, words)
+            self.assertFalse(page.exists())
+        ran = sancus("view", self.file("x", LIGHTING_BYTES + b"load ear\n"), "--page", page)
+        self.assertEqual(ran.status, 0)
+        self.says(ran, "S4", "what came before is drawn")
+        ran = sancus("view", EXAMPLES / "lighting.txt", EXAMPLES / "lighting.txt", "--page", page)
+        self.assertEqual(ran.status, 122)
+        ran = sancus("view", EXAMPLES / "lighting.txt", "--page", self.room / "no" / "p.html")
+        self.assertEqual(ran.status, 121)
+
+
+if __name__ == "__main__":
+    unittest.main()
