@@ -20,18 +20,24 @@ program() {
 fresh() {
   rm -rf -- "${work:?}/repository" "${work:?}/bin"
   mkdir -p -- "$crate/src" "$repository/crates/sx_top/specs"
-  touch -d '1 hour ago' "$crate/src/main.rt" "$repository/crates.txt" "$repository/crates/sx_top/specs/Top.antt"
+  touch "$crate/src/main.rt" "$repository/crates.txt" "$repository/HANDLES" "$repository/crates/sx_top/specs/Top.antt"
   mkdir -p -- "$repository/tools"
   cp -- "$top/sancus" "$repository/sancus"
-  cp -- "$top/tools/faults.py" "$top/tools/deployment.py" "$repository/tools"
+  cp -- "$top/tools/release.sh" "$top/tools/faults.py" "$top/tools/deployment.py" "$repository/tools"
   program "$work/bin/rt" "$1"
 }
 
 readonly PROGRAM='echo "ran $*"; cat; exit 3'
 
+# A program in the proved one's place.
+proved() {
+  program "$crate/out/sancus_run" "$1"
+  "$repository/tools/release.sh" stamp
+}
+
 built() {
   fresh 'echo "rt was called" >&2; exit 1'
-  program "$crate/out/sancus_run" "$PROGRAM"
+  proved "$PROGRAM"
 }
 
 # Runs the command with 'in' as its input; its parts are then in status, output and told.
@@ -114,7 +120,7 @@ expect "FILE is read where no build stands" 0 "of a file" "isn't proved"
 # Faults in words, and warnings.
 printf 'secret = 3\n%%%%\n' >"$work/file"
 fresh ''
-program "$crate/out/sancus_run" 'cat >/dev/null; echo "fault deployment D4 top"; exit 1'
+proved 'cat >/dev/null; echo "fault deployment D4 top"; exit 1'
 run "$repository/sancus" check "$work/file"
 expect "a fault in words" 1 "fault deployment D4 top" "secret\` must be 32 hexadecimal digits"
 output="$("$repository/sancus" check <"$work/file" 2>"$work/told")"
@@ -124,10 +130,10 @@ expect "a fault in words, of a file as standard input" 1 "fault deployment D4 to
 run "$repository/sancus" check
 expect "a pipe can't be read twice" 1 "fault deployment D4 top" "the proved build"
 printf '%%%%\nlight 1\n' >"$work/file"
-program "$crate/out/sancus_run" 'cat >/dev/null; echo "fault reading Q4 1"; exit 3'
+proved 'cat >/dev/null; echo "fault reading Q4 1"; exit 3'
 run "$repository/sancus" drive "$work/file"
 expect "a fault of readings in words" 3 "fault reading Q4 1" "line 2 of the file: light 1"
-program "$crate/out/sancus_run" 'cat >/dev/null; echo "fault drive long"; exit 9'
+proved 'cat >/dev/null; echo "fault drive long"; exit 9'
 run "$repository/sancus" drive "$work/file"
 expect "a run without an end in words" 9 "fault drive long" "more than 65,536 lines"
 printf 'secret = 3\n%%%%\n' >"$work/file"
@@ -148,12 +154,12 @@ fresh 'cat; echo "run=ended status=3 runners=1 proved=no" >&2; exit 3'
 run "$repository/sancus" run
 expect "no build: the program's output and status" 3 "in" "isn't proved"
 
-for source in crates/sancus_run/src/main.rt crates/sx_top/specs/Top.antt crates.txt; do
+for source in crates/sancus_run/src/main.rt crates/sx_top/specs/Top.antt crates.txt HANDLES; do
   built
   program "$work/bin/rt" 'echo "run=ended status=0 runners=1 proved=no" >&2'
-  touch -d '1 hour' "$repository/$source"
+  echo >>"$repository/$source"
   run "$repository/sancus" run
-  expect "$source is newer than the build" 0 "" "older than the sources"
+  expect "$source differs from the build's" 0 "" "is of other sources ($source differs)"
 done
 
 fresh 'echo "src/main.rt:31:21: error: no such type" >&2; echo "run=none proved=no" >&2; exit 1'
@@ -177,12 +183,11 @@ run "$repository/sancus" run
 expect "what was built runs" 0 "built" "the proved build"
 
 built
-touch -d '1 minute ago' "$crate/out/sancus_run"
-touch -d '30 seconds ago' "$crate/src/main.rt"
+rm -- "$crate/out/sancus_run.proved"
 program "$work/bin/rt" 'exit 0'
 run "$repository/sancus" build
 run "$repository/sancus" run
-expect "a build that changed nothing counts" 3 $'ran run\nin' "the proved build"
+expect "a build that changed nothing, and had no stamp, counts" 3 $'ran run\nin' "the proved build"
 
 # A build of two libraries, the second of which stands on the first.
 fresh 'work=../../crates/sx_low/out/rlib; mkdir -p $work; sleep 0.5; touch $work/stamp
