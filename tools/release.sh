@@ -90,7 +90,7 @@ make() {
 
 make_wasm() {
   [[ -f "$kept" && -f "$note" ]] || die "release/ holds no build: tools/release.sh make"
-  "$top/tools/wasm/make.sh" "$top" "$kept" "$wasm" || exit
+  "$top/tools/wasm/make.sh" "$kept" "$wasm" || exit
   write_note "$(build_lines && told_wasm "$(noted sha256)")"
 }
 

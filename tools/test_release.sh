@@ -150,7 +150,7 @@ expect "a gate that fails ends with the status of rt ci" 7 "0 passed, 1 failed" 
 # --- sancus.wasm, with a script that makes a file of the program's sum ---
 
 released
-program "$repository/tools/wasm/make.sh" 'sha256sum <"$2" >"$3"'
+program "$repository/tools/wasm/make.sh" 'sha256sum <"$1" >"$2"'
 run "$check" wasm
 expect "sancus.wasm is made" 0 "" ""
 run "$check" check
