@@ -18,7 +18,7 @@ program() {
 }
 
 readonly PROGRAM='# GLIBC_2.4 GLIBC_2.34
-[[ "$1" == check ]] && echo end && exit; echo "ran $*"; cat; exit 3'
+[[ "$1" == check ]] && echo end && exit; echo "ran $* in $(basename "$(dirname "$0")")"; cat; exit 3'
 readonly RT='[[ "$1" == version ]] && echo "kit of the test" && exit; [[ "$1" == ci ]] && echo "1 passed, 0 failed" && exit
 echo "rt was called" >&2; exit 1'
 
@@ -171,14 +171,14 @@ expect "and the note says of which" 0 "$before" ""
 
 proved
 run "$repository/sancus" run
-expect "the proved build is started" 3 $'ran run\nin' "the proved build: "
+expect "the proved build is started" 3 $'ran run in out\nin' ""
 cp -r -- "$repository" "$work/copy"
 run "$work/copy/sancus" run
-expect "a copy's proved build is started" 3 $'ran run\nin' "the proved build: "
+expect "a copy's proved build is started" 3 $'ran run in out\nin' ""
 rm -r -- "$work/copy"
 touch -- "$crate/src/main.rt"
 run "$repository/sancus" run
-expect "a source with a new time and its old bytes" 3 $'ran run\nin' "the proved build: "
+expect "a source with a new time and its old bytes" 3 $'ran run in out\nin' ""
 change "$crate/src/main.rt" 's/main/mein/'
 run "$repository/sancus" run
 expect "a source changed, its time set back: the proved build" 125 "" "crates/sancus_run/src/main.rt"
@@ -199,13 +199,13 @@ expect "a program in the proved one's place isn't started" 125 "" "rt was called
 released
 program "$crate/out/sancus_run" 'echo other'
 run "$repository/sancus" run
-expect "the released build is started where no proved one is" 3 $'ran run\nin' "the released build"
+expect "the released build is started where no proved one is" 3 $'ran run in release\nin' ""
 
 released_alone
 run "$repository/sancus" run
-expect "the released build is started" 3 $'ran run\nin' "the released build"
+expect "the released build is started" 3 $'ran run in release\nin' ""
 run "$repository/sancus" run
-expect "the released build is started by what is kept" 3 $'ran run\nin' "the released build"
+expect "the released build is started by what is kept" 3 $'ran run in release\nin' ""
 change "$crate/src/main.rt" 's/main/mein/'
 run "$repository/sancus" run
 expect "a source changed, its time set back: the released build" 125 "" "the released build is of other sources"
