@@ -155,6 +155,8 @@ class Desk {
 
   drawn(texts) {
     const focused = document.activeElement;
+    // (another run may have fewer rows than were scrolled over)
+    byId("scroll").scrollTo(0, 0);
     this.draw(texts);
     byId("seen").classList.remove("old");
     focused?.focus({preventScroll: true});

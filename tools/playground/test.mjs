@@ -146,7 +146,7 @@ async function testWords(test) {
   const more = await test.value(shown("more"));
   expect("the picture of readings has causes", more.includes("Because: ") && more.includes("sense light"), more);
   await test.picture("readings");
-  await test.write(`${example("readings").split("%%")[0]}%%\n${native("run", example("lighting")).output}`);
+  await test.write(`${example("readings").split("\n%%\n")[0]}\n%%\n${native("run", example("lighting")).output}`);
   await test.click("do-explain");
   expect(
       "a trace is judged and drawn",
@@ -156,7 +156,7 @@ async function testWords(test) {
 async function testFaults(test) {
   const text = example("lighting"), lines = text.split("\n"),
         at = part => lines.findIndex(it => it.includes(part)) + 1;
-  const changed = (old, now) => text.replace(old, now), head = text.split("%%")[0];
+  const changed = (old, now) => text.replace(old, now), head = `${text.split("\n%%\n")[0]}\n`;
   const cases = [
     ["a schedule", "run", changed("load logic", "laod logic"), "S3: its first word is no act", at("load logic")],
     [

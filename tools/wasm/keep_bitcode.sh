@@ -3,9 +3,10 @@
 #
 #   tools/wasm/keep_bitcode.sh MODULE.bc PROGRAM
 #
-# The libraries below the program must stand proved in crates/*/out (.ci/run or ./sancus build leaves them). rattle build proves
-# the program's own crate, and hands one module to the clang of --toolchain: here a folder of links, whose clang is a script
-# that keeps the module and then calls the kit's. So neither the kit nor the crates are changed.
+# The libraries below the program must stand proved in crates/*/out, here or in the repository SANCUS_LIBRARIES (.ci/run or
+# ./sancus build leaves them). rattle build proves the program's own crate, and hands one module to the clang of --toolchain:
+# here a folder of links, whose clang is a script that keeps the module and then calls the kit's. So neither the kit nor the
+# crates are changed.
 set -euo pipefail
 top="$(dirname "$(dirname "$(dirname "$(readlink -f "$0")")")")"
 bitcode="$(readlink -f "$1")" program="$(readlink -f "$2")"
@@ -34,9 +35,12 @@ for folder in "$libraries"/crates/*/out/rlib; do
   words+=(-L "dependency=$folder")
 done
 words+=(--antt-project "$kit/rattle/logic/antt-project.json" --logic-built "$kit/logic_built" --jobs 1 --links sancus_run=)
-if ! "$kit/bin/rattle" build "${words[@]}" --toolchain "$work/toolchain" --backend llvm -o "$work/sancus_run.o" >"$work/told"; then
-  cat "$work/told" >&2
+build() {
+  "$kit/bin/rattle" build "${words[@]}" --toolchain "$work/toolchain" --backend llvm -o "$work/sancus_run.o" &&
+    "$kit/bin/rattle-link" --target "$target" --toolchain "$kit/toolchain" -o "$program" "$work/sancus_run.o" \
+      "$kit/c/libos_c.a" "$kit/c/liblibc_c.a"
+}
+if ! build >"$work/told" 2>&1; then
+  tail -n 30 "$work/told" >&2
   exit 1
 fi
-"$kit/bin/rattle-link" --target "$target" --toolchain "$kit/toolchain" -o "$program" "$work/sancus_run.o" \
-  "$kit/c/libos_c.a" "$kit/c/liblibc_c.a"
