@@ -8,6 +8,8 @@ import {join} from "node:path";
 
 export const sleep = time => new Promise(done => setTimeout(done, time));
 const isInstalled = name => spawnSync("which", [name]).status === 0;
+// (a process of the browser may still write)
+const removed = path => rmSync(path, {recursive: true, force: true, maxRetries: 9, retryDelay: 200});
 const folder = () => mkdtempSync(join(tmpdir(), "playground-"));
 
 // Answers by the numbers of the questions.
@@ -102,10 +104,10 @@ class Chromium {
   }
 
   async end() {
+    const ended = new Promise(done => this.process.once("exit", done));
     await this.ask("Browser.close");
-    this.process.kill();
-    await sleep(200);
-    rmSync(this.profile, {recursive: true, force: true});
+    await ended;
+    removed(this.profile);
   }
 }
 
@@ -180,11 +182,11 @@ class Firefox {
   }
 
   async end() {
+    const ended = new Promise(done => this.process.once("exit", done));
     await this.ask("Marionette:Quit", {flags: ["eForceQuit"]});
     this.socket.destroy();
-    this.process.kill();
-    await sleep(500);
-    rmSync(this.profile, {recursive: true, force: true});
+    await ended;
+    removed(this.profile);
   }
 }
 

@@ -250,7 +250,7 @@ async function testLayout(test) {
   const isInside = await test.value(
       "document.documentElement.scrollWidth <= innerWidth && document.documentElement.scrollHeight <= innerHeight");
   expect("nothing stands outside the window", isInside);
-  const hidden = await test.value(`[...document.querySelectorAll("#desk button, header button")].filter(it => {
+  const hidden = await test.value(`[...document.querySelectorAll("#desk button, header button")].filter(it => it.offsetParent).filter(it => {
     const {left, right, top, bottom} = it.getBoundingClientRect();
     const seen = document.elementFromPoint((left + right) / 2, (top + bottom) / 2);
     return left < 0 || top < 0 || right > innerWidth || bottom > innerHeight || seen !== it;
