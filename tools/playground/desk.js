@@ -1,0 +1,213 @@
+// The desk beside the picture: it edits an input, runs the program on it, and tells what came of it.
+
+// How many letters of an output are shown as text; the picture has all.
+const MOST_SHOWN = 200_000;
+const COMMANDS = ["run", "drive", "check", "explain", "snap"];
+const OWN = "";
+const KEYS = {
+  "Ctrl+Enter": "give the input to the last command again",
+  "Esc": "stop it"
+};
+
+class Desk {
+  constructor() {
+    byId("seen").append(...["notes", "drop", "main", "more"].map(byId));
+    byId("desk").hidden = false;
+    this.tellKeys();
+    this.turn = 0;
+    this.last = null;
+    this.address = null;
+    this.faults = new Faults();
+    this.editor = new Editor(() => this.isChanged());
+    const lacks = missing();
+    if (lacks) return this.refuse(lacks);
+    this.runner = new Runner(busy => byId("do-stop").disabled = !busy);
+    this.listen();
+    this.begin();
+  }
+
+  tellKeys() {
+    for (const key in KEYS) {
+      const row = byId("keys").querySelector("table").insertRow();
+      row.insertCell().append(html("kbd", "", key));
+      row.insertCell().append(KEYS[key]);
+    }
+  }
+
+  refuse(lacks) {
+    for (const button of byId("desk").querySelectorAll("button, select, textarea")) button.disabled = true;
+    this.say(html(
+        "span", "fault",
+        `This browser has no ${lacks}, so the program can't run here; files of runs can be opened and drawn.`));
+    document.documentElement.dataset.done = "refused";
+  }
+
+  listen() {
+    for (const word of COMMANDS) byId(`do-${word}`).onclick = () => this.does(word);
+    byId("do-stop").onclick = () => this.stop();
+    byId("do-link").onclick = () => this.link();
+    byId("do-save").onclick = () =>
+        page.saveAs(`${byId("example").value.replaceAll("/", "_") || "input"}.txt`, "text/plain", this.editor.text);
+    byId("example").onchange = event => event.target.value !== OWN && this.take(this.examples[event.target.value]);
+    addEventListener("keydown", event => {
+      if (event.key === "Enter" && (event.ctrlKey || event.metaKey)) this.does(this.word ?? this.purpose());
+      if (event.key === "Escape") this.stop();
+    });
+    addEventListener("hashchange", () => location.hash !== this.address && this.begin());
+    // an input that is opened, dropped or pasted as a file stands on the desk too
+    const {open} = page;
+    page.open = texts => {
+      open.call(page, texts);
+      if (page.texts.input) this.put(page.texts.input, OWN);
+    };
+    this.draw = texts => {
+      page.texts = {};
+      open.call(page, texts);
+    };
+  }
+
+  // --- where an input comes from ---
+
+  // By the address an input or an example; else what the page holds; else an example. What isn't drawn yet is run.
+  async begin() {
+    this.examples ??= JSON.parse(new TextDecoder().decode(await unpacked("examples")));
+    byId("example").replaceChildren(
+        new Option("(own)", OWN), ...Object.keys(this.examples).map(name => new Option(name)));
+    const asked = new URLSearchParams(location.hash.slice(1)), held = page.texts;
+    const word = COMMANDS.includes(asked.get("do")) ? asked.get("do") : null;
+    if (asked.has("z")) return this.takeLinked(asked.get("z"), word);
+    if (held.output && !this.turn) return this.hold(held);
+    const name = Object.hasOwn(this.examples, asked.get("example") ?? "") ? asked.get("example") : "readings";
+    await this.take(this.examples[name], name, word);
+    page.followAddress();
+  }
+
+  async takeLinked(letters, word) {
+    try {
+      await this.take(await unpackedText(letters), OWN, word);
+    } catch (error) {
+      this.say(html("span", "fault", `The address holds no input: ${error.message}`));
+    }
+  }
+
+  // A page that was saved with a run.
+  hold(held) {
+    this.put(held.input ?? `${held.head}\n%%\n${held.output}`, OWN);
+    this.say("The run that was saved with this page.");
+    document.documentElement.dataset.done = "held";
+  }
+
+  put(text, name) {
+    this.editor.text = text;
+    this.last = null;
+    byId("example").value = name;
+  }
+
+  async take(text, name = byId("example").value, word = null) {
+    this.put(text, name);
+    await this.does(word ?? this.purpose());
+  }
+
+  isChanged() {
+    this.last = null;
+    byId("example").value = OWN;
+    byId("seen").classList.add("old");
+  }
+
+  // The command that a text is made for, by what stands behind its marks.
+  purpose() {
+    const lines = this.editor.lines, mark = lines.indexOf("%%");
+    if (lines.indexOf("%%", mark + 1) > 0) return "snap";
+    const first = lines.slice(mark + 1).find(line => /^[ \t]*[^# \t]/.test(line)) ?? "";
+    if (/^(image |trace$)/.test(first)) return "explain";
+    return new Plan(headOf(this.editor.text), null).devices.has(wordsOf(first)[0]) ? "drive" : "run";
+  }
+
+  // --- runs ---
+
+  // (once another command began, nothing more is started for this one)
+  async does(word) {
+    const turn = ++this.turn, text = this.editor.text, isNow = () => turn === this.turn;
+    const start = (word, text) => isNow() ? this.runner.start(word, text) : {error: "stopped"};
+    delete document.documentElement.dataset.done;
+    this.word = word;
+    this.editor.mark(null);
+    this.say(`${word} …`);
+    const job = new Job(word, text, this.purpose(), start), ended = await job.does(this.last);
+    if (!isNow()) return;
+    this.tell(word, ended, text);
+    const texts = await job.drawn();
+    if (!isNow()) return;
+    if (job.run?.trace) this.last = job.run;
+    if (texts.length) this.drawn(texts);
+    document.documentElement.dataset.done = turn;
+  }
+
+  stop() {
+    if (!this.runner?.done) return;
+    this.turn++;
+    this.runner.stop("stopped");
+    this.say(`${this.word}: stopped`);
+    document.documentElement.dataset.done = "stopped";
+  }
+
+  // --- what came of it ---
+
+  drawn(texts) {
+    const focused = document.activeElement;
+    // (another run may have fewer rows than were scrolled over)
+    byId("scroll").scrollTo(0, 0);
+    this.draw(texts);
+    byId("seen").classList.remove("old");
+    focused?.focus({preventScroll: true});
+  }
+
+  say(...parts) {
+    byId("said").replaceChildren(...parts);
+  }
+
+  tell(word, ended, text) {
+    if (ended.error) {
+      byId("wrote").textContent = "";
+      return this.say(html("span", "fault", `${word}: ${ended.error}`));
+    }
+    const size = (ended.memory / 2 ** 20).toFixed(1);
+    const parts = [
+      `${word} ended with status ${ended.status}, after ${ended.time.toFixed(0)} ms, with ${size} MiB of memory. `
+    ];
+    // (an image is long, and says little to the eye)
+    const short = ended.text.replace(/^(image \S+ \S{24})\S{24,}$/gm, "$1…");
+    byId("wrote").textContent = short.slice(0, MOST_SHOWN);
+    if (short.length > MOST_SHOWN)
+      parts.push(`The first ${MOST_SHOWN.toLocaleString("en")} letters of the output are shown. `);
+    const fault = this.faults.told(splitLines(ended.text).at(-1), text);
+    if (fault) parts.push(...this.fault(fault));
+    this.say(...parts);
+  }
+
+  fault({words, line, column}) {
+    const parts = [html("span", "fault", words)];
+    if (line && line <= this.editor.lines.length) {
+      const place = html("button", "place", `line ${line}`);
+      place.onclick = () => this.editor.go(line, column);
+      this.editor.mark(line);
+      this.editor.show(line);
+      parts.push(", at ", place);
+    }
+    return parts;
+  }
+
+  // --- the input in an address ---
+
+  async link() {
+    const packed = await packedText(this.editor.text);
+    this.address = `#z=${packed}&do=${this.word ?? this.purpose()}`;
+    location.replace(this.address);
+    const isCopied = await navigator.clipboard?.writeText(location.href).then(() => true, () => false);
+    const size = location.href.length.toLocaleString("en");
+    this.say(
+        `The address of this page holds the input now, in ${size} letters${isCopied ? ", and is copied" : ""}.`);
+  }
+}
+
+const desk = new Desk();

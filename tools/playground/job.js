@@ -1,0 +1,70 @@
+// One command given to one text: what it reads, what came of it, and what is drawn of it.
+
+// A run that took longer, in milliseconds, isn't run once more to be drawn.
+const MOST_TIME = 2000;
+
+// The output of `drive` as `run` writes it: without the lines of the schedule and the count of steps.
+function traceOf(driven) {
+  const lines = splitLines(driven).filter(line => !/^(> |steps )/.test(line));
+  const isImage = line => line.startsWith("image ");
+  return [...lines.filter(isImage), "trace", ...lines.filter(line => !isImage(line)), ""].join("\n");
+}
+
+// What `run` reads of what `snap` does: as far as a second line %%.
+function asSchedule(text) {
+  const lines = text.split("\n"), isMark = line => line === "%%" || line === "%%\r";
+  const second = lines.findIndex((line, at) => isMark(line) && at > lines.findIndex(isMark));
+  return second < 0 ? text : lines.slice(0, second).concat("").join("\n");
+}
+
+class Job {
+  // purpose: the command that the text is made for; start: runs a command on a text.
+  constructor(word, text, purpose, start) {
+    Object.assign(this, {word, text, purpose, start});
+    this.run = null;
+  }
+
+  // `explain` judges the last run of this text, or a new one, where no trace stands in it.
+  async does(last) {
+    const isOfRun = this.word === "explain" && this.purpose !== "explain";
+    if (isOfRun) this.run = last ?? await this.ran(this.purpose === "drive" ? "drive" : "run");
+    const input = isOfRun ? this.judged(this.run.trace ?? "") : this.text;
+    this.ended = await this.start(this.word, input);
+    return this.ended;
+  }
+
+  async ran(word) {
+    return this.withTrace(word, await this.start(word, word === "run" ? asSchedule(this.text) : this.text));
+  }
+
+  withTrace(word, ended) {
+    const has = ended.text && (word === "drive" ? /^> /m : /^trace$/m).test(ended.text);
+    return {...ended, trace: has ? (word === "drive" ? traceOf(ended.text) : ended.text) : null};
+  }
+
+  judged(trace) {
+    return `${headOf(this.text)}%%\n${trace}`;
+  }
+
+  // The texts of the picture: the input, the output, and the causes where there are any. None where nothing is to be drawn.
+  async drawn() {
+    const {word, text, ended} = this;
+    if (ended.error || word === "check") return [];
+    if (word === "explain" && !this.run) return [text, ended.text];
+    if (word === "snap") this.run = await this.ran("run");
+    this.run ??= this.withTrace(word, ended);
+    if (!this.run.trace) return [];
+    const causes = word === "explain" ? ended : await this.start("explain", this.judged(this.run.trace));
+    const hasCauses = causes.text && !/^fault /.test(causes.text);
+    return [asSchedule(text), await this.withLines(), ...(hasCauses ? [causes.text] : [])];
+  }
+
+  // The output with each line of the schedule before its items, where that is soon told.
+  async withLines() {
+    const {text, time} = this.run;
+    const marks = /^> /m.test(text) || time > MOST_TIME ? null : new Marks(asSchedule(this.text));
+    if (!marks?.isPossible) return text;
+    const marked = await this.start("run", marks.input);
+    return marked.text && marks.joined(text, marked.text) || text;
+  }
+}

@@ -1,0 +1,124 @@
+#!/usr/bin/env python3
+"""Makes playground.html: the viewer of runs, with a desk beside it and the program as WebAssembly in it.
+
+    tools/playground/make.py            writes it
+    tools/playground/make.py --check    says whether it is as it would be written
+
+The program is release/sancus.wasm (tools/release.sh wasm makes it), and its parts stand in this folder, tools/wasm and the viewer's.
+"""
+
+import base64
+import gzip
+import importlib.util
+import json
+import re
+import sys
+from pathlib import Path
+
+HERE = Path(__file__).resolve().parent
+TOP = HERE.parent.parent
+PAGE = TOP / "playground.html"
+FAULTS = TOP / "cli" / "faults.json"
+VIEWERS = (TOP / "cli" / "viewer", TOP / "tools" / "viewer")
+SCRIPTS = ("link", "editor", "faults", "marks", "runner", "job", "desk")
+POLICY = (
+    "default-src 'none'; script-src 'unsafe-inline' 'wasm-unsafe-eval'; style-src 'unsafe-inline'; img-src data:; "
+    "worker-src blob:; form-action 'none'; base-uri 'none'"
+)
+TITLE = "Sancus applications, verified"
+DATA = '<script type="text/plain" id="data"></script>\n'
+END = "</script>\n</html>"
+PACKED = re.compile(r'(<script type="text/plain" id="(?:program|examples)">)([^<]*)')
+
+
+def loaded(name, path):
+    spec = importlib.util.spec_from_file_location(name, path)
+    made = importlib.util.module_from_spec(spec)
+    spec.loader.exec_module(made)
+    return made
+
+
+def viewer():
+    """The viewer's page, without a run."""
+    folder = next(it for it in VIEWERS if (it / "join.py").is_file())
+    return loaded("join", folder / "join.py").joined()
+
+
+def words():
+    """The rules in words, as the viewer's page has them where cli/faults.json is there."""
+    if FAULTS.is_file():
+        return ""
+    sys.path.insert(0, str(TOP / "tools"))
+    table = loaded("faults", TOP / "tools" / "faults.py")
+    kinds = {"deployment": table.DEPLOYMENT, "language": table.LANGUAGE, "schedule": table.SCHEDULE}
+    kinds |= {"reading": table.READINGS, "trace": table.TRACES, "query": table.QUERIES}
+    others = {"drive": {"long": "; ".join(table.LONG)}, "illegal": table.illegal(table.Input(b""), 0)[0]}
+    return f"const WORDS = {json.dumps(kinds | others, ensure_ascii=False)};\n"
+
+
+def examples():
+    folder = TOP / "examples"
+    files = [*sorted(folder.glob("*.txt")), *sorted(folder.glob("attacks/*.txt")), *sorted(folder.glob("snap/*.txt"))]
+    return {str(it.relative_to(folder).with_suffix("")): it.read_text() for it in files}
+
+
+def note():
+    lines = (TOP / "release" / "RELEASE").read_text().splitlines()
+    return dict(it.split(" ", 1) for it in lines)
+
+
+def part(name):
+    return (HERE / name).read_text()
+
+
+def desk(noted):
+    """The desk, which says of which program the page is. The sum of the sources is the note's only where it is of the same program."""
+    is_same = noted["wasm-of"] == noted["sha256"]
+    sums = {"PROGRAM": noted["wasm-of"], "SOURCES": noted["sources"] if is_same else "(an earlier one)", "KIT": noted["kit"]}
+    text = part("desk.html")
+    for word, told in sums.items():
+        text = text.replace(f"<code>{word}</code>", f"<code>{told}</code>")
+    return text
+
+
+def held(name, text):
+    """Text that a script of the page reads."""
+    if "</script" in text:
+        sys.exit(f"make: {name} would end its element")
+    return f'<script type="text/plain" id="{name}">{text}</script>\n'
+
+
+def packed(data):
+    return base64.b64encode(gzip.compress(data, 9, mtime=0)).decode()
+
+
+def made():
+    program = (TOP / "release" / "sancus.wasm").read_bytes()
+    work = '<div id="work">\n' + desk(note()) + '<div id="seen"></div>\n</div>\n'
+    scripts = words() + "\n".join(part(f"{it}.js") for it in SCRIPTS)
+    texts = [
+        held("program", packed(program)),
+        held("examples", packed(json.dumps(examples()).encode())),
+        held("worker", (TOP / "tools" / "wasm" / "host.js").read_text() + part("worker.js")),
+    ]
+    page = re.sub(r'(http-equiv="Content-Security-Policy" content=)"[^"]*"', rf'\1"{POLICY}"', viewer(), count=1)
+    page = re.sub(r"(<title>|<b id=\"title\">)[^<]*", rf"\g<1>{TITLE}", page)
+    places = [("</style>", part("desk.css") + "</style>"), (DATA, work + DATA + "".join(texts)), (END, scripts + END)]
+    for old, new in places:
+        if page.count(old) != 1:
+            sys.exit(f"make: the viewer's page has {old!r} {page.count(old)} times, and not once")
+        page = page.replace(old, new)
+    return page
+
+
+def compared(page):
+    """A page as it is compared: what it packs is unpacked, since packing is done otherwise by other libraries."""
+    unpack = lambda it: it[1] + gzip.decompress(base64.b64decode(it[2])).hex()
+    return PACKED.sub(unpack, page)
+
+
+if __name__ == "__main__":
+    if sys.argv[1:] == ["--check"]:
+        is_same = PAGE.is_file() and compared(PAGE.read_text()) == compared(made())
+        sys.exit(0 if is_same else f"{PAGE.name} isn't what its parts give: run tools/playground/{Path(__file__).name}")
+    PAGE.write_text(made())

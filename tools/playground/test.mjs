@@ -1,0 +1,313 @@
+// Tests playground.html in each browser that is installed, by what it shows. Not a part of the gate.
+//
+//   node tools/playground/test.mjs [--program release/sancus_run] [--pictures FOLDER] [--browser Firefox]
+//
+// Outputs are compared with those of the native program.
+import {spawnSync} from "node:child_process";
+import {readdirSync, readFileSync, rmSync, writeFileSync} from "node:fs";
+import {tmpdir} from "node:os";
+import {join} from "node:path";
+import {fileURLToPath} from "node:url";
+
+import {BROWSERS, sleep} from "./browsers.mjs";
+
+const TOP = new URL("../../", import.meta.url);
+const PAGE = String(new URL("playground.html", TOP));
+const given = process.argv.slice(2);
+const option = (name, otherwise) => given.includes(name) ? given[given.indexOf(name) + 1] : otherwise;
+const program = option("--program", fileURLToPath(new URL("release/sancus_run", TOP)));
+const pictures = option("--pictures", null);
+const wanted = option("--browser", null);
+
+const JS = JSON.stringify;
+let failed = 0;
+
+function expect(name, isWell, seen = "") {
+  if (isWell) return console.log(`ok: ${name}`);
+  failed++;
+  console.log(`FAILED: ${name}\n  ${JS(seen)}`);
+}
+
+function native(word, text) {
+  const ran = spawnSync(program, [word], {input: text, maxBuffer: 1 << 28});
+  return {status: ran.status, output: String(ran.stdout)};
+}
+
+const example = name => readFileSync(new URL(`examples/${name}.txt`, TOP), "utf8");
+
+function exampleNames() {
+  const names = folder => readdirSync(new URL(`examples/${folder}`, TOP))
+                              .filter(it => it.endsWith(".txt"))
+                              .map(it => folder + it.slice(0, -4));
+  return ["", "attacks/", "snap/"].flatMap(names);
+}
+
+// An element of the page, and what it does then.
+const element = id => `document.getElementById(${JS(id)})`;
+const shown = id => `${element(id)}.textContent`;
+const act = code => `(() => { ${code}; return ""; })()`;
+const DONE = "document.documentElement.dataset.done";
+
+// A browser with the page, which waits for what it began.
+class Test {
+  constructor(browser) {
+    this.browser = browser;
+  }
+
+  value(expression) {
+    return this.browser.value(expression);
+  }
+
+  async until(expression) {
+    for (let tries = 0; tries < 600; tries++) {
+      const value = await this.value(expression);
+      if (value) return value;
+      await sleep(50);
+    }
+    return "never";
+  }
+
+  done() {
+    return this.until(`${DONE} ?? ""`);
+  }
+
+  async open(hash = "") {
+    await this.browser.open("about:blank");
+    await this.browser.open(`${PAGE}${hash}`);
+    return this.done();
+  }
+
+  write(text) {
+    return this.value(
+        act(`${element("text")}.value = ${JS(text)}; ${element("text")}.dispatchEvent(new Event("input"))`));
+  }
+
+  async click(id) {
+    await this.value(act(`delete ${DONE}; ${element(id)}.click()`));
+    return this.done();
+  }
+
+  async choose(name) {
+    await this.value(act(`delete ${DONE}; ${element("example")}.value = ${JS(name)}; ${
+        element("example")}.dispatchEvent(new Event("change"))`));
+    return this.done();
+  }
+
+  text() {
+    return this.value(`${element("text")}.value`);
+  }
+
+  said() {
+    return this.value(shown("said"));
+  }
+
+  wrote() {
+    return this.value(shown("wrote"));
+  }
+
+  rows() {
+    return this.value(`document.querySelectorAll("#space .row").length`);
+  }
+
+  async picture(name) {
+    await sleep(200);
+    if (pictures)
+      writeFileSync(`${pictures}/${this.browser.constructor.name}_${name}.png`, await this.browser.picture());
+  }
+}
+
+const short = output => output.replace(/^(image \S+ \S{24})\S{24,}$/gm, "$1…").slice(0, 200_000);
+
+async function testExamples(test) {
+  const bad = [], names = exampleNames();
+  for (const name of names) {
+    await test.choose(name);
+    const said = await test.said(), wrote = await test.wrote(), rows = await test.rows();
+    const word = said.split(" ")[0], {status, output} = native(word, example(name));
+    const isSame = said.startsWith(`${word} ended with status ${status},`) && wrote === short(output);
+    if (!isSame || !rows) bad.push({name, said, rows});
+  }
+  expect(`${names.length} examples give what the native program gives, and a picture`, !bad.length, bad);
+}
+
+async function testWords(test) {
+  const text = example("attack"), head = text.split("\n%%\n")[0];
+  const inputs =
+      {run: text, drive: text, check: text, explain: `${head}\n%%\n${native("run", text).output}`, snap: text};
+  for (const word in inputs) {
+    await test.open(`#example=attack&do=${word}`);
+    const {status, output} = native(word, inputs[word]), said = await test.said(), wrote = await test.wrote();
+    expect(
+        `the command ${word}`, said.startsWith(`${word} ended with status ${status},`) && wrote === short(output),
+        said);
+  }
+  await test.open("#example=readings");
+  await test.value(act(`${element("scroll")}.dispatchEvent(new KeyboardEvent("keydown", {key: "o"}))`));
+  const more = await test.value(shown("more"));
+  expect("the picture of readings has causes", more.includes("Because: ") && more.includes("sense light"), more);
+  await test.picture("readings");
+  await test.write(`${example("readings").split("\n%%\n")[0]}\n%%\n${native("run", example("lighting")).output}`);
+  await test.click("do-explain");
+  expect(
+      "a trace is judged and drawn",
+      (await test.said()).startsWith("explain ended with status 0") && await test.rows() > 20, await test.said());
+}
+
+async function testFaults(test) {
+  const text = example("lighting"), lines = text.split("\n"),
+        at = part => lines.findIndex(it => it.includes(part)) + 1;
+  const changed = (old, now) => text.replace(old, now), head = `${text.split("\n%%\n")[0]}\n`;
+  const cases = [
+    ["a schedule", "run", changed("load logic", "laod logic"), "S3: its first word is no act", at("load logic")],
+    [
+      "a source's grammar", "check", changed("on show(v) { emit v; }", "on show(v) { emit v }"), "D7",
+      at("on show(v)")
+    ],
+    [
+      "a source's rules", "check", changed("send level(v)", "send other(v)"), "Unknown: a name isn't declared",
+      at("[[module]]")
+    ],
+    ["a key", "check", changed("provider = 7", "povider = 7"), "D4: a key is unknown or missing", at("[[module]]")],
+    ["TOML", "check", changed('node = "a"', "node = a b"), "D3", undefined],
+    [
+      "readings", "drive", `${head}%%\nlight 1\nlight 99999\n`, "Q5: the value isn't a number below 32,768",
+      at("%%") + 2
+    ],
+    [
+      "a trace", "explain", `${head}%%\ntrace\nout lamp 1\nend\n`, "the sources don't allow this item", at("%%") + 2
+    ],
+    ["a query", "snap", `${head}%%\nload eye\n%%\nfly 1\n`, "Y3", at("%%") + 3],
+    ["no mark", "run", "secret = 3\n", "D2: there is no line %%", undefined],
+  ];
+  for (const [name, word, input, words, line] of cases) {
+    await test.write(input);
+    await test.click(`do-${word}`);
+    const said = await test.said(),
+          marked = await test.value(`${element("marked")}.hidden ? 0 : Number(${element("marked")}.dataset.line)`);
+    const isRight =
+        said.includes(words) && (line === undefined || said.endsWith(`, at line ${line}`) && marked === line);
+    expect(`a fault in words at its line: ${name}`, isRight, {said, marked, line});
+  }
+  await test.write(cases[0][2]);
+  await test.click("do-run");
+  await test.picture("fault");
+}
+
+async function testStop(test) {
+  // (a jump to itself, for as long as a schedule may have it run)
+  await test.write(`%%\nasm n 0x4000 jmp 0x4000\nset n pc 0x4000\n${"run n 65535\n".repeat(60000)}`);
+  await test.value(act(`delete ${DONE}; ${element("do-run")}.click()`));
+  await test.until(`!${element("do-stop")}.disabled`);
+  await sleep(300);
+  const done = await test.click("do-stop");
+  expect("a run is stopped", done === "stopped" && await test.said() === "run: stopped", await test.said());
+  expect("nothing runs then", await test.value(`${element("do-stop")}.disabled`));
+}
+
+async function testLink(test) {
+  const text = `${example("lighting").replace("sense light 120", "sense light 7")}# ž 𝄞\n`;
+  await test.write(text);
+  await test.click("do-run");
+  const wrote = await test.wrote();
+  await test.value(act(`${element("do-link")}.click()`));
+  await test.until(`${shown("said")}.startsWith("The address of this page")`);
+  const hash = await test.value("location.hash");
+  await test.open(hash);
+  expect("an address carries its input", await test.text() === text, hash);
+  expect("and it is run", await test.wrote() === wrote && wrote.includes("sense light 7"));
+  await test.open("#z=AAAA");
+  expect(
+      "an address that holds no input", (await test.said()).startsWith("The address holds no input"),
+      await test.said());
+}
+
+// What "Save page" saves.
+const SAVED =
+    `(async () => { const {createObjectURL} = URL; let kept; URL.createObjectURL = it => { kept = it; return createObjectURL.call(URL, it); };
+  ${element("save")}.click(); URL.createObjectURL = createObjectURL; return kept.text(); })()`;
+
+async function testSaved(test) {
+  if (!test.browser.press) return;
+  await test.open("#example=lighting");
+  const file = join(tmpdir(), `playground-${process.pid}.html`);
+  writeFileSync(file, await test.value(SAVED));
+  await test.browser.open(`file://${file}`);
+  const done = await test.done();
+  expect("a page that was saved holds its run", done === "held" && await test.text() === example("lighting"), done);
+  expect("and draws it", await test.rows() > 20, await test.rows());
+  await test.click("do-run");
+  expect("and runs it", (await test.said()).startsWith("run ended with status 0"), await test.said());
+  rmSync(file);
+}
+
+async function testPolicy(test) {
+  const reached = await test.value(`fetch("https://example.org").then(() => "reached", () => "refused")`);
+  expect("the page connects to nothing", reached === "refused", reached);
+}
+
+async function testLayout(test) {
+  await test.open("#example=lighting");
+  const isInside = await test.value(
+      "document.documentElement.scrollWidth <= innerWidth && document.documentElement.scrollHeight <= innerHeight");
+  expect("nothing stands outside the window", isInside);
+  const hidden = await test.value(`[...document.querySelectorAll("#desk button, header button")].filter(it => it.offsetParent).filter(it => {
+    const {left, right, top, bottom} = it.getBoundingClientRect();
+    const seen = document.elementFromPoint((left + right) / 2, (top + bottom) / 2);
+    return left < 0 || top < 0 || right > innerWidth || bottom > innerHeight || seen !== it;
+  }).map(it => it.id).join(" ")`);
+  expect("each button is in sight", hidden === "", hidden);
+  const more = await test.value(`${element("numbers")}.scrollHeight - ${element("text")}.scrollHeight`);
+  expect("the numbers are as high as the text", Math.abs(more) < 40, more);
+}
+
+async function testKeys(test) {
+  if (!test.browser.press) return;
+  await test.open("#example=lighting");
+  await test.value(act(`${element("text")}.focus(); ${element("text")}.setSelectionRange(0, 0)`));
+  await test.browser.press("x", {text: "x"});
+  await test.value(act(`delete ${DONE}`));
+  await test.browser.press("Enter", {ctrl: true});
+  await test.done();
+  expect("Ctrl+Enter runs what is written", (await test.said()).includes("D3"), await test.said());
+  expect("and the text keeps the keys", await test.value("document.activeElement.id") === "text");
+  const order = [],
+        wanted = ["do-run", "do-drive", "do-check", "do-explain", "do-snap", "do-link", "do-save", "text"];
+  await test.value(act(`${element("example")}.focus()`));
+  for (let k = 0; k < wanted.length; k++) {
+    await test.browser.press("Tab");
+    order.push(await test.value("document.activeElement.id"));
+  }
+  expect("Tab goes from word to word", wanted.every((id, k) => order[k] === id), order);
+}
+
+async function testWithoutWebAssembly(Browser) {
+  const browser = new Browser(), test = new Test(browser);
+  await browser.begin({width: 1280, height: 720, script: "delete globalThis.WebAssembly"});
+  const done = await test.open(), said = await test.said();
+  expect(
+      "a browser without WebAssembly is told so",
+      done === "refused" && said.startsWith("This browser has no WebAssembly"), said);
+  await test.picture("without");
+  await browser.end();
+}
+
+const made = spawnSync("python3", [fileURLToPath(new URL("make.py", import.meta.url)), "--check"]);
+expect("the page is what its parts give", made.status === 0, String(made.stderr));
+for (const Browser of BROWSERS.filter(it => !wanted || it.name === wanted)) {
+  if (!Browser.isHere()) {
+    console.log(`${Browser.name} isn't installed`);
+    continue;
+  }
+  console.log(`--- ${Browser.name}`);
+  const browser = new Browser(), test = new Test(browser);
+  await browser.begin({width: 1280, height: 720});
+  await test.open();
+  for (const one of [testLayout, testWords, testFaults, testStop, testLink, testSaved, testKeys, testExamples])
+    await one(test);
+  expect("no errors", !browser.errors.length, browser.errors);
+  await testPolicy(test);
+  await browser.end();
+  if (Browser.name === "Chromium") await testWithoutWebAssembly(Browser);
+}
+console.log(failed ? `${failed} failed` : "all passed");
+process.exitCode = failed ? 1 : 0;
