@@ -62,23 +62,14 @@ def examples():
     return {str(it.relative_to(folder).with_suffix("")): it.read_text() for it in files}
 
 
-def note():
-    lines = (TOP / "release" / "RELEASE").read_text().splitlines()
-    return dict(it.split(" ", 1) for it in lines)
-
-
 def part(name):
     return (HERE / name).read_text()
 
 
-def desk(noted):
-    """The desk, which says of which program the page is. The sum of the sources is the note's only where it is of the same program."""
-    is_same = noted["wasm-of"] == noted["sha256"]
-    sums = {"PROGRAM": noted["wasm-of"], "SOURCES": noted["sources"] if is_same else "(an earlier one)", "KIT": noted["kit"]}
-    text = part("desk.html")
-    for word, told in sums.items():
-        text = text.replace(f"<code>{word}</code>", f"<code>{told}</code>")
-    return text
+def desk():
+    """The desk, which says of which program the page is."""
+    note = (TOP / "release" / "RELEASE").read_text()
+    return part("desk.html").replace("PROGRAM", re.search(r"^wasm-of (\S+)$", note, re.M)[1])
 
 
 def held(name, text):
@@ -94,7 +85,7 @@ def packed(data):
 
 def made():
     program = (TOP / "release" / "sancus.wasm").read_bytes()
-    work = '<div id="work">\n' + desk(note()) + '<div id="seen"></div>\n</div>\n'
+    work = '<div id="work">\n' + desk() + '<div id="seen"></div>\n</div>\n'
     scripts = words() + "\n".join(part(f"{it}.js") for it in SCRIPTS)
     texts = [
         held("program", packed(program)),
