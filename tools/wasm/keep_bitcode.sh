@@ -28,15 +28,15 @@ exec '$kit/toolchain/bin/clang' "\$@"
 END
 chmod +x "$work/toolchain/bin/clang"
 
-process="$libraries/crates/sx_process/out/rlib/sx_process.rlib"
-if [[ ! -e "$process" ]]; then
+top_crate="$libraries/crates/sx_top/out/rlib/sx_top.rlib"
+if [[ ! -e "$top_crate" ]]; then
   echo "keep_bitcode: no proved libraries stand in $libraries: .ci/run or ./sancus build leaves them" >&2
   exit 1
 fi
 
 cd "$top/crates/sancus_run"
 words=(--crate-name sancus_run src/main.rt --extern "std=$kit/rlibs/std.rlib" -L "dependency=$kit/rlibs")
-words+=(--extern "sx_process=$process")
+words+=(--extern "sx_top=$top_crate")
 for folder in "$libraries"/crates/*/out/rlib; do
   words+=(-L "dependency=$folder")
 done
