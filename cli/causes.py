@@ -6,15 +6,16 @@ from dataclasses import dataclass, field
 from typing import Dict, Iterator, List, Optional
 
 from cli.deployment import Plan, plan_of
+from cli.faults import Teller
 from cli.items import ITEMS, Item, say
 from cli.joining import explained
 from cli.model import reason
 from cli.numbers import number
 from cli.program import Collected, Program
+from cli.running import gathered
 from cli.say import Voice, text_of
 from cli.sinks import Kept as KeptLines
 from cli.status import BAD_TEXT, Ended
-from cli.texts import find_mark, split_lines
 
 # How many items of a module are shown before an illegal one.
 BEFORE = 6
@@ -35,6 +36,8 @@ class Explained:
     illegal: Optional[int] = None
     forged: Optional[int] = None
     last: str = ""
+    # what a fault in `last` means
+    about_fault: List[str] = field(default_factory=list)
     status: int = 0
     plan: Optional[Plan] = None
 
@@ -51,24 +54,10 @@ def items_of(lines: List[bytes]) -> List[Item]:
 
 def explain(deployment: str, trace: str, program: Program, voice: Voice) -> Explained:
     """Has the program judge a trace, and takes apart what it says."""
-    pieces: List[bytes] = []
-    for part in explained(deployment, trace, voice):
-        if pieces and not pieces[-1].endswith(b"\n"):
-            pieces.append(b"\n")
-        while True:
-            piece = part.read()
-            if not piece:
-                break
-            pieces.append(piece)
-    return explained_text(b"".join(pieces), program)
-
-
-def explained_text(text: bytes, program: Program) -> Explained:
-    found = find_mark(text)
-    head, rest = (text[: found[0]], text[found[1] :]) if found else (text, b"")
+    kept, data = gathered(explained(deployment, trace, voice))
     sink = KeptLines(Collected())
-    ran = program.ran_of(["explain"], text, sink)
-    made = Explained(items_of(split_lines(rest)) if rest else [], status=ran.status, plan=plan_of(head))
+    ran = program.ran_of(["explain"], data.data, sink)
+    made = Explained(items_of(data.schedule), status=ran.status, plan=plan_of(data.head))
     for line in (text_of(it) for it in sink.lines):
         words = line.split(" ")
         if words[0] == "because":
@@ -76,6 +65,8 @@ def explained_text(text: bytes, program: Program) -> Explained:
         elif words[0] in ("legal", "illegal", "forged") and len(words) == 2:
             setattr(made, words[0], int(words[1]))
         made.last = line
+    if made.last.startswith("fault "):
+        made.about_fault = Teller(kept, "explain", program.ask).told(made.last)
     return made
 
 
@@ -127,7 +118,7 @@ def chosen(made: Explained, word: str) -> int:
 
 def must_be_judged(made: Explained) -> None:
     if made.last.startswith("fault "):
-        raise Ended(BAD_TEXT, f"the trace isn't judged: {made.last}")
+        raise Ended(BAD_TEXT, f"the trace isn't judged: {made.last}", *made.about_fault)
 
 
 def why(made: Explained, word: str) -> Iterator[str]:

@@ -195,7 +195,7 @@ class Teller:
                 + guesses.of_head(self.command, bytes(self.kept.first[:4096]))
             )
         if rule == "D2":
-            return lines + (self.near_mark() or guesses.without_mark(self.command, self.kept.place(1)[0]))
+            return lines + (self.near_mark() or guesses.without_mark(self.command, self.kept.place(1)[0], self.kept.first))
         if rule == "D3":
             return lines + self.not_toml() + guesses.of_head(self.command, bytes(self.kept.first[:4096]))
         if not self.plan:

@@ -81,8 +81,10 @@ def of_head(command: str, first: bytes) -> List[str]:
     return []
 
 
-def without_mark(command: str, name: str) -> List[str]:
+def without_mark(command: str, name: str, first: bytes) -> List[str]:
     """What to do about an input without `%%`."""
+    if not first:
+        return ["the input is empty"]
     file = "FILE" if name == "-" else name
     more = {
         "run": ("SCHEDULE", "a schedule"),

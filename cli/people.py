@@ -61,6 +61,11 @@ def refused(error: Stopped, made: Lines, at: str, text: str, command: Program) -
     return Ended(BAD_TEXT, *lines)
 
 
+def noted(writer: Writer, at: str, text: str) -> List[str]:
+    """What a line showed that it does, or does not do."""
+    return [f"{at}: {text.strip()}: {it}" for it in writer.notes]
+
+
 def written(made: Lines, context: Context) -> Tuple[Writer, List[str]]:
     """The schedule of lines for people."""
     plan = plan_of(made.head)
@@ -76,12 +81,12 @@ def written(made: Lines, context: Context) -> Tuple[Writer, List[str]]:
             try:
                 writer.line(text, at)
             except Mistake as error:
-                raise Ended(BAD_TEXT, f"{at}: {text.strip()}: {error}") from None
+                raise Ended(BAD_TEXT, *notes, *noted(writer, at, text), f"{at}: {text.strip()}: {error}") from None
             except Stopped as error:
                 raise refused(error, made, at, writer.lines[-1] if writer.lines else text, context.program) from None
             except (IndexError, KeyError):
                 raise Ended(BAD_TEXT, f"{at}: {text.strip()}: too few words") from None
-            notes += [f"{at}: {text.strip()}: {it}" for it in writer.notes]
+            notes += noted(writer, at, text)
             writer.notes.clear()
     finally:
         session.close()

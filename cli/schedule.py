@@ -173,8 +173,10 @@ class Writer:
         for name in modules:
             node = self.module(name)
             if self.state.standing.get(name):
+                missing = [it for it in modules if not self.state.standing.get(it)]
+                advice = f"`deploy {' '.join(missing)}` deploys the others" if missing else f"`reset {node}` first"
                 raise Mistake(
-                    f"{name} stands already, since boot {self.state.boot(node)} of {node}: `reset {node}` first, or call it as it is"
+                    f"{name} stands already, since boot {self.state.boot(node)} of {node}: {advice}, or call it as it is"
                 )
         for name in modules:
             items = self.put("load", name)

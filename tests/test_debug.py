@@ -187,7 +187,11 @@ class Why(Room):
         ran = sancus("explain", "--words", LIGHTING_FILE, EXAMPLES / "tampered.trace")
         self.assertEqual(ran.status, 8)
         self.assertIn("illegal: 38", ran.out.decode())
-        self.says(sancus("why", LIGHTING_FILE, LIGHTING_FILE), "the trace isn't judged: fault trace E1 1")
+        self.says(
+            sancus("why", LIGHTING_FILE, LIGHTING_FILE),
+            "the trace isn't judged: fault trace E1 1",
+            "this is a schedule, and no trace",
+        )
 
     def test_forged(self):
         trace = self.file("f", program("run", text=(EXAMPLES / "forged.txt").read_bytes()).out)

@@ -132,6 +132,7 @@ class Schedule(Room):
         ("carry eye", "too many words or too few: carry MODULE MODULE"),
         ("deploy ear", "there is no module ear"),
         ("deploy all", "stands already, since boot 0 of a: `reset a` first"),
+        ("reset b\ndeploy all", "`deploy agg` deploys the others"),
         ("give lost a", "no packet is named lost"),
         ("sample vio 3", "vio drives no sensor"),
         ("sample eye 32768", "32768 is no value of a sensor"),
@@ -163,6 +164,11 @@ class Schedule(Room):
                 self.assertEqual((ran.status, ran.out), (122, b""), ran.said)
                 self.assertIn(f"line {FAN_OUT.count(chr(10)) + 2 + lines.count(chr(10))}: ", ran.said)
                 self.assertIn(words, ran.said)
+
+    def test_notes_stand_before_a_fault(self):
+        ran = written("deploy all\nwindows 0x1000 0x400\nsample eye 1\ncarry eye agg\n", deployment=FAN_OUT)
+        self.assertEqual(ran.status, 122, ran.said)
+        self.says(ran, "eye answers with status 3", "eye sent nothing at its last call")
 
     def test_what_did_nothing_is_noted(self):
         ran = written(
