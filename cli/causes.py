@@ -19,6 +19,8 @@ from cli.status import BAD_TEXT, Ended
 
 # How many items of a module are shown before an illegal one.
 BEFORE = 6
+# How many items, or beginnings of items, are named at most.
+MOST_NAMED = 12
 SAID_CAUSE = {
     "read": "the sensor's last sample",
     "take": "where this event was sent",
@@ -103,17 +105,42 @@ def why_illegal(made: Explained, at: int) -> Iterator[str]:
     yield f"  {found}" if found else "  the sources don't allow it after the items before it"
 
 
-def chosen(made: Explained, word: str) -> int:
-    """The item that is asked about: the one of this number, the illegal one, or the last `out`."""
-    if not word:
+def chosen(made: Explained, words: str, voice: Voice) -> int:
+    """The item that is asked about: the one of this number, the last that begins with these words, the illegal one, or
+    the last `out`."""
+    if not words:
         outs = [it.number for it in made.items if it.kind == "out" and it.number in made.causes]
         if made.illegal or outs:
             return made.illegal or outs[-1]
         raise Ended(BAD_TEXT, "the trace has no `out`, and nothing illegal: say which item is meant")
-    at = number(word)
+    at = number(words)
+    if at is None:
+        return last_that_begins(made, words.split(), voice)
     if not at or at > len(made.items):
-        raise Ended(BAD_TEXT, f"{word} is no item: the trace has {len(made.items)}, counted from 1 after `trace`")
+        raise Ended(BAD_TEXT, f"{words} is no item: the trace has {len(made.items)}, counted from 1 after `trace`")
     return at
+
+
+def last_that_begins(made: Explained, words: List[str], voice: Voice) -> int:
+    """The last item that begins with some words, as `out alarm`."""
+    found = [it.number for it in made.items if it.words[: len(words)] == words]
+    if not found:
+        raise Ended(BAD_TEXT, f"no item begins with `{' '.join(words)}`{others(made, words)}")
+    if len(found) > 1:
+        shown = " ".join(map(str, found[-MOST_NAMED:]))
+        more = "" if len(found) <= MOST_NAMED else ".. "
+        voice.say(f"{len(found)} items begin with `{' '.join(words)}`, and this is the last of them: {more}{shown}")
+    return found[-1]
+
+
+def others(made: Explained, words: List[str]) -> str:
+    """What could have been meant by words with which no item begins."""
+    driver = made.plan.driver_of(words[1]) if made.plan and len(words) > 1 else None
+    if driver and words[0] in ("out", "read"):
+        return f": an item names the module, and {driver['name']} drives {words[1]}"
+    same = sorted({" ".join(it.words[:2]) for it in made.items if it.kind == words[0]})
+    kinds = sorted({it.kind for it in made.items})
+    return f"; the trace has: {', '.join(f'`{it}`' for it in (same or kinds)[:MOST_NAMED])}"
 
 
 def must_be_judged(made: Explained) -> None:
@@ -121,9 +148,8 @@ def must_be_judged(made: Explained) -> None:
         raise Ended(BAD_TEXT, f"the trace isn't judged: {made.last}", *made.about_fault)
 
 
-def why(made: Explained, word: str) -> Iterator[str]:
+def why(made: Explained, at: int) -> Iterator[str]:
     """Why an item came: its chain of causes, or the condition that it breaks."""
-    at = chosen(made, word)
     if at == made.illegal:
         yield from why_illegal(made, at)
         return

@@ -50,6 +50,11 @@ class Command:
     example: str = ""
     more: str = ""
     is_programs: bool = False
+    # what its lines mean, after `more`; and what follows them
+    table: Tuple[Tuple[str, str], ...] = ()
+    after: str = ""
+    # what is typed at a terminal if no file is given
+    typed: str = "the input"
 
     def usage(self) -> str:
         options = " [OPTION ..]" if self.options else ""
@@ -72,7 +77,13 @@ SCHEDULES = Argument(
 FILE = Argument("FILE", MAYBE, "absent or -, standard input")
 ADDRESS = Argument("ADDRESS", ONE, "a number from 0 to 65,535", False)
 INPUT = Argument("INPUT", ONE, "a deployment, a line %% and a schedule")
-LINE = Argument("LINE", ONE, "a line of the schedule, counted from 1 after %%; 0 is power-on", False)
+LINE = Argument(
+    "LINE", ONE, "a line of the schedule, counted from 1 after %%, or FILE:LINE as in an editor; 0 is power-on", False
+)
+MORE = Argument(
+    "SCHEDULE", MANY, "schedules or lines for people, one after the other, if INPUT is the deployment alone"
+)
+DRIVE = Option("--drive", "INPUT has readings, and LINE is one of the schedule that `drive` makes of them")
 
 COMMANDS: Tuple[Command, ...] = (
     Command(
@@ -83,6 +94,7 @@ COMMANDS: Tuple[Command, ...] = (
         "sancus run examples/lighting.txt",
         "It prints the modules' images and the trace, an item a line. At a terminal each line is answered at once.",
         True,
+        typed="a deployment, a line %%, and a schedule, each line of which is answered at once",
     ),
     Command(
         "drive",
@@ -97,24 +109,27 @@ COMMANDS: Tuple[Command, ...] = (
         "sancus drive examples/readings.txt",
         "It prints each line of the schedule after `> `, and the items that the line gave.",
         True,
+        typed="a deployment, a line %%, and readings",
     ),
     Command(
         "check",
         "prints where the modules will stand, or which rule the deployment breaks",
-        (Argument("DEPLOYMENT", MAYBE, "the deployment; a line %% may be absent"),),
+        (Argument("DEPLOYMENT", MAYBE, "the deployment, with or without a line %%; absent or -, standard input"),),
         (JSON,),
         "sancus check examples/lighting.txt",
         "",
         True,
+        typed="a deployment",
     ),
     Command(
         "explain",
         "judges a trace by the sources alone: which item caused which",
-        (DEPLOYMENT, Argument("TRACE", MAYBE, "what `run` or `drive` wrote")),
+        (DEPLOYMENT, Argument("TRACE", MAYBE, "what `run` or `drive` wrote; -, standard input")),
         (Option("--words", "prints the items with their causes, in words"), JSON),
-        "sancus run examples/lighting.txt | sancus explain examples/lighting.txt -",
-        "",
+        "sancus run examples/lighting.txt | sancus explain examples/lighting.txt",
+        "If DEPLOYMENT has no trace after a line %%, and TRACE is absent, the trace comes on standard input.",
         True,
+        typed="a deployment, a line %%, and a trace",
     ),
     Command(
         "snap",
@@ -124,6 +139,7 @@ COMMANDS: Tuple[Command, ...] = (
         "sancus snap --no-images examples/snap/dark_bulb.txt",
         "The queries stand after a second line %%: `regs NODE L`, `bytes NODE AT LEN L` and `items L`.",
         True,
+        typed="a deployment, a line %%, a schedule, a line %%, and queries",
     ),
     Command(
         "gen",
@@ -142,6 +158,7 @@ COMMANDS: Tuple[Command, ...] = (
         "echo 'mov #9, &0x1000' | sancus asm 0x4000",
         "",
         True,
+        typed="instructions, one a line",
     ),
     Command(
         "dis",
@@ -151,6 +168,7 @@ COMMANDS: Tuple[Command, ...] = (
         "sancus run examples/lighting.txt | grep '^image logic' | sancus dis 0x6000",
         "A line `image MODULE BYTES`, as `run` prints it, is taken as it stands.",
         True,
+        typed="bytes in hexadecimal",
     ),
     Command(
         "schedule",
@@ -158,18 +176,23 @@ COMMANDS: Tuple[Command, ...] = (
         (DEPLOYMENT, Argument("LINES", MANY, "lines for people")),
         (Option("--lines", "prints the schedule alone, without the deployment"),),
         "printf 'deploy all\\nsample eye 120\\ncarry eye logic\\n' | sancus schedule examples/lighting.txt - | sancus run",
-        """Lines for people, between plain lines of a schedule:
-  deploy all, deploy M ..    load, ask, answer and keys of every module, or of these in this order
-  sample M VALUE             the sensor of M has this sample, and M reads it
-  carry M N [WHICH]          the next event for N that M wrote at its last call is taken, and N is called with it;
-                             WHICH is a connection, or the number of a piece
-  call M ENTRY               with the windows by default; so do `give P NODE` and `take NODE LENGTH`
-  answer M P                 at the boot of M's node
-  .. as NAME                 after `take`, `forge` and `ask`: a name for the packet, for `give` and `answer`
-  windows IN OUT             other windows from here on (0x300 and 0x400 before)
-deploy and carry name their packets too: ask.M, answer.M, key.M.CONNECTION.from or .to, and event.M.N. The program runs
-as the lines are written, so packets, boots and pieces are those that it showed. A line `#= FILE:LINE TEXT` comes before
-what was made of a line for people, and a fault of it is led back there.""",
+        "Lines for people, between plain lines of a schedule (docs/SCHEDULES.md says what each becomes):",
+        table=(
+            ("deploy all, deploy M ..", "load, ask, answer and keys of every module, or of these in this order"),
+            ("sample M VALUE", "the sensor of M has this sample, and M reads it"),
+            ("carry M N [WHICH]", "the next event for N of M's last call is taken, and N is called with it"),
+            ("", "(WHICH is a connection, or the number of a piece from 0)"),
+            ("call M ENTRY", "with the windows of `windows`, as the next two"),
+            ("give P NODE", "packet P, by number or name, is put into the in-window"),
+            ("take NODE LENGTH", "a packet is made of what is in the out-window"),
+            ("answer M P", "at the present boot of M's node"),
+            (".. as NAME", "after `take`, `forge` and `ask`: a name for the packet, for `give` and `answer`"),
+            ("windows IN OUT", "other windows from here on (0x300 and 0x400 before)"),
+        ),
+        after="""Packets that deploy and carry make have names: ask.M, answer.M, key.M.CONNECTION.from or .to, and event.M.N.
+The program runs as the lines are written, so packets, boots and pieces are those that it showed. A line
+`#= FILE:LINE TEXT` comes before what was made of a line, and a fault of it is led back there.""",
+        typed="a deployment, a line %%, and lines for people",
     ),
     Command(
         "marks",
@@ -177,14 +200,19 @@ what was made of a line for people, and a fault of it is led back there.""",
         (DEPLOYMENT, SCHEDULES),
         (NO_IMAGES,),
         "sancus marks examples/forged.txt",
+        typed="a deployment, a line %%, and a schedule",
     ),
     Command(
         "view",
         "writes one HTML page that holds a run and draws it",
         (
-            Argument("INPUT", MAYBE, "a deployment, a line %% and a schedule, or readings"),
-            Argument("OUTPUT", MAYBE, "what `run` wrote, in place of a run"),
-            Argument("CAUSES", MAYBE, "what `explain` wrote of it"),
+            Argument("INPUT", MAYBE, "a deployment, a line %% and a schedule, lines for people or readings"),
+            Argument(
+                "FILE",
+                MANY,
+                "schedules, lines for people or readings, if INPUT is the deployment alone; or, in place of a run, what "
+                "`run` wrote and then what `explain` wrote of it",
+            ),
         ),
         (
             Option("--drive", "draws the honest run of readings"),
@@ -197,32 +225,35 @@ what was made of a line for people, and a fault of it is led back there.""",
     Command(
         "vars",
         "prints a module's variables, arrays and ends after a line",
-        (INPUT, Argument("MODULE", ONE, "a module", False), LINE),
-        (Option("--drive", "INPUT has readings, and LINE is one of the schedule that `drive` makes of them"),),
+        (INPUT, MORE, Argument("MODULE", ONE, "a module", False), LINE),
+        (DRIVE,),
         "sancus vars examples/lighting.txt logic 45",
+        "Of lines for people LINE is one of those; of what `sancus schedule` wrote it may also be FILE:LINE as it was made of.",
     ),
     Command(
         "steps",
         "prints the instructions that a line executed",
-        (INPUT, LINE),
-        (Option("--drive", "INPUT has readings, and LINE is one of the schedule that `drive` makes of them"),),
+        (INPUT, MORE, LINE),
+        (DRIVE,),
         "sancus steps examples/lighting.txt 39",
+        "Of a line for people it prints each line that it became, after `> `, with its instructions.",
     ),
     Command(
         "why",
         "prints the chain of causes of an item, or why it is illegal",
         (
             Argument("DEPLOYMENT", ONE, "the deployment"),
-            Argument("TRACE", ONE, "what `run` or `drive` wrote; -, standard input"),
+            Argument("TRACE", MAYBE, "what `run` or `drive` wrote; absent or -, standard input"),
             Argument(
                 "ITEM",
-                MAYBE,
-                "an item's number from 1 after `trace`; absent, the last `out` or the illegal item",
+                MANY,
+                "an item's number from 1 after `trace`, or the words that it begins with, as `out lamp`: the last such item; "
+                "absent, the last `out` or the illegal item",
                 False,
             ),
         ),
         (),
-        "sancus run examples/lighting.txt | sancus why examples/lighting.txt - 42",
+        "sancus run examples/lighting.txt | sancus why examples/lighting.txt out lamp",
         "A cause is the last event that triggered an item, and not all that its value depends on.",
     ),
     Command(
@@ -398,8 +429,9 @@ def help_all() -> List[str]:
 
 def help_of(command: Command) -> List[str]:
     lines = [f"usage: {command.usage()}", "", f"It {command.does}."]
-    if command.more:
-        lines += command.more.split("\n")
+    lines += [command.more] if command.more else []
+    lines += rows(command.table)
+    lines += command.after.split("\n") if command.after else []
     if command.arguments:
         lines += ["", *rows([(it.name, it.says) for it in command.arguments])]
     lines += ["", *rows([(it.shown(), it.says) for it in (*command.options, *EVERYWHERE)])]

@@ -125,7 +125,7 @@ def of_trace(line: bytes, first: bytes) -> List[str]:
     """What was given in place of a trace."""
     act = (line.split() or [b""])[0].decode(errors="replace")
     if act in ACTS or act in PEOPLE or act.startswith("#"):
-        return ["this is a schedule, and no trace: `sancus run FILE > TRACE` writes one"]
+        return ["this is a schedule, and no trace: `sancus run FILE > TRACE` writes one, and `sancus run FILE | sancus explain FILE` judges it"]
     if line.startswith((b"because ", b"legal ", b"illegal ")):
         return ["this is what `explain` wrote: it takes what `run` or `drive` wrote"]
     if b"=" in line or line.startswith(b"["):

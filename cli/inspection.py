@@ -1,67 +1,159 @@
-"""An input of which a run is looked into: its lines, the deployment's tables, and what the program answers about it."""
+"""An input that is looked into: its deployment, the lines of its schedule, and the line that is asked about."""
 
 from __future__ import annotations
 
-from dataclasses import dataclass
-from typing import List
+import os
+import re
+from dataclasses import dataclass, field
+from typing import List, Tuple
 
+from cli.acts import is_act
+from cli.context import Context
 from cli.deployment import Plan, plan_of
 from cli.faults import Teller
+from cli.joining import joined
 from cli.numbers import number
+from cli.people import are_for_people, lines_of, written
 from cli.program import Collected, Program
 from cli.rules import near
+from cli.running import gathered
 from cli.say import text_of
 from cli.sinks import Kept as KeptLines
 from cli.status import BAD_TEXT, Ended
-from cli.texts import Input, kept_of, read_all
+from cli.texts import Input, Kept, file_part, kept_of
+
+
+@dataclass(frozen=True)
+class Line:
+    """A line as it was given: its file and number there, its text, and the first and last line of the schedule that it
+    is or became."""
+
+    place: str
+    text: str
+    first: int
+    last: int
+
+    def is_at(self, place: str) -> bool:
+        """Whether a word `FILE:LINE` means this line; the file's folder may be left out."""
+        return place in (self.place, os.path.basename(self.place))
 
 
 @dataclass
 class Inspected:
-    """An input: its deployment, and the lines of its schedule."""
+    """An input: its deployment, the lines of its schedule, and the lines that were given for them."""
 
     name: str
     head: bytes
     plan: Plan
     lines: List[str]
+    given: List[Line]
     program: Program
+    # whether the lines that were given are for people
+    is_for_people: bool = False
+    # lines of a `sancus schedule` that was run before, by its lines `#= FILE:LINE TEXT`
+    marked: List[Line] = field(default_factory=list)
 
-    def line_number(self, word: str) -> int:
+    def line(self, word: str) -> Line:
+        """The line that is asked about, by its number after the mark or its place in a file."""
         value = number(word)
-        if value is None or value > len(self.lines):
-            raise Ended(
-                BAD_TEXT, f"{word} is no line of the schedule: it has {len(self.lines)}, counted from 1 after %%"
-            )
-        return value
+        if value == 0:
+            return Line("", "power-on", 0, 0)
+        if value is not None and value <= len(self.given):
+            return self.given[value - 1]
+        found = [it for it in [*self.marked, *self.given] if it.is_at(word)] if value is None else []
+        if found:
+            return found[0]
+        begins = next((it.place for it in self.given if ":" in it.place), "")
+        raise Ended(
+            BAD_TEXT,
+            f"{word} is no line of the schedule: it has {len(self.given)}, counted from 1 after %%"
+            + (f"; the first is {begins}" if begins else ""),
+        )
+
+    def said(self, at: int) -> str:
+        """A line of the schedule by its number, or by the line for people that it was made of."""
+        if self.is_for_people:
+            return next((it.place for it in self.given if it.first <= at <= it.last), f"line {at}")
+        return f"line {at}"
+
+    def headed(self, line: Line) -> str:
+        """The line that is asked about, as the first line of an answer."""
+        is_own = not self.is_for_people and line.first == line.last and line not in self.marked
+        return f"line {line.first}: {line.text}" if is_own else f"{line.place}: {line.text}"
 
     def module(self, name: str) -> str:
         if not self.plan.named("module", name):
-            raise Ended(
-                BAD_TEXT,
-                f"there is no module {name}{near(name, self.plan.names('module'))}: {' '.join(self.plan.names('module'))}",
-            )
+            known = self.plan.names("module")
+            raise Ended(BAD_TEXT, f"there is no module {name}{near(name, known)}: {' '.join(known)}")
         return name
 
 
-def inspected(name: str, is_driven: bool, program: Program) -> Inspected:
-    """The input of a file. Of readings, the schedule is the one that `drive` makes."""
-    data = Input(read_all(name))
-    kept = kept_of(data.data, name)
+MARK_OF_PEOPLE = re.compile(r"#= (\S+:[0-9]+) (.*)")
+
+
+def marked_lines(lines: List[str]) -> List[Line]:
+    """The lines for people of which a schedule was made, each with what follows up to the next."""
+    found = [(at, it) for at, it in enumerate((MARK_OF_PEOPLE.fullmatch(it) for it in lines), 1) if it]
+    ends = [at - 1 for at, _ in found[1:]] + [len(lines)]
+    return [Line(it[1], it[2], at, end) for (at, it), end in zip(found, ends)]
+
+
+def must_be_accepted(kept: Kept, data: Input, name: str, program: Program) -> Plan:
     if not data.has_mark:
-        raise Ended(BAD_TEXT, f"{name} has no line %%, so there is no schedule")
+        raise Ended(
+            BAD_TEXT, f"{name} has no line %%, so there is no schedule; a schedule of its own file comes after {name}"
+        )
     plan = plan_of(data.head)
     answer = program.ask(["check"], data.head + b"%%\n").decode(errors="replace").strip()
     if plan is None or not answer.endswith("end"):
         raise Ended(BAD_TEXT, f"{name} has no deployment that is accepted: {answer}", *Teller(kept, "run").told(answer))
-    lines = [text_of(it) for it in data.schedule]
-    if is_driven:
-        sink = KeptLines(Collected())
-        program.ran_of(["drive"], data.data, sink)
-        last = text_of(sink.lines[-1]) if sink.lines else ""
-        if last.startswith("fault reading"):
-            raise Ended(BAD_TEXT, last, *Teller(kept, "drive", program.ask).told(last))
-        lines = [text_of(it[2:]) for it in sink.lines if it.startswith(b"> ")]
-    return Inspected(name, data.head, plan, lines, program)
+    return plan
+
+
+def are_readings(plan: Plan, data: Input) -> bool:
+    """Whether the lines after the mark are readings, and not lines of a schedule."""
+    first = next((it for it in data.schedule if is_act(it)), b"").split()
+    return len(first) == 2 and bool(plan.named("device", first[0].decode(errors="replace")))
+
+
+def driven(kept: Kept, data: Input, program: Program) -> List[str]:
+    """The schedule that `drive` makes of readings."""
+    sink = KeptLines(Collected())
+    program.ran_of(["drive"], data.data, sink)
+    last = text_of(sink.lines[-1]) if sink.lines else ""
+    if last.startswith("fault reading"):
+        raise Ended(BAD_TEXT, last, *Teller(kept, "drive", program.ask).told(last))
+    return [text_of(it[2:]) for it in sink.lines if it.startswith(b"> ")]
+
+
+def put_together(files: List[str], context: Context) -> Tuple[Kept, Input]:
+    """The input of one file, or of a deployment and what comes after its mark."""
+    return gathered(joined(files, context.voice) if len(files) > 1 else [file_part(files[0])])
+
+
+def inspected(files: List[str], is_driven: bool, context: Context) -> Inspected:
+    """The input of some files. Of readings the schedule is the one that `drive` makes, and of lines for people the one
+    that they become."""
+    kept, data = put_together(files, context)
+    plan = must_be_accepted(kept, data, files[0], context.program)
+    seen = Inspected(files[0], data.head, plan, [], [], context.program)
+    if is_driven or are_readings(plan, data):
+        if not is_driven:
+            context.voice.say(f"{files[-1]} has readings: the lines are those that `drive` makes of them")
+        seen.lines = driven(kept, data, context.program)
+        seen.given = [Line("", it, at, at) for at, it in enumerate(seen.lines, 1)]
+        return seen
+    given = lines_of(kept, data)
+    if are_for_people(data):
+        made = written(given, context)
+        context.voice.say(*made.notes)
+        spans, seen.lines, seen.is_for_people = made.spans, made.lines, True
+    else:
+        seen.lines = [text for _, text in given.lines]
+        spans = [(at, at) for at in range(1, len(seen.lines) + 1)]
+        seen.marked = marked_lines(seen.lines)
+    seen.given = [Line(at, text.strip(), *span) for (at, text), span in zip(given.lines, spans)]
+    return seen
 
 
 def broken(seen: Inspected, fault: str) -> Ended:

@@ -10,6 +10,8 @@ from typing import Callable, Dict, List, Optional, Sequence, Tuple
 from cli import commands
 from cli.builds import Build, Builds
 from cli.context import Context
+from cli.items import ITEMS
+from cli.numbers import number
 from cli.output import print_lines, write
 from cli.program import Program
 from cli.say import Voice
@@ -37,29 +39,46 @@ def view(context: Context, given: Given) -> int:
     return answer(context, given)
 
 
+def files_of(given: Given) -> List[str]:
+    return [*given.texts("INPUT"), *given.texts("SCHEDULE")]
+
+
 def variables(context: Context, given: Given) -> int:
     from cli import inspection, variables
 
-    seen = inspection.inspected(given.text("INPUT"), given.has("drive"), context.program)
-    print_lines(*variables.told(seen, seen.module(given.text("MODULE")), seen.line_number(given.text("LINE"))))
+    seen = inspection.inspected(files_of(given), given.has("drive"), context)
+    print_lines(*variables.told(seen, seen.module(given.text("MODULE")), seen.line(given.text("LINE"))))
     return 0
 
 
 def steps(context: Context, given: Given) -> int:
     from cli import inspection, stepping
 
-    seen = inspection.inspected(given.text("INPUT"), given.has("drive"), context.program)
-    print_lines(*stepping.told(seen, seen.line_number(given.text("LINE"))))
+    seen = inspection.inspected(files_of(given), given.has("drive"), context)
+    print_lines(*stepping.told(seen, seen.line(given.text("LINE"))))
     return 0
 
 
 def why(context: Context, given: Given) -> int:
     from cli import causes
 
-    made = causes.explain(given.text("DEPLOYMENT"), given.text("TRACE"), context.program, context.voice)
+    trace, words = trace_and_item(given)
+    made = causes.explain(given.text("DEPLOYMENT"), trace, context.program, context.voice)
     causes.must_be_judged(made)
-    print_lines(*causes.why(made, given.text("ITEM")))
+    print_lines(*causes.why(made, causes.chosen(made, words, context.voice)))
     return 0
+
+
+def trace_and_item(given: Given) -> Tuple[str, str]:
+    """The trace and the item of a call of `why`: a trace that isn't named comes on standard input."""
+    words = [*given.texts("TRACE"), *given.texts("ITEM")]
+    is_file = bool(words) and (words[0] == "-" or os.path.exists(words[0]) and not os.path.isdir(words[0]))
+    is_item = bool(words) and (number(words[0]) is not None or words[0].split(" ")[0] in ITEMS)
+    if words and (is_file or not is_item):
+        return words[0], " ".join(words[1:])
+    if os.isatty(0):
+        raise Usage("`why` takes TRACE, or a trace in a pipe", given.command)
+    return "-", " ".join(words)
 
 
 def hex_files(context: Context, given: Given) -> int:
@@ -215,6 +234,18 @@ def keep_streams_open() -> None:
             os.open(os.devnull, mode)
 
 
+def waiting(given: Given) -> List[str]:
+    """What is to be typed, if the command reads a terminal, which would else be silent."""
+    files = [it for it in given.command.arguments if it.is_file]
+    named = [it.name for it in files if "-" in given.texts(it.name)]
+    first = files[0] if files and "standard input" in files[0].says else None
+    if not os.isatty(0) or not (named or first and not given.texts(first.name)):
+        return []
+    typed = given.command.typed if first and (named or [first.name])[0] == first.name else named[0]
+    typed = {"ARGUMENT": "the file"}.get(typed, typed)
+    return [f"type {typed}; Ctrl-D ends it, and Ctrl-C leaves"]
+
+
 def answer(call: Sequence[str], top: Path, voice: Voice) -> int:
     given = taken_apart(call)
     voice.is_quiet = given.has("quiet")
@@ -223,6 +254,7 @@ def answer(call: Sequence[str], top: Path, voice: Voice) -> int:
         return 0
     builds = Builds(top, given.text("program") or os.environ.get("SANCUS_PROGRAM"))
     context = Context(top, voice, builds, Program(builds, voice))
+    voice.say(*waiting(given))
     return ANSWERS.get(given.command.name, program_command)(context, given)
 
 

@@ -16,12 +16,20 @@ def escaped(text: str) -> str:
 def section(command: Command) -> List[str]:
     lines = [".TP", f".B {escaped(command.usage())}", escaped(f"It {command.does}.")]
     if command.more:
-        lines += [".br", *(row for line in command.more.split("\n") for row in (escaped(line.strip()), ".br"))]
+        lines += [".br", escaped(command.more)]
+    if command.table:
+        lines += [".RS", *table(command), ".RE", ".IP", escaped(" ".join(command.after.split("\n")))]
     for argument in command.arguments:
         lines += [".br", escaped(f"{argument.name}: {argument.says}.")]
     for option in command.options:
         lines += [".br", f"\\fB{escaped(option.shown())}\\fR: {escaped(option.says)}."]
     return [*lines, ".br", f"Example: \\fI{escaped(command.example)}\\fR"]
+
+
+def table(command: Command) -> List[str]:
+    """The lines of a command, each with what it means; a row without a line goes on with the one before."""
+    rows = [(".TP", f".B {escaped(name)}", escaped(says)) if name else (escaped(says),) for name, says in command.table]
+    return [it for row in rows for it in row]
 
 
 STATUSES = [

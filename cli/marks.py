@@ -3,7 +3,8 @@
 The output of `run` doesn't say which line an item belongs to. A mark does: behind each line stands `answer M 0
 4294967295`, an answer in a packet that can't be there. It changes nothing and gives exactly `denied M`, and no line
 but `answer` gives that item. If a deployment has no modules, one is added for the marks, on a node of its own where
-nothing is loaded. A schedule may have half as many lines as for `run`.
+nothing is loaded. A schedule of more than half the lines that one may have is run several times, each time with marks
+behind further lines.
 """
 
 from __future__ import annotations
@@ -103,8 +104,8 @@ def marked_run(data: Input, program: Program) -> Marked:
     if plan is None or not data.has_mark:
         raise CannotMark("the deployment can't be read here")
     acts = numbered_acts(data.schedule)
-    if 2 * len(acts) > MOST_LINES or len(data.schedule) > MOST_LINES:
-        raise CannotMark("the schedule has too many lines to mark")
+    if len(data.schedule) > MOST_LINES:
+        raise CannotMark("the schedule has more lines than a run takes")
     marker = marker_of(data.head, plan)
     if marker.is_added:
         # (what is refused must be the deployment itself, and not the one with the module for the marks)
@@ -112,47 +113,71 @@ def marked_run(data: Input, program: Program) -> Marked:
         checked = program.ran_of(["check"], data.head + b"%%\n", sink)
         if checked.status:
             return Marked(last=sink.lines[-1] if sink.lines else None, status=checked.status)
-    text = marker.head + b"%%\n" + b"".join(it + b"\n" + marker.line + b"\n" for _, it in acts)
+    made = Marked()
+    while marked_further(made, acts, marker, program):
+        pass
+    return made
+
+
+def marked_further(made: Marked, acts: List[Tuple[int, bytes]], marker: Marker, program: Program) -> bool:
+    """Runs the schedule with marks behind as many further lines as fit, and tells whether there are more of them."""
+    done = len(made.given)
+    end = min(len(acts), done + (MOST_LINES + 1 - done) // 2)
+    # (what the last line gives needs no mark)
+    some = [it for _, it in acts[:done]] + [line for _, it in acts[done:end] for line in (it, marker.line)]
+    text = marker.head + b"%%\n" + b"".join(it + b"\n" for it in some[:MOST_LINES])
     lines = KeptLines(Collected())
     ran = program.ran_of(["run"], text, lines)
-    return taken_apart(lines.lines, acts, marker, ran.status)
+    taken_apart(made, lines.lines, acts[:end], marker, ran.status)
+    is_last_run = end == len(acts) or made.last != b"end"
+    if not is_last_run:
+        made.rest, made.last = [], None
+    return not is_last_run
 
 
-def taken_apart(output: List[bytes], acts: List[Tuple[int, bytes]], marker: Marker, status: int) -> Marked:
-    made = Marked(status=status, has_trace=b"trace" in output)
+def taken_apart(
+    made: Marked, output: List[bytes], acts: List[Tuple[int, bytes]], marker: Marker, status: int
+) -> None:
+    """Takes in the output of a run in which the lines after those that are known have marks."""
+    made.status, made.has_trace = status, b"trace" in output
     start = output.index(b"trace") if made.has_trace else len(output)
     made.images = [it for it in output[:start] if it.startswith(b"image ") and not marker.is_added]
     if not made.has_trace:
         made.last = output[-1] if output else None
-        return made
-    at = start + 1
-    for number, act in acts:
+        return
+    done = len(made.given)
+    at = start + 1 + sum(len(items) for _, items in made.given)
+    for number, act in acts[done:]:
         items: List[bytes] = []
         while at < len(output) and not is_last(output[at]):
             if output[at] == marker.item and not marker.is_own(act, len(items)):
                 break
             items.append(output[at])
             at += 1
+        if at < len(output) and output[at] == b"end":
+            # (the last line, behind which no mark had room)
+            made.given.append((number, items))
+            break
         if at >= len(output) or is_last(output[at]):
             made.rest = items
             break
         made.given.append((number, items))
         at += 1
     if at < len(output):
-        made.last = in_schedule(output[at], acts)
-    return made
+        made.last = in_schedule(output[at], acts, done)
 
 
 def is_last(line: bytes) -> bool:
     return line == b"end" or line.startswith(b"fault ")
 
 
-def in_schedule(last: bytes, acts: List[Tuple[int, bytes]]) -> bytes:
-    """The last line, in which a fault has the line's number in the schedule itself."""
+def in_schedule(last: bytes, acts: List[Tuple[int, bytes]], done: int) -> bytes:
+    """The last line, in which a fault has the line's number in the schedule itself; the first lines had no marks."""
     words = last.split()
     if not last.startswith(b"fault schedule ") or len(words) != 4:
         return last
-    number, _ = acts[(int(words[3]) - 1) // 2]
+    at = int(words[3]) - 1
+    number, _ = acts[at if at < done else done + (at - done) // 2]
     return b" ".join([*words[:3], str(number).encode()])
 
 

@@ -2,9 +2,10 @@
 
 from __future__ import annotations
 
-from dataclasses import dataclass
+from dataclasses import dataclass, field
 from typing import List, Tuple
 
+from cli.acts import is_act
 from cli.context import Context
 from cli.deployment import plan_of
 from cli.faults import Teller
@@ -14,11 +15,15 @@ from cli.output import print_lines, write
 from cli.program import Program
 from cli.running import gathered, parts_of
 from cli.say import text_of
-from cli.schedule import Mistake, Writer
+from cli.schedule import PEOPLE, Mistake, Writer
 from cli.session import Stopped, start
 from cli.status import BAD_TEXT, Ended
-from cli.texts import Kept, file_part, kept_of
+from cli.texts import Input, Kept, file_part, kept_of
 from cli.commands import Given
+
+
+# The acts that may lack their windows or their boot in lines for people.
+SHORT = ("call", "give", "take", "answer")
 
 
 @dataclass
@@ -30,9 +35,49 @@ class Lines:
     kept: Kept
 
 
+@dataclass
+class Written:
+    """The schedule that lines for people become, what is to be said of it, and for each line the first and the last of
+    those that it became."""
+
+    lines: List[str]
+    notes: List[str] = field(default_factory=list)
+    spans: List[Tuple[int, int]] = field(default_factory=list)
+
+    @property
+    def text(self) -> bytes:
+        return "".join(f"{it}\n" for it in self.lines).encode(errors="surrogateescape")
+
+
 def place(kept: Kept, line: int) -> str:
     name, number = kept.place(line)
     return f"{name}:{number}" if name not in ("", "-") else f"line {number}" if number else name
+
+
+def lines_of(kept: Kept, data: Input) -> Lines:
+    first = data.head.count(b"\n") + 1
+    return Lines(data.head, [(place(kept, first + at), text_of(it)) for at, it in enumerate(data.schedule, 1)], kept)
+
+
+def are_for_people(data: Input) -> bool:
+    """Whether one of the lines after the mark is for `sancus schedule`."""
+    return any(is_for_people([text_of(word) for word in it.split()]) for it in data.schedule if is_act(it))
+
+
+def is_for_people(words: List[str]) -> bool:
+    is_named = words[0] in ("take", "forge", "ask") and words[-2:-1] == ["as"]
+    is_short = words[0] in SHORT and len(words) == 3
+    return words[0] in PEOPLE or is_named or is_short
+
+
+def as_schedule(kept: Kept, data: Input, context: Context) -> Tuple[Kept, Input]:
+    """An input whose lines are those of a schedule: lines for people become one."""
+    if not are_for_people(data):
+        return kept, data
+    made = written(lines_of(kept, data), context)
+    context.voice.say(*made.notes)
+    text = data.head + b"%%\n" + made.text
+    return kept_of(text, ""), Input(text)
 
 
 def read_lines(files: List[str], context: Context) -> Lines:
@@ -41,11 +86,10 @@ def read_lines(files: List[str], context: Context) -> Lines:
     if not data.has_mark:
         raise Ended(
             BAD_TEXT,
-            f"{files[0]} has no line %%, so there are no lines: `sancus schedule {files[0]} LINES` takes them from a file of their own",
+            f"{files[0]} has no line %%, so there are no lines: `sancus schedule {files[0]} LINES` takes them from a "
+            "file of their own",
         )
-    first = data.head.count(b"\n") + 1
-    lines = [(place(kept, first + at), text_of(it)) for at, it in enumerate(data.schedule, 1)]
-    return Lines(data.head, lines, kept)
+    return lines_of(kept, data)
 
 
 def refused(error: Stopped, made: Lines, at: str, text: str, command: Program) -> Ended:
@@ -66,7 +110,7 @@ def noted(writer: Writer, at: str, text: str) -> List[str]:
     return [f"{at}: {text.strip()}: {it}" for it in writer.notes]
 
 
-def written(made: Lines, context: Context) -> Tuple[Writer, List[str]]:
+def written(made: Lines, context: Context) -> Written:
     """The schedule of lines for people."""
     plan = plan_of(made.head)
     if plan is None:
@@ -75,9 +119,10 @@ def written(made: Lines, context: Context) -> Tuple[Writer, List[str]]:
         session = start(context.program, made.head, plan)
     except Stopped as error:
         raise Ended(BAD_TEXT, error.fault, *Teller(made.kept, "run", context.program.ask).told(error.fault)) from None
-    writer, notes = Writer(plan, made.head, session, context.program), []
+    writer, notes, spans = Writer(plan, made.head, session, context.program), [], []
     try:
         for at, text in made.lines:
+            before = len(writer.lines)
             try:
                 writer.line(text, at)
             except Mistake as error:
@@ -86,27 +131,27 @@ def written(made: Lines, context: Context) -> Tuple[Writer, List[str]]:
                 raise refused(error, made, at, writer.lines[-1] if writer.lines else text, context.program) from None
             except (IndexError, KeyError):
                 raise Ended(BAD_TEXT, f"{at}: {text.strip()}: too few words") from None
+            spans.append((before + 1, len(writer.lines)))
             notes += noted(writer, at, text)
             writer.notes.clear()
     finally:
         session.close()
-    return writer, notes
+    return Written(writer.lines, notes, spans)
 
 
 def answer(context: Context, given: Given) -> int:
     files = [*given.texts("DEPLOYMENT"), *given.texts("LINES")] or ["-"]
     made = read_lines(files, context)
-    writer, notes = written(made, context)
-    context.voice.say(*notes)
-    text = "".join(f"{it}\n" for it in writer.lines).encode(errors="surrogateescape")
-    write(text if given.has("lines") else made.head + b"%%\n" + text)
+    found = written(made, context)
+    context.voice.say(*found.notes)
+    write(found.text if given.has("lines") else made.head + b"%%\n" + found.text)
     return 0
 
 
 def print_marked(context: Context, given: Given) -> int:
     """Prints a run with the line of the schedule before the items that it gave."""
     files = [*given.texts("DEPLOYMENT"), *given.texts("SCHEDULE")] or ["-"]
-    kept, data = gathered(parts_of(given, files, context) or [file_part(files[0])])
+    kept, data = as_schedule(*gathered(parts_of(given, files, context) or [file_part(files[0])]), context)
     try:
         made = marked_run(data, context.program)
     except CannotMark as error:

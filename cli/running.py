@@ -3,6 +3,7 @@
 from __future__ import annotations
 
 import os
+import re
 from typing import Callable, List, Optional, Tuple
 
 from cli import images, warnings
@@ -28,6 +29,8 @@ from cli.texts import (
     file_part,
     find_mark,
     is_regular,
+    kept_of,
+    look_at_standard_input,
     open_file,
 )
 from cli.commands import Given, Usage
@@ -77,8 +80,8 @@ def has_no_mark(fd: int) -> bool:
 def parts_of(given: Given, files: List[str], context: Context) -> Optional[List[Part]]:
     """The parts of an input that is put together; None if one file is the input as it stands."""
     word = given.command.name
-    if word == "explain" and len(files) == 2:
-        return explained(files[0], files[1], context.voice)
+    if word == "explain" and (len(files) == 2 or is_trace_in_pipe(files)):
+        return explained(files[0], files[1] if len(files) == 2 else "-", context.voice)
     if word == "snap" and len(files) > 1:
         return snap_parts(files, context.voice)
     if len(files) > 1:
@@ -87,6 +90,18 @@ def parts_of(given: Given, files: List[str], context: Context) -> Optional[List[
     if word == "check" and (has_no_mark(fd) if is_regular(fd) else not is_direct(fd)):
         return with_mark(files[0])
     return None
+
+
+def is_trace_in_pipe(files: List[str]) -> bool:
+    """Whether the one file of an `explain` has no trace, and there is one on standard input."""
+    if len(files) != 1 or files[0] == "-":
+        return False
+    fd = open_file(files[0])
+    text = os.pread(fd, MOST_HEAD + (1 << 20), 0) if is_regular(fd) else b"%%\ntrace\n"
+    os.close(fd)
+    found = find_mark(text)
+    has_trace = bool(found and re.search(rb"(?m)^(trace\r?$|image |> )", text[found[1] :]))
+    return not has_trace and bool(look_at_standard_input())
 
 
 def is_direct(fd: int) -> bool:
@@ -115,9 +130,7 @@ def warn_before(context: Context, given: Given, files: List[str]) -> None:
         return
     fd = open_file(files[0])
     if is_regular(fd):
-        data = os.pread(fd, 1 << 19, 0)
-        found = find_mark(data)
-        warn_of(context, data[: found[0]] if found else data)
+        warn_of(context, kept_of(os.pread(fd, 1 << 19, 0), files[0]))
     os.close(fd)
 
 
@@ -133,11 +146,12 @@ def words_of(words: Callable[[], List[str]]) -> List[str]:
         return []
 
 
-def warn_of(context: Context, head: bytes) -> None:
-    plan = plan_of(head) if len(head) < MOST_HEAD else None
+def warn_of(context: Context, kept: Kept) -> None:
+    teller = Teller(kept, "check")
+    plan = teller.plan if len(teller.head) < MOST_HEAD else None
     if plan:
         known = plan
-        context.voice.say(*words_of(lambda: warnings.of_deployment(known)))
+        context.voice.say(*words_of(lambda: warnings.of_deployment(known) + warnings.of_values(teller)))
 
 
 def warn_after(context: Context, given: Given, ran: Ran) -> None:
@@ -232,17 +246,16 @@ def list_code(context: Context, given: Given, files: List[str]) -> int:
 
 def warn_kept(context: Context, kept: Kept) -> None:
     """The same warnings for standard input, which is known when it was read."""
-    found = find_mark(bytes(kept.first))
-    if found and not context.voice.is_quiet:
-        warn_of(context, bytes(kept.first[: found[0]]))
+    if find_mark(bytes(kept.first)) and not context.voice.is_quiet:
+        warn_of(context, kept)
 
 
 def explain_in_words(context: Context, given: Given, files: List[str]) -> int:
-    if len(files) < 2:
+    if len(files) < 2 and not is_trace_in_pipe(files):
         raise Usage("`explain --words` takes DEPLOYMENT and TRACE", given.command)
     from cli.causes import explain, in_words
 
-    made = explain(files[0], files[1], context.program, context.voice)
+    made = explain(files[0], files[1] if len(files) > 1 else "-", context.program, context.voice)
     print_lines(*in_words(made))
     return made.status
 

@@ -78,6 +78,7 @@ class Writer:
         self.windows, self.state = Windows(), State()
         self.lines: List[str] = []
         self.notes: List[str] = []
+        self.is_marked = False
         self.acts: Dict[str, Callable[..., None]] = {
             "deploy": self.deploy,
             "sample": self.sample,
@@ -387,14 +388,22 @@ class Writer:
             self.keys(fields[0], was_attested, items)
 
     def line(self, text: str, place: str) -> None:
-        """Does a line for people, or a plain one."""
-        words = text.split()
-        if not words or words[0].startswith("#") or words[0] == "asm":
+        """Does a line for people, or a plain one, and marks what was made of it. A plain line that stays as it is has a
+        mark only after other marks, which end there."""
+        words, begin = text.split(), len(self.lines)
+        if not words or words[0].startswith("#"):
             self.lines.append(text)
-            if words and words[0] == "asm":
-                self.lines.pop()
-                self.put(text)
             return
+        if words[0] == "asm":
+            self.put(text)
+        else:
+            self.act(words)
+        if self.is_marked or self.lines[begin:] not in ([text], [" ".join(words)]):
+            self.is_marked = True
+            self.lines.insert(begin, f"#= {place} {' '.join(words)}")
+
+    def act(self, words: List[str]) -> None:
+        """Does a line by its words."""
         name = ""
         if len(words) > 2 and words[-2] == "as":
             words, name = words[:-2], words[-1]
@@ -407,7 +416,6 @@ class Writer:
         least, most, form = FORMS[words[0]]
         if not least <= len(words) - 1 <= most:
             raise Mistake(f"`{words[0]}` has too many words or too few: {form}")
-        self.lines.append(f"#= {place} {' '.join(words)}")
         self.acts[words[0]](*words[1:])
 
     def set_windows(self, inside: str, outside: str) -> None:

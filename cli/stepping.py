@@ -9,7 +9,8 @@ from __future__ import annotations
 from dataclasses import dataclass, field
 from typing import Dict, Iterator, List
 
-from cli.inspection import Inspected, broken
+from cli.acts import ACTS, is_act
+from cli.inspection import Inspected, Line, broken
 from cli.numbers import number
 from cli.session import Stopped, snapped, start
 from cli.status import BAD_TEXT, Ended
@@ -18,6 +19,7 @@ from cli.status import BAD_TEXT, Ended
 MOST_STEPS = 20_000
 MOST_LISTED = 8192
 LONGEST = 6
+NOTHING = "the line executes no instruction"
 NAMES = ["pc", "sp", "sr", *(f"r{it}" for it in range(3, 16))]
 FLAGS = [(1, "C"), (2, "Z"), (4, "N"), (8, "GIE"), (16, "CPUOFF"), (256, "V")]
 
@@ -61,9 +63,7 @@ def parts_of(seen: Inspected, line: str) -> Parts:
         return Parts(node, [f"set {node} {name} {value}" for name, value in sets], is_whole=True)
     if act == "load":
         return Parts(seen.plan.node_of(words[1]), most=1)
-    return Parts(
-        "", note="the line executes no instruction" + (": an interrupt is no instruction" if act == "irq" else "")
-    )
+    return Parts("", note=NOTHING + (": an interrupt is no instruction" if act == "irq" else ""))
 
 
 def load_parts(seen: Inspected, module: str, image: str) -> List[str]:
@@ -94,7 +94,6 @@ class Walk:
     items: List[List[str]] = field(default_factory=list)
     lines: List[str] = field(default_factory=list)
     is_busy: bool = False
-    is_cut: bool = False
 
 
 def walked(seen: Inspected, at: int, parts: Parts) -> Walk:
@@ -112,7 +111,6 @@ def walked(seen: Inspected, at: int, parts: Parts) -> Walk:
             walk.items.append(items)
             if any(it.startswith(f"reset {parts.node} ") for it in items) or (parts.is_whole and not runs):
                 break
-        walk.is_cut = len(walk.items) == MOST_STEPS
         walk.lines = session.lines
     except Stopped as error:
         raise broken(seen, str(error)) from None
@@ -187,22 +185,46 @@ def rows(seen: Inspected, node: str, steps: List[Step], texts: Dict[int, str]) -
             yield f"      {it}"
 
 
-def told(seen: Inspected, at: int) -> List[str]:
-    """The steps of a line, as lines."""
-    line = seen.lines[at - 1] if at else ""
-    if not at:
+def told(seen: Inspected, asked: Line) -> List[str]:
+    """The steps of a line, as lines; of a line for people those of each line that it became."""
+    if not asked.last:
         raise Ended(BAD_TEXT, "line 0 is power-on: no instruction is executed there")
+    made = [at for at in range(asked.first, asked.last + 1) if is_act(seen.lines[at - 1].encode(errors="replace"))]
+    if asked.first == asked.last:
+        return [seen.headed(asked), *told_line(seen, asked.first, MOST_STEPS)]
+    lines, left = [seen.headed(asked)], MOST_STEPS
+    for at in made:
+        steps = told_line(seen, at, left)
+        left -= sum(it[:5].strip().isdigit() for it in steps)
+        lines += [f"> {shortened(seen.lines[at - 1])}", *([] if steps[0] == NOTHING else steps)]
+        if left <= 0:
+            break
+    return lines
+
+
+def must_be_an_act(seen: Inspected, line: str, at: int) -> None:
+    """If the first word is no act, says how the schedule breaks off there."""
+    if not is_act(line.encode(errors="replace")) or line.split()[0] in ACTS:
+        return
+    schedule = "".join(f"{it}\n" for it in seen.lines[:at]).encode(errors="surrogateescape")
+    answer = seen.program.ask(["run"], seen.head + b"%%\n" + schedule).decode(errors="replace").split("\n")
+    raise broken(seen, answer[-2] if len(answer) > 1 else "")
+
+
+def told_line(seen: Inspected, at: int, most: int) -> List[str]:
+    """The steps of a line of the schedule, so many at most."""
+    line = seen.lines[at - 1]
+    must_be_an_act(seen, line, at)
     parts = parts_of(seen, line)
-    lines = [f"line {at}: {line}"]
     if parts.note:
-        return [*lines, parts.note]
+        return [parts.note]
+    parts.most = min(parts.most, most)
     act, module = line.split()[0], line.split()[1]
     if act == "load":
         parts.before = load_parts(seen, module, image_of(seen, module))
-    lines += [shortened(it) for it in parts.before]
     walk = walked(seen, at, parts)
     if walk.is_busy:
-        return [lines[0], f"refused, since a module runs on {parts.node}: no instruction is executed"]
+        return [f"refused, since a module runs on {parts.node}: no instruction is executed"]
     first = at - 1 + len(parts.before)
     values = registers(seen, parts.node, walk.lines, first, len(walk.items) + 1)
     steps = [Step(values[it], values[it + 1], items) for it, items in enumerate(walk.items)]
@@ -210,8 +232,8 @@ def told(seen: Inspected, at: int) -> List[str]:
     for number_, step in enumerate(steps):
         places.setdefault(step.before[0], first + number_)
     texts = disassembled(seen, code_at(seen, parts.node, walk.lines, places), list(places))
-    lines += rows(seen, parts.node, steps, texts)
-    return lines + ([f"and more: {MOST_STEPS:,} steps are shown at most"] if walk.is_cut else [])
+    lines = [*(shortened(it) for it in parts.before), *rows(seen, parts.node, steps, texts)]
+    return lines + ([f"and more: {MOST_STEPS:,} steps are shown at most"] if len(walk.items) == most else [])
 
 
 def shortened(line: str) -> str:

@@ -164,7 +164,21 @@ def open_file(name: str) -> int:
         raise Ended(NO_FILE, f"{name!r} is no name of a file") from None
 
 
+# What was read of standard input to look at it: it is read once more, before the rest.
+AHEAD: List[bytes] = []
+
+
+def look_at_standard_input() -> bytes:
+    """The first bytes of standard input, and none if it is empty, closed or a terminal."""
+    if not AHEAD and not os.isatty(0) and can_be_read(0):
+        piece = read_piece(0, "-")
+        AHEAD.extend([piece] if piece else [])
+    return AHEAD[0] if AHEAD else b""
+
+
 def read_piece(fd: int, name: str, size: int = PIECE) -> bytes:
+    if fd == 0 and AHEAD:
+        return AHEAD.pop()
     try:
         return os.read(fd, size)
     except BlockingIOError:
@@ -208,7 +222,8 @@ def read_all(name: str, most: int = MOST_INPUT) -> bytes:
 
 def file_part(name: str) -> Part:
     fd = open_file(name)
-    return Part(name, lambda: read_piece(fd, name), fd)
+    # (what was read ahead is there at once)
+    return Part(name, lambda: read_piece(fd, name), None if fd == 0 and AHEAD else fd)
 
 
 def text_part(data: bytes, name: str = "", line: Optional[int] = None) -> Part:

@@ -10,7 +10,7 @@ from dataclasses import dataclass
 from typing import Dict, List, Optional, Tuple
 
 from cli.deployment import Bounds
-from cli.inspection import Inspected, broken
+from cli.inspection import Inspected, Line, broken
 from cli.marks import CannotMark, marked_run
 from cli.session import Stopped, snapped
 from cli.texts import Input
@@ -96,18 +96,19 @@ def pc_line(seen: Inspected, node: str, registers: List[str]) -> str:
     return f"pc of {node} 0x{pc:04x}, outside the deployed modules"
 
 
-def told(seen: Inspected, module: str, line: int) -> List[str]:
+def told(seen: Inspected, module: str, asked: Line) -> List[str]:
     """A module after a line, as lines."""
+    line = asked.last
     node = seen.plan.node_of(module)
     entry: Dict[str, object] = seen.plan.named("module", module) or {}
     bounds = seen.plan.bounds(entry)
     assert bounds
-    lines = [f"line {line}: {seen.lines[line - 1] if line else 'power-on'}"]
+    lines = [seen.headed(asked)]
     found = standing(seen, module, line)
     where = f"text 0x{bounds.text:04x} to 0x{bounds.text_end:04x}, data 0x{bounds.data:04x} to 0x{bounds.data_end:04x}"
     if found.since is None:
         return [*lines, f"module {module} on node {node}, boot {found.boot}: it doesn't stand after this line; {where}"]
-    since = f", since line {found.since}" if found.since else ""
+    since = f", since {seen.said(found.since)}" if found.since else ""
     try:
         data, registers = private_bytes(seen, node, bounds, line)
     except Stopped as error:

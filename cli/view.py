@@ -8,19 +8,22 @@ from dataclasses import dataclass
 from pathlib import Path
 from typing import Dict, List
 
-from cli.acts import is_act
 from cli.context import Context
 from cli.deployment import plan_of
 from cli.faults import Teller
+from cli.inspection import are_readings, put_together
 from cli.marks import CannotMark, marked_lines, marked_run
 from cli.output import print_lines
+from cli.people import as_schedule
 from cli.program import Collected
 from cli.sinks import TraceOnly
 from cli.status import BAD_TEXT, NO_FILE, Ended
-from cli.texts import Input, find_mark, kept_of, read_all
+from cli.texts import Input, find_mark, look_at_standard_input, read_all
 from cli.viewer.join import joined
 from cli.commands import Given, Usage
 
+# A line that only the output of `run` or `drive` has.
+OUTPUT = re.compile(rb"(?m)^(trace\r?$|image [a-z]|> )")
 SLOT = '<script type="text/plain" id="data">'
 Texts = Dict[str, bytes]
 
@@ -48,9 +51,9 @@ def causes_of(context: Context, head: bytes, trace: bytes) -> bytes:
     return sink.data() if ran.status in (0, 8) else b""
 
 
-def of_run(context: Context, text: bytes) -> Drawn:
+def of_run(context: Context, data: Input) -> Drawn:
     """A run, with the lines of its schedule if these are certain, and its causes."""
-    data, sink = Input(text), Collected()
+    text, sink = data.data, Collected()
     ran = context.program.ran_of(["run"], text, sink)
     output = sink.data()
     plain = output
@@ -67,22 +70,15 @@ def of_run(context: Context, text: bytes) -> Drawn:
     return Drawn({"input": text, "output": output, "causes": causes}, ran.last, ran.status)
 
 
-def of_readings(context: Context, text: bytes) -> Drawn:
-    """An honest run of readings: the lines of its schedule stand in the output."""
-    sink = Collected()
+def of_readings(context: Context, data: Input) -> Drawn:
+    """An honest run of readings, whose output has the lines of its schedule."""
+    text, sink = data.data, Collected()
     ran = context.program.ran_of(["drive"], text, sink)
     trace = Collected()
     only = TraceOnly(trace)
     only.write(sink.data())
-    causes = causes_of(context, Input(text).head, trace.data())
+    causes = causes_of(context, data.head, trace.data())
     return Drawn({"input": text, "output": sink.data(), "causes": causes}, ran.last, ran.status)
-
-
-def are_readings(data: Input) -> bool:
-    """Whether what stands after the mark are readings, and not lines of a schedule."""
-    plan = plan_of(data.head)
-    first = next((it for it in data.schedule if is_act(it)), b"").split()
-    return bool(plan and len(first) == 2 and plan.named("device", first[0].decode(errors="replace")))
 
 
 def page_of(texts: Texts) -> str:
@@ -98,25 +94,30 @@ def write_page(path: Path, text: str) -> None:
         raise Ended(NO_FILE, f"{path} can't be written: {error.strerror}") from None
 
 
+def is_output(name: str) -> bool:
+    """Whether a file has what `run` or `drive` wrote, and no lines of a schedule."""
+    if name == "-":
+        return bool(OUTPUT.search(look_at_standard_input()))
+    return bool(OUTPUT.search(read_all(name)))
+
+
 def given_texts(files: List[str]) -> Texts:
-    texts = {"input": read_all(files[0]), "output": read_all(files[1])}
-    if len(files) > 2:
-        texts["causes"] = read_all(files[2])
-    if not re.search(rb"(?m)^(trace\r?$|> )", texts["output"]):
-        raise Ended(BAD_TEXT, f"{files[1]} isn't what `run` or `drive` wrote: it has no line `trace`")
-    return texts
+    names = ("input", "output", "causes")
+    return {name: read_all(it) for name, it in zip(names, files)}
 
 
-def run_texts(context: Context, given: Given, name: str) -> Texts:
+def run_texts(context: Context, given: Given, files: List[str]) -> Texts:
     """The texts of a run that is made now; none if the input isn't taken."""
-    text = read_all(name)
-    data = Input(text)
-    is_driven = given.has("drive") or are_readings(data)
+    kept, data = put_together(files, context)
+    plan = plan_of(data.head)
+    is_driven = given.has("drive") or bool(plan and are_readings(plan, data))
     if is_driven and not given.has("drive"):
-        context.voice.say(f"{name} has readings: the honest run of them is drawn")
-    drawn = (of_readings if is_driven else of_run)(context, text)
+        context.voice.say(f"{files[-1]} has readings: the honest run of them is drawn")
+    if plan and not is_driven:
+        kept, data = as_schedule(kept, data, context)
+    drawn = (of_readings if is_driven else of_run)(context, data)
     if drawn.last.startswith("fault "):
-        lines = Teller(kept_of(text, name), "drive" if is_driven else "run", context.program.ask).told(drawn.last)
+        lines = Teller(kept, "drive" if is_driven else "run", context.program.ask).told(drawn.last)
         if drawn.last.startswith("fault deployment") or drawn.last == "fault read":
             raise Ended(BAD_TEXT, drawn.last, *lines, "there is nothing to draw")
         context.voice.say(drawn.last, *lines, "what came before is drawn")
@@ -124,7 +125,7 @@ def run_texts(context: Context, given: Given, name: str) -> Texts:
 
 
 def answer(context: Context, given: Given) -> int:
-    files = [it for name in ("INPUT", "OUTPUT", "CAUSES") for it in given.texts(name)]
+    files = [*given.texts("INPUT"), *given.texts("FILE")]
     if given.has("empty"):
         page = Path(given.text("page") or "viewer.html")
         write_page(page, joined())
@@ -132,7 +133,12 @@ def answer(context: Context, given: Given) -> int:
         return 0
     if not files:
         raise Usage("`view` takes INPUT, or --empty", given.command)
-    texts = given_texts(files) if len(files) > 1 else run_texts(context, given, files[0])
+    if len(files) > 1 and is_output(files[1]):
+        if len(files) > 3:
+            raise Usage("after what `run` wrote `view` takes only what `explain` wrote of it", given.command)
+        texts = given_texts(files)
+    else:
+        texts = run_texts(context, given, files)
     name = Path(files[0] if files[0] != "-" else "run.txt")
     page = Path(given.text("page") or name.with_suffix(".html"))
     write_page(page, page_of({**texts, "name": name.name.encode()}))

@@ -7,6 +7,7 @@ from support import LIGHTING, SANCUS, TOP, Room, sancus, one_by_one
 
 from cli import manual
 from cli.commands import BY_NAME, COMMANDS
+from cli.schedule import FORMS
 
 
 class Help(unittest.TestCase):
@@ -99,6 +100,16 @@ class NoCommand(Room):
             with self.subTest(words):
                 ran = sancus(*words.split(), text=b"", program=fake)
                 self.assertEqual(ran.out.decode().split("\n")[0], f"ran {words}")
+
+    def test_lines_for_people_in_help_and_man_page(self):
+        rows, out = BY_NAME["schedule"].table, sancus("help", "schedule").lines
+        page = sancus("help", "--man").lines
+        for name, says in rows:
+            self.assertTrue([it for it in out if it.startswith(f"  {name}") and it.endswith(says)], says)
+            at = page.index(says.replace("-", "\\-"))
+            self.assertEqual(page[at - 1][:3] == ".B ", bool(name))
+        for form in FORMS:
+            self.assertTrue(form in ("packets", "boots") or [it for it, _ in rows if it.startswith(form)], form)
 
     def test_quiet(self):
         fake, bad = self.fake("fault deployment D2 -", 1), self.file("bad.txt", "load eye\n")

@@ -1,10 +1,19 @@
 """`vars`, `steps`, `why` and `explain --words`: where a run stands, and why, by the program's own answers."""
 
 import unittest
+from unittest.mock import patch
 
-from support import EXAMPLES, HEAD, LIGHTING, Room, needs_program, program, sancus
+from support import EXAMPLES, HEAD, LIGHTING, PROGRAM, TOP, Room, needs_program, program, sancus
+
+from cli import marks
+from cli.builds import Builds
+from cli.program import Program
+from cli.say import Voice
+from cli.texts import Input
 
 LIGHTING_FILE = EXAMPLES / "lighting.txt"
+EASY = "deploy all\nsample eye 120\ncarry eye logic\nput a 0x900 00\n# at last\ncarry logic lamp\n"
+NOTHING = "the line executes no instruction"
 ARRAYS = LIGHTING.replace(
     b"var limit = 100;\non level(v) { if v > limit {",
     b"var limit = 100; array last[3]; var n = 7;\non level(v) { last[1] = v; n = n + 65530; limit = limit - 1; if v > limit {",
@@ -41,6 +50,32 @@ class Variables(Room):
     def test_readings(self):
         lines = sancus("vars", EXAMPLES / "readings.txt", "logic", "58", "--drive").lines
         self.assertIn("end up to: open in epoch 0, next event 4 (takes from eye)", lines)
+        ran = sancus("vars", EXAMPLES / "readings.txt", "logic", "58")
+        self.assertEqual(ran.lines, lines)
+        self.says(ran, "has readings: the lines are those that `drive` makes of them")
+
+    def test_lines_of_files(self):
+        """A line by its place in a file, as an editor shows it; the files may be several."""
+        whole = LIGHTING.decode().split("\n")
+        last = f"lighting.txt:{len(whole) - 1}"
+        wanted = sancus("vars", LIGHTING_FILE, "logic", "45").lines
+        self.assertEqual(sancus("vars", LIGHTING_FILE, "logic", last).lines, wanted)
+        schedule = self.file("s", LIGHTING[len(HEAD) + 3 :])
+        self.assertEqual(sancus("vars", self.file("d", HEAD), schedule, "logic", "s:45").lines, wanted)
+        self.assertEqual(sancus("vars", LIGHTING_FILE, schedule, "logic", f"{schedule}:45").lines, wanted)
+
+    def test_lines_for_people(self):
+        head, easy = self.file("d.toml", HEAD), self.file("easy.txt", EASY)
+        for word in ("3", "easy.txt:3", f"{easy}:3"):
+            lines = sancus("vars", head, easy, "logic", word).lines
+            self.assertEqual(lines[0], f"{easy}:3: carry eye logic")
+            self.assertIn(f"it stands, since {easy}:1; text", lines[1])
+            self.assertIn("end up to: open in epoch 0, next event 1 (takes from eye)", lines)
+        made = self.file("made.txt", sancus("schedule", head, easy).out)
+        self.assertEqual(sancus("vars", made, "logic", "easy.txt:3").lines[2:], lines[2:])
+        # one after it, and a comment, where the run stands as before
+        self.assertIn("next event 0", sancus("vars", head, easy, "lamp", "5").out.decode())
+        self.assertIn("next event 1", sancus("vars", head, easy, "lamp", "6").out.decode())
 
     def test_misuse(self):
         for words, said in (
@@ -50,11 +85,42 @@ class Variables(Room):
             (("vars", self.file("a", HEAD), "eye", "1"), "has no line %%"),
             (("vars", self.file("b", b"node = 3\n%%\n"), "eye", "1"), "`node` must be an array of tables"),
             (("vars", self.file("c", LIGHTING + b"fly\n"), "eye", "46"), "S3: its first word is no act"),
-            (("vars", EXAMPLES / "readings.txt", "eye", "2"), "S3"),
+            (("vars", LIGHTING_FILE, "eye", "lighting.txt:9"), "it has 45, counted from 1 after %%; the first is"),
+            (("steps", LIGHTING_FILE, "0"), "line 0 is power-on"),
+            (("steps", self.file("d", HEAD), self.file("e", "fly 3\n"), "1"), "S3: its first word is no act"),
+            (("vars", self.file("d", HEAD), self.file("f", "deploy ear\n"), "eye", "1"), "there is no module ear"),
         ):
             ran = sancus(*words)
             self.assertEqual((ran.status, ran.out), (122, b""), ran.said)
             self.says(ran, said)
+
+
+@needs_program
+class Marks(Room):
+    def test_in_several_runs(self):
+        """A schedule of more than half the lines that one may have is marked in several runs, with the same lines."""
+        runs = Program(Builds(TOP, PROGRAM), Voice())
+        for text in (LIGHTING, b"%%\nset n sp 0x600\nasm n 0x800 .word 0\nset n pc 0x800\nrun n 9\nreset n\n"):
+            data = Input(text)
+            whole = list(marks.marked_lines(data, marks.marked_run(data, runs)))
+            fault = Input(text + b"fly\n")
+            broken = list(marks.marked_lines(fault, marks.marked_run(fault, runs)))
+            self.assertTrue(broken[-1].startswith(b"fault schedule S3 "))
+            for most in (len(fault.schedule), len(fault.schedule) + 9):
+                with self.subTest(most), patch.object(marks, "MOST_LINES", most):
+                    self.assertEqual(list(marks.marked_lines(data, marks.marked_run(data, runs))), whole)
+                    self.assertEqual(list(marks.marked_lines(fault, marks.marked_run(fault, runs))), broken)
+
+    def test_too_many_lines(self):
+        text = b"%%\n" + b"reset n\n" * 65537
+        self.says(sancus("marks", text=text), "no marked run: the schedule has more lines than a run takes")
+
+    def test_lines_for_people(self):
+        head, easy = self.file("d.toml", HEAD), self.file("easy.txt", EASY)
+        lines = sancus("marks", "--no-images", head, easy).lines
+        at = lines.index("> call lamp 2 0x300 0x400")
+        self.assertEqual(lines[at + 1 :], ["take lamp down 0 1", "out lamp 1", "done lamp 1 0", "end"])
+        self.assertIn(f"> #= {easy}:6 carry logic lamp", lines)
 
 
 @needs_program
@@ -107,6 +173,22 @@ class Steps(Room):
         self.assertIn("executes no instruction", sancus("steps", LIGHTING_FILE, "38").out.decode())
         self.assertIn("executes no instruction", sancus("steps", LIGHTING_FILE, "1").out.decode())
 
+    def test_lines_for_people(self):
+        head, easy = self.file("d.toml", HEAD), self.file("easy.txt", EASY)
+        lines = sancus("steps", head, easy, "easy.txt:3").lines
+        self.assertEqual(
+            [it for it in lines if not it.startswith((" ", "set"))],
+            [
+                f"{easy}:3: carry eye logic",
+                "> take a 0x400 24",
+                "> give 10 a 0x300",
+                "> call logic 2 0x300 0x400",
+            ],
+        )
+        made = self.file("made.txt", sancus("schedule", head, easy).out)
+        self.assertEqual(sancus("steps", made, "easy.txt:3").lines, lines)
+        self.assertEqual(sancus("steps", head, easy, "5").lines, [f"{easy}:5: # at last", NOTHING])
+
     def test_busy(self):
         text = (
             LIGHTING
@@ -136,6 +218,42 @@ class Why(Room):
         ]
         for words in (("42",), ()):
             self.assertEqual(sancus("why", LIGHTING_FILE, self.trace, *words).lines, wanted)
+
+    def test_an_item_by_words(self):
+        wanted = sancus("why", LIGHTING_FILE, self.trace, "42")
+        for words in (("out lamp",), ("out", "lamp"), ("out", "lamp", "1"), ("out",)):
+            self.assertEqual(sancus("why", LIGHTING_FILE, self.trace, *words), wanted)
+        ran = sancus("why", LIGHTING_FILE, self.trace, "done lamp")
+        self.assertTrue(ran.lines[0].startswith("43 done lamp 1 0"))
+        self.says(ran, "3 items begin with `done lamp`, and this is the last of them: 28 33 43")
+        for word, said in (
+            ("out alarm", "no item begins with `out alarm`; the trace has: `out lamp`"),
+            ("out bulb", "an item names the module, and lamp drives bulb"),
+            ("alarm", "no item begins with `alarm`; the trace has: `ask`, `attested`,"),
+            ("0", "0 is no item: the trace has 43"),
+        ):
+            ran = sancus("why", LIGHTING_FILE, self.trace, word)
+            self.assertEqual((ran.status, ran.out), (122, b""))
+            self.says(ran, said)
+
+    def test_a_trace_in_a_pipe(self):
+        trace = self.trace.read_bytes()
+        wanted = sancus("why", LIGHTING_FILE, self.trace, "42").lines
+        for words in ((), ("-",), ("42",), ("out", "lamp"), ("out lamp",), ("-", "out", "lamp")):
+            self.assertEqual(sancus("why", LIGHTING_FILE, *words, text=trace).lines, wanted)
+        self.says(sancus("why", LIGHTING_FILE, "nofile"), "nofile can't be read: No such file")
+        whole = sancus("explain", LIGHTING_FILE, self.trace)
+        for file in (LIGHTING_FILE, self.file("d.toml", HEAD)):
+            for words in ((), ("--words",), ("--json",)):
+                wanted = sancus("explain", *words, LIGHTING_FILE, self.trace)
+                self.assertEqual(sancus("explain", *words, file, text=trace), wanted)
+        # a file with a trace is the whole input, whatever the pipe has
+        both = self.file("both", HEAD + b"%%\n" + trace)
+        self.assertEqual(sancus("explain", both, text="image x\n"), whole)
+        ran = sancus("explain", LIGHTING_FILE)
+        self.assertEqual((ran.status, ran.out), (3, program("explain", text=LIGHTING).out))
+        self.says(ran, "`sancus run FILE | sancus explain FILE` judges it")
+        self.says(sancus("explain", "--words", LIGHTING_FILE), "takes DEPLOYMENT and TRACE")
 
     def test_items_without_a_cause(self):
         self.assertIn("here the chain ends", sancus("why", LIGHTING_FILE, self.trace, "34").out.decode())

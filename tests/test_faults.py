@@ -47,6 +47,14 @@ CASES = [
         "deployment D7 module 1 4 53",
         ["there is no `else if`", "what could is: `{`"],
     ),
+    (
+        b"if v > limit",
+        b"if v > 3 & v < limit",
+        "check",
+        "deployment D7 module 1 4 28",
+        ["`&`, `|` and `^` bind more than comparisons do", "`(v > a) & (v < 900)`"],
+    ),
+    (b"if v > limit", b"bright(1); if v", "check", "deployment D7 module 1 4 21", ["by `send output(value);`"]),
     (b"if v > limit", b"while v { } if v > limit", "check", "deployment D7 module 1 4 21", ["there is no such loop"]),
     (b"if v > limit", b"if v = limit", "check", "deployment D7 module 1 4 20", ["`==` compares"]),
     (
@@ -369,7 +377,37 @@ class Warnings(Room):
             "no handler `sample(..)`", "\n".join(self.of(LIGHTING.replace(b"sample(v) { send level(v); }", b"")))
         )
 
+    def test_values(self):
+        array = b"var limit = 100; array last[3];"
+        for old, new, words, caret in (
+            (b"v > limit", b"v > -40", "comparisons have no sign, and -40 is 65,496 here", b">"),
+            (b"v > limit", b"5 + v < 0 - 7", "comparisons have no sign, and -7 is 65,529 here", b"<"),
+            (b"v > limit", b"-1 <= v", "comparisons have no sign, and -1 is 65,535 here", b"<="),
+            (b"v > limit", b"v >= 0", "this always holds, since a value is from 0 to 65,535", b">="),
+            (b"v > limit", b"!(v < 0)", "this never holds", b"< 0"),
+            (b"v > limit", b"65535 < v", "this never holds", b"< v"),
+            (b"v > limit", b"last[9]", "the last element of `last` is last[2], and past it 0 is read", b"last[9]"),
+            (b"if v", b"last[3] = v; if v", "past it nothing is stored", b"last[3]"),
+        ):
+            text = HEAD.replace(b"var limit = 100;", array).replace(old, new)
+            with self.subTest(new):
+                lines = warnings.of_values(Teller(kept_of(text, "x.toml"), "check"))
+                self.assertEqual(len(lines), 3, lines)
+                self.assertIn(words, lines[0])
+                self.assertTrue(lines[1].startswith("x.toml:31: "), lines)
+                self.assertEqual(lines[1][lines[2].index("^") :].encode()[: len(caret)], caret)
+
+    def test_no_warning(self):
+        array = b"var limit = 100; array last[3];"
+        for new in (b"v == -1", b"v - 3 > limit", b"v > 0", b"last[2] > last[v]", b"0 - v > 9", b"9 - 7 < v"):
+            text = HEAD.replace(b"var limit = 100;", array).replace(b"v > limit", new)
+            self.assertEqual(warnings.of_values(Teller(kept_of(text), "check")), [], new)
+        for file in whole_examples():
+            self.assertEqual(warnings.of_values(Teller(kept_of(file.read_bytes()), "check")), [], file.name)
+
     def test_they_are_said(self):
+        found = sancus("check", text=HEAD.replace(b"v > limit", b"v > -40"), program=self.fake())
+        self.says(found, "line 31 of the input: on level(v) { if v > -40")
         text = LIGHTING.replace(b"secret", b"# secret")
         for word in ("run", "check"):
             self.says(sancus(word, self.file("x", text), program=self.fake()), "no `secret`")

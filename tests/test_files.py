@@ -6,8 +6,12 @@ import select
 import subprocess
 import time
 import unittest
+from unittest.mock import patch
 
 from support import EXAMPLES, HEAD, LIGHTING, PROGRAM, SANCUS, Room, needs_program, program, sancus
+
+from cli.commands import BY_NAME, parse
+from cli.main import waiting
 
 SCHEDULE = LIGHTING.partition(b"\n%%\n")[2]
 
@@ -124,7 +128,10 @@ class Streams(Room):
     def test_line_by_line_at_a_terminal(self):
         leader, follower = pty.openpty()
         process = subprocess.Popen(
-            [SANCUS, "run"], stdin=follower, stdout=subprocess.PIPE, env={**os.environ, "SANCUS_PROGRAM": PROGRAM}
+            [SANCUS, "--quiet", "run"],
+            stdin=follower,
+            stdout=subprocess.PIPE,
+            env={**os.environ, "SANCUS_PROGRAM": PROGRAM},
         )
         os.write(leader, b"%%\nreset n\n")
         self.assertEqual(process.stdout.readline(), b"trace\n")
@@ -133,6 +140,38 @@ class Streams(Room):
         self.assertEqual(process.stdout.read(), b"fault schedule S3 2\n")
         self.assertEqual(process.wait(), 3)
         process.stdout.close()
+        os.close(leader)
+        os.close(follower)
+
+    def test_what_is_typed_at_a_terminal(self):
+        wanted = {
+            "run": "type a deployment, a line %%, and a schedule, each line of which is answered at once;",
+            "check": "type a deployment;",
+            "run d.toml -": "type SCHEDULE;",
+            "why d.toml -": "type TRACE;",
+            "vars - eye 1": "type INPUT;",
+            "asm 0": "type instructions, one a line;",
+            "hex convert -": "type the file;",
+        }
+        with patch("os.isatty", return_value=True):
+            for words, said in wanted.items():
+                name, *rest = words.split()
+                lines = waiting(parse(BY_NAME[name], rest))
+                self.assertEqual([it.partition(";")[0] + ";" for it in lines], [said], words)
+                self.assertTrue(lines[0].endswith("Ctrl-D ends it, and Ctrl-C leaves"))
+            for words in ("run d.toml", "gen 3", "view", "view --empty", "version", "vars d.toml eye 1", "build"):
+                name, *rest = words.split()
+                self.assertEqual(waiting(parse(BY_NAME[name], rest)), [], words)
+        self.assertEqual(sancus("check", text=LIGHTING, program=self.fake()).said, "")
+
+    def test_it_is_said_at_a_terminal(self):
+        leader, follower = pty.openpty()
+        os.write(leader, b"%%\n\x04")
+        ran = subprocess.run(
+            [SANCUS, "--program", self.fake(), "run"], stdin=follower, capture_output=True, timeout=60
+        )
+        self.assertEqual(ran.stdout, b"ran run\n%%\nend\n")
+        self.assertIn(b"sancus: type a deployment, a line %%", ran.stderr)
         os.close(leader)
         os.close(follower)
 

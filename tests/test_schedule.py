@@ -7,6 +7,7 @@ from support import HEAD, LIGHTING, Room, needs_program, program, sancus, one_by
 DEPLOYMENT = HEAD.decode() + "%%\n"
 READING = "deploy all\nsample eye 120\ncarry eye logic\ncarry logic lamp\n"
 RENEWED = "deploy all\nreset a\ndeploy eye logic\nsample eye 120\ncarry eye logic\ncarry logic lamp\n"
+MARKED = ((2, "deploy eye"), (3, "reset b"), (4, "asm a 0x800 mov #1, r5"))
 # One output that leads to two modules, as a spot's to violations and free spots; another input; and an output with
 # two connections to one module.
 FAN_OUT = """secret = "000102030405060708090a0b0c0d0e0f"
@@ -74,12 +75,23 @@ class Schedule(Room):
     def test_windows_and_names(self):
         lines = "deploy logic\nforge 0011 as bad\ngive bad b\nwindows 0x500 0x600\ncall logic 2\ntake a 4\n"
         out = written(lines, "--lines").out.decode()
-        self.assertIn("forge 0011\n# bad is packet 4\ngive 4 b 0x300\n", out)
-        self.assertIn("call logic 2 0x500 0x600\ntake a 0x600 4\n", out)
+        self.assertIn("forge 0011\n# bad is packet 4\n#= line 47 give bad b\ngive 4 b 0x300\n", out)
+        self.assertIn("call logic 2 0x500 0x600\n#= line 50 take a 4\ntake a 0x600 4\n", out)
         out = written(
             "deploy eye\ngive key.eye.up.from b 0x500\nask eye as who\ngive who a\nanswer eye answer.eye\n", "--lines"
         ).out.decode()
-        self.assertIn("give 2 b 0x500\nask eye\n# who is packet 3\ngive 3 a 0x300\nanswer eye 0 1\n", out)
+        acts = [it for it in out.splitlines() if not it.startswith("#= ")]
+        self.assertEqual(
+            acts[-5:], ["give 2 b 0x500", "ask eye", "# who is packet 3", "give 3 a 0x300", "answer eye 0 1"]
+        )
+
+    def test_marks(self):
+        """Each line has a mark once one was made, so that what follows a mark up to the next was made of its line."""
+        file = self.file("x", "reset a\ndeploy eye\nreset b\nasm a 0x800 mov #1, r5\n# a remark\n")
+        out = sancus("schedule", "--lines", self.file("d.toml", HEAD), file).out.decode().splitlines()
+        self.assertEqual(out[0], "reset a")
+        self.assertEqual([it for it in out if it.startswith("#= ")], [f"#= {file}:{at} {it}" for at, it in MARKED])
+        self.assertEqual(out[-1], "# a remark")
 
     def test_a_renewed_run(self):
         items = trace(written(RENEWED).out)

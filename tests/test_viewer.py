@@ -523,6 +523,28 @@ class Page(Room):
         self.assertIn("> sense light 120\n", self.held(page, "output"))
 
     @needs_program
+    def test_files(self):
+        """A deployment with a schedule, readings or lines for people in a file of their own, or with an output."""
+        page = self.room / "p.html"
+        head = self.file("d.toml", Input(LIGHTING_BYTES).head)
+        plain = self.file("s", LIGHTING_BYTES.partition(b"%%\n")[2])
+        people = self.file("p", b"deploy all\nsample eye 120\ncarry eye logic\ncarry logic lamp\n")
+        readings_ = self.file("r", b"light 120\n")
+        for file in (plain, people, readings_):
+            ran = sancus("view", head, file, "--page", page)
+            self.assertEqual((ran.status, ran.out), (0, f"{page}\n".encode()), ran.said)
+            self.assertIn("out lamp 1", self.held(page, "output"))
+        ran = sancus("view", head, people, "--page", page)
+        self.assertIn(f"> #= {people}:3 carry eye logic\n> take a 0x400 24\n", self.held(page, "output"))
+        made = sancus("run", head, plain).out
+        self.assertEqual(sancus("view", head, self.file("o", made), "--page", page).status, 0)
+        self.assertEqual(self.held(page, "output"), made.decode())
+        self.assertEqual(sancus("view", head, "-", "--page", page, text=made).status, 0)
+        self.assertEqual(self.held(page, "output"), made.decode())
+        self.assertEqual(sancus("view", head, "-", "--page", page, text=plain.read_bytes()).status, 0)
+        self.assertIn("> load eye\nprotect a eye\n", self.held(page, "output"))
+
+    @needs_program
     def test_misuse(self):
         page = self.room / "p.html"
         for text, words in (
@@ -537,8 +559,13 @@ class Page(Room):
         ran = sancus("view", self.file("x", LIGHTING_BYTES + b"load ear\n"), "--page", page)
         self.assertEqual(ran.status, 0)
         self.says(ran, "S4", "what came before is drawn")
-        ran = sancus("view", EXAMPLES / "lighting.txt", EXAMPLES / "lighting.txt", "--page", page)
+        out = self.file("out", b"trace\nend\n")
+        ran = sancus("view", EXAMPLES / "lighting.txt", out, out, out, "--page", page)
+        self.assertEqual(ran.status, 2)
+        self.says(ran, "takes only what `explain` wrote of it")
+        ran = sancus("view", EXAMPLES / "lighting.txt", self.file("p", b"deploy ear\n"), "--page", page)
         self.assertEqual(ran.status, 122)
+        self.says(ran, "there is no module ear")
         ran = sancus("view", EXAMPLES / "lighting.txt", "--page", self.room / "no" / "p.html")
         self.assertEqual(ran.status, 121)
 
