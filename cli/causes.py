@@ -5,6 +5,7 @@ from __future__ import annotations
 from dataclasses import dataclass, field
 from typing import Dict, Iterator, List, Optional
 
+from cli import forged
 from cli.deployment import Plan, plan_of
 from cli.faults import Teller
 from cli.items import ITEMS, Item, say
@@ -74,6 +75,8 @@ def explain(deployment: str, trace: str, program: Program, voice: Voice) -> Expl
 
 def told(made: Explained, at: int) -> str:
     item = made.item(at)
+    if item.kind == "forged":
+        return f"{at} {item.text}: {forged.said(made.items, at, made.plan)}"
     return f"{at} {item.text}: {say(item, made.plan)}"
 
 
@@ -161,8 +164,10 @@ def why(made: Explained, at: int) -> Iterator[str]:
 def no_cause(made: Explained, at: int) -> str:
     if made.illegal and at > made.illegal:
         return f"item {made.illegal} is illegal, and nothing after it is judged"
-    if made.forged and at >= made.forged:
-        return f"item {made.forged} says `forged`, and nothing after it is judged"
+    if at == made.forged:
+        return forged.AFTER
+    if made.forged and at > made.forged:
+        return f"nothing is judged from the first `forged` on, item {told(made, made.forged)}"
     kind = made.item(at).kind
     if kind == "sense":
         return "a sample comes from outside: here the chain ends"

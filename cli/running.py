@@ -6,17 +6,18 @@ import os
 import re
 from typing import Callable, List, Optional, Tuple
 
-from cli import images, warnings
+from cli import forged, images, warnings
 from cli.context import Context
 from cli.deployment import Plan, plan_of
 from cli.faults import Teller
 from cli.joining import explained, joined, snap_parts, with_mark
+from cli.marks import marked_run
 from cli.numbers import number, within
 from cli.output import print_lines
 from cli.program import Ran, Sink
 from cli.say import text_of
 from cli.session import Stopped, snapped
-from cli.sinks import NoImages, ScheduleOnly, TraceOnly
+from cli.sinks import ForgedSeen, NoImages, ScheduleOnly, TraceOnly
 from cli.status import NO_FILE, WITH_A_FAULT, Ended
 from cli.texts import (
     MOST_HEAD,
@@ -164,6 +165,18 @@ def warn_after(context: Context, given: Given, ran: Ran) -> None:
     context.voice.say(*after_finish(context, data, ran.kept))
 
 
+def about_forged(context: Context, kept: Kept) -> List[str]:
+    """What the first `forged` of a run says, and the line that shows it."""
+    data = Input(bytes(kept.first))
+    plan = plan_of(data.head)
+    if not kept.is_whole() or not plan or not context.program.build().is_fast:
+        return [f"the trace has an item `forged`, and `sancus explain --words` says what was accepted; {forged.AFTER}"]
+    pairs = [(line, text_of(item)) for line, item in marked_run(data, context.program).items()]
+    said, line = forged.notes(pairs, [text_of(it) for it in data.schedule], plan)
+    teller = Teller(kept, "run")
+    return [said, *(teller.shown(teller.mark + line) if line else []), forged.AFTER]
+
+
 def after_finish(context: Context, data: Input, kept: Kept) -> List[str]:
     """The `finish` lines that end with PC in a section of a module that doesn't run there."""
     plan, lines = plan_of(data.head), [text_of(it) for it in data.schedule]
@@ -218,11 +231,14 @@ def answer(context: Context, given: Given) -> int:
     if given.command.name == "dis":
         return list_code(context, given, files)
     warn_before(context, given, files)
-    ran = run_program(context, given, files, sink_of(given))
+    watch = ForgedSeen(sink_of(given))
+    ran = run_program(context, given, files, watch)
     if files[0] == "-" and given.command.name in ("run", "check", "drive") and not os.isatty(0):
         warn_kept(context, ran.kept)
     context.voice.say(*tell(context, given, ran))
     warn_after(context, given, ran)
+    if watch.is_seen and given.command.name == "run":
+        context.voice.say(*words_of(lambda: about_forged(context, ran.kept)))
     return ran.status
 
 

@@ -76,6 +76,23 @@ class NoImages(Sink):
         self.to.close()
 
 
+@dataclass
+class ForgedSeen(Sink):
+    """Passes an output on, and sees whether it has an item `forged`."""
+
+    to: Sink
+    is_seen: bool = False
+    last: bytes = b"\n"
+
+    def write(self, data: bytes) -> None:
+        self.is_seen = self.is_seen or b"\nforged " in self.last + data
+        self.last = (self.last + data)[-8:]
+        self.to.write(data)
+
+    def close(self) -> None:
+        self.to.close()
+
+
 def is_end(line: bytes) -> bool:
     return line == b"end" or line.startswith(b"fault ")
 

@@ -5,8 +5,10 @@ from unittest.mock import patch
 
 from support import EXAMPLES, HEAD, LIGHTING, PROGRAM, TOP, Room, needs_program, program, sancus
 
-from cli import marks
+from cli import forged, marks
 from cli.builds import Builds
+from cli.deployment import plan_of
+from cli.items import Item
 from cli.program import Program
 from cli.say import Voice
 from cli.texts import Input
@@ -312,8 +314,51 @@ class Why(Room):
         )
 
     def test_forged(self):
-        trace = self.file("f", program("run", text=(EXAMPLES / "forged.txt").read_bytes()).out)
-        self.assertIn("forged: ", sancus("explain", "--words", EXAMPLES / "forged.txt", trace).out.decode())
+        for name, item, words in (
+            ("forged", 8, "as left's answer for boot 0, the deployer accepts a tag under left's key that left hadn't made"),
+            (
+                "public_key",
+                12,
+                "as event 0 of up (eye.level to lamp.show), lamp accepts a tag under the key of up in its epoch 0 that eye hadn't made",
+            ),
+        ):
+            file = EXAMPLES / f"{name}.txt"
+            ran = sancus("run", file)
+            self.says(ran, f"item {item}, `forged ", words, "after it no more is promised than")
+            self.assertNotIn(words, sancus("run", "-q", file).said)
+            self.assertIn(words, sancus("run", text=file.read_bytes()).said)
+            trace = self.file("f", ran.out)
+            lines = sancus("explain", "--words", file, trace).lines
+            self.assertTrue(lines[-1].startswith(f"forged: {item} forged "), lines)
+            self.assertIn(words, lines[-1])
+            lines = sancus("why", file, trace, "forged").lines
+            self.assertIn(words, lines[0])
+            self.assertIn("up to here the trace is a legal run", lines[1])
+            self.assertIn(words, sancus("why", file, trace, str(item + 1)).lines[1])
+        self.says(sancus("run", EXAMPLES / "forged.txt"), "hadn't made, in packet 1\n", "forged.txt:29: answer left 0 1")
+        self.says(sancus("run", EXAMPLES / "public_key.txt"), "; packet 3 was given to this window last\n")
+
+    def test_kinds_of_forged(self):
+        plan = plan_of(HEAD)
+        for texts, words in (
+            (
+                ("packet 4 38", "forged lamp", "open lamp down to 1"),
+                "as a set-key packet for its end of down (logic.bright to lamp.show) in epoch 1, lamp accepts a tag "
+                "under lamp's key that the deployer hadn't made; the last packet of 38 bytes before it is packet 4",
+            ),
+            (("forged lamp", "take lamp down 65537 3"), "as event 1 of down (logic.bright to lamp.show), lamp accepts"),
+            (("forged lamp", "take lamp down 65537 3"), "the key of down in its epoch 1 that logic hadn't made"),
+            (("forged lamp",), "lamp accepts a tag that its rightful maker hadn't made"),
+            (("forged deployer",), "the deployer accepts a tag that its rightful maker hadn't made"),
+        ):
+            items = [Item(at, it) for at, it in enumerate(texts, 1)]
+            at = next(it.number for it in items if it.kind == "forged")
+            self.assertIn(words, forged.said(items, at, plan))
+        lines = ["give 3 b 0x300", "give 4 b 768", "give 5 a 0x300", "give 6 b 0x302", "call lamp 2 0x300 0x400"]
+        self.assertEqual(forged.presented_by(lines, 5, plan), "; packet 4 was given to this window last")
+        self.assertEqual(forged.presented_by([*lines[:4], "reset b", lines[4]], 6, plan), "")
+        self.assertEqual(forged.presented_by(["answer lamp 0 7"], 1, plan), ", in packet 7")
+        self.assertEqual(forged.presented_by(["run b 9"], 1, plan), "")
 
 
 if __name__ == "__main__":

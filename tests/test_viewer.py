@@ -483,6 +483,47 @@ class Viewer(unittest.TestCase):
         self.assertEqual(len(self.texts(".row.group")), 3)
 
 
+NODE = shutil.which("node") or shutil.which("nodejs")
+FORGED = """
+const run = new Run(JSON.parse(require("fs").readFileSync(0)));
+const row = run.rows.find(it => it.item && it.item.kind === "forged");
+console.log(sayItem(row.item, run.plan, run.output.items[row.item.number], run.presented(row.line)));
+"""
+
+
+@unittest.skipUnless(NODE, "there is no node")
+class Words(unittest.TestCase):
+    """What the page says of an item, by its scripts alone."""
+
+    def said(self, texts):
+        folder = TOP / "cli" / "viewer"
+        scripts = [(folder / f"{it}.js").read_text() for it in ("texts", "toml", "plan", "match", "rows", "words")]
+        words = "const WORDS = " + (TOP / "cli" / "faults.json").read_text() + ";"
+        ran = subprocess.run([NODE, "-e", "\n".join([words, *scripts, FORGED])], input=json.dumps(texts), capture_output=True, text=True)
+        self.assertEqual(ran.returncode, 0, ran.stderr)
+        return ran.stdout
+
+    @needs_program
+    def test_forged(self):
+        for name, begin, end in (
+            ("forged", "as left's answer for boot 0, the deployer accepts a tag under left's key that left", ", in packet 1;"),
+            (
+                "public_key",
+                "as event 0 of eye.level → lamp.show, lamp accepts a tag under the key of up in its epoch 0 that eye",
+                "; packet 3 was given to this window last;",
+            ),
+        ):
+            text = (EXAMPLES / f"{name}.txt").read_bytes()
+            drawn = of_run(context(), Input(text)).texts
+            said = self.said({it: drawn[it].decode() for it in drawn})
+            self.assertIn(f"{begin} hadn't made{end} up to here the trace is a legal run", said)
+
+    def test_the_other_kind(self):
+        items = "trace\nforged lamp\nopen lamp down to 3\nend\n"
+        said = self.said({"output": items, "head": DEPLOYMENT.partition("%%")[0]})
+        self.assertIn("as a set-key packet for its end of logic.bright → lamp.show in epoch 3, lamp accepts", said)
+
+
 class Page(Room):
     """What `sancus view` writes, without a browser."""
 

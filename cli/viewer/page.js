@@ -252,7 +252,7 @@ class Page {
     if (row.fault) say(row.fault);
     if (row.item)
       say(`Item ${row.item.number}: `, html("code", "", row.item.text),
-          ` — ${sayItem(row.item, this.run.plan)}`);
+          ` — ${sayItem(row.item, this.run.plan, this.run.output.items[row.item.number], this.run.presented(row.line))}`);
     else if (!row.line.items.length)
       say("It gave no items.");
   }

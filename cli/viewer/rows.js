@@ -179,6 +179,23 @@ class Run {
     return row.line?.kind === "answer" && row.kind === "act" ? numberOf(row.line.words[3]) : null;
   }
 
+  // The packet that a line presents: an answer's, or for a call the last that was given to its window since the last `reset` of the
+  // node.
+  presented({kind, words, number}) {
+    if (kind === "answer") return `, in packet ${words[3]}`;
+    if (kind !== "call" || number === null) return "";
+    const node = this.plan.nodeOf(words[1]);
+    let found = "";
+    for (const {kind, line} of this.rows) {
+      if (line.number >= number) break;
+      const [act, ...rest] = line.words;
+      if (act === "reset" && rest[0] === node) found = "";
+      if (kind === "act" && act === "give" && rest[1] === node && numberOf(rest[2]) === numberOf(words[3]))
+        found = `; packet ${rest[0]} was given to this window last`;
+    }
+    return found;
+  }
+
   // From where to where a module's section stands, and each call of it runs, by the rows' indices.
   findSpans() {
     this.sections = new Map();

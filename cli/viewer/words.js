@@ -5,7 +5,23 @@ const ENTRIES = ["set key", "attest", "input", "sample"];
 const STATUSES = WORDS.statuses;
 const CAUSES = WORDS.causes;
 
-function sayItem({kind, words}, plan) {
+// What a `forged` says, by the item after it: under which key the accepted tag is, and who hadn't made it. `presented` names the packet
+// of its line.
+function sayForged(who, next, plan, presented) {
+  const connection = name => plan.connections.get(name)?.text ?? name;
+  const [kind, module, what, third] = next?.words ?? [];
+  const epoch = kind === "open" ? Number(next.words[4] ?? 0) : Math.floor(Number(third) / 65536);
+  const said = {
+    attested: () => `as ${module}'s answer for boot ${what}, the deployer accepts a tag under ${module}'s key that ${module} hadn't made`,
+    open: () => `as a set-key packet for its end of ${connection(what)} in epoch ${epoch}, ${module} accepts a tag under ${
+        module}'s key that the deployer hadn't made`,
+    take: () => `as event ${Number(third) % 65536} of ${connection(what)}, ${module} accepts a tag under the key of ${what} in its epoch ${
+        epoch} that ${plan.connections.get(what)?.from ?? "its sender"} hadn't made`,
+  }[kind] ?? (() => `${who === "deployer" ? "the deployer" : who} accepts a tag that its rightful maker hadn't made`);
+  return `${said()}${presented}; up to here the trace is a legal run of the sources`;
+}
+
+function sayItem({kind, words}, plan, next = null, presented = "") {
   const connection = name => plan.connections.get(name)?.text ?? name;
   const epoch = Math.floor(Number(words[3]) / 65536);
   switch (kind) {
@@ -25,8 +41,7 @@ function sayItem({kind, words}, plan) {
     case "drain":
       return plan.isTrouble({kind, words}) ? "not by the device's driver" :
                                              "the device has no driver: any code may use it";
-    case "forged":
-      return "a tag was accepted that its rightful maker hadn't made; up to here the trace is a legal run";
+    case "forged": return sayForged(words[1], next, plan, presented);
     case "skip":
       return "refused: it meets a section, a device or the end of memory, interrupts are disabled, or there is no such packet";
     case "busy": return "refused, since a module runs";
