@@ -334,7 +334,7 @@ class Given:
 
     def texts(self, name: str) -> List[str]:
         found = self.values.get(name)
-        return [str(it) for it in found] if isinstance(found, list) else [str(found)] if found else []
+        return [str(it) for it in found] if isinstance(found, list) else [] if found is None else [str(found)]
 
     def has(self, name: str) -> bool:
         return bool(self.values.get(name))

@@ -145,7 +145,7 @@ def kept_of(data: bytes, name: str = "-") -> Kept:
 
 
 def why_not(name: str, error: OSError) -> Ended:
-    return Ended(NO_FILE, f"{name} can't be read: {os.strerror(error.errno) if error.errno else error}")
+    return Ended(NO_FILE, f"{name or 'a file without a name'} can't be read: {os.strerror(error.errno or 0)}")
 
 
 def open_file(name: str) -> int:
