@@ -109,7 +109,7 @@ def of_act(act: str, line: bytes, command: str, plan: Optional[Plan]) -> List[st
     if text in (b"%%", b"%"):
         return ["the mark is a line `%%` alone: no blank before or after it"]
     if act in PEOPLE:
-        return [f"`{act}` is a line for people: `sancus schedule FILE | sancus run` takes those"]
+        return [f"`{act}` is a line for people: `sancus schedule DEPLOYMENT LINES | sancus run` takes those"]
     if act in QUERIES:
         return [f"`{act}` is a query of `sancus snap`: it stands after a second `%%`"]
     if act in ITEMS:
@@ -126,6 +126,8 @@ def of_trace(line: bytes, first: bytes) -> List[str]:
     act = (line.split() or [b""])[0].decode(errors="replace")
     if act in ACTS or act in PEOPLE or act.startswith("#"):
         return ["this is a schedule, and no trace: `sancus run FILE > TRACE` writes one, and `sancus run FILE | sancus explain FILE` judges it"]
+    if line.startswith(b"fault "):
+        return ["this is a fault, and no trace: what was to write one ended with it"]
     if line.startswith((b"because ", b"legal ", b"illegal ")):
         return ["this is what `explain` wrote: it takes what `run` or `drive` wrote"]
     if b"=" in line or line.startswith(b"["):

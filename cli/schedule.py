@@ -314,11 +314,13 @@ class Writer:
         closed = [it for it in wanted if it not in opened]
         if closed:
             return f"{sender} has no key for {' '.join(closed)} yet, so it sent nothing to {receiver}: `deploy` both"
-        there = (
-            ", ".join(f"{it.connection} to {self.plan.receiver(it.connection)}" for it in pieces)
-            or "nothing of its own, since other pieces were written there"
+        there = ", ".join(f"{it.connection} to {self.plan.receiver(it.connection)}" for it in pieces)
+        if there:
+            return f"no event for {receiver} is in the window: there is {there}"
+        return (
+            f"no event of {sender} is in its window any more, since another call or line on {self.plan.node_of(sender)} "
+            f"wrote there: `carry {sender} {receiver}` before it, or other `windows` for it"
         )
-        return f"no event for {receiver} is in the window: there is {there}"
 
     def by_place(self, pieces: List[Piece], place: int, call: Call, receiver: str) -> Piece:
         if place >= call.pieces:

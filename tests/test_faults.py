@@ -174,7 +174,7 @@ CASES = [
         "schedule S3 4",
         ["lod lamp\n", "^^^", "the acts: run finish", "did you mean `load`?"],
     ),
-    (b"load lamp", b"deploy lamp", "run", "schedule S3 4", ["`sancus schedule FILE | sancus run` takes those"]),
+    (b"load lamp", b"deploy lamp", "run", "schedule S3 4", ["`sancus schedule DEPLOYMENT LINES | sancus run` takes those"]),
     (b"load lamp", b"light 5", "run", "schedule S3 4", ["this looks like a reading"]),
     (b"load lamp", b"items 5", "run", "schedule S3 4", ["is a query of `sancus snap`"]),
     (b"load lamp", b"%%", "run", "schedule S3 4", ["a second `%%` is for `sancus snap`"]),
@@ -258,6 +258,7 @@ class Cases(unittest.TestCase):
         self.assertIn("x.txt:5: none 2", told(text, "fault trace E2 2", "explain"))
         self.assertIn("x.txt:4: out eye 1", told(text, "illegal 1", "explain"))
         self.assertIn("this is a schedule, and no trace", told(b"%%\nload eye\n", "fault trace E1 1", "explain"))
+        self.assertIn("this is a fault, and no trace", told(b"%%\nfault deployment D2 -\n", "fault trace E1 1", "explain"))
         self.assertIn("this is what `explain` wrote", told(b"%%\nbecause 2 1\n", "fault trace E1 1", "explain"))
         self.assertIn(
             "the deployment first, and then the trace", told(b"%%\nsecret = 1\n", "fault trace E1 1", "explain")

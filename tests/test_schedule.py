@@ -159,6 +159,10 @@ class Schedule(Room):
         ("sample eye 1\ncarry eye agg other", "no connection other leads from eye to agg: to_agg again"),
         ("reset a\nsample eye 1", "eye doesn't stand on a any more: a was reset 1 times, and `deploy eye` renews it"),
         ("sample eye 1\nreset a\ncarry eye agg", "eye wasn't called since it was loaded"),
+        (
+            f"sample eye 1\nput a 0x400 {'00' * 72}\ncarry eye agg",
+            "no event of eye is in its window any more, since another call or line on a wrote there: `carry eye agg` before",
+        ),
         ("load ear", "S4: a field is no name"),
         ("fly", "S3: its first word is no act"),
         ("windows 1", "windows IN OUT"),
