@@ -62,19 +62,20 @@ class Progress:
     last: float = 0.0
 
     def look(self) -> None:
-        stands, work = 0, ""
+        proved, work = 0, ""
         for name in self.names:
             library = self.top / "crates" / name / "out" / "rlib"
             if (library / "stamp").exists():
-                stands += 1
+                proved += 1
             elif library.is_dir():
                 work += f" {name}"
         now = time.monotonic()
-        if (stands, work) != self.shown or now - self.last >= SAY_EVERY:
-            self.shown, self.last = (stands, work), now
+        if (proved, work) != self.shown or now - self.last >= SAY_EVERY:
+            self.shown, self.last = (proved, work), now
             at_work = f"; at work:{work}" if work else ""
             self.voice.say(
-                f"{stands} of {len(self.names)} crates below the program are proved, after {now - self.begun:.0f} seconds{at_work}"
+                f"{proved} of {len(self.names)} crates below the program are proved, after "
+                f"{now - self.begun:.0f} seconds{at_work}"
             )
 
 
@@ -111,7 +112,7 @@ def build(builds: Builds, voice: Voice, jobs_word: str) -> int:
     begun = time.monotonic()
     voice.say(
         "proving the crates of the program and building it: from nothing up to an hour on four processors,",
-        f"less where earlier proofs are kept; {jobs} at a time",
+        f"less if earlier proofs are kept; {jobs} at a time",
     )
     crates = (builds.top / "crates.txt").read_text()
     progress = Progress(builds.top, below(crates, "sancus_run"), voice, begun)
@@ -123,7 +124,7 @@ def build(builds: Builds, voice: Voice, jobs_word: str) -> int:
         status = waited(["rt", "run", "--", "run"], builds.crate, b"%%\n", progress)
     took = f"{time.monotonic() - begun:.0f} seconds"
     if status or not os.access(builds.built, os.X_OK):
-        raise Ended(NO_ANSWER, f"not built, after {took}; the messages stand above")
+        raise Ended(NO_ANSWER, f"not built, after {took}; the messages are above")
     write_stamp(builds)
     voice.say(f"proved and built in {took}: ./sancus starts this build until a source changes")
     return 0

@@ -1,9 +1,9 @@
 """Which build of the program is started: by sums, never by the times of files, which change with each copy and can be
 set back.
 
-1. The proved build of this checkout, crates/sancus_run/out/sancus_run, where the stamp beside it names the sources
-   that stand here and the build itself.
-2. The released one, release/sancus_run, where its note, release/RELEASE, does, and it starts here.
+1. The proved build of this checkout, crates/sancus_run/out/sancus_run, if the stamp beside it names the sources
+   that are here and the build itself.
+2. The released one, release/sancus_run, if its note, release/RELEASE, does, and it starts here.
 3. `rt try`: a build without its proof, made anew at each call.
 
 tools/release.sh writes stamp and note, and defines the sum of the sources.
@@ -200,7 +200,7 @@ class Builds:
         return Build([str(self.released)], "released"), []
 
     def changed_since_release(self) -> str:
-        """The first source that isn't as where the note was committed, as far as git tells."""
+        """The first source that isn't as it was when the note was committed, as far as git tells."""
         where = ["crates.txt", "HANDLES", "crates/*.rt", "crates/*.antt"]
         commit = self.git("log", "-1", "--format=%H", "--", "release/RELEASE")
         if not commit:
@@ -239,7 +239,8 @@ class Builds:
             raise Ended(
                 NO_ANSWER,
                 *told,
-                "and the command `rt` of the Rattle kit, which makes one, isn't on the path: README.md says where to get it",
+                "and the command `rt` of the Rattle kit, which makes one, isn't on the path: README.md says where "
+                "to get it",
             )
         notes = [
             *reasons,

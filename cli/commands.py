@@ -13,7 +13,7 @@ ONE, MAYBE, MANY = None, "?", "*"
 
 @dataclass(frozen=True)
 class Argument:
-    """An argument: how many may stand there, and what it is."""
+    """An argument: how many there may be, and what it is."""
 
     name: str
     count: Optional[str]
@@ -113,7 +113,7 @@ COMMANDS: Tuple[Command, ...] = (
     ),
     Command(
         "check",
-        "prints where the modules will stand, or which rule the deployment breaks",
+        "prints the modules' addresses, or which rule the deployment breaks",
         (Argument("DEPLOYMENT", MAYBE, "the deployment, with or without a line %%; absent or -, standard input"),),
         (JSON,),
         "sancus check examples/lighting.txt",
@@ -133,11 +133,11 @@ COMMANDS: Tuple[Command, ...] = (
     ),
     Command(
         "snap",
-        "answers where a run stands after any line of its schedule",
+        "prints registers, memory or items after any line of a schedule",
         (DEPLOYMENT, Argument("SCHEDULE", MAYBE, "a schedule"), Argument("QUERIES", MAYBE, "queries, a line each")),
         (NO_IMAGES,),
         "sancus snap --no-images examples/snap/dark_bulb.txt",
-        "The queries stand after a second line %%: `regs NODE L`, `bytes NODE AT LEN L` and `items L`.",
+        "The queries follow a second line %%: `regs NODE L`, `bytes NODE AT LEN L` and `items L`.",
         True,
         typed="a deployment, a line %%, a schedule, a line %%, and queries",
     ),
@@ -166,7 +166,7 @@ COMMANDS: Tuple[Command, ...] = (
         (ADDRESS, FILE),
         (),
         "sancus run examples/lighting.txt | grep '^image logic' | sancus dis 0x6000",
-        "A line `image MODULE BYTES`, as `run` prints it, is taken as it stands.",
+        "A line `image MODULE BYTES`, as `run` prints it, is taken whole.",
         True,
         typed="bytes in hexadecimal",
     ),
@@ -265,7 +265,7 @@ The program runs as the lines are written, so packets, boots and pieces are thos
         ),
         (
             Option("--pc", "put: adds `set NODE pc ENTRY`"),
-            Option("--input", "put: warns where bytes meet what stands on the node in this input", "INPUT"),
+            Option("--input", "put: warns if bytes meet what this input has on the node", "INPUT"),
             Option("--format", "image, convert: TI-TXT or Intel HEX", "FORMAT", choices=("ti", "hex")),
             Option("--to", "image: writes the files there", "FOLDER"),
         ),
@@ -358,7 +358,7 @@ def parser_of(command: Command) -> Parser:
 
 
 def options_first(words: Sequence[str], options: Sequence[Option]) -> List[str]:
-    """The words with options before arguments, so that they may stand anywhere; what stands after -- is no option."""
+    """The words with options before arguments, so that they may come anywhere; what comes after -- is no option."""
     by_name = {name: it for it in options for name in (it.name, it.short) if name}
     found: List[str] = []
     rest: List[str] = []
@@ -423,7 +423,7 @@ def help_all() -> List[str]:
         *rows([(it.shown(), it.says) for it in EVERYWHERE]),
         "",
         "example: sancus drive examples/readings.txt",
-        "docs/FORMATS.md says what is read and printed, and docs/TUTORIAL.md is where to begin.",
+        "docs/TUTORIAL.md is the place to begin; docs/FORMATS.md has what is read and printed.",
     ]
 
 

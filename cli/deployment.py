@@ -16,7 +16,7 @@ KINDS = ("node", "device", "module", "connection")
 
 @dataclass(frozen=True)
 class Bounds:
-    """Where a module's sections stand, ends exclusive."""
+    """The addresses of a module's sections, ends exclusive."""
 
     text: int
     text_end: int
@@ -108,7 +108,7 @@ class Plan:
         return self.trees[module]
 
     def bounds(self, module: Entry) -> Optional[Bounds]:
-        """Where a module's sections stand; None if its tables or source don't tell."""
+        """The addresses of a module's sections; None if its tables or source don't tell."""
         tree = self.tree(str(module.get("name")))
         device = self.named("device", module.get("device")) or {}
         text, data = module.get("text"), module.get("data", device.get("at"))

@@ -1,6 +1,6 @@
 """Says in words what a fault line of the program means, and shows the line in the file that it is about.
 
-It says less where it finds less. The program alone judges; docs/FORMATS.md has the rules, cli/faults.json the words.
+It says less if it finds less. The program alone judges; docs/FORMATS.md has the rules, cli/faults.json the words.
 """
 
 from __future__ import annotations
@@ -110,7 +110,7 @@ class Teller:
         at = -1
         for _ in range(sum(it.get("source") == source for it in modules[:index]) + 1):
             at = head.find(found, at + 1)
-            # a source's text begins behind a quote, or at the line behind one
+            # a source's text begins after a quote, or at the line after one
             while at >= 0 and head[:at].rstrip(b"\n")[-1:] not in (b'"', b"'"):
                 at = head.find(found, at + 1)
             if at < 0:
@@ -123,7 +123,7 @@ class Teller:
         return self.shown(*found, length) if found else [f"line {line}, column {column} of its source"]
 
     def grammar(self, index: int, line: int, column: int) -> Lines:
-        """If a source isn't in the grammar: what could stand there, and what there is in place of what was tried."""
+        """If a source isn't in the grammar: what was expected there, and what the language has in place of what was tried."""
         lines = self.in_source(index, line, column)
         modules = self.plan.modules if self.plan else []
         source = modules[index].get("source") if index < len(modules) else None
@@ -244,7 +244,7 @@ class Teller:
                     if self.plan and field.name in ("NODE", "MODULE", "DEVICE")
                     else []
                 )
-                return [*lines, f"here must stand {acts.told(field, self.plan)}{rules.near(word.text, known)}"]
+                return [*lines, f"expected: {acts.told(field, self.plan)}{rules.near(word.text, known)}"]
         return self.shown(line)
 
     def schedule(self, rule: str, number: int) -> Lines:
@@ -380,7 +380,7 @@ class Teller:
         ]
 
     def told(self, fault: str) -> Lines:
-        """What a fault line means, in lines; none where it is no fault that is known here."""
+        """What a fault line means, in lines; none if it is no fault that is known here."""
         words = fault.split()
         if words[:1] == ["illegal"] and len(words) == 2 and words[1].isdigit():
             return self.illegal(int(words[1]))

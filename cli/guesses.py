@@ -1,4 +1,4 @@
-"""Guesses what was meant: what could stand at a fault, and what there is in place of what was tried."""
+"""Guesses what was meant: what was expected at a fault, and what there is in place of what was tried."""
 
 from __future__ import annotations
 
@@ -19,7 +19,7 @@ ITEMS = frozenset(
 
 
 def expected(error: NotInGrammar) -> List[str]:
-    """What could stand where a token can't."""
+    """What was expected in place of a token."""
     if error.bound:
         return [error.bound]
     left = set(error.expected)
@@ -35,12 +35,12 @@ def expected(error: NotInGrammar) -> List[str]:
         said.append("an operator")
     said += sorted(f"`{it}`" if it not in (NAMED, NUMBER, END) else it for it in left)
     found = error.token
-    stands = "the text ends" if found.kind == END else f"`{found.text}` stands"
-    return [f"{stands} here, and what could is: {', '.join(said)}"] if said else []
+    seen = "the end of the text" if found.kind == END else f"`{found.text}`"
+    return [f"expected {', '.join(said[:-1]) + ' or ' if said[1:] else ''}{said[-1]}, and found {seen}"] if said else []
 
 
 def hints(source: bytes, at: int) -> List[str]:
-    """What the language has in place of what stands at a fault."""
+    """What the language has in place of what was tried at a fault."""
     before, here = source[max(0, at - 200) : at].decode(errors="replace"), source[at : at + 40].decode(errors="replace")
     for it in words()["hints"]:
         if re.search(it["before"], before) and re.search(it["here"], here):
@@ -59,9 +59,9 @@ def of_name(what: str) -> List[str]:
 def of_toml(line: Optional[bytes]) -> List[str]:
     first = (line or b"").split()[:1]
     if first and first[0].decode(errors="replace") in ACTS:
-        return ["this looks like a line of a schedule: they stand after a line `%%`"]
+        return ["this looks like a line of a schedule, which comes after a line `%%`"]
     if line and re.match(rb"\s*(source|secret|key|name|node|from|to|kind|device)\s*=\s*[^\"'\s]", line):
-        return ["a text stands between quotes"]
+        return ["a text is written between quotes"]
     return []
 
 
@@ -105,13 +105,13 @@ def of_act(act: str, line: bytes, command: str, plan: Optional[Plan]) -> List[st
 
     text = line.strip()
     if text == b"%%" and command == "run":
-        return ["a second `%%` is for `sancus snap`, whose queries stand after it"]
+        return ["a second `%%` is for `sancus snap`, whose queries follow it"]
     if text in (b"%%", b"%"):
         return ["the mark is a line `%%` alone: no blank before or after it"]
     if act in PEOPLE:
         return [f"`{act}` is a line for people: `sancus schedule DEPLOYMENT LINES | sancus run` takes those"]
     if act in QUERIES:
-        return [f"`{act}` is a query of `sancus snap`: it stands after a second `%%`"]
+        return [f"`{act}` is a query of `sancus snap`: it comes after a second `%%`"]
     if act in ITEMS:
         return [f"`{act}` is an item of a trace, and no line of a schedule: the acts are {' '.join(ACTS)}"]
     if plan and plan.named("device", act):
@@ -133,5 +133,5 @@ def of_trace(line: bytes, first: bytes) -> List[str]:
     if b"=" in line or line.startswith(b"["):
         return ["this is a deployment: `sancus explain` takes the deployment first, and then the trace"]
     if act in ITEMS:
-        return ["the items stand after a line `trace`"]
+        return ["the items come after a line `trace`"]
     return ["a trace is the output of `run` or `drive`"]

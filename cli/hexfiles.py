@@ -174,7 +174,7 @@ FORMATS: Dict[str, Tuple[Callable[[Code], str], str]] = {"ti": (as_ti_txt, "txt"
 
 @dataclass(frozen=True)
 class Taken:
-    """What stands on a node, from a first byte to an end."""
+    """What is on a node, from a first byte to an end."""
 
     what: str
     begin: int

@@ -1,4 +1,4 @@
-"""Lists images as code: a line `image MODULE BYTES` is taken as it stands, though it is longer than the lines and the
+"""Lists images as code: a line `image MODULE BYTES` is taken whole, though it is longer than the lines and the
 code that `dis` takes.
 """
 

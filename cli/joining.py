@@ -30,7 +30,7 @@ class Begun:
         return self.seen
 
     def rest(self, skipped: int, lines: int) -> Part:
-        """The part from behind the bytes, and lines, that are left out."""
+        """The part after the bytes, and lines, that are left out."""
         left = [self.seen[skipped:]] if self.seen[skipped:] else []
 
         def read() -> bytes:
@@ -58,7 +58,7 @@ def is_comment(line: bytes) -> bool:
 
 
 def after_mark(name: str, voice: Voice) -> Part:
-    """The lines of a file for behind the mark: without its own mark, and without its own deployment."""
+    """The lines of a file that come after the mark: without its own mark, and without its own deployment."""
     begun = Begun(file_part(name))
     data = begun.look(lambda it: find_mark(it) is not None or not may_have_mark(it))
     found = find_mark(data) if may_have_mark(data) else None

@@ -1,7 +1,7 @@
 """Reads a module's source as docs/LANGUAGE.md has it: tokens, tree and sizes, and at a fault what could have stood
 there.
 
-The program alone judges a source. What stands here finds words for its answer.
+The program alone judges a source. This finds words for its answer.
 """
 
 from __future__ import annotations
@@ -18,7 +18,7 @@ SIGN = re.compile(rb"==|!=|<=|>=|[-+|^*&~!<>=;(){}\[\]]")
 COMPARED, SUMMED, MULTIPLIED = ("==", "!=", "<", "<=", ">", ">="), ("+", "-", "|", "^"), ("*", "&")
 UNARY = ("-", "~", "!")
 NAMED, NUMBER, END, NONE = "a name", "a number", "the end", "none"
-# How many brackets and unary operators are open at a time, and how many operators stand in one sum or term.
+# How many brackets and unary operators are open at a time, and how many operators one sum or term has.
 MOST_OPEN = MOST_IN_CHAIN = 48
 GREATEST = 65535
 
@@ -194,7 +194,7 @@ class Module:
 
 
 class NotInGrammar(Exception):
-    """The first token that can't stand where it does, and what could."""
+    """The first token that the grammar doesn't allow, and what it allows there."""
 
     def __init__(self, token: Token, expected: Set[str], bound: str = "") -> None:
         super().__init__(token.text)
@@ -205,7 +205,7 @@ class NotInGrammar(Exception):
 
 
 class Parser:
-    """Reads one module. What was looked for at the next token is kept, to be told if nothing of it stands."""
+    """Reads one module. What was looked for at the next token is kept, to be told if none of it is there."""
 
     def __init__(self, data: bytes) -> None:
         self.data = data
@@ -232,7 +232,7 @@ class Parser:
         return self.advance()
 
     def begin(self, *kinds: str) -> Token:
-        """Takes what opens a bracket or stands before an operand."""
+        """Takes an opening bracket, or an operator before its operand."""
         if self.sees(*kinds) and self.open == MOST_OPEN:
             raise self.fail("more than 48 brackets and unary operators are open here")
         token = self.take(*kinds)
@@ -341,7 +341,7 @@ class Parser:
         made, count = below(), 0
         while self.sees(*signs):
             if count == MOST_IN_CHAIN:
-                raise self.fail("more than 48 operators stand in one sum or product")
+                raise self.fail("one sum or product has more than 48 operators")
             sign, count = self.advance(), count + 1
             made = Combined(sign.kind, made, below(), sign.at)
         return made

@@ -209,7 +209,7 @@ def taken_apart(call: Sequence[str]) -> Given:
 
 
 def tell_usage(error: Usage, voice: Voice) -> int:
-    """Says what is wrong with the words. If they might be the program's, its own answer to them stands on standard
+    """Says what is wrong with the words. If they might be the program's, its own answer to them goes to standard
     output."""
     lines = [error.what]
     if error.command:
@@ -225,7 +225,7 @@ def tell_usage(error: Usage, voice: Voice) -> int:
 
 
 def keep_streams_open() -> None:
-    """Puts something in place of a standard stream that is closed, where reads and writes fail as before: no file
+    """Puts something in place of a standard stream that is closed, on which reads and writes fail as before: no file
     that is opened becomes it."""
     for fd, mode in ((0, os.O_WRONLY), (1, os.O_RDONLY), (2, os.O_RDONLY)):
         try:

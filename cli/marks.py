@@ -1,10 +1,10 @@
 """Runs a schedule and tells which items each of its lines gave, exactly.
 
-The output of `run` doesn't say which line an item belongs to. A mark does: behind each line stands `answer M 0
+The output of `run` doesn't say which line an item belongs to. A mark does: after each line comes `answer M 0
 4294967295`, an answer in a packet that can't be there. It changes nothing and gives exactly `denied M`, and no line
-but `answer` gives that item. If a deployment has no modules, one is added for the marks, on a node of its own where
-nothing is loaded. A schedule of more than half the lines that one may have is run several times, each time with marks
-behind further lines.
+but `answer` gives that item. If a deployment has no modules, one is added for the marks, on a node of its own with
+nothing loaded. A schedule of more than half the lines that one may have is run several times, each time with marks
+after further lines.
 """
 
 from __future__ import annotations
@@ -86,7 +86,7 @@ class Marked:
     has_trace: bool = False
 
     def items(self) -> Iterator[Tuple[Optional[int], bytes]]:
-        """The items with their lines; what no mark stands behind belongs to the line that came next."""
+        """The items with their lines; what no mark follows belongs to the line that came next."""
         for number, items in self.given:
             for it in items:
                 yield number, it
@@ -120,7 +120,7 @@ def marked_run(data: Input, program: Program) -> Marked:
 
 
 def marked_further(made: Marked, acts: List[Tuple[int, bytes]], marker: Marker, program: Program) -> bool:
-    """Runs the schedule with marks behind as many further lines as fit, and tells whether there are more of them."""
+    """Runs the schedule with marks after as many further lines as fit, and tells whether there are more of them."""
     done = len(made.given)
     end = min(len(acts), done + (MOST_LINES + 1 - done) // 2)
     # (what the last line gives needs no mark)
@@ -155,7 +155,7 @@ def taken_apart(
             items.append(output[at])
             at += 1
         if at < len(output) and output[at] == b"end":
-            # (the last line, behind which no mark had room)
+            # (the last line, after which no mark had room)
             made.given.append((number, items))
             break
         if at >= len(output) or is_last(output[at]):

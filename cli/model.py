@@ -40,7 +40,7 @@ class Owed:
 
 @dataclass
 class Present:
-    """A module that stands."""
+    """A module that is protected."""
 
     cells: Dict[str, List[int]]
     ends: Dict[Tuple[str, str], EndView]
@@ -65,7 +65,7 @@ class Attestation:
 
 @dataclass
 class Model:
-    """Where the sources stand after some items."""
+    """The state of the sources after some items."""
 
     plan: Plan
     boots: Dict[str, int] = field(default_factory=dict)
@@ -86,14 +86,14 @@ class Model:
 
     # --- Modules ---
 
-    def standing(self, module: str) -> Present:
+    def protected(self, module: str) -> Present:
         if module not in self.present:
             node = self.plan.node_of(module)
-            raise Fails(f"{module} doesn't stand: it wasn't protected since power-on or the last reset of {node}")
+            raise Fails(f"{module} isn't there: it wasn't protected since power-on or the last reset of {node}")
         return self.present[module]
 
     def idle(self, module: str) -> Present:
-        found = self.standing(module)
+        found = self.protected(module)
         if found.owed:
             raise Fails(
                 f"{module} is still at {found.owed.what} (item {found.owed.item}): a `done` of it must come before"
@@ -102,7 +102,7 @@ class Model:
 
     def reacts(self, module: str, event: Optional[str], value: int, item: Item) -> None:
         """A module's handler runs: what it sends is sent, and it owes what it emits and a `done`."""
-        present, tree = self.standing(module), self.plan.tree(module)
+        present, tree = self.protected(module), self.plan.tree(module)
         emits, pieces = [], 0
         said = []
         for kind, output, it in react(tree, event, value, present.cells) if tree else []:
@@ -144,7 +144,7 @@ def protect(model: Model, _item: Item, made: Dict[str, Any]) -> None:
     if model.plan.node_of(module) != made["node"]:
         raise Fails(f"{module} is deployed on {model.plan.node_of(module)}, and not on {made['node']}")
     if module in model.present:
-        raise Fails(f"{module} stands already: its section can't be protected twice without a reset of {made['node']}")
+        raise Fails(f"{module} is protected already: its section can't be protected twice without a reset of {made['node']}")
     tree = model.plan.tree(module)
     ends = {(it.connection, it.side): EndView() for it in model.plan.ends(module)}
     model.present[module] = Present(first_cells(tree) if tree else {}, ends)
@@ -184,7 +184,7 @@ def read(model: Model, item: Item, made: Dict[str, Any]) -> None:
 def undriven(model: Model, device: str) -> None:
     driver = model.plan.driver_of(device)
     if driver and driver.get("name") in model.present:
-        raise Fails(f"the driver of {device}, {driver['name']}, stands: no other code reaches its device")
+        raise Fails(f"the driver of {device}, {driver['name']}, is protected: no other code reaches its device")
 
 
 def drain(model: Model, _item: Item, made: Dict[str, Any]) -> None:
@@ -270,7 +270,7 @@ def take(model: Model, item: Item, made: Dict[str, Any]) -> None:
 
 def out(model: Model, _item: Item, made: Dict[str, Any]) -> None:
     module = made["module"]
-    owed = model.standing(module).owed
+    owed = model.protected(module).owed
     if not owed:
         raise Fails(f"{module} is at no event, so it writes nothing")
     if not owed.emits:
@@ -284,7 +284,7 @@ def out(model: Model, _item: Item, made: Dict[str, Any]) -> None:
 
 def done(model: Model, _item: Item, made: Dict[str, Any]) -> None:
     module, status, pieces = made["module"], made["status"], made["pieces"]
-    present = model.standing(module)
+    present = model.protected(module)
     if status == 1:
         owed = present.owed
         if not owed:

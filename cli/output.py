@@ -16,7 +16,7 @@ def write(data: bytes, fd: int = 1) -> None:
         try:
             left = left[os.write(fd, left) :]
         except BlockingIOError:
-            # (whoever shares the stream made it so)
+            # (another process that shares the stream made it so)
             select.select([], [fd], [])
         except BrokenPipeError:
             raise Ended(WRITE_FAILED) from None

@@ -243,7 +243,7 @@ class Program:
         if how[0].startswith("run=ended "):
             return ran
         lines = [it for it in messages.split("\n") if it]
-        what = "the program wasn't built, or it stopped: the messages stand above"
+        what = "the program wasn't built, or it stopped: the messages are above"
         if how[0].startswith("run=no-answer"):
             seconds = os.environ.get("SANCUS_SECONDS", SECONDS_AT_MOST)
             what = f"the program was ended early, after {seconds} seconds or 1 MiB of output: what it wrote isn't whole"

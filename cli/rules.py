@@ -171,7 +171,7 @@ def depth(module: Module) -> Iterator[Broken]:
                         it.at, f"the expression here has height {language.height(expression)}, and at most 32 may be"
                     )
             if language.blocks_of(it) and level == 15:
-                yield Broken(it.at, "the block here stands in more than 15 others")
+                yield Broken(it.at, "the block here is inside more than 15 others")
             for inner in language.blocks_of(it):
                 yield from inside(inner, level + 1)
 

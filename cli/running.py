@@ -79,7 +79,7 @@ def has_no_mark(fd: int) -> bool:
 
 
 def parts_of(given: Given, files: List[str], context: Context) -> Optional[List[Part]]:
-    """The parts of an input that is put together; None if one file is the input as it stands."""
+    """The parts of an input that is put together; None if one file is the whole input."""
     word = given.command.name
     if word == "explain" and (len(files) == 2 or is_trace_in_pipe(files)):
         return explained(files[0], files[1] if len(files) == 2 else "-", context.voice)
@@ -136,7 +136,7 @@ def warn_before(context: Context, given: Given, files: List[str]) -> None:
 
 
 def words_of(words: Callable[[], List[str]]) -> List[str]:
-    """Words about an input, or none where finding them fails: an input may be as odd as it likes, and the program's answer stands."""
+    """Words about an input, or none if finding them fails: however odd an input is, the program's answer is kept."""
     try:
         return words()
     except Ended:
@@ -156,7 +156,7 @@ def warn_of(context: Context, kept: Kept) -> None:
 
 
 def warn_after(context: Context, given: Given, ran: Ran) -> None:
-    """Says what only a run shows: a `finish` behind which the next instruction breaks a rule."""
+    """Says what only a run shows: a `finish` after which the next instruction breaks a rule."""
     if given.command.name != "run" or ran.status != 0 or not ran.kept.is_whole() or context.voice.is_quiet:
         return
     data = Input(bytes(ran.kept.first))
@@ -243,7 +243,7 @@ def answer(context: Context, given: Given) -> int:
 
 
 def list_code(context: Context, given: Given, files: List[str]) -> int:
-    """Lists bytes as code, among them an image's line as it stands."""
+    """Lists bytes as code, among them an image's line."""
     words = words_for_program(given)
     looked = images.look(files[0])
     lines = images.listing(context.program, number(words[1]) or 0, looked.code) if looked.code else None

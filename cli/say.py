@@ -1,4 +1,4 @@
-"""What the front end says to people: lines on standard error, in which nothing stands that a terminal would obey."""
+"""What the front end says to people: lines on standard error, without anything that a terminal would obey."""
 
 from __future__ import annotations
 

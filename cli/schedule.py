@@ -35,7 +35,7 @@ class Windows:
 
 @dataclass(frozen=True)
 class Piece:
-    """An event as it stands in a window: its place, its connection with the epoch, and its number."""
+    """An event in a window: its place, its connection with the epoch, and its number."""
 
     at: int
     connection: str
@@ -55,12 +55,12 @@ class Call:
 
 @dataclass
 class State:
-    """What the items showed: the next packet, boots, which modules stand, are attested and have open ends, and their
+    """What the items showed: the next packet, boots, which modules are loaded, are attested and have open ends, and their
     last calls."""
 
     packets: int = 0
     boots: Dict[str, int] = field(default_factory=dict)
-    standing: Dict[str, bool] = field(default_factory=dict)
+    loaded: Dict[str, bool] = field(default_factory=dict)
     attested: Dict[str, int] = field(default_factory=dict)
     open_ends: Dict[str, Dict[str, int]] = field(default_factory=dict)
     calls: Dict[str, Call] = field(default_factory=dict)
@@ -108,11 +108,11 @@ class Writer:
             state.boots[node] = state.boot(node) + 1
             for module in self.plan.names("module"):
                 if self.plan.node_of(module) == node:
-                    state.standing.pop(module, None)
+                    state.loaded.pop(module, None)
                     state.open_ends.pop(module, None)
                     state.calls.pop(module, None)
         elif item.kind == "protect" and made["module"]:
-            state.standing[made["module"]] = True
+            state.loaded[made["module"]] = True
         elif item.kind == "attested":
             state.attested[made["module"]] = made["boot"]
         elif item.kind == "open" and made["side"] == "from":
@@ -132,7 +132,7 @@ class Writer:
         return self.plan.node_of(name)
 
     def packet(self, word: str) -> str:
-        """A packet's number, of its name or as it stands."""
+        """A packet's number, by its name or the number itself."""
         if number(word) is not None:
             return word
         if word not in self.state.named:
@@ -173,15 +173,16 @@ class Writer:
         modules = self.plan.names("module") if names == ("all",) else list(names)
         for name in modules:
             node = self.module(name)
-            if self.state.standing.get(name):
-                missing = [it for it in modules if not self.state.standing.get(it)]
+            if self.state.loaded.get(name):
+                missing = [it for it in modules if not self.state.loaded.get(it)]
                 advice = f"`deploy {' '.join(missing)}` deploys the others" if missing else f"`reset {node}` first"
                 raise Mistake(
-                    f"{name} stands already, since boot {self.state.boot(node)} of {node}: {advice}, or call it as it is"
+                    f"{name} is loaded already, since boot {self.state.boot(node)} of {node}: {advice}, or call it as "
+                    "it is"
                 )
         for name in modules:
             items = self.put("load", name)
-            if not self.state.standing.get(name):
+            if not self.state.loaded.get(name):
                 raise Mistake(f"{name} is loaded, and isn't protected then: {self.told(items)}")
         for name in modules:
             self.attest(name)
@@ -224,7 +225,7 @@ class Writer:
     def hand_keys(self, keys: List[Tuple[End, int]]) -> None:
         for end, packet in keys:
             # (a module that was attested at an earlier boot of its node is gone, and so is its end)
-            is_here = self.state.standing.get(end.module)
+            is_here = self.state.loaded.get(end.module)
             if is_here and self.state.attested.get(end.module) == self.state.boot(self.plan.node_of(end.module)):
                 self.must_be_done(
                     self.hand(str(packet), end.module, SET_KEY), end.module, f"opening {end.connection} in {end.module}"
@@ -237,21 +238,21 @@ class Writer:
             raise Mistake(f"{name} drives no sensor")
         if not within(value, 0, 32767):
             raise Mistake(f"{value} is no value of a sensor: 0 to 32,767")
-        self.must_stand(name)
+        self.must_be_loaded(name)
         items = self.put("sense", str(device), value)
         if not any(it.kind == "sense" for it in items):
             raise Mistake(f"the sample isn't taken: {self.told(items)}")
         self.tell_status(self.call(name, SAMPLE), name)
 
-    def must_stand(self, name: str) -> None:
-        if not self.state.standing.get(name):
+    def must_be_loaded(self, name: str) -> None:
+        if not self.state.loaded.get(name):
             node = self.plan.node_of(name)
             again = (
                 f" any more: {node} was reset {self.state.boot(node)} times, and `deploy {name}` renews it"
                 if self.state.boot(node)
                 else f" yet: `deploy {name}` first"
             )
-            raise Mistake(f"{name} doesn't stand on {node}{again}")
+            raise Mistake(f"{name} isn't loaded on {node}{again}")
 
     def tell_status(self, items: List[Item], name: str) -> None:
         """Says of a call that did nothing why; it may be just what was wanted."""
@@ -279,7 +280,7 @@ class Writer:
         self.state.calls[sender].carried.append((piece.connection, piece.epoch, piece.number))
         taken = self.put("take", node, f"0x{piece.at:x}", str(EVENT))
         packet = self.new_packet(taken, "taking the event", f"event.{sender}.{receiver}")
-        self.must_stand(receiver)
+        self.must_be_loaded(receiver)
         self.tell_status(self.hand(packet, receiver, EVENT_IN), receiver)
 
     def find(self, sender: str, receiver: str, between: List[str], which: str) -> Piece:
@@ -336,7 +337,7 @@ class Writer:
         return found
 
     def pieces(self, sender: str, call: Call) -> List[Piece]:
-        """The events of the sender in the window, as they stand there now; by what the packets say, and not by their
+        """The events of the sender in the window, as they are there now; by what the packets say, and not by their
         places."""
         assert call.window is not None
         node, now = self.plan.node_of(sender), len(self.session.lines)

@@ -99,7 +99,7 @@ def is_end(line: bytes) -> bool:
 
 @dataclass
 class ScheduleOnly(Lines):
-    """Of what `drive` writes the lines of the schedule, as `run` takes them. A fault isn't one: it stands as a
+    """Of what `drive` writes the lines of the schedule, as `run` takes them. A fault isn't one: it becomes a
     comment."""
 
     def line(self, line: bytes) -> bytes:

@@ -1,4 +1,4 @@
-"""The statuses that the front end itself ends with, and how it ends early. Those of the program stand in
+"""The statuses that the front end itself ends with, and how it ends early. Those of the program are in
 docs/FORMATS.md.
 """
 

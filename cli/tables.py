@@ -72,7 +72,7 @@ def names(kind: str, index: int, plan: Plan) -> List[str]:
     if not re.fullmatch(r"[a-z][a-z0-9_]{0,15}", name):
         lines.append(f"`{name}` is no name: a lower-case letter and up to 15 lower-case letters, digits or _")
     if name in plan.names(kind)[:index]:
-        lines.append(f"the name `{name}` stands earlier among the {kind}s")
+        lines.append(f"the name `{name}` is taken by an earlier {kind}")
     if kind == "module" and name == "deployer":
         lines.append("no module may be named `deployer`")
     for key in ("node", "device"):
@@ -130,7 +130,7 @@ def ties(kind: str, index: int, plan: Plan) -> List[str]:
 
 @dataclass(frozen=True)
 class Range:
-    """Where something stands, its end exclusive."""
+    """The addresses of something, its end exclusive."""
 
     what: str
     begin: int
@@ -190,7 +190,7 @@ def places(kind: str, index: int, plan: Plan) -> List[str]:
         lines.append(f"its place 0x{at:04x} is odd, below 0x0200, or 0xffe0 or above")
     for other in plan.devices:
         if other is not device and (other["node"], other["at"]) == (device["node"], at):
-            lines.append(f"the device {other['name']} stands at 0x{at:04x} too")
+            lines.append(f"the device {other['name']} is at 0x{at:04x} too")
     return lines
 
 

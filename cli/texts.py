@@ -1,7 +1,7 @@
 """What the program reads: one input, put together from files, and kept as far as words about it need.
 
-An input has no bound, so neither a file nor a pipe is held whole: what is kept is the first part, where the
-deployment stands, and what came last, where the line of a fault stands.
+An input has no bound, so neither a file nor a pipe is held whole: what is kept is the first part, which has the
+deployment, and what came last, which has the line of a fault.
 """
 
 from __future__ import annotations
@@ -89,7 +89,7 @@ class Kept:
 
     first: bytearray = field(default_factory=bytearray)
     last: bytearray = field(default_factory=bytearray)
-    # how many lines, and bytes, stand before `last`
+    # how many lines, and bytes, come before `last`
     lines_before: int = 0
     bytes_before: int = 0
     origins: List[Origin] = field(default_factory=list)

@@ -24,7 +24,7 @@ def read(text: str) -> Dict[str, Any]:
     try:
         return tomllib.loads(text)
     except RecursionError:
-        raise NoToml("arrays and tables stand in one another too deep") from None
+        raise NoToml("arrays and tables are nested too deep") from None
     except tomllib.TOMLDecodeError as error:
         found = re.search(r" \(at (?:line (\d+), column (\d+)|end of document)\)$", str(error))
         if found and found[1]:
@@ -57,7 +57,7 @@ class Reader:
 
     def must(self, token: str) -> None:
         if not self.skips(token):
-            raise self.fail(f"`{token}` must stand here")
+            raise self.fail(f"expected `{token}`")
 
     def pass_by(self, blanks: Any) -> None:
         self.at = blanks.match(self.text, self.at).end()
@@ -109,7 +109,7 @@ class Reader:
             else:
                 found = BARE.match(self.text, self.at)
                 if not found:
-                    raise self.fail("a key must stand here")
+                    raise self.fail("expected a key")
                 self.at = found.end()
                 names.append(found.group())
             self.pass_by(BLANK)
@@ -123,7 +123,7 @@ class Reader:
         for name in names[:-1]:
             table = self.into(table, name)
         if names[-1] in table:
-            raise self.fail(f"the key `{names[-1]}` stands twice")
+            raise self.fail(f"the key `{names[-1]}` is there twice")
         table[names[-1]] = self.value()
 
     def value(self) -> Any:
@@ -138,7 +138,7 @@ class Reader:
                 return value
         found = INTEGER.match(self.text, self.at)
         if not found:
-            raise self.fail("a value must stand here")
+            raise self.fail("expected a value")
         self.at = found.end()
         return int(
             found.group().replace("_", ""),
@@ -182,7 +182,7 @@ class Reader:
                 raise self.fail("a string isn't closed")
             self.at += 1
             made.append(self.escape() if letter == "\\" and quote == '"' else letter)
-        # (up to two quotes may stand before the closing ones)
+        # (up to two quotes may come before the closing ones)
         while len(closing) == 3 and self.skips(quote):
             made.append(quote)
         return "".join(made)

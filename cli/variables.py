@@ -1,4 +1,4 @@
-"""Where a module stands after a line: its variables, arrays and ends by name, read by `snap` from its private
+"""The state of a module after a line: its variables, arrays and ends by name, read by `snap` from its private
 section.
 
 docs/PROTOCOL.md has the section's form: from 512 on a slot for each end, then the cells, each less its first value.
@@ -22,14 +22,14 @@ WORD = 0xFFFF
 
 @dataclass
 class Seen:
-    """What the run showed of a module up to a line: the boot of its node, and since which line it stands."""
+    """What the run showed of a module up to a line: the boot of its node, and since which line it is protected."""
 
     boot: int = 0
     since: Optional[int] = None
 
 
-def standing(seen: Inspected, module: str, line: int) -> Seen:
-    """Whether the module stands after a line, by the items up to there."""
+def looked_up(seen: Inspected, module: str, line: int) -> Seen:
+    """Whether the module is protected after a line, by the items up to there."""
     node, found = seen.plan.node_of(module), Seen()
     text = seen.head + b"%%\n" + "".join(f"{it}\n" for it in seen.lines[:line]).encode(errors="surrogateescape")
     try:
@@ -104,16 +104,16 @@ def told(seen: Inspected, module: str, asked: Line) -> List[str]:
     bounds = seen.plan.bounds(entry)
     assert bounds
     lines = [seen.headed(asked)]
-    found = standing(seen, module, line)
+    found = looked_up(seen, module, line)
     where = f"text 0x{bounds.text:04x} to 0x{bounds.text_end:04x}, data 0x{bounds.data:04x} to 0x{bounds.data_end:04x}"
     if found.since is None:
-        return [*lines, f"module {module} on node {node}, boot {found.boot}: it doesn't stand after this line; {where}"]
-    since = f", since {seen.said(found.since)}" if found.since else ""
+        return [*lines, f"module {module} on node {node}, boot {found.boot}: not protected after this line; {where}"]
+    since = f" since {seen.said(found.since)}" if found.since else ""
     try:
         data, registers = private_bytes(seen, node, bounds, line)
     except Stopped as error:
         raise broken(seen, str(error)) from None
-    lines.append(f"module {module} on node {node}, boot {found.boot}: it stands{since}; {where}")
+    lines.append(f"module {module} on node {node}, boot {found.boot}: protected{since}; {where}")
     slots = SLOT * len(seen.plan.ends(module))
     return [
         *lines,

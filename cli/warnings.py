@@ -30,7 +30,7 @@ def of_keys(plan: Plan) -> List[str]:
     if plan.connections and "secret" not in plan.toml:
         lines.append(
             "warning: the deployment has connections and no `secret`, so their keys come from sixteen zero bytes, which "
-            "anybody knows: whoever has them can forge events"
+            "anybody knows and can forge events with"
         )
     return lines
 

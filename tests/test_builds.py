@@ -94,7 +94,7 @@ class Builds(Room):
         self.rt('echo "run=none proved=no" >&2; exit 1')
         status, out, said = self.call("schedule", text="%%\nreset n\n")
         self.assertEqual((status, out), (125, ""))
-        self.assertIn("needs a build that stands", said)
+        self.assertIn("needs a fast build", said)
 
     def test_build(self):
         self.rt(

@@ -1,4 +1,4 @@
-"""`vars`, `steps`, `why` and `explain --words`: where a run stands, and why, by the program's own answers."""
+"""`vars`, `steps`, `why` and `explain --words`: what a run did, and why, by the program's own answers."""
 
 import unittest
 from unittest.mock import patch
@@ -30,7 +30,7 @@ class Variables(Room):
             ran.lines,
             [
                 "line 45: call lamp 2 0x300 0x400",
-                "module logic on node a, boot 0: it stands, since line 3; text 0x6000 to 0x6c00, data 0x2000 to 0x2232",
+                "module logic on node a, boot 0: protected since line 3; text 0x6000 to 0x6c00, data 0x2000 to 0x2232",
                 "var limit = 100",
                 "end up to: open in epoch 0, next event 1 (takes from eye)",
                 "end down from: open in epoch 0, next event 1 (sends to lamp)",
@@ -41,9 +41,9 @@ class Variables(Room):
 
     def test_before_keys_and_before_it_stands(self):
         self.assertIn("end up to: not open (takes from eye)", sancus("vars", LIGHTING_FILE, "logic", "4").lines)
-        self.assertIn("it doesn't stand after this line", sancus("vars", LIGHTING_FILE, "logic", "0").out.decode())
+        self.assertIn("not protected after this line", sancus("vars", LIGHTING_FILE, "logic", "0").out.decode())
         reset = self.file("x", LIGHTING + b"reset a\n")
-        self.assertIn("boot 1: it doesn't stand", sancus("vars", reset, "logic", "46").out.decode())
+        self.assertIn("boot 1: not protected", sancus("vars", reset, "logic", "46").out.decode())
 
     def test_arrays_and_first_values(self):
         lines = sancus("vars", self.file("x", ARRAYS), "logic", "45").lines
@@ -71,11 +71,11 @@ class Variables(Room):
         for word in ("3", "easy.txt:3", f"{easy}:3"):
             lines = sancus("vars", head, easy, "logic", word).lines
             self.assertEqual(lines[0], f"{easy}:3: carry eye logic")
-            self.assertIn(f"it stands, since {easy}:1; text", lines[1])
+            self.assertIn(f"protected since {easy}:1; text", lines[1])
             self.assertIn("end up to: open in epoch 0, next event 1 (takes from eye)", lines)
         made = self.file("made.txt", sancus("schedule", head, easy).out)
         self.assertEqual(sancus("vars", made, "logic", "easy.txt:3").lines[2:], lines[2:])
-        # one after it, and a comment, where the run stands as before
+        # one after it, and a comment, after which the run is as before
         self.assertIn("next event 0", sancus("vars", head, easy, "lamp", "5").out.decode())
         self.assertIn("next event 1", sancus("vars", head, easy, "lamp", "6").out.decode())
 
@@ -276,7 +276,7 @@ class Why(Room):
             (b"open lamp down to\ndone lamp 1 0\n", b"", "lamp's end of down isn't open"),
             (b"attested eye 0", b"attested eye 1", "didn't vouch for challenge 0 at boot 1"),
             (b"vouch eye 0\n", b"", "no item shows what"),
-            (b"protect b lamp\n", b"", "lamp doesn't stand"),
+            (b"protect b lamp\n", b"", "lamp isn't there"),
             (b"done eye 1 1\npacket 10", b"packet 10", None),
             (b"done lamp 1 0\nend", b"done lamp 1 1\nend", "makes 0 pieces over its open ends, and not 1"),
         ):

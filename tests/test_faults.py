@@ -11,14 +11,14 @@ from cli.deployment import plan_of
 from cli.faults import Teller
 from cli.texts import Input, kept_of
 
-# What is changed in the lighting example, the command, the fault line, and words that stand in what is told.
+# What is changed in the lighting example, the command, the fault line, and words of what is told.
 CASES = [
     (
         b"level(v); }",
         b"level(v) }",
         "check",
         "deployment D7 module 0 3 27",
-        ["x.txt:19: sample(v) { send level(v) }\n", "module eye, x.txt:10", "`}` stands here, and what could is: `;`"],
+        ["x.txt:19: sample(v) { send level(v) }\n", "module eye, x.txt:10", "expected `;`, and found `}`"],
     ),
     (
         b"var limit = 100;",
@@ -45,7 +45,7 @@ CASES = [
         b"else if v {",
         "check",
         "deployment D7 module 1 4 53",
-        ["there is no `else if`", "what could is: `{`"],
+        ["there is no `else if`", "expected `{`"],
     ),
     (
         b"if v > limit",
@@ -139,7 +139,7 @@ CASES = [
         b'name = "eye"',
         "check",
         "deployment D5 module 1",
-        ["the name `eye` stands earlier among the modules"],
+        ["the name `eye` is taken by an earlier module"],
     ),
     (
         b"actuator;\ninput show;\non show(v) { emit v; }",
@@ -426,7 +426,7 @@ class Warnings(Room):
 
 
 class Reading(unittest.TestCase):
-    """What the front end reads by itself: TOML where Python has no reader, and the language."""
+    """What the front end reads by itself: TOML if Python has no reader, and the language."""
 
     def test_toml(self):
         for file in whole_examples():

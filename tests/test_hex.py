@@ -1,4 +1,4 @@
-"""`sancus hex` and examples/c_attacker. What needs clang for MSP430 is passed over where it isn't there."""
+"""`sancus hex` and examples/c_attacker. What needs clang for MSP430 is passed over if that isn't there."""
 
 import os
 import shutil

@@ -121,7 +121,7 @@ class Schedule(Room):
         self.assertEqual([it for it in items if it.startswith("done") and it.split()[2] != "1"], [])
 
     def test_fan_out(self):
-        """A piece is found by its connection, in any order, and also where an end isn't open."""
+        """A piece is found by its connection, in any order, and also if an end isn't open."""
         for lines, taken in (
             (
                 "deploy all\nsample eye 1\ncarry eye agg\ncarry eye vio\n",
@@ -143,7 +143,7 @@ class Schedule(Room):
     MISTAKES = (
         ("carry eye", "too many words or too few: carry MODULE MODULE"),
         ("deploy ear", "there is no module ear"),
-        ("deploy all", "stands already, since boot 0 of a: `reset a` first"),
+        ("deploy all", "is loaded already, since boot 0 of a: `reset a` first"),
         ("reset b\ndeploy all", "`deploy agg` deploys the others"),
         ("give lost a", "no packet is named lost"),
         ("sample vio 3", "vio drives no sensor"),
@@ -157,7 +157,7 @@ class Schedule(Room):
         ("sample eye 1\ncarry eye agg 0", "piece 0 is for vio, by to_vio, and not for agg"),
         ("sample eye 1\ncarry eye agg 3", "there is no piece 3: the last call wrote 3"),
         ("sample eye 1\ncarry eye agg other", "no connection other leads from eye to agg: to_agg again"),
-        ("reset a\nsample eye 1", "eye doesn't stand on a any more: a was reset 1 times, and `deploy eye` renews it"),
+        ("reset a\nsample eye 1", "eye isn't loaded on a any more: a was reset 1 times, and `deploy eye` renews it"),
         ("sample eye 1\nreset a\ncarry eye agg", "eye wasn't called since it was loaded"),
         (
             f"sample eye 1\nput a 0x400 {'00' * 72}\ncarry eye agg",

@@ -1,4 +1,4 @@
-"""The page of `sancus view`, by what it shows in a headless Chromium; it is passed over where there is none.
+"""The page of `sancus view`, by what it shows in a headless Chromium; it is passed over if there is none.
 
 With SHOTS=FOLDER it also writes pictures to look at, and says how long a large run takes.
 """
@@ -131,7 +131,7 @@ class Browser:
         shutil.rmtree(self.room, ignore_errors=True)
 
 
-# What the lines behind the keys give, for one reading: lines and their items.
+# What the lines after the keys give, for one reading: lines and their items.
 READING = """sense light {value}
  sense light {value}
 call eye 3 0x300 0x400
@@ -154,7 +154,7 @@ call lamp 2 0x300 0x400
 
 
 def readings(count, packets=0):
-    """The lines and the items of this many readings, on modules that have their keys, where so many packets were
+    """The lines and the items of this many readings, on modules that have their keys, when so many packets were
     made."""
     lines, items = [], []
     for number in range(count):

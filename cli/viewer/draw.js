@@ -31,7 +31,7 @@ class Columns {
     this.look = look;
     this.addAll([["deployer", "deployer", 100, ""], ["network", "network", 116, ""]]);
     for (const node of this.sorted(plan.nodes, it => it)) this.addNode(node, plan);
-    // (what stands beside the last column may need more: it isn't cut off)
+    // (text beside the last column may need more: it isn't cut off)
     this.width += 70;
   }
 
@@ -300,7 +300,7 @@ class Picture {
     }
   }
 
-  // --- what stands behind and before the rows ---
+  // --- behind and before the rows ---
 
   // Lifelines, sections and turns between two places; top is the first place that is drawn.
   back(from, to) {

@@ -94,7 +94,7 @@ class Matcher {
         !(item.kind === "reset" && item.words[2] === "asked");
   }
 
-  // One item of these, or none where the line shows nothing.
+  // One item of these, or none if the line shows nothing.
   refused(line, node, at, kinds, silent) {
     const isOne = kind => kind === "busy" ? this.isBusy(at, node, line) : this.is(at, kind, node);
     const ends = kinds.some(isOne) ? [[at + 1, 1]] : [];

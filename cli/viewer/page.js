@@ -42,7 +42,7 @@ class Page {
     byId("scroll").focus();
   }
 
-  // Opens behind the set-up, which is folded.
+  // Opens after the set-up, which is folded.
   begin() {
     const first = this.run.afterSetUp();
     if (!first?.place) return;
@@ -241,8 +241,8 @@ class Page {
           ...chain.flatMap(
               (item, k) => [k ? " ← " : "", this.link(`${item.number} ${item.text}`, item.row)]));
     else if (row.item?.kind === "out" && !this.run.causes)
-      say("The causes of an out are shown where what `explain` wrote is opened too.");
-    if (row.isAfter) say("This stands behind the first `forged`: nothing is promised of it.");
+      say("The causes of an out are shown if what `explain` wrote is opened too.");
+    if (row.isAfter) say("This comes after the first `forged`: nothing is promised of it.");
   }
 
   tellLine(row, say) {

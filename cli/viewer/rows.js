@@ -2,7 +2,7 @@
 
 // Runs with more rows than this open folded.
 const FOLDED_FROM = 1500;
-// A set-up of more rows than this is folded, and the page opens behind it.
+// A set-up of more rows than this is folded, and the page opens after it.
 const SET_UP_FROM = 12;
 
 class Run {
@@ -29,7 +29,7 @@ class Run {
 
   note(text, isBad) { this.notes.push({text, isBad}); }
 
-  // The lines of the schedule, each with its items, or one line of all items where they can't be told apart.
+  // The lines of the schedule, each with its items, or one line of all items if they can't be told apart.
   lines() {
     const {input, output} = this;
     if (output?.lines) return this.numbered(output.lines);
@@ -100,7 +100,7 @@ class Run {
     }
   }
 
-  // A comment begins a group, but those of `sancus schedule` don't split what a person's comment began: `#= PLACE LINE` stands before
+  // A comment begins a group, but those of `sancus schedule` don't split what a person's comment began: `#= PLACE LINE` comes before
   // what was made of a line for people, and `# NAME is packet N` after a packet.
   addNote(line, before) {
     const text = line.text.replace(/^\s*#\s?/, "");
@@ -116,7 +116,7 @@ class Run {
     const {kind, words, items} = line;
     if (!this.isMade) this.beginGroup(kind, words, before);
     if (kind === "load" && this.group.kind === "load") this.group.title += ` ${words[1]}`;
-    // an item that is all that the line does stands in the line's own row
+    // an item that is all that the line does is in the line's own row
     const isOne = ["take", "forge", "sense", "reset", "ask", "load"].includes(kind) && items.length > 0 &&
         !["forged", "busy"].includes(items[0].kind);
     const act = kind === "all" ? null : this.add({kind: "act", line, item: isOne ? items[0] : null});
@@ -133,13 +133,13 @@ class Run {
     if (kind === "load" && before !== "load") this.begin("load", kind);
   }
 
-  // The first row after the set-up: after the loading, asking and opening that a schedule begins with. The first row where there is none.
+  // The first row after the set-up: after the loading, asking and opening that a schedule begins with. The first row if there is none.
   afterSetUp() {
     const isSetUp = ({kind, words}) => ["", "#", "load", "ask", "answer", "give", "take"].includes(kind) ||
         kind === "call" && numberOf(words[2]) < 2;
     const first = this.rows.find(row => !isSetUp(row.line));
     let group = first?.group;
-    // (with the comment that stands over it)
+    // (with the comment above it)
     const before = this.groups[this.groups.indexOf(group) - 1];
     if (before?.rows.every(row => row.kind === "note")) group = before;
     const begun = group?.rows[0];
@@ -196,7 +196,7 @@ class Run {
     return found;
   }
 
-  // From where to where a module's section stands, and each call of it runs, by the rows' indices.
+  // From which row to which a module's section is protected, and each call of it runs, by the rows' indices.
   findSpans() {
     this.sections = new Map();
     this.turns = new Map();
@@ -223,7 +223,7 @@ class Run {
     }
   }
 
-  // Which rows are shown, and at which place each stands: a folded group is one row.
+  // Which rows are shown, and at which place each is: a folded group is one row.
   place() {
     this.shown = [];
     for (const group of this.groups) {

@@ -50,7 +50,7 @@ function readInput(text) {
   };
 }
 
-// The items of a run. Where each line of the schedule stands before its items, as `> LINE`, lines has them.
+// The items of a run. If each line of the schedule comes before its items, as `> LINE`, lines has them.
 function readOutput(text) {
   const output = {images: new Map(), items: [], lines: null, last: null, odd: []};
   let line = null;

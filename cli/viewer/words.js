@@ -47,7 +47,7 @@ function sayItem({kind, words}, plan, next = null, presented = "") {
     case "busy": return "refused, since a module runs";
     case "budget": return "1,000,000 steps were taken, and a module still runs";
     case "protect":
-      return words[2] === "-" ? "a section of other code" : "the deployed module's section stands";
+      return words[2] === "-" ? "a section of other code" : "the deployed module is protected";
     case "vouch": return "the module made its answer to this challenge";
     case "attested": return `the deployer accepted the answer, for boot ${words[2]}`;
     case "denied": return "the deployer didn't accept the answer";
