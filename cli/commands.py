@@ -175,7 +175,8 @@ COMMANDS: Tuple[Command, ...] = (
         "writes a schedule of one for people: `deploy`, `sample`, `carry`",
         (DEPLOYMENT, Argument("LINES", MANY, "lines for people")),
         (Option("--lines", "prints the schedule alone, without the deployment"),),
-        "printf 'deploy all\\nsample eye 120\\ncarry eye logic\\n' | sancus schedule examples/lighting.txt - | sancus run",
+        "printf 'deploy all\\nsample eye 120\\ncarry eye logic\\n' | sancus schedule examples/lighting.txt - | sancus "
+        "run",
         "Lines for people, between plain lines of a schedule (docs/SCHEDULES.md says what each becomes):",
         table=(
             ("deploy all, deploy M ..", "load, ask, answer and keys of every module, or of these in this order"),
@@ -189,7 +190,7 @@ COMMANDS: Tuple[Command, ...] = (
             (".. as NAME", "after `take`, `forge` and `ask`: a name for the packet, for `give` and `answer`"),
             ("windows IN OUT", "other windows from here on (0x300 and 0x400 before)"),
         ),
-        after="""Packets that deploy and carry make have names: ask.M, answer.M, key.M.CONNECTION.from or .to, and event.M.N.
+        after="""Packets that deploy and carry make have names: ask.M, answer.M, key.M.CONNECTION.from or .to, event.M.N.
 The program runs as the lines are written, so packets, boots and pieces are those that it showed. A line
 `#= FILE:LINE TEXT` comes before what was made of a line, and a fault of it is led back there.""",
         typed="a deployment, a line %%, and lines for people",
@@ -210,8 +211,8 @@ The program runs as the lines are written, so packets, boots and pieces are thos
             Argument(
                 "FILE",
                 MANY,
-                "schedules, lines for people or readings, if INPUT is the deployment alone; or, in place of a run, what "
-                "`run` wrote and then what `explain` wrote of it",
+                "schedules, lines for people or readings, if INPUT is the deployment alone; or, in place of a run, "
+                "what `run` wrote and then what `explain` wrote of it",
             ),
         ),
         (
@@ -228,7 +229,8 @@ The program runs as the lines are written, so packets, boots and pieces are thos
         (INPUT, MORE, Argument("MODULE", ONE, "a module", False), LINE),
         (DRIVE,),
         "sancus vars examples/lighting.txt logic 45",
-        "Of lines for people LINE is one of those; of what `sancus schedule` wrote it may also be FILE:LINE as it was made of.",
+        "Of lines for people LINE is one of those; of what `sancus schedule` wrote it may also be FILE:LINE as it was "
+        "made of.",
     ),
     Command(
         "steps",
@@ -247,8 +249,8 @@ The program runs as the lines are written, so packets, boots and pieces are thos
             Argument(
                 "ITEM",
                 MANY,
-                "an item's number from 1 after `trace`, or the words that it begins with, as `out lamp`: the last such item; "
-                "absent, the last `out` or the illegal item",
+                "an item's number from 1 after `trace`, or the words that it begins with, as `out lamp`: the last such "
+                "item; absent, the last `out` or the illegal item",
                 False,
             ),
         ),
@@ -270,7 +272,8 @@ The program runs as the lines are written, so packets, boots and pieces are thos
             Option("--to", "image: writes the files there", "FOLDER"),
         ),
         "sancus hex image examples/lighting.txt --to images",
-        "Files are ELF, Intel HEX or TI-TXT. Encodings and keys are this project's own: images are for looking, and not to be flashed.",
+        "Files are ELF, Intel HEX or TI-TXT. Encodings and keys are this project's own: images are for looking, and "
+        "not to be flashed.",
     ),
     Command(
         "build",

@@ -123,7 +123,7 @@ class Teller:
         return self.shown(*found, length) if found else [f"line {line}, column {column} of its source"]
 
     def grammar(self, index: int, line: int, column: int) -> Lines:
-        """If a source isn't in the grammar: what was expected there, and what the language has in place of what was tried."""
+        """If a source isn't in the grammar: what was expected, and what the language has in place of what was tried."""
         lines = self.in_source(index, line, column)
         modules = self.plan.modules if self.plan else []
         source = modules[index].get("source") if index < len(modules) else None
@@ -195,7 +195,8 @@ class Teller:
                 + guesses.of_head(self.command, bytes(self.kept.first[:4096]))
             )
         if rule == "D2":
-            return lines + (self.near_mark() or guesses.without_mark(self.command, self.kept.place(1)[0], self.kept.first))
+            name = self.kept.place(1)[0]
+            return lines + (self.near_mark() or guesses.without_mark(self.command, name, self.kept.first))
         if rule == "D3":
             return lines + self.not_toml() + guesses.of_head(self.command, bytes(self.kept.first[:4096]))
         if not self.plan:
@@ -311,7 +312,10 @@ class Teller:
         if rule == "Q4" and words:
             more = f"sensors that a module drives: {' '.join(sensors) or 'none'}{rules.near(words[0].text, sensors)}"
             if words[0].text in ACTS:
-                more = f"`{words[0].text}` is a line of a schedule: `sancus run` takes those, and `drive` makes them of readings"
+                more = (
+                    f"`{words[0].text}` is a line of a schedule: `sancus run` takes those, and `drive` makes them "
+                    "of readings"
+                )
             return lines + self.shown(line, words[0].column, len(words[0].text)) + [more]
         if rule == "Q5" and len(words) > 1:
             return lines + self.shown(line, words[1].column, len(words[1].text))

@@ -14,7 +14,10 @@ from cli.numbers import number
 
 # How long the packet is that each item accepts.
 LENGTHS = {"attested": 16, "open": 38, "take": 24}
-AFTER = "up to here the trace is a legal run of the sources; after it no more is promised than that private sections stay guarded"
+AFTER = (
+    "up to here the trace is a legal run of the sources; after it no more is promised than that private sections "
+    "stay guarded"
+)
 
 
 def accepted(item: Item, following: Optional[Item], plan: Optional[Plan]) -> str:
@@ -34,8 +37,8 @@ def accepted(item: Item, following: Optional[Item], plan: Optional[Plan]) -> str
     if kind == "take":
         sender = plan.sender(made["connection"]) if plan else "its sender"
         return (
-            f"as event {made['event']} of {connection_said(made['connection'], plan)}, {module} accepts a tag under the "
-            f"key of {made['connection']} in its epoch {made['epoch']} that {sender} hadn't made"
+            f"as event {made['event']} of {connection_said(made['connection'], plan)}, {module} accepts a tag under "
+            f"the key of {made['connection']} in its epoch {made['epoch']} that {sender} hadn't made"
         )
     return f"{item.fields()['module'] or 'the deployer'} accepts a tag that its rightful maker hadn't made"
 
@@ -71,7 +74,7 @@ def presented_by(lines: List[str], at: int, plan: Plan) -> str:
 
 
 def notes(pairs: List[Tuple[Optional[int], str]], lines: List[str], plan: Plan) -> Tuple[str, Optional[int]]:
-    """What the first `forged` of a run says, with the line that shows it. The pairs are the items, each with its line."""
+    """What the first `forged` of a run says, with the line that shows it; of the items, each with its line."""
     items = [Item(at, text) for at, (_, text) in enumerate(pairs, 1)]
     at = next(it.number for it in items if it.kind == "forged")
     line = pairs[at - 1][0]

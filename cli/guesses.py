@@ -14,7 +14,8 @@ OPERATORS = {*COMPARED, *SUMMED, *MULTIPLIED}
 STATEMENT = {"let", "send", "emit", "if", "repeat", NAMED}
 PEOPLE = ("deploy", "sample", "carry", "windows", "packets", "boots")
 ITEMS = frozenset(
-    "protect reset ask vouch attested denied open take sense read drain out raw done packet forged busy skip budget".split()
+    "protect reset ask vouch attested denied open take sense read drain out raw done packet forged busy skip "
+    "budget".split()
 )
 
 
@@ -95,7 +96,8 @@ def without_mark(command: str, name: str, first: bytes) -> List[str]:
     if not more:
         return []
     return [
-        f"`sancus {command} {file} {more[0]}` takes {more[1]} from a file of its own; `sancus check {file}` needs no mark"
+        f"`sancus {command} {file} {more[0]}` takes {more[1]} from a file of its own; `sancus check {file}` needs no "
+        "mark"
     ]
 
 
@@ -125,7 +127,10 @@ def of_trace(line: bytes, first: bytes) -> List[str]:
     """What was given in place of a trace."""
     act = (line.split() or [b""])[0].decode(errors="replace")
     if act in ACTS or act in PEOPLE or act.startswith("#"):
-        return ["this is a schedule, and no trace: `sancus run FILE > TRACE` writes one, and `sancus run FILE | sancus explain FILE` judges it"]
+        return [
+            "this is a schedule, and no trace: `sancus run FILE > TRACE` writes one, and `sancus run FILE | sancus "
+            "explain FILE` judges it"
+        ]
     if line.startswith(b"fault "):
         return ["this is a fault, and no trace: what was to write one ended with it"]
     if line.startswith((b"because ", b"legal ", b"illegal ")):

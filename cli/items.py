@@ -86,7 +86,10 @@ def say_open(made: Dict[str, Any], plan: Optional[Plan]) -> str:
 
 def say_take(made: Dict[str, Any], plan: Optional[Plan]) -> str:
     epoch = f" of epoch {made['epoch']}" if made["epoch"] else ""
-    return f"{made['module']} took event {made['event']}{epoch} of {connection_said(made['connection'], plan)}, with the value {made['value']}"
+    return (
+        f"{made['module']} took event {made['event']}{epoch} of {connection_said(made['connection'], plan)}, with "
+        f"the value {made['value']}"
+    )
 
 
 def say_done(made: Dict[str, Any], _plan: Optional[Plan]) -> str:
@@ -130,7 +133,9 @@ SAID: Dict[str, Callable[[Dict[str, Any], Optional[Plan]], str]] = {
     "raw": lambda it, _: f"code that is no driver of it wrote {it['value']} to the actuator {it['device']}",
     "packet": lambda it, _: f"packet {it['packet']} of {it['length']} bytes was made",
     "busy": lambda it, _: f"refused, since a module runs on node {it['node']}",
-    "skip": lambda it, _: f"refused on node {it['node']}: a section, a device, the end of memory, masked interrupts, or no such packet",
+    "skip": lambda it, _: (
+        f"refused on node {it['node']}: a section, a device, the end of memory, masked interrupts, or no such packet"
+    ),
     "budget": lambda it, _: f"1,000,000 steps were taken, and a module of node {it['node']} still runs",
 }
 

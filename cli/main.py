@@ -200,11 +200,9 @@ def taken_apart(call: Sequence[str]) -> Given:
     if "--help" in options or "-h" in options:
         return Given(BY_NAME["help"])
     if not left:
-        raise Usage(
-            "a command is missing"
-            if not options
-            else f"there is no option {options[0]}{commands.did_you_mean(options[0], [it.name for it in EVERYWHERE] + ['--version'])}"
-        )
+        known = [it.name for it in EVERYWHERE] + ["--version"]
+        unknown = f"there is no option {options[0]}{commands.did_you_mean(options[0], known)}" if options else ""
+        raise Usage(unknown or "a command is missing")
     return commands.parse(known_command(left[0]), [*options, *left[1:]])
 
 

@@ -70,7 +70,8 @@ def man_page() -> str:
         "[ARGUMENT ..]",
         ".SH DESCRIPTION",
         escaped(HEAD),
-        "The commands that the program itself answers print on standard output just what it prints, and end with its status. What is said on standard "
+        "The commands that the program itself answers print on standard output just what it prints, and end with its "
+        "status. What is said on standard "
         "error is for people.",
         ".SH COMMANDS",
         *(line for command in COMMANDS for line in section(command)),

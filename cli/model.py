@@ -144,7 +144,10 @@ def protect(model: Model, _item: Item, made: Dict[str, Any]) -> None:
     if model.plan.node_of(module) != made["node"]:
         raise Fails(f"{module} is deployed on {model.plan.node_of(module)}, and not on {made['node']}")
     if module in model.present:
-        raise Fails(f"{module} is protected already: its section can't be protected twice without a reset of {made['node']}")
+        raise Fails(
+            f"{module} is protected already: its section can't be protected twice without a reset of "
+            f"{made['node']}"
+        )
     tree = model.plan.tree(module)
     ends = {(it.connection, it.side): EndView() for it in model.plan.ends(module)}
     model.present[module] = Present(first_cells(tree) if tree else {}, ends)
@@ -242,7 +245,8 @@ def open_(model: Model, item: Item, made: Dict[str, Any]) -> None:
         raise Fails(f"the deployer made no key for {module} at boot {boot}: it wasn't attested at it")
     if not found.floors.get(connection, 0) <= epoch <= model.epochs.get(connection, 0):
         raise Fails(
-            f"the deployer made no key of epoch {epoch} for this end: {found.floors.get(connection, 0)} to {model.epochs.get(connection, 0)}"
+            f"the deployer made no key of epoch {epoch} for this end: {found.floors.get(connection, 0)} to "
+            f"{model.epochs.get(connection, 0)}"
         )
     view.epoch, view.next = epoch, 0
     present.owed = Owed([], 0, item.number, "opening its end")
@@ -289,13 +293,15 @@ def done(model: Model, _item: Item, made: Dict[str, Any]) -> None:
         owed = present.owed
         if not owed:
             raise Fails(
-                f"status 1 says that {module} did what was asked, and no item shows what: an `open`, `vouch`, `take` or `read` of it is missing"
+                f"status 1 says that {module} did what was asked, and no item shows what: an `open`, `vouch`, `take` "
+                "or `read` of it is missing"
             )
         if owed.emits:
             raise Fails(f"{module} is at {owed.what} (item {owed.item}), and emits {owed.emits[0]} before it is done")
         if owed.pieces != pieces:
             raise Fails(
-                f"{module} is at {owed.what} (item {owed.item}), which makes {owed.pieces} pieces over its open ends, and not {pieces}"
+                f"{module} is at {owed.what} (item {owed.item}), which makes {owed.pieces} pieces over its open ends, "
+                f"and not {pieces}"
             )
         present.owed = None
         return
@@ -305,7 +311,8 @@ def done(model: Model, _item: Item, made: Dict[str, Any]) -> None:
         raise Fails(f"with status {status} nothing is written, and here are {pieces} pieces")
     if present.owed:
         raise Fails(
-            f"{module} is at {present.owed.what} (item {present.owed.item}), so it can't be refused with status {status}"
+            f"{module} is at {present.owed.what} (item {present.owed.item}), so it can't be refused with status "
+            f"{status}"
         )
     device = str((model.plan.named("module", module) or {}).get("device"))
     if status == 8 and (

@@ -211,7 +211,8 @@ def too_costly(module: Module) -> Iterator[Broken]:
         if total > 262_144:
             yield Broken(
                 it.at,
-                f"the handler {handler_name(it)} costs {total:,}, and at most 262,144 may be; a `repeat` counts its block as often as it runs",
+                f"the handler {handler_name(it)} costs {total:,}, and at most 262,144 may be; a `repeat` counts its "
+                "block as often as it runs",
             )
 
 

@@ -106,7 +106,7 @@ def is_trace_in_pipe(files: List[str]) -> bool:
 
 
 def is_direct(fd: int) -> bool:
-    """Whether the program reads by itself: a file, a terminal, which is answered line by line, or what can't be read at all."""
+    """Whether the program reads by itself: a file, a terminal, which is answered line by line, or what can't be read."""
     return is_regular(fd) or os.isatty(fd) or not can_be_read(fd)
 
 
@@ -193,7 +193,8 @@ def after_finish(context: Context, data: Input, kept: Kept) -> List[str]:
         module = inside(plan, node, pc)
         if module:
             made += [
-                f"warning: this `finish` ends before code outside runs an instruction of {module}, at 0x{pc:04x}: that is the one which breaks a rule (`run {node} 1` shows it)",
+                f"warning: this `finish` ends before code outside runs an instruction of {module}, at 0x{pc:04x}: that "
+                f"is the one which breaks a rule (`run {node} 1` shows it)",
                 *teller.shown(teller.mark + at),
             ]
     return made

@@ -55,7 +55,7 @@ class Call:
 
 @dataclass
 class State:
-    """What the items showed: the next packet, boots, which modules are loaded, are attested and have open ends, and their
+    """What the items showed: the next packet, boots, which modules are loaded, attested and have open ends, and their
     last calls."""
 
     packets: int = 0
@@ -306,7 +306,8 @@ class Writer:
             return left[0]
         if found:
             raise Mistake(
-                f"what {sender} sent to {receiver} at its last call was carried; `give event.{sender}.{receiver} NODE` gives it again"
+                f"what {sender} sent to {receiver} at its last call was carried; `give event.{sender}.{receiver} NODE` "
+                "gives it again"
             )
         raise Mistake(self.nothing_for(sender, receiver, wanted, pieces))
 
@@ -319,7 +320,8 @@ class Writer:
         if there:
             return f"no event for {receiver} is in the window: there is {there}"
         return (
-            f"no event of {sender} is in its window any more, since another call or line on {self.plan.node_of(sender)} "
+            f"no event of {sender} is in its window any more, since another call or line on "
+            f"{self.plan.node_of(sender)} "
             f"wrote there: `carry {sender} {receiver}` before it, or other `windows` for it"
         )
 
@@ -332,7 +334,8 @@ class Writer:
             raise Mistake(f"piece {place} isn't there any more: other pieces were written over it")
         if self.plan.receiver(found.connection) != receiver:
             raise Mistake(
-                f"piece {place} is for {self.plan.receiver(found.connection)}, by {found.connection}, and not for {receiver}"
+                f"piece {place} is for {self.plan.receiver(found.connection)}, by {found.connection}, and not for "
+                f"{receiver}"
             )
         return found
 

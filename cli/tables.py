@@ -96,7 +96,8 @@ def ties_of_connection(entry: Entry, plan: Plan) -> List[str]:
         found = tree.names(word) if tree else []
         if port not in found:
             lines.append(
-                f"`{key}`: the module {module} has no {word} `{port}`; its {word}s: {' '.join(found) or 'none'}{near(port, found)}"
+                f"`{key}`: the module {module} has no {word} `{port}`; its {word}s: "
+                f"{' '.join(found) or 'none'}{near(port, found)}"
             )
     return lines
 

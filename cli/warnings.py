@@ -23,14 +23,14 @@ def of_keys(plan: Plan) -> List[str]:
         key, name = str(node.get("key")).lower(), str(node.get("name"))
         if key in seen:
             lines.append(
-                f"warning: nodes {seen[key]} and {name} have one key, so modules with the same places and text on both can "
-                "pass for one another: an item `forged` may come without a tag that was guessed"
+                f"warning: nodes {seen[key]} and {name} have one key, so modules with the same places and text on both "
+                "can pass for one another: an item `forged` may come without a tag that was guessed"
             )
         seen.setdefault(key, name)
     if plan.connections and "secret" not in plan.toml:
         lines.append(
-            "warning: the deployment has connections and no `secret`, so their keys come from sixteen zero bytes, which "
-            "anybody knows and can forge events with"
+            "warning: the deployment has connections and no `secret`, so their keys come from sixteen zero bytes, "
+            "which anybody knows and can forge events with"
         )
     return lines
 
