@@ -190,7 +190,7 @@ COMMANDS: Tuple[Command, ...] = (
             (".. as NAME", "after `take`, `forge` and `ask`: a name for the packet, for `give` and `answer`"),
             ("windows IN OUT", "other windows from here on (0x300 and 0x400 before)"),
         ),
-        after="""Packets that deploy and carry make have names: ask.M, answer.M, key.M.CONNECTION.from or .to, event.M.N.
+        after="""Packets of deploy and carry have names: ask.M, answer.M, key.M.CONNECTION.from or .to, event.M.N.
 The program runs as the lines are written, so packets, boots and pieces are those that it showed. A line
 `#= FILE:LINE TEXT` comes before what was made of a line, and a fault of it is led back there.""",
         typed="a deployment, a line %%, and lines for people",

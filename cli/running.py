@@ -106,7 +106,7 @@ def is_trace_in_pipe(files: List[str]) -> bool:
 
 
 def is_direct(fd: int) -> bool:
-    """Whether the program reads by itself: a file, a terminal, which is answered line by line, or what can't be read."""
+    """Whether the program reads by itself: a file, a terminal, answered line by line, or what can't be read."""
     return is_regular(fd) or os.isatty(fd) or not can_be_read(fd)
 
 
