@@ -10,7 +10,7 @@ import os
 import select
 import stat
 from dataclasses import dataclass, field
-from typing import Callable, List, Optional, Tuple
+from typing import Callable, Dict, List, Optional, Tuple
 
 from cli.status import NO_FILE, Ended
 
@@ -166,6 +166,8 @@ def open_file(name: str) -> int:
 
 # What was read of standard input to look at it: it is read once more, before the rest.
 AHEAD: List[bytes] = []
+# Pipes that were read whole to look at them, by their names: they can't be read twice.
+HELD: Dict[str, bytes] = {}
 
 
 def look_at_standard_input() -> bytes:
@@ -174,6 +176,19 @@ def look_at_standard_input() -> bytes:
         piece = read_piece(0, "-")
         AHEAD.extend([piece] if piece else [])
     return AHEAD[0] if AHEAD else b""
+
+
+def look_at(name: str) -> bytes:
+    """All of a file, or the first bytes of standard input; they are read once more after that."""
+    if name == "-":
+        return look_at_standard_input()
+    fd = open_file(name)
+    is_file = is_regular(fd)
+    os.close(fd)
+    text = read_all(name)
+    if not is_file:
+        HELD[name] = text
+    return text
 
 
 def read_piece(fd: int, name: str, size: int = PIECE) -> bytes:
@@ -206,6 +221,8 @@ def can_be_read(fd: int) -> bool:
 
 def read_all(name: str, most: int = MOST_INPUT) -> bytes:
     """All of a file, for the commands that need it whole; no more than the largest input that the program takes."""
+    if name in HELD:
+        return HELD.pop(name)
     fd, pieces, size = open_file(name), [], 0
     while True:
         piece = read_piece(fd, name, 1 << 20)
@@ -221,6 +238,8 @@ def read_all(name: str, most: int = MOST_INPUT) -> bytes:
 
 
 def file_part(name: str) -> Part:
+    if name in HELD:
+        return text_part(HELD.pop(name), name, 1)
     fd = open_file(name)
     # (what was read ahead is there at once)
     return Part(name, lambda: read_piece(fd, name), None if fd == 0 and AHEAD else fd)

@@ -18,7 +18,7 @@ from cli.people import as_schedule
 from cli.program import Collected
 from cli.sinks import TraceOnly
 from cli.status import BAD_TEXT, NO_FILE, Ended
-from cli.texts import Input, find_mark, look_at_standard_input, read_all
+from cli.texts import Input, find_mark, look_at, read_all
 from cli.viewer.join import joined
 from cli.commands import Given, Usage
 
@@ -96,9 +96,7 @@ def write_page(path: Path, text: str) -> None:
 
 def is_output(name: str) -> bool:
     """Whether a file has what `run` or `drive` wrote, and no lines of a schedule."""
-    if name == "-":
-        return bool(OUTPUT.search(look_at_standard_input()))
-    return bool(OUTPUT.search(read_all(name)))
+    return bool(OUTPUT.search(look_at(name)))
 
 
 def given_texts(files: List[str]) -> Texts:

@@ -582,6 +582,11 @@ class Page(Room):
         self.assertEqual(self.held(page, "output"), made.decode())
         self.assertEqual(sancus("view", head, "-", "--page", page, text=made).status, 0)
         self.assertEqual(self.held(page, "output"), made.decode())
+        # pipes by a name, which can't be read twice
+        for name in (self.file("o", made), plain):
+            call = f"'{TOP}/sancus' --program '{PROGRAM}' view '{head}' <(cat '{name}') --page '{page}'"
+            self.assertEqual(subprocess.run(["bash", "-c", call], capture_output=True).returncode, 0)
+            self.assertIn("out lamp 1", self.held(page, "output"))
         self.assertEqual(sancus("view", head, "-", "--page", page, text=plain.read_bytes()).status, 0)
         self.assertIn("> load eye\nprotect a eye\n", self.held(page, "output"))
 
