@@ -54,7 +54,7 @@ class Desk {
       if (event.key === "Escape") this.stop();
     });
     addEventListener("hashchange", () => location.hash !== this.address && this.begin());
-    // an input that is opened, dropped or pasted as a file stands on the desk too
+    // an input that is opened, dropped or pasted as a file is on the desk too
     const {open} = page;
     page.open = texts => {
       open.call(page, texts);
@@ -66,7 +66,7 @@ class Desk {
     };
   }
 
-  // --- where an input comes from ---
+  // --- the origin of an input ---
 
   // By the address an input or an example; else what the page holds; else an example. What isn't drawn yet is run.
   async begin() {
@@ -114,7 +114,7 @@ class Desk {
     byId("seen").classList.add("old");
   }
 
-  // The command that a text is made for, by what stands behind its marks.
+  // The command that a text is made for, by what comes after its marks.
   purpose() {
     const lines = this.editor.lines, mark = lines.indexOf("%%");
     if (lines.indexOf("%%", mark + 1) > 0) return "snap";

@@ -33,12 +33,12 @@ class Editor {
     return splitLines(this.text);
   }
 
-  // Where the deployment ends, by its place in lines; -1 where there is no line %%.
+  // Where the deployment ends, by its place in lines; -1 if there is no line %%.
   get markAt() {
     return this.lines.indexOf("%%");
   }
 
-  // Numbers each line, and behind the mark its place in the schedule too, which is what the picture shows.
+  // Numbers each line, and after the mark its place in the schedule too, which is what the picture shows.
   number() {
     const count = this.text.split("\n").length, mark = this.markAt, wanted = `${count} ${mark}`;
     if (wanted !== this.numbered) {

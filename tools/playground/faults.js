@@ -2,7 +2,7 @@
 // is broken.
 
 class Faults {
-  // {words, line, column} of the last line of an output, or null where it is no fault. Both count from 1, and may
+  // {words, line, column} of the last line of an output, or null if it is no fault. Both count from 1, and may
   // be absent.
   told(last, text) {
     const [kind, what, rule, ...place] = (last ?? "").split(" ");
@@ -71,7 +71,7 @@ class Faults {
     }
   }
 
-  // The line where an entry of the deployment begins: its header, or where its name stands.
+  // The line where an entry of the deployment begins: its header, or its name's line.
   entryLine(text, kind, number, entries) {
     const lines = splitLines(headOf(text)),
           found = test => lines.flatMap((line, at) => test(line, at) ? [at + 1] : []);

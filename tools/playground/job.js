@@ -24,7 +24,7 @@ class Job {
     this.run = null;
   }
 
-  // `explain` judges the last run of this text, or a new one, where no trace stands in it.
+  // `explain` judges the last run of this text, or a new one, if it has no trace.
   async does(last) {
     const isOfRun = this.word === "explain" && this.purpose !== "explain";
     if (isOfRun) this.run = last ?? await this.ran(this.purpose === "drive" ? "drive" : "run");
@@ -46,7 +46,7 @@ class Job {
     return `${headOf(this.text)}%%\n${trace}`;
   }
 
-  // The texts of the picture: the input, the output, and the causes where there are any. None where nothing is to be drawn.
+  // The texts of the picture: the input, the output, and the causes if there are any. None if nothing is to be drawn.
   async drawn() {
     const {word, text, ended} = this;
     if (ended.error || word === "check") return [];
@@ -59,7 +59,7 @@ class Job {
     return [asSchedule(text), await this.withLines(), ...(hasCauses ? [causes.text] : [])];
   }
 
-  // The output with each line of the schedule before its items, where that is soon told.
+  // The output with each line of the schedule before its items, if that is soon known.
   async withLines() {
     const {text, time} = this.run;
     const marks = /^> /m.test(text) || time > MOST_TIME ? null : new Marks(asSchedule(this.text));

@@ -1,4 +1,4 @@
-// Which items each line of a schedule gave, exactly: the schedule is run once more with a mark behind each line. A
+// Which items each line of a schedule gave, exactly: the schedule is run once more with a mark after each line. A
 // mark is an `answer` in a packet that can't be there, which changes nothing and gives just `denied M`.
 
 const MOST_LINES = 65536;
@@ -36,7 +36,7 @@ class Marks {
     return given;
   }
 
-  // The output of a run with each line before its items; null where it has others than the marked run.
+  // The output of a run with each line before its items; null if it has others than the marked run.
   joined(output, marked) {
     const plain = splitLines(output), start = plain.indexOf("trace"), given = this.given(splitLines(marked));
     const wanted = plain.slice(start + 1, -1), items = given.flat();
