@@ -61,7 +61,7 @@ class Command:
         return f"sancus {self.name}{options}{''.join(' ' + it.shown() for it in self.arguments)}"
 
 
-QUIET = Option("--quiet", "says nothing on standard error but why there is no answer", short="-q")
+QUIET = Option("--quiet", "prints nothing on standard error, unless there is no answer", short="-q")
 PROGRAM = Option("--program", "starts this program, in place of the build that is found", "FILE")
 HELP = Option("--help", "prints this", short="-h")
 EVERYWHERE = (QUIET, PROGRAM, HELP)
@@ -123,7 +123,7 @@ COMMANDS: Tuple[Command, ...] = (
     ),
     Command(
         "explain",
-        "judges a trace by the sources alone: which item caused which",
+        "judges a trace by the sources alone, and prints which item caused which",
         (DEPLOYMENT, Argument("TRACE", MAYBE, "what `run` or `drive` wrote; -, standard input")),
         (Option("--words", "prints the items with their causes, in words"), JSON),
         "sancus run examples/lighting.txt | sancus explain examples/lighting.txt",
@@ -143,7 +143,7 @@ COMMANDS: Tuple[Command, ...] = (
     ),
     Command(
         "gen",
-        "runs a stated application for some samples, and counts",
+        "runs a fixed application for some samples, and counts",
         (Argument("SAMPLES", ONE, "a number from 1 to 8,000", False),),
         (NO_IMAGES,),
         "sancus gen --no-images 4",
@@ -172,7 +172,7 @@ COMMANDS: Tuple[Command, ...] = (
     ),
     Command(
         "schedule",
-        "writes a schedule of one for people: `deploy`, `sample`, `carry`",
+        "turns lines for people (`deploy`, `sample`, `carry`) into a schedule",
         (DEPLOYMENT, Argument("LINES", MANY, "lines for people")),
         (Option("--lines", "prints the schedule alone, without the deployment"),),
         "printf 'deploy all\\nsample eye 120\\ncarry eye logic\\n' | sancus schedule examples/lighting.txt - | sancus "
@@ -183,10 +183,10 @@ COMMANDS: Tuple[Command, ...] = (
             ("sample M VALUE", "the sensor of M has this sample, and M reads it"),
             ("carry M N [WHICH]", "the next event for N of M's last call is taken, and N is called with it"),
             ("", "(WHICH is a connection, or the number of a piece from 0)"),
-            ("call M ENTRY", "with the windows of `windows`, as the next two"),
+            ("call M ENTRY", "M is called, with the windows that are set"),
             ("give P NODE", "packet P, by number or name, is put into the in-window"),
             ("take NODE LENGTH", "a packet is made of what is in the out-window"),
-            ("answer M P", "at the present boot of M's node"),
+            ("answer M P", "the deployer gets packet P as M's answer, at the present boot of M's node"),
             (".. as NAME", "after `take`, `forge` and `ask`: a name for the packet, for `give` and `answer`"),
             ("windows IN OUT", "other windows from here on (0x300 and 0x400 before)"),
         ),
@@ -260,7 +260,7 @@ The program runs as the lines are written, so packets, boots and pieces are thos
     ),
     Command(
         "hex",
-        "turns programs of usual tools into schedule lines, and images into files of usual tools",
+        "turns programs of other tools into schedule lines, and images into files for them",
         (
             Argument("WHAT", ONE, "`put NODE FILE`, `image INPUT` or `convert FILE`", False),
             Argument("ARGUMENT", MANY, "what that takes"),
@@ -416,10 +416,10 @@ def help_all() -> List[str]:
         "",
         "usage: sancus COMMAND [ARGUMENT ..]",
         "",
-        "The program answers:",
+        "The program's own commands:",
         *rows(programs),
         "",
-        "Around it:",
+        "The front end adds:",
         *rows(others),
         "",
         "With each command:",
