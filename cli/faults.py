@@ -316,11 +316,15 @@ class Teller:
                     f"`{words[0].text}` is a line of a schedule: `sancus run` takes those, and `drive` makes them "
                     "of readings"
                 )
+            if words[0].text in guesses.PEOPLE:
+                more = guesses.for_people(words[0].text)
             return lines + self.shown(line, words[0].column, len(words[0].text)) + [more]
         if rule == "Q5" and len(words) > 1:
             return lines + self.shown(line, words[1].column, len(words[1].text))
         if rule == "Q3" and words and words[0].text in ACTS:
             return [*lines, *self.shown(line), f"`{words[0].text}` is a line of a schedule: `sancus run` takes those"]
+        if rule == "Q3" and words and words[0].text in guesses.PEOPLE:
+            return [*lines, *self.shown(line), guesses.for_people(words[0].text)]
         return lines + self.shown(line)
 
     def line_after(self, wanted: bytes, after: int) -> Optional[int]:

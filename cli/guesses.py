@@ -8,6 +8,7 @@ from typing import List, Optional
 from cli.acts import ACTS, QUERIES
 from cli.deployment import Plan
 from cli.language import COMPARED, END, MULTIPLIED, NAMED, NUMBER, SUMMED, UNARY, NotInGrammar
+from cli.say import text_of
 from cli.table import words
 
 OPERATORS = {*COMPARED, *SUMMED, *MULTIPLIED}
@@ -87,6 +88,12 @@ def without_mark(command: str, name: str, first: bytes) -> List[str]:
     if not first:
         return ["the input is empty"]
     file = "FILE" if name == "-" else name
+    words = [it.split() for it in first.split(b"\n")]
+    begun = next((text_of(it[0]) for it in words if it and not it[0].startswith(b"#")), "")
+    if begun in ACTS or begun in PEOPLE:
+        of = "a schedule" if begun in ACTS else "a schedule for people"
+        call = f"sancus run DEPLOYMENT {file}" if begun in ACTS else f"sancus schedule DEPLOYMENT {file} | sancus run"
+        return [f"these are lines of {of}, and the deployment comes before them: `{call}`"]
     more = {
         "run": ("SCHEDULE", "a schedule"),
         "drive": ("READINGS", "readings"),
@@ -101,6 +108,10 @@ def without_mark(command: str, name: str, first: bytes) -> List[str]:
     ]
 
 
+def for_people(act: str) -> str:
+    return f"`{act}` is a line for people: `sancus schedule DEPLOYMENT LINES | sancus run` takes those"
+
+
 def of_act(act: str, line: bytes, command: str, plan: Optional[Plan]) -> List[str]:
     """What a line is that is no line of a schedule."""
     from cli.rules import near
@@ -111,7 +122,7 @@ def of_act(act: str, line: bytes, command: str, plan: Optional[Plan]) -> List[st
     if text in (b"%%", b"%"):
         return ["the mark is a line `%%` alone: no blank before or after it"]
     if act in PEOPLE:
-        return [f"`{act}` is a line for people: `sancus schedule DEPLOYMENT LINES | sancus run` takes those"]
+        return [for_people(act)]
     if act in QUERIES:
         return [f"`{act}` is a query of `sancus snap`: it comes after a second `%%`"]
     if act in ITEMS:

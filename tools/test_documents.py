@@ -1,24 +1,24 @@
 #!/usr/bin/env python3
 """Runs what the documents show, and compares. Not a part of the gate.
 
-    tools/test_documents.py [--program FILE] [--jobs N] [FILE..]     the documents and the examples, where none is named
+    tools/test_documents.py [--program FILE] [--jobs N] [FILE..]     the documents and the examples, if none is named
 
-Each document is tried in a folder of its own, where ./sancus, the examples and the tools stand as in the repository.
+Each document is tried in a folder of its own, with ./sancus, the examples and the tools as in the repository.
 The build that ./sancus finds is taken, and with --program FILE this one; without either each run takes a minute or two. The words after the three backquotes say what a fenced block is:
 
     console              a line `$ COMMAND` is run by bash; what it writes on standard output is the lines up to the
-                         next one. A line `...` stands for any number of lines, and a line that ends in `..` for any
+                         next one. A line `...` means any number of lines, and a line that ends in `..` for any
                          line that begins so
-    console needs=NAME   the same, where the command NAME is installed; it is passed over elsewhere
+    console needs=NAME   the same, if the command NAME is installed; else it is passed over
     LANGUAGE file=NAME   the block is written to this file
     LANGUAGE add=NAME    it is appended to this file
     text beside=NAME     three columns, that begin where those of the first row do: a line of this schedule, an item of
-                         its run, a remark. Lines and items stand in this order in the schedule and in what is written
+                         its run, a remark. Lines and items have this order in the schedule and in what is written
 
-    LANGUAGE in=NAME     the block stands in this file, whatever the spaces
+    LANGUAGE in=NAME     the block is in this file, whatever the spaces
 
 What else a block holds isn't looked at. Each link to a file of the repository, or to a heading of one, must lead there, and
-each path in a crate that stands between backquotes must be that of a file or a folder, as of `sx_run/specs/Run.antt`, which
+each path in a crate between backquotes must be that of a file or a folder, as of `sx_run/specs/Run.antt`, which
 may be written without its ending.
 
 Of an example the run must end well, and show each item that its first lines name between backquotes; it is one of `drive`,
@@ -37,7 +37,7 @@ from concurrent.futures import ThreadPoolExecutor
 from pathlib import Path
 
 TOP = Path(__file__).resolve().parent.parent
-# The front end's own statuses where it gets no answer from the program, and bash's where there is no such command.
+# The front end's own statuses if it gets no answer from the program, and bash's if there is no such command.
 NO_ANSWER = (121, 122, 125, 126, 127)
 # The first words of items.
 ITEMS = set(
@@ -84,7 +84,7 @@ def line_fits(wanted, line):
 
 
 def fits(wanted, lines):
-    """Whether these lines are those that are wanted, where `...` is any number of lines."""
+    """Whether these lines are those that are wanted, `...` being any number of lines."""
     if not wanted:
         return not lines
     if wanted[0] == "...":
@@ -93,7 +93,7 @@ def fits(wanted, lines):
 
 
 def anchors(text):
-    """The names that GitHub gives the headings, a number after one that stands before."""
+    """The names that GitHub gives the headings, a number after one that came before."""
     found = []
     for heading in re.findall(r"^#+ (.*)$", text, re.MULTILINE):
         name = re.sub(r"[^\w\- ]", "", heading.lower()).replace(" ", "-")
