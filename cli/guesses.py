@@ -137,6 +137,8 @@ def of_act(act: str, line: bytes, command: str, plan: Optional[Plan]) -> List[st
 def of_trace(line: bytes, first: bytes) -> List[str]:
     """What was given in place of a trace."""
     act = (line.split() or [b""])[0].decode(errors="replace")
+    if not act:
+        return ["the trace is empty, or ends before its line `trace`: it is the output of `run` or `drive`"]
     if act in ACTS or act in PEOPLE or act.startswith("#"):
         return [
             "this is a schedule, and no trace: `sancus run FILE > TRACE` writes one, and `sancus run FILE | sancus "

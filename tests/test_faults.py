@@ -265,6 +265,7 @@ class Cases(unittest.TestCase):
             self.assertIn(said, told(text, "fault deployment D2 -", "run"))
         for text, rule in ((b"deploy all\n", "Q4"), (b"sample eye 3\n", "Q3")):
             self.assertIn("is a line for people", told(HEAD + b"%%\n" + text, f"fault reading {rule} 1", "drive"))
+        self.assertIn("the trace is empty", told(b"%%\n", "fault trace E1 1", "explain"))
         self.assertIn("this is a fault, and no trace", told(b"%%\nfault deployment D2 -\n", "fault trace E1 1", "explain"))
         self.assertIn("this is what `explain` wrote", told(b"%%\nbecause 2 1\n", "fault trace E1 1", "explain"))
         self.assertIn(
