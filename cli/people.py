@@ -21,9 +21,8 @@ from cli.status import BAD_TEXT, Ended
 from cli.texts import Input, Kept, file_part, kept_of
 from cli.commands import Given
 
-
-# The acts that may lack their windows or their boot in lines for people.
-SHORT = ("call", "give", "take", "answer")
+# The acts whose packet may get a name.
+NAMING = ("take", "forge", "ask")
 
 
 @dataclass
@@ -65,9 +64,7 @@ def are_for_people(data: Input) -> bool:
 
 
 def is_for_people(words: List[str]) -> bool:
-    is_named = words[0] in ("take", "forge", "ask") and words[-2:-1] == ["as"]
-    is_short = words[0] in SHORT and len(words) == 3
-    return words[0] in PEOPLE or is_named or is_short
+    return words[0] in PEOPLE or words[0] in NAMING and words[-2:-1] == ["as"]
 
 
 def as_schedule(kept: Kept, data: Input, context: Context) -> Tuple[Kept, Input]:

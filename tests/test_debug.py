@@ -113,6 +113,10 @@ class Marks(Room):
                     self.assertEqual(list(marks.marked_lines(data, marks.marked_run(data, runs))), whole)
                     self.assertEqual(list(marks.marked_lines(fault, marks.marked_run(fault, runs))), broken)
 
+    def test_a_short_line_is_no_line_for_people(self):
+        text = LIGHTING.replace(b"call eye 3 0x300 0x400", b"call eye 3")
+        self.assertEqual(sancus("marks", text=text).lines[-1], program("run", text=text).lines[-1])
+
     def test_too_many_lines(self):
         text = b"%%\n" + b"reset n\n" * 65537
         self.says(sancus("marks", text=text), "no marked run: the schedule has more lines than a run takes")
