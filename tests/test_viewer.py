@@ -294,7 +294,7 @@ class Viewer(unittest.TestCase):
     @needs_program
     def test_two_thousand_readings_of_the_program(self):
         lines, items = readings(2000, PACKETS)
-        texts = of_run(context(), (SET_UP + "\n".join(lines) + "\n").encode()).texts
+        texts = of_run(context(), Input((SET_UP + "\n".join(lines) + "\n").encode())).texts
         self.assertIn(b"> sense light 37\nsense light 37\n", texts["output"])
         self.assertIn("\n".join(items[-10:]), without_lines(b"%%\n" + texts["output"]).decode())
         self.show(texts)
@@ -368,7 +368,7 @@ class Viewer(unittest.TestCase):
 
     @needs_program
     def test_readings(self):
-        texts = of_readings(context(), (EXAMPLES / "readings.txt").read_bytes()).texts
+        texts = of_readings(context(), Input((EXAMPLES / "readings.txt").read_bytes())).texts
         self.show(texts)
         self.assertEqual(self.texts("#notes div"), [])
         rows = self.browser.value("page.run.rows.filter(row => row.kind === 'act').map(row => row.line.text)")
@@ -376,7 +376,7 @@ class Viewer(unittest.TestCase):
 
     @needs_program
     def test_causes_of_the_program(self):
-        texts = of_run(context(), LIGHTING_BYTES).texts
+        texts = of_run(context(), Input(LIGHTING_BYTES)).texts
         self.show(texts, "#item=42")
         self.browser.shoot("explained")
         chain = "42 out lamp 1 ← 41 take lamp down 0 1 ← 38 take logic up 0 120 ← 35 read eye 120 ← 34 sense light 120"
@@ -393,7 +393,7 @@ class Viewer(unittest.TestCase):
 
     @needs_program
     def test_the_set_up_is_folded(self):
-        self.show(of_run(context(), LIGHTING_BYTES).texts)
+        self.show(of_run(context(), Input(LIGHTING_BYTES)).texts)
         self.browser.shoot("opened")
         here = "(() => { const row = page.run.shown[page.at]; return row.kind + ' ' + (row.text ?? row.line.text); })()"
         self.assertTrue(self.browser.value(here).startswith("note 3. It gets bright"), self.browser.value(here))
@@ -414,7 +414,7 @@ class Viewer(unittest.TestCase):
             + b"%%\n"
             + (folder / "day.readings").read_bytes().partition(b"%%\n")[2]
         )
-        self.show(of_readings(context(), text).texts)
+        self.show(of_readings(context(), Input(text)).texts)
         self.browser.shoot("parking")
         self.assertEqual(self.texts("#notes div"), [])
         shown = self.browser.value("page.run.shown[page.at].line.text")
