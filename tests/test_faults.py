@@ -62,7 +62,7 @@ CASES = [
         b"let on = 1; if v > limit",
         "check",
         "deployment D7 module 1 4 19",
-        ["a word of the language, and no name"],
+        ["a reserved word, and no name"],
     ),
     (b"limit = 100", b"limit = 70000", "check", "deployment D7 module 1 3 17", ["a number is at most 65,535"]),
     (b"limit = 100", b"Limit = 100", "check", "deployment D7 module 1 3 5", ["lower-case letters"]),
