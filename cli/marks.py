@@ -135,9 +135,7 @@ def marked_further(made: Marked, acts: List[Tuple[int, bytes]], marker: Marker, 
     return not is_last_run
 
 
-def taken_apart(
-    made: Marked, output: List[bytes], acts: List[Tuple[int, bytes]], marker: Marker, status: int
-) -> None:
+def taken_apart(made: Marked, output: List[bytes], acts: List[Tuple[int, bytes]], marker: Marker, status: int) -> None:
     """Takes in the output of a run in which the lines after those that are known have marks."""
     made.status, made.has_trace = status, b"trace" in output
     start = output.index(b"trace") if made.has_trace else len(output)

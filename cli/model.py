@@ -145,8 +145,7 @@ def protect(model: Model, _item: Item, made: Dict[str, Any]) -> None:
         raise Fails(f"{module} is deployed on {model.plan.node_of(module)}, and not on {made['node']}")
     if module in model.present:
         raise Fails(
-            f"{module} is protected already: its section can't be protected twice without a reset of "
-            f"{made['node']}"
+            f"{module} is protected already: its section can't be protected twice without a reset of " f"{made['node']}"
         )
     tree = model.plan.tree(module)
     ends = {(it.connection, it.side): EndView() for it in model.plan.ends(module)}

@@ -116,7 +116,9 @@ def written(made: Lines, context: Context) -> Written:
         session = start(context.program, made.head, plan)
     except Stopped as error:
         raise Ended(BAD_TEXT, error.fault, *Teller(made.kept, "run", context.program.ask).told(error.fault)) from None
-    writer, notes, spans = Writer(plan, made.head, session, context.program), [], []
+    writer = Writer(plan, made.head, session, context.program)
+    notes: List[str] = []
+    spans: List[Tuple[int, int]] = []
     try:
         for at, text in made.lines:
             before = len(writer.lines)

@@ -97,9 +97,7 @@ class Session:
 def start(program: Program, head: bytes, plan: Plan) -> Session:
     """A run of a deployment whose schedule is still to come."""
     if not program.build().is_fast:
-        raise Ended(
-            NO_ANSWER, "this runs the program line by line, and needs a fast build: `./sancus build` makes one"
-        )
+        raise Ended(NO_ANSWER, "this runs the program line by line, and needs a fast build: `./sancus build` makes one")
     marker = marker_of(head, plan)
     answer = program.ask(["check"], head + b"%%\n").decode(errors="replace").strip() if marker.is_added else "end"
     if answer != "end":

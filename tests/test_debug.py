@@ -319,7 +319,11 @@ class Why(Room):
 
     def test_forged(self):
         for name, item, words in (
-            ("forged", 8, "as left's answer for boot 0, the deployer accepts a tag under left's key that left hadn't made"),
+            (
+                "forged",
+                8,
+                "as left's answer for boot 0, the deployer accepts a tag under left's key that left hadn't made",
+            ),
             (
                 "public_key",
                 12,
@@ -339,7 +343,9 @@ class Why(Room):
             self.assertIn(words, lines[0])
             self.assertIn("up to here the trace is a legal run", lines[1])
             self.assertIn(words, sancus("why", file, trace, str(item + 1)).lines[1])
-        self.says(sancus("run", EXAMPLES / "forged.txt"), "hadn't made, in packet 1\n", "forged.txt:29: answer left 0 1")
+        self.says(
+            sancus("run", EXAMPLES / "forged.txt"), "hadn't made, in packet 1\n", "forged.txt:29: answer left 0 1"
+        )
         self.says(sancus("run", EXAMPLES / "public_key.txt"), "; packet 3 was given to this window last\n")
 
     def test_kinds_of_forged(self):

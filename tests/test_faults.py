@@ -174,7 +174,13 @@ CASES = [
         "schedule S3 4",
         ["lod lamp\n", "^^^", "the acts: run finish", "did you mean `load`?"],
     ),
-    (b"load lamp", b"deploy lamp", "run", "schedule S3 4", ["`sancus schedule DEPLOYMENT LINES | sancus run` takes those"]),
+    (
+        b"load lamp",
+        b"deploy lamp",
+        "run",
+        "schedule S3 4",
+        ["`sancus schedule DEPLOYMENT LINES | sancus run` takes those"],
+    ),
     (b"load lamp", b"light 5", "run", "schedule S3 4", ["this looks like a reading"]),
     (b"load lamp", b"items 5", "run", "schedule S3 4", ["is a query of `sancus snap`"]),
     (b"load lamp", b"%%", "run", "schedule S3 4", ["a second `%%` is for `sancus snap`"]),
@@ -259,14 +265,22 @@ class Cases(unittest.TestCase):
         self.assertIn("x.txt:4: out eye 1", told(text, "illegal 1", "explain"))
         self.assertIn("this is a schedule, and no trace", told(b"%%\nload eye\n", "fault trace E1 1", "explain"))
         for text, said in (
-            (b"# x\n\nload eye\n", "these are lines of a schedule, and the deployment comes before them: `sancus run DEPLOY"),
-            (b"deploy all\n", "lines of a schedule for people, and the deployment comes before them: `sancus schedule DEP"),
+            (
+                b"# x\n\nload eye\n",
+                "these are lines of a schedule, and the deployment comes before them: `sancus run DEPLOY",
+            ),
+            (
+                b"deploy all\n",
+                "lines of a schedule for people, and the deployment comes before them: `sancus schedule DEP",
+            ),
         ):
             self.assertIn(said, told(text, "fault deployment D2 -", "run"))
         for text, rule in ((b"deploy all\n", "Q4"), (b"sample eye 3\n", "Q3")):
             self.assertIn("is a line for people", told(HEAD + b"%%\n" + text, f"fault reading {rule} 1", "drive"))
         self.assertIn("the trace is empty", told(b"%%\n", "fault trace E1 1", "explain"))
-        self.assertIn("this is a fault, and no trace", told(b"%%\nfault deployment D2 -\n", "fault trace E1 1", "explain"))
+        self.assertIn(
+            "this is a fault, and no trace", told(b"%%\nfault deployment D2 -\n", "fault trace E1 1", "explain")
+        )
         self.assertIn("this is what `explain` wrote", told(b"%%\nbecause 2 1\n", "fault trace E1 1", "explain"))
         self.assertIn(
             "the deployment first, and then the trace", told(b"%%\nsecret = 1\n", "fault trace E1 1", "explain")

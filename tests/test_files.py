@@ -167,9 +167,7 @@ class Streams(Room):
     def test_it_is_said_at_a_terminal(self):
         leader, follower = pty.openpty()
         os.write(leader, b"%%\n\x04")
-        ran = subprocess.run(
-            [SANCUS, "--program", self.fake(), "run"], stdin=follower, capture_output=True, timeout=60
-        )
+        ran = subprocess.run([SANCUS, "--program", self.fake(), "run"], stdin=follower, capture_output=True, timeout=60)
         self.assertEqual(ran.stdout, b"ran run\n%%\nend\n")
         self.assertIn(b"sancus: type a deployment, a line %%", ran.stderr)
         os.close(leader)

@@ -499,14 +499,20 @@ class Words(unittest.TestCase):
         folder = TOP / "cli" / "viewer"
         scripts = [(folder / f"{it}.js").read_text() for it in ("texts", "toml", "plan", "match", "rows", "words")]
         words = "const WORDS = " + (TOP / "cli" / "faults.json").read_text() + ";"
-        ran = subprocess.run([NODE, "-e", "\n".join([words, *scripts, FORGED])], input=json.dumps(texts), capture_output=True, text=True)
+        ran = subprocess.run(
+            [NODE, "-e", "\n".join([words, *scripts, FORGED])], input=json.dumps(texts), capture_output=True, text=True
+        )
         self.assertEqual(ran.returncode, 0, ran.stderr)
         return ran.stdout
 
     @needs_program
     def test_forged(self):
         for name, begin, end in (
-            ("forged", "as left's answer for boot 0, the deployer accepts a tag under left's key that left", ", in packet 1;"),
+            (
+                "forged",
+                "as left's answer for boot 0, the deployer accepts a tag under left's key that left",
+                ", in packet 1;",
+            ),
             (
                 "public_key",
                 "as event 0 of eye.level → lamp.show, lamp accepts a tag under the key of up in its epoch 0 that eye",
